@@ -1,0 +1,71 @@
+//! Colours translated by table: for each component, what each of its 256 values gives.
+
+ghost use Rattle.std.specs.Prelude.{◌≡◌, ℕ, ◌<◌, ◌^◌, slice_index};
+ghost use Rattle.pixel_translate.specs.Pixel.{pixel, component, bit_count};
+
+use crate::{BitsPerPixel, Component, PixelFormat, placed};
+use std::marker::Model;
+
+/// A pixel format with its translations worked out, for many colours. Contracts see it as the format.
+#[derive(Drop)]
+pub struct Table {
+    format: PixelFormat,
+    red: [u32; 256],
+    green: [u32; 256],
+    blue: [u32; 256],
+}
+
+impl Model for Table {
+    ghost use Rattle.pixel_translate.specs.declared.PixelFormat.{PixelFormat};
+    ghost use Rattle.pixel_translate.specs.Tables.{IsTableOf};
+
+    ghost Value = { PixelFormat };
+
+    ghost view = { λ t. t.format };
+
+    ghost invariant = { λ t. IsTableOf t.format t.red t.green t.blue };
+}
+
+/// What each value of a component gives.
+fn scaled(bits: BitsPerPixel, at: Component) -> [u32; 256]
+    ensures { (k : ℕ) → k < 256 → slice_index result k ≡ component bits at k }
+{
+    let mut row = [0u32; 256];
+    for value in 0..256usize {
+        row[value] = placed(bits, at, value as u8);
+    }
+    row
+}
+
+impl Table {
+    /// The translations of a format.
+    pub fn new(format: &PixelFormat) -> Table
+        ensures { result ≡ format.now }
+    {
+        Table {
+            format: *format,
+            red: scaled(format.bits, format.red),
+            green: scaled(format.bits, format.green),
+            blue: scaled(format.bits, format.blue),
+        }
+    }
+
+    /// The format.
+    pub fn format(&self) -> PixelFormat
+        ensures { result ≡ self.now }
+    {
+        self.format
+    }
+
+    /// The pixel of a colour `0x00RRGGBB`.
+    #[tactic(auto, using(crate::proofs::Bounds::pixel_below))]
+    pub fn translate(&self, colour: u32) -> u32
+        ensures pixel { result ≡ pixel self.now colour }
+        ensures below { result < 2 ^ bit_count self.now.bits }
+    {
+        let [_, red, green, blue] = colour.to_be_bytes();
+        self.red[usize::from(red)]
+            | self.green[usize::from(green)]
+            | self.blue[usize::from(blue)]
+    }
+}
