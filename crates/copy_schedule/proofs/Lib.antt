@@ -1,0 +1,6 @@
+mod PlaceLemmas
+mod WindowLemmas
+mod BandLemmas
+mod OrderSteps
+mod CutLemmas
+mod CopyLemmas

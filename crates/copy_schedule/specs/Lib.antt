@@ -1,0 +1,4 @@
+pub mod Places
+pub mod Windows
+pub mod Marks
+pub mod Examples

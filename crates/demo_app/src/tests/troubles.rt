@@ -1,0 +1,164 @@
+use super::{counted, play_bytes};
+use std::alloc::Global;
+use std::io;
+use std::io::{Read, Write};
+use std::marker::Brand;
+use std::sync::ledger::Blank;
+use std::test::Fail;
+
+// A viewer is sent a screen, and a place that was painted.
+const SCRIPT: &str = "screen 4 3 demo\nconnect 1\nhear 1 524642203030332e3030380a0101\nhear 1 03000000000000040003\ncut 1\nhear 1 03010000000000040003\ncut 1\npaint 2 1 1 1 ff8000\ncut 1\ncut 1\n";
+const ANSWERS: &str = "ok\nconnect 1 524642203030332e3030380a\nhear 1 010100000000000400032018000100ff00ff00ff1008000000000000000464656d6f\nhear 1 -\ncut 1 00000001000000000004000300000000000000000000000000000000000000000000000000000000000000000000000000000000000000000000000000000000\nhear 1 -\ncut 1 -\nok\ncut 1 000000010002000100010001000000000080ff00\ncut 1 -\n";
+
+// Gives a byte a read, comments without an end, and then fails or ends.
+#[derive(Drop)]
+struct Dripping {
+    left: usize,
+    fails: bool,
+    reads: usize,
+}
+
+impl Read for Dripping {
+    fn read(&mut self, buf: &mut [u8]) -> io::Result<usize> {
+        self.reads = self.reads.saturating_add(1);
+        if self.left == 0 && self.fails {
+            return Err(io::Error::from(io::ErrorKind::BrokenPipe));
+        }
+        match buf.first_mut() {
+            Some(place) if self.left > 0 => {
+                *place = b'#';
+                self.left -= 1;
+                Ok(1)
+            }
+            _ => Ok(0),
+        }
+    }
+}
+
+fn drip(left: usize, fails: bool) -> Dripping {
+    Dripping {
+        left,
+        fails,
+        reads: 0,
+    }
+}
+
+#[test]
+fn a_reader_that_fails(rt: HostRuntime) {
+    let alloc = rt.alloc();
+    for left in [0, 1, 100] {
+        let mut out = Vec::new(alloc);
+        let status = counted::<Brand, _, _>(alloc, Blank::new(1), &mut drip(left, true), &mut out);
+        assert_eq!(rt; status, 5);
+        assert!(rt; out.as_slice() == b"read fault\n".as_slice());
+    }
+}
+
+#[test]
+fn the_longest_script(rt: HostRuntime) -> Result<(), Fail> {
+    let alloc = rt.alloc();
+    let script = vec![in alloc; b'#'; 1 << 24]?;
+    let (out, status) = play_bytes(alloc, &script);
+    assert_eq!(rt; status, 0);
+    assert!(rt; out.is_empty());
+    Ok(())
+}
+
+#[test]
+fn a_script_that_is_too_long(rt: HostRuntime) {
+    let alloc = rt.alloc();
+    let mut reader = drip((1 << 24) + 1, true);
+    let mut out = Vec::new(alloc);
+    let status = counted::<Brand, _, _>(alloc, Blank::new(1), &mut reader, &mut out);
+    assert_eq!(rt; status, 5);
+    assert!(rt; out.as_slice() == b"too long\n".as_slice());
+    assert_eq!(rt; reader.reads, (1 << 24) + 1);
+}
+
+// Takes so many bytes, at most three a call, and then fails.
+#[derive(Drop)]
+struct Room {
+    taken: Vec<u8>,
+    room: usize,
+}
+
+impl Write for Room {
+    fn write(&mut self, buf: &[u8]) -> io::Result<usize> {
+        if self.room == 0 {
+            return Err(io::Error::from(io::ErrorKind::BrokenPipe));
+        }
+        let count = buf.len().min(self.room).min(3);
+        self.taken.extend_from_slice(&buf[..count])?;
+        self.room -= count;
+        Ok(count)
+    }
+
+    fn flush(&mut self) -> io::Result<()> {
+        Ok(())
+    }
+}
+
+#[test]
+fn a_writer_that_fails(rt: HostRuntime) {
+    let alloc = rt.alloc();
+    for room in 0..ANSWERS.len() {
+        let mut reader = SCRIPT.as_bytes();
+        let mut writer = Room {
+            taken: Vec::new(alloc),
+            room,
+        };
+        let status = counted::<Brand, _, _>(alloc, Blank::new(1), &mut reader, &mut writer);
+        assert_eq!(rt; status, 5);
+        assert!(rt; writer.taken.as_slice() == &ANSWERS.as_bytes()[..room], "at {room}");
+    }
+}
+
+// Keeps what it is given, and can't be flushed.
+#[derive(Drop)]
+struct Stuck {
+    taken: Vec<u8>,
+}
+
+impl Write for Stuck {
+    fn write(&mut self, buf: &[u8]) -> io::Result<usize> {
+        self.taken.extend_from_slice(buf)?;
+        Ok(buf.len())
+    }
+
+    fn flush(&mut self) -> io::Result<()> {
+        Err(io::Error::from(io::ErrorKind::BrokenPipe))
+    }
+}
+
+#[test]
+fn a_writer_that_is_not_flushed(rt: HostRuntime) {
+    let alloc = rt.alloc();
+    let mut reader = b"# nothing".as_slice();
+    let mut writer = Stuck {
+        taken: Vec::new(alloc),
+    };
+    let status = counted::<Brand, _, _>(alloc, Blank::new(1), &mut reader, &mut writer);
+    assert_eq!(rt; status, 5);
+    assert!(rt; writer.taken.is_empty());
+}
+
+// Where a growth was refused, whole lines are printed and then `out of memory`.
+#[test]
+fn memory_that_is_refused(rt: HostRuntime) -> Result<(), Fail> {
+    let alloc = rt.alloc();
+    let Ok(mut out) = Vec::with_capacity(alloc, 1 << 12) else {
+        return Ok(());
+    };
+    let mut reader = SCRIPT.as_bytes();
+    let status = counted::<Brand, _, _>(alloc, Blank::new(1), &mut reader, &mut out);
+    let text = str::from_utf8(&out).unwrap_or("no text");
+    if status == 0 {
+        assert_eq!(rt; text, ANSWERS);
+        return Ok(());
+    }
+    assert_eq!(rt; status, 3);
+    let printed = text.strip_suffix("out of memory\n").ok_or("no last line")?;
+    assert!(rt; ANSWERS.starts_with(printed), "{printed:?}");
+    assert!(rt; printed.is_empty() || printed.ends_with('\n'), "{printed:?}");
+    Ok(())
+}

@@ -1,0 +1,188 @@
+-- What a step of the reading leaves to read.
+use Rattle.std.proofs.Common.{◌≡◌, ℕ, ◌+◌, ◌-◌, ◌<◌, ◌≤◌, inl, inr, ltb, List, [], ◌∷◌, ◌++◌, length, take, drop, slice_index, min, unwrap_or, refl, sym, ap, subst, ◌∙◌, arith, append_assoc, append-nil}
+use Rattle.std.proofs.lemmas.Bool.Decides.{eqb_tells}
+use Rattle.std.proofs.lemmas.List.{length-drop, length-take, take_all}
+use Rattle.std.proofs.Math.Seq.{take-append_seam}
+use Rattle.messages.specs.declared.Encoding.TheVariants.{Raw}
+use Rattle.messages.specs.declared.Input.TheVariants as input
+use Rattle.messages.specs.declared.Item.{Item}
+use Rattle.messages.specs.declared.Item.TheVariants as item
+use Rattle.messages.specs.declared.Phase.{Phase}
+use Rattle.messages.specs.declared.Fault.{Fault}
+use Rattle.messages.specs.declared.heads.Head.{Head}
+use Rattle.messages.specs.declared.held.Held.{Held}
+use Rattle.messages.specs.declared.held.Held.TheVariants as held
+use Rattle.messages.specs.declared.held.Numbers.{Numbers}
+use Rattle.messages.specs.declared.held.Text.{Text}
+use Rattle.messages.specs.Grammar.{text_limit, after}
+use Rattle.messages.specs.Reading.{Given, Unfinished, plain, encodings, cut_text, faulted, Rest}
+use Rattle.messages.specs.Steps.{head_length, IsHead, Told, keeps, says, fresh, head_tells, number_in, with_number, numbers_tell, adds, then_tells, tells}
+use Rattle.messages.specs.Kept.{kept, given_by, unfinished_numbers, unfinished_text, unfinished_held, rest_held, reads}
+use Rattle.messages.proofs.ListLemmas.{take-append_room}
+use Rattle.messages.proofs.Bulk.{text_item, head_ends, head_waits, number_ends, number_waits, text_ends, text_waits, fault_stays}
+
+-- what is left of a piece
+pub left_of : (used : ℕ) (piece : List ℕ) → take (length piece - used) (drop used piece) ≡ drop used piece
+left_of used piece = take_all (length piece - used) (drop used piece) (omega (arith, length-drop used piece))
+
+-- a step that leaves some of the piece, and one that takes all of it
+arm : (items items' : List Item) (p : Phase) (u : Unfinished) (r r' : Rest) (t : Told) (used : ℕ) (piece : List ℕ) → r ≡ kept p u
+    → tells (kept p u) piece ≡ then_tells t (λ q. tells q (drop used piece)) → items' ≡ items ++ t.items → r' ≡ t.rest
+    → adds items' (tells r' (take (length piece - used) (drop used piece))) ≡ adds items (tells r piece)
+arm items items' p u r r' t used piece e f g h =
+    ap (λ (bytes : List ℕ). adds items' (tells r' bytes)) (left_of used piece)
+    ∙ ap (λ (q : Rest). adds items' (tells q (drop used piece))) h
+    ∙ ap (λ (is : List Item). adds is (tells t.rest (drop used piece))) g
+    ∙ ap (λ (is : List Item). let told : Told = record { items = is; rest = (tells t.rest (drop used piece)).rest } in told) (append_assoc items t.items (tells t.rest (drop used piece)).items)
+    ∙ ap (λ (s : Told). adds items s) (sym f)
+    ∙ ap (λ (q : Rest). adds items (tells q piece)) (sym e)
+
+all_taken : (items : List Item) (p : Phase) (u u' : Unfinished) (r r' : Rest) (piece : List ℕ) → r ≡ kept p u → tells (kept p u) piece ≡ keeps p u' → r' ≡ kept p u'
+    → adds items (tells r' []) ≡ adds items (tells r piece)
+all_taken items p u u' r r' piece e f h =
+    ap (λ (q : Rest). adds items (tells q [])) h ∙ ap (λ (s : Told). adds items s) (sym f) ∙ ap (λ (q : Rest). adds items (tells q piece)) (sym e)
+
+-- ---- fronts
+
+pub plain_goes_on : (items items' : List Item) (p p' : Phase) (held held' : Held) (bytes piece : List ℕ) (said : Head) (used : ℕ) → unfinished_held held ≡ plain bytes
+    → 0 < used → used ≤ length piece → IsHead p bytes piece said used → items' ≡ items ++ (head_tells p said).items → rest_held p' held' ≡ (head_tells p said).rest
+    → reads items' p' held' (take (length piece - used) (drop used piece)) ≡ reads items p held piece
+plain_goes_on items items' p p' held held' bytes piece said used e some le h f g =
+    arm items items' p (plain bytes) (rest_held p held) (rest_held p' held') (head_tells p said) used piece (ap (kept p) e) (head_ends p bytes piece said used h some le) f g
+
+pub plain_waits : (items : List Item) (p : Phase) (held held' : Held) (bytes bytes' piece : List ℕ) → unfinished_held held ≡ plain bytes → unfinished_held held' ≡ plain bytes'
+    → bytes' ≡ bytes ++ piece → length bytes' < head_length p (slice_index bytes' 0) → reads items p held' [] ≡ reads items p held piece
+plain_waits items p held held' bytes bytes' piece e e' f h =
+    all_taken items p (plain bytes) (plain (bytes ++ piece)) (rest_held p held) (rest_held p held') piece (ap (kept p) e)
+    (head_waits p bytes piece (let P : List ℕ → Type 0 = λ b. length b < head_length p (slice_index b 0) in subst P f h))
+    (ap (kept p) (e' ∙ ap plain f))
+
+-- ---- numbers
+
+same_count : {a b c d : ℕ} {g h : Given} {m n : List ℕ} → encodings a b g m ≡ encodings c d h n → a ≡ c
+same_count e = cc
+
+same_come : {a b c d : ℕ} {g h : Given} {m n : List ℕ} → encodings a b g m ≡ encodings c d h n → b ≡ d
+same_come e = cc
+
+same_given : {a b c d : ℕ} {g h : Given} {m n : List ℕ} → encodings a b g m ≡ encodings c d h n → g ≡ h
+same_given e = cc
+
+not_yet : (p : Phase) (count come : ℕ) (given : Given) → come < count → numbers_tell p count come given ≡ keeps p (encodings count come given [])
+not_yet p count come given lt = elim (eqb_tells come count) [ inl x ↦ absurd (omega (arith, x.1)) | inr x ↦ rw x.0 refl ]
+
+all_come : (p : Phase) (count come : ℕ) (given : Given) → come ≡ count → numbers_tell p count come given ≡ says p (item.Encodings (unwrap_or given.first Raw) given.copyrect)
+all_come p count come given e = elim (eqb_tells come count) [ inl x ↦ rw x.0 refl | inr x ↦ absurd (x.1 e) ]
+
+abbrev next_given : Numbers → List ℕ → ℕ → Given
+next_given n piece used = with_number (given_by n) (number_in (n.next.items ++ take used piece))
+
+numbers_arm : (p : Phase) (held : Held) (n : Numbers) (piece : List ℕ) (used : ℕ) (t : Told) → used + length n.next.items ≡ 4 → 0 < used → used ≤ length piece
+    → numbers_tell p n.count (n.come + 1) (next_given n piece used) ≡ t → tells (kept p (unfinished_numbers n)) piece ≡ then_tells t (λ q. tells q (drop used piece))
+numbers_arm p held n piece used t e some le f =
+    number_ends p n.count n.come (given_by n) n.next.items piece used e some le ∙ ap (λ (s : Told). then_tells s (λ q. tells q (drop used piece))) f
+
+pub numbers_go_on : (items : List Item) (p : Phase) (held held' : Held) (n n' : Numbers) (piece : List ℕ) (used : ℕ) → unfinished_held held ≡ unfinished_numbers n → unfinished_held held' ≡ unfinished_numbers n'
+    → used + length n.next.items ≡ 4 → used ≤ length piece → 0 < used → unfinished_numbers n' ≡ encodings n.count (n.come + 1) (next_given n piece used) []
+    → n'.come < n'.count → reads items p held' (take (length piece - used) (drop used piece)) ≡ reads items p held piece
+numbers_go_on items p held held' n n' piece used e e' whole le some f lt =
+    arm items items p (unfinished_numbers n) (rest_held p held) (rest_held p held') (keeps p (encodings n.count (n.come + 1) (next_given n piece used) [])) used piece (ap (kept p) e)
+    (numbers_arm p held n piece used _ whole some le (not_yet p n.count (n.come + 1) (next_given n piece used) (omega (arith, same_count f, same_come f, lt))))
+    (sym (append-nil items))
+    (ap (kept p) (e' ∙ f))
+
+pub numbers_end : (items items' : List Item) (p p' : Phase) (held held' : Held) (n n' : Numbers) (piece : List ℕ) (used : ℕ) (said : Item) → unfinished_held held ≡ unfinished_numbers n
+    → used + length n.next.items ≡ 4 → used ≤ length piece → 0 < used → unfinished_numbers n' ≡ encodings n.count (n.come + 1) (next_given n piece used) []
+    → n'.count ≤ n'.come → n.come < n.count → said ≡ item.Encodings (unwrap_or n'.first Raw) n'.copyrect → items' ≡ items ++ said ∷ [] → rest_held p' held' ≡ fresh (after p said)
+    → reads items' p' held' (take (length piece - used) (drop used piece)) ≡ reads items p held piece
+numbers_end items items' p p' held held' n n' piece used said e whole le some f ge lt g h k =
+    let given : given_by n' ≡ next_given n piece used = same_given f in
+    let same : said ≡ item.Encodings (unwrap_or (next_given n piece used).first Raw) (next_given n piece used).copyrect =
+    g ∙ ap (λ (x : Given). item.Encodings (unwrap_or x.first Raw) x.copyrect) given in
+    arm items items' p (unfinished_numbers n) (rest_held p held) (rest_held p' held') (says p said) used piece (ap (kept p) e)
+    (numbers_arm p held n piece used _ whole some le
+    (all_come p n.count (n.come + 1) (next_given n piece used) (omega (arith, same_count f, same_come f, ge, lt)) ∙ ap (says p) (sym same)))
+    h k
+
+pub numbers_wait : (items : List Item) (p : Phase) (held held' : Held) (n n' : Numbers) (piece : List ℕ) → unfinished_held held ≡ unfinished_numbers n → unfinished_held held' ≡ unfinished_numbers n'
+    → length (n.next.items ++ piece) < 4 → unfinished_numbers n' ≡ encodings n.count n.come (given_by n) (n.next.items ++ piece) → reads items p held' [] ≡ reads items p held piece
+numbers_wait items p held held' n n' piece e e' short f =
+    all_taken items p (unfinished_numbers n) _ (rest_held p held) (rest_held p held') piece (ap (kept p) e) (number_waits p n.count n.come (given_by n) n.next.items piece short) (ap (kept p) (e' ∙ f))
+
+-- ---- texts
+
+same_length : {a b c d : ℕ} {m n : List ℕ} → cut_text a m b ≡ cut_text c n d → a ≡ c
+same_length e = cc
+
+same_kept : {a b c d : ℕ} {m n : List ℕ} → cut_text a m b ≡ cut_text c n d → m ≡ n
+same_kept e = cc
+
+same_number : {a b c d : ℕ} {m n : List ℕ} → cut_text a m b ≡ cut_text c n d → b ≡ d
+same_number e = cc
+
+-- t' is t with so many bytes of the piece
+abbrev pub Takes : Text → Text → List ℕ → ℕ → Type 0
+Takes t t' piece used = unfinished_text t' ≡ cut_text t.length (take text_limit (t.kept.items ++ take used piece)) (t.come + length (take used piece))
+
+come_is : (t t' : Text) (piece : List ℕ) (used : ℕ) → used ≤ length piece → Takes t t' piece used → t'.come ≡ t.come + used
+come_is t t' piece used le f = omega (arith, same_number f, length-take used piece)
+
+pub text_short : (t t' : Text) (piece : List ℕ) (used : ℕ) → Takes t t' piece used → length t'.kept.items ≤ text_limit
+text_short t t' piece used f = omega (arith, ap length (same_kept f), length-take text_limit (t.kept.items ++ take used piece))
+
+pub text_goes_on : (items : List Item) (p : Phase) (held held' : Held) (t t' : Text) (piece : List ℕ) (missing used : ℕ) → unfinished_held held ≡ unfinished_text t → unfinished_held held' ≡ unfinished_text t'
+    → t.come + missing ≡ t.length → used ≡ min missing (length piece) → length t.kept.items ≤ text_limit → Takes t t' piece used → t'.come < t'.length
+    → reads items p held' [] ≡ reads items p held piece
+text_goes_on items p held held' t t' piece missing used e e' whole least short f lt =
+    let all : used ≡ length piece = omega (arith, come_is t t' piece used (omega (arith, least)) f, same_length f) in
+    let same : take used piece ≡ piece = take_all used piece (omega (arith, all)) in
+    let taken : unfinished_text t' ≡ cut_text t.length (take text_limit (t.kept.items ++ piece)) (t.come + length piece) =
+    f ∙ ap (λ (b : List ℕ). cut_text t.length (take text_limit (t.kept.items ++ b)) (t.come + length b)) same in
+    all_taken items p (unfinished_text t) _ (rest_held p held) (rest_held p held') piece (ap (kept p) e)
+    (text_waits p t.length piece t.kept.items t.come (omega (arith, come_is t t' piece used (omega (arith, least)) f, same_length f)) short)
+    (ap (kept p) (e' ∙ taken))
+
+pub text_end : (items items' : List Item) (p p' : Phase) (held held' : Held) (t t' : Text) (piece : List ℕ) (missing used : ℕ) (said : Item) → unfinished_held held ≡ unfinished_text t
+    → t.come + missing ≡ t.length → used ≡ min missing (length piece) → t.come < t.length → 0 < length piece → Takes t t' piece used → t'.length ≤ t'.come
+    → said ≡ item.Input (input.Text t'.kept.items (ltb text_limit t'.length)) → items' ≡ items ++ said ∷ [] → rest_held p' held' ≡ fresh (after p said)
+    → reads items' p' held' (take (length piece - used) (drop used piece)) ≡ reads items p held piece
+text_end items items' p p' held held' t t' piece missing used said e whole least lt some f ge g h k =
+    let said_is : said ≡ text_item t.length (t.kept.items ++ take used piece) =
+    g ∙ ap (λ (n : ℕ). item.Input (input.Text t'.kept.items (ltb text_limit n))) (same_length f) ∙ ap (λ (b : List ℕ). item.Input (input.Text b (ltb text_limit t.length))) (same_kept f) in
+    arm items items' p (unfinished_text t) (rest_held p held) (rest_held p' held') (says p said) used piece (ap (kept p) e)
+    (text_ends p t.length piece t.kept.items t.come used
+    (omega (arith, come_is t t' piece used (omega (arith, least)) f, same_length f)) (omega (arith, least)) (omega (arith, least))
+    ∙ ap (λ (i : Item). then_tells (says p i) (λ q. tells q (drop used piece))) (sym said_is))
+    h k
+
+-- ---- a fault
+
+pub fault_goes_on : (items : List Item) (p : Phase) (held : Held) (k : Fault) (piece : List ℕ) → unfinished_held held ≡ faulted k → reads items p held [] ≡ reads items p held piece
+fault_goes_on items p held k piece e = all_taken items p (faulted k) (faulted k) (rest_held p held) (rest_held p held) piece (ap (kept p) e) (fault_stays p k piece) (ap (kept p) e)
+
+-- ---- a piece behind a part of a text
+
+pub part_told : (p : Phase) (t t' : Text) (piece : List ℕ) (missing used : ℕ) (none : List Item) → t.come + missing ≡ t.length → used ≡ min missing (length piece) → length t.kept.items ≤ text_limit
+    → Takes t t' piece used → t'.come < t'.length → none ≡ [] → (let told : Told = record { items = none; rest = kept p (unfinished_text t') } in told) ≡ tells (kept p (unfinished_text t)) piece
+part_told p t t' piece missing used none whole least short f lt e =
+    ap (λ (is : List Item). let told : Told = record { items = is; rest = kept p (unfinished_text t') } in told) e
+    ∙ text_goes_on [] p (held.Text t) (held.Text t') t t' piece missing used refl refl whole least short f lt
+
+pub whole_told : (p : Phase) (t t' : Text) (piece : List ℕ) (missing used : ℕ) (said : Item) (behind : Told) (items : List Item) → t.come + missing ≡ t.length → used ≡ min missing (length piece)
+    → t.come < t.length → Takes t t' piece used → t'.length ≤ t'.come → said ≡ item.Input (input.Text t'.kept.items (ltb text_limit t'.length))
+    → behind ≡ tells (fresh p) (take (length piece - used) (drop used piece)) → items ≡ said ∷ behind.items
+    → (let told : Told = record { items = items; rest = behind.rest } in told) ≡ tells (kept p (unfinished_text t)) piece
+whole_told p t t' piece missing used said behind items whole least lt f ge g e h =
+    let last : Item = text_item t.length (t.kept.items ++ take used piece) in
+    let said_is : said ≡ last =
+    g ∙ ap (λ (n : ℕ). item.Input (input.Text t'.kept.items (ltb text_limit n))) (same_length f) ∙ ap (λ (b : List ℕ). item.Input (input.Text b (ltb text_limit t.length))) (same_kept f) in
+    ap (λ (is : List Item). let told : Told = record { items = is; rest = behind.rest } in told) (h ∙ ap (λ (i : Item). i ∷ behind.items) said_is)
+    ∙ ap (λ (s : Told). adds (last ∷ []) s) (e ∙ ap (tells (fresh p)) (left_of used piece))
+    ∙ sym (text_ends p t.length piece t.kept.items t.come used (omega (arith, come_is t t' piece used (omega (arith, least)) f, same_length f, ge, least, whole)) (omega (arith, come_is t t' piece used (omega (arith, least)) f, same_length f, ge, lt)) (omega (arith, least)))
+
+pub cut_is : (t t' : Text) (piece : List ℕ) (used : ℕ) → length t.kept.items ≤ text_limit → Takes t t' piece used
+    → cut_text t'.length (take (length t.kept.items) t'.kept.items) t.come ≡ unfinished_text t
+cut_is t t' piece used short f =
+    ap (λ (n : ℕ). cut_text n (take (length t.kept.items) t'.kept.items) t.come) (same_length f)
+    ∙ ap (λ (b : List ℕ). cut_text t.length b t.come)
+    (ap (λ (b : List ℕ). take (length t.kept.items) b) (same_kept f ∙ take-append_room text_limit _ t.kept.items (take used piece) short refl) ∙ take-append_seam t.kept.items _)

@@ -1,0 +1,12 @@
+pub mod Pieces
+pub mod Whole
+pub mod Unique
+pub mod Says
+pub mod Running
+pub mod Versions
+pub mod Telling
+pub mod Bulk
+pub mod Arms
+pub mod Short
+pub mod Feeding
+pub mod ListLemmas

@@ -1,0 +1,6 @@
+pub mod Grammar
+pub mod Reading
+pub mod Server
+pub mod Steps
+pub mod Kept
+pub mod Examples

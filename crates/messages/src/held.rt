@@ -1,0 +1,227 @@
+//! What is kept of a message that hasn't ended.
+ghost use Rattle.std.specs.Prelude.{◌≡◌, ◌+◌, ◌<◌, ◌≤◌, ◌++◌, [], length, take, nat_lt, unwrap_or, IfOk, OnOk, OnErr, IfSome, IfNone};
+ghost use Rattle.messages.specs.Grammar.{text_limit, encoding_of};
+ghost use Rattle.messages.specs.declared.Encoding.TheVariants.{Raw};
+ghost use Rattle.messages.specs.declared.Item.TheVariants as item;
+ghost use Rattle.messages.specs.declared.Input.TheVariants as input;
+ghost use Rattle.messages.specs.Reading.{encodings, cut_text, fault_in};
+ghost use Rattle.messages.specs.Steps.{number_in, nothing_given, with_number};
+ghost use Rattle.messages.specs.Kept.{given_by, unfinished_numbers, unfinished_text, unfinished_held};
+
+use crate::numbers::number_in;
+use crate::{Encoding, Fault, Input, Item};
+use arrayvec::ArrayVec;
+use listed::Listed;
+use std::alloc::{AllocError, Global};
+use std::mem;
+
+/// How many bytes of a text are kept.
+const TEXT_LIMIT: usize = 262_144;
+
+/// A list of encodings whose count has come.
+#[derive(Debug, Drop)]
+pub struct Numbers {
+    /// How many numbers the list has.
+    pub count: u16,
+    /// How many have come.
+    pub come: u16,
+    /// The first encoding of pixels among them.
+    pub first: Option<Encoding>,
+    /// Whether CopyRect is among them.
+    pub copyrect: bool,
+    /// The bytes of the next one.
+    pub next: ArrayVec<u8, 4>,
+}
+
+/// A text whose length has come.
+#[derive(Debug, Drop)]
+pub struct Text {
+    /// How many bytes the text has.
+    pub length: u32,
+    /// How many have come.
+    pub come: u32,
+    /// The first of them.
+    pub kept: Vec<u8>,
+}
+
+/// What is kept of a message that hasn't ended, or the fault behind which nothing is read.
+#[derive(Debug, Drop)]
+pub enum Held {
+    /// Its bytes.
+    Plain(ArrayVec<u8, 20>),
+    Encodings(Numbers),
+    Text(Text),
+    Faulted(Fault),
+}
+
+/// The encoding of pixels that a number names.
+fn encoding_named(number: i32) -> Option<Encoding>
+    ensures { result ≡ encoding_of number }
+{
+    match number {
+        0 => Some(Encoding::Raw),
+        2 => Some(Encoding::Rre),
+        5 => Some(Encoding::Hextile),
+        _ => None,
+    }
+}
+
+impl Numbers {
+    /// A list of so many numbers, of which none has come.
+    pub fn new(count: u16) -> Numbers
+        ensures { unfinished_numbers result ≡ encodings count 0 nothing_given [] }
+    {
+        Numbers {
+            count,
+            come: 0,
+            first: None,
+            copyrect: false,
+            next: ArrayVec::new(),
+        }
+    }
+
+    /// Takes a number.
+    fn put(&mut self, number: i32)
+        requires { self.old.come < self.old.count }
+        ensures { unfinished_numbers self.new ≡ encodings self.old.count (self.old.come + 1) (with_number (given_by self.old) number) [] }
+    {
+        self.come += 1;
+        self.first = self.first.or(encoding_named(number));
+        self.copyrect = self.copyrect || number == 1;
+        self.next.clear();
+    }
+
+    /// Takes bytes of the next number from the front of a piece. Says how many where they end it, and takes all of them
+    /// where they don't.
+    pub fn take(&mut self, piece: &[u8]) -> Option<usize>
+        requires more { self.old.come < self.old.count }
+        requires short { length self.old.next.items < 4 }
+        ensures none { IfNone result ((length (self.old.next.items ++ piece.now) < 4)
+            × (unfinished_numbers self.new ≡ encodings self.old.count self.old.come (given_by self.old) (self.old.next.items ++ piece.now))) }
+        ensures some { IfSome result (λ used. (used + length self.old.next.items ≡ 4) × (used ≤ length piece.now)
+            × (0 < used) × (unfinished_numbers self.new ≡ encodings self.old.count (self.old.come + 1) (with_number (given_by self.old) (number_in (self.old.next.items ++ take used piece.now))) [])) }
+    {
+        let missing = 4 - self.next.len();
+        if piece.len() < missing {
+            self.next.try_extend_from_slice(piece).unwrap();
+            return None;
+        }
+        self.next.try_extend_from_slice(&piece[..missing]).unwrap();
+        let number = number_in(&self.next);
+        self.put(number);
+        Some(missing)
+    }
+
+    /// What the list says.
+    pub fn item(&self) -> Item
+        ensures { result ≡ item.Encodings (unwrap_or self.now.first Raw) self.now.copyrect }
+    {
+        Item::Encodings {
+            preferred: self.first.unwrap_or(Encoding::Raw),
+            copyrect: self.copyrect,
+        }
+    }
+}
+
+impl Text {
+    /// A text of so many bytes, of which none has come. Takes memory for what is kept of it.
+    pub fn new(alloc: Global, length: u32) -> Result<Text, AllocError>
+        ensures { IfOk result (λ t. unfinished_text t ≡ cut_text length [] 0) }
+    {
+        let room = (length as usize).min(TEXT_LIMIT);
+        Ok(Text {
+            length,
+            come: 0,
+            kept: Vec::with_capacity(alloc, room)?,
+        })
+    }
+
+    /// Takes bytes of the text. An error leaves it as it was.
+    pub fn take(&mut self, bytes: &[u8]) -> Result<(), AllocError>
+        requires fits { self.old.come + length bytes.now ≤ self.old.length }
+        requires kept { length self.old.kept.items ≤ text_limit }
+        ensures ok { OnOk result (unfinished_text self.new
+            ≡ cut_text self.old.length (take text_limit (self.old.kept.items ++ bytes.now)) (self.old.come + length bytes.now)) }
+        ensures err { OnErr result (unfinished_text self.new ≡ unfinished_text self.old) }
+    {
+        let room = TEXT_LIMIT - self.kept.len();
+        self.kept
+            .extend_from_slice(&bytes[..room.min(bytes.len())])?;
+        self.come += bytes.len() as u32;
+        Ok(())
+    }
+
+    /// How many bytes are still to come.
+    pub fn missing(&self) -> usize
+        requires { self.now.come ≤ self.now.length }
+        ensures { self.now.come + result ≡ self.now.length }
+    {
+        (self.length - self.come) as usize
+    }
+
+    /// What the text says, whose bytes are taken out of it.
+    pub fn finish(&mut self, alloc: Global) -> Item
+        ensures { result ≡ item.Input (input.Text self.old.kept.items (nat_lt text_limit self.old.length)) }
+    {
+        let kept = mem::replace(&mut self.kept, Vec::new(alloc));
+        Item::Input(Input::Text {
+            text: Listed::from_vec(kept),
+            shortened: self.length as usize > TEXT_LIMIT,
+        })
+    }
+
+    /// The text with as many bytes as it had before.
+    pub fn cut_back(&mut self, kept: usize, come: u32)
+        ensures { unfinished_text self.new ≡ cut_text self.old.length (take kept self.old.kept.items) come }
+    {
+        self.kept.truncate(kept);
+        self.come = come;
+    }
+
+    /// The same text.
+    fn try_clone(&self, alloc: Global) -> Result<Text, AllocError>
+        ensures { IfOk result (λ t. unfinished_text t ≡ unfinished_text self.now) }
+    {
+        let mut text = Text::new(alloc, self.length)?;
+        text.kept.extend_from_slice(&self.kept)?;
+        text.come = self.come;
+        Ok(text)
+    }
+}
+
+impl Held {
+    /// The fault that is kept.
+    pub fn fault(&self) -> Option<Fault>
+        ensures { result ≡ fault_in (unfinished_held self.now) }
+    {
+        match self {
+            Held::Faulted(fault) => Some(*fault),
+            _ => None,
+        }
+    }
+
+    /// The same again. Only a text takes memory.
+    pub fn try_clone(&self, alloc: Global) -> Result<Held, AllocError>
+        ensures { IfOk result (λ h. unfinished_held h ≡ unfinished_held self.now) }
+    {
+        Ok(match self {
+            Held::Plain(bytes) => Held::Plain(copied(bytes)),
+            Held::Encodings(numbers) => Held::Encodings(Numbers {
+                count: numbers.count,
+                come: numbers.come,
+                first: numbers.first,
+                copyrect: numbers.copyrect,
+                next: copied(&numbers.next),
+            }),
+            Held::Text(text) => Held::Text(text.try_clone(alloc)?),
+            Held::Faulted(fault) => Held::Faulted(*fault),
+        })
+    }
+}
+
+/// The same bytes again.
+fn copied<const N: usize>(bytes: &ArrayVec<u8, N>) -> ArrayVec<u8, N>
+    ensures { result.items ≡ bytes.now.items }
+{
+    ArrayVec::try_from(bytes.as_slice()).unwrap()
+}

@@ -1,0 +1,295 @@
+//! What no clause says: that calls succeed, and that the definitions are RFC 6143's, by worked bytes.
+use super::*;
+use std::alloc::{AllocError, Global};
+use std::fmt::Write;
+use std::test::Fail;
+
+/// The opening in version 3.8, and messages behind it.
+fn opened(alloc: Global, messages: &[u8]) -> Result<Vec<u8>, AllocError> {
+    let mut bytes = Vec::from_slice(alloc, b"RFB 003.008\n\x01\x01")?;
+    bytes.extend_from_slice(messages)?;
+    Ok(bytes)
+}
+
+/// Feeds a piece, and prints its items behind those of the pieces before.
+fn listen(ear: &mut Ear, piece: &[u8], items: &mut String) -> Result<Option<Fault>, AllocError> {
+    let heard = ear.feed(piece)?;
+    for item in heard.items.as_slice() {
+        write!(items, "{item:?};")?;
+    }
+    Ok(heard.fault)
+}
+
+/// The items of bytes that come in pieces of this length, and the fault at their end.
+fn heard_by(
+    alloc: Global,
+    bytes: &[u8],
+    length: usize,
+) -> Result<(String, Option<Fault>), AllocError> {
+    let mut ear = Ear::new(alloc);
+    let mut items = String::new(alloc);
+    for piece in bytes.chunks(length.max(1)) {
+        listen(&mut ear, piece, &mut items)?;
+    }
+    let fault = listen(&mut ear, b"", &mut items)?;
+    Ok((items, fault))
+}
+
+/// The items of bytes that come in two pieces, and the fault at their end.
+fn heard_in_two(
+    alloc: Global,
+    front: &[u8],
+    back: &[u8],
+) -> Result<(String, Option<Fault>), AllocError> {
+    let mut ear = Ear::new(alloc);
+    let mut items = String::new(alloc);
+    listen(&mut ear, front, &mut items)?;
+    let fault = listen(&mut ear, back, &mut items)?;
+    Ok((items, fault))
+}
+
+const OPENED: &str = "Version(V38);Choice;Init { shared: true };";
+
+/// Bytes behind the opening, the items that they say, and their fault.
+const MESSAGES: [(&[u8], &str, Option<Fault>); 12] = [
+    (b"", "", None),
+    // A SetPixelFormat of 16 bits, 5-6-5.
+    (
+        b"\x00\x00\x00\x00\x10\x10\x00\x01\x00\x1f\x00\x3f\x00\x1f\x0b\x05\x00\x00\x00\x00",
+        "Format(PixelFormat { bits: Sixteen, depth: 16, big_endian: false, red: Component { max: 31, shift: 11 }, green: Component { max: 63, shift: 5 }, blue: Component { max: 31, shift: 0 } });",
+        None,
+    ),
+    // 24 bits per pixel, a colour map, and both.
+    (
+        b"\x00\x00\x00\x00\x18\x18\x00\x01\x00\xff\x00\xff\x00\xff\x10\x08\x00\x00\x00\x00\x07",
+        "",
+        Some(Fault::BadBitsPerPixel),
+    ),
+    (
+        b"\x00\x00\x00\x00\x08\x18\x00\x00\x00\xff\x00\xff\x00\xff\x10\x08\x00\x00\x00\x00\x07",
+        "",
+        Some(Fault::ColourMapUnsupported),
+    ),
+    (
+        b"\x00\x00\x00\x00\x18\x18\x00\x00\x00\xff\x00\xff\x00\xff\x10\x08\x00\x00\x00\x00\x07",
+        "",
+        Some(Fault::BadBitsPerPixel),
+    ),
+    // No encodings; CopyRect and Raw; -223, 7, Hextile, RRE and CopyRect.
+    (
+        b"\x02\x00\x00\x00\x02\x00\x00\x02\x00\x00\x00\x01\x00\x00\x00\x00",
+        "Encodings { preferred: Raw, copyrect: false };Encodings { preferred: Raw, copyrect: true };",
+        None,
+    ),
+    (
+        b"\x02\xff\x00\x05\xff\xff\xff\x21\x00\x00\x00\x07\x00\x00\x00\x05\x00\x00\x00\x02\x00\x00\x00\x01",
+        "Encodings { preferred: Hextile, copyrect: true };",
+        None,
+    ),
+    // Requests of an area, all of it and its changes alone.
+    (
+        b"\x03\x00\x00\x01\x00\x02\x00\x04\x00\x03\x03\x07\x00\x00\x00\x00\xff\xff\x01\x00",
+        "Request { incremental: false, area: Area { x: 1, y: 2, w: 4, h: 3 } };Request { incremental: true, area: Area { x: 0, y: 0, w: 65535, h: 256 } };",
+        None,
+    ),
+    // A key, a pointer and a text.
+    (
+        b"\x04\x01\x00\x00\x00\x00\xff\x0d\x05\x01\x00\x02\x00\x01\x06\x00\x00\x00\x00\x00\x00\x02hi",
+        "Input(Key { down: true, key: 65293 });Input(Pointer { mask: 1, x: 2, y: 1 });Input(Text { text: Listed { elements: [104, 105] }, shortened: false });",
+        None,
+    ),
+    // A key that goes up, no text, and a text that hasn't ended.
+    (
+        b"\x04\x00\xff\xff\x00\x01\x00\x00\x06\xff\xff\xff\x00\x00\x00\x00\x06\x00\x00\x00\xff\xff\xff\xffhi",
+        "Input(Key { down: false, key: 65536 });Input(Text { text: Listed { elements: [] }, shortened: false });",
+        None,
+    ),
+    // What follows an unknown message isn't read.
+    (
+        b"\x05\x00\x00\x00\x00\x00\x07\x05\x01\x00\x02\x00\x01",
+        "Input(Pointer { mask: 0, x: 0, y: 0 });",
+        Some(Fault::UnknownMessage(7)),
+    ),
+    (b"\x01", "", Some(Fault::UnknownMessage(1))),
+];
+
+#[test]
+fn messages_in_any_pieces(rt: HostRuntime) -> Result<(), Fail> {
+    for (messages, said, fault) in MESSAGES {
+        let bytes = opened(rt.alloc(), messages)?;
+        let expected = (format!(in rt.alloc(); "{OPENED}{said}")?, fault);
+        for length in [bytes.len(), 1, 3] {
+            let heard = heard_by(rt.alloc(), &bytes, length)?;
+            assert_eq!(rt; heard, expected, "{messages:?} in pieces of {length}");
+        }
+        for (at, _) in bytes.iter().enumerate() {
+            let (front, back) = bytes.split_at(at);
+            let heard = heard_in_two(rt.alloc(), front, back)?;
+            assert_eq!(rt; heard, expected, "{messages:?} cut at {at}");
+        }
+    }
+    Ok(())
+}
+
+#[test]
+fn openings(rt: HostRuntime) -> Result<(), Fail> {
+    let table: [(&[u8], &str, Option<Fault>); 9] = [
+        (
+            b"RFB 003.003\n\x00",
+            "Version(V33);Init { shared: false };",
+            None,
+        ),
+        (
+            b"RFB 003.005\n\x01",
+            "Version(V33);Init { shared: true };",
+            None,
+        ),
+        (
+            b"RFB 003.007\n\x01\x02",
+            "Version(V37);Choice;Init { shared: true };",
+            None,
+        ),
+        (b"RFB 003.008\n\x01", "Version(V38);Choice;", None),
+        (b"RFB 003.889\n", "Version(V33);", None),
+        (b"RFB 004.008\n", "Version(V33);", None),
+        (b"RFB 003.00", "", None),
+        (b"hello world\n", "", Some(Fault::BadVersion)),
+        (
+            b"RFB 003.008\n\x02\x01",
+            "Version(V38);",
+            Some(Fault::BadSecurityType),
+        ),
+    ];
+    for (bytes, said, fault) in table {
+        for length in [99, 1] {
+            let (items, found) = heard_by(rt.alloc(), bytes, length)?;
+            assert_eq!(rt; items.as_str(), said, "{bytes:?}");
+            assert_eq!(rt; found, fault, "{bytes:?}");
+        }
+    }
+    Ok(())
+}
+
+/// The front of a text of this many bytes, and this many bytes of it.
+fn text(alloc: Global, length: u32, come: u32) -> Result<Vec<u8>, AllocError> {
+    let mut bytes = opened(alloc, b"\x06\x00\x00\x00")?;
+    bytes.extend_from_slice(&length.to_be_bytes())?;
+    for i in 0..come {
+        bytes.push((i % 251) as u8)?;
+    }
+    Ok(bytes)
+}
+
+#[test]
+fn long_texts(rt: HostRuntime) -> Result<(), Fail> {
+    for (length, kept) in [(262_143, 262_143), (262_144, 262_144), (262_145, 262_144)] {
+        let bytes = text(rt.alloc(), length, length)?;
+        let mut ear = Ear::new(rt.alloc());
+        for piece in bytes.chunks(100_000) {
+            let heard = ear.feed(piece)?;
+            for item in heard.items.as_slice() {
+                if let Item::Input(Input::Text { text, shortened }) = item {
+                    assert_eq!(rt; text.as_slice().len(), kept);
+                    assert_eq!(rt;
+                        text.as_slice().last().copied(),
+                        Some(((kept - 1) % 251) as u8)
+                    );
+                    assert_eq!(rt; *shortened, length == 262_145);
+                }
+            }
+        }
+        assert_eq!(rt;
+            ear.feed(b"\x01")?.fault,
+            Some(Fault::UnknownMessage(1)),
+            "of {length}"
+        );
+    }
+    Ok(())
+}
+
+#[test]
+fn endless_text(rt: HostRuntime) -> Result<(), Fail> {
+    let bytes = text(rt.alloc(), u32::MAX, 300_000)?;
+    let (items, fault) = heard_by(rt.alloc(), &bytes, 4096)?;
+    assert_eq!(rt; items.as_str(), OPENED);
+    assert_eq!(rt; fault, None);
+    Ok(())
+}
+
+#[test]
+fn many_encodings(rt: HostRuntime) -> Result<(), Fail> {
+    let mut bytes = opened(rt.alloc(), b"\x02\x00\xff\xff")?;
+    for i in 0..65_535u32 {
+        bytes.extend_from_slice(&(65_534 - i).to_be_bytes())?;
+    }
+    let (items, fault) = heard_by(rt.alloc(), &bytes, 4096)?;
+    let expected = format!(in rt.alloc();
+        "{OPENED}Encodings {{ preferred: Hextile, copyrect: true }};"
+    )?;
+    assert_eq!(rt; items, expected);
+    assert_eq!(rt; fault, None);
+    Ok(())
+}
+
+#[test]
+fn clones_and_getters(rt: HostRuntime) -> Result<(), Fail> {
+    // In the midst of a request, of a list of encodings and of a text, and behind a fault.
+    let table: [(&[u8], &[u8], bool); 4] = [
+        (b"\x03\x01\x00\x01\x00", b"\x02\x00\x04\x00\x03\x01", true),
+        (
+            b"\x02\x00\x00\x02\x00\x00\x00\x05\x00",
+            b"\x00\x00\x01",
+            true,
+        ),
+        (
+            b"\x06\x00\x00\x00\x00\x00\x00\x03ab",
+            b"c\x05\x01\x00\x01\x00\x01",
+            true,
+        ),
+        (b"\x07", b"\x05\x01\x00\x01\x00\x01", false),
+    ];
+    for (front, back, is_open) in table {
+        let mut ear = Ear::new(rt.alloc());
+        assert_eq!(rt; ear.phase(), Phase::Version);
+        assert!(rt; !ear.is_open());
+        let bytes = opened(rt.alloc(), front)?;
+        listen(&mut ear, &bytes, &mut String::new(rt.alloc()))?;
+        let mut clone = ear.try_clone()?;
+        assert_eq!(rt; clone.phase(), Phase::Open(Version::V38));
+        assert_eq!(rt; clone.is_open(), is_open);
+        assert_eq!(rt; clone.fault().is_none(), is_open);
+        let mut items = String::new(rt.alloc());
+        let mut again = String::new(rt.alloc());
+        let fault = listen(&mut ear, back, &mut items)?;
+        assert_eq!(rt; listen(&mut clone, back, &mut again)?, fault, "{front:?}");
+        assert_eq!(rt; again, items, "{front:?}");
+        assert_eq!(rt; items.is_empty(), !is_open, "{front:?}");
+    }
+    Ok(())
+}
+
+#[test]
+fn server_messages(rt: HostRuntime) -> Result<(), Fail> {
+    let mut out = Vec::new(rt.alloc());
+    put_version(&mut out)?;
+    put_security(&mut out, Version::V33)?;
+    put_security(&mut out, Version::V37)?;
+    put_security(&mut out, Version::V38)?;
+    put_result(&mut out)?;
+    put_server_init(&mut out, 4, 0x0103, b"demo")?;
+    put_update_head(&mut out, 0x0102)?;
+    put_bell(&mut out)?;
+    put_cut_text(&mut out, b"hi")?;
+    let expected = b"RFB 003.008\n\x00\x00\x00\x01\x01\x01\x01\x01\x00\x00\x00\x00\
+        \x00\x04\x01\x03\x20\x18\x00\x01\x00\xff\x00\xff\x00\xff\x10\x08\x00\x00\x00\x00\x00\x00\x00\x04demo\
+        \x00\x00\x01\x02\x02\x03\x00\x00\x00\x00\x00\x00\x02hi";
+    assert_eq!(rt; out.as_slice(), expected.as_slice());
+    Ok(())
+}
+
+#[test]
+fn laws_hold() {
+    reads_the_stream();
+    reads_in_pieces();
+    keeps_enough();
+}

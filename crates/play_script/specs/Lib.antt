@@ -1,0 +1,5 @@
+pub mod Words
+pub mod Lines
+pub mod Texts
+pub mod Transcript
+pub mod Examples

@@ -1,0 +1,14 @@
+//! The script language of `vncdemo play`, as functions over bytes: what a line says, and what is printed of an answer.
+#![tactic(auto)]
+
+mod hex;
+mod lines;
+mod texts;
+mod words;
+
+pub use lines::{Line, parse_line};
+pub use texts::{answer_text, bad_line_text, ok_text, refusal_text};
+pub use words::cut_line;
+
+#[cfg(test)]
+mod tests;

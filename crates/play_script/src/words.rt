@@ -1,0 +1,94 @@
+ghost use Rattle.std.specs.Prelude.{◌≡◌, ◌==◌, position, ℕ, ◌<◌, ◌∷◌, [], length, IfSome, SomeIff, ◌+◌, ◌*◌, ◌^◌};
+ghost use Rattle.std.specs.Char.{digit_value};
+ghost use Rattle.std.specs.Option.{option_map_or};
+ghost use Rattle.play_script.specs.Words.{parts, lines_of, words_of, word as word_of, number_up_to, number as number_of, viewer_number as viewer_number_of};
+
+use crate::hex::{are_digits, digit_value};
+
+/// The largest number of a script.
+pub const NUMBER_LIMIT: u32 = 0x7fff_ffff;
+
+fn place_of(text: &[u8], separator: u8) -> Option<usize>
+    ensures { result ≡ position (λ byte. byte == separator) text.now }
+{
+    text.iter().position(|byte| *byte == separator)
+}
+
+// What stands before the first separator, and what stands behind it.
+fn cut_at(text: &[u8], separator: u8) -> (&[u8], Option<&[u8]>)
+    ensures parts { parts separator text.now ≡ result.0.now ∷ option_map_or (λ rest. parts separator rest.now) result.1 [] }
+    ensures less { IfSome result.1 (λ rest. length rest.now < length text.now) }
+{
+    match place_of(text, separator) {
+        Some(end) => (&text[..end], Some(&text[end + 1..])),
+        None => (text, None),
+    }
+}
+
+/// The first line of a text without its line feed, and what stands behind that, if there is one.
+pub fn cut_line(text: &[u8]) -> (&[u8], Option<&[u8]>)
+    ensures lines { lines_of text.now ≡ result.0.now ∷ option_map_or (λ rest. lines_of rest.now) result.1 [] }
+    ensures less { IfSome result.1 (λ rest. length rest.now < length text.now) }
+{
+    cut_at(text, b'\n')
+}
+
+// A line's word by its number; an empty one where there are not so many.
+pub fn word(line: &[u8], index: usize) -> &[u8]
+    ensures { result.now ≡ word_of (words_of line.now) index }
+{
+    let (first, rest) = cut_at(line, b' ');
+    if index == 0 {
+        return first;
+    }
+    match rest {
+        Some(rest) => word(rest, index - 1),
+        None => &[],
+    }
+}
+
+// How many words a line has.
+pub fn word_count(line: &[u8]) -> usize
+    ensures { result ≡ length (words_of line.now) }
+{
+    line.iter().filter(|byte| **byte == b' ').count() + 1
+}
+
+// A decimal number with one digit more, if it fits.
+fn with_digit(value: u64, digit: u8) -> Option<u64>
+    ensures { SomeIff result (10 * value + digit_value digit < 2 ^ 64) (10 * value + digit_value digit) }
+{
+    value
+        .checked_mul(10)?
+        .checked_add(u64::from(digit_value(digit)))
+}
+
+// The decimal number that a word spells, if it is at most the limit.
+fn number_up_to(word: &[u8], limit: u64) -> Option<u64>
+    ensures { result ≡ number_up_to limit word.now }
+{
+    if !are_digits(word, 10) {
+        return None;
+    }
+    let mut value: u64 = 0;
+    for byte in word {
+        value = with_digit(value, *byte)?;
+    }
+    if value <= limit { Some(value) } else { None }
+}
+
+// A number of at most 2^31 - 1.
+pub fn number(word: &[u8]) -> Option<u32>
+    ensures value { result ≡ number_of word.now }
+    ensures small { IfSome result (λ n. n < 2 ^ 31) }
+{
+    let value = number_up_to(word, u64::from(NUMBER_LIMIT))?;
+    Some(value as u32)
+}
+
+// A viewer's number.
+pub fn viewer_number(word: &[u8]) -> Option<u64>
+    ensures { result ≡ viewer_number_of word.now }
+{
+    number_up_to(word, u64::MAX)
+}

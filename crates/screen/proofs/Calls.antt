@@ -1,0 +1,200 @@
+-- What the calls of one viewer's events do and answer, by the seats.
+use Rattle.std.proofs.Common.{◌≡◌, ◌≢◌, ℕ, ◌<◌, Bool, true, false, cond, List, [], ◌∷◌, ◌++◌, map, length, get_or, set, Option, Some, None, Result, Ok, Err, refl, sym, ◌∙◌, ap, subst}
+use Rattle.std.specs.List.{list_any}
+use Rattle.std.specs.Prelude.{◌==◌, is_some, filter, not, ◌&&◌, ◌||◌, MatchOption, MatchResult}
+use Rattle.messages.specs.declared.Item.{Item}
+use Rattle.messages.specs.Reading.{Rest, rest, new_items}
+use Rattle.messages.specs.Server.{server_version}
+use Rattle.screen.specs.declared.Config.{Config}
+use Rattle.screen.specs.declared.Event.{Event}
+use Rattle.screen.specs.declared.Event.TheVariants.{Connect, Hear, Cut, Close}
+use Rattle.screen.specs.declared.Answer.{Answer}
+use Rattle.screen.specs.declared.ScreenError.{ScreenError}
+use Rattle.screen.specs.declared.ScreenError.TheVariants as refusals
+use Rattle.screen.specs.declared.place.Seat.{Seat}
+use Rattle.screen.specs.Viewer.{Viewer, new_viewer}
+use Rattle.copy_schedule.specs.Marks.{Sent, pending, copies_of, pixels_of, after_sending}
+use Rattle.messages.specs.Reading.{is_open_rest}
+use Rattle.screen.specs.Sending.{sending_kept, with_update}
+use Rattle.screen.specs.Alone.{own_step, owner_of, after_items, heard_answer, gives, refuses, nothing_to_say, some_bytes, Tells}
+use Rattle.screen.specs.Answers.{viewer_of, kept, State, state, answer_to}
+use Rattle.screen.specs.Entries.{entry, viewer_in, IsPlaceOf}
+use Rattle.screen.proofs.Owners.{one_of, replaced, answer-hit, state-has, entries-any, entries-without, state-close, answer-close, state-hear, answer-hear}
+use Rattle.screen.proofs.Arrivals.{state-connect, state-in_use, state-absent}
+use Rattle.screen.proofs.Seats.{StandsFor, stands-for, stands-for_none, seat-set}
+use Rattle.screen.proofs.Sent.{state-cut, answer-cut}
+
+-- how a screen is seen
+abbrev pub seen : Config → List ℕ → List Seat → State
+seen c p seats = record { config = c; picture = p; viewers = map entry seats }
+
+-- a screen has the configuration of the list whose state it stands for
+pub at_config : (P : Config → Type 0) (c config : Config) (p : List ℕ) (seats : List Seat) (es : List Event) → seen c p seats ≡ state config es → (seen c p seats ≡ state c es → P c) → P config
+at_config P c config p seats es h at =
+    let same : c ≡ config = ap (λ (s : State). s.config) h in
+    subst P same (at (subst (λ (k : Config). seen c p seats ≡ state k es) (sym same) h))
+
+-- the viewer with a number, at its place
+pub record Seated (c : Config) (es : List Event) (seats : List Seat) (v i : ℕ) (old : Seat) : Type 0 where
+  pub was : Viewer (List ℕ)
+  pub there : viewer_of c v es ≡ Some was
+  pub as_kept : kept was ≡ viewer_in old
+  pub set_there : (new : Seat) → new.number ≡ old.number → map entry (set seats i new) ≡ map (replaced v (viewer_in new)) (state c es).viewers
+
+pub seated : (c : Config) (es : List Event) (p : List ℕ) (seats : List Seat) (v i : ℕ) (old : Seat) → seen c p seats ≡ state c es → IsPlaceOf seats v i → old ≡ get_or seats i old → Seated c es seats v i old
+seated c es p seats v i old h place is =
+    let viewers : map entry seats ≡ (state c es).viewers = ap (λ (s : State). s.viewers) h in
+    let stands : StandsFor c es old = subst (StandsFor c es) (sym is) (stands-for c es seats i old viewers place.inside) in
+    let number : old.number ≡ v = ap (λ (s : Seat). s.number) is ∙ place.numbered old in record {
+      was = stands.was;
+      there = subst (λ (n : ℕ). viewer_of c n es ≡ Some stands.was) number stands.there;
+      as_kept = stands.as_kept;
+      set_there = λ new same_number.
+      seat-set c es seats i old new viewers place.inside (same_number ∙ ap (λ (s : Seat). s.number) is)
+      ∙ ap (λ n. map (replaced n (viewer_in new)) (state c es).viewers) (place.numbered old);
+    }
+
+pub none_seated : (c : Config) (es : List Event) (p : List ℕ) (seats : List Seat) (v : ℕ) → seen c p seats ≡ state c es → list_any (λ s. s.number == v) seats ≡ false → viewer_of c v es ≡ None
+none_seated c es p seats v h away = stands-for_none c es seats v (ap (λ (s : State). s.viewers) h) away
+
+-- ---- who isn't there
+
+pub answer-absent_hear : (c : Config) (es : List Event) (v : ℕ) (piece : List ℕ) → viewer_of c v es ≡ None → answer_to c es (Hear v piece) ≡ refuses refusals.NoViewer
+answer-absent_hear c es v piece absent = answer-hit c v es (Hear v piece) refl ∙ ap (λ o. (own_step c (Hear v piece) (one_of c v es) o).1) absent
+
+pub answer-absent_cut : (c : Config) (es : List Event) (v : ℕ) → viewer_of c v es ≡ None → answer_to c es (Cut v) ≡ refuses refusals.NoViewer
+answer-absent_cut c es v absent = answer-hit c v es (Cut v) refl ∙ ap (λ o. (own_step c (Cut v) (one_of c v es) o).1) absent
+
+-- ---- hearing
+
+pub hear-step : (c : Config) (es : List Event) (p : List ℕ) (seats : List Seat) (v i : ℕ) (old new : Seat) (piece : List ℕ) → seen c p seats ≡ state c es → IsPlaceOf seats v i → old ≡ get_or seats i old
+    → new.number ≡ old.number → ((before : List ℕ) → old.ear ≡ rest before → viewer_in new ≡ after_items c (new_items before piece) (record (viewer_in old) { heard = rest (before ++ piece) }))
+    → seen c p (set seats i new) ≡ state c (es ++ Hear v piece ∷ [])
+hear-step c es p seats v i old new piece h place is same_number viewer =
+    let at = seated c es p seats v i old h place is in
+    let s : List ℕ → List (ℕ × Viewer Rest) → State = λ q vs. record { config = c; picture = q; viewers = vs } in
+    let ear : old.ear ≡ rest at.was.heard = sym (ap (λ (w : Viewer Rest). w.heard) at.as_kept) in
+    ap (s p) (at.set_there new same_number
+    ∙ ap (λ w. map (replaced v w) (state c es).viewers) (viewer at.was.heard ear ∙ sym (ap (λ (w : Viewer Rest). after_items c (new_items at.was.heard piece) (record w { heard = rest (at.was.heard ++ piece) })) at.as_kept)))
+    ∙ ap (λ q. s q (map (replaced v (after_items c (new_items at.was.heard piece) (record (kept at.was) { heard = rest (at.was.heard ++ piece) }))) (state c es).viewers)) (ap (λ (t : State). t.picture) h)
+    ∙ sym (state-hear c es v piece at.was at.there)
+
+pub hear-answer : (c : Config) (es : List Event) (p : List ℕ) (seats : List Seat) (v i : ℕ) (old : Seat) (piece : List ℕ) → seen c p seats ≡ state c es → IsPlaceOf seats v i → old ≡ get_or seats i old
+    → (before : List ℕ) × (old.ear ≡ rest before) × (answer_to c es (Hear v piece) ≡ heard_answer c before piece)
+hear-answer c es p seats v i old piece h place is =
+    let at = seated c es p seats v i old h place is in (
+      at.was.heard,
+      sym (ap (λ (w : Viewer Rest). w.heard) at.as_kept),
+      answer-hear c es v piece at.was at.there,
+    )
+
+-- ---- cutting
+
+pub cut-step : (c : Config) (es : List Event) (p : List ℕ) (seats : List Seat) (v i : ℕ) (old new : Seat) → seen c p seats ≡ state c es → IsPlaceOf seats v i → old ≡ get_or seats i old
+    → new.number ≡ old.number → viewer_in new ≡ (sending_kept c.width c.height c.rects_per_update p (viewer_in old)).1
+    → seen c p (set seats i new) ≡ state c (es ++ Cut v ∷ [])
+cut-step c es p seats v i old new h place is same_number viewer =
+    let at = seated c es p seats v i old h place is in
+    let s : List ℕ → List (ℕ × Viewer Rest) → State = λ q vs. record { config = c; picture = q; viewers = vs } in
+    let picture : p ≡ (state c es).picture = ap (λ (t : State). t.picture) h in
+    ap (s p) (at.set_there new same_number ∙ ap (λ w. map (replaced v w) (state c es).viewers) (viewer ∙ sym (ap (λ w. (sending_kept c.width c.height c.rects_per_update p w).1) at.as_kept)))
+    ∙ ap (λ q. s q (map (replaced v (sending_kept c.width c.height c.rects_per_update q (kept at.was)).1) (state c es).viewers)) picture
+    ∙ sym (state-cut c es v at.was at.there)
+
+pub cut-answer : (c : Config) (es : List Event) (p : List ℕ) (seats : List Seat) (v i : ℕ) (old : Seat) → seen c p seats ≡ state c es → IsPlaceOf seats v i → old ≡ get_or seats i old
+    → answer_to c es (Cut v) ≡ gives (sending_kept c.width c.height c.rects_per_update p (viewer_in old)).0
+cut-answer c es p seats v i old h place is =
+    let at = seated c es p seats v i old h place is in
+    answer-cut c es v at.was at.there
+    ∙ ap (λ q. gives (sending_kept c.width c.height c.rects_per_update q (kept at.was)).0) (sym (ap (λ (t : State). t.picture) h))
+    ∙ ap (λ w. gives (sending_kept c.width c.height c.rects_per_update p w).0) at.as_kept
+
+-- ---- connecting
+
+pub connect-step : (c : Config) (es : List Event) (p : List ℕ) (seats new : List Seat) (v : ℕ) → seen c p seats ≡ state c es → list_any (λ s. s.number == v) seats ≡ false
+    → map entry new ≡ map entry seats ++ (v, kept (new_viewer c.width c.height)) ∷ [] → seen c p new ≡ state c (es ++ Connect v ∷ [])
+connect-step c es p seats new v h away added =
+    let s : List ℕ → List (ℕ × Viewer Rest) → State = λ q vs. record { config = c; picture = q; viewers = vs } in
+    ap (s p) added
+    ∙ ap (λ (t : State). record { config = c; picture = t.picture; viewers = t.viewers ++ (v, kept (new_viewer c.width c.height)) ∷ [] }) h
+    ∙ sym (state-connect c es v (none_seated c es p seats v h away))
+
+pub connect-answer : (c : Config) (es : List Event) (p : List ℕ) (seats : List Seat) (v : ℕ) → seen c p seats ≡ state c es → list_any (λ s. s.number == v) seats ≡ false → answer_to c es (Connect v) ≡ gives server_version
+connect-answer c es p seats v h away = answer-hit c v es (Connect v) refl ∙ ap (λ o. (own_step c (Connect v) (one_of c v es) o).1) (none_seated c es p seats v h away)
+
+pub in_use-answer : (c config : Config) (es : List Event) (p : List ℕ) (seats : List Seat) (v : ℕ) → seen c p seats ≡ state config es → list_any (λ s. s.number == v) seats ≡ true → answer_to config es (Connect v) ≡ refuses refusals.NumberInUse
+in_use-answer c config es p seats v h there =
+    answer-hit config v es (Connect v) refl
+    ∙ go (viewer_of config v es) (sym (state-has config es v) ∙ ap (λ (s : State). list_any (λ q. q.0 == v) s.viewers) (sym h) ∙ sym (entries-any v seats) ∙ there)
+  where
+    go : (o : Option (Viewer (List ℕ))) → is_some o ≡ true → (own_step config (Connect v) (one_of config v es) o).1 ≡ refuses refusals.NumberInUse
+    go None e = absurd cc
+    go (Some w) e = refl
+
+-- ---- closing
+
+pub filter-none : (ps : List (ℕ × Viewer Rest)) (v : ℕ) → list_any (λ p. p.0 == v) ps ≡ false → filter (λ p. not (p.0 == v)) ps ≡ ps
+filter-none [] v h = refl
+filter-none (p ∷ ps) v h = go (p.0 == v) h (λ k. filter-none ps v k)
+  where
+    go : (b : Bool) → (b || list_any (λ p. p.0 == v) ps) ≡ false → (list_any (λ p. p.0 == v) ps ≡ false → filter (λ p. not (p.0 == v)) ps ≡ ps) → cond (not b) (p ∷ filter (λ p. not (p.0 == v)) ps) (filter (λ p. not (p.0 == v)) ps) ≡ p ∷ ps
+    go true k rest = absurd cc
+    go false k rest = ap (λ l. p ∷ l) (rest k)
+
+any-viewer : (c config : Config) (es : List Event) (p : List ℕ) (seats : List Seat) (v : ℕ) → seen c p seats ≡ state config es → list_any (λ q. q.0 == v) (state config es).viewers ≡ list_any (λ s. s.number == v) seats
+any-viewer c config es p seats v h = ap (λ (s : State). list_any (λ q. q.0 == v) s.viewers) (sym h) ∙ sym (entries-any v seats)
+
+pub close-absent : (c config : Config) (es : List Event) (p : List ℕ) (seats : List Seat) (v : ℕ) → seen c p seats ≡ state config es → list_any (λ s. s.number == v) seats ≡ false → state config es ≡ state config (es ++ Close v ∷ [])
+close-absent c config es p seats v h away =
+    ap (λ vs. record (state config es) { viewers = vs }) (sym (filter-none (state config es).viewers v (any-viewer c config es p seats v h ∙ away))) ∙ sym (state-close config es v)
+
+pub close-there : (c config : Config) (es : List Event) (p : List ℕ) (seats : List Seat) (v : ℕ) → seen c p seats ≡ state config es
+    → seen c p (filter (λ s. not (s.number == v)) seats) ≡ state config (es ++ Close v ∷ [])
+close-there c config es p seats v h =
+    ap (λ vs. record { config = c; picture = p; viewers = vs }) (entries-without v seats)
+    ∙ ap (λ (s : State). record s { viewers = filter (λ q. not (q.0 == v)) s.viewers }) h
+    ∙ sym (state-close config es v)
+
+pub close-answer : (c config : Config) (es : List Event) (p : List ℕ) (seats : List Seat) (v : ℕ) (b : Bool) → seen c p seats ≡ state config es → list_any (λ s. s.number == v) seats ≡ b
+    → cond b nothing_to_say (refuses refusals.NoViewer) ≡ answer_to config es (Close v)
+close-answer c config es p seats v b h is =
+    ap (λ t. cond t nothing_to_say (refuses refusals.NoViewer)) (sym is ∙ sym (any-viewer c config es p seats v h)) ∙ sym (answer-close config es v)
+
+-- ---- whether there is something to send
+
+pub some-sent : (w h limit : ℕ) (picture : List ℕ) (v : Viewer Rest) → some_bytes (sending_kept w h limit picture v).0 ≡ (is_open_rest v.heard && pending v.marks)
+some-sent w h limit picture v = go (is_open_rest v.heard) (pending v.marks)
+  where
+    sent : Sent
+    sent = record { copies = copies_of limit v.marks; offset = v.marks.offset; pixels = pixels_of limit v.marks; after = after_sending (copies_of limit v.marks) (pixels_of limit v.marks) v.marks }
+
+    go : (a b : Bool) → some_bytes (cond a (with_update w h picture v (cond b (Some sent) None)) ([], v)).0 ≡ (a && b)
+    go true true = refl
+    go true false = refl
+    go false b = refl
+
+-- ---- what a call tells
+
+pub tells-refused : {X : Type 0} (view : X → Answer) (r : Result X ScreenError) (a : Answer) (e : ScreenError) → r ≡ Err e → a ≡ refuses e → Tells view r a
+tells-refused view r a e is answer = rw (is, answer) refl
+
+pub tells-memory : {X : Type 0} (view : X → Answer) (r : Result X ScreenError) (a : Answer) (e : ScreenError) → r ≡ Err e → e ≡ refusals.OutOfMemory → a.refused ≡ None → Tells view r a
+tells-memory view r a e is memory accepted = rw (is, accepted) memory
+
+pub tells-ok : {X : Type 0} (view : X → Answer) (r : Result X ScreenError) (a : Answer) (x : X) → r ≡ Ok x → a.refused ≡ None → view x ≡ a → Tells view r a
+tells-ok view r a x is accepted answer = rw is (go a.refused accepted)
+  where
+    go : (o : Option ScreenError) → o ≡ None → MatchOption o (view x ≡ a) (λ e. Ok x ≡ Err e)
+    go None e = answer
+    go (Some e) k = absurd cc
+
+pub tells-answer : {X : Type 0} (view : X → Answer) (r : Result X ScreenError) (m : Result Answer ScreenError) (a : Answer) → MatchResult r (λ x. m ≡ Ok (view x)) (λ e. m ≡ Err e) → Tells view r a → Tells {X = Answer} (λ x. x) m a
+tells-answer {X = X} view r m a = go r a.refused
+  where
+    go : (r : Result X ScreenError) (o : Option ScreenError) → MatchResult r (λ x. m ≡ Ok (view x)) (λ e. m ≡ Err e)
+        → MatchOption o (MatchResult r (λ x. view x ≡ a) (λ e. e ≡ refusals.OutOfMemory)) (λ e. r ≡ Err e)
+        → MatchOption o (MatchResult m (λ x. x ≡ a) (λ e. e ≡ refusals.OutOfMemory)) (λ e. m ≡ Err e)
+    go (Ok x) None is told = rw is told
+    go (Err e) None is told = rw is told
+    go (Ok x) (Some e) is told = absurd cc
+    go (Err k) (Some e) is told = rw is (ap (λ (r : Result X ScreenError). elim r [ Ok x ↦ Err k | Err q ↦ Err q ]) told)

@@ -1,0 +1,13 @@
+use Rattle.std.proofs.Common.{◌∙◌, length, ap}
+use Rattle.screen.proofs.PictureLemmas.{colours_are, colours_long}
+use Rattle.screen.proofs.cutting.coloured_of.Goals as goal
+
+pub invariant_of-result : goal.invariant_of-result
+invariant_of-result c = record {
+  wide = c.requires.fits.some_columns;
+  high = c.requires.fits.some_rows;
+  whole = ap length c.in_ok-colours.ensures ∙ colours_long c.args.width c.args.block c.args.picture.now;
+}
+
+pub returns-clause-colours : goal.returns-clause-colours
+returns-clause-colours c = c.in_ok-colours.ensures ∙ colours_are c.args.width c.args.height c.args.block c.args.picture.now c.requires.fits.wide c.requires.fits.high

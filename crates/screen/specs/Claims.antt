@@ -1,0 +1,21 @@
+-- What holds of the answers.
+use Rattle.std.specs.Prelude.{◌≡◌, ℕ, ◌==◌, if◌then◌else◌, List, [], ◌∷◌, Option, Some, None}
+use Rattle.screen.specs.declared.Config.{Config}
+use Rattle.screen.specs.declared.Event.{Event}
+use Rattle.screen.specs.declared.Answer.{Answer}
+use Rattle.screen.specs.Alone.{owner_of}
+use Rattle.screen.specs.Answers.{own, answers}
+
+abbrev pub answer_for : ℕ → Option ℕ → Answer → List Answer → List Answer
+answer_for v None a rest = rest
+answer_for v (Some n) a rest = if n == v then a ∷ rest else rest
+
+-- of answers to a list of events, those to a viewer's own
+abbrev pub answers_for : ℕ → List Event → List Answer → List Answer
+answers_for v [] given = []
+answers_for v (e ∷ es) [] = []
+answers_for v (e ∷ es) (a ∷ given) = answer_for v (owner_of e) a (answers_for v es given)
+
+-- Two lists that agree in the drawing calls and in a viewer's own events give that viewer the same answers.
+abbrev pub told_alike : Type 0
+told_alike = (c : Config) (v : ℕ) (es fs : List Event) → own v es ≡ own v fs → answers_for v es (answers c es) ≡ answers_for v fs (answers c fs)

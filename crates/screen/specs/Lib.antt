@@ -1,0 +1,11 @@
+pub mod Picture
+pub mod Blocks
+pub mod Updates
+pub mod Given
+pub mod Viewer
+pub mod Sending
+pub mod Alone
+pub mod Answers
+pub mod Claims
+pub mod Entries
+pub mod Held

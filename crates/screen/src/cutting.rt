@@ -1,0 +1,222 @@
+//! What an update copies out of the screen: the rectangles that the marks chose, with their colours.
+
+ghost use Rattle.std.specs.Prelude.{◌≡◌, ◌<◌, ◌≤◌, ◌+◌, ◌*◌, ◌^◌, All, length, map, flat_map, IfOk, pos, ◌≤ℤ◌, ◌<ℤ◌, ◌-ℤ◌, nat_abs, [], ◌≢◌, IfSome, OnOk, OnErr};
+ghost use Rattle.copy_schedule.specs.Marks.{IsOnScreen, IsInside, source_rect};
+ghost use Rattle.pixel_translate.specs.declared.PixelFormat.{PixelFormat};
+ghost use Rattle.screen.specs.Sending.{area_of, colours_of, copy_bytes, pixel_rectangle, bytes_of, sending_kept};
+ghost use Rattle.screen.specs.Entries.{viewer_in};
+ghost use Rattle.screen.specs.Held.{IsSized};
+ghost use Rattle.screen.specs.Blocks.{rect_of, FitsIn};
+ghost use Rattle.screen.specs.Updates.{moved_bytes, coloured_bytes};
+ghost use Rattle.screen.specs.Given.{bytes_given, planned_sent};
+
+use crate::parts::{Coloured, Moved};
+use crate::Config;
+use crate::picture::{Block, block_within, read_block};
+use crate::place::{Planned, Seat};
+use crate::update::Update;
+use copy_schedule::Cut;
+use pixel_translate::{Area, PixelFormat};
+use region::Rect;
+use std::alloc::{AllocError, Global};
+
+/// The area of a rectangle of a screen.
+fn area_of(rect: Rect) -> Area
+    requires inside { IsOnScreen 8192 8192 rect }
+    ensures { result ≡ area_of rect }
+{
+    Area {
+        x: rect.x1 as u16,
+        y: rect.y1 as u16,
+        w: (rect.x2 - rect.x1) as u16,
+        h: (rect.y2 - rect.y1) as u16,
+    }
+}
+
+/// A copy, with its source.
+fn moved_of(rect: Rect, offset: (i32, i32)) -> Moved
+    requires inside { IsOnScreen 8192 8192 rect }
+    requires source { IsOnScreen 8192 8192 (source_rect offset rect) }
+    ensures area { result.area ≡ area_of rect }
+    ensures src_x { result.src_x ≡ nat_abs (rect.x1 -ℤ offset.0) }
+    ensures src_y { result.src_y ≡ nat_abs (rect.y1 -ℤ offset.1) }
+{
+    Moved {
+        area: area_of(rect),
+        src_x: (rect.x1 - offset.0) as u16,
+        src_y: (rect.y1 - offset.1) as u16,
+    }
+}
+
+/// The copies, with their sources.
+fn moves_of(alloc: Global, rects: &[Rect], offset: (i32, i32)) -> Result<Vec<Moved>, AllocError>
+    requires inside { All (IsOnScreen 8192 8192) rects.now }
+    requires sources { All (λ r. IsOnScreen 8192 8192 (source_rect offset r)) rects.now }
+    ensures bytes { IfOk result (λ moves. flat_map moved_bytes moves.items ≡ flat_map (copy_bytes offset) rects.now) }
+    ensures count { IfOk result (λ moves. length moves.items ≡ length rects.now) }
+{
+    let mut moves = Vec::with_capacity(alloc, rects.len())?;
+    for rect in rects {
+        moves.push(moved_of(*rect, offset))?;
+    }
+    Ok(moves)
+}
+
+/// A block of the screen, with its colours.
+fn coloured_of(
+    alloc: Global,
+    width: u32,
+    height: u32,
+    picture: &[u32],
+    block: Block,
+) -> Result<Coloured, AllocError>
+    requires size { length picture.now ≡ width * height }
+    requires width { width ≤ 8192 }
+    requires height { height ≤ 8192 }
+    requires fits { FitsIn width height block }
+    ensures area { IfOk result (λ c. c.area ≡ area_of (rect_of block)) }
+    ensures colours { IfOk result (λ c. c.colours.items ≡ colours_of width height picture.now (rect_of block)) }
+{
+    let colours = read_block(alloc, picture, width as usize, block)?;
+    let area = Area {
+        x: block.left as u16,
+        y: block.top as u16,
+        w: block.columns as u16,
+        h: block.rows as u16,
+    };
+    Ok(Coloured { area, colours })
+}
+
+/// The rectangles of pixels, with their colours.
+fn coloured_rectangles(
+    alloc: Global,
+    width: u32,
+    height: u32,
+    picture: &[u32],
+    rects: &[Rect],
+) -> Result<Vec<Coloured>, AllocError>
+    requires size { length picture.now ≡ width * height }
+    requires width { width ≤ 8192 }
+    requires height { height ≤ 8192 }
+    requires inside { All (IsOnScreen width height) rects.now }
+    ensures bytes { IfOk result (λ parts. (format : PixelFormat) → flat_map (coloured_bytes format) parts.items ≡ flat_map (pixel_rectangle width height picture.now format) rects.now) }
+    ensures count { IfOk result (λ parts. length parts.items ≡ length rects.now) }
+{
+    let mut parts = Vec::with_capacity(alloc, rects.len())?;
+    for rect in rects {
+        let block = block_within(*rect, width, height);
+        parts.push(coloured_of(alloc, width, height, picture, block)?)?;
+    }
+    Ok(parts)
+}
+
+/// What an update of a cut's rectangles is made of.
+pub fn update_of(
+    alloc: Global,
+    config: &Config,
+    picture: &[u32],
+    format: PixelFormat,
+    cut: &Cut,
+) -> Result<Update, AllocError>
+    requires size { length picture.now ≡ config.now.width * config.now.height }
+    requires width { config.now.width ≤ 8192 }
+    requires height { config.now.height ≤ 8192 }
+    requires inside { IsInside config.now.width config.now.height cut.now }
+    requires count { length cut.now.copies + length cut.now.pixels < 2 ^ 16 }
+    ensures { IfOk result (λ update. update ≡ bytes_of config.now.width config.now.height picture.now format cut.now.copies cut.now.offset cut.now.pixels) }
+{
+    let moves = moves_of(alloc, cut.copies.as_slice(), cut.offset)?;
+    let rectangles = coloured_rectangles(
+        alloc,
+        config.width,
+        config.height,
+        picture,
+        cut.pixels.as_slice(),
+    )?;
+    Ok(Update::new(alloc, format, moves, rectangles))
+}
+
+/// What a viewer is sent next, and its marks once that is sent, or None where there is nothing.
+fn next_cut(
+    alloc: Global,
+    config: &Config,
+    picture: &[u32],
+    seat: &Seat,
+) -> Result<Option<Planned>, AllocError>
+    requires size { length picture.now ≡ config.now.width * config.now.height }
+    requires width { config.now.width ≤ 8192 }
+    requires height { config.now.height ≤ 8192 }
+    requires rectangles { config.now.rects_per_update ≤ 1000 }
+    requires sized { IsSized config.now seat.now }
+    ensures sent { IfOk result (λ planned. planned_sent (viewer_in seat.now) planned ≡ sending_kept config.now.width config.now.height config.now.rects_per_update picture.now (viewer_in seat.now)) }
+    ensures some { IfOk result (λ planned. IfSome planned (λ p. p.update ≢ [])) }
+    ensures width { IfOk result (λ planned. IfSome planned (λ p. p.marks.width ≡ config.now.width)) }
+    ensures height { IfOk result (λ planned. IfSome planned (λ p. p.marks.height ≡ config.now.height)) }
+{
+    if !(seat.ear.is_open() && seat.marks.pending()) {
+        return Ok(None);
+    }
+    let mut marks = seat.marks.try_clone()?;
+    let Some(cut) = marks.cut(alloc, config.rects_per_update)? else {
+        return Ok(None);
+    };
+    let update = update_of(alloc, config, picture, seat.format, &cut)?;
+    Ok(Some(Planned { update, marks }))
+}
+
+/// Cuts an update for a viewer, or None where there is nothing to send. All growths are made before
+/// the viewer changes.
+pub fn cut_in(
+    alloc: Global,
+    config: &Config,
+    picture: &[u32],
+    seat: &mut Seat,
+) -> Result<Option<Update>, AllocError>
+    requires size { length picture.now ≡ config.now.width * config.now.height }
+    requires width { config.now.width ≤ 8192 }
+    requires height { config.now.height ≤ 8192 }
+    requires rectangles { config.now.rects_per_update ≤ 1000 }
+    requires sized { IsSized config.now seat.old }
+    ensures bytes { IfOk result (λ update. bytes_given update ≡ (sending_kept config.now.width config.now.height config.now.rects_per_update picture.now (viewer_in seat.old)).0) }
+    ensures viewer { OnOk result (viewer_in seat.new ≡ (sending_kept config.now.width config.now.height config.now.rects_per_update picture.now (viewer_in seat.old)).1) }
+    ensures some { IfOk result (λ update. IfSome update (λ u. u ≢ [])) }
+    ensures number { seat.new.number ≡ seat.old.number }
+    ensures sized { IsSized config.now seat.new }
+    ensures err { OnErr result (seat.new ≡ seat.old) }
+{
+    match next_cut(alloc, config, picture, seat)? {
+        Some(planned) => {
+            seat.marks = planned.marks;
+            Ok(Some(planned.update))
+        }
+        None => Ok(None),
+    }
+}
+
+/// The same, encoded.
+pub fn cut_bytes_in(
+    alloc: Global,
+    config: &Config,
+    picture: &[u32],
+    seat: &mut Seat,
+) -> Result<Vec<u8>, AllocError>
+    requires size { length picture.now ≡ config.now.width * config.now.height }
+    requires width { config.now.width ≤ 8192 }
+    requires height { config.now.height ≤ 8192 }
+    requires rectangles { config.now.rects_per_update ≤ 1000 }
+    requires sized { IsSized config.now seat.old }
+    ensures bytes { IfOk result (λ bytes. bytes.items ≡ (sending_kept config.now.width config.now.height config.now.rects_per_update picture.now (viewer_in seat.old)).0) }
+    ensures viewer { OnOk result (viewer_in seat.new ≡ (sending_kept config.now.width config.now.height config.now.rects_per_update picture.now (viewer_in seat.old)).1) }
+    ensures number { seat.new.number ≡ seat.old.number }
+    ensures sized { IsSized config.now seat.new }
+    ensures err { OnErr result (seat.new ≡ seat.old) }
+{
+    match next_cut(alloc, config, picture, seat)? {
+        Some(planned) => {
+            let bytes = planned.update.encode()?;
+            seat.marks = planned.marks;
+            Ok(bytes)
+        }
+        None => Ok(Vec::new(alloc)),
+    }
+}

@@ -1,0 +1,104 @@
+//! One screen, many viewers: drawing, the viewers' bytes, and what is sent to each.
+#![tactic(auto)]
+
+mod cutting;
+mod parts;
+mod picture;
+mod place;
+mod runs;
+mod screen;
+mod seat;
+mod update;
+
+pub use runs::{run, viewers_are_alone};
+pub use screen::Screen;
+pub use update::Update;
+
+use listed::Listed;
+use messages::{Fault, Input};
+use region::Rect;
+use std::alloc::{AllocError, AllocFailed};
+
+/// What a screen is made with.
+#[derive(Debug, Drop)]
+pub struct Config {
+    /// Columns, 1 to 8192; at most 2^24 places in all.
+    pub width: u32,
+    /// Rows, 1 to 8192.
+    pub height: u32,
+    /// The desktop's name (RFC 6143, 7.3.2), at most 255 bytes.
+    pub name: Listed<u8>,
+    /// How many copies, and how many pixel rectangles, one update has at most: 1 to 1000.
+    pub rects_per_update: u32,
+}
+
+/// Why a call is refused.
+#[derive(Clone, Copy, Debug, PartialEq, Eq)]
+pub enum ScreenError {
+    /// The width or the height is not from 1 to 8192, or there are more than 2^24 places.
+    BadSize,
+    /// The name has more than 255 bytes.
+    BadName,
+    /// The limit of rectangles is not from 1 to 1000.
+    BadRectLimit,
+    /// The rectangle is not on the screen, or its corners are in the wrong order.
+    BadRect,
+    /// There are not as many colours as places.
+    BadPixelCount,
+    /// No live viewer has the number.
+    NoViewer,
+    /// A live viewer has the number already.
+    NumberInUse,
+    /// A growth was refused.
+    OutOfMemory,
+}
+
+impl From<AllocError> for ScreenError {
+    ghost use Rattle.std.specs.Prelude.{◌≡◌};
+    ghost use Rattle.screen.specs.declared.ScreenError.TheVariants.{OutOfMemory};
+
+    ghost from_gives = { λ _ e. e ≡ OutOfMemory };
+
+    fn from(_error: AllocError) -> ScreenError {
+        ScreenError::OutOfMemory
+    }
+}
+
+impl<T: Drop> From<AllocFailed<T>> for ScreenError {
+    ghost use Rattle.std.specs.Prelude.{◌≡◌};
+    ghost use Rattle.screen.specs.declared.ScreenError.TheVariants.{OutOfMemory};
+
+    ghost from_gives = { λ _ e. e ≡ OutOfMemory };
+
+    fn from(_error: AllocFailed<T>) -> ScreenError {
+        ScreenError::OutOfMemory
+    }
+}
+
+/// One hold of the screen: a drawing call, or an event of one viewer.
+#[derive(Debug, Drop)]
+pub enum Event {
+    /// The rectangle's colours `0x00RRGGBB`, row by row, replace those of the picture.
+    Paint { rect: Rect, colours: Listed<u32> },
+    /// A viewer connects.
+    Connect { viewer: u64 },
+    /// A piece of a viewer's bytes is heard.
+    Hear { viewer: u64, piece: Listed<u8> },
+    /// An update is cut for a viewer.
+    Cut { viewer: u64 },
+    /// A viewer's connection is closed.
+    Close { viewer: u64 },
+}
+
+/// What an event gave.
+#[derive(Debug, Drop)]
+pub struct Answer {
+    /// For the viewer.
+    pub bytes: Listed<u8>,
+    /// For the application.
+    pub inputs: Listed<Input>,
+    /// Why the viewer is heard no further.
+    pub closed: Option<Fault>,
+    /// Why nothing happened.
+    pub refused: Option<ScreenError>,
+}

@@ -1,0 +1,56 @@
+//! The program `vncdemo`: its command line, and `play` on standard input and output.
+#![tactic(auto)]
+
+ghost use Rattle.std.specs.Prelude.{◌≡◌};
+
+use clap::error::ErrorKind;
+use demo_app::{Chosen, Steps, line_of, play_over};
+use std::env;
+use std::io;
+use std::io::BufWriter;
+use std::marker::Brand;
+use std::process::ExitCode;
+use std::sync::ledger::{Blank, Ledger};
+
+fn out_of_memory(rt: &HostRuntime) -> ExitCode {
+    match println!(rt; "out of memory") {
+        Ok(()) => ExitCode::from(3),
+        Err(_) => ExitCode::from(5),
+    }
+}
+
+fn words(rt: &HostRuntime) -> io::Result<Vec<String>> {
+    let words = env::args(rt)?.collect(rt.alloc())?;
+    Ok(words)
+}
+
+// The reads are counted on a ledger that nobody looks into.
+fn play<L: Ledger>(rt: &HostRuntime, blank: Blank) -> ExitCode
+    requires name { blank.name ≡ L.name }
+    requires parts { blank.parts ≡ L.parts }
+    requires one { L.parts ≡ 1 }
+{
+    let alloc = rt.alloc();
+    let mut steps = Steps::<L>::new(blank);
+    let mut reader = rt.reader();
+    let Ok(mut writer) = BufWriter::new(alloc, io::writer(rt)) else {
+        return out_of_memory(rt);
+    };
+    let status = play_over(alloc, &mut reader, &mut writer, &mut steps);
+    ExitCode::from(status)
+}
+
+fn main(rt: HostRuntime) -> ExitCode {
+    let Ok(words) = words(&rt) else {
+        return out_of_memory(&rt);
+    };
+    match line_of(rt.alloc(), &words) {
+        Ok(Chosen::Play) => play::<Brand>(&rt, Blank::new(1)),
+        Err(error) if error.kind() == ErrorKind::OutOfMemory => out_of_memory(&rt),
+        Err(error) => {
+            // Where standard error fails too, there is nobody left to tell.
+            let _ = eprint!(rt; "{error}");
+            ExitCode::from(2)
+        }
+    }
+}
