@@ -1,15 +1,16 @@
 -- Rows of chosen places, and the bands and intervals of a canonical list.
-use Rattle.std.proofs.Common.{◌≡◌, ◌≢◌, ℕ, suc, ◌+◌, ◌-◌, ◌*◌, ◌<◌, ◌≤◌, Bool, true, false, not, Decides, cond, List, [], ◌∷◌, ◌++◌, length, map, get_or, take, drop, sym, refl, ◌∙◌, ap, arith, mul_comm, ◌⊎◌, inl, inr}
+use Rattle.std.proofs.Common.{◌≡◌, ◌≢◌, ℕ, suc, ◌+◌, ◌-◌, ◌*◌, ◌<◌, ◌≤◌, Bool, true, false, not, cond, List, [], ◌∷◌, ◌++◌, length, map, get_or, take, drop, sym, refl, ◌∙◌, ap, arith, mul_comm, ◌⊎◌, inl, inr}
 use Rattle.std.specs.Prelude.{ℤ, pos}
 use Rattle.std.proofs.lemmas.List.{places, append_assoc, ext_get_or}
-use Rattle.std.proofs.lemmas.Bool.{both_ways, not-true, not-false}
-use Rattle.std.proofs.lemmas.Slice.Eq.{slice_eq-Decides}
-use mathlib.Core.Bool.{beq}
-use lib.Pointwise.{pointwise}
+use Rattle.std.specs.List.{list_any}
+use Rattle.std.proofs.lemmas.List.{get_or_past}
+use Rattle.std.proofs.lemmas.List.Folds.{list_any_at}
+use Rattle.std.proofs.lemmas.Bool.{false≢true}
+use Rattle.std.specs.Prelude.{IsTrue}
 use Rattle.std.proofs.lemmas.Int.{ints}
 use Rattle.region.specs.declared.Rect.{Rect}
-use Rattle.region.specs.Region.{on_screen}
-use Rattle.region.proofs.RectLemmas.{band_rect, rects_in_row, rects_in_rows, rects_in_row-stretch, rects_in_rows-stretch, intervals_of-ext}
+use Rattle.region.specs.Region.{on_screen, in_order, rects_of}
+use Rattle.region.proofs.RectLemmas.{band_rect, rects_in_row, rects_in_rows, rects_in_row-stretch, rects_in_rows-stretch, intervals_of-ext, rects_of-ext, rects_of-none}
 use Rattle.copy_schedule.specs.Places.{at_place, row_at, row_test}
 use Rattle.copy_schedule.proofs.PlaceLemmas.{by_lt}
 use Rattle.copy_schedule.proofs.WindowLemmas.{row_within}
@@ -73,18 +74,11 @@ pass_step top bottom row x end items whole some within equal ends unchosen so_fa
     let rest = rects_in_row top bottom (row_test row) end (length row - end) in
     ap (λ rs. items ++ rs) (sym (row_step top bottom (row_test row) x end (length row) some within equal ends ∙ ap (λ b. cond b (r ∷ []) [] ++ rest) unchosen)) ∙ so_far
 
-same_bools : (a b : Bool) → Decides (beq a b) (a ≡ b)
-same_bools true true = (λ _. refl, λ _. refl)
-same_bools false false = (λ _. refl, λ _. refl)
-same_bools true false = (λ e. cc, λ e. cc)
-same_bools false true = (λ e. cc, λ e. cc)
-
--- what `!=` of two rows tells
-pub rows_differ : (a b : List Bool) (r : Bool) → r ≡ not (pointwise beq a b) → r ≡ true → a ≢ b
-rows_differ a b r e differ same = both_ways (pointwise beq a b) (not-true (pointwise beq a b) (sym e ∙ differ)) ((slice_eq-Decides same_bools a b (pointwise beq a b) refl).1 same)
-
-pub rows_equal : (a b : List Bool) (r : Bool) → r ≡ not (pointwise beq a b) → r ≡ false → a ≡ b
-rows_equal a b r e equal = (slice_eq-Decides same_bools a b (pointwise beq a b) refl).0 (not-false (pointwise beq a b) (sym e ∙ equal))
+-- two rows are equal where they differ nowhere
+pub rows_told : (differs : Bool) (row other : List Bool) → length row ≡ length other → (differs ≡ false → (k : ℕ) → k < length row → get_or row k false ≡ get_or other k false)
+    → (differs ≡ true → (k : ℕ) × (get_or row k false ≡ get_or other k false → ⊥)) → (IsTrue (not differs) → row ≡ other) × (row ≡ other → IsTrue (not differs))
+rows_told false row other same equal apart = (λ _. ext_get_or false row other same (equal refl), λ _. refl)
+rows_told true row other same equal apart = (λ e. absurd (false≢true e), λ e. absurd ((apart refl).1 (ap (λ xs. get_or xs (apart refl).0 false) e)))
 
 -- rows of a screen's places
 module _ (w h : ℕ) (chosen : List Bool) (size : length chosen ≡ w * h) where
@@ -133,3 +127,25 @@ module _ (w h : ℕ) (chosen : List Bool) (size : length chosen ≡ w * h) where
       ∙ ap (λ r. items ++ rects_in_row (pos top) (pos bottom) (row_test r) 0 (length r)) is
       ∙ ap (λ n. items ++ rects_in_row (pos top) (pos bottom) (row_test (row_at w chosen top)) 0 n) (length-row_at top (omega arith)))
       ∙ more items band rest whole (ap (λ rs. items ++ rs) (sym (band_step top bottom some within equal ends)) ∙ so_far)
+
+-- no place chosen, no rectangle
+none_chosen : (chosen : List Bool) (k : ℕ) → list_any (λ b. b) chosen ≡ false → get_or chosen k false ≡ false
+none_chosen chosen k none = by_lt k (length chosen) (λ below. go (get_or chosen k false) refl below) (λ past. get_or_past chosen k false past)
+  where
+    go : (b : Bool) → get_or chosen k false ≡ b → k < length chosen → b ≡ false
+    go false e below = refl
+    go true e below = sym (list_any_at (λ b. b) chosen k false below e) ∙ none
+
+pub rects_of-unchosen : (w h : ℕ) (chosen : List Bool) → list_any (λ b. b) chosen ≡ false → rects_of w h (at_place false w h chosen) ≡ []
+rects_of-unchosen w h chosen none = rects_of-ext w h (at_place false w h chosen) (λ _ _. false) (λ x y column row.
+    ap (λ b. cond (on_screen w h (pos x) (pos y)) b false) (none_chosen chosen (y * w + x) none) ∙ either (on_screen w h (pos x) (pos y))) ∙ rects_of-none w h
+  where
+    either : (b : Bool) → cond b false false ≡ false
+    either true = refl
+    either false = refl
+
+pub in_order-none : (reverse_x reverse_y : Bool) → in_order reverse_x reverse_y [] ≡ []
+in_order-none true true = refl
+in_order-none true false = refl
+in_order-none false true = refl
+in_order-none false false = refl

@@ -11,10 +11,10 @@ use Rattle.copy_schedule.specs.Places.{at_place}
 use Rattle.copy_schedule.specs.Marks.{Marks, is_copied, uncopied, mark_at, same_offset, lost_to, moved_mark, moved, without_copyrect}
 use Rattle.copy_schedule.proofs.PlaceLemmas.{at_place-number, with_marks-numbers}
 
--- one rectangle more that draws over pixels
-pub overdrawn_more : (rects : List Rect) (i : ℕ) (r : Rect) (x y : ℤ) (z now new : Mark) (hit : Bool) → i < length rects → hit ≡ in_rect (get_or rects i r) x y
+-- one rectangle more that takes pixels
+pub sources_more : (rects : List Rect) (i : ℕ) (r : Rect) (x y : ℤ) (z now new : Mark) (hit : Bool) → i < length rects → hit ≡ in_rect (get_or rects i r) x y
     → now ≡ cond (covers (take i rects) x y) (uncopied z) z → new ≡ cond hit (uncopied now) now → new ≡ cond (covers (take (i + 1) rects) x y) (uncopied z) z
-overdrawn_more rects i r x y z now new hit within is was step =
+sources_more rects i r x y z now new hit within is was step =
     step ∙ ap (λ b. cond b (uncopied now) now) is ∙ ap (λ n. cond (in_rect (get_or rects i r) x y) (uncopied n) n) was
     ∙ go (in_rect (get_or rects i r) x y) (covers (take i rects) x y) z
     ∙ sym (ap (λ b. cond b (uncopied z) z) (list_any_more (λ q. in_rect q x y) rects i r within))
@@ -27,7 +27,7 @@ overdrawn_more rects i r x y z now new hit within is was step =
     go false true z = refl
     go false false z = refl
 
--- the marks that a copy takes pixels from, or draws over, are lost
+-- the marks that await another offset's pixels, or from which the copy takes pixels, are lost
 pub lost_to-numbers : (m : Marks) (set : ℤ → ℤ → Bool) (by : ℤ × ℤ) (new : List Mark) → 0 < m.width → length new ≡ m.width * m.height
     → ((k : ℕ) → k < m.width * m.height → get_or new k Clean ≡ cond (is_copied (get_or m.marks k Clean) && (not (same_offset m.offset by) || set (pos (k % m.width) +ℤ by.0) (pos (k / m.width) +ℤ by.1))) Owed (get_or m.marks k Clean))
     → record m { marks = new } ≡ lost_to set by m

@@ -4,3 +4,4 @@ mod BandLemmas
 mod OrderSteps
 mod CutLemmas
 mod CopyLemmas
+mod RangeLemmas

@@ -62,7 +62,7 @@ marked set m = with_marks m (λ x y. if set x y then Owed else mark_at m x y)
 abbrev pub same_offset : ℤ × ℤ → ℤ × ℤ → Bool
 same_offset d e = int_eq d.0 e.0 && int_eq d.1 e.1
 
--- Before a copy of a set by an offset: a place that awaits another copy's pixels, or whose own pixels the copy draws over, becomes owed.
+-- Before a copy of a set by an offset: a place that awaits pixels by another offset, or from which the copy takes pixels that it still awaits, becomes owed.
 abbrev pub lost_to : (ℤ → ℤ → Bool) → ℤ × ℤ → Marks → Marks
 lost_to set by m = with_marks m (λ x y.
     if is_copied (mark_at m x y) && (not (same_offset m.offset by) || set (x +ℤ by.0) (y +ℤ by.1)) then Owed else mark_at m x y)
@@ -169,8 +169,11 @@ source_rect by r = record { x1 = r.x1 -ℤ by.0; y1 = r.y1 -ℤ by.1; x2 = r.x2 
 -- all of a cut is on the screen
 pub record IsInside (w h : ℕ) (cut : Cut) : Type 0 where
   pub copies : All (IsOnScreen w h) cut.copies
-  pub sources : All (λ r. IsOnScreen w h (source_rect cut.offset r)) cut.copies
   pub pixels : All (IsOnScreen w h) cut.pixels
+
+-- so is what its copies are copied from
+abbrev pub HasSourcesInside : ℕ → ℕ → Cut → Type 0
+HasSourcesInside w h cut = All (λ r. IsOnScreen w h (source_rect cut.offset r)) cut.copies
 
 -- no more of each kind than the limit
 pub record IsWithin (limit : ℕ) (cut : Cut) : Type 0 where

@@ -9,12 +9,13 @@ ghost use Rattle.region.specs.Region.{covers};
 use crate::{Mark, places};
 use region::Rect;
 
-/// Makes `Owed` each `Copied` place whose own pixels a copy of the rectangles by (dx, dy) draws over: the place (dx, dy) behind it is in one of them.
-fn owe_overdrawn(marks: &mut [Mark], rects: &[Rect], dx: i32, dy: i32, width: u32, height: u32)
+/// Makes each `Copied` place `Owed` from which a copy of the rectangles by (dx, dy) takes pixels.
+fn owe_sources(marks: &mut [Mark], rects: &[Rect], dx: i32, dy: i32, width: u32, height: u32)
     requires columns { 0 < width }
     requires size { length marks.old ≡ width * height }
-    ensures { (k : ℕ) (d : Mark) → k < length marks.old → slice_index_or marks.new k d
-        ≡ (if covers rects.now (pos (k % width) +ℤ dx) (pos (k / width) +ℤ dy) then uncopied (slice_index_or marks.old k d) else slice_index_or marks.old k d) }
+    ensures { (k : ℕ) (d : Mark) → k < length marks.old → let old = slice_index_or marks.old k d in
+        slice_index_or marks.new k d
+        ≡ (if covers rects.now (pos (k % width) +ℤ dx) (pos (k / width) +ℤ dy) then uncopied old else old) }
 {
     for rect in rects {
         places::owe_copies(
@@ -25,7 +26,8 @@ fn owe_overdrawn(marks: &mut [Mark], rects: &[Rect], dx: i32, dy: i32, width: u3
     }
 }
 
-/// Makes `Owed` each `Copied` place that a copy of the rectangles by (dx, dy) takes its pixels from: every one where the offset does not stay, and else each that is drawn over.
+/// Makes each `Copied` place `Owed` whose pending copy a copy of the rectangles by (dx, dy) ends: all where the offset does not
+/// stay, and else each from which the copy takes pixels.
 pub fn owe_lost(
     marks: &mut [Mark],
     rects: &[Rect],
@@ -37,11 +39,13 @@ pub fn owe_lost(
 )
     requires columns { 0 < width }
     requires size { length marks.old ≡ width * height }
-    ensures { (k : ℕ) (d : Mark) → k < length marks.old → slice_index_or marks.new k d
-        ≡ (if is_copied (slice_index_or marks.old k d) && (not stays || covers rects.now (pos (k % width) +ℤ dx) (pos (k / width) +ℤ dy)) then Mark.Owed else slice_index_or marks.old k d) }
+    ensures { (k : ℕ) (d : Mark) → k < length marks.old → let old = slice_index_or marks.old k d in
+        slice_index_or marks.new k d
+        ≡ (if is_copied old && (not stays || covers rects.now (pos (k % width) +ℤ dx) (pos (k / width) +ℤ dy)) then Mark.Owed
+        else old) }
 {
     if stays {
-        owe_overdrawn(marks, rects, dx, dy, width, height);
+        owe_sources(marks, rects, dx, dy, width, height);
     } else {
         places::owe_all_copies(marks);
     }
@@ -86,7 +90,8 @@ fn moved(
     requires few { width * height ≤ 2 ^ 24 }
     requires size { length before.now ≡ width * height }
     requires place { i < width * height }
-    ensures { result ≡ moved_mark is_drawn (slice_index_or before.now i Mark.Clean) (at_place Mark.Clean width height before.now (pos (i % width) -ℤ dx) (pos (i / width) -ℤ dy)) }
+    ensures { result ≡ moved_mark is_drawn (slice_index_or before.now i Mark.Clean)
+        (at_place Mark.Clean width height before.now (pos (i % width) -ℤ dx) (pos (i / width) -ℤ dy)) }
 {
     if !awaits(before[i], is_drawn) {
         return before[i];
@@ -114,7 +119,8 @@ pub fn move_marks(
     requires before { length before.now ≡ width * height }
     requires drawn { length drawn.now ≡ width * height }
     ensures { (k : ℕ) → k < length marks.old → slice_index_or marks.new k Mark.Clean
-        ≡ moved_mark (slice_index_or drawn.now k false) (slice_index_or before.now k Mark.Clean) (at_place Mark.Clean width height before.now (pos (k % width) -ℤ dx) (pos (k / width) -ℤ dy)) }
+        ≡ moved_mark (slice_index_or drawn.now k false) (slice_index_or before.now k Mark.Clean)
+        (at_place Mark.Clean width height before.now (pos (k % width) -ℤ dx) (pos (k / width) -ℤ dy)) }
 {
     for (i, is_drawn) in drawn.iter().enumerate() {
         marks[i] = moved(*is_drawn, before, i, dx, dy, width, height);

@@ -1,8 +1,16 @@
-//! One viewer's marks of the places of a screen, and what the next update sends by copies and what by pixels.
+//! One viewer's marks of the places of a framebuffer: what the viewer lacks of it, what it may copy on its own side, what it
+//! asked for, and so what the next update sends by CopyRect and what by pixels.
+//!
+//! This is the plain form: a mark for each place, row by row. Each call is one equation with a definition of `specs/Marks.antt`.
+//! The rectangles that an update sends are the first ones of the canonical list of a set of places: its rows in maximal bands
+//! of equal contents, each band in maximal intervals.
+//!
+//! `places` goes over windows of a screen, `copies` over what a copy does to marks, `rects` finds canonical lists. To sending,
+//! `places::settle`, it is one whether a rectangle went as a copy or as pixels, so it may take the two lists in either order.
 #![tactic(auto)]
 
 ghost use Rattle.std.specs.Prelude.{◌≡◌, ◌*◌, ◌^◌, ◌≤◌, IfOk, IfSome, OnOk, OnErr, option_map};
-ghost use Rattle.copy_schedule.specs.Marks.{new_marks, marked, copied_by, same_offset, without_copyrect, requested, pending, cut_of, cut_of_sent, marks_after, copies_of, pixels_of, after_sending, IsInside, IsWithin};
+ghost use Rattle.copy_schedule.specs.Marks.{new_marks, marked, copied_by, same_offset, without_copyrect, requested, pending, cut_of, cut_of_sent, marks_after, copies_of, pixels_of, after_sending, IsInside, HasSourcesInside, IsWithin};
 ghost use Rattle.region.specs.Region.{covers, in_rect};
 
 mod copies;
@@ -25,14 +33,15 @@ pub enum Mark {
     Owed,
 }
 
-/// What one update sends.
+/// What one update sends: a FramebufferUpdate (RFC 6143, section 7.6.1) with the copies, in this order, and then the pixels.
 #[derive(Debug, Drop)]
 pub struct Cut {
-    /// Rectangles whose pixels the viewer has at the places less the offset, in the order in which to send them.
+    /// Rectangles that the viewer copies from the places less the offset (CopyRect, RFC 6143, section 7.7.2), in an order in
+    /// which none is drawn over a later one's source.
     pub copies: Listed<Rect>,
-    /// The offset (dx, dy) of the copies, also where there are none.
+    /// The offset (dx, dy) of the copies, in places, to the right and down; also where there are none.
     pub offset: (i32, i32),
-    /// Rectangles whose pixels the viewer needs.
+    /// Rectangles whose pixels the viewer needs, from the top, each row from the left.
     pub pixels: Listed<Rect>,
 }
 
@@ -43,8 +52,9 @@ struct Parts {
     pixels: Vec<Rect>,
 }
 
-/// The marks of a screen's places, the offset of the copies, and the places that were asked for.
-#[derive(Drop)]
+/// The marks of a screen's places, the offset of the pending copies, and the places that were asked for. A screen has at least
+/// one place and at most 2^24.
+#[derive(Debug, Drop)]
 pub struct Marks {
     width: u32,
     height: u32,
@@ -67,7 +77,8 @@ impl Model for Marks {
 }
 
 impl Marks {
-    /// At connecting every place is owed, and none is asked for.
+    /// At connecting every place is owed, and none is asked for. The width and the height are in places.
+    /// `AllocError` where memory for two bytes a place is refused.
     pub fn new(alloc: Global, width: u32, height: u32) -> Result<Marks, AllocError>
         requires width { 1 ≤ width }
         requires height { 1 ≤ height }
@@ -87,6 +98,7 @@ impl Marks {
         })
     }
 
+    /// Equal marks. `AllocError` where memory is refused.
     pub fn try_clone(&self) -> Result<Marks, AllocError>
         ensures { IfOk result (λ marks. marks ≡ self.now) }
     {
@@ -103,14 +115,16 @@ impl Marks {
         })
     }
 
-    /// The rectangles' places on the screen become owed.
+    /// The rectangles' places on the screen become owed (`rfbMarkRegionAsModified` of `rfb.h`). Corners may lie anywhere,
+    /// and a rectangle with x1 >= x2 or y1 >= y2 has no places.
     pub fn mark(&mut self, rects: &[Rect])
         ensures { self.new ≡ marked (covers rects.now) self.old }
     {
         places::fill_rects(&mut self.places, self.width, self.height, rects, Mark::Owed);
     }
 
-    /// The rectangle's places on the screen are asked for. Where not incremental, they and the places that await a copy of theirs are owed (RFC 6143, section 7.5.3).
+    /// A FramebufferUpdateRequest (RFC 6143, section 7.5.3): the rectangle's places on the screen are asked for. Where it is not
+    /// incremental, they are owed, and so are the places that await a copy from one of them.
     pub fn request(&mut self, rect: Rect, incremental: bool)
         ensures { self.new ≡ requested (in_rect rect) incremental self.old }
     {
@@ -129,7 +143,12 @@ impl Marks {
         }
     }
 
-    /// A copy drew the rectangles, with pixels from the places that lie (dx, dy) before: a viewer that uses CopyRect may copy them itself, if it has their sources; for another they are owed. The rectangles' places are meant to be on the screen with their sources, and the offset not to be (0, 0).
+    /// A copy drew the rectangles with the pixels of the places less (dx, dy) (`rfbScheduleCopyRegion` of `rfb.h`). A viewer that
+    /// uses CopyRect may copy them itself, where it has their sources; for another they are owed. Places that await
+    /// pixels by another offset are owed from then on, and so are those from which this copy takes pixels that they still await.
+    ///
+    /// The rectangles' places are meant to be on the screen with their sources, not to be none, and the offset not to be (0, 0).
+    /// `AllocError` where memory for two bytes a place is refused.
     pub fn copy(
         &mut self,
         alloc: Global,
@@ -164,25 +183,31 @@ impl Marks {
         Ok(())
     }
 
-    /// The viewer no longer uses CopyRect: the places that await a copy are owed.
+    /// The viewer's SetEncodings lists no CopyRect (RFC 6143, section 7.5.2): the places that await a copy are owed.
     pub fn no_copyrect(&mut self)
         ensures { self.new ≡ without_copyrect self.old }
     {
         places::owe_all_copies(&mut self.places);
     }
 
-    /// Whether a place is asked for and not clean: whether `cut` gives something.
+    /// Whether a place is asked for and not clean (`FB_UPDATE_PENDING` of `rfb.h`): whether `cut` gives something.
     pub fn pending(&self) -> bool
         ensures { result ≡ pending self.now }
     {
         places::has_wanted(&self.places, &self.asked_places)
     }
 
-    /// What the next update sends, and then marks it as sent: what is sent is clean, every other place that is not clean is owed, none is asked for, and the offset is (0, 0). Of the copies, and of the pixel rectangles, it has the first ones, at most `limit`. None where no place is wanted, and nothing changes.
+    /// What the next update sends (`rfbSendFramebufferUpdate` of `rfb.h`). It is marked as sent: its places are clean, every other
+    /// place that is not clean is owed, none is asked for, and the offset is (0, 0).
+    ///
+    /// A place is sent as a copy where it awaits one and its source is asked for too. Of the copies, and of the pixel
+    /// rectangles, the first ones go, at most `limit` of each (`maxRectsPerUpdate` of `rfb.h`). None where no place is asked for
+    /// and not clean; nothing changes then. `AllocError` where memory for the lists, or for a byte a place, is refused.
     pub fn cut(&mut self, alloc: Global, limit: u32) -> Result<Option<Cut>, AllocError>
         ensures sent { IfOk result (λ cut. cut ≡ option_map cut_of_sent (cut_of limit self.old)) }
         ensures after { OnOk result (self.new ≡ marks_after limit self.old) }
         ensures inside { IfOk result (λ cut. IfSome cut (IsInside self.old.width self.old.height)) }
+        ensures sources { IfOk result (λ cut. IfSome cut (HasSourcesInside self.old.width self.old.height)) }
         ensures count { IfOk result (λ cut. IfSome cut (IsWithin limit)) }
         ensures err { OnErr result (self.new ≡ self.old) }
     {
@@ -260,3 +285,6 @@ impl Marks {
         self.offset_y = 0;
     }
 }
+
+#[cfg(test)]
+mod tests;

@@ -95,7 +95,8 @@ pub fn fill_all<T: Copy>(values: &mut [T], value: T)
 pub fn fill_window<T: Copy>(values: &mut [T], width: usize, window: Window, value: T)
     requires columns { window.x2 ≤ width }
     requires rows { window.y2 * width ≤ length values.old }
-    ensures { (k : ℕ) (d : T) → k < length values.old → slice_index_or values.new k d ≡ (if in_window window (k % width) (k / width) then value else slice_index_or values.old k d) }
+    ensures { (k : ℕ) (d : T) → k < length values.old → slice_index_or values.new k d
+        ≡ (if in_window window (k % width) (k / width) then value else slice_index_or values.old k d) }
 {
     if window.x1 >= window.x2 {
         return;
@@ -106,14 +107,21 @@ pub fn fill_window<T: Copy>(values: &mut [T], width: usize, window: Window, valu
     }
 }
 
+fn without_copy(mark: Mark) -> Mark
+    ensures { result ≡ uncopied mark }
+{
+    match mark {
+        Mark::Clean => Mark::Clean,
+        Mark::Copied | Mark::Owed => Mark::Owed,
+    }
+}
+
 /// Makes each `Copied` place `Owed`.
 pub fn owe_all_copies(marks: &mut [Mark])
     ensures { (k : ℕ) (d : Mark) → k < length marks.old → slice_index_or marks.new k d ≡ uncopied (slice_index_or marks.old k d) }
 {
     for mark in marks.iter_mut() {
-        if *mark == Mark::Copied {
-            *mark = Mark::Owed;
-        }
+        *mark = without_copy(*mark);
     }
 }
 
@@ -121,7 +129,8 @@ pub fn owe_all_copies(marks: &mut [Mark])
 pub fn owe_copies(marks: &mut [Mark], width: usize, window: Window)
     requires columns { window.x2 ≤ width }
     requires rows { window.y2 * width ≤ length marks.old }
-    ensures { (k : ℕ) (d : Mark) → k < length marks.old → slice_index_or marks.new k d ≡ (if in_window window (k % width) (k / width) then uncopied (slice_index_or marks.old k d) else slice_index_or marks.old k d) }
+    ensures { (k : ℕ) (d : Mark) → k < length marks.old → let old = slice_index_or marks.old k d in
+        slice_index_or marks.new k d ≡ (if in_window window (k % width) (k / width) then uncopied old else old) }
 {
     if window.x1 >= window.x2 {
         return;
@@ -136,7 +145,8 @@ pub fn owe_copies(marks: &mut [Mark], width: usize, window: Window)
 pub fn fill_rects<T: Copy>(values: &mut [T], width: u32, height: u32, rects: &[Rect], value: T)
     requires columns { 0 < width }
     requires size { length values.old ≡ width * height }
-    ensures { (k : ℕ) (d : T) → k < length values.old → slice_index_or values.new k d ≡ (if covers rects.now (pos (k % width)) (pos (k / width)) then value else slice_index_or values.old k d) }
+    ensures { (k : ℕ) (d : T) → k < length values.old → slice_index_or values.new k d
+        ≡ (if covers rects.now (pos (k % width)) (pos (k / width)) then value else slice_index_or values.old k d) }
 {
     for rect in rects {
         fill_window(
@@ -154,15 +164,33 @@ fn wants(mark: Mark, asked: bool) -> bool
     asked && mark != Mark::Clean
 }
 
+// It goes on after the first one, so that it takes many places at a time.
+fn has_wanted_in(marks: &[Mark], asked: &[bool]) -> bool
+    requires { length asked.now ≡ length marks.now }
+    ensures { result ≡ list_any (is_wanted marks.now asked.now) (range_with_len 0 (length marks.now)) }
+{
+    let mut found = false;
+    for (i, mark) in marks.iter().enumerate() {
+        found |= wants(*mark, asked[i]);
+    }
+    found
+}
+
+/// So many places are looked at before it is asked whether one was found.
+const STRETCH: usize = 4096;
+
 /// Whether a place is asked for and not clean.
 pub fn has_wanted(marks: &[Mark], asked: &[bool]) -> bool
     requires { length asked.now ≡ length marks.now }
     ensures { result ≡ list_any (is_wanted marks.now asked.now) (range_with_len 0 (length marks.now)) }
 {
-    for (i, mark) in marks.iter().enumerate() {
-        if wants(*mark, asked[i]) {
+    let mut start = 0;
+    while start < marks.len() {
+        let end = start + STRETCH.min(marks.len() - start);
+        if has_wanted_in(&marks[start..end], &asked[start..end]) {
             return true;
         }
+        start = end;
     }
     false
 }
@@ -191,10 +219,10 @@ pub fn source_place(i: usize, dx: i32, dy: i32, width: u32, height: u32) -> Opti
         (on_screen width height (pos (i % width) -ℤ dx) (pos (i / width) -ℤ dy) ≡ false)
         (IsPlaceNumber width height (pos (i % width) -ℤ dx) (pos (i / width) -ℤ dy)) }
 {
-    let columns = width as usize;
-    let x = source_of(i % columns, dx, width)?;
-    let y = source_of(i / columns, dy, height)?;
-    Some(y * columns + x)
+    let number = i as u32;
+    let x = source_of((number % width) as usize, dx, width)?;
+    let y = source_of((number / width) as usize, dy, height)?;
+    Some(y * width as usize + x)
 }
 
 /// Whether the place that the place with number `i` lies (dx, dy) behind is on the screen and asked for.
@@ -225,9 +253,20 @@ fn is_copyable(
     requires few { width * height ≤ 2 ^ 24 }
     requires size { length asked.now ≡ width * height }
     requires place { i < width * height }
-    ensures { result ≡ (slice_index_or asked.now i false && is_copied mark && at_place false width height asked.now (pos (i % width) -ℤ dx) (pos (i / width) -ℤ dy)) }
+    ensures { result ≡ (slice_index_or asked.now i false && is_copied mark
+        && at_place false width height asked.now (pos (i % width) -ℤ dx) (pos (i / width) -ℤ dy)) }
 {
     asked[i] && mark == Mark::Copied && is_source_asked(asked, i, dx, dy, width, height)
+}
+
+fn has_copied(marks: &[Mark]) -> bool
+    ensures { result ≡ list_any is_copied marks.now }
+{
+    let mut found = false;
+    for mark in marks {
+        found |= *mark == Mark::Copied;
+    }
+    found
 }
 
 /// The places that can be copied: asked for, `Copied`, and with a source that is asked for.
@@ -246,9 +285,13 @@ pub fn copyable_places(
     requires asked { length asked.now ≡ width * height }
     ensures size { IfOk result (λ chosen. length chosen.items ≡ length marks.now) }
     ensures places { IfOk result (λ chosen. (k : ℕ) → k < length marks.now → slice_index_or chosen.items k false
-        ≡ (slice_index_or asked.now k false && is_copied (slice_index_or marks.now k Mark.Clean) && at_place false width height asked.now (pos (k % width) -ℤ dx) (pos (k / width) -ℤ dy))) }
+        ≡ (slice_index_or asked.now k false && is_copied (slice_index_or marks.now k Mark.Clean)
+        && at_place false width height asked.now (pos (k % width) -ℤ dx) (pos (k / width) -ℤ dy))) }
 {
     let mut chosen = vec![in alloc; false; marks.len()]?;
+    if !has_copied(marks) {
+        return Ok(chosen);
+    }
     for (i, mark) in marks.iter().enumerate() {
         chosen[i] = is_copyable(*mark, asked, i, dx, dy, width, height);
     }
@@ -259,7 +302,8 @@ pub fn copyable_places(
 pub fn choose_others(chosen: &mut [bool], marks: &[Mark], asked: &[bool])
     requires marks { length marks.now ≡ length chosen.old }
     requires asked { length asked.now ≡ length chosen.old }
-    ensures { (k : ℕ) → k < length chosen.old → slice_index_or chosen.new k false ≡ (is_wanted marks.now asked.now k && not (slice_index_or chosen.old k false)) }
+    ensures { (k : ℕ) → k < length chosen.old → slice_index_or chosen.new k false
+        ≡ (is_wanted marks.now asked.now k && not (slice_index_or chosen.old k false)) }
 {
     for (i, place) in chosen.iter_mut().enumerate() {
         *place = wants(marks[i], asked[i]) && !*place;
@@ -270,8 +314,10 @@ pub fn choose_others(chosen: &mut [bool], marks: &[Mark], asked: &[bool])
 pub fn settle(marks: &mut [Mark], width: u32, height: u32, copies: &[Rect], pixels: &[Rect])
     requires columns { 0 < width }
     requires size { length marks.old ≡ width * height }
-    ensures { (k : ℕ) (d : Mark) → k < length marks.old → slice_index_or marks.new k d
-        ≡ (if covers copies.now (pos (k % width)) (pos (k / width)) || covers pixels.now (pos (k % width)) (pos (k / width)) || is_clean (slice_index_or marks.old k d) then Mark.Clean else Mark.Owed) }
+    ensures { (k : ℕ) (d : Mark) → k < length marks.old → let x = pos (k % width) in let y = pos (k / width) in
+        slice_index_or marks.new k d
+        ≡ (if covers copies.now x y || covers pixels.now x y || is_clean (slice_index_or marks.old k d) then Mark.Clean
+        else Mark.Owed) }
 {
     owe_all_copies(marks);
     fill_rects(marks, width, height, copies, Mark::Clean);

@@ -1,6 +1,7 @@
 //! The canonical list of rectangles of a set of places, and the order in which copies are sent.
 
-ghost use Rattle.std.specs.Prelude.{◌≡◌, ◌≢◌, ℕ, ◌+◌, ◌*◌, ◌^◌, ◌<◌, ◌≤◌, ◌++◌, false, reverse, take, flat_map, length, OnOk, IfOk, slice_index_or};
+ghost use Rattle.std.specs.Prelude.{◌≡◌, ◌≢◌, ◌↔◌, IsTrue, ℕ, ◌+◌, ◌*◌, ◌^◌, ◌<◌, ◌≤◌, ◌++◌, false, reverse, take, flat_map, length, OnOk, IfOk, slice_index_or};
+ghost use Rattle.std.specs.List.{list_any};
 ghost use Rattle.copy_schedule.specs.Places.{at_place, row_at, row_test};
 ghost use Rattle.region.specs.Region.{intervals_of, rects_of_band, rects_of, by_band, in_order, order};
 ghost use Rattle.region.specs.declared.Rect.{Rect};
@@ -33,6 +34,18 @@ fn run_end(row: &[bool], from: usize) -> usize
     row.len()
 }
 
+/// Whether two rows are equal, many places at a time.
+fn is_same_row(row: &[bool], other: &[bool]) -> bool
+    requires { length row.now ≡ length other.now }
+    ensures { IsTrue result ↔ (row.now ≡ other.now) }
+{
+    let mut differs = false;
+    for (x, is_chosen) in row.iter().enumerate() {
+        differs |= *is_chosen != other[x];
+    }
+    !differs
+}
+
 /// The end of the band of equal rows that begins at `top`.
 fn band_end(chosen: &[bool], width: usize, height: usize, top: usize) -> usize
     requires within { top < height }
@@ -44,7 +57,7 @@ fn band_end(chosen: &[bool], width: usize, height: usize, top: usize) -> usize
 {
     let row = row_of(chosen, width, top);
     for y in top + 1..height {
-        if row_of(chosen, width, y) != row {
+        if !is_same_row(row_of(chosen, width, y), row) {
             return y;
         }
     }
@@ -130,7 +143,8 @@ fn reverse_bands(rects: &mut [Rect])
     }
 }
 
-/// Puts a canonical list's bands from bottom to top where `reverse_y`, and their intervals from right to left where `reverse_x`.
+/// Puts a canonical list's bands from bottom to top where `reverse_y`, and their intervals from right to left where
+/// `reverse_x`.
 fn put_in_order(rects: &mut [Rect], reverse_x: bool, reverse_y: bool)
     ensures { rects.new ≡ in_order reverse_x reverse_y rects.old }
 {
@@ -143,6 +157,16 @@ fn put_in_order(rects: &mut [Rect], reverse_x: bool, reverse_y: bool)
             rects.reverse();
         }
     }
+}
+
+fn has_chosen(chosen: &[bool]) -> bool
+    ensures { result ≡ list_any (λ is_chosen. is_chosen) chosen.now }
+{
+    let mut found = false;
+    for is_chosen in chosen {
+        found |= *is_chosen;
+    }
+    found
 }
 
 /// The first rectangles, at most `limit`, of the canonical list of the chosen places, in the order for copies by (dx, dy).
@@ -160,6 +184,9 @@ pub fn copies_where(
     requires size { length chosen.now ≡ width * height }
     ensures { IfOk result (λ rects. rects.items ≡ take limit (order dx dy (rects_of width height (at_place false width height chosen.now)))) }
 {
+    if !has_chosen(chosen) {
+        return Ok(Vec::new(alloc));
+    }
     let mut rects = rects_where(alloc, width, height, chosen, chosen.len())?;
     put_in_order(&mut rects, dx > 0, dy > 0);
     rects.truncate(limit);

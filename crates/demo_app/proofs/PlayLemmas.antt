@@ -1,12 +1,12 @@
 -- A line more of what is printed.
 use Rattle.std.specs.Prelude.{IfSome}
 use Rattle.std.specs.Option.{option_map_or}
-use Rattle.std.proofs.Common.{Bor, length, arith, ◌<◌, ◌≤◌, ◌≡◌, ℕ, ◌+◌, List, [], ◌∷◌, ◌++◌, Option, Some, None, refl, sym, ap, ◌∙◌, append_assoc}
+use Rattle.std.proofs.Common.{Bor, length, arith, ◌<◌, ◌≤◌, ◌≡◌, ℕ, ◌+◌, List, ◌∷◌, ◌++◌, Option, Some, None, sym, ap, ◌∙◌, append_assoc}
 use Rattle.std.proofs.lemmas.List.{append-nil}
 use Rattle.std.specs.Io.KnownBytes.{Appends}
 use Rattle.screen.specs.Answers.{State}
 use Rattle.play_script.specs.declared.lines.Line.{Line}
-use Rattle.play_script.specs.Transcript.{Played, Next, on, over, Step, step_of, Outcome, with_text, outcome_from}
+use Rattle.play_script.specs.Transcript.{Played, Next, on, over, step_of, Outcome, with_text, outcome_from}
 use Rattle.demo_app.specs.Playing.{StandsFor, GoesOn}
 
 pub appends_more : (a b c : Option (List ℕ)) (xs ys zs : List ℕ) → Appends a b xs → Appends b c ys → zs ≡ xs ++ ys → Appends a c zs

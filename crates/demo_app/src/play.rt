@@ -8,9 +8,7 @@ ghost use Rattle.demo_app.specs.Playing.{StandsFor, Says};
 
 use crate::reading::{Trouble, read_script};
 use crate::steps::Steps;
-use play_script::{
-    Line, answer_text, bad_line_text, cut_line, ok_text, parse_line, refusal_text,
-};
+use play_script::{Line, answer_text, bad_line_text, cut_line, ok_text, parse_line, refusal_text};
 use screen::{Config, Event, Screen, ScreenError};
 use std::alloc::{AllocError, Global};
 use std::io::{Read, Write};

@@ -1,5 +1,6 @@
-ghost use Rattle.std.specs.Prelude.{◌≡◌, ℕ, ◌+◌, ◌-◌, ◌^◌, ◌<◌, ◌≤◌, length, vec_len, IfOk, IfSome, IsErrOf, Ok, Err};
+ghost use Rattle.std.specs.Prelude.{◌≡◌, ℕ, ◌+◌, ◌-◌, ◌^◌, ◌<◌, ◌≤◌, length, vec_len, IfOk, IfSome, IfErr};
 ghost use Rattle.std.specs.Io.{ReadsAtMost};
+ghost use Rattle.demo_app.specs.Reading.{CanEndReading};
 ghost use Rattle.std.specs.Io.KnownBytes.{ReadConsumes, Consumes};
 
 use crate::steps::Steps;
@@ -62,6 +63,7 @@ pub fn read_script<R: Read, L: Ledger>(
 ) -> Result<Vec<u8>, Trouble>
     ensures script { IfOk result (λ script. IfSome (R.remaining reader.old) (λ bytes. script.items ≡ bytes)) }
     ensures limit { IfOk result (λ script. vec_len script ≤ 2 ^ 24) }
+    ensures trouble { IfErr result (CanEndReading (steps.new - steps.old) (R.remaining reader.old)) }
     ensures reads { steps.new ≤ steps.old + (2 ^ 24 + 1) }
 {
     let mut script = Vec::new(alloc);

@@ -1,6 +1,8 @@
 mod rows;
 mod troubles;
 
+ghost use Rattle.std.specs.Prelude.{◌≡◌};
+
 use crate::{Chosen, Steps, line_of, play_over};
 use std::alloc::Global;
 use std::io::{Read, Write};
@@ -8,8 +10,6 @@ use std::marker::Brand;
 use std::process::Abort;
 use std::sync::ledger::{Blank, Ledger};
 use std::test::Fail;
-
-ghost use Rattle.std.specs.Prelude.{◌≡◌};
 
 fn counted<L: Ledger, R: Read, W: Write>(
     alloc: Global,
@@ -25,21 +25,21 @@ fn counted<L: Ledger, R: Read, W: Write>(
     play_over(alloc, reader, writer, &mut steps)
 }
 
+// The status of a script, on a ledger that nobody looks into.
+fn play<R: Read, W: Write>(alloc: Global, reader: &mut R, writer: &mut W) -> u8 {
+    counted::<Brand, R, W>(alloc, Blank::new(1), reader, writer)
+}
+
 // What a script prints, and its status.
 fn play_bytes(alloc: Global, script: &[u8]) -> (Vec<u8>, u8) {
     let mut reader = script;
     let mut out = Vec::new(alloc);
-    let status = counted::<Brand, _, _>(alloc, Blank::new(1), &mut reader, &mut out);
+    let status = play(alloc, &mut reader, &mut out);
     (out, status)
 }
 
 // Each line of a script prints the text beside it, and the script ends with the status.
-fn shows(
-    rt: &impl Abort,
-    alloc: Global,
-    rows: &[(&str, &str)],
-    status: u8,
-) -> Result<(), Fail> {
+fn shows(rt: &impl Abort, alloc: Global, rows: &[(&str, &str)], status: u8) -> Result<(), Fail> {
     let mut script = String::new(alloc);
     let mut printed = String::new(alloc);
     for (line, text) in rows {

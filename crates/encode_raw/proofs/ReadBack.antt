@@ -1,16 +1,14 @@
 -- A rectangle in Raw is read back.
-use Rattle.std.proofs.Common.{◌≡◌, ℕ, pos, ◌+◌, ◌*◌, ◌<◌, List, ◌++◌, length, map, get_or, Some, Option, refl, sym, ap, ◌∙◌, arith, append_assoc, FitsSigned}
+use Rattle.std.proofs.Common.{◌≡◌, ℕ, pos, ◌+◌, ◌*◌, ◌<◌, List, ◌++◌, map, get_or, Some, Option, sym, ap, ◌∙◌, arith, append_assoc, FitsSigned}
 use Rattle.std.specs.List.{flat_map}
 use Rattle.std.specs.Int.{w32}
 use Rattle.std.proofs.lemmas.Nat.{mul-add-lt}
 use Rattle.std.proofs.lemmas.List.{get_or-map}
-use Rattle.pixel_translate.specs.declared.Area.{Area}
-use Rattle.pixel_translate.specs.declared.PixelFormat.{PixelFormat}
-use Rattle.pixel_translate.specs.Pixel.{IsArea, pixel, colour_bytes}
+use Rattle.pixel_translate.specs.Pixel.{pixel, colour_bytes}
 use Rattle.pixel_translate.proofs.Bounds.{pixel_below}
 use Rattle.encode_raw.specs.Raw.{head}
 use Rattle.encode_raw.specs.Reading.{◌>>=◌, head_at, raw_at, pixels_at, row_by_row}
-use Rattle.encode_raw.specs.Claims.{ReadsBack, pixels_of, raw_reads_back}
+use Rattle.encode_raw.specs.Claims.{pixels_of, raw_reads_back}
 use Rattle.encode_raw.proofs.Back.{pixels_back, head_back, same_patched}
 
 pub reads_back : raw_reads_back

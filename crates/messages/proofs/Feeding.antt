@@ -6,7 +6,7 @@ use Rattle.messages.specs.declared.Item.{Item}
 use Rattle.messages.specs.declared.Phase.{Phase}
 use Rattle.messages.specs.declared.Phase.TheVariants as phase
 use Rattle.messages.specs.Grammar.{End, waiting, faulty}
-use Rattle.messages.specs.Reading.{heard, Unfinished, Rest, rest, unfinished_of, fault_in, fault_kept, fault_of, new_items, KeepsEnough}
+use Rattle.messages.specs.Reading.{heard, Unfinished, Rest, rest, unfinished_of, fault_in, fault_kept, fault_of, new_items, KeepsEnough, KeepsTheFault}
 use Rattle.messages.specs.Steps.{Told, tells}
 use Rattle.messages.proofs.Telling.{heard_tells}
 
@@ -32,9 +32,11 @@ fault_by_end (phase.Open v) waiting bytes =
     one_of false true x y z h k l = k
     one_of false false x y z h k l = l
 
+pub keeps_the_fault : KeepsTheFault
+keeps_the_fault bytes = fault_by_end (heard bytes).phase (heard bytes).end (heard bytes).unfinished
+
 pub fed_fault : (s piece : List ℕ) (r : Rest) (t : Told) → r ≡ rest s → t ≡ tells r piece → fault_kept t.rest ≡ fault_of (heard (s ++ piece)).end
-fed_fault s piece r t e f =
-    ap fault_kept (fed_rest s piece r t e f) ∙ fault_by_end (heard (s ++ piece)).phase (heard (s ++ piece)).end (heard (s ++ piece)).unfinished
+fed_fault s piece r t e f = ap fault_kept (fed_rest s piece r t e f) ∙ keeps_the_fault (s ++ piece)
 
 -- what is kept tells all that a further piece adds
 same_behind : (is js ks : List Item) → is ++ js ≡ is ++ ks → js ≡ ks

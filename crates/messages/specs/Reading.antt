@@ -218,3 +218,7 @@ ReadsInPieces = (s t : List ℕ) → heard (s ++ t) ≡ hear (heard s) t
 abbrev pub KeepsEnough : Type 0
 KeepsEnough = (s r t : List ℕ) → rest s ≡ rest r → (rest (s ++ t) ≡ rest (r ++ t))
     × ((added : List Item) → (heard (s ++ t)).items ≡ (heard s).items ++ added → (heard (r ++ t)).items ≡ (heard r).items ++ added)
+
+-- what is kept tells the fault
+abbrev pub KeepsTheFault : Type 0
+KeepsTheFault = (bytes : List ℕ) → fault_kept (rest bytes) ≡ fault_of (heard bytes).end

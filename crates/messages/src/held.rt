@@ -161,7 +161,8 @@ impl Text {
 
     /// What the text says, whose bytes are taken out of it.
     pub fn finish(&mut self, alloc: Global) -> Item
-        ensures { result ≡ item.Input (input.Text self.old.kept.items (nat_lt text_limit self.old.length)) }
+        ensures said { result ≡ item.Input (input.Text self.old.kept.items (nat_lt text_limit self.old.length)) }
+        ensures left { unfinished_text self.new ≡ cut_text self.old.length [] self.old.come }
     {
         let kept = mem::replace(&mut self.kept, Vec::new(alloc));
         Item::Input(Input::Text {

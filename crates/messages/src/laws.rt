@@ -1,5 +1,5 @@
 //! Laws of the reading.
-ghost use Rattle.messages.specs.Reading.{ReadsTheStream, ReadsInPieces, KeepsEnough};
+ghost use Rattle.messages.specs.Reading.{ReadsTheStream, ReadsInPieces, KeepsEnough, KeepsTheFault};
 
 /// A viewer's bytes are a stream of exactly one list of items, with exactly one end, and the reading finds both.
 pub fn reads_the_stream()
@@ -15,4 +15,9 @@ pub fn reads_in_pieces()
 /// What is kept of a viewer's bytes tells all that a further piece adds: the items, and what is kept then.
 pub fn keeps_enough()
     ensures { KeepsEnough }
+{}
+
+/// What is kept of a viewer's bytes tells its fault.
+pub fn keeps_the_fault()
+    ensures { KeepsTheFault }
 {}

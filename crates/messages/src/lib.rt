@@ -12,7 +12,7 @@ mod tests;
 mod writers;
 
 pub use ear::Ear;
-pub use laws::{keeps_enough, reads_in_pieces, reads_the_stream};
+pub use laws::{keeps_enough, keeps_the_fault, reads_in_pieces, reads_the_stream};
 use listed::Listed;
 use pixel_translate::{Area, PixelFormat};
 pub use writers::{
@@ -33,15 +33,18 @@ pub enum Version {
 /// An encoding of pixels (RFC 6143 section 7.7).
 #[derive(Clone, Copy, Debug, PartialEq, Eq)]
 pub enum Encoding {
+    /// Number 0.
     Raw,
+    /// Number 2.
     Rre,
+    /// Number 5.
     Hextile,
 }
 
 /// What a viewer tells the application (RFC 6143 sections 7.5.4 to 7.5.6).
 #[derive(Debug, Drop)]
 pub enum Input {
-    /// A key's symbol, which went down or up.
+    /// A key, by its keysym of the X Window System, which went down or up.
     Key { down: bool, key: u32 },
     /// The buttons that are down, a bit each, and where the pointer is. The place may lie off the framebuffer.
     Pointer { mask: u8, x: u16, y: u16 },
@@ -56,7 +59,7 @@ pub enum Item {
     Version(Version),
     /// The security type None (RFC 6143 section 7.1.2). Version 3.3 has no choice.
     Choice,
-    /// ClientInit (RFC 6143 section 7.3.1).
+    /// ClientInit (RFC 6143 section 7.3.1). A flag is true where it isn't 0.
     Init { shared: bool },
     /// SetPixelFormat (RFC 6143 section 7.5.1).
     Format(PixelFormat),
@@ -85,21 +88,24 @@ pub enum Phase {
 /// Why a viewer is heard no further.
 #[derive(Clone, Copy, Debug, PartialEq, Eq)]
 pub enum Fault {
-    /// Its first twelve bytes are no version.
+    /// Its first twelve bytes are no version (RFC 6143 section 7.1.1), found at the twelfth.
     BadVersion,
-    /// It chose another security type than None.
+    /// It chose another security type than None (RFC 6143 section 7.1.2).
     BadSecurityType,
-    /// No message has this type.
+    /// No message has this type (RFC 6143 section 7.5), found at that byte.
     UnknownMessage(u8),
-    /// A pixel format has other than 8, 16 or 32 bits per pixel.
+    /// A pixel format has other than 8, 16 or 32 bits per pixel (RFC 6143 section 7.4), found at the last byte of its
+    /// SetPixelFormat.
     BadBitsPerPixel,
-    /// A pixel format needs a colour map.
+    /// A pixel format needs a colour map, found there too.
     ColourMapUnsupported,
 }
 
 /// What a piece of a viewer's bytes adds: the items that end in it, in order, and the fault that the viewer has.
 #[derive(Debug, Drop)]
 pub struct Heard {
+    /// The items, those before a fault in the same piece among them.
     pub items: Listed<Item>,
+    /// The fault, which each further piece gives again.
     pub fault: Option<Fault>,
 }

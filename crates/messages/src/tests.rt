@@ -292,4 +292,5 @@ fn laws_hold() {
     reads_the_stream();
     reads_in_pieces();
     keeps_enough();
+    keeps_the_fault();
 }

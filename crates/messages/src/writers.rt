@@ -9,7 +9,7 @@ use crate::Version;
 use pixel_translate::PixelFormat;
 use std::alloc::AllocError;
 
-/// Appends the version that the server has, 003.008 (RFC 6143 section 7.1.1; in LibVNCServer `rfbNewClient`).
+/// Appends the version that the server has, 003.008 (RFC 6143 section 7.1.1; LibVNCServer's `rfbNewClient`).
 pub fn put_version(out: &mut Vec<u8>) -> Result<(), AllocError>
     ensures ok { OnOk result (out.new.items ≡ out.old.items ++ server_version) }
     ensures err { OnErr result (out.new.items ≡ out.old.items) }
@@ -18,7 +18,7 @@ pub fn put_version(out: &mut Vec<u8>) -> Result<(), AllocError>
 }
 
 /// Appends the one security type None: as a list in 3.7 and 3.8, as the server's decision in 3.3
-/// (RFC 6143 section 7.1.2 and appendix A; `rfbAuthNewClient`).
+/// (RFC 6143 section 7.1.2 and appendix A; LibVNCServer's `rfbAuthNewClient`).
 pub fn put_security(out: &mut Vec<u8>, version: Version) -> Result<(), AllocError>
     ensures ok { OnOk result (out.new.items ≡ out.old.items ++ security version) }
     ensures err { OnErr result (out.new.items ≡ out.old.items) }
@@ -29,7 +29,8 @@ pub fn put_security(out: &mut Vec<u8>, version: Version) -> Result<(), AllocErro
     }
 }
 
-/// Appends the result of a security handshake that went well (RFC 6143 section 7.1.3; `rfbAuthProcessClientMessage`).
+/// Appends the result of a security handshake that went well, a u32 of 0 (RFC 6143 section 7.1.3). Version 3.8 alone has it
+/// with the type None.
 pub fn put_result(out: &mut Vec<u8>) -> Result<(), AllocError>
     ensures ok { OnOk result (out.new.items ≡ out.old.items ++ be32 0) }
     ensures err { OnErr result (out.new.items ≡ out.old.items) }
@@ -47,8 +48,8 @@ fn append(out: &mut Vec<u8>, bytes: &[u8])
     out.extend_from_slice(bytes).unwrap();
 }
 
-/// Appends ServerInit: the size of the framebuffer, the server's pixel format and the name
-/// (RFC 6143 section 7.3.2; `rfbProcessClientInitMessage`).
+/// Appends ServerInit: the width and height of the framebuffer in pixels, the server's pixel format and the name,
+/// which has fewer than 2^32 bytes (RFC 6143 section 7.3.2).
 pub fn put_server_init(
     out: &mut Vec<u8>,
     width: u16,
@@ -69,7 +70,7 @@ pub fn put_server_init(
 }
 
 /// Appends the front of a FramebufferUpdate of this many rectangles
-/// (RFC 6143 section 7.6.1; `rfbSendFramebufferUpdate`).
+/// (RFC 6143 section 7.6.1; LibVNCServer's `rfbSendFramebufferUpdate`).
 pub fn put_update_head(out: &mut Vec<u8>, count: u16) -> Result<(), AllocError>
     ensures ok { OnOk result (out.new.items ≡ out.old.items ++ update_head count) }
     ensures err { OnErr result (out.new.items ≡ out.old.items) }
@@ -78,7 +79,7 @@ pub fn put_update_head(out: &mut Vec<u8>, count: u16) -> Result<(), AllocError>
     out.extend_from_slice(&[0, 0, high, low])
 }
 
-/// Appends a Bell (RFC 6143 section 7.6.3; `rfbSendBell`).
+/// Appends a Bell (RFC 6143 section 7.6.3; LibVNCServer's `rfbSendBell`).
 pub fn put_bell(out: &mut Vec<u8>) -> Result<(), AllocError>
     ensures ok { OnOk result (out.new.items ≡ out.old.items ++ bell) }
     ensures err { OnErr result (out.new.items ≡ out.old.items) }
@@ -86,7 +87,7 @@ pub fn put_bell(out: &mut Vec<u8>) -> Result<(), AllocError>
     out.extend_from_slice(&[2])
 }
 
-/// Appends a ServerCutText (RFC 6143 section 7.6.4; `rfbSendServerCutText`).
+/// Appends a ServerCutText, of a text of fewer than 2^32 bytes (RFC 6143 section 7.6.4; LibVNCServer's `rfbSendServerCutText`).
 pub fn put_cut_text(out: &mut Vec<u8>, text: &[u8]) -> Result<(), AllocError>
     requires { length text.now < 2 ^ 32 }
     ensures ok { OnOk result (out.new.items ≡ out.old.items ++ cut_text text.now) }

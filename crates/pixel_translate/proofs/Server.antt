@@ -1,9 +1,9 @@
 -- In the server's format a colour's pixel is the colour.
-use Rattle.std.proofs.Common.{◌≡◌, ℕ, ◌+◌, ◌*◌, ◌/◌, ◌%◌, ◌^◌, ◌<◌, bit_or, sym, ap, ◌∙◌, arith}
-use Rattle.std.proofs.Math.Nat.{add-mul-div_left, mod-eq_of_lt}
-use Rattle.std.proofs.lemmas.Nat.{or_shifted, mod_below}
+use Rattle.std.proofs.Common.{◌≡◌, ℕ, ◌+◌, ◌*◌, ◌/◌, ◌%◌, ◌^◌, ◌<◌, bit_or, ap, ◌∙◌, arith}
+use Rattle.std.proofs.Math.Nat.{mod-eq_of_lt}
+use Rattle.std.proofs.lemmas.Nat.{or_shifted}
 use Rattle.pixel_translate.specs.declared.BitsPerPixel.TheVariants.{ThirtyTwo}
-use Rattle.pixel_translate.specs.Pixel.{component, pixel, server_format, red_of, green_of, blue_of, IsItself}
+use Rattle.pixel_translate.specs.Pixel.{component, server_format, red_of, green_of, blue_of, IsItself}
 
 -- a component with 256 values is as it was, in its place
 in_place : (value shift : ℕ) → value < 256 → value * 2 ^ shift < 2 ^ 32 → component ThirtyTwo (record { max = 255; shift = shift }) value ≡ value * 2 ^ shift

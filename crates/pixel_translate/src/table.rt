@@ -64,8 +64,6 @@ impl Table {
         ensures below { result < 2 ^ bit_count self.now.bits }
     {
         let [_, red, green, blue] = colour.to_be_bytes();
-        self.red[usize::from(red)]
-            | self.green[usize::from(green)]
-            | self.blue[usize::from(blue)]
+        self.red[usize::from(red)] | self.green[usize::from(green)] | self.blue[usize::from(blue)]
     }
 }

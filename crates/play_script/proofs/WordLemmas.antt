@@ -1,7 +1,7 @@
 -- Parts, numbers and groups of digits.
-use Rattle.std.proofs.Common.{◌≡◌, ◌≢◌, ℕ, zero, suc, ◌+◌, ◌-◌, ◌*◌, ◌/◌, ◌^◌, ◌<◌, ◌≤◌, Bool, true, false, not, cond, ◌&&◌, eqb, ltb, leb, List, [], ◌∷◌, ◌++◌, length, get_or, take, drop, map, refl, sym, ap, ◌∙◌, arith, rules, Option, Some, None, add-one, lit<, lit≤, ◌%◌, zero-add}
+use Rattle.std.proofs.Common.{◌≡◌, ℕ, zero, suc, ◌+◌, ◌-◌, ◌*◌, ◌^◌, ◌<◌, ◌≤◌, Bool, true, false, not, cond, ◌&&◌, eqb, ltb, leb, List, [], ◌∷◌, ◌++◌, length, get_or, take, drop, map, refl, sym, ap, ◌∙◌, arith, Some, None, add-one, lit<, lit≤, ◌%◌, zero-add}
 use Rattle.std.specs.Char.{digit_value, is_digit}
-use Rattle.std.specs.List.{slice_split, onto_first, count_by, position, position_or_len, prefix_len, list_all, range_with_len}
+use Rattle.std.specs.List.{slice_split, onto_first, count_by, position, position_or_len, list_all, range_with_len}
 use Rattle.std.proofs.lemmas.Bool.Decides.{nat_tests}
 use Rattle.std.proofs.lemmas.List.Splits.{length-slice_split}
 use Rattle.std.proofs.lemmas.List.FromFn.{map-range_with_len_more}
@@ -137,7 +137,6 @@ value_in_fits ds h =
     let power : 16 ^ length ds ≤ 16 ^ 6 = pow-le-pow_right (lit< tt) h in
     let below : value_in 16 ds ≤ 3 * 16 ^ length ds = value_in_below ds in
     small _ _ below power
-
 
 -- a number whose first digits spell more than the limit
 pub over_limit : (limit v d : ℕ) (ds : List ℕ) (i : ℕ) → i < length ds → v ≡ value_in 10 (take i ds) → d ≡ digit_value (get_or ds i 0) → limit < 10 * v + d → None ≡ number_up_to limit ds

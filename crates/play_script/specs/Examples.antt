@@ -1,14 +1,13 @@
 -- Worked lines and scripts.
-use Rattle.std.specs.Prelude.{◌≡◌, ℕ, List, [], ◌∷◌, ◌++◌, codes, replicate, pos, refl, true, false, Some, None}
+use Rattle.std.specs.Prelude.{◌≡◌, [], ◌∷◌, ◌++◌, codes, replicate, pos, refl, true, false, Some, None}
 use Rattle.std.specs.Fmt.{digits}
 use Rattle.messages.specs.declared.Input.TheVariants as input
 use Rattle.messages.specs.declared.Fault.TheVariants as fault
-use Rattle.screen.specs.declared.Event.TheVariants.{Paint, Connect, Hear, Cut, Close}
-use Rattle.screen.specs.declared.ScreenError.TheVariants as refusals
+use Rattle.screen.specs.declared.Event.TheVariants.{Paint, Connect, Hear}
 use Rattle.play_script.specs.declared.lines.Line.TheVariants.{Skipped, Start, Do, Bad}
 use Rattle.play_script.specs.Words.{lines_of, words_of, number, viewer_number, hex_bytes, hex_colours}
 use Rattle.play_script.specs.Lines.{line_of, config_of, places_of, paint_of, hear_of}
-use Rattle.play_script.specs.Texts.{closed, input_line, refused, bad_line, bytes_line}
+use Rattle.play_script.specs.Texts.{closed, input_line}
 use Rattle.play_script.specs.Transcript.{transcript, status_of}
 
 -- Lines and words.

@@ -3,3 +3,4 @@ pub mod Lines
 pub mod Texts
 pub mod Transcript
 pub mod Examples
+pub mod Claims

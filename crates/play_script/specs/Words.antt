@@ -1,5 +1,5 @@
 -- How a script's bytes spell lines, words, numbers and bytes.
-use Rattle.std.specs.Prelude.{ℕ, ◌+◌, ◌-◌, ◌*◌, ◌/◌, ◌%◌, ◌^◌, nat_lt, nat_le, Bool, true, false, not, ◌&&◌, ◌==◌, if◌then◌else◌, List, [], ◌∷◌, length, get_or, take, drop, map, codes, bytes_eq, Option, Some, None}
+use Rattle.std.specs.Prelude.{ℕ, ◌+◌, ◌*◌, ◌/◌, ◌%◌, ◌^◌, nat_le, Bool, true, false, not, ◌&&◌, ◌==◌, if◌then◌else◌, List, [], ◌∷◌, length, get_or, take, drop, map, codes, bytes_eq, Option, Some, None}
 use Rattle.std.specs.List.{list_all, range_with_len, onto_first}
 use Rattle.std.specs.Char.{is_digit, digit_value}
 

@@ -2,10 +2,12 @@
 #![tactic(auto)]
 
 mod hex;
+mod laws;
 mod lines;
 mod texts;
 mod words;
 
+pub use laws::{answers_are_printed, printed_is_read};
 pub use lines::{Line, parse_line};
 pub use texts::{answer_text, bad_line_text, ok_text, refusal_text};
 pub use words::cut_line;

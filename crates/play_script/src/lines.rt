@@ -77,7 +77,11 @@ fn name_of(word: &[u8]) -> Option<&[u8]>
     if word.is_empty() {
         return None;
     }
-    if word == b"-".as_slice() { Some(&[]) } else { Some(word) }
+    if word == b"-".as_slice() {
+        Some(&[])
+    } else {
+        Some(word)
+    }
 }
 
 fn limit_of(line: &[u8]) -> Option<u32>
@@ -240,15 +244,9 @@ pub fn parse_line(alloc: Global, line: &[u8]) -> Result<Line, AllocError>
     match verb {
         Verb::Screen => screen_line(alloc, line),
         Verb::Paint => paint_line(alloc, line),
-        Verb::Connect => Ok(done_by(
-            only_viewer(line).map(|viewer| Event::Connect { viewer }),
-        )),
+        Verb::Connect => Ok(done_by(only_viewer(line).map(|viewer| Event::Connect { viewer }))),
         Verb::Hear => hear_line(alloc, line),
-        Verb::Cut => Ok(done_by(
-            only_viewer(line).map(|viewer| Event::Cut { viewer }),
-        )),
-        Verb::Close => Ok(done_by(
-            only_viewer(line).map(|viewer| Event::Close { viewer }),
-        )),
+        Verb::Cut => Ok(done_by(only_viewer(line).map(|viewer| Event::Cut { viewer }))),
+        Verb::Close => Ok(done_by(only_viewer(line).map(|viewer| Event::Close { viewer }))),
     }
 }

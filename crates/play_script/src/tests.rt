@@ -101,8 +101,16 @@ fn painted_rectangles(rt: HostRuntime) -> Result<(), Fail> {
         (b"paint 0 0 2 2 00000a", [0, 0, 2, 2], &[10, 10, 10, 10]),
         (b"paint 0 0 0 2 00000a", [0, 0, 0, 2], &[]),
         (b"paint 0 0 2 2 -", [0, 0, 2, 2], &[]),
-        (b"paint 2147483646 2147483646 1 1 -", [all - 1, all - 1, all, all], &[]),
-        (b"paint 2147483647 0 0 2147483647 -", [all, 0, all, all], &[]),
+        (
+            b"paint 2147483646 2147483646 1 1 -",
+            [all - 1, all - 1, all, all],
+            &[],
+        ),
+        (
+            b"paint 2147483647 0 0 2147483647 -",
+            [all, 0, all, all],
+            &[],
+        ),
     ];
     for (line, [x1, y1, x2, y2], want) in rows {
         let Line::Do(Event::Paint { rect, colours }) = parse_line(rt.alloc(), line)? else {
@@ -124,9 +132,22 @@ fn viewers(rt: HostRuntime) -> Result<(), Fail> {
     let alloc = rt.alloc();
     let largest = parse_line(alloc, b"connect 0000000018446744073709551615")?;
     assert!(rt; matches!(largest, Line::Do(Event::Connect { viewer: u64::MAX })));
-    assert!(rt; matches!(parse_line(alloc, b"cut 007")?, Line::Do(Event::Cut { viewer: 7 })));
-    assert!(rt; matches!(parse_line(alloc, b"close 0")?, Line::Do(Event::Close { viewer: 0 })));
-    let rows: [(&[u8], u64, &[u8]); 2] = [(b"hear 1 00fFA1", 1, &[0, 255, 161]), (b"hear 9 -", 9, &[])];
+    assert!(rt;
+        matches!(
+            parse_line(alloc, b"cut 007")?,
+            Line::Do(Event::Cut { viewer: 7 })
+        )
+    );
+    assert!(rt;
+        matches!(
+            parse_line(alloc, b"close 0")?,
+            Line::Do(Event::Close { viewer: 0 })
+        )
+    );
+    let rows: [(&[u8], u64, &[u8]); 2] = [
+        (b"hear 1 00fFA1", 1, &[0, 255, 161]),
+        (b"hear 9 -", 9, &[]),
+    ];
     for (line, number, bytes) in rows {
         let Line::Do(Event::Hear { viewer, piece }) = parse_line(alloc, line)? else {
             return Err("nothing heard".into());
@@ -149,7 +170,10 @@ fn lines_of_a_script(rt: HostRuntime) {
         let cut = cut_line(text);
         assert!(rt; cut.0 == line, "{text:?}");
         assert_eq!(rt; cut.1.is_some(), rest.is_some(), "{text:?}");
-        assert!(rt; cut.1.unwrap_or(b"none") == rest.unwrap_or(b"none"), "{text:?}");
+        assert!(rt;
+            cut.1.unwrap_or(b"none") == rest.unwrap_or(b"none"),
+            "{text:?}"
+        );
     }
 }
 
@@ -170,7 +194,9 @@ fn answers_with_bytes(rt: HostRuntime) -> Result<(), Fail> {
     let want: &[u8] = b"connect 18446744073709551615 52460aff\n";
     assert!(rt; answer_text(alloc, &connect, &given)?.as_slice() == want);
     let cut = Event::Cut { viewer: 7 };
-    assert!(rt; answer_text(alloc, &cut, &answer(alloc, &[])?)?.as_slice() == b"cut 7 -\n".as_slice());
+    assert!(rt;
+        answer_text(alloc, &cut, &answer(alloc, &[])?)?.as_slice() == b"cut 7 -\n".as_slice()
+    );
     let close = Event::Close { viewer: 7 };
     assert!(rt; answer_text(alloc, &close, &answer(alloc, &[])?)?.as_slice() == b"ok\n".as_slice());
     Ok(())
@@ -184,7 +210,11 @@ fn answers_to_what_was_heard(rt: HostRuntime) -> Result<(), Fail> {
         down: true,
         key: 0xff0d,
     })?;
-    given.inputs.push(Input::Pointer { mask: 1, x: 2, y: 1 })?;
+    given.inputs.push(Input::Pointer {
+        mask: 1,
+        x: 2,
+        y: 1,
+    })?;
     given.inputs.push(Input::Text {
         text: Listed::from_vec(b"hi".to_vec(alloc)?),
         shortened: false,
@@ -194,7 +224,8 @@ fn answers_to_what_was_heard(rt: HostRuntime) -> Result<(), Fail> {
         viewer: 1,
         piece: Listed::new(alloc),
     };
-    let want: &[u8] = b"hear 1 -\nkey 1 1 0000ff0d\npointer 1 01 2 1\ntext 1 0 6869\nclosed 1 3 UnknownMessage 7\n";
+    let want: &[u8] =
+        b"hear 1 -\nkey 1 1 0000ff0d\npointer 1 01 2 1\ntext 1 0 6869\nclosed 1 3 UnknownMessage 7\n";
     assert!(rt; answer_text(alloc, &hear, &given)?.as_slice() == want);
     Ok(())
 }
@@ -208,14 +239,26 @@ fn faults(rt: HostRuntime) -> Result<(), Fail> {
     };
     let rows: [(Fault, &[u8]); 4] = [
         (Fault::BadVersion, b"hear 2 -\nclosed 2 1 BadVersion\n"),
-        (Fault::BadSecurityType, b"hear 2 -\nclosed 2 2 BadSecurityType\n"),
-        (Fault::BadBitsPerPixel, b"hear 2 -\nclosed 2 4 BadBitsPerPixel\n"),
-        (Fault::ColourMapUnsupported, b"hear 2 -\nclosed 2 5 ColourMapUnsupported\n"),
+        (
+            Fault::BadSecurityType,
+            b"hear 2 -\nclosed 2 2 BadSecurityType\n",
+        ),
+        (
+            Fault::BadBitsPerPixel,
+            b"hear 2 -\nclosed 2 4 BadBitsPerPixel\n",
+        ),
+        (
+            Fault::ColourMapUnsupported,
+            b"hear 2 -\nclosed 2 5 ColourMapUnsupported\n",
+        ),
     ];
     for (fault, want) in rows {
         let mut given = answer(alloc, &[])?;
         given.closed = Some(fault);
-        assert!(rt; answer_text(alloc, &hear, &given)?.as_slice() == want, "{fault:?}");
+        assert!(rt;
+            answer_text(alloc, &hear, &given)?.as_slice() == want,
+            "{fault:?}"
+        );
     }
     Ok(())
 }
@@ -237,8 +280,14 @@ fn refusals(rt: HostRuntime) -> Result<(), Fail> {
         let mut given = answer(alloc, &[1])?;
         given.refused = Some(refusal);
         let cut = Event::Cut { viewer: 2 };
-        assert!(rt; answer_text(alloc, &cut, &given)?.as_slice() == want, "{refusal:?}");
-        assert!(rt; refusal_text(alloc, refusal)?.as_slice() == want, "{refusal:?}");
+        assert!(rt;
+            answer_text(alloc, &cut, &given)?.as_slice() == want,
+            "{refusal:?}"
+        );
+        assert!(rt;
+            refusal_text(alloc, refusal)?.as_slice() == want,
+            "{refusal:?}"
+        );
     }
     assert!(rt; ok_text(alloc)?.as_slice() == b"ok\n".as_slice());
     assert!(rt; bad_line_text(alloc, 16777217)?.as_slice() == b"bad line 16777217\n".as_slice());

@@ -11,7 +11,11 @@ fn hex_digit(value: u8) -> u8
     requires { value < 16 }
     ensures { result ≡ hex_digit value }
 {
-    if value < 10 { b'0' + value } else { b'a' - 10 + value }
+    if value < 10 {
+        b'0' + value
+    } else {
+        b'a' - 10 + value
+    }
 }
 
 fn put_hex(out: &mut Vec<u8>, bytes: &[u8]) -> Result<(), AllocError>
@@ -42,12 +46,7 @@ fn put_number(alloc: Global, out: &mut Vec<u8>, number: u64) -> Result<(), Alloc
 }
 
 // The head of a line: its name, which ends with a blank, the viewer's number and a blank.
-fn put_head(
-    alloc: Global,
-    out: &mut Vec<u8>,
-    name: &[u8],
-    viewer: u64,
-) -> Result<(), AllocError>
+fn put_head(alloc: Global, out: &mut Vec<u8>, name: &[u8], viewer: u64) -> Result<(), AllocError>
     ensures { OnOk result (out.new.items ≡ out.old.items ++ (name.now ++ decimal viewer ++ codes " ")) }
 {
     out.extend_from_slice(name)?;
@@ -176,12 +175,7 @@ fn put_text(
     out.extend_from_slice(b"\n")
 }
 
-fn put_input(
-    alloc: Global,
-    out: &mut Vec<u8>,
-    viewer: u64,
-    input: &Input,
-) -> Result<(), AllocError>
+fn put_input(alloc: Global, out: &mut Vec<u8>, viewer: u64, input: &Input) -> Result<(), AllocError>
     ensures { OnOk result (out.new.items ≡ out.old.items ++ input_line viewer input.now) }
 {
     match input {

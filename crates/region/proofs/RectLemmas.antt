@@ -123,3 +123,11 @@ length-rects_of w h test =
     few : (is js : List Interval) → length is ≤ w → unless_empty is ≡ Some js → length js ≤ w
     few [] js h e = cc
     few (i ∷ is) js h e = let same : i ∷ is ≡ js = cc in subst (λ l. length l ≤ w) same h
+
+-- no place, no rectangle
+runs_of-none : {V : Type 0} (same : V → V → Bool) (n : ℤ) (count : ℕ) → runs_of same (λ _. None) n count ≡ []
+runs_of-none same n zero = refl
+runs_of-none same n (suc count) = runs_of-none same (n +ℤ pos 1) count
+
+pub rects_of-none : (w h : ℕ) → rects_of w h (λ _ _. false) ≡ []
+rects_of-none w h = ap (λ is. rects_of_bands (runs_of same_intervals (λ _. unless_empty is) (pos 0) h)) (runs_of-none (λ _ _. true) (pos 0) w) ∙ ap rects_of_bands (runs_of-none same_intervals (pos 0) h)

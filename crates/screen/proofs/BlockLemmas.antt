@@ -55,21 +55,21 @@ pub one_row : (w : ℕ) (b : Block) (colours old now row : List ℕ) (i k : ℕ)
 one_row w b colours old now row i k wide columns long inside each done y x right =
     by_lt y (b.top + i)
     (λ above. let up : (y + 1) * w ≤ (b.top + i) * w = mul-le-mul_right w (omega arith) in
-      stays (λ e. absurd (omega arith)) (put-below start k (y * w + x) now row 0 (omega (arith, up)) (omega arith)))
+    stays (λ e. absurd (omega arith)) (put-below start k (y * w + x) now row 0 (omega (arith, up)) (omega arith)))
     (λ not_above. by_lt (b.top + i) y
-      (λ below. let up : (b.top + i + 1) * w ≤ y * w = mul-le-mul_right w (omega arith) in
-        stays (λ e. absurd (omega arith)) (put-above start k (y * w + x) now row 0 long (omega (arith, up)) inside))
-      (λ not_below. let e : y ≡ b.top + i = omega arith in
-        by_lt x b.left
-        (λ before. stays (λ _. inl before) (put-below start k (y * w + x) now row 0 (rw e (omega arith)) (omega arith)))
-        (λ from. by_lt x (b.left + b.columns)
-          (λ within. rw e (
-            put-in start k ((b.top + i) * w + x) now row 0 (omega arith) (omega arith) (omega arith)
-            ∙ ap (λ n. get_or row n 0) (let d : (b.top + i) * w + x - start ≡ x - b.left = omega arith in d)
-            ∙ each (x - b.left) (omega arith)
-            ∙ ap (λ n. get_or colours (n * b.columns + (x - b.left)) 0 % 2 ^ 24) (let d : i ≡ b.top + i - b.top = omega arith in d)
-            ∙ sym (ap (λ t. cond t (get_or colours ((b.top + i - b.top) * b.columns + (x - b.left)) 0 % 2 ^ 24) (get_or old ((b.top + i) * w + x) 0)) (hit_test b i x from within))))
-          (λ past. stays (λ _. inr past) (put-above start k (y * w + x) now row 0 long (rw e (omega arith)) inside)))))
+    (λ below. let up : (b.top + i + 1) * w ≤ y * w = mul-le-mul_right w (omega arith) in
+    stays (λ e. absurd (omega arith)) (put-above start k (y * w + x) now row 0 long (omega (arith, up)) inside))
+    (λ not_below. let e : y ≡ b.top + i = omega arith in
+    by_lt x b.left
+    (λ before. stays (λ _. inl before) (put-below start k (y * w + x) now row 0 (rw e (omega arith)) (omega arith)))
+    (λ from. by_lt x (b.left + b.columns)
+    (λ within. rw e (
+    put-in start k ((b.top + i) * w + x) now row 0 (omega arith) (omega arith) (omega arith)
+    ∙ ap (λ n. get_or row n 0) (let d : (b.top + i) * w + x - start ≡ x - b.left = omega arith in d)
+    ∙ each (x - b.left) (omega arith)
+    ∙ ap (λ n. get_or colours (n * b.columns + (x - b.left)) 0 % 2 ^ 24) (let d : i ≡ b.top + i - b.top = omega arith in d)
+    ∙ sym (ap (λ t. cond t (get_or colours ((b.top + i - b.top) * b.columns + (x - b.left)) 0 % 2 ^ 24) (get_or old ((b.top + i) * w + x) 0)) (hit_test b i x from within))))
+    (λ past. stays (λ _. inr past) (put-above start k (y * w + x) now row 0 long (rw e (omega arith)) inside)))))
   where
     start : ℕ
     start = (b.top + i) * w + b.left
@@ -93,8 +93,8 @@ one_row_read w b picture row i long each =
     fill_by_all f (map f (range_with_len 0 (i * b.columns)) ++ row) ((i + 1) * b.columns) 0
     (omega (arith, length-append (map f (range_with_len 0 (i * b.columns))) row, before))
     (λ k below. by_lt k (i * b.columns)
-      (λ less. get_or_append_left (map f (range_with_len 0 (i * b.columns))) row 0 k (omega (arith, before)) ∙ get_or-map-range_with_len f 0 (i * b.columns) k k 0 less (omega arith))
-      (λ not_less. get_or-append_right (map f (range_with_len 0 (i * b.columns))) row (i * b.columns) k 0 before not_less ∙ last (k - i * b.columns) k (omega arith) (omega arith)))
+    (λ less. get_or_append_left (map f (range_with_len 0 (i * b.columns))) row 0 k (omega (arith, before)) ∙ get_or-map-range_with_len f 0 (i * b.columns) k k 0 less (omega arith))
+    (λ not_less. get_or-append_right (map f (range_with_len 0 (i * b.columns))) row (i * b.columns) k 0 before not_less ∙ last (k - i * b.columns) k (omega arith) (omega arith)))
   where
     f : ℕ → ℕ
     f k = get_or picture ((b.top + k / b.columns) * w + (b.left + k % b.columns)) 0
@@ -104,6 +104,6 @@ one_row_read w b picture row i long each =
 
     last : (j k : ℕ) → j < b.columns → k ≡ i * b.columns + j → get_or row j 0 ≡ f k
     last j k below e = rw e (each j below
-      ∙ ap (λ n. get_or picture n 0) (let d : (b.top + i) * w + b.left + j ≡ (b.top + i) * w + (b.left + j) = omega arith in d)
-      ∙ sym (ap (λ q. get_or picture ((b.top + q) * w + (b.left + (i * b.columns + j) % b.columns)) 0) (div-mul-add i b.columns j below)
-      ∙ ap (λ r. get_or picture ((b.top + i) * w + (b.left + r)) 0) (mod-mul-add i b.columns j below)))
+        ∙ ap (λ n. get_or picture n 0) (let d : (b.top + i) * w + b.left + j ≡ (b.top + i) * w + (b.left + j) = omega arith in d)
+        ∙ sym (ap (λ q. get_or picture ((b.top + q) * w + (b.left + (i * b.columns + j) % b.columns)) 0) (div-mul-add i b.columns j below)
+        ∙ ap (λ r. get_or picture ((b.top + i) * w + (b.left + r)) 0) (mod-mul-add i b.columns j below)))

@@ -50,8 +50,8 @@ seated c es p seats v i old h place is =
       there = subst (λ (n : ℕ). viewer_of c n es ≡ Some stands.was) number stands.there;
       as_kept = stands.as_kept;
       set_there = λ new same_number.
-      seat-set c es seats i old new viewers place.inside (same_number ∙ ap (λ (s : Seat). s.number) is)
-      ∙ ap (λ n. map (replaced n (viewer_in new)) (state c es).viewers) (place.numbered old);
+          seat-set c es seats i old new viewers place.inside (same_number ∙ ap (λ (s : Seat). s.number) is)
+          ∙ ap (λ n. map (replaced n (viewer_in new)) (state c es).viewers) (place.numbered old);
     }
 
 pub none_seated : (c : Config) (es : List Event) (p : List ℕ) (seats : List Seat) (v : ℕ) → seen c p seats ≡ state c es → list_any (λ s. s.number == v) seats ≡ false → viewer_of c v es ≡ None

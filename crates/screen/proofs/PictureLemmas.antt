@@ -33,11 +33,11 @@ inside b x y h = (grind (arith, nat_tests), grind (arith, nat_tests))
 pub written_is : (w h : ℕ) (b : Block) (colours old now : List ℕ) → 0 < w → length old ≡ w * h → length now ≡ length old → IsWritten w b colours old now → now ≡ written w h (rect_of b) colours old
 written_is w h b colours old now some size same done =
     fill_by_all f now (w * h) 0 (same ∙ size) (λ k below.
-      let left : k % w < w = mod-lt k some in
-      let top : k / w < h = (div-lt_iff_lt-mul {k = w} {x = k} {y = h} some).1 (let e = mul_comm w h in omega (arith, e)) in
-      ap (λ n. get_or now n 0) (let e = mod-add-div k w in omega (arith, e))
-      ∙ done (k / w) (k % w) left
-      ∙ sym (by_test (k % w) (k / w) left top (is_in_block b (k / w) (k % w)) refl))
+    let left : k % w < w = mod-lt k some in
+    let top : k / w < h = (div-lt_iff_lt-mul {k = w} {x = k} {y = h} some).1 (let e = mul_comm w h in omega (arith, e)) in
+    ap (λ n. get_or now n 0) (let e = mod-add-div k w in omega (arith, e))
+    ∙ done (k / w) (k % w) left
+    ∙ sym (by_test (k % w) (k / w) left top (is_in_block b (k / w) (k % w)) refl))
   where
     f : ℕ → ℕ
     f i = cond (in_rect (rect_of b) (pos (i % w)) (pos (i / w))) (colour_in (rect_of b) colours (pos (i % w)) (pos (i / w)) % 2 ^ 24) (colour_at w h old (pos (i % w)) (pos (i / w)))
@@ -68,7 +68,7 @@ colours_are w h b picture wide high =
     fill_by_all (λ k. at (pos (k % b.columns)) (pos (k / b.columns))) (block_colours w b picture) (b.columns * b.rows) 0
     (length-map-range_with_len colour 0 (b.rows * b.columns) ∙ mul_comm b.rows b.columns)
     (λ k below. let fits : k < b.rows * b.columns = (let e = mul_comm b.rows b.columns in omega (arith, e)) in
-      get_or-map-range_with_len colour 0 (b.rows * b.columns) k k 0 fits (omega arith) ∙ each k fits)
+    get_or-map-range_with_len colour 0 (b.rows * b.columns) k k 0 fits (omega arith) ∙ each k fits)
     ∙ sym (ap (λ c. by_place c (nat_abs (pos (b.top + b.rows) -ℤ pos b.top)) at) width ∙ ap (λ r. by_place b.columns r at) height)
   where
     colour : ℕ → ℕ

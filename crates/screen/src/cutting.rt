@@ -1,7 +1,7 @@
 //! What an update copies out of the screen: the rectangles that the marks chose, with their colours.
 
 ghost use Rattle.std.specs.Prelude.{◌≡◌, ◌<◌, ◌≤◌, ◌+◌, ◌*◌, ◌^◌, All, length, map, flat_map, IfOk, pos, ◌≤ℤ◌, ◌<ℤ◌, ◌-ℤ◌, nat_abs, [], ◌≢◌, IfSome, OnOk, OnErr};
-ghost use Rattle.copy_schedule.specs.Marks.{IsOnScreen, IsInside, source_rect};
+ghost use Rattle.copy_schedule.specs.Marks.{IsOnScreen, IsInside, HasSourcesInside, source_rect};
 ghost use Rattle.pixel_translate.specs.declared.PixelFormat.{PixelFormat};
 ghost use Rattle.screen.specs.Sending.{area_of, colours_of, copy_bytes, pixel_rectangle, bytes_of, sending_kept};
 ghost use Rattle.screen.specs.Entries.{viewer_in};
@@ -10,8 +10,8 @@ ghost use Rattle.screen.specs.Blocks.{rect_of, FitsIn};
 ghost use Rattle.screen.specs.Updates.{moved_bytes, coloured_bytes};
 ghost use Rattle.screen.specs.Given.{bytes_given, planned_sent};
 
-use crate::parts::{Coloured, Moved};
 use crate::Config;
+use crate::parts::{Coloured, Moved};
 use crate::picture::{Block, block_within, read_block};
 use crate::place::{Planned, Seat};
 use crate::update::Update;
@@ -122,6 +122,7 @@ pub fn update_of(
     requires width { config.now.width ≤ 8192 }
     requires height { config.now.height ≤ 8192 }
     requires inside { IsInside config.now.width config.now.height cut.now }
+    requires sources { HasSourcesInside config.now.width config.now.height cut.now }
     requires count { length cut.now.copies + length cut.now.pixels < 2 ^ 16 }
     ensures { IfOk result (λ update. update ≡ bytes_of config.now.width config.now.height picture.now format cut.now.copies cut.now.offset cut.now.pixels) }
 {

@@ -10,14 +10,13 @@ mod screen;
 mod seat;
 mod update;
 
-pub use runs::{run, viewers_are_alone};
-pub use screen::Screen;
-pub use update::Update;
-
 use listed::Listed;
 use messages::{Fault, Input};
 use region::Rect;
+pub use runs::{run, viewers_are_alone};
+pub use screen::Screen;
 use std::alloc::{AllocError, AllocFailed};
+pub use update::Update;
 
 /// What a screen is made with.
 #[derive(Debug, Drop)]
@@ -102,3 +101,6 @@ pub struct Answer {
     /// Why nothing happened.
     pub refused: Option<ScreenError>,
 }
+
+#[cfg(test)]
+mod tests;

@@ -73,13 +73,7 @@ fn write_block(picture: &mut [u32], width: usize, block: Block, colours: &[u32])
 }
 
 /// Replaces the colours of a block of a screen's picture.
-pub fn replace(
-    picture: &mut Vec<u32>,
-    width: u32,
-    height: u32,
-    block: Block,
-    colours: &[u32],
-)
+pub fn replace(picture: &mut Vec<u32>, width: u32, height: u32, block: Block, colours: &[u32])
     requires some { 0 < width }
     requires size { length picture.old.items ≡ width * height }
     requires wide { block.left + block.columns ≤ width }

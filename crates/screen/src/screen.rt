@@ -8,9 +8,9 @@ ghost use Rattle.screen.specs.Blocks.{IsChecked};
 ghost use Rattle.screen.specs.Given.{bytes_given};
 ghost use Rattle.screen.specs.Answers.{state, answer_to};
 
+use crate::cutting::{cut_bytes_in, cut_in};
 use crate::picture::{Block, block_of, replace};
 use crate::place::Seat;
-use crate::cutting::{cut_bytes_in, cut_in};
 use crate::seat::{has_seat, hear_in, mark_all, place_of, remove, seat_viewer};
 use crate::update::Update;
 use crate::{Answer, Config, Event, ScreenError};
@@ -31,8 +31,8 @@ pub struct Screen {
 impl Model for Screen {
     ghost use Rattle.std.specs.Prelude.{map};
     ghost use Rattle.screen.specs.Blocks.{IsChecked};
-ghost use Rattle.screen.specs.Given.{bytes_given};
-ghost use Rattle.screen.specs.Answers.{State};
+    ghost use Rattle.screen.specs.Given.{bytes_given};
+    ghost use Rattle.screen.specs.Answers.{State};
 
     ghost Value = { State };
 
@@ -267,10 +267,7 @@ impl Screen {
 }
 
 /// Bytes for the viewer, and nothing else.
-fn with_bytes(
-    alloc: Global,
-    given: Result<Listed<u8>, ScreenError>,
-) -> Result<Answer, ScreenError>
+fn with_bytes(alloc: Global, given: Result<Listed<u8>, ScreenError>) -> Result<Answer, ScreenError>
     ensures { MatchResult given (λ bytes. result ≡ Ok (gives bytes)) (λ e. result ≡ Err e) }
 {
     let bytes = given?;

@@ -12,11 +12,13 @@ ghost use Rattle.screen.specs.Held.{IsSized};
 ghost use Rattle.screen.specs.Entries.{entry, viewer_in, seat_marked, IsPlaceOf};
 ghost use Rattle.std.specs.List.{list_any};
 
-use crate::{Answer, Config};
 use crate::place::Seat;
+use crate::{Answer, Config};
 use copy_schedule::Marks;
 use listed::Listed;
-use messages::{Ear, Input, Item, Phase, Version, put_result, put_security, put_server_init, put_version};
+use messages::{
+    Ear, Input, Item, Phase, Version, put_result, put_security, put_server_init, put_version,
+};
 use pixel_translate::{Area, PixelFormat};
 use region::Rect;
 use std::alloc::{AllocError, Global};

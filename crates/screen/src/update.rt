@@ -69,7 +69,9 @@ fn put_rectangles(
 fn size_of(rectangles: &[Coloured]) -> usize {
     let mut size = 0usize;
     for rectangle in rectangles {
-        size = size.saturating_add(12).saturating_add(rectangle.colours.len().saturating_mul(4));
+        size = size
+            .saturating_add(12)
+            .saturating_add(rectangle.colours.len().saturating_mul(4));
     }
     size
 }

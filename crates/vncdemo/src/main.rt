@@ -5,12 +5,11 @@ ghost use Rattle.std.specs.Prelude.{◌≡◌};
 
 use clap::error::ErrorKind;
 use demo_app::{Chosen, Steps, line_of, play_over};
-use std::env;
-use std::io;
 use std::io::BufWriter;
 use std::marker::Brand;
 use std::process::ExitCode;
 use std::sync::ledger::{Blank, Ledger};
+use std::{env, io};
 
 fn out_of_memory(rt: &HostRuntime) -> ExitCode {
     match println!(rt; "out of memory") {

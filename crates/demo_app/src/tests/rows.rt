@@ -9,9 +9,15 @@ fn a_request_is_answered_once(rt: HostRuntime) -> Result<(), Fail> {
     let rows = [
         ("screen 4 3 demo", "ok\n"),
         ("connect 1", "connect 1 524642203030332e3030380a\n"),
-        ("hear 1 524642203030332e3030380a0101", "hear 1 010100000000000400032018000100ff00ff00ff1008000000000000000464656d6f\n"),
+        (
+            "hear 1 524642203030332e3030380a0101",
+            "hear 1 010100000000000400032018000100ff00ff00ff1008000000000000000464656d6f\n",
+        ),
         ("hear 1 03000000000000040003", "hear 1 -\n"),
-        ("cut 1", "cut 1 00000001000000000004000300000000000000000000000000000000000000000000000000000000000000000000000000000000000000000000000000000000\n"),
+        (
+            "cut 1",
+            "cut 1 00000001000000000004000300000000000000000000000000000000000000000000000000000000000000000000000000000000000000000000000000000000\n",
+        ),
         ("hear 1 03010000000000040003", "hear 1 -\n"),
         ("cut 1", "cut 1 -\n"),
         ("paint 2 1 1 1 ff8000", "ok\n"),
@@ -40,7 +46,10 @@ fn an_opening_in_single_bytes(rt: HostRuntime) -> Result<(), Fail> {
         ("hear 1 38", "hear 1 -\n"),
         ("hear 1 0a", "hear 1 0101\n"),
         ("hear 1 01", "hear 1 00000000\n"),
-        ("hear 1 01", "hear 1 000400032018000100ff00ff00ff1008000000000000000464656d6f\n"),
+        (
+            "hear 1 01",
+            "hear 1 000400032018000100ff00ff00ff1008000000000000000464656d6f\n",
+        ),
     ];
     shows(&rt, rt.alloc(), &rows, 0)
 }
@@ -52,7 +61,10 @@ fn another_version_is_served_as_3_3(rt: HostRuntime) -> Result<(), Fail> {
         ("screen 4 3 demo", "ok\n"),
         ("connect 1", "connect 1 524642203030332e3030380a\n"),
         ("hear 1 524642203030332e3030350a", "hear 1 00000001\n"),
-        ("hear 1 01", "hear 1 000400032018000100ff00ff00ff1008000000000000000464656d6f\n"),
+        (
+            "hear 1 01",
+            "hear 1 000400032018000100ff00ff00ff1008000000000000000464656d6f\n",
+        ),
     ];
     shows(&rt, rt.alloc(), &rows, 0)
 }
@@ -63,7 +75,10 @@ fn version_3_7_has_no_result(rt: HostRuntime) -> Result<(), Fail> {
     let rows = [
         ("screen 4 3 demo", "ok\n"),
         ("connect 1", "connect 1 524642203030332e3030380a\n"),
-        ("hear 1 524642203030332e3030370a0101", "hear 1 0101000400032018000100ff00ff00ff1008000000000000000464656d6f\n"),
+        (
+            "hear 1 524642203030332e3030370a0101",
+            "hear 1 0101000400032018000100ff00ff00ff1008000000000000000464656d6f\n",
+        ),
     ];
     shows(&rt, rt.alloc(), &rows, 0)
 }
@@ -74,7 +89,10 @@ fn requests_are_cut_to_the_screen(rt: HostRuntime) -> Result<(), Fail> {
     let rows = [
         ("screen 4 3 demo", "ok\n"),
         ("connect 1", "connect 1 524642203030332e3030380a\n"),
-        ("hear 1 524642203030332e3030380a0101", "hear 1 010100000000000400032018000100ff00ff00ff1008000000000000000464656d6f\n"),
+        (
+            "hear 1 524642203030332e3030380a0101",
+            "hear 1 010100000000000400032018000100ff00ff00ff1008000000000000000464656d6f\n",
+        ),
         ("hear 1 03000004000000010001", "hear 1 -\n"),
         ("cut 1", "cut 1 -\n"),
         ("hear 1 030100030002000a000a", "hear 1 -\n"),
@@ -89,18 +107,30 @@ fn no_more_rectangles_than_the_limit(rt: HostRuntime) -> Result<(), Fail> {
     let rows = [
         ("screen 9 1 demo 2", "ok\n"),
         ("connect 1", "connect 1 524642203030332e3030380a\n"),
-        ("hear 1 524642203030332e3030380a0101", "hear 1 010100000000000900012018000100ff00ff00ff1008000000000000000464656d6f\n"),
+        (
+            "hear 1 524642203030332e3030380a0101",
+            "hear 1 010100000000000900012018000100ff00ff00ff1008000000000000000464656d6f\n",
+        ),
         ("hear 1 03000000000000090001", "hear 1 -\n"),
-        ("cut 1", "cut 1 00000001000000000009000100000000000000000000000000000000000000000000000000000000000000000000000000000000\n"),
+        (
+            "cut 1",
+            "cut 1 00000001000000000009000100000000000000000000000000000000000000000000000000000000000000000000000000000000\n",
+        ),
         ("paint 0 0 1 1 00000a", "ok\n"),
         ("paint 2 0 1 1 00000a", "ok\n"),
         ("paint 4 0 1 1 00000a", "ok\n"),
         ("paint 6 0 1 1 00000a", "ok\n"),
         ("paint 8 0 1 1 00000a", "ok\n"),
         ("hear 1 03010000000000090001", "hear 1 -\n"),
-        ("cut 1", "cut 1 000000020000000000010001000000000a0000000002000000010001000000000a000000\n"),
+        (
+            "cut 1",
+            "cut 1 000000020000000000010001000000000a0000000002000000010001000000000a000000\n",
+        ),
         ("hear 1 03010000000000090001", "hear 1 -\n"),
-        ("cut 1", "cut 1 000000020004000000010001000000000a0000000006000000010001000000000a000000\n"),
+        (
+            "cut 1",
+            "cut 1 000000020004000000010001000000000a0000000006000000010001000000000a000000\n",
+        ),
         ("hear 1 03010000000000090001", "hear 1 -\n"),
         ("cut 1", "cut 1 000000010008000000010001000000000a000000\n"),
         ("hear 1 03010000000000090001", "hear 1 -\n"),
@@ -115,14 +145,23 @@ fn a_fault_is_one_viewers_own(rt: HostRuntime) -> Result<(), Fail> {
     let rows = [
         ("screen 4 3 demo", "ok\n"),
         ("connect 1", "connect 1 524642203030332e3030380a\n"),
-        ("hear 1 524642203030332e3030380a0101", "hear 1 010100000000000400032018000100ff00ff00ff1008000000000000000464656d6f\n"),
+        (
+            "hear 1 524642203030332e3030380a0101",
+            "hear 1 010100000000000400032018000100ff00ff00ff1008000000000000000464656d6f\n",
+        ),
         ("connect 2", "connect 2 524642203030332e3030380a\n"),
-        ("hear 2 524642203030332e3030380a0101", "hear 2 010100000000000400032018000100ff00ff00ff1008000000000000000464656d6f\n"),
+        (
+            "hear 2 524642203030332e3030380a0101",
+            "hear 2 010100000000000400032018000100ff00ff00ff1008000000000000000464656d6f\n",
+        ),
         ("hear 1 07", "hear 1 -\nclosed 1 3 UnknownMessage 7\n"),
         ("hear 1 00", "hear 1 -\nclosed 1 3 UnknownMessage 7\n"),
         ("cut 1", "cut 1 -\n"),
         ("hear 2 03000000000000040003", "hear 2 -\n"),
-        ("cut 2", "cut 2 00000001000000000004000300000000000000000000000000000000000000000000000000000000000000000000000000000000000000000000000000000000\n"),
+        (
+            "cut 2",
+            "cut 2 00000001000000000004000300000000000000000000000000000000000000000000000000000000000000000000000000000000000000000000000000000000\n",
+        ),
     ];
     shows(&rt, rt.alloc(), &rows, 0)
 }
@@ -133,9 +172,15 @@ fn faults_of_an_opening(rt: HostRuntime) -> Result<(), Fail> {
     let rows = [
         ("screen 4 3 demo", "ok\n"),
         ("connect 1", "connect 1 524642203030332e3030380a\n"),
-        ("hear 1 68656c6c6f20776f726c640a", "hear 1 -\nclosed 1 1 BadVersion\n"),
+        (
+            "hear 1 68656c6c6f20776f726c640a",
+            "hear 1 -\nclosed 1 1 BadVersion\n",
+        ),
         ("connect 2", "connect 2 524642203030332e3030380a\n"),
-        ("hear 2 524642203030332e3030380a02", "hear 2 0101\nclosed 2 2 BadSecurityType\n"),
+        (
+            "hear 2 524642203030332e3030380a02",
+            "hear 2 0101\nclosed 2 2 BadSecurityType\n",
+        ),
         ("hear 1 -", "hear 1 -\nclosed 1 1 BadVersion\n"),
     ];
     shows(&rt, rt.alloc(), &rows, 0)
@@ -147,14 +192,32 @@ fn faults_of_a_pixel_format(rt: HostRuntime) -> Result<(), Fail> {
     let rows = [
         ("screen 4 3 demo", "ok\n"),
         ("connect 1", "connect 1 524642203030332e3030380a\n"),
-        ("hear 1 524642203030332e3030380a0101", "hear 1 010100000000000400032018000100ff00ff00ff1008000000000000000464656d6f\n"),
+        (
+            "hear 1 524642203030332e3030380a0101",
+            "hear 1 010100000000000400032018000100ff00ff00ff1008000000000000000464656d6f\n",
+        ),
         ("connect 2", "connect 2 524642203030332e3030380a\n"),
-        ("hear 2 524642203030332e3030380a0101", "hear 2 010100000000000400032018000100ff00ff00ff1008000000000000000464656d6f\n"),
+        (
+            "hear 2 524642203030332e3030380a0101",
+            "hear 2 010100000000000400032018000100ff00ff00ff1008000000000000000464656d6f\n",
+        ),
         ("connect 3", "connect 3 524642203030332e3030380a\n"),
-        ("hear 3 524642203030332e3030380a0101", "hear 3 010100000000000400032018000100ff00ff00ff1008000000000000000464656d6f\n"),
-        ("hear 1 000000001818000100ff00ff00ff100800000000", "hear 1 -\nclosed 1 4 BadBitsPerPixel\n"),
-        ("hear 2 000000000818000000ff00ff00ff100800000000", "hear 2 -\nclosed 2 5 ColourMapUnsupported\n"),
-        ("hear 3 000000001818000000ff00ff00ff100800000000", "hear 3 -\nclosed 3 4 BadBitsPerPixel\n"),
+        (
+            "hear 3 524642203030332e3030380a0101",
+            "hear 3 010100000000000400032018000100ff00ff00ff1008000000000000000464656d6f\n",
+        ),
+        (
+            "hear 1 000000001818000100ff00ff00ff100800000000",
+            "hear 1 -\nclosed 1 4 BadBitsPerPixel\n",
+        ),
+        (
+            "hear 2 000000000818000000ff00ff00ff100800000000",
+            "hear 2 -\nclosed 2 5 ColourMapUnsupported\n",
+        ),
+        (
+            "hear 3 000000001818000000ff00ff00ff100800000000",
+            "hear 3 -\nclosed 3 4 BadBitsPerPixel\n",
+        ),
     ];
     shows(&rt, rt.alloc(), &rows, 0)
 }
@@ -165,10 +228,19 @@ fn pixels_in_the_viewers_format(rt: HostRuntime) -> Result<(), Fail> {
     let rows = [
         ("screen 4 3 demo", "ok\n"),
         ("connect 1", "connect 1 524642203030332e3030380a\n"),
-        ("hear 1 524642203030332e3030380a0101", "hear 1 010100000000000400032018000100ff00ff00ff1008000000000000000464656d6f\n"),
+        (
+            "hear 1 524642203030332e3030380a0101",
+            "hear 1 010100000000000400032018000100ff00ff00ff1008000000000000000464656d6f\n",
+        ),
         ("hear 1 03000000000000040003", "hear 1 -\n"),
-        ("cut 1", "cut 1 00000001000000000004000300000000000000000000000000000000000000000000000000000000000000000000000000000000000000000000000000000000\n"),
-        ("hear 1 0000000010100001001f003f001f0b0500000000", "hear 1 -\n"),
+        (
+            "cut 1",
+            "cut 1 00000001000000000004000300000000000000000000000000000000000000000000000000000000000000000000000000000000000000000000000000000000\n",
+        ),
+        (
+            "hear 1 0000000010100001001f003f001f0b0500000000",
+            "hear 1 -\n",
+        ),
         ("paint 0 0 1 1 ff8000", "ok\n"),
         ("hear 1 03010000000000040003", "hear 1 -\n"),
         ("cut 1", "cut 1 0000000100000000000100010000000000fc\n"),
@@ -182,8 +254,14 @@ fn inputs_are_printed(rt: HostRuntime) -> Result<(), Fail> {
     let rows = [
         ("screen 4 3 demo", "ok\n"),
         ("connect 1", "connect 1 524642203030332e3030380a\n"),
-        ("hear 1 524642203030332e3030380a0101", "hear 1 010100000000000400032018000100ff00ff00ff1008000000000000000464656d6f\n"),
-        ("hear 1 040100000000ff0d05010002000106000000000000026869", "hear 1 -\nkey 1 1 0000ff0d\npointer 1 01 2 1\ntext 1 0 6869\n"),
+        (
+            "hear 1 524642203030332e3030380a0101",
+            "hear 1 010100000000000400032018000100ff00ff00ff1008000000000000000464656d6f\n",
+        ),
+        (
+            "hear 1 040100000000ff0d05010002000106000000000000026869",
+            "hear 1 -\nkey 1 1 0000ff0d\npointer 1 01 2 1\ntext 1 0 6869\n",
+        ),
     ];
     shows(&rt, rt.alloc(), &rows, 0)
 }
@@ -248,30 +326,21 @@ fn a_second_screen(rt: HostRuntime) -> Result<(), Fail> {
 // The screen comes first.
 #[test]
 fn no_screen_yet(rt: HostRuntime) -> Result<(), Fail> {
-    let rows = [
-        ("connect 1", "bad line 1\n"),
-        ("screen 4 1 demo", ""),
-    ];
+    let rows = [("connect 1", "bad line 1\n"), ("screen 4 1 demo", "")];
     shows(&rt, rt.alloc(), &rows, 1)
 }
 
 // A line is judged before its call.
 #[test]
 fn a_bad_argument_before_the_viewer(rt: HostRuntime) -> Result<(), Fail> {
-    let rows = [
-        ("screen 4 1 demo", "ok\n"),
-        ("hear 9 0g", "bad line 2\n"),
-    ];
+    let rows = [("screen 4 1 demo", "ok\n"), ("hear 9 0g", "bad line 2\n")];
     shows(&rt, rt.alloc(), &rows, 1)
 }
 
 // A script without a screen prints nothing.
 #[test]
 fn nothing_to_do(rt: HostRuntime) -> Result<(), Fail> {
-    let rows = [
-        ("# nothing", ""),
-        ("", ""),
-    ];
+    let rows = [("# nothing", ""), ("", "")];
     shows(&rt, rt.alloc(), &rows, 0)
 }
 
@@ -283,9 +352,17 @@ fn screens_are_made_or_refused(rt: HostRuntime) {
         ("screen 0 3 demo\ncut 1\n", "refused 1 BadSize\n", 1),
         ("screen 8193 1 demo\ncut 1\n", "refused 1 BadSize\n", 1),
         ("screen 8192 2049 demo\ncut 1\n", "refused 1 BadSize\n", 1),
-        ("screen 8192 2048 demo\ncut 1\n", "ok\nrefused 7 NoViewer\n", 0),
+        (
+            "screen 8192 2048 demo\ncut 1\n",
+            "ok\nrefused 7 NoViewer\n",
+            0,
+        ),
         ("screen 1 1 demo 0\ncut 1\n", "refused 3 BadRectLimit\n", 1),
-        ("screen 1 1 demo 1001\ncut 1\n", "refused 3 BadRectLimit\n", 1),
+        (
+            "screen 1 1 demo 1001\ncut 1\n",
+            "refused 3 BadRectLimit\n",
+            1,
+        ),
     ];
     for (script, printed, status) in rows {
         let (out, ended) = play_bytes(rt.alloc(), script.as_bytes());

@@ -1,14 +1,14 @@
-use super::{counted, play_bytes};
-use std::alloc::Global;
+use super::{play, play_bytes};
 use std::io;
 use std::io::{Read, Write};
-use std::marker::Brand;
-use std::sync::ledger::Blank;
 use std::test::Fail;
 
 // A viewer is sent a screen, and a place that was painted.
-const SCRIPT: &str = "screen 4 3 demo\nconnect 1\nhear 1 524642203030332e3030380a0101\nhear 1 03000000000000040003\ncut 1\nhear 1 03010000000000040003\ncut 1\npaint 2 1 1 1 ff8000\ncut 1\ncut 1\n";
-const ANSWERS: &str = "ok\nconnect 1 524642203030332e3030380a\nhear 1 010100000000000400032018000100ff00ff00ff1008000000000000000464656d6f\nhear 1 -\ncut 1 00000001000000000004000300000000000000000000000000000000000000000000000000000000000000000000000000000000000000000000000000000000\nhear 1 -\ncut 1 -\nok\ncut 1 000000010002000100010001000000000080ff00\ncut 1 -\n";
+const SCRIPT: &str =
+    "screen 4 3 demo\nconnect 1\nhear 1 524642203030332e3030380a0101\nhear 1 03000000000000040003\ncut 1\nhear 1 03010000000000040003\ncut 1\npaint 2 1 1 1 ff8000\ncut 1\ncut 1\n";
+
+const ANSWERS: &str =
+    "ok\nconnect 1 524642203030332e3030380a\nhear 1 010100000000000400032018000100ff00ff00ff1008000000000000000464656d6f\nhear 1 -\ncut 1 00000001000000000004000300000000000000000000000000000000000000000000000000000000000000000000000000000000000000000000000000000000\nhear 1 -\ncut 1 -\nok\ncut 1 000000010002000100010001000000000080ff00\ncut 1 -\n";
 
 // Gives a byte a read, comments without an end, and then fails or ends.
 #[derive(Drop)]
@@ -48,7 +48,7 @@ fn a_reader_that_fails(rt: HostRuntime) {
     let alloc = rt.alloc();
     for left in [0, 1, 100] {
         let mut out = Vec::new(alloc);
-        let status = counted::<Brand, _, _>(alloc, Blank::new(1), &mut drip(left, true), &mut out);
+        let status = play(alloc, &mut drip(left, true), &mut out);
         assert_eq!(rt; status, 5);
         assert!(rt; out.as_slice() == b"read fault\n".as_slice());
     }
@@ -69,7 +69,7 @@ fn a_script_that_is_too_long(rt: HostRuntime) {
     let alloc = rt.alloc();
     let mut reader = drip((1 << 24) + 1, true);
     let mut out = Vec::new(alloc);
-    let status = counted::<Brand, _, _>(alloc, Blank::new(1), &mut reader, &mut out);
+    let status = play(alloc, &mut reader, &mut out);
     assert_eq!(rt; status, 5);
     assert!(rt; out.as_slice() == b"too long\n".as_slice());
     assert_eq!(rt; reader.reads, (1 << 24) + 1);
@@ -107,9 +107,12 @@ fn a_writer_that_fails(rt: HostRuntime) {
             taken: Vec::new(alloc),
             room,
         };
-        let status = counted::<Brand, _, _>(alloc, Blank::new(1), &mut reader, &mut writer);
+        let status = play(alloc, &mut reader, &mut writer);
         assert_eq!(rt; status, 5);
-        assert!(rt; writer.taken.as_slice() == &ANSWERS.as_bytes()[..room], "at {room}");
+        assert!(rt;
+            writer.taken.as_slice() == &ANSWERS.as_bytes()[..room],
+            "at {room}"
+        );
     }
 }
 
@@ -137,7 +140,7 @@ fn a_writer_that_is_not_flushed(rt: HostRuntime) {
     let mut writer = Stuck {
         taken: Vec::new(alloc),
     };
-    let status = counted::<Brand, _, _>(alloc, Blank::new(1), &mut reader, &mut writer);
+    let status = play(alloc, &mut reader, &mut writer);
     assert_eq!(rt; status, 5);
     assert!(rt; writer.taken.is_empty());
 }
@@ -150,7 +153,7 @@ fn memory_that_is_refused(rt: HostRuntime) -> Result<(), Fail> {
         return Ok(());
     };
     let mut reader = SCRIPT.as_bytes();
-    let status = counted::<Brand, _, _>(alloc, Blank::new(1), &mut reader, &mut out);
+    let status = play(alloc, &mut reader, &mut out);
     let text = str::from_utf8(&out).unwrap_or("no text");
     if status == 0 {
         assert_eq!(rt; text, ANSWERS);
@@ -159,6 +162,9 @@ fn memory_that_is_refused(rt: HostRuntime) -> Result<(), Fail> {
     assert_eq!(rt; status, 3);
     let printed = text.strip_suffix("out of memory\n").ok_or("no last line")?;
     assert!(rt; ANSWERS.starts_with(printed), "{printed:?}");
-    assert!(rt; printed.is_empty() || printed.ends_with('\n'), "{printed:?}");
+    assert!(rt;
+        printed.is_empty() || printed.ends_with('\n'),
+        "{printed:?}"
+    );
     Ok(())
 }

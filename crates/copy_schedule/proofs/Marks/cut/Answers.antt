@@ -11,7 +11,11 @@ returns-clause-inside c =
     let copies = sym (c.from_vec.ensures ∙ c.in_ok-copies.ensures.copies) in
     record {
       copies = subst (All (IsOnScreen m.width m.height)) copies (copies_on_screen c.args.limit m);
-      sources = subst (λ (by : ℤ × ℤ). All (λ r. IsOnScreen m.width m.height (source_rect by r)) c.from_vec.result) (sym c.offset-offset.ensures)
-          (subst (λ (rs : List Rect). All (λ r. IsOnScreen m.width m.height (source_rect m.offset r)) rs) copies (sources_inside c.args.limit m));
       pixels = subst (All (IsOnScreen m.width m.height)) (sym (c.from_vec-2.ensures ∙ c.in_ok-copies.ensures.pixels)) (pixels_on_screen c.args.limit m);
     }
+
+pub returns-clause-sources : goal.returns-clause-sources
+returns-clause-sources c =
+    let m = c.args.self.now in
+    subst (λ (by : ℤ × ℤ). All (λ r. IsOnScreen m.width m.height (source_rect by r)) c.from_vec.result) (sym c.offset-offset.ensures)
+    (subst (λ (rs : List Rect). All (λ r. IsOnScreen m.width m.height (source_rect m.offset r)) rs) (sym (c.from_vec.ensures ∙ c.in_ok-copies.ensures.copies)) (sources_inside c.args.limit m))

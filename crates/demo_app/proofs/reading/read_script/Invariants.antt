@@ -1,4 +1,4 @@
-use Rattle.std.proofs.Common.{◌≡◌, ◌+◌, ◌-◌, ◌^◌, ◌≤◌, ◌<◌, vec_len}
+use Rattle.std.proofs.Common.{◌+◌, ◌-◌, ◌^◌, ◌≤◌, ◌<◌, vec_len}
 use Rattle.std.specs.Io.KnownBytes.{Consumes}
 use Rattle.demo_app.proofs.reading.read_script.Given as goal
 
@@ -7,6 +7,7 @@ invariant-loop-reader g l = record {
   consumed : Consumes (g.R.Read.remaining l.initial.reader) (g.R.Read.remaining l.reader) l.script.items;
   counted : l.steps ≤ l.initial.steps + vec_len l.script;
   capped : l.steps ≤ l.initial.steps + (2 ^ 24 + 1);
+  risen : l.initial.steps ≤ l.steps;
   room : 0 < vec_len l.piece;
 }
 

@@ -21,5 +21,5 @@ pub returns-in-Ok-hear_behind-clause-told : goal.returns-in-Ok-hear_behind-claus
 returns-in-Ok-hear_behind-clause-told c =
     let r = c.in-Ok-hear_behind.reading in
     whole_told c.args.phase c.args.text c.take.new.self c.args.piece.now c.missing.result c.min-used.result c.finish.result (told_of r) c.insert.new.self.items
-    c.missing.ensures c.min-used.ensures c.requires.0 c.in-Ok.ensures.ok c.if-text.false c.finish.ensures c.in-Ok-hear_behind.ensures.told
+    c.missing.ensures c.min-used.ensures c.requires.0 c.in-Ok.ensures.ok c.if-text.false c.finish.ensures.said c.in-Ok-hear_behind.ensures.told
     (c.insert.ensures.items ∙ ap (λ b. cond b (c.finish.result ∷ r.items.items) r.items.items) (ap is_ok c.unwrap.ensures))

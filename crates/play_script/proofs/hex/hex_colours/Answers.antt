@@ -1,4 +1,4 @@
-use Rattle.play_script.proofs.WordLemmas.{groups_more, byte_fits}
+use Rattle.play_script.proofs.WordLemmas.{groups_more}
 use Rattle.play_script.proofs.hex.hex_colours.Goals as goal
 
 pub loop-place-preserved : goal.loop-place-preserved

@@ -1,8 +1,5 @@
-use Rattle.std.proofs.Common.{◌≡◌, ◌<◌, ◌≤◌, ◌+◌, ◌*◌, ◌^◌, rules, arith, get_or, take, length, sym, ◌∙◌, refl}
-use Rattle.std.proofs.lemmas.List.{length-take}
-use Rattle.std.specs.Char.{digit_value}
-use Rattle.play_script.specs.Words.{value_in}
-use Rattle.play_script.proofs.WordLemmas.{value_in_next, value_in_fits, digits_fit}
+use Rattle.std.proofs.Common.{arith, sym, refl}
+use Rattle.play_script.proofs.WordLemmas.{value_in_next, digits_fit}
 use Rattle.play_script.proofs.hex.value_of.Goals as goal
 
 pub overflow_mul-value : goal.overflow_mul-value

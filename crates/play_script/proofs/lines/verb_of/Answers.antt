@@ -1,4 +1,4 @@
-use Rattle.std.proofs.Common.{◌≡◌, arith, rules, codes, length, refl}
+use Rattle.std.proofs.Common.{◌≡◌, arith, rules, codes, refl}
 use Rattle.std.proofs.lemmas.Slice.Eq.{text_from_reads}
 use Rattle.play_script.proofs.lines.verb_of.Goals as goal
 

@@ -1,4 +1,4 @@
-use Rattle.std.proofs.Common.{sym, ◌∙◌}
+use Rattle.std.proofs.Common.{sym}
 use Rattle.play_script.proofs.WordLemmas.{parts_at, parts_whole}
 use Rattle.play_script.proofs.words.cut_at.Goals as goal
 

@@ -1,4 +1,4 @@
-use Rattle.std.proofs.Common.{◌≡◌, ◌<◌, ◌+◌, ◌*◌, rules, arith, get_or, sym, ◌∙◌, refl}
+use Rattle.std.proofs.Common.{◌<◌, ◌+◌, ◌*◌, arith, get_or, sym, ◌∙◌, refl}
 use Rattle.std.specs.Char.{digit_value}
 use Rattle.play_script.proofs.WordLemmas.{over_limit, value_in_next}
 use Rattle.play_script.proofs.words.number_up_to.Goals as goal

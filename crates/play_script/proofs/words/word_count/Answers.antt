@@ -1,4 +1,4 @@
-use Rattle.std.proofs.Common.{◌≡◌, ◌+◌, eqb, rules, arith, sym, ap, ◌∙◌}
+use Rattle.std.proofs.Common.{◌≡◌, ◌+◌, eqb, rules, sym, ap, ◌∙◌}
 use Rattle.std.specs.List.{count_by}
 use Rattle.play_script.proofs.WordLemmas.{length-parts}
 use Rattle.play_script.proofs.words.word_count.Goals as goal

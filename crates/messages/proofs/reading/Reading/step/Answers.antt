@@ -51,7 +51,7 @@ returns-in_ok-say-in-Text-clause-reads c =
     let short = rw c.in-Text.is at c.requires.short in
     text_end c.args.self.now.items.items c.say-in-Text.new.self.items.items c.args.self.now.phase c.say-in-Text.new.self.phase c.args.self.now.held c.say-in-Text.new.self.held c.in-Text.text c.take-in-Text.new.self
     c.args.piece.now c.missing.result c.min-used.result c.finish-item.result (ap unfinished_held c.in-Text.is) c.missing.ensures c.min-used.ensures short.0 c.requires.more c.in_ok-take-in-Text.ensures.ok
-    c.if-text.false c.finish-item.ensures c.in_ok-say-in-Text.ensures.items c.in_ok-say-in-Text.ensures.rest
+    c.if-text.false c.finish-item.ensures.said c.in_ok-say-in-Text.ensures.items c.in_ok-say-in-Text.ensures.rest
 
 pub returns-in-Faulted-clause-reads : goal.returns-in-Faulted-clause-reads
 returns-in-Faulted-clause-reads c =

@@ -3,9 +3,9 @@ use Rattle.std.specs.Prelude.{◌+ℤ◌}
 use Rattle.region.specs.Region.{covers}
 use Rattle.copy_schedule.specs.declared.Mark.{Mark}
 use Rattle.copy_schedule.specs.Marks.{uncopied}
-use Rattle.copy_schedule.proofs.copies.owe_overdrawn.Given as goal
+use Rattle.copy_schedule.proofs.copies.owe_sources.Given as goal
 
--- the places whose pixels the rectangles before this one draw over are owed
+-- the places from which the rectangles before this one take pixels are owed
 abbrev pub invariant-loop-rect : goal.invariant-loop-rect
 invariant-loop-rect l = record {
   same : length l.marks ≡ length l.fn.marks;

@@ -1,0 +1,209 @@
+use crate::{Answer, Config, Event, Screen, ScreenError, run};
+use listed::Listed;
+use messages::Fault;
+use region::Rect;
+use std::alloc::{AllocError, Global};
+use std::process::Abort;
+use std::test::Fail;
+
+/// The version 3.8, the choice of no security, and a ClientInit.
+const OPENING: &[u8] = b"RFB 003.008\n\x01\x01";
+
+/// What the server answers behind the version of a screen of 4 by 3 named `demo`.
+const OPENED: &[u8] =
+    b"\x01\x01\x00\x00\x00\x00\x00\x04\x00\x03\x20\x18\x00\x01\x00\xff\x00\xff\x00\xff\x10\x08\x00\x00\x00\x00\x00\x00\x00\x04demo";
+
+/// A request of the whole of that screen, not incremental, and an incremental one.
+const WHOLE: &[u8] = b"\x03\x00\x00\x00\x00\x00\x00\x04\x00\x03";
+
+const CHANGES: &[u8] = b"\x03\x01\x00\x00\x00\x00\x00\x04\x00\x03";
+
+/// A painted place at (2, 1) of colour ff8000, as an update.
+const ORANGE: &[u8] =
+    b"\x00\x00\x00\x01\x00\x02\x00\x01\x00\x01\x00\x01\x00\x00\x00\x00\x00\x80\xff\x00";
+
+fn config(
+    alloc: Global,
+    width: u32,
+    height: u32,
+    name: &[u8],
+    limit: u32,
+) -> Result<Config, AllocError> {
+    Ok(Config {
+        width,
+        height,
+        name: Listed::from_vec(name.to_vec(alloc)?),
+        rects_per_update: limit,
+    })
+}
+
+fn demo(alloc: Global) -> Result<Config, AllocError> {
+    config(alloc, 4, 3, b"demo", 50)
+}
+
+fn rect(x1: i32, y1: i32, x2: i32, y2: i32) -> Rect {
+    Rect { x1, y1, x2, y2 }
+}
+
+fn hear(alloc: Global, viewer: u64, piece: &[u8]) -> Result<Event, AllocError> {
+    Ok(Event::Hear {
+        viewer,
+        piece: Listed::from_vec(piece.to_vec(alloc)?),
+    })
+}
+
+fn paint(alloc: Global, rect: Rect, colours: &[u32]) -> Result<Event, AllocError> {
+    Ok(Event::Paint {
+        rect,
+        colours: Listed::from_vec(colours.to_vec(alloc)?),
+    })
+}
+
+fn expect_bytes(rt: &impl Abort, answer: &Answer, bytes: &[u8]) {
+    assert_eq!(rt; answer.bytes.as_slice(), bytes);
+    assert!(rt; answer.refused.is_none());
+    assert!(rt; answer.closed.is_none());
+}
+
+#[test]
+fn a_viewer_opens_and_sees_what_is_painted(rt: HostRuntime) -> Result<(), Fail> {
+    let alloc = rt.alloc();
+    let mut screen = Screen::new(alloc, demo(alloc)?)?;
+    assert_eq!(rt; screen.connect(1)?.as_slice(), b"RFB 003.008\n".as_slice());
+    expect_bytes(&rt, &screen.hear(1, OPENING)?, OPENED);
+    assert!(rt; !screen.pending(1)?);
+    expect_bytes(&rt, &screen.hear(1, WHOLE)?, b"");
+    assert!(rt; screen.pending(1)?);
+    let update = screen.cut(1)?.ok_or("an update")?;
+    assert_eq!(rt; update.encode()?.len(), 64);
+    expect_bytes(&rt, &screen.hear(1, CHANGES)?, b"");
+    assert!(rt; screen.cut(1)?.is_none());
+    screen.paint(rect(2, 1, 3, 2), &[0xff_8000])?;
+    assert!(rt; screen.pending(1)?);
+    let update = screen.cut(1)?.ok_or("an update")?;
+    // The update keeps the colours of the step that made it.
+    screen.paint(rect(0, 0, 4, 3), &[0x7; 12])?;
+    screen.close(1)?;
+    assert_eq!(rt; update.encode()?.as_slice(), ORANGE);
+    Ok(())
+}
+
+#[test]
+fn a_run_answers_each_viewer(rt: HostRuntime) -> Result<(), Fail> {
+    let alloc = rt.alloc();
+    let mut events = Vec::new(alloc);
+    for viewer in 1..3u64 {
+        events.push(Event::Connect { viewer })?;
+        events.push(hear(alloc, viewer, OPENING)?)?;
+        events.push(hear(alloc, viewer, WHOLE)?)?;
+        events.push(Event::Cut { viewer })?;
+        events.push(hear(alloc, viewer, CHANGES)?)?;
+    }
+    // Viewer 1 sends what is no message; viewer 2 is sent its bytes all the same.
+    events.push(hear(alloc, 1, b"\x07")?)?;
+    events.push(hear(alloc, 1, b"\x00")?)?;
+    events.push(paint(alloc, rect(2, 1, 3, 2), &[0x12_ff_8000])?)?;
+    events.push(Event::Cut { viewer: 1 })?;
+    events.push(Event::Cut { viewer: 2 })?;
+    let given = run(alloc, demo(alloc)?, &events)?;
+    assert_eq!(rt; given.len(), 15);
+    expect_bytes(&rt, &given[6], OPENED);
+    for again in [10, 11] {
+        assert_eq!(rt; given[again].closed, Some(Fault::UnknownMessage(7)));
+        assert!(rt; given[again].bytes.as_slice().is_empty());
+    }
+    expect_bytes(&rt, &given[13], b"");
+    expect_bytes(&rt, &given[14], ORANGE);
+    Ok(())
+}
+
+#[test]
+fn refusals_are_exact(rt: HostRuntime) -> Result<(), Fail> {
+    let alloc = rt.alloc();
+    let mut screen = Screen::new(alloc, demo(alloc)?)?;
+    screen.connect(1)?;
+    assert_eq!(rt;
+        screen.paint(rect(3, 0, 5, 1), &[1, 2]),
+        Err(ScreenError::BadRect)
+    );
+    assert_eq!(rt;
+        screen.paint(rect(3, 0, 5, 1), &[1]),
+        Err(ScreenError::BadRect)
+    );
+    assert_eq!(rt;
+        screen.paint(rect(2, 0, 1, 1), &[]),
+        Err(ScreenError::BadRect)
+    );
+    assert_eq!(rt;
+        screen.paint(rect(0, 0, 2, 2), &[1, 2]),
+        Err(ScreenError::BadPixelCount)
+    );
+    assert_eq!(rt; screen.paint(rect(2, 2, 2, 3), &[]), Ok(()));
+    assert_eq!(rt; screen.cut(9).err(), Some(ScreenError::NoViewer));
+    assert_eq!(rt; screen.pending(9), Err(ScreenError::NoViewer));
+    assert_eq!(rt; screen.hear(9, b"").err(), Some(ScreenError::NoViewer));
+    assert_eq!(rt; screen.close(9), Err(ScreenError::NoViewer));
+    assert_eq!(rt; screen.connect(1).err(), Some(ScreenError::NumberInUse));
+    screen.close(1)?;
+    assert!(rt; screen.connect(1).is_ok());
+    let answer = screen.apply(&Event::Cut { viewer: 9 })?;
+    assert_eq!(rt; answer.refused, Some(ScreenError::NoViewer));
+    Ok(())
+}
+
+#[test]
+fn configurations_outside_the_limits_are_refused(rt: HostRuntime) -> Result<(), Fail> {
+    let alloc = rt.alloc();
+    for (width, height, name, limit, want) in [
+        (0, 3, 0, 50, Some(ScreenError::BadSize)),
+        (8193, 1, 0, 50, Some(ScreenError::BadSize)),
+        (8192, 2049, 256, 0, Some(ScreenError::BadSize)),
+        (8192, 2048, 0, 50, None),
+        (1, 1, 256, 0, Some(ScreenError::BadName)),
+        (1, 1, 255, 50, None),
+        (1, 1, 0, 0, Some(ScreenError::BadRectLimit)),
+        (1, 1, 0, 1001, Some(ScreenError::BadRectLimit)),
+        (1, 1, 0, 1000, None),
+    ] {
+        let bytes = vec![in alloc; 0x61u8; name]?;
+        let made = Screen::new(alloc, config(alloc, width, height, &bytes, limit)?);
+        assert_eq!(rt;
+            made.err(),
+            want,
+            "{width} by {height}, {name} bytes, {limit}"
+        );
+    }
+    Ok(())
+}
+
+#[test]
+fn a_limit_owes_the_rest(rt: HostRuntime) -> Result<(), Fail> {
+    let alloc = rt.alloc();
+    let mut screen = Screen::new(alloc, config(alloc, 9, 1, b"", 2)?)?;
+    screen.connect(7)?;
+    screen.hear(7, OPENING)?;
+    screen.hear(7, b"\x03\x00\x00\x00\x00\x00\x00\x09\x00\x01")?;
+    screen.cut(7)?;
+    for x in [0, 2, 4, 6, 8] {
+        screen.paint(rect(x, 0, x + 1, 1), &[0xa])?;
+    }
+    let asked = b"\x03\x01\x00\x00\x00\x00\x00\x09\x00\x01";
+    for (first, second) in [(0, 2), (4, 6)] {
+        screen.hear(7, asked)?;
+        let bytes = screen.cut(7)?.ok_or("an update")?.encode()?;
+        let want = [
+            0, 0, 0, 2, 0, first, 0, 0, 0, 1, 0, 1, 0, 0, 0, 0, 10, 0, 0, 0, 0, second, 0, 0, 0, 1,
+            0, 1, 0, 0, 0, 0, 10, 0, 0, 0,
+        ];
+        assert_eq!(rt; bytes.as_slice(), want.as_slice());
+    }
+    screen.hear(7, asked)?;
+    let bytes = screen.cut(7)?.ok_or("an update")?.encode()?;
+    assert_eq!(rt;
+        bytes.as_slice(),
+        [0, 0, 0, 1, 0, 8, 0, 0, 0, 1, 0, 1, 0, 0, 0, 0, 10, 0, 0, 0].as_slice()
+    );
+    screen.hear(7, asked)?;
+    assert!(rt; screen.cut(7)?.is_none());
+    Ok(())
+}
