@@ -4,7 +4,7 @@ ghost use Rattle.demo_app.specs.Reading.{CanEndReading};
 ghost use Rattle.std.specs.Io.KnownBytes.{ReadConsumes, Consumes};
 
 use crate::steps::Steps;
-use std::alloc::{AllocError, AllocFailed, Global};
+use std::alloc::{AllocError, Global};
 use std::io;
 use std::io::Read;
 use std::sync::ledger::Ledger;

@@ -36,6 +36,8 @@ fn play<L: Ledger>(rt: &HostRuntime, blank: Blank) -> ExitCode
         return out_of_memory(rt);
     };
     let status = play_over(alloc, &mut reader, &mut writer, &mut steps);
+    // After a write fault nothing more is written: what the buffer holds is let go.
+    let _ = writer.into_parts();
     ExitCode::from(status)
 }
 
