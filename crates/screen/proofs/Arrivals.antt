@@ -1,6 +1,6 @@
 -- The viewers that are there have numbers of their own; who is refused changes nothing; who connects comes last.
-use Rattle.std.proofs.Common.{◌≡◌, ℕ, Bool, true, false, cond, not, ◌||◌, List, [], ◌∷◌, ◌++◌, map, Option, Some, None, refl, sym, ◌∙◌, ap, arith}
-use Rattle.std.specs.Prelude.{filter, find, is_some, ◌==◌}
+use Rattle.std.proofs.Common.{◌≡◌, ℕ, Bool, true, false, cond, not, ◌||◌, List, [], ◌∷◌, ◌++◌, map, Option, Some, None, refl, ◌∙◌, ap, arith}
+use Rattle.std.specs.Prelude.{filter, is_some, ◌==◌}
 use Rattle.std.specs.List.{filter_map, cons_option, list_any}
 use Rattle.std.proofs.lemmas.Bool.Decides.{nat_tests, Decides-eqb}
 use Rattle.std.proofs.lemmas.List.Elements.{filter_map-append}
@@ -10,9 +10,9 @@ use Rattle.screen.specs.declared.Event.{Event}
 use Rattle.screen.specs.declared.Event.TheVariants.{Paint, Connect, Hear, Cut, Close}
 use Rattle.screen.specs.Viewer.{Viewer, new_viewer}
 use Rattle.screen.specs.Alone.{own_step, owner_of}
-use Rattle.screen.specs.Answers.{viewer_of, picture_of, live_from, after_arrival, kept, entry_of, State, state, answer_to}
+use Rattle.screen.specs.Answers.{viewer_of, picture_of, live_from, after_arrival, kept, entry_of, State, state}
 use Rattle.screen.proofs.Steps.{live-append}
-use Rattle.screen.proofs.Owners.{one_of, viewer-hit, viewer-miss, picture-own, there-is, answer-hit}
+use Rattle.screen.proofs.Owners.{one_of, viewer-hit, viewer-miss, picture-own, there-is}
 
 abbrev has : ℕ → List ℕ → Bool
 has v ns = list_any (λ n. n == v) ns

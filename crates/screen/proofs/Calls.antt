@@ -1,8 +1,7 @@
 -- What the calls of one viewer's events do and answer, by the seats.
-use Rattle.std.proofs.Common.{◌≡◌, ◌≢◌, ℕ, ◌<◌, Bool, true, false, cond, List, [], ◌∷◌, ◌++◌, map, length, get_or, set, Option, Some, None, Result, Ok, Err, refl, sym, ◌∙◌, ap, subst}
+use Rattle.std.proofs.Common.{◌≡◌, ℕ, Bool, true, false, cond, List, [], ◌∷◌, ◌++◌, map, get_or, set, Option, Some, None, Result, Ok, Err, refl, sym, ◌∙◌, ap, subst}
 use Rattle.std.specs.List.{list_any}
 use Rattle.std.specs.Prelude.{◌==◌, is_some, filter, not, ◌&&◌, ◌||◌, MatchOption, MatchResult}
-use Rattle.messages.specs.declared.Item.{Item}
 use Rattle.messages.specs.Reading.{Rest, rest, new_items}
 use Rattle.messages.specs.Server.{server_version}
 use Rattle.screen.specs.declared.Config.{Config}
@@ -16,11 +15,11 @@ use Rattle.screen.specs.Viewer.{Viewer, new_viewer}
 use Rattle.copy_schedule.specs.Marks.{Sent, pending, copies_of, pixels_of, after_sending}
 use Rattle.messages.specs.Reading.{is_open_rest}
 use Rattle.screen.specs.Sending.{sending_kept, with_update}
-use Rattle.screen.specs.Alone.{own_step, owner_of, after_items, heard_answer, gives, refuses, nothing_to_say, some_bytes, Tells}
+use Rattle.screen.specs.Alone.{own_step, after_items, heard_answer, gives, refuses, nothing_to_say, some_bytes, Tells}
 use Rattle.screen.specs.Answers.{viewer_of, kept, State, state, answer_to}
 use Rattle.screen.specs.Entries.{entry, viewer_in, IsPlaceOf}
 use Rattle.screen.proofs.Owners.{one_of, replaced, answer-hit, state-has, entries-any, entries-without, state-close, answer-close, state-hear, answer-hear}
-use Rattle.screen.proofs.Arrivals.{state-connect, state-in_use, state-absent}
+use Rattle.screen.proofs.Arrivals.{state-connect}
 use Rattle.screen.proofs.Seats.{StandsFor, stands-for, stands-for_none, seat-set}
 use Rattle.screen.proofs.Sent.{state-cut, answer-cut}
 

@@ -1,5 +1,5 @@
 -- A painted rectangle is owed to every viewer.
-use Rattle.std.proofs.Common.{◌≡◌, ℕ, ℤ, zero, suc, ◌<◌, Bool, true, false, ◌||◌, List, [], ◌∷◌, ◌++◌, map, length, get_or, All, None, refl, sym, ◌∙◌, ap, arith}
+use Rattle.std.proofs.Common.{◌≡◌, ℕ, Bool, true, false, ◌||◌, List, [], ◌∷◌, ◌++◌, map, All, None, refl, sym, ◌∙◌, ap}
 use Rattle.messages.specs.Reading.{Rest}
 use Rattle.std.proofs.lemmas.List.Elements.{All-map}
 use mathlib.Core.Path.{fun_ext}
@@ -9,7 +9,6 @@ use Rattle.screen.specs.declared.Config.{Config}
 use Rattle.screen.specs.declared.Event.{Event}
 use Rattle.screen.specs.declared.Event.TheVariants.{Paint}
 use Rattle.screen.specs.declared.place.Seat.{Seat}
-use Rattle.screen.specs.declared.picture.Block.{Block}
 use Rattle.screen.specs.Viewer.{Viewer, viewer_marked}
 use Rattle.screen.specs.Picture.{written}
 use Rattle.screen.specs.Alone.{pixels_refusal}

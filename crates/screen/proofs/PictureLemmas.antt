@@ -1,16 +1,14 @@
 -- Blocks and the picture's definitions, which speak of places by whole numbers.
-use Rattle.std.proofs.Common.{◌≡◌, ℕ, zero, suc, ℤ, pos, ◌+◌, ◌-◌, ◌*◌, ◌/◌, ◌%◌, ◌^◌, ◌<◌, ◌≤◌, Bool, true, false, cond, ◌&&◌, List, length, get_or, map, refl, sym, ap, ◌∙◌, arith, rules, mul_comm}
-use Rattle.std.specs.Prelude.{nat_abs, ◌-ℤ◌, ◌+ℤ◌, int_le, int_lt, nat_le, nat_lt}
-use Rattle.std.specs.List.{range_with_len}
+use Rattle.std.proofs.Common.{◌≡◌, ℕ, zero, suc, ℤ, pos, ◌+◌, ◌-◌, ◌*◌, ◌/◌, ◌%◌, ◌^◌, ◌<◌, ◌≤◌, Bool, true, false, cond, List, length, get_or, refl, sym, ap, ◌∙◌, arith, mul_comm}
+use Rattle.std.specs.Prelude.{nat_abs, ◌-ℤ◌, ◌+ℤ◌}
 use Rattle.std.proofs.Math.IntN.{+ℤ-neg_ℤ_cancel}
 use Rattle.std.proofs.Math.Nat.{mod-add-div, mod-lt, div-lt_iff_lt-mul}
-use Rattle.std.proofs.lemmas.Bool.Decides.{nat_tests, leb_tells}
+use Rattle.std.proofs.lemmas.Bool.Decides.{nat_tests}
 use Rattle.std.proofs.lemmas.List.FromFn.{fill_by_all, get_or-map-range_with_len, length-map-range_with_len}
-use Rattle.region.specs.declared.Rect.{Rect}
 use Rattle.region.specs.Region.{in_rect, on_screen}
 use Rattle.copy_schedule.specs.Places.{by_place}
 use Rattle.screen.specs.declared.picture.Block.{Block}
-use Rattle.screen.specs.Blocks.{rect_of, is_in_block, colour_written, block_colours}
+use Rattle.screen.specs.Blocks.{rect_of, is_in_block, block_colours}
 use Rattle.screen.specs.Picture.{colour_at, colour_in, written}
 use Rattle.screen.specs.Sending.{area_of, colours_of}
 use Rattle.screen.proofs.BlockLemmas.{IsWritten}

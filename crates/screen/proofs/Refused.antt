@@ -1,7 +1,7 @@
 -- An event that is refused changes nothing, and is told nothing else.
-use Rattle.std.proofs.Common.{◌≡◌, ℕ, Bool, true, false, cond, List, [], ◌∷◌, ◌++◌, Option, Some, None, Result, Ok, Err, refl, sym, ◌∙◌, ap, OnOk, OnErr, IfOk}
-use Rattle.std.specs.Prelude.{filter, not, ◌==◌, ◌||◌, is_some, MatchOption, MatchResult}
-use Rattle.std.specs.List.{filter_map, cons_option, list_any}
+use Rattle.std.proofs.Common.{◌≡◌, ℕ, List, [], ◌∷◌, ◌++◌, Option, Some, None, Result, Ok, Err, refl, sym, ◌∙◌, ap, OnOk, OnErr, IfOk}
+use Rattle.std.specs.Prelude.{filter, is_some, MatchOption, MatchResult}
+use Rattle.std.specs.List.{filter_map, cons_option}
 use Rattle.std.specs.declared.alloc.AllocError.{AllocError}
 use Rattle.messages.specs.Reading.{Rest}
 use Rattle.screen.specs.declared.Config.{Config}

@@ -1,6 +1,6 @@
 -- What is done to a seat, and the inputs among items.
-use Rattle.std.proofs.Common.{◌≡◌, ℕ, ℤ, pos, negsuc, ◌+◌, ◌<◌, ◌≤◌, Bool, true, false, cond, ◌&&◌, ◌||◌, List, [], ◌∷◌, ◌++◌, reverse, Option, None, refl, sym, ap, ◌∙◌, arith, append_assoc}
-use Rattle.std.specs.Prelude.{nat_le, nat_lt, min}
+use Rattle.std.proofs.Common.{◌≡◌, ℕ, ℤ, pos, negsuc, ◌+◌, List, [], ◌∷◌, ◌++◌, reverse, None, refl, sym, ap, ◌∙◌, arith, append_assoc}
+use Rattle.std.specs.Prelude.{min}
 use Rattle.std.specs.List.{filter_map, cons_option}
 use Rattle.std.proofs.lemmas.Bool.Decides.{nat_tests}
 use Rattle.std.proofs.lemmas.List.{reverse-append, append-nil}
@@ -10,8 +10,7 @@ use Rattle.pixel_translate.specs.declared.Area.{Area}
 use Rattle.messages.specs.declared.Input.{Input}
 use Rattle.messages.specs.declared.Item.{Item}
 use Rattle.messages.specs.declared.Item.TheVariants as item
-use Rattle.region.specs.declared.Rect.{Rect}
-use Rattle.region.specs.Region.{in_rect, covers, on_screen}
+use Rattle.region.specs.Region.{in_rect}
 use Rattle.screen.specs.Alone.{input_of}
 use Rattle.screen.specs.Viewer.{area_places}
 

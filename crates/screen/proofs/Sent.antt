@@ -1,15 +1,14 @@
 -- What a sending step does, by what a screen keeps of the viewer.
-use Rattle.std.proofs.Common.{◌≡◌, ℕ, Bool, true, false, cond, ◌&&◌, List, [], ◌∷◌, ◌++◌, map, length, Option, Some, None, refl, sym, ◌∙◌, ap}
+use Rattle.std.proofs.Common.{◌≡◌, ℕ, Bool, true, false, cond, ◌&&◌, List, [], ◌∷◌, ◌++◌, map, length, Option, Some, None, refl, ◌∙◌, ap}
 use Rattle.std.specs.Prelude.{nat_le, ◌==◌, slice_index}
 use Rattle.copy_schedule.specs.Marks.{Sent, cut_of}
 use Rattle.messages.specs.declared.Phase.{Phase}
 use Rattle.messages.specs.declared.Phase.TheVariants as phase
 use Rattle.messages.specs.Grammar.{End, waiting, faulty}
-use Rattle.messages.specs.Reading.{Rest, heard, Unfinished, plain, encodings, cut_text, faulted, unfinished_of, is_open_rest}
+use Rattle.messages.specs.Reading.{heard, Unfinished, unfinished_of, is_open_rest}
 use Rattle.screen.specs.declared.Config.{Config}
 use Rattle.screen.specs.declared.Event.{Event}
 use Rattle.screen.specs.declared.Event.TheVariants.{Cut}
-use Rattle.screen.specs.declared.Answer.{Answer}
 use Rattle.screen.specs.Viewer.{Viewer, is_open, is_open_viewer}
 use Rattle.screen.specs.Sending.{with_update, sending, sending_kept}
 use Rattle.screen.specs.Alone.{own_step, gives}

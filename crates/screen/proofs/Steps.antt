@@ -1,5 +1,5 @@
 -- What one event more does to what a screen holds.
-use Rattle.std.proofs.Common.{◌≡◌, ℕ, Bool, true, false, cond, List, [], ◌∷◌, ◌++◌, map, Option, Some, None, refl, sym, ◌∙◌, ap}
+use Rattle.std.proofs.Common.{◌≡◌, ℕ, Bool, true, false, cond, List, [], ◌∷◌, ◌++◌, map, Option, Some, None, refl, ◌∙◌, ap}
 use Rattle.std.specs.Prelude.{filter, option_map}
 use Rattle.std.specs.List.{filter_map, cons_option}
 use Rattle.messages.specs.Reading.{Rest}

@@ -1,6 +1,5 @@
 -- What a screen keeps true of itself.
 use Rattle.std.specs.Prelude.{◌≡◌, ℕ, ◌*◌, ◌^◌, ◌≤◌, List, length, All}
-use Rattle.copy_schedule.specs.Marks.{Marks}
 use Rattle.screen.specs.declared.Config.{Config}
 use Rattle.screen.specs.declared.place.Seat.{Seat}
 

@@ -9,3 +9,4 @@ pub mod Answers
 pub mod Claims
 pub mod Entries
 pub mod Held
+pub mod Examples

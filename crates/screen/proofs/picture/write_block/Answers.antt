@@ -1,4 +1,4 @@
-use Rattle.std.proofs.Common.{◌≡◌, ℕ, ◌+◌, ◌*◌, ◌-◌, ◌%◌, ◌^◌, ◌<◌, ◌≤◌, length, take, drop, get_or, ap, ◌∙◌, arith, rules}
+use Rattle.std.proofs.Common.{ℕ, ◌%◌, ◌^◌, ap, ◌∙◌, arith, rules}
 use Rattle.std.proofs.lemmas.List.{places, length-take, length-drop}
 use Rattle.screen.proofs.BlockLemmas.{row_inside, row_given, one_row, no_row}
 use Rattle.screen.proofs.picture.write_block.Goals as goal

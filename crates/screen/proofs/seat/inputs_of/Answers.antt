@@ -1,7 +1,6 @@
 use Rattle.std.proofs.Common.{◌∙◌, [], ◌∷◌, ◌++◌, reverse, ap, arith}
 use Rattle.std.specs.List.{filter_map}
 use Rattle.screen.specs.Alone.{input_of}
-use Rattle.messages.specs.declared.Item.TheVariants as item
 use Rattle.screen.proofs.SeatLemmas.{input-last, other-last}
 use Rattle.screen.proofs.seat.inputs_of.Goals as goal
 

@@ -1,5 +1,5 @@
-use Rattle.std.proofs.Common.{◌≡◌, List, sym, ◌∙◌}
-use Rattle.screen.specs.Answers.{state, answer_to}
+use Rattle.std.proofs.Common.{sym, ◌∙◌}
+use Rattle.screen.specs.Answers.{answer_to}
 use Rattle.screen.proofs.Refused.{state-refused, refusal-alone, settled-answer, settled-step}
 use Rattle.screen.proofs.screen.Screen.apply.Goals as goal
 

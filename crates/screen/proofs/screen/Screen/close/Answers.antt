@@ -1,10 +1,9 @@
-use Rattle.std.proofs.Common.{◌≡◌, ℕ, sym, ap, ◌∙◌, true, false}
-use Rattle.std.specs.Prelude.{◌==◌, not, map, filter, List}
+use Rattle.std.proofs.Common.{◌≡◌, sym, ap, ◌∙◌, true, false}
+use Rattle.std.specs.Prelude.{◌==◌, not}
 use Rattle.std.specs.List.{list_any}
 use Rattle.std.proofs.lemmas.List.Elements.{All-filter}
-use Rattle.screen.specs.declared.place.Seat.{Seat}
 use Rattle.screen.specs.Held.{IsSized}
-use Rattle.screen.proofs.Calls.{seen, close-absent, close-there, close-answer}
+use Rattle.screen.proofs.Calls.{close-absent, close-there, close-answer}
 use Rattle.screen.proofs.screen.Screen.close.Goals as goal
 
 pub returns-then-not-has_seat-clause-step : goal.returns-then-not-has_seat-clause-step

@@ -3,7 +3,6 @@ use Rattle.std.specs.Prelude.{◌==◌}
 use Rattle.std.specs.List.{list_any}
 use Rattle.std.proofs.lemmas.Result.{err_from_is_err_and}
 use Rattle.screen.specs.declared.Config.{Config}
-use Rattle.screen.specs.declared.Event.{Event}
 use Rattle.screen.specs.declared.Event.TheVariants.{Cut}
 use Rattle.screen.specs.declared.Answer.{Answer}
 use Rattle.screen.specs.declared.ScreenError.TheVariants as refusals

@@ -1,9 +1,8 @@
-use Rattle.std.proofs.Common.{◌≡◌, ℕ, List, ◌∷◌, [], ◌++◌, set, sym, ap, ◌∙◌, subst, false, Option, Ok, refl}
+use Rattle.std.proofs.Common.{◌≡◌, ℕ, List, ◌∷◌, [], ◌++◌, set, sym, ap, ◌∙◌, subst, false, Ok, refl}
 use Rattle.std.specs.Prelude.{◌==◌}
 use Rattle.std.specs.List.{list_any}
 use Rattle.std.proofs.lemmas.Result.{err_from_is_err_and}
 use Rattle.screen.specs.declared.Config.{Config}
-use Rattle.screen.specs.declared.Event.{Event}
 use Rattle.screen.specs.declared.Event.TheVariants.{Cut}
 use Rattle.screen.specs.declared.Answer.{Answer}
 use Rattle.screen.specs.declared.ScreenError.TheVariants as refusals

@@ -1,10 +1,9 @@
-use Rattle.std.proofs.Common.{◌≡◌, ◌∙◌, sym, ap, map, List, ℕ}
+use Rattle.std.proofs.Common.{◌∙◌, sym, ap, map, List, ℕ}
 use Rattle.messages.specs.Reading.{Rest}
 use Rattle.screen.specs.Viewer.{Viewer}
 use Rattle.screen.specs.Answers.{State}
 use Rattle.screen.specs.Picture.{written}
-use Rattle.screen.specs.Entries.{entry, seat_marked}
-use Rattle.screen.specs.Held.{IsHeld, IsSized}
+use Rattle.screen.specs.Entries.{entry}
 use Rattle.screen.proofs.Painted.{state-paint, sized-marked}
 use Rattle.screen.proofs.screen.Screen.paint.Goals as goal
 

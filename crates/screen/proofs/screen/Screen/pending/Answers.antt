@@ -1,4 +1,4 @@
-use Rattle.std.proofs.Common.{◌≡◌, ℕ, List, ◌∷◌, [], ◌++◌, sym, ap, ◌∙◌, get_or, subst, false, Bool, Result, Ok, Err}
+use Rattle.std.proofs.Common.{◌≡◌, ℕ, List, sym, ap, ◌∙◌, get_or, subst, false, Bool, Ok}
 use Rattle.std.specs.Prelude.{◌==◌, ◌&&◌}
 use Rattle.std.specs.List.{list_any}
 use Rattle.copy_schedule.specs.Marks.{pending}
@@ -6,7 +6,6 @@ use Rattle.messages.specs.Reading.{is_open_rest}
 use Rattle.screen.specs.declared.Config.{Config}
 use Rattle.screen.specs.declared.Event.{Event}
 use Rattle.screen.specs.declared.Event.TheVariants.{Cut}
-use Rattle.screen.specs.declared.ScreenError.{ScreenError}
 use Rattle.screen.specs.declared.place.Seat.{Seat}
 use Rattle.screen.specs.Answers.{State, state, answer_to}
 use Rattle.screen.specs.Alone.{something_to_send}
