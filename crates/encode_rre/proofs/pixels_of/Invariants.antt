@@ -1,0 +1,7 @@
+use Rattle.std.proofs.Common.{◌≡◌, take, map}
+use Rattle.pixel_translate.specs.Pixel.{pixel}
+use Rattle.encode_rre.proofs.pixels_of.Given as goal
+
+-- the colours passed are translated
+abbrev pub invariant-loop-colour : goal.invariant-loop-colour
+invariant-loop-colour l = l.pixels.items ≡ map (pixel l.format) (take l.colour-index l.colours)
