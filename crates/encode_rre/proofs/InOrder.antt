@@ -1,11 +1,11 @@
 -- The list of subrectangles is in order.
-use Rattle.std.proofs.Common.{◌≡◌, ℕ, zero, suc, ◌+◌, ◌-◌, ◌<◌, ◌≤◌, ◌⊎◌, inl, inr, Bool, true, false, cond, List, [], ◌∷◌, ◌++◌, length, map, filter, get_or, Contains, AllPairs, refl, sym, ap, subst, ◌∙◌, arith, length-append, append-nil}
+use Rattle.std.proofs.Common.{◌≡◌, ℕ, zero, suc, ◌+◌, ◌-◌, ◌<◌, inl, inr, Bool, true, false, cond, List, [], ◌∷◌, ◌++◌, length, get_or, Contains, AllPairs, refl, sym, ap, subst, ◌∙◌, arith, length-append, append-nil}
 use Rattle.std.specs.List.{flat_map, range_with_len}
 use Rattle.std.proofs.lemmas.Bool.{cases_lt}
 use Rattle.std.proofs.lemmas.List.{get_or_append_left}
 use Rattle.std.proofs.Math.Seq.{get_or-append_right}
 use Rattle.encode_rre.specs.declared.Subrectangle.{Subrectangle}
-use Rattle.encode_rre.specs.Subrectangles.{begins_subrectangle, subrectangle_from, subrectangles_in, subrectangles, row_at, IsBefore, ListsInOrder}
+use Rattle.encode_rre.specs.Subrectangles.{begins_subrectangle, subrectangle_from, subrectangles_in, row_at, IsBefore, ListsInOrder}
 use Rattle.encode_rre.proofs.Listed.{flat_cases, kept_cases, range_cases, not_in_none, cases_of}
 use Rattle.encode_rre.proofs.Scans.{found_before, one_more, row_more}
 

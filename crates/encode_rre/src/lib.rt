@@ -1,5 +1,11 @@
 //! The encoding RRE (RFC 6143, 7.7.3): a background and subrectangles of one pixel each, or Raw
 //! where that is no shorter.
+//!
+//! The pixels of the area are kept while it is encoded, four bytes each. The background is found
+//! with one look-up for each run, in a table of the pixels that differ, so in at most as many steps
+//! and entries as the area has places. The scan goes over each place a bounded number of times, and
+//! ends with the row in which there are too many subrectangles to be shorter than Raw; their list
+//! has at most one row of them more than that.
 #![tactic(auto)]
 
 ghost use Rattle.std.specs.Prelude.{◌≡◌, ◌*◌, ◌≤◌, ◌++◌, length, map, IfOk, MatchOption, OnOk, OnErr};
