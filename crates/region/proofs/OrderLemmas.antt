@@ -73,7 +73,7 @@ pub by_band-joined : (rs : List Rect) → flat_map (λ g. g) (by_band rs) ≡ rs
 by_band-joined [] = refl
 by_band-joined (r ∷ rs) = join r (by_band rs) ∙ ap (λ l. r ∷ l) (by_band-joined rs)
 
-flat_map-append : {X Y : Type 0} (f : X → List Y) (xs ys : List X) → flat_map f (xs ++ ys) ≡ flat_map f xs ++ flat_map f ys
+pub flat_map-append : {X Y : Type 0} (f : X → List Y) (xs ys : List X) → flat_map f (xs ++ ys) ≡ flat_map f xs ++ flat_map f ys
 flat_map-append f [] ys = refl
 flat_map-append f (x ∷ xs) ys = ap (λ l. f x ++ l) (flat_map-append f xs ys) ∙ sym (append_assoc (f x) (flat_map f xs) (flat_map f ys))
 

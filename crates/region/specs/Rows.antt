@@ -1,0 +1,49 @@
+-- Rows: lists of rectangles of which only the columns count, and what a walk over two of them keeps.
+use Rattle.std.specs.Prelude.{◌≡◌, Bool, false, ◌&&◌, ◌||◌, not, List, [], ◌∷◌, map, ℤ, ◌<ℤ◌, ◌≤ℤ◌, int_lt, int_le}
+use Rattle.std.specs.List.{list_any}
+use Rattle.region.specs.declared.Rect.{Rect}
+use Rattle.region.specs.declared.rows.Keep.{Keep}
+use Rattle.region.specs.declared.rows.Keep.TheVariants.{Either, Both, FirstAlone}
+use Rattle.region.specs.Runs.{AreRuns}
+use Rattle.region.specs.Region.{Interval}
+
+abbrev pub interval_of : Rect → Interval
+interval_of r = record { from = r.x1; to = r.x2; value = tt }
+
+-- maximal intervals, from the left
+abbrev pub IsRow : List Rect → Type 0
+IsRow rs = AreRuns (map interval_of rs)
+
+-- whether the column is in the row
+abbrev pub row_has : List Rect → ℤ → Bool
+row_has rs x = list_any (λ r. int_le r.x1 x && int_lt x r.x2) rs
+
+-- the first interval ends behind x
+abbrev pub Ahead : ℤ → List Rect → Type 0
+Ahead x [] = Unit {0}
+Ahead x (r ∷ rs) = x <ℤ r.x2
+
+-- the first interval ends at the edge or behind it
+abbrev pub Reaches : ℤ → List Rect → Type 0
+Reaches edge [] = Unit {0}
+Reaches edge (r ∷ rs) = edge ≤ℤ r.x2
+
+-- the row is the same from x to before the edge
+abbrev pub IsFlat : ℤ → ℤ → List Rect → Type 0
+IsFlat x edge rs = (z : ℤ) → x ≤ℤ z → z <ℤ edge → row_has rs z ≡ row_has rs x
+
+-- an edge behind x, up to which the row is the same
+pub record IsEdge (x edge : ℤ) (rs : List Rect) : Type 0 where
+  pub after : x <ℤ edge
+  pub reaches : Reaches edge rs
+  pub flat : IsFlat x edge rs
+
+abbrev pub kept : Keep → Bool → Bool → Bool
+kept Either a b = a || b
+kept Both a b = a && b
+kept FirstAlone a b = a && not b
+
+-- the row begins at n or behind it
+pub record IsStart (n : ℤ) (rs : List Rect) : Type 0 where
+  pub ahead : Ahead n rs
+  pub before : (z : ℤ) → z <ℤ n → row_has rs z ≡ false
