@@ -48,11 +48,11 @@ version_3_7 = refl
 abbrev request : ℕ → ℕ → ℕ → List ℕ
 request incremental w h = 3 ∷ incremental ∷ 0 ∷ 0 ∷ 0 ∷ 0 ∷ 0 ∷ w ∷ 0 ∷ h ∷ []
 
-asked_and_sent : answers demo (opens 1 ++ Hear 1 (request 0 4 3) ∷ Cut 1 ∷ Hear 1 (request 1 4 3) ∷ Cut 1 ∷ Paint (rect 2 1 3 2) (0xff8000 ∷ []) ∷ Cut 1 ∷ Cut 1 ∷ []) ≡
+thin_path : answers demo (opens 1 ++ Hear 1 (request 0 4 3) ∷ Cut 1 ∷ Hear 1 (request 1 4 3) ∷ Cut 1 ∷ Paint (rect 2 1 3 2) (0xff8000 ∷ []) ∷ Cut 1 ∷ Cut 1 ∷ []) ≡
     (gives server_version ∷ gives (1 ∷ 1 ∷ 0 ∷ 0 ∷ 0 ∷ 0 ∷ demo_init) ∷ nothing_to_say
     ∷ gives (0 ∷ 0 ∷ 0 ∷ 1 ∷ 0 ∷ 0 ∷ 0 ∷ 0 ∷ 0 ∷ 4 ∷ 0 ∷ 3 ∷ 0 ∷ 0 ∷ 0 ∷ 0 ∷ replicate 48 0) ∷ nothing_to_say ∷ nothing_to_say ∷ nothing_to_say
     ∷ gives (0 ∷ 0 ∷ 0 ∷ 1 ∷ 0 ∷ 2 ∷ 0 ∷ 1 ∷ 0 ∷ 1 ∷ 0 ∷ 1 ∷ 0 ∷ 0 ∷ 0 ∷ 0 ∷ 0 ∷ 0x80 ∷ 0xff ∷ 0 ∷ []) ∷ nothing_to_say ∷ [])
-asked_and_sent = refl
+thin_path = refl
 
 -- what is asked for outside the screen is not sent
 abbrev ask : ℕ → ℕ → ℕ → ℕ → ℕ → List ℕ
