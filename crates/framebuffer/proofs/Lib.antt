@@ -1,0 +1,5 @@
+pub mod BlockLemmas
+pub mod PictureLemmas
+pub mod SpanLemmas
+pub mod PieceLemmas
+pub mod MoveLemmas

@@ -1,0 +1,3 @@
+pub mod Picture
+pub mod Blocks
+pub mod Moves
