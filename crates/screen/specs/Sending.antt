@@ -8,15 +8,8 @@ use Rattle.pixel_translate.specs.declared.PixelFormat.{PixelFormat}
 use Rattle.encode_raw.specs.Raw.{raw, copyrect}
 use Rattle.messages.specs.Reading.{Rest, is_open_rest}
 use Rattle.messages.specs.Server.{update_head}
-use Rattle.screen.specs.Picture.{colour_at}
+use Rattle.framebuffer.specs.Picture.{area_of, colours_of}
 use Rattle.screen.specs.Viewer.{Viewer, is_open_viewer}
-
-abbrev pub area_of : Rect → Area
-area_of r = record { x = nat_abs r.x1; y = nat_abs r.y1; w = nat_abs (r.x2 -ℤ r.x1); h = nat_abs (r.y2 -ℤ r.y1) }
-
--- a rectangle's colours, row by row
-abbrev pub colours_of : ℕ → ℕ → List ℕ → Rect → List ℕ
-colours_of w h picture r = by_place (area_of r).w (area_of r).h (λ x y. colour_at w h picture (x +ℤ r.x1) (y +ℤ r.y1))
 
 -- 7.7.2: a copy names its source
 abbrev pub copy_bytes : ℤ × ℤ → Rect → List ℕ

@@ -1,0 +1,5 @@
+pub mod Tiles
+pub mod Hextile
+pub mod Reading
+pub mod Claims
+pub mod Examples
