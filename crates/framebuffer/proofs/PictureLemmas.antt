@@ -1,5 +1,5 @@
 -- Blocks and the picture's definitions, which speak of places by whole numbers.
-use Rattle.std.proofs.Common.{◌≡◌, ℕ, zero, suc, ℤ, pos, ◌+◌, ◌-◌, ◌*◌, ◌/◌, ◌%◌, ◌^◌, ◌<◌, ◌≤◌, Bool, true, false, cond, List, length, get_or, refl, sym, ap, ◌∙◌, arith, mul_comm}
+use Rattle.std.proofs.Common.{◌≡◌, ◌⊎◌, inl, inr, ◌&&◌, ℕ, zero, suc, ℤ, pos, ◌+◌, ◌-◌, ◌*◌, ◌/◌, ◌%◌, ◌^◌, ◌<◌, ◌≤◌, Bool, true, false, cond, List, length, get_or, refl, sym, ap, ◌∙◌, arith, mul_comm}
 use Rattle.std.specs.Prelude.{nat_abs, ◌-ℤ◌, ◌+ℤ◌}
 use Rattle.std.proofs.Math.IntN.{+ℤ-neg_ℤ_cancel}
 use Rattle.std.proofs.Math.Nat.{mod-add-div, mod-lt, div-lt_iff_lt-mul}
@@ -8,7 +8,10 @@ use Rattle.std.proofs.lemmas.List.FromFn.{fill_by_all, get_or-map-range_with_len
 use Rattle.region.specs.declared.Rect.{Rect}
 use Rattle.region.specs.Region.{in_rect, covers, on_screen}
 use Rattle.framebuffer.specs.Moves.{colour_moved}
+use Rattle.std.specs.Ordering.{int_eq}
+use Rattle.std.proofs.lemmas.Int.{ints}
 use Rattle.copy_schedule.specs.Places.{by_place}
+use Rattle.copy_schedule.specs.Marks.{same_offset}
 use Rattle.framebuffer.specs.declared.blocks.Block.{Block}
 use Rattle.framebuffer.specs.Blocks.{rect_of, is_in_block, block_colours}
 use Rattle.framebuffer.specs.Picture.{colour_at, colour_in, written, moved}
@@ -64,6 +67,38 @@ moved_is w h pieces by old now some size same done =
   where
     f : ℕ → ℕ
     f i = cond (covers pieces (pos (i % w)) (pos (i / w))) (colour_at w h old (pos (i % w) -ℤ by.0) (pos (i / w) -ℤ by.1)) (colour_at w h old (pos (i % w)) (pos (i / w)))
+
+both_same : (a b : Bool) → (a && b) ≡ true → (a ≡ true) × (b ≡ true)
+both_same true b e = (refl, e)
+both_same false b e = absurd cc
+
+no_way : (z x : ℤ) → int_eq z (pos 0) ≡ true → x -ℤ z ≡ x
+no_way z x e = grind (arith, ints)
+
+-- colours that move nowhere, or of no place, leave the picture
+pub idle : (w h : ℕ) (set : ℤ → ℤ → Bool) (by : ℤ × ℤ) (picture : List ℕ) → 0 < w → length picture ≡ w * h → (same_offset by (pos 0, pos 0) ≡ true) ⊎ ((x y : ℤ) → set x y ≡ false) → moved w h set by picture ≡ picture
+idle w h set by picture some size why =
+    sym (fill_by_all f picture (w * h) 0 size (λ k below.
+    let left : k % w < w = mod-lt k some in
+    let top : k / w < h = (div-lt_iff_lt-mul {k = w} {x = k} {y = h} some).1 (let e = mul_comm w h in omega (arith, e)) in
+    let here : get_or picture k 0 ≡ colour_at w h picture (pos (k % w)) (pos (k / w)) =
+    ap (λ n. get_or picture n 0) (let e = mod-add-div k w in omega (arith, e)) ∙ sym (ap (λ t. cond t (get_or picture (k / w * w + k % w) 0) 0) (on_it w h (k % w) (k / w) left top)) in
+    here ∙ sym (still why (pos (k % w)) (pos (k / w)))))
+  where
+    f : ℕ → ℕ
+    f i = cond (set (pos (i % w)) (pos (i / w))) (colour_at w h picture (pos (i % w) -ℤ by.0) (pos (i / w) -ℤ by.1)) (colour_at w h picture (pos (i % w)) (pos (i / w)))
+
+    same : {A : Type 0} (b : Bool) (z : A) → cond b z z ≡ z
+    same true z = refl
+    same false z = refl
+
+    still : (same_offset by (pos 0, pos 0) ≡ true) ⊎ ((x y : ℤ) → set x y ≡ false) → (x y : ℤ) → cond (set x y) (colour_at w h picture (x -ℤ by.0) (y -ℤ by.1)) (colour_at w h picture x y) ≡ colour_at w h picture x y
+    still (inr none) x y = ap (λ b. cond b (colour_at w h picture (x -ℤ by.0) (y -ℤ by.1)) (colour_at w h picture x y)) (none x y)
+    still (inl near) x y =
+        let parts = both_same (int_eq by.0 (pos 0)) (int_eq by.1 (pos 0)) near in
+        ap (λ z. cond (set x y) (colour_at w h picture z (y -ℤ by.1)) (colour_at w h picture x y)) (no_way by.0 x parts.0)
+        ∙ ap (λ z. cond (set x y) (colour_at w h picture x z) (colour_at w h picture x y)) (no_way by.1 y parts.1)
+        ∙ same (set x y) (colour_at w h picture x y)
 
 pub area_is : (b : Block) → area_of (rect_of b) ≡ record { x = b.left; y = b.top; w = b.columns; h = b.rows }
 area_is b =

@@ -7,7 +7,7 @@ use Rattle.std.proofs.lemmas.List.Elements.{filter_map-append}
 use Rattle.messages.specs.Reading.{Rest}
 use Rattle.screen.specs.declared.Config.{Config}
 use Rattle.screen.specs.declared.Event.{Event}
-use Rattle.screen.specs.declared.Event.TheVariants.{Paint, Connect, Hear, Cut, Close}
+use Rattle.screen.specs.declared.Event.TheVariants.{Write, Paint, Mark, ScheduleCopy, DoCopy, Bell, CutText, Connect, Hear, Cut, Close}
 use Rattle.screen.specs.Viewer.{Viewer, new_viewer}
 use Rattle.screen.specs.Alone.{own_step, owner_of}
 use Rattle.screen.specs.Answers.{viewer_of, picture_of, live_from, after_arrival, kept, entry_of, State, state}
@@ -66,6 +66,12 @@ distinct-arrival (Close v) there h = distinct-filter (λ n. not (n == v)) there 
 distinct-arrival (Hear v piece) there h = h
 distinct-arrival (Cut v) there h = h
 distinct-arrival (Paint r colours) there h = h
+distinct-arrival (Write r colours) there h = h
+distinct-arrival (Mark rects) there h = h
+distinct-arrival (ScheduleCopy rects dx dy) there h = h
+distinct-arrival (DoCopy rects dx dy) there h = h
+distinct-arrival Bell there h = h
+distinct-arrival (CutText text) there h = h
 
 distinct-live : (there : List ℕ) (es : List Event) → Distinct there → Distinct (live_from there es)
 distinct-live there [] h = h

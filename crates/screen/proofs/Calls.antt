@@ -11,7 +11,9 @@ use Rattle.screen.specs.declared.Answer.{Answer}
 use Rattle.screen.specs.declared.ScreenError.{ScreenError}
 use Rattle.screen.specs.declared.ScreenError.TheVariants as refusals
 use Rattle.screen.specs.declared.place.Seat.{Seat}
-use Rattle.screen.specs.Viewer.{Viewer, new_viewer}
+use Rattle.screen.specs.declared.notices.Notice.{Notice}
+use Rattle.screen.specs.declared.notices.Notice.TheVariants as notice
+use Rattle.screen.specs.Viewer.{Viewer, none_wait, new_viewer}
 use Rattle.copy_schedule.specs.Marks.{Sent, pending, copies_of, pixels_of, after_sending}
 use Rattle.messages.specs.Reading.{is_open_rest}
 use Rattle.screen.specs.Sending.{sending_kept, with_update}
@@ -161,16 +163,20 @@ close-answer c config es p seats v b h is =
 
 -- ---- whether there is something to send
 
-pub some-sent : (w h limit : ℕ) (picture : List ℕ) (v : Viewer Rest) → some_bytes (sending_kept w h limit picture v).0 ≡ (is_open_rest v.heard && pending v.marks)
-some-sent w h limit picture v = go (is_open_rest v.heard) (pending v.marks)
+pub some-sent : (w h limit : ℕ) (picture : List ℕ) (v : Viewer Rest) → some_bytes (sending_kept w h limit picture v).0 ≡ (is_open_rest v.heard && (not (none_wait v.notices) || pending v.marks))
+some-sent w h limit picture v = go (is_open_rest v.heard) (pending v.marks) v.notices
   where
     sent : Sent
     sent = record { copies = copies_of limit v.marks; offset = v.marks.offset; pixels = pixels_of limit v.marks; after = after_sending (copies_of limit v.marks) (pixels_of limit v.marks) v.marks }
 
-    go : (a b : Bool) → some_bytes (cond a (with_update w h picture v (cond b (Some sent) None)) ([], v)).0 ≡ (a && b)
-    go true true = refl
-    go true false = refl
-    go false b = refl
+    go : (a b : Bool) (ns : List Notice) → some_bytes (cond a (with_update w h picture (record v { notices = ns }) (cond b (Some sent) None)) ([], record v { notices = ns })).0 ≡ (a && (not (none_wait ns) || b))
+    go false b ns = refl
+    go true true [] = refl
+    go true false [] = refl
+    go true true (notice.Bell ∷ ns) = refl
+    go true true (notice.CutText text ∷ ns) = refl
+    go true false (notice.Bell ∷ ns) = refl
+    go true false (notice.CutText text ∷ ns) = refl
 
 -- ---- what a call tells
 

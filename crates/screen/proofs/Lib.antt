@@ -1,12 +1,13 @@
+mod Opened
 mod Steps
 mod Owners
 mod Alike
 mod Arrivals
 mod Seats
 mod Sent
-mod Painted
+mod Drawn
+mod Copies
 mod Calls
 mod Refused
-pub mod BlockLemmas
-pub mod PictureLemmas
+mod LoopLemmas
 pub mod SeatLemmas

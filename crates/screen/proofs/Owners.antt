@@ -7,10 +7,10 @@ use Rattle.messages.specs.Reading.{Rest, rest, new_items}
 use Rattle.screen.specs.declared.Config.{Config}
 use Rattle.screen.specs.declared.ScreenError.{ScreenError}
 use Rattle.screen.specs.declared.Event.{Event}
-use Rattle.screen.specs.declared.Event.TheVariants.{Paint, Connect, Hear, Cut, Close}
+use Rattle.screen.specs.declared.Event.TheVariants.{Write, Paint, Mark, ScheduleCopy, DoCopy, Bell, CutText, Connect, Hear, Cut, Close}
 use Rattle.messages.specs.declared.Item.{Item}
 use Rattle.messages.specs.declared.Item.TheVariants as item
-use Rattle.screen.specs.Viewer.{Viewer, after_item}
+use Rattle.screen.specs.Viewer.{Viewer, is_open_viewer, after_item}
 use Rattle.screen.specs.Alone.{One, step, own_step, draw_step, after, answers_from, alone, owner_of, drawing_refusal, drawn, shown_drawing, after_items, hearing, empty_screen, nothing_to_say, refuses}
 use Rattle.screen.specs.Answers.{own, is_owner, is_drawing, last_of, answer_to, picture_of, viewer_of, live_from, after_arrival, kept, entry_of, State, state}
 use Rattle.screen.specs.declared.place.Seat.{Seat}
@@ -67,7 +67,7 @@ drawn-there : (c : Config) (e : Event) (s : One) (r : Option ScreenError) → is
 drawn-there c e s (Some r) = refl
 drawn-there c e s None = go s.viewer
   where
-    go : (o : Option (Viewer (List ℕ))) → is_some (option_map (λ v. shown_drawing c e v) o) ≡ is_some o
+    go : (o : Option (Viewer (List ℕ))) → is_some (option_map (λ v. shown_drawing c e (is_open_viewer v) v) o) ≡ is_some o
     go None = refl
     go (Some v) = refl
 
@@ -158,6 +158,12 @@ by-owner P n v hit miss = go (n == v) refl
 there-step : (c : Config) (v : ℕ) (e : Event) (s : One) (there : List ℕ) → has v there ≡ is_some s.viewer → has v (after_arrival e there) ≡ is_some (passed c v e s).viewer
 unfolding passed
 there-step c v (Paint r colours) s there h = h ∙ sym (drawn-there c (Paint r colours) s (drawing_refusal c (Paint r colours)))
+there-step c v (Write r colours) s there h = h ∙ sym (drawn-there c (Write r colours) s (drawing_refusal c (Write r colours)))
+there-step c v (Mark rects) s there h = h ∙ sym (drawn-there c (Mark rects) s (drawing_refusal c (Mark rects)))
+there-step c v (ScheduleCopy rects dx dy) s there h = h ∙ sym (drawn-there c (ScheduleCopy rects dx dy) s (drawing_refusal c (ScheduleCopy rects dx dy)))
+there-step c v (DoCopy rects dx dy) s there h = h ∙ sym (drawn-there c (DoCopy rects dx dy) s (drawing_refusal c (DoCopy rects dx dy)))
+there-step c v Bell s there h = h ∙ sym (drawn-there c Bell s (drawing_refusal c Bell))
+there-step c v (CutText text) s there h = h ∙ sym (drawn-there c (CutText text) s (drawing_refusal c (CutText text)))
 there-step c v (Connect n) s there h = by-owner (λ b. has v (after_arrival (Connect n) there) ≡ is_some (cond b (step c (Connect n) s).0 s).viewer) n v
     (λ e. ap (λ m. has m (after_arrival (Connect n) there)) (sym e) ∙ connect-has n there ∙ sym (connect-there c n s))
     (λ other. connect-has_other v n there other ∙ h)
@@ -275,6 +281,18 @@ own-picture c (Close n) s (Some v) = refl
 own-picture c (Close n) s None = refl
 own-picture c (Paint r colours) s None = refl
 own-picture c (Paint r colours) s (Some v) = refl
+own-picture c (Write r colours) s None = refl
+own-picture c (Write r colours) s (Some v) = refl
+own-picture c (Mark rects) s None = refl
+own-picture c (Mark rects) s (Some v) = refl
+own-picture c (ScheduleCopy rects dx dy) s None = refl
+own-picture c (ScheduleCopy rects dx dy) s (Some v) = refl
+own-picture c (DoCopy rects dx dy) s None = refl
+own-picture c (DoCopy rects dx dy) s (Some v) = refl
+own-picture c Bell s None = refl
+own-picture c Bell s (Some v) = refl
+own-picture c (CutText text) s None = refl
+own-picture c (CutText text) s (Some v) = refl
 
 draw-picture : (c : Config) (e : Event) (s t : One) (r : Option ScreenError) → s.picture ≡ t.picture → (draw_step c e s r).0.picture ≡ (draw_step c e t r).0.picture
 draw-picture c e s t None h = ap (drawn c e) h

@@ -8,7 +8,7 @@ use Rattle.screen.specs.declared.Config.{Config}
 use Rattle.screen.specs.declared.ScreenError.{ScreenError}
 use Rattle.screen.specs.declared.ScreenError.TheVariants as refusals
 use Rattle.screen.specs.declared.Event.{Event}
-use Rattle.screen.specs.declared.Event.TheVariants.{Paint, Connect, Hear, Cut, Close}
+use Rattle.screen.specs.declared.Event.TheVariants.{Write, Paint, Mark, ScheduleCopy, DoCopy, Bell, CutText, Connect, Hear, Cut, Close}
 use Rattle.screen.specs.declared.Answer.{Answer}
 use Rattle.screen.specs.Viewer.{Viewer}
 use Rattle.screen.specs.Alone.{One, step, own_step, after, owner_of, drawing_refusal, refuses, nothing_to_say, empty_screen, Tells, settled}
@@ -36,6 +36,27 @@ state-refused_drawing c es e r h k =
         (ap (λ l. (after c l (empty_screen c)).viewer) (own-drawing v es e h) ∙ ap (λ (o : One). o.viewer) (after-append c (own v es) e (empty_screen c) ∙ step-refused c e (after c (own v es) (empty_screen c)) r h k))
         ∙ ap (cons_option (entry_of v (viewer_of c v es))) (entries ns)
 
+answer-drawing : (c : Config) (es : List Event) (e : Event) (o : Option ScreenError) → owner_of e ≡ None → drawing_refusal c e ≡ o → answer_to c es e ≡ elim o [ None ↦ nothing_to_say | Some q ↦ refuses q ]
+answer-drawing c es e None h k = rw (h, k) refl
+answer-drawing c es e (Some q) h k = rw (h, k) refl
+
+refused-drawing : (c : Config) (es : List Event) (e : Event) (r : ScreenError) → owner_of e ≡ None → (answer_to c es e).refused ≡ Some r → state c (es ++ e ∷ []) ≡ state c es
+refused-drawing c es e r h refused = go (drawing_refusal c e) refl
+  where
+    go : (o : Option ScreenError) → drawing_refusal c e ≡ o → state c (es ++ e ∷ []) ≡ state c es
+    go (Some q) k = state-refused_drawing c es e q h k
+    go None k = let both : None ≡ Some r = sym (ap (λ (a : Answer). a.refused) (answer-drawing c es e None h k)) ∙ refused in absurd cc
+
+refused-alone : (c : Config) (es : List Event) (e : Event) (r : ScreenError) → owner_of e ≡ None → (answer_to c es e).refused ≡ Some r → answer_to c es e ≡ refuses r
+refused-alone c es e r h refused = go (drawing_refusal c e) refl
+  where
+    go : (o : Option ScreenError) → drawing_refusal c e ≡ o → answer_to c es e ≡ refuses r
+    go (Some q) k =
+        let there : answer_to c es e ≡ refuses q = answer-drawing c es e (Some q) h k in
+        let same : Some q ≡ Some r = sym (ap (λ (a : Answer). a.refused) there) ∙ refused in
+        there ∙ ap (λ (o : Option ScreenError). record nothing_to_say { refused = o }) same
+    go None k = let both : None ≡ Some r = sym (ap (λ (a : Answer). a.refused) (answer-drawing c es e None h k)) ∙ refused in absurd cc
+
 -- whether a call is refused, by whether its viewer is there
 absent : (c : Config) (es : List Event) (e : Event) (v : ℕ) (r : ScreenError) → owner_of e ≡ Some v → ((w : Viewer (List ℕ)) → (own_step c e (one_of c v es) (Some w)).1.refused ≡ None)
     → (answer_to c es e).refused ≡ Some r → viewer_of c v es ≡ None
@@ -56,11 +77,13 @@ in-use c es v r refused = go (viewer_of c v es) refl
 
 -- a refused event changes nothing
 pub state-refused : (c : Config) (es : List Event) (e : Event) (r : ScreenError) → (answer_to c es e).refused ≡ Some r → state c (es ++ e ∷ []) ≡ state c es
-state-refused c es (Paint rect colours) r h = go (drawing_refusal c (Paint rect colours)) refl
-  where
-    go : (o : Option ScreenError) → drawing_refusal c (Paint rect colours) ≡ o → state c (es ++ Paint rect colours ∷ []) ≡ state c es
-    go (Some q) k = state-refused_drawing c es (Paint rect colours) q refl k
-    go None k = let both : None ≡ Some r = (let e : (answer_to c es (Paint rect colours)).refused ≡ None = rw k refl in sym e ∙ h) in absurd cc
+state-refused c es (Paint rect colours) r h = refused-drawing c es (Paint rect colours) r refl h
+state-refused c es (Write rect colours) r h = refused-drawing c es (Write rect colours) r refl h
+state-refused c es (Mark rects) r h = refused-drawing c es (Mark rects) r refl h
+state-refused c es (ScheduleCopy rects dx dy) r h = refused-drawing c es (ScheduleCopy rects dx dy) r refl h
+state-refused c es (DoCopy rects dx dy) r h = refused-drawing c es (DoCopy rects dx dy) r refl h
+state-refused c es Bell r h = refused-drawing c es Bell r refl h
+state-refused c es (CutText text) r h = refused-drawing c es (CutText text) r refl h
 state-refused c es (Connect v) r h = let there = in-use c es v r h in state-in_use c es v there.0 there.1
 state-refused c es (Hear v piece) r h =
     let away = absent c es (Hear v piece) v r refl (λ w. refl) h in
@@ -74,14 +97,13 @@ state-refused c es (Close v) r h =
 
 -- a refusal is told alone
 pub refusal-alone : (c : Config) (es : List Event) (e : Event) (r : ScreenError) → (answer_to c es e).refused ≡ Some r → answer_to c es e ≡ refuses r
-refusal-alone c es (Paint rect colours) r h = go (drawing_refusal c (Paint rect colours)) refl
-  where
-    go : (o : Option ScreenError) → drawing_refusal c (Paint rect colours) ≡ o → answer_to c es (Paint rect colours) ≡ refuses r
-    go (Some q) k =
-        let there : answer_to c es (Paint rect colours) ≡ refuses q = rw k refl in
-        let e : Some q ≡ Some r = sym (ap (λ (a : Answer). a.refused) there) ∙ h in
-        there ∙ ap (λ (o : Option ScreenError). record nothing_to_say { refused = o }) e
-    go None k = let both : None ≡ Some r = (let e : (answer_to c es (Paint rect colours)).refused ≡ None = rw k refl in sym e ∙ h) in absurd cc
+refusal-alone c es (Paint rect colours) r h = refused-alone c es (Paint rect colours) r refl h
+refusal-alone c es (Write rect colours) r h = refused-alone c es (Write rect colours) r refl h
+refusal-alone c es (Mark rects) r h = refused-alone c es (Mark rects) r refl h
+refusal-alone c es (ScheduleCopy rects dx dy) r h = refused-alone c es (ScheduleCopy rects dx dy) r refl h
+refusal-alone c es (DoCopy rects dx dy) r h = refused-alone c es (DoCopy rects dx dy) r refl h
+refusal-alone c es Bell r h = refused-alone c es Bell r refl h
+refusal-alone c es (CutText text) r h = refused-alone c es (CutText text) r refl h
 refusal-alone c es (Connect v) r h =
     let there = in-use c es v r h in
     let told = answer-hit c v es (Connect v) refl ∙ ap (λ o. (own_step c (Connect v) (one_of c v es) o).1) there.1 in
@@ -112,6 +134,7 @@ settled-answer given m a is told alone = go given a.refused refl is told
     kind refusals.BadRectLimit h = sym h
     kind refusals.BadRect h = sym h
     kind refusals.BadPixelCount h = sym h
+    kind refusals.TextTooLong h = sym h
     kind refusals.NoViewer h = sym h
     kind refusals.NumberInUse h = sym h
     kind refusals.OutOfMemory h = tt
@@ -135,6 +158,7 @@ settled-step {P = P} {Q = Q} given m a is told done kept refused = go given a.re
     kind refusals.BadRectLimit h = h
     kind refusals.BadRect h = h
     kind refusals.BadPixelCount h = h
+    kind refusals.TextTooLong h = h
     kind refusals.NoViewer h = h
     kind refusals.NumberInUse h = h
     kind refusals.OutOfMemory h = tt

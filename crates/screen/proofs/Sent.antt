@@ -1,41 +1,19 @@
 -- What a sending step does, by what a screen keeps of the viewer.
-use Rattle.std.proofs.Common.{◌≡◌, ℕ, Bool, true, false, cond, ◌&&◌, List, [], ◌∷◌, ◌++◌, map, length, Option, Some, None, refl, ◌∙◌, ap}
-use Rattle.std.specs.Prelude.{nat_le, ◌==◌, slice_index}
+use Rattle.std.proofs.Common.{◌≡◌, ℕ, Bool, true, false, cond, List, [], ◌∷◌, ◌++◌, map, Option, Some, None, refl, ◌∙◌, ap}
 use Rattle.copy_schedule.specs.Marks.{Sent, cut_of}
-use Rattle.messages.specs.declared.Phase.{Phase}
-use Rattle.messages.specs.declared.Phase.TheVariants as phase
-use Rattle.messages.specs.Grammar.{End, waiting, faulty}
-use Rattle.messages.specs.Reading.{heard, Unfinished, unfinished_of, is_open_rest}
+use Rattle.messages.specs.Reading.{is_open_rest}
 use Rattle.screen.specs.declared.Config.{Config}
 use Rattle.screen.specs.declared.Event.{Event}
 use Rattle.screen.specs.declared.Event.TheVariants.{Cut}
-use Rattle.screen.specs.Viewer.{Viewer, is_open, is_open_viewer}
-use Rattle.screen.specs.Sending.{with_update, sending, sending_kept}
+use Rattle.screen.specs.Viewer.{Viewer, is_open_viewer}
+use Rattle.screen.specs.Sending.{notice_bytes, with_update, sending, sending_kept}
+use Rattle.std.specs.Prelude.{flat_map}
+use Rattle.screen.specs.declared.notices.Notice.{Notice}
+use Rattle.screen.specs.declared.notices.Notice.TheVariants as notice
 use Rattle.screen.specs.Alone.{own_step, gives}
 use Rattle.screen.specs.Answers.{viewer_of, picture_of, kept, state, answer_to}
+use Rattle.screen.proofs.Opened.{open-kept}
 use Rattle.screen.proofs.Owners.{one_of, replaced, viewer-hit, answer-hit, one-picture, state-own}
-
-open-by-rest : (p : Phase) (end : End) (bytes : List ℕ) → is_open p end ≡ is_open_rest (record { phase = p; unfinished = unfinished_of p end bytes })
-open-by-rest phase.Version waiting bytes = refl
-open-by-rest phase.Version (faulty k) bytes = refl
-open-by-rest (phase.Choice v) waiting bytes = refl
-open-by-rest (phase.Choice v) (faulty k) bytes = refl
-open-by-rest (phase.Init v) waiting bytes = refl
-open-by-rest (phase.Init v) (faulty k) bytes = refl
-open-by-rest (phase.Open v) (faulty k) bytes = refl
-open-by-rest (phase.Open v) waiting bytes = one_of_three ((slice_index bytes 0 == 2) && nat_le 4 (length bytes)) ((slice_index bytes 0 == 6) && nat_le 8 (length bytes)) _ _ _ refl refl refl
-  where
-    open_with : Unfinished → Bool
-    open_with u = is_open_rest (record { phase = phase.Open v; unfinished = u })
-
-    one_of_three : (a b : Bool) (x y z : Unfinished) → true ≡ open_with x → true ≡ open_with y → true ≡ open_with z → true ≡ open_with (cond a x (cond b y z))
-    one_of_three true b x y z h k l = h
-    one_of_three false true x y z h k l = k
-    one_of_three false false x y z h k l = l
-
--- a viewer is open where what is kept of it says so
-open-kept : (v : Viewer (List ℕ)) → is_open_viewer v ≡ is_open_rest (kept v).heard
-open-kept v = open-by-rest (heard v.heard).phase (heard v.heard).end (heard v.heard).unfinished
 
 both : (w h limit : ℕ) (picture : List ℕ) (v : Viewer (List ℕ)) → ((sending w h limit picture v).0 ≡ (sending_kept w h limit picture (kept v)).0) × (kept (sending w h limit picture v).1 ≡ (sending_kept w h limit picture (kept v)).1)
 both w h limit picture v = (by_open (is_open_viewer v) (is_open_rest (kept v).heard) (open-kept v), by_open_after (is_open_viewer v) (is_open_rest (kept v).heard) (open-kept v))
@@ -75,3 +53,14 @@ answer-cut c es v was there =
     answer-hit c v es (Cut v) refl ∙ ap (λ o. (own_step c (Cut v) (one_of c v es) o).1) there
     ∙ ap (λ p. gives (sending c.width c.height c.rects_per_update p was).0) (one-picture c v es)
     ∙ ap gives (both c.width c.height c.rects_per_update (picture_of c es) was).0
+
+-- ---- an update that is given isn't empty
+
+pub some_notice : (notices : List Notice) (rest : List ℕ) → (notices ≡ [] → ⊥) → flat_map notice_bytes notices ++ rest ≡ [] → ⊥
+some_notice [] rest some e = some refl
+some_notice (notice.Bell ∷ notices) rest some e = cc
+some_notice (notice.CutText text ∷ notices) rest some e = cc
+
+pub some_rest : (bytes rest : List ℕ) → (rest ≡ [] → ⊥) → bytes ++ rest ≡ [] → ⊥
+some_rest [] rest some e = some e
+some_rest (b ∷ bytes) rest some e = cc

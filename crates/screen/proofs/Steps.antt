@@ -2,12 +2,13 @@
 use Rattle.std.proofs.Common.{◌≡◌, ℕ, Bool, true, false, cond, List, [], ◌∷◌, ◌++◌, map, Option, Some, None, refl, ◌∙◌, ap}
 use Rattle.std.specs.Prelude.{filter, option_map}
 use Rattle.std.specs.List.{filter_map, cons_option}
-use Rattle.messages.specs.Reading.{Rest}
+use Rattle.messages.specs.Reading.{Rest, is_open_rest}
 use Rattle.screen.specs.declared.Config.{Config}
 use Rattle.screen.specs.declared.Event.{Event}
-use Rattle.screen.specs.declared.Event.TheVariants.{Paint, Connect, Hear, Cut, Close}
-use Rattle.screen.specs.Viewer.{Viewer}
+use Rattle.screen.specs.declared.Event.TheVariants.{Write, Paint, Mark, ScheduleCopy, DoCopy, Bell, CutText, Connect, Hear, Cut, Close}
+use Rattle.screen.specs.Viewer.{Viewer, is_open_viewer}
 use Rattle.screen.specs.Alone.{One, step, after, owner_of, drawing_refusal, drawn, shown_drawing, empty_screen}
+use Rattle.screen.proofs.Opened.{open-kept}
 use Rattle.screen.specs.Answers.{own, is_owner, is_drawing, picture_of, viewer_of, live_from, after_arrival, kept, entry_of, State, state}
 
 -- one event more
@@ -38,7 +39,7 @@ pub drawings-drawing : (es : List Event) (e : Event) → owner_of e ≡ None →
 drawings-drawing es e h = filter-append (λ a. is_drawing (owner_of a)) es e ∙ ap (λ o. filter (λ a. is_drawing (owner_of a)) es ++ cond (is_drawing o) (e ∷ []) []) h
 
 -- it changes the picture, and the viewer that is there
-pub step-drawing : (c : Config) (e : Event) (s : One) → IsDrawing c e → (step c e s).0 ≡ record { picture = drawn c e s.picture; viewer = option_map (λ v. shown_drawing c e v) s.viewer }
+pub step-drawing : (c : Config) (e : Event) (s : One) → IsDrawing c e → (step c e s).0 ≡ record { picture = drawn c e s.picture; viewer = option_map (λ v. shown_drawing c e (is_open_viewer v) v) s.viewer }
 step-drawing c e s h = rw (h.0, h.1) refl
 
 pub arrival-drawing : (e : Event) (there : List ℕ) → owner_of e ≡ None → after_arrival e there ≡ there
@@ -47,31 +48,43 @@ arrival-drawing (Close n) there h = cc
 arrival-drawing (Hear n piece) there h = refl
 arrival-drawing (Cut n) there h = refl
 arrival-drawing (Paint r colours) there h = refl
+arrival-drawing (Write r colours) there h = refl
+arrival-drawing (Mark rects) there h = refl
+arrival-drawing (ScheduleCopy rects dx dy) there h = refl
+arrival-drawing (DoCopy rects dx dy) there h = refl
+arrival-drawing Bell there h = refl
+arrival-drawing (CutText text) there h = refl
 
 pub picture-drawing : (c : Config) (es : List Event) (e : Event) → IsDrawing c e → picture_of c (es ++ e ∷ []) ≡ drawn c e (picture_of c es)
 picture-drawing c es e h =
     ap (λ l. (after c l (empty_screen c)).picture) (drawings-drawing es e h.0)
     ∙ ap (λ (s : One). s.picture) (after-append c (filter (λ a. is_drawing (owner_of a)) es) e (empty_screen c) ∙ step-drawing c e (after c (filter (λ a. is_drawing (owner_of a)) es) (empty_screen c)) h)
 
-pub viewer-drawing : (c : Config) (v : ℕ) (es : List Event) (e : Event) → IsDrawing c e → viewer_of c v (es ++ e ∷ []) ≡ option_map (λ w. shown_drawing c e w) (viewer_of c v es)
+pub viewer-drawing : (c : Config) (v : ℕ) (es : List Event) (e : Event) → IsDrawing c e → viewer_of c v (es ++ e ∷ []) ≡ option_map (λ w. shown_drawing c e (is_open_viewer w) w) (viewer_of c v es)
 viewer-drawing c v es e h =
     ap (λ l. (after c l (empty_screen c)).viewer) (own-drawing v es e h.0)
     ∙ ap (λ (s : One). s.viewer) (after-append c (own v es) e (empty_screen c) ∙ step-drawing c e (after c (own v es) (empty_screen c)) h)
 
 -- What a drawing call does to a viewer as it is kept.
 abbrev pub redrawn : Config → Event → ℕ × Viewer Rest → ℕ × Viewer Rest
-redrawn c e entry = (entry.0, shown_drawing c e entry.1)
+redrawn c e entry = (entry.0, shown_drawing c e (is_open_rest entry.1.heard) entry.1)
 
-kept-drawing : (c : Config) (e : Event) (v : Viewer (List ℕ)) → kept (shown_drawing c e v) ≡ shown_drawing c e (kept v)
-kept-drawing c (Connect n) v = refl
-kept-drawing c (Close n) v = refl
-kept-drawing c (Hear n piece) v = refl
-kept-drawing c (Cut n) v = refl
-kept-drawing c (Paint r colours) v = refl
+kept-drawing : (c : Config) (e : Event) (b : Bool) (v : Viewer (List ℕ)) → kept (shown_drawing c e b v) ≡ shown_drawing c e b (kept v)
+kept-drawing c (Connect n) b v = refl
+kept-drawing c (Close n) b v = refl
+kept-drawing c (Hear n piece) b v = refl
+kept-drawing c (Cut n) b v = refl
+kept-drawing c (Paint r colours) b v = refl
+kept-drawing c (Write r colours) b v = refl
+kept-drawing c (Mark rects) b v = refl
+kept-drawing c (ScheduleCopy rects dx dy) b v = refl
+kept-drawing c (DoCopy rects dx dy) b v = refl
+kept-drawing c Bell b v = refl
+kept-drawing c (CutText text) b v = refl
 
-entry-drawing : (c : Config) (e : Event) (v : ℕ) (o : Option (Viewer (List ℕ))) → entry_of v (option_map (λ w. shown_drawing c e w) o) ≡ option_map (redrawn c e) (entry_of v o)
+entry-drawing : (c : Config) (e : Event) (v : ℕ) (o : Option (Viewer (List ℕ))) → entry_of v (option_map (λ w. shown_drawing c e (is_open_viewer w) w) o) ≡ option_map (redrawn c e) (entry_of v o)
 entry-drawing c e v None = refl
-entry-drawing c e v (Some w) = ap (λ k. Some (v, k)) (kept-drawing c e w)
+entry-drawing c e v (Some w) = ap (λ k. Some (v, k)) (kept-drawing c e (is_open_viewer w) w ∙ ap (λ b. shown_drawing c e b (kept w)) (open-kept w))
 
 all-entries : (c : Config) (es : List Event) (e : Event) → IsDrawing c e → (there : List ℕ) → filter_map (λ v. entry_of v (viewer_of c v (es ++ e ∷ []))) there ≡ map (redrawn c e) (filter_map (λ v. entry_of v (viewer_of c v es)) there)
 all-entries c es e h [] = refl

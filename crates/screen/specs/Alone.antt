@@ -13,10 +13,11 @@ use Rattle.screen.specs.declared.Config.{Config}
 use Rattle.screen.specs.declared.ScreenError.{ScreenError}
 use Rattle.screen.specs.declared.ScreenError.TheVariants as refusals
 use Rattle.screen.specs.declared.Event.{Event}
-use Rattle.screen.specs.declared.Event.TheVariants.{Paint, Connect, Hear, Cut, Close}
+use Rattle.screen.specs.declared.Event.TheVariants.{Write, Paint, Mark, ScheduleCopy, DoCopy, Bell, CutText, Connect, Hear, Cut, Close}
 use Rattle.screen.specs.declared.Answer.{Answer}
-use Rattle.screen.specs.Picture.{blank, written}
-use Rattle.screen.specs.Viewer.{Viewer, new_viewer, viewer_marked, after_item}
+use Rattle.screen.specs.declared.notices.Notice.TheVariants as notice
+use Rattle.framebuffer.specs.Picture.{blank, written, copied, union_of}
+use Rattle.screen.specs.Viewer.{Viewer, new_viewer, is_open_viewer, noticed, viewer_marked, viewer_copied, after_item}
 use Rattle.screen.specs.Sending.{sending}
 
 abbrev pub nothing_to_say : Answer
@@ -78,18 +79,27 @@ pixels_refusal c r colours =
     else None)
 
 abbrev pub drawing_refusal : Config → Event → Option ScreenError
+drawing_refusal c (Write r colours) = pixels_refusal c r colours
 drawing_refusal c (Paint r colours) = pixels_refusal c r colours
+drawing_refusal c (CutText text) = if nat_lt 65536 (length text) then Some refusals.TextTooLong else None
 drawing_refusal c _ = None
 
 -- what a drawing call that is not refused does to the picture
 abbrev pub drawn : Config → Event → List ℕ → List ℕ
+drawn c (Write r colours) picture = written c.width c.height r colours picture
 drawn c (Paint r colours) picture = written c.width c.height r colours picture
+drawn c (DoCopy rects dx dy) picture = copied c.width c.height (union_of rects) (dx, dy) picture
 drawn c _ picture = picture
 
--- and to a viewer
-abbrev pub shown_drawing : {B : Type 0} → Config → Event → Viewer B → Viewer B
-shown_drawing c (Paint r colours) v = viewer_marked (in_rect r) v
-shown_drawing c _ v = v
+-- and to a viewer, which is open or not
+abbrev pub shown_drawing : {B : Type 0} → Config → Event → Bool → Viewer B → Viewer B
+shown_drawing c (Paint r colours) open_now v = viewer_marked (in_rect r) v
+shown_drawing c (Mark rects) open_now v = viewer_marked (union_of rects) v
+shown_drawing c (ScheduleCopy rects dx dy) open_now v = viewer_copied c.width c.height (union_of rects) (dx, dy) v
+shown_drawing c (DoCopy rects dx dy) open_now v = viewer_copied c.width c.height (union_of rects) (dx, dy) v
+shown_drawing c Bell open_now v = noticed notice.Bell open_now v
+shown_drawing c (CutText text) open_now v = noticed (notice.CutText text) open_now v
+shown_drawing c _ open_now v = v
 
 -- A viewer's own events.
 
@@ -137,7 +147,7 @@ own_step c (Close n) s (Some v) = (record s { viewer = None }, nothing_to_say)
 own_step c _ s _ = (s, refuses refusals.NoViewer)
 
 abbrev pub draw_step : Config → Event → One → Option ScreenError → One × Answer
-draw_step c e s None = (record { picture = drawn c e s.picture; viewer = option_map (λ v. shown_drawing c e v) s.viewer }, nothing_to_say)
+draw_step c e s None = (record { picture = drawn c e s.picture; viewer = option_map (λ v. shown_drawing c e (is_open_viewer v) v) s.viewer }, nothing_to_say)
 draw_step c e s (Some refusal) = (s, refuses refusal)
 
 -- whose event it is; none's where it is a drawing call

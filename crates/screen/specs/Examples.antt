@@ -19,14 +19,14 @@ F = 0x20 ∷ 0x18 ∷ 0 ∷ 1 ∷ 0 ∷ 0xff ∷ 0 ∷ 0xff ∷ 0 ∷ 0xff ∷ 0
 abbrev opening : List ℕ
 opening = server_version ++ 1 ∷ 1 ∷ []
 
-abbrev demo : Config
+abbrev pub demo : Config
 demo = record { width = 4; height = 3; name = 0x64 ∷ 0x65 ∷ 0x6d ∷ 0x6f ∷ []; rects_per_update = 50 }
 
 -- the ServerInit of that screen
 abbrev demo_init : List ℕ
 demo_init = 0 ∷ 4 ∷ 0 ∷ 3 ∷ F ++ 0 ∷ 0 ∷ 0 ∷ 4 ∷ 0x64 ∷ 0x65 ∷ 0x6d ∷ 0x6f ∷ []
 
-abbrev opens : ℕ → List Event
+abbrev pub opens : ℕ → List Event
 opens v = Connect v ∷ Hear v opening ∷ []
 
 opened : answers demo (opens 1) ≡ (gives server_version ∷ gives (1 ∷ 1 ∷ 0 ∷ 0 ∷ 0 ∷ 0 ∷ demo_init) ∷ [])
@@ -48,40 +48,40 @@ version_3_7 = refl
 abbrev request : ℕ → ℕ → ℕ → List ℕ
 request incremental w h = 3 ∷ incremental ∷ 0 ∷ 0 ∷ 0 ∷ 0 ∷ 0 ∷ w ∷ 0 ∷ h ∷ []
 
-thin_path : answers demo (opens 1 ++ Hear 1 (request 0 4 3) ∷ Cut 1 ∷ Hear 1 (request 1 4 3) ∷ Cut 1 ∷ Paint (rect 2 1 3 2) (0xff8000 ∷ []) ∷ Cut 1 ∷ Cut 1 ∷ []) ≡
+asked_and_sent : answers demo (opens 1 ++ Hear 1 (request 0 4 3) ∷ Cut 1 ∷ Hear 1 (request 1 4 3) ∷ Cut 1 ∷ Paint (rect 2 1 3 2) (0xff8000 ∷ []) ∷ Cut 1 ∷ Cut 1 ∷ []) ≡
     (gives server_version ∷ gives (1 ∷ 1 ∷ 0 ∷ 0 ∷ 0 ∷ 0 ∷ demo_init) ∷ nothing_to_say
     ∷ gives (0 ∷ 0 ∷ 0 ∷ 1 ∷ 0 ∷ 0 ∷ 0 ∷ 0 ∷ 0 ∷ 4 ∷ 0 ∷ 3 ∷ 0 ∷ 0 ∷ 0 ∷ 0 ∷ replicate 48 0) ∷ nothing_to_say ∷ nothing_to_say ∷ nothing_to_say
     ∷ gives (0 ∷ 0 ∷ 0 ∷ 1 ∷ 0 ∷ 2 ∷ 0 ∷ 1 ∷ 0 ∷ 1 ∷ 0 ∷ 1 ∷ 0 ∷ 0 ∷ 0 ∷ 0 ∷ 0 ∷ 0x80 ∷ 0xff ∷ 0 ∷ []) ∷ nothing_to_say ∷ [])
-thin_path = refl
+asked_and_sent = refl
 
 -- what is asked for outside the screen is not sent
-abbrev ask : ℕ → ℕ → ℕ → ℕ → ℕ → List ℕ
+abbrev pub ask : ℕ → ℕ → ℕ → ℕ → ℕ → List ℕ
 ask incremental x y w h = 3 ∷ incremental ∷ 0 ∷ x ∷ 0 ∷ y ∷ 0 ∷ w ∷ 0 ∷ h ∷ []
 
 -- the last answers of a run
-abbrev last_answers : ℕ → List Answer → List Answer
+abbrev pub last_answers : ℕ → List Answer → List Answer
 last_answers n answers = reverse (take n (reverse answers))
 
 outside : last_answers 3 (answers demo (opens 1 ++ Hear 1 (ask 0 4 0 1 1) ∷ Cut 1 ∷ Hear 1 (ask 1 3 2 10 10) ∷ Cut 1 ∷ [])) ≡
     (nothing_to_say ∷ nothing_to_say ∷ gives (0 ∷ 0 ∷ 0 ∷ 1 ∷ 0 ∷ 3 ∷ 0 ∷ 2 ∷ 0 ∷ 1 ∷ 0 ∷ 1 ∷ 0 ∷ 0 ∷ 0 ∷ 0 ∷ 0 ∷ 0 ∷ 0 ∷ 0 ∷ []) ∷ [])
 outside = refl
 
-abbrev sized : ℕ → ℕ → ℕ → Config
+abbrev pub sized : ℕ → ℕ → ℕ → Config
 sized w h limit = record { width = w; height = h; name = []; rects_per_update = limit }
 
 -- a viewer that has everything
-abbrev clean : ℕ → ℕ → ℕ → List Event
+abbrev pub clean : ℕ → ℕ → ℕ → List Event
 clean v w h = opens v ++ Hear v (ask 0 0 0 w h) ∷ Cut v ∷ []
 
 -- RFC 6143, 7.6.1: an update of so many rectangles, and the head of one
-abbrev update : ℕ → List ℕ
+abbrev pub update : ℕ → List ℕ
 update n = 0 ∷ 0 ∷ 0 ∷ n ∷ []
 
-abbrev head : ℕ → ℕ → ℕ → ℕ → ℕ → List ℕ
+abbrev pub head : ℕ → ℕ → ℕ → ℕ → ℕ → List ℕ
 head x y w h encoding = 0 ∷ x ∷ 0 ∷ y ∷ 0 ∷ w ∷ 0 ∷ h ∷ 0 ∷ 0 ∷ 0 ∷ encoding ∷ []
 
 -- small colours in the server's format
-abbrev px : List ℕ → List ℕ
+abbrev pub px : List ℕ → List ℕ
 px colours = flat_map (λ n. n ∷ 0 ∷ 0 ∷ 0 ∷ []) colours
 
 abbrev painted_places : List ℕ → List Event

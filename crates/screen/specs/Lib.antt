@@ -1,5 +1,4 @@
-pub mod Picture
-pub mod Blocks
+pub mod Short
 pub mod Updates
 pub mod Given
 pub mod Viewer
@@ -7,6 +6,8 @@ pub mod Sending
 pub mod Alone
 pub mod Answers
 pub mod Claims
+pub mod Checked
 pub mod Entries
 pub mod Held
 pub mod Examples
+pub mod Drawing

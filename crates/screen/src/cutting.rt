@@ -3,19 +3,23 @@
 ghost use Rattle.std.specs.Prelude.{◌≡◌, ◌<◌, ◌≤◌, ◌+◌, ◌*◌, ◌^◌, All, length, map, flat_map, IfOk, pos, ◌≤ℤ◌, ◌<ℤ◌, ◌-ℤ◌, nat_abs, [], ◌≢◌, IfSome, OnOk, OnErr};
 ghost use Rattle.copy_schedule.specs.Marks.{IsOnScreen, IsInside, HasSourcesInside, source_rect};
 ghost use Rattle.pixel_translate.specs.declared.PixelFormat.{PixelFormat};
-ghost use Rattle.screen.specs.Sending.{area_of, colours_of, copy_bytes, pixel_rectangle, bytes_of, sending_kept};
+ghost use Rattle.copy_schedule.specs.Marks.{cut_of};
+ghost use Rattle.messages.specs.declared.Encoding.{Encoding};
+ghost use Rattle.framebuffer.specs.Picture.{area_of, colours_of};
+ghost use Rattle.screen.specs.Sending.{copy_bytes, pixel_rectangle, bytes_of, sending_kept};
 ghost use Rattle.screen.specs.Entries.{viewer_in};
 ghost use Rattle.screen.specs.Held.{IsSized};
-ghost use Rattle.screen.specs.Blocks.{rect_of, FitsIn};
-ghost use Rattle.screen.specs.Updates.{moved_bytes, coloured_bytes};
-ghost use Rattle.screen.specs.Given.{bytes_given, planned_sent};
+ghost use Rattle.framebuffer.specs.Blocks.{rect_of, FitsIn};
+ghost use Rattle.screen.specs.Updates.{moved_bytes, coloured_bytes, rectangles_bytes, maybe_bytes};
+ghost use Rattle.screen.specs.Given.{bytes_given, marks_put, sent_bytes, sent_marks};
 
 use crate::Config;
-use crate::parts::{Coloured, Moved};
-use crate::picture::{Block, block_within, read_block};
+use crate::parts::{Coloured, Moved, Rectangles};
 use crate::place::{Planned, Seat};
-use crate::update::Update;
-use copy_schedule::Cut;
+use crate::update::{Update, encode_all};
+use copy_schedule::{Cut, Marks};
+use framebuffer::{Block, block_within, read_block};
+use messages::Encoding;
 use pixel_translate::{Area, PixelFormat};
 use region::Rect;
 use std::alloc::{AllocError, Global};
@@ -99,7 +103,7 @@ fn coloured_rectangles(
     requires width { width ≤ 8192 }
     requires height { height ≤ 8192 }
     requires inside { All (IsOnScreen width height) rects.now }
-    ensures bytes { IfOk result (λ parts. (format : PixelFormat) → flat_map (coloured_bytes format) parts.items ≡ flat_map (pixel_rectangle width height picture.now format) rects.now) }
+    ensures bytes { IfOk result (λ parts. (encoding : Encoding) (format : PixelFormat) → flat_map (coloured_bytes encoding format) parts.items ≡ flat_map (pixel_rectangle width height picture.now encoding format) rects.now) }
     ensures count { IfOk result (λ parts. length parts.items ≡ length rects.now) }
 {
     let mut parts = Vec::with_capacity(alloc, rects.len())?;
@@ -110,59 +114,85 @@ fn coloured_rectangles(
     Ok(parts)
 }
 
-/// What an update of a cut's rectangles is made of.
-pub fn update_of(
+/// The rectangles of a cut, for a viewer's encoding and format.
+fn rectangles_of(
     alloc: Global,
     config: &Config,
     picture: &[u32],
+    encoding: Encoding,
     format: PixelFormat,
     cut: &Cut,
-) -> Result<Update, AllocError>
+) -> Result<Rectangles, AllocError>
     requires size { length picture.now ≡ config.now.width * config.now.height }
     requires width { config.now.width ≤ 8192 }
     requires height { config.now.height ≤ 8192 }
     requires inside { IsInside config.now.width config.now.height cut.now }
     requires sources { HasSourcesInside config.now.width config.now.height cut.now }
     requires count { length cut.now.copies + length cut.now.pixels < 2 ^ 16 }
-    ensures { IfOk result (λ update. update ≡ bytes_of config.now.width config.now.height picture.now format cut.now.copies cut.now.offset cut.now.pixels) }
+    ensures { IfOk result (λ rectangles. rectangles_bytes rectangles ≡ bytes_of config.now.width config.now.height picture.now encoding format cut.now.copies cut.now.offset cut.now.pixels) }
 {
     let moves = moves_of(alloc, cut.copies.as_slice(), cut.offset)?;
-    let rectangles = coloured_rectangles(
+    let coloured = coloured_rectangles(
         alloc,
         config.width,
         config.height,
         picture,
         cut.pixels.as_slice(),
     )?;
-    Ok(Update::new(alloc, format, moves, rectangles))
+    Ok(Rectangles {
+        encoding,
+        format,
+        moves,
+        coloured,
+    })
 }
 
-/// What a viewer is sent next, and its marks once that is sent, or None where there is nothing.
-fn next_cut(
+/// The rectangles that a viewer is sent next, and its marks once they are sent; none where no place is wanted.
+fn plan(
     alloc: Global,
     config: &Config,
     picture: &[u32],
     seat: &Seat,
-) -> Result<Option<Planned>, AllocError>
+) -> Result<Planned, AllocError>
     requires size { length picture.now ≡ config.now.width * config.now.height }
     requires width { config.now.width ≤ 8192 }
     requires height { config.now.height ≤ 8192 }
     requires rectangles { config.now.rects_per_update ≤ 1000 }
     requires sized { IsSized config.now seat.now }
-    ensures sent { IfOk result (λ planned. planned_sent (viewer_in seat.now) planned ≡ sending_kept config.now.width config.now.height config.now.rects_per_update picture.now (viewer_in seat.now)) }
-    ensures some { IfOk result (λ planned. IfSome planned (λ p. p.update ≢ [])) }
-    ensures width { IfOk result (λ planned. IfSome planned (λ p. p.marks.width ≡ config.now.width)) }
-    ensures height { IfOk result (λ planned. IfSome planned (λ p. p.marks.height ≡ config.now.height)) }
+    ensures bytes { IfOk result (λ planned. maybe_bytes planned.rectangles ≡ sent_bytes config.now.width config.now.height picture.now (viewer_in seat.now) (cut_of config.now.rects_per_update seat.now.marks)) }
+    ensures marks { IfOk result (λ planned. marks_put seat.now.marks planned.marks ≡ sent_marks seat.now.marks (cut_of config.now.rects_per_update seat.now.marks)) }
+    ensures none { IfOk result (λ planned. planned.rectangles ≡ None → cut_of config.now.rects_per_update seat.now.marks ≡ None) }
+    ensures some { IfOk result (λ planned. IfSome planned.rectangles (λ r. rectangles_bytes r ≢ [])) }
+    ensures width { IfOk result (λ planned. IfSome planned.marks (λ m. m.width ≡ config.now.width)) }
+    ensures height { IfOk result (λ planned. IfSome planned.marks (λ m. m.height ≡ config.now.height)) }
 {
-    if !(seat.ear.is_open() && seat.marks.pending()) {
-        return Ok(None);
+    if !seat.marks.pending() {
+        return Ok(Planned {
+            rectangles: None,
+            marks: None,
+        });
     }
     let mut marks = seat.marks.try_clone()?;
     let Some(cut) = marks.cut(alloc, config.rects_per_update)? else {
-        return Ok(None);
+        return Ok(Planned {
+            rectangles: None,
+            marks: None,
+        });
     };
-    let update = update_of(alloc, config, picture, seat.format, &cut)?;
-    Ok(Some(Planned { update, marks }))
+    let rectangles = rectangles_of(alloc, config, picture, seat.encoding, seat.format, &cut)?;
+    Ok(Planned {
+        rectangles: Some(rectangles),
+        marks: Some(marks),
+    })
+}
+
+/// The viewer's marks are these from now on, if there are any.
+fn put_marks(seat: &mut Seat, marks: Option<Marks>)
+    ensures { seat.new ≡ record seat.old { marks = marks_put seat.old.marks marks } }
+{
+    if let Some(marks) = marks {
+        seat.marks = marks;
+    }
 }
 
 /// Cuts an update for a viewer, or None where there is nothing to send. All growths are made before
@@ -185,13 +215,16 @@ pub fn cut_in(
     ensures sized { IsSized config.now seat.new }
     ensures err { OnErr result (seat.new ≡ seat.old) }
 {
-    match next_cut(alloc, config, picture, seat)? {
-        Some(planned) => {
-            seat.marks = planned.marks;
-            Ok(Some(planned.update))
-        }
-        None => Ok(None),
+    if !seat.ear.is_open() {
+        return Ok(None);
     }
+    let Planned { rectangles, marks } = plan(alloc, config, picture, seat)?;
+    if rectangles.is_none() && seat.notices.is_empty() {
+        return Ok(None);
+    }
+    let notices = seat.notices.take(alloc)?;
+    put_marks(seat, marks);
+    Ok(Some(Update::new(alloc, notices, rectangles)))
 }
 
 /// The same, encoded.
@@ -212,12 +245,12 @@ pub fn cut_bytes_in(
     ensures sized { IsSized config.now seat.new }
     ensures err { OnErr result (seat.new ≡ seat.old) }
 {
-    match next_cut(alloc, config, picture, seat)? {
-        Some(planned) => {
-            let bytes = planned.update.encode()?;
-            seat.marks = planned.marks;
-            Ok(bytes)
-        }
-        None => Ok(Vec::new(alloc)),
+    if !seat.ear.is_open() {
+        return Ok(Vec::new(alloc));
     }
+    let Planned { rectangles, marks } = plan(alloc, config, picture, seat)?;
+    let bytes = encode_all(alloc, seat.notices.as_slice(), &rectangles)?;
+    seat.notices.clear();
+    put_marks(seat, marks);
+    Ok(bytes)
 }

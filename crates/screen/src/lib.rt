@@ -1,9 +1,12 @@
 //! One screen, many viewers: drawing, the viewers' bytes, and what is sent to each.
 #![tactic(auto)]
 
+mod answers;
 mod cutting;
+mod drawing;
+mod limits;
+mod notices;
 mod parts;
-mod picture;
 mod place;
 mod runs;
 mod screen;
@@ -44,6 +47,8 @@ pub enum ScreenError {
     BadRect,
     /// There are not as many colours as places.
     BadPixelCount,
+    /// The text has more than 65,536 bytes.
+    TextTooLong,
     /// No live viewer has the number.
     NoViewer,
     /// A live viewer has the number already.
@@ -77,8 +82,29 @@ impl<T: Drop> From<AllocFailed<T>> for ScreenError {
 /// One hold of the screen: a drawing call, or an event of one viewer.
 #[derive(Debug, Drop)]
 pub enum Event {
-    /// The rectangle's colours `0x00RRGGBB`, row by row, replace those of the picture.
+    /// The rectangle's colours `0x00RRGGBB`, row by row, replace those of the picture; no viewer is told.
+    Write { rect: Rect, colours: Listed<u32> },
+    /// The same, and the rectangle is owed to every viewer.
     Paint { rect: Rect, colours: Listed<u32> },
+    /// The places of the rectangles are owed to every viewer. Here, and in copies, a list of rectangles stands for the places
+    /// of all of them, each with its corners in order.
+    Mark { rects: Listed<Rect> },
+    /// Every viewer is told of a copy to the rectangles' places from the places (dx, dy) before them; the picture stays.
+    ScheduleCopy {
+        rects: Listed<Rect>,
+        dx: i32,
+        dy: i32,
+    },
+    /// The copy is made in the picture, and every viewer is told.
+    DoCopy {
+        rects: Listed<Rect>,
+        dx: i32,
+        dy: i32,
+    },
+    /// A bell for every open viewer.
+    Bell,
+    /// A text for every open viewer.
+    CutText { text: Listed<u8> },
     /// A viewer connects.
     Connect { viewer: u64 },
     /// A piece of a viewer's bytes is heard.

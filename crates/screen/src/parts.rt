@@ -1,8 +1,9 @@
 //! What an update is made of: rectangles that the viewer moves, and rectangles of colours.
 
-ghost use Rattle.std.specs.Prelude.{◌≡◌, ◌≤◌, ◌*◌, length};
+ghost use Rattle.std.specs.Prelude.{◌≡◌, ◌≤◌, ◌<◌, ◌+◌, ◌*◌, ◌^◌, length};
 
-use pixel_translate::Area;
+use messages::Encoding;
+use pixel_translate::{Area, PixelFormat};
 
 /// A rectangle whose pixels the viewer moves from a source of the same size.
 #[derive(Drop)]
@@ -22,4 +23,14 @@ pub struct Coloured {
     ghost wide: { 1 ≤ area.w },
     ghost high: { 1 ≤ area.h },
     ghost whole: { length colours.items ≡ area.w * area.h },
+}
+
+/// The rectangles of one FramebufferUpdate (RFC 6143, 7.6.1), with what their viewer asked for.
+#[derive(Drop)]
+pub struct Rectangles {
+    pub encoding: Encoding,
+    pub format: PixelFormat,
+    pub moves: Vec<Moved>,
+    pub coloured: Vec<Coloured>,
+    ghost few: { length moves.items + length coloured.items < 2 ^ 16 },
 }

@@ -1,22 +1,26 @@
 //! A viewer's place on a screen.
 
-use crate::update::Update;
+use crate::notices::Notices;
+use crate::parts::Rectangles;
 use copy_schedule::Marks;
-use messages::Ear;
+use messages::{Ear, Encoding};
 use pixel_translate::PixelFormat;
 
-/// A viewer with its number: what is kept of its bytes, its format, and its marks.
+/// A viewer with its number: what is kept of its bytes, what it asked for, its marks, and the notices that wait for it.
 #[derive(Drop)]
 pub struct Seat {
     pub number: u64,
     pub ear: Ear,
     pub format: PixelFormat,
+    pub encoding: Encoding,
+    pub uses_copyrect: bool,
     pub marks: Marks,
+    pub notices: Notices,
 }
 
-/// An update that is ready, and the viewer's marks once it is sent.
+/// The rectangles that are sent next, and the viewer's marks once they are; none where no place is wanted.
 #[derive(Drop)]
 pub struct Planned {
-    pub update: Update,
-    pub marks: Marks,
+    pub rectangles: Option<Rectangles>,
+    pub marks: Option<Marks>,
 }

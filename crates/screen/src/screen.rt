@@ -3,19 +3,23 @@
 ghost use Rattle.std.specs.Prelude.{◌≡◌, ◌≢◌, ◌++◌, ◌∷◌, [], List, IfSome, replicate, IfOk, OnOk, OnErr, MatchOption, MatchResult, IsOkUnless};
 ghost use Rattle.screen.specs.declared.Config.{Config};
 ghost use Rattle.screen.specs.declared.Event.{Event};
-ghost use Rattle.screen.specs.Alone.{is_size, config_refusal, is_span, pixels_refusal, nothing_to_say, gives, refuses, settled, something_to_send, told, Tells};
-ghost use Rattle.screen.specs.Blocks.{IsChecked};
+ghost use Rattle.screen.specs.Alone.{config_refusal, nothing_to_say, gives, something_to_send, told, Tells};
 ghost use Rattle.screen.specs.Given.{bytes_given};
 ghost use Rattle.screen.specs.Answers.{state, answer_to};
 
+use crate::answers::{settled, with_bytes, with_nothing};
 use crate::cutting::{cut_bytes_in, cut_in};
-use crate::picture::{Block, block_of, replace};
+use crate::drawing::{
+    all_copied_marks, mark_all, moves_nothing, put_all_marks, ring_all, tell_all, texts,
+};
+use crate::limits::{checked, refusal_of};
 use crate::place::Seat;
-use crate::seat::{has_seat, hear_in, mark_all, place_of, remove, seat_viewer};
+use crate::seat::{has_seat, hear_in, is_pending, place_of, remove, seat_viewer};
 use crate::update::Update;
 use crate::{Answer, Config, Event, ScreenError};
+use framebuffer::{destinations, move_colours, replace, straightened};
 use listed::Listed;
-use region::Rect;
+use region::{Rect, Region};
 use std::alloc::{AllocError, Global};
 use std::marker::Model;
 
@@ -30,8 +34,6 @@ pub struct Screen {
 
 impl Model for Screen {
     ghost use Rattle.std.specs.Prelude.{map};
-    ghost use Rattle.screen.specs.Blocks.{IsChecked};
-    ghost use Rattle.screen.specs.Given.{bytes_given};
     ghost use Rattle.screen.specs.Answers.{State};
 
     ghost Value = { State };
@@ -42,50 +44,6 @@ impl Model for Screen {
     ghost view = { λ a. record { config = a.config; picture = a.picture.items; viewers = map entry a.seats.items } };
 
     ghost invariant = { λ a. IsHeld a.config a.picture.items a.seats.items };
-}
-
-/// Whether a screen may have so many columns and rows.
-fn is_size(width: u32, height: u32) -> bool
-    ensures { result ≡ is_size width height }
-{
-    1 <= width && width <= 8192 && 1 <= height && height <= 8192 && width * height <= 1 << 24
-}
-
-/// Why no screen is made of a configuration.
-fn refusal_of(config: &Config) -> Option<ScreenError>
-    ensures { result ≡ config_refusal config.now }
-{
-    if !is_size(config.width, config.height) {
-        return Some(ScreenError::BadSize);
-    }
-    if config.name.as_slice().len() > 255 {
-        return Some(ScreenError::BadName);
-    }
-    if !(1 <= config.rects_per_update && config.rects_per_update <= 1000) {
-        return Some(ScreenError::BadRectLimit);
-    }
-    None
-}
-
-/// Whether 0 <= from <= to <= limit.
-fn is_span(from: i32, to: i32, limit: u32) -> bool
-    ensures { result ≡ is_span from to limit }
-{
-    0 <= from && from <= to && to as u32 <= limit
-}
-
-/// The block of a rectangle whose colours may be replaced by these, or why they may not.
-fn checked(config: &Config, rect: Rect, colours: &[u32]) -> Result<Block, ScreenError>
-    ensures { MatchResult result (IsChecked config.now rect colours.now) (λ e. pixels_refusal config.now rect colours.now ≡ Some e) }
-{
-    if !(is_span(rect.x1, rect.x2, config.width) && is_span(rect.y1, rect.y2, config.height)) {
-        return Err(ScreenError::BadRect);
-    }
-    let block = block_of(rect);
-    if colours.len() != block.columns * block.rows {
-        return Err(ScreenError::BadPixelCount);
-    }
-    Ok(block)
 }
 
 impl Screen {
@@ -125,7 +83,227 @@ impl Screen {
             block,
             colours,
         );
-        mark_all(&mut self.seats, rect);
+        mark_all(&mut self.seats, &[rect]);
+        Ok(())
+    }
+
+    /// Replaces the colours of a rectangle by others, `0x00RRGGBB` row by row, whose top bytes are
+    /// cleared, and tells no viewer: `mark_rect` and `mark_region` do. Refused as `paint` is.
+    pub fn write_pixels(&mut self, rect: Rect, colours: &[u32]) -> Result<(), ScreenError>
+        ensures step { (config : Config) (list : List Event) → self.old ≡ state config list →
+            OnOk result (self.new ≡ state config (list ++ Event.Write rect colours.now ∷ [])) }
+        ensures answer { (config : Config) (list : List Event) → self.old ≡ state config list →
+            Tells (λ _. nothing_to_say) result (answer_to config list (Event.Write rect colours.now)) }
+        ensures err { OnErr result (self.new ≡ self.old) }
+    {
+        let block = checked(&self.config, rect, colours)?;
+        replace(
+            &mut self.picture,
+            self.config.width,
+            self.config.height,
+            block,
+            colours,
+        );
+        Ok(())
+    }
+
+    /// The rectangles' places on the screen are owed to every viewer. Corners may stand in the wrong order, anywhere.
+    fn mark_rects(&mut self, rects: &[Rect]) -> Result<(), ScreenError>
+        ensures step { (config : Config) (list : List Event) → self.old ≡ state config list →
+            OnOk result (self.new ≡ state config (list ++ Event.Mark rects.now ∷ [])) }
+        ensures answer { (config : Config) (list : List Event) → self.old ≡ state config list →
+            Tells (λ _. nothing_to_say) result (answer_to config list (Event.Mark rects.now)) }
+        ensures err { OnErr result (self.new ≡ self.old) }
+    {
+        let straight = straightened(self.alloc, rects)?;
+        mark_all(&mut self.seats, &straight);
+        Ok(())
+    }
+
+    /// The places of a rectangle, as far as they are on the screen, are owed to every viewer
+    /// (`rfbMarkRectAsModified` of `rfb.h`). Corners in the wrong order are swapped. Refused for want of
+    /// memory alone.
+    pub fn mark_rect(
+        &mut self,
+        x1: i32,
+        y1: i32,
+        x2: i32,
+        y2: i32,
+    ) -> Result<(), ScreenError>
+        ensures step { (config : Config) (list : List Event) → self.old ≡ state config list →
+            OnOk result (self.new ≡ state config (list ++ Event.Mark (record { x1 = x1; y1 = y1; x2 = x2; y2 = y2 } ∷ []) ∷ [])) }
+        ensures answer { (config : Config) (list : List Event) → self.old ≡ state config list →
+            Tells (λ _. nothing_to_say) result (answer_to config list (Event.Mark (record { x1 = x1; y1 = y1; x2 = x2; y2 = y2 } ∷ []))) }
+        ensures err { OnErr result (self.new ≡ self.old) }
+    {
+        self.mark_rects(&[Rect { x1, y1, x2, y2 }])
+    }
+
+    /// The places of a region, as far as they are on the screen, are owed to every viewer
+    /// (`rfbMarkRegionAsModified` of `rfb.h`). Refused for want of memory alone.
+    pub fn mark_region(&mut self, region: &Region) -> Result<(), ScreenError>
+        ensures step { (config : Config) (list : List Event) → self.old ≡ state config list →
+            OnOk result (self.new ≡ state config (list ++ Event.Mark region.now.list ∷ [])) }
+        ensures answer { (config : Config) (list : List Event) → self.old ≡ state config list →
+            Tells (λ _. nothing_to_say) result (answer_to config list (Event.Mark region.now.list)) }
+        ensures err { OnErr result (self.new ≡ self.old) }
+    {
+        let rects = region.rects(self.alloc, false, false)?;
+        self.mark_rects(rects.as_slice())
+    }
+
+    /// Each viewer is told that the rectangles' places get the colours of the places (dx, dy) before them;
+    /// the picture stays.
+    fn schedule_copy(&mut self, rects: &[Rect], dx: i32, dy: i32) -> Result<(), ScreenError>
+        ensures step { (config : Config) (list : List Event) → self.old ≡ state config list →
+            OnOk result (self.new ≡ state config (list ++ Event.ScheduleCopy rects.now dx dy ∷ [])) }
+        ensures answer { (config : Config) (list : List Event) → self.old ≡ state config list →
+            Tells (λ _. nothing_to_say) result (answer_to config list (Event.ScheduleCopy rects.now dx dy)) }
+        ensures err { OnErr result (self.new ≡ self.old) }
+    {
+        let pieces = destinations(
+            self.alloc,
+            rects,
+            dx,
+            dy,
+            self.config.width,
+            self.config.height,
+        )?;
+        if moves_nothing(&pieces, (dx, dy)) {
+            return Ok(());
+        }
+        let marks = all_copied_marks(self.alloc, &self.seats, &pieces, (dx, dy))?;
+        put_all_marks(&mut self.seats, &pieces, (dx, dy), marks);
+        Ok(())
+    }
+
+    /// Every viewer is told that the places of a rectangle that are on the screen with their sources get the
+    /// colours of the places (dx, dy) before them (`rfbScheduleCopyRect` of `rfb.h`); the picture stays, since
+    /// the application moves them itself. A viewer that uses CopyRect may make the copy on its own side.
+    /// Corners in the wrong order are swapped; corners and offsets are any `i32`. A copy by (0, 0), or of no
+    /// place, does nothing. Refused for want of memory alone.
+    pub fn schedule_copy_rect(
+        &mut self,
+        x1: i32,
+        y1: i32,
+        x2: i32,
+        y2: i32,
+        dx: i32,
+        dy: i32,
+    ) -> Result<(), ScreenError>
+        ensures step { (config : Config) (list : List Event) → self.old ≡ state config list →
+            OnOk result (self.new ≡ state config (list ++ Event.ScheduleCopy (record { x1 = x1; y1 = y1; x2 = x2; y2 = y2 } ∷ []) dx dy ∷ [])) }
+        ensures answer { (config : Config) (list : List Event) → self.old ≡ state config list →
+            Tells (λ _. nothing_to_say) result (answer_to config list (Event.ScheduleCopy (record { x1 = x1; y1 = y1; x2 = x2; y2 = y2 } ∷ []) dx dy)) }
+        ensures err { OnErr result (self.new ≡ self.old) }
+    {
+        self.schedule_copy(&[Rect { x1, y1, x2, y2 }], dx, dy)
+    }
+
+    /// The same for the places of a region (`rfbScheduleCopyRegion` of `rfb.h`).
+    pub fn schedule_copy_region(
+        &mut self,
+        region: &Region,
+        dx: i32,
+        dy: i32,
+    ) -> Result<(), ScreenError>
+        ensures step { (config : Config) (list : List Event) → self.old ≡ state config list →
+            OnOk result (self.new ≡ state config (list ++ Event.ScheduleCopy region.now.list dx dy ∷ [])) }
+        ensures answer { (config : Config) (list : List Event) → self.old ≡ state config list →
+            Tells (λ _. nothing_to_say) result (answer_to config list (Event.ScheduleCopy region.now.list dx dy)) }
+        ensures err { OnErr result (self.new ≡ self.old) }
+    {
+        let rects = region.rects(self.alloc, false, false)?;
+        self.schedule_copy(rects.as_slice(), dx, dy)
+    }
+
+    /// The rectangles' places get the colours of the places (dx, dy) before them, and each viewer is told.
+    fn do_copy(&mut self, rects: &[Rect], dx: i32, dy: i32) -> Result<(), ScreenError>
+        ensures step { (config : Config) (list : List Event) → self.old ≡ state config list →
+            OnOk result (self.new ≡ state config (list ++ Event.DoCopy rects.now dx dy ∷ [])) }
+        ensures answer { (config : Config) (list : List Event) → self.old ≡ state config list →
+            Tells (λ _. nothing_to_say) result (answer_to config list (Event.DoCopy rects.now dx dy)) }
+        ensures err { OnErr result (self.new ≡ self.old) }
+    {
+        let (width, height) = (self.config.width, self.config.height);
+        let pieces = destinations(self.alloc, rects, dx, dy, width, height)?;
+        if moves_nothing(&pieces, (dx, dy)) {
+            return Ok(());
+        }
+        let mut row = vec![in self.alloc; 0u32; width as usize]?;
+        let marks = all_copied_marks(self.alloc, &self.seats, &pieces, (dx, dy))?;
+        move_colours(&mut self.picture, width, height, &pieces, (dx, dy), &mut row);
+        put_all_marks(&mut self.seats, &pieces, (dx, dy), marks);
+        Ok(())
+    }
+
+    /// The places of a rectangle that are on the screen with their sources get the colours that the places
+    /// (dx, dy) before them had, all at once, and every viewer is told (`rfbDoCopyRect` of `rfb.h`). A viewer
+    /// that uses CopyRect may make the copy on its own side. Corners in the wrong order are swapped; corners
+    /// and offsets are any `i32`. A copy by (0, 0), or of no place, does nothing. Refused for want of memory
+    /// alone.
+    pub fn do_copy_rect(
+        &mut self,
+        x1: i32,
+        y1: i32,
+        x2: i32,
+        y2: i32,
+        dx: i32,
+        dy: i32,
+    ) -> Result<(), ScreenError>
+        ensures step { (config : Config) (list : List Event) → self.old ≡ state config list →
+            OnOk result (self.new ≡ state config (list ++ Event.DoCopy (record { x1 = x1; y1 = y1; x2 = x2; y2 = y2 } ∷ []) dx dy ∷ [])) }
+        ensures answer { (config : Config) (list : List Event) → self.old ≡ state config list →
+            Tells (λ _. nothing_to_say) result (answer_to config list (Event.DoCopy (record { x1 = x1; y1 = y1; x2 = x2; y2 = y2 } ∷ []) dx dy)) }
+        ensures err { OnErr result (self.new ≡ self.old) }
+    {
+        self.do_copy(&[Rect { x1, y1, x2, y2 }], dx, dy)
+    }
+
+    /// The same for the places of a region (`rfbDoCopyRegion` of `rfb.h`).
+    pub fn do_copy_region(
+        &mut self,
+        region: &Region,
+        dx: i32,
+        dy: i32,
+    ) -> Result<(), ScreenError>
+        ensures step { (config : Config) (list : List Event) → self.old ≡ state config list →
+            OnOk result (self.new ≡ state config (list ++ Event.DoCopy region.now.list dx dy ∷ [])) }
+        ensures answer { (config : Config) (list : List Event) → self.old ≡ state config list →
+            Tells (λ _. nothing_to_say) result (answer_to config list (Event.DoCopy region.now.list dx dy)) }
+        ensures err { OnErr result (self.new ≡ self.old) }
+    {
+        let rects = region.rects(self.alloc, false, false)?;
+        self.do_copy(rects.as_slice(), dx, dy)
+    }
+
+    /// A bell for every open viewer for which fewer than 64 notices wait (`rfbSendBell` of `rfb.h`). Refused
+    /// for want of memory alone.
+    pub fn bell(&mut self) -> Result<(), ScreenError>
+        ensures step { (config : Config) (list : List Event) → self.old ≡ state config list →
+            OnOk result (self.new ≡ state config (list ++ Event.Bell ∷ [])) }
+        ensures answer { (config : Config) (list : List Event) → self.old ≡ state config list →
+            Tells (λ _. nothing_to_say) result (answer_to config list (Event.Bell)) }
+        ensures err { OnErr result (self.new ≡ self.old) }
+    {
+        ring_all(&mut self.seats);
+        Ok(())
+    }
+
+    /// A text for every open viewer for which fewer than 64 notices wait (`rfbSendServerCutText` of `rfb.h`).
+    /// Refused as `TextTooLong` above 65,536 bytes.
+    pub fn cut_text(&mut self, text: &[u8]) -> Result<(), ScreenError>
+        ensures step { (config : Config) (list : List Event) → self.old ≡ state config list →
+            OnOk result (self.new ≡ state config (list ++ Event.CutText text.now ∷ [])) }
+        ensures answer { (config : Config) (list : List Event) → self.old ≡ state config list →
+            Tells (λ _. nothing_to_say) result (answer_to config list (Event.CutText text.now)) }
+        ensures err { OnErr result (self.new ≡ self.old) }
+    {
+        if text.len() > 1 << 16 {
+            return Err(ScreenError::TextTooLong);
+        }
+        let notices = texts(self.alloc, text, self.seats.len())?;
+        tell_all(&mut self.seats, text, notices);
         Ok(())
     }
 
@@ -185,8 +363,7 @@ impl Screen {
         let Some(place) = place_of(&self.seats, number) else {
             return Err(ScreenError::NoViewer);
         };
-        let seat = &self.seats[place];
-        Ok(seat.ear.is_open() && seat.marks.pending())
+        Ok(is_pending(&self.seats[place]))
     }
 
     /// Cuts an update for a viewer: its rectangles, with copies of their colours; None where there is
@@ -232,9 +409,33 @@ impl Screen {
     {
         let alloc = self.alloc;
         match event {
+            Event::Write { rect, colours } => {
+                let written = self.write_pixels(*rect, colours.as_slice());
+                with_nothing(alloc, written)
+            }
             Event::Paint { rect, colours } => {
                 let painted = self.paint(*rect, colours.as_slice());
                 with_nothing(alloc, painted)
+            }
+            Event::Mark { rects } => {
+                let marked = self.mark_rects(rects.as_slice());
+                with_nothing(alloc, marked)
+            }
+            Event::ScheduleCopy { rects, dx, dy } => {
+                let scheduled = self.schedule_copy(rects.as_slice(), *dx, *dy);
+                with_nothing(alloc, scheduled)
+            }
+            Event::DoCopy { rects, dx, dy } => {
+                let copied = self.do_copy(rects.as_slice(), *dx, *dy);
+                with_nothing(alloc, copied)
+            }
+            Event::Bell => {
+                let rung = self.bell();
+                with_nothing(alloc, rung)
+            }
+            Event::CutText { text } => {
+                let told = self.cut_text(text.as_slice());
+                with_nothing(alloc, told)
             }
             Event::Connect { viewer } => {
                 let version = self.connect(*viewer);
@@ -263,55 +464,6 @@ impl Screen {
     {
         let given = self.step(event);
         settled(self.alloc, given)
-    }
-}
-
-/// Bytes for the viewer, and nothing else.
-fn with_bytes(alloc: Global, given: Result<Listed<u8>, ScreenError>) -> Result<Answer, ScreenError>
-    ensures { MatchResult given (λ bytes. result ≡ Ok (gives bytes)) (λ e. result ≡ Err e) }
-{
-    let bytes = given?;
-    Ok(Answer {
-        bytes,
-        inputs: Listed::new(alloc),
-        closed: None,
-        refused: None,
-    })
-}
-
-/// Nothing to say.
-fn with_nothing(alloc: Global, given: Result<(), ScreenError>) -> Result<Answer, ScreenError>
-    ensures { MatchResult given (λ _. result ≡ Ok nothing_to_say) (λ e. result ≡ Err e) }
-{
-    given?;
-    Ok(Answer {
-        bytes: Listed::new(alloc),
-        inputs: Listed::new(alloc),
-        closed: None,
-        refused: None,
-    })
-}
-
-/// What was given, with a refusal as an answer, but for want of memory.
-fn settled(alloc: Global, given: Result<Answer, ScreenError>) -> Result<Answer, AllocError>
-    ensures { MatchResult given (λ answer. result ≡ Ok answer) (λ e. result ≡ settled e) }
-{
-    match given {
-        Ok(answer) => Ok(answer),
-        Err(ScreenError::OutOfMemory) => Err(AllocError),
-        Err(error) => Ok(refusal(alloc, error)),
-    }
-}
-
-/// A refusal, and nothing else.
-fn refusal(alloc: Global, error: ScreenError) -> Answer
-    ensures { result ≡ refuses error }
-{
-    Answer {
-        bytes: Listed::new(alloc),
-        inputs: Listed::new(alloc),
-        closed: None,
-        refused: Some(error),
     }
 }
 

@@ -1,23 +1,25 @@
 //! A viewer in its place: what its messages do to it, and what it is answered.
 
-ghost use Rattle.std.specs.Prelude.{◌≡◌, ℕ, List, All, ◌∷◌, OnErr, ◌++◌, ◌<◌, ◌≤◌, ◌^◌, ◌*◌, [], ◌==◌, length, map, MatchOption, false, filter, not, filter_map, vec_len, vec_capacity, IfOk, OnOk};
+ghost use Rattle.std.specs.Prelude.{◌≡◌, ◌&&◌, ◌||◌, ℕ, List, All, ◌∷◌, OnErr, ◌++◌, ◌<◌, ◌≤◌, ◌^◌, ◌*◌, [], ◌==◌, length, map, MatchOption, false, filter, not, filter_map, if◌then◌else◌, vec_len, vec_capacity, IfOk, OnOk};
 ghost use Rattle.messages.specs.Grammar.{after};
-ghost use Rattle.messages.specs.Reading.{rest, new_items};
+ghost use Rattle.messages.specs.Reading.{rest, new_items, is_open_rest};
 ghost use Rattle.messages.specs.Server.{server_version, server_init, answer, answers};
 ghost use Rattle.region.specs.Region.{in_rect};
+ghost use Rattle.copy_schedule.specs.Marks.{pending, without_copyrect};
 ghost use Rattle.screen.specs.Alone.{input_of, after_items, heard_answer};
-ghost use Rattle.screen.specs.Viewer.{area_places, after_item, new_viewer};
+ghost use Rattle.screen.specs.Viewer.{none_wait, area_places, after_item, new_viewer};
 ghost use Rattle.screen.specs.Answers.{kept};
 ghost use Rattle.screen.specs.Held.{IsSized};
-ghost use Rattle.screen.specs.Entries.{entry, viewer_in, seat_marked, IsPlaceOf};
+ghost use Rattle.screen.specs.Entries.{entry, viewer_in, IsPlaceOf};
 ghost use Rattle.std.specs.List.{list_any};
 
+use crate::notices::Notices;
 use crate::place::Seat;
 use crate::{Answer, Config};
 use copy_schedule::Marks;
 use listed::Listed;
 use messages::{
-    Ear, Input, Item, Phase, Version, put_result, put_security, put_server_init, put_version,
+    Ear, Encoding, Input, Item, Phase, Version, put_result, put_security, put_server_init, put_version,
 };
 use pixel_translate::{Area, PixelFormat};
 use region::Rect;
@@ -42,14 +44,11 @@ pub fn has_seat(seats: &[Seat], number: u64) -> bool
     seats.iter().any(|seat| seat.number == number)
 }
 
-/// Each viewer is owed a rectangle's places.
-pub fn mark_all(seats: &mut Vec<Seat>, rect: Rect)
-    ensures { seats.new.items ≡ map (seat_marked rect) seats.old.items }
+/// Whether a viewer would be given something now.
+pub fn is_pending(seat: &Seat) -> bool
+    ensures { result ≡ (is_open_rest seat.now.ear && (not (none_wait seat.now.notices) || pending seat.now.marks)) }
 {
-    for i in 0..seats.len() {
-        let seat = &mut seats[i];
-        seat.marks.mark(&[rect]);
-    }
+    seat.ear.is_open() && (!seat.notices.is_empty() || seat.marks.pending())
 }
 
 /// Removes the viewers with a number.
@@ -73,6 +72,17 @@ fn cut_area(width: u32, height: u32, area: Area) -> Rect
     }
 }
 
+/// The viewer's SetEncodings (RFC 6143, 7.5.2): its places that await a copy are owed where CopyRect isn't listed.
+fn take_encodings(seat: &mut Seat, preferred: Encoding, copyrect: bool)
+    ensures { seat.new ≡ record seat.old { encoding = preferred; uses_copyrect = copyrect; marks = if copyrect then seat.old.marks else without_copyrect seat.old.marks } }
+{
+    seat.encoding = preferred;
+    seat.uses_copyrect = copyrect;
+    if !copyrect {
+        seat.marks.no_copyrect();
+    }
+}
+
 /// What a viewer's message does to it (RFC 6143, 7.5).
 fn take_item(seat: &mut Seat, config: &Config, item: &Item)
     ensures number { seat.new.number ≡ seat.old.number }
@@ -82,6 +92,10 @@ fn take_item(seat: &mut Seat, config: &Config, item: &Item)
 {
     match item {
         Item::Format(format) => seat.format = *format,
+        Item::Encodings {
+            preferred,
+            copyrect,
+        } => take_encodings(seat, *preferred, *copyrect),
         Item::Request { incremental, area } => {
             let rect = cut_area(config.width, config.height, *area);
             seat.marks.request(rect, *incremental);
@@ -173,7 +187,10 @@ fn new_seat(alloc: Global, config: &Config, number: u64) -> Result<Seat, AllocEr
         number,
         ear: Ear::new(alloc),
         format: PixelFormat::server(),
+        encoding: Encoding::Raw,
+        uses_copyrect: false,
         marks: Marks::new(alloc, config.width, config.height)?,
+        notices: Notices::new(alloc)?,
     })
 }
 

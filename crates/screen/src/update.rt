@@ -1,33 +1,38 @@
 //! What one sending step sends: copied out of the screen under its lock, and encoded without it.
 
-ghost use Rattle.std.specs.Prelude.{◌≡◌, ◌+◌, ◌<◌, ◌^◌, ◌++◌, length, flat_map, IfOk, OnOk};
-ghost use Rattle.screen.specs.Updates.{moved_bytes, coloured_bytes, kept_bytes};
+ghost use Rattle.std.specs.Prelude.{◌≡◌, ◌+◌, ◌<◌, ◌^◌, ◌++◌, All, length, flat_map, IfOk, OnOk};
+ghost use Rattle.screen.specs.Short.{IsShort};
+ghost use Rattle.screen.specs.Updates.{moved_bytes, coloured_bytes, rectangles_bytes, all_bytes};
 
-use crate::parts::{Coloured, Moved};
+use crate::notices::{Notice, put_notices};
+use crate::parts::{Coloured, Moved, Rectangles};
+use encode_hextile::encode_hextile;
 use encode_raw::{encode_copy, encode_raw};
-use messages::put_update_head;
+use encode_rre::encode_rre;
+use messages::{Encoding, put_update_head};
 use pixel_translate::PixelFormat;
 use std::alloc::{AllocError, Global};
 use std::marker::Model;
 
-/// One FramebufferUpdate (RFC 6143, 7.6.1) for one viewer. Contracts see it as its bytes.
+/// What one viewer is sent in one step: the notices that waited, and then, where places that it asked for are not clean, one
+/// FramebufferUpdate (RFC 6143, 7.6.1). Contracts see it as its bytes.
 #[derive(Drop)]
 pub struct Update {
     alloc: Global,
-    format: PixelFormat,
-    moves: Vec<Moved>,
-    rectangles: Vec<Coloured>,
+    notices: Vec<Notice>,
+    rectangles: Option<Rectangles>,
 }
 
 impl Model for Update {
-    ghost use Rattle.std.specs.Prelude.{ℕ, List, length, ◌+◌, ◌<◌, ◌^◌};
-    ghost use Rattle.screen.specs.Updates.{kept_bytes};
+    ghost use Rattle.std.specs.Prelude.{ℕ, List, All};
+    ghost use Rattle.screen.specs.Short.{IsShort};
+    ghost use Rattle.screen.specs.Updates.{all_bytes};
 
     ghost Value = { List ℕ };
 
-    ghost view = { λ a. kept_bytes a.format a.moves.items a.rectangles.items };
+    ghost view = { λ a. all_bytes a.notices.items a.rectangles };
 
-    ghost invariant = { λ a. length a.moves.items + length a.rectangles.items < 2 ^ 16 };
+    ghost invariant = { λ a. All IsShort a.notices.items };
 }
 
 /// Appends copies.
@@ -40,32 +45,38 @@ fn put_moves(out: &mut Vec<u8>, moves: &[Moved]) -> Result<(), AllocError>
     Ok(())
 }
 
-/// Appends a rectangle of colours in the viewer's format.
+/// Appends a rectangle of colours in the viewer's encoding and format.
 fn put_rectangle(
     out: &mut Vec<u8>,
     rectangle: &Coloured,
+    encoding: Encoding,
     format: &PixelFormat,
 ) -> Result<(), AllocError>
-    ensures { OnOk result (out.new.items ≡ out.old.items ++ coloured_bytes format.now rectangle.now) }
+    ensures { OnOk result (out.new.items ≡ out.old.items ++ coloured_bytes encoding format.now rectangle.now) }
 {
-    encode_raw(out, rectangle.area, &rectangle.colours, format)
+    match encoding {
+        Encoding::Raw => encode_raw(out, rectangle.area, &rectangle.colours, format),
+        Encoding::Rre => encode_rre(out, rectangle.area, &rectangle.colours, format),
+        Encoding::Hextile => encode_hextile(out, rectangle.area, &rectangle.colours, format),
+    }
 }
 
-/// Appends rectangles of colours in the viewer's format.
-fn put_rectangles(
+/// Appends rectangles of colours in the viewer's encoding and format.
+fn put_coloured(
     out: &mut Vec<u8>,
     rectangles: &[Coloured],
+    encoding: Encoding,
     format: &PixelFormat,
 ) -> Result<(), AllocError>
-    ensures { OnOk result (out.new.items ≡ out.old.items ++ flat_map (coloured_bytes format.now) rectangles.now) }
+    ensures { OnOk result (out.new.items ≡ out.old.items ++ flat_map (coloured_bytes encoding format.now) rectangles.now) }
 {
     for rectangle in rectangles {
-        put_rectangle(out, rectangle, format)?;
+        put_rectangle(out, rectangle, encoding, format)?;
     }
     Ok(())
 }
 
-/// How many bytes rectangles have, or more.
+/// How many bytes rectangles have in Raw, or more.
 fn size_of(rectangles: &[Coloured]) -> usize {
     let mut size = 0usize;
     for rectangle in rectangles {
@@ -76,21 +87,54 @@ fn size_of(rectangles: &[Coloured]) -> usize {
     size
 }
 
+/// Appends a FramebufferUpdate. The room for all of it in Raw is made at once.
+fn put_rectangles(out: &mut Vec<u8>, rectangles: &Rectangles) -> Result<(), AllocError>
+    ensures { OnOk result (out.new.items ≡ out.old.items ++ rectangles_bytes rectangles.now) }
+{
+    if rectangles.encoding == Encoding::Raw {
+        out.reserve(size_of(&rectangles.coloured).saturating_add(4 + 16 * rectangles.moves.len()))?;
+    }
+    let count = rectangles.moves.len() + rectangles.coloured.len();
+    put_update_head(out, count as u16)?;
+    put_moves(out, &rectangles.moves)?;
+    put_coloured(
+        out,
+        &rectangles.coloured,
+        rectangles.encoding,
+        &rectangles.format,
+    )
+}
+
+/// The bytes of notices, and then of a FramebufferUpdate if there is one.
+pub(crate) fn encode_all(
+    alloc: Global,
+    notices: &[Notice],
+    rectangles: &Option<Rectangles>,
+) -> Result<Vec<u8>, AllocError>
+    requires { All IsShort notices.now }
+    ensures { IfOk result (λ bytes. bytes.items ≡ all_bytes notices.now rectangles.now) }
+{
+    let mut out = Vec::new(alloc);
+    put_notices(&mut out, notices)?;
+    if let Some(rectangles) = rectangles {
+        put_rectangles(&mut out, rectangles)?;
+    }
+    Ok(out)
+}
+
 impl Update {
-    /// An update of copies and rectangles of colours.
+    /// An update of notices, and of rectangles if there are any.
     pub(crate) fn new(
         alloc: Global,
-        format: PixelFormat,
-        moves: Vec<Moved>,
-        rectangles: Vec<Coloured>,
+        notices: Vec<Notice>,
+        rectangles: Option<Rectangles>,
     ) -> Update
-        requires { length moves.items + length rectangles.items < 2 ^ 16 }
-        ensures { result ≡ kept_bytes format moves.items rectangles.items }
+        requires { All IsShort notices.items }
+        ensures { result ≡ all_bytes notices.items rectangles }
     {
         Update {
             alloc,
-            format,
-            moves,
+            notices,
             rectangles,
         }
     }
@@ -100,11 +144,6 @@ impl Update {
     pub fn encode(&self) -> Result<Vec<u8>, AllocError>
         ensures { IfOk result (λ bytes. bytes.items ≡ self.now) }
     {
-        let room = size_of(&self.rectangles).saturating_add(4 + 16 * self.moves.len());
-        let mut out = Vec::with_capacity(self.alloc, room)?;
-        put_update_head(&mut out, (self.moves.len() + self.rectangles.len()) as u16)?;
-        put_moves(&mut out, &self.moves)?;
-        put_rectangles(&mut out, &self.rectangles, &self.format)?;
-        Ok(out)
+        encode_all(self.alloc, &self.notices, &self.rectangles)
     }
 }

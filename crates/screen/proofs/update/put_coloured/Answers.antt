@@ -3,11 +3,11 @@ use Rattle.std.specs.List.{flat_map}
 use Rattle.std.proofs.lemmas.List.{flat_map_more, take_more}
 use Rattle.screen.specs.declared.parts.Coloured.{Coloured}
 use Rattle.screen.specs.Updates.{coloured_bytes}
-use Rattle.screen.proofs.update.put_rectangles.Goals as goal
+use Rattle.screen.proofs.update.put_coloured.Goals as goal
 
 pub loop-rectangle-preserved : goal.loop-rectangle-preserved
 loop-rectangle-preserved c =
-    let f : Coloured → List ℕ = coloured_bytes c.args.format.now in
+    let f : Coloured → List ℕ = coloured_bytes c.args.encoding c.args.format.now in
     let done : List Coloured = take c.loop-rectangle.rectangle-index c.args.rectangles.now in
     let next : Coloured = c.rectangle-item.result in
     let below : c.loop-rectangle.rectangle-index < length c.args.rectangles.now = search rules in

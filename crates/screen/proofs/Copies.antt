@@ -1,0 +1,100 @@
+-- What a copy does to the picture and the viewers, by the rectangles that it moves colours to.
+use Rattle.std.proofs.Common.{◌≡◌, ◌≢◌, ℕ, ℤ, pos, ◌+◌, ◌*◌, ◌/◌, ◌%◌, ◌<◌, ◌≤◌, ◌⊎◌, inl, inr, Bool, true, false, cond, not, ◌||◌, List, [], ◌∷◌, map, All, refl, sym, ap, ◌∙◌, arith, mul_comm}
+use Rattle.std.specs.Prelude.{nat_abs, ◌<ℤ◌}
+use Rattle.std.specs.List.{list_any, range_with_len}
+use Rattle.std.proofs.Math.Nat.{mul-le-mul_right}
+use Rattle.std.proofs.lemmas.Nat.{div-mul-add, mod-mul-add}
+use Rattle.std.proofs.lemmas.Int.{ints}
+use Rattle.std.proofs.lemmas.List.FromFn.{get_or-map-range_with_len, length-map-range_with_len}
+use Rattle.std.proofs.lemmas.List.Folds.{list_any_at}
+use Rattle.region.specs.declared.Rect.{Rect}
+use Rattle.region.specs.Region.{in_rect, covers, by_band, beside, in_order}
+use Rattle.std.specs.Ordering.{int_eq}
+use Rattle.std.specs.Prelude.{flat_map}
+use Rattle.copy_schedule.specs.Places.{some_place, cut_destination}
+use Rattle.copy_schedule.specs.Marks.{IsOnScreen, same_offset, copied_by}
+use Rattle.screen.specs.declared.place.Seat.{Seat}
+use Rattle.screen.specs.Viewer.{does_nothing, viewer_copied}
+use Rattle.screen.specs.Entries.{viewer_in, seat_with, marks_copied}
+
+-- ---- whether a copy does something
+
+no_place : (w h : ℕ) → some_place w h (covers []) ≡ false
+no_place w h = go (range_with_len 0 (w * h))
+  where
+    go : (is : List ℕ) → list_any (λ b. b) (map (λ i. covers [] (pos (i % w)) (pos (i / w))) is) ≡ false
+    go [] = refl
+    go (i ∷ is) = go is
+
+or_true : (b : Bool) → (b || true) ≡ true
+or_true true = refl
+or_true false = refl
+
+pub nothing : (w h : ℕ) (set : ℤ → ℤ → Bool) (by : ℤ × ℤ) (pieces : List Rect) → covers pieces ≡ cut_destination w h set by → (same_offset by (pos 0, pos 0) ≡ true) ⊎ (pieces ≡ []) → does_nothing w h set by ≡ true
+nothing w h set by pieces places (inl same) = ap (λ b. b || not (some_place w h (cut_destination w h set by))) same
+nothing w h set by pieces places (inr none) =
+    ap (λ (f : ℤ → ℤ → Bool). same_offset by (pos 0, pos 0) || not (some_place w h f)) (sym places ∙ ap covers none)
+    ∙ ap (λ b. same_offset by (pos 0, pos 0) || not b) (no_place w h) ∙ or_true (same_offset by (pos 0, pos 0))
+
+-- a rectangle's corner is one of its places
+corner : (r : Rect) → r.x1 <ℤ r.x2 → r.y1 <ℤ r.y2 → in_rect r r.x1 r.y1 ≡ true
+corner r wide high = grind (arith, ints)
+
+some_of : (w h : ℕ) (r : Rect) (rects : List Rect) → IsOnScreen w h r → some_place w h (covers (r ∷ rects)) ≡ true
+some_of w h r rects on =
+    let x : ℕ = nat_abs r.x1 in
+    let y : ℕ = nat_abs r.y1 in
+    let is_x : pos x ≡ r.x1 = (let low = on.left in omega (arith, ints, low)) in
+    let is_y : pos y ≡ r.y1 = (let low = on.top in omega (arith, ints, low)) in
+    let left : x < w = (let a = on.left in let b = on.columns in let c = on.right in omega (arith, ints, a, b, c)) in
+    let top : y < h = (let a = on.top in let b = on.rows in let c = on.bottom in omega (arith, ints, a, b, c)) in
+    let k : ℕ = y * w + x in
+    let fits : k < w * h = (let up : (y + 1) * w ≤ h * w = mul-le-mul_right w (omega arith) in let e = mul_comm w h in omega (arith, up, e, left)) in
+    let value : ℕ → Bool = λ i. covers (r ∷ rects) (pos (i % w)) (pos (i / w)) in
+    let here : value k ≡ true = ap (λ a. covers (r ∷ rects) (pos a) (pos (k / w))) (mod-mul-add y w x left) ∙ ap (λ b. covers (r ∷ rects) (pos x) (pos b)) (div-mul-add y w x left)
+        ∙ ap (λ a. covers (r ∷ rects) a (pos y)) is_x ∙ ap (covers (r ∷ rects) r.x1) is_y ∙ ap (λ b. b || covers rects r.x1 r.y1) (corner r on.columns on.rows) in
+    list_any_at (λ b. b) (map value (range_with_len 0 (w * h))) k false (let n = length-map-range_with_len value 0 (w * h) in omega (arith, n, fits))
+    (get_or-map-range_with_len value 0 (w * h) k k false fits (omega arith) ∙ here)
+
+pub something : (w h : ℕ) (set : ℤ → ℤ → Bool) (by : ℤ × ℤ) (pieces : List Rect) → covers pieces ≡ cut_destination w h set by → All (IsOnScreen w h) pieces → (same_offset by (pos 0, pos 0) ≡ false) × (pieces ≢ []) → does_nothing w h set by ≡ false
+something w h set by [] places inside far = absurd (far.1 refl)
+something w h set by (r ∷ pieces) places inside far =
+    ap (λ b. b || not (some_place w h (cut_destination w h set by))) far.0
+    ∙ ap (λ (f : ℤ → ℤ → Bool). not (some_place w h f)) (sym places)
+    ∙ ap not (some_of w h r pieces (inside 0 r (omega arith)))
+
+-- ---- a region's list, from the top and from the left
+
+one_band : (r : Rect) (lines : List (List Rect)) → flat_map (λ l. l) (beside r lines) ≡ r ∷ flat_map (λ l. l) lines
+one_band r [] = refl
+one_band r ([] ∷ lines) = refl
+one_band r ((q ∷ qs) ∷ lines) = go (int_eq r.y1 q.y1)
+  where
+    go : (b : Bool) → flat_map (λ l. l) (cond b ((r ∷ q ∷ qs) ∷ lines) ((r ∷ []) ∷ (q ∷ qs) ∷ lines)) ≡ r ∷ q ∷ flat_map (λ l. l) (qs ∷ lines)
+    go true = refl
+    go false = refl
+
+pub plain_order : (rs : List Rect) → in_order false false rs ≡ rs
+plain_order [] = refl
+plain_order (r ∷ rs) = one_band r (by_band rs) ∙ ap (λ l. r ∷ l) (plain_order rs)
+
+-- ---- the viewers
+
+-- nothing is done to a seat
+pub seat_still : (w h : ℕ) (set : ℤ → ℤ → Bool) (by : ℤ × ℤ) (s : Seat) → does_nothing w h set by ≡ true → viewer_in s ≡ viewer_copied w h set by (viewer_in s)
+seat_still w h set by s none = sym (ap (λ b. record (viewer_in s) { marks = cond b s.marks (copied_by (cut_destination w h set by) by s.uses_copyrect s.marks) }) none)
+
+-- the copy is done
+pub seat_moved : (w h : ℕ) (set : ℤ → ℤ → Bool) (by : ℤ × ℤ) (pieces : List Rect) (s : Seat) → covers pieces ≡ cut_destination w h set by → does_nothing w h set by ≡ false
+    → viewer_in (seat_with (marks_copied pieces by) s) ≡ viewer_copied w h set by (viewer_in s)
+seat_moved w h set by pieces s places some =
+    ap (λ (f : ℤ → ℤ → Bool). record (viewer_in s) { marks = copied_by f by s.uses_copyrect s.marks }) places
+    ∙ sym (ap (λ b. record (viewer_in s) { marks = cond b s.marks (copied_by (cut_destination w h set by) by s.uses_copyrect s.marks) }) some)
+
+-- the marks of a copy are of the screen's size
+pub same_size : (pieces : List Rect) (by : ℤ × ℤ) (s : Seat) → ((marks_copied pieces by s).width ≡ s.marks.width) × ((marks_copied pieces by s).height ≡ s.marks.height)
+same_size pieces by s = go s.uses_copyrect
+  where
+    go : (b : Bool) → ((copied_by (covers pieces) by b s.marks).width ≡ s.marks.width) × ((copied_by (covers pieces) by b s.marks).height ≡ s.marks.height)
+    go true = (refl, refl)
+    go false = (refl, refl)

@@ -1,0 +1,12 @@
+use Rattle.std.proofs.Common.{sym, ap, ◌∙◌, refl}
+use Rattle.screen.specs.declared.Event.TheVariants.{Write}
+use Rattle.framebuffer.specs.Picture.{written}
+use Rattle.screen.proofs.Drawn.{state-unseen}
+use Rattle.screen.proofs.screen.Screen.write_pixels.Goals as goal
+
+pub returns-clause-step : goal.returns-clause-step
+returns-clause-step c = λ config list h.
+    let here = c.self.inside in
+    state-unseen config here.config here.picture.items c.replace.new.picture.items here.seats.items (Write c.args.rect c.args.colours.now) list refl c.in_ok-block.ensures.refusal
+    (c.replace.ensures.picture ∙ ap (λ r. written here.config.width here.config.height r c.args.colours.now here.picture.items) (sym c.in_ok-block.ensures.is))
+    (λ s. refl) (c.self.view_is ∙ h)
