@@ -9,7 +9,7 @@ use Rattle.messages.specs.declared.Input.TheVariants as input
 use Rattle.screen.specs.declared.ScreenError.{ScreenError}
 use Rattle.screen.specs.declared.ScreenError.TheVariants as refusals
 use Rattle.screen.specs.declared.Event.{Event}
-use Rattle.screen.specs.declared.Event.TheVariants.{Paint, Connect, Hear, Cut, Close}
+use Rattle.screen.specs.declared.Event.TheVariants.{Connect, Hear, Cut}
 use Rattle.screen.specs.declared.Answer.{Answer}
 
 -- a digit, in lower case
@@ -35,6 +35,7 @@ refusal_name refusals.BadName = codes "2 BadName"
 refusal_name refusals.BadRectLimit = codes "3 BadRectLimit"
 refusal_name refusals.BadRect = codes "4 BadRect"
 refusal_name refusals.BadPixelCount = codes "5 BadPixelCount"
+refusal_name refusals.TextTooLong = codes "6 TextTooLong"
 refusal_name refusals.NoViewer = codes "7 NoViewer"
 refusal_name refusals.NumberInUse = codes "8 NumberInUse"
 refusal_name refusals.OutOfMemory = codes "9 OutOfMemory"
@@ -79,11 +80,10 @@ ok = codes "ok\n"
 
 -- what is printed of the answer to an event that was not refused
 abbrev pub answered : Event → Answer → List ℕ
-answered (Paint rect colours) a = ok
 answered (Connect v) a = bytes_line (codes "connect ") v a.bytes
 answered (Hear v piece) a = bytes_line (codes "hear ") v a.bytes ++ flat_map (input_line v) a.inputs ++ closed v a.closed
 answered (Cut v) a = bytes_line (codes "cut ") v a.bytes
-answered (Close v) a = ok
+answered _ a = ok
 
 abbrev pub text_by : Event → Answer → Option ScreenError → List ℕ
 text_by e a None = answered e a

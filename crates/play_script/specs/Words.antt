@@ -1,5 +1,5 @@
 -- How a script's bytes spell lines, words, numbers and bytes.
-use Rattle.std.specs.Prelude.{ℕ, ◌+◌, ◌*◌, ◌/◌, ◌%◌, ◌^◌, nat_le, Bool, true, false, not, ◌&&◌, ◌==◌, if◌then◌else◌, List, [], ◌∷◌, length, get_or, take, drop, map, codes, bytes_eq, Option, Some, None}
+use Rattle.std.specs.Prelude.{ℕ, ◌+◌, ◌*◌, ◌/◌, ◌%◌, ◌^◌, nat_le, Bool, true, false, not, ◌&&◌, ◌==◌, if◌then◌else◌, List, [], ◌∷◌, length, get_or, take, drop, map, codes, bytes_eq, Option, Some, None, option_map, ℤ, pos, neg_ℤ}
 use Rattle.std.specs.List.{list_all, range_with_len, onto_first}
 use Rattle.std.specs.Char.{is_digit, digit_value}
 
@@ -46,6 +46,11 @@ number_limit = 0x7fff_ffff
 
 abbrev pub number : List ℕ → Option ℕ
 number w = number_up_to number_limit w
+
+-- a number that may have a leading `-`
+abbrev pub signed : List ℕ → Option ℤ
+signed [] = None
+signed (b ∷ bs) = if b == 45 then option_map (λ n. neg_ℤ (pos n)) (number bs) else option_map (λ n. pos n) (number (b ∷ bs))
 
 -- a viewer's number is a u64
 abbrev pub viewer_number : List ℕ → Option ℕ

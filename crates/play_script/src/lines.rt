@@ -1,10 +1,10 @@
-ghost use Rattle.std.specs.Prelude.{◌≡◌, ◌+◌, ◌≤◌, ◌^◌, length, IfOk, option_map, ◌<◌, ◌==◌, if◌then◌else◌};
+ghost use Rattle.std.specs.Prelude.{◌≡◌, ◌+◌, ◌∷◌, [], ◌≤◌, ◌^◌, length, IfOk, option_map, ◌<◌, ◌==◌, if◌then◌else◌};
 ghost use Rattle.screen.specs.declared.Config.{Config};
 ghost use Rattle.play_script.specs.Words.{words_of};
-ghost use Rattle.play_script.specs.Lines.{is_skipped, verb_of, name_of, limit_of, config_of, places_by, places_of, spread, only_viewer, started_by, done_by, paint_of, hear_of, line_of};
+ghost use Rattle.play_script.specs.Lines.{is_skipped, verb_of, name_of, limit_of, config_of, places_by, places_of, spread, only_viewer, started_by, done_by, pixels_of, paint_of, write_of, corners_of, mark_of, move_of, schedule_of, copy_of, bell_of, text_of, hear_of, line_of};
 
 use crate::hex::{hex_bytes, hex_colours};
-use crate::words::{NUMBER_LIMIT, number, viewer_number, word, word_count};
+use crate::words::{NUMBER_LIMIT, number, signed, viewer_number, word, word_count};
 use listed::Listed;
 use region::Rect;
 use screen::{Config, Event};
@@ -27,7 +27,13 @@ pub enum Line {
 #[derive(Clone, Copy, Debug, PartialEq, Eq)]
 enum Verb {
     Screen,
+    Write,
     Paint,
+    Mark,
+    Schedule,
+    DoCopy,
+    Bell,
+    CutText,
     Connect,
     Hear,
     Cut,
@@ -39,6 +45,21 @@ enum Verb {
 struct Places {
     rect: Rect,
     count: u32,
+}
+
+// A rectangle with its colours, row by row.
+#[derive(Drop)]
+struct Pixels {
+    rect: Rect,
+    colours: Listed<u32>,
+}
+
+// A rectangle that is copied to, and by how much.
+#[derive(Clone, Copy, Debug, PartialEq, Eq)]
+struct Move {
+    rect: Rect,
+    dx: i32,
+    dy: i32,
 }
 
 // What a screen is to be made with. The name still lies in the script.
@@ -61,7 +82,13 @@ fn verb_of(word: &[u8]) -> Option<Verb>
 {
     match word {
         b"screen" => Some(Verb::Screen),
+        b"write" => Some(Verb::Write),
         b"paint" => Some(Verb::Paint),
+        b"mark" => Some(Verb::Mark),
+        b"schedule" => Some(Verb::Schedule),
+        b"docopy" => Some(Verb::DoCopy),
+        b"bell" => Some(Verb::Bell),
+        b"cuttext" => Some(Verb::CutText),
         b"connect" => Some(Verb::Connect),
         b"hear" => Some(Verb::Hear),
         b"cut" => Some(Verb::Cut),
@@ -171,24 +198,144 @@ fn spread(alloc: Global, count: u32, colours: Vec<u32>) -> Result<Vec<u32>, Allo
     Ok(colours)
 }
 
+// X Y W H PIXELS
+#[tactic(auto, unfolding(crate::specs::Lines::pixels_of))]
+fn pixels_of(alloc: Global, line: &[u8]) -> Result<Option<Pixels>, AllocError>
+    ensures { IfOk result (λ pixels. pixels ≡ (if length (words_of line.now) == 6 then pixels_of (words_of line.now) else None)) }
+{
+    if word_count(line) != 6 {
+        return Ok(None);
+    }
+    let Some(places) = places_of(line) else {
+        return Ok(None);
+    };
+    let Some(colours) = hex_colours(alloc, word(line, 5))? else {
+        return Ok(None);
+    };
+    let colours = spread(alloc, places.count, colours)?;
+    Ok(Some(Pixels {
+        rect: places.rect,
+        colours: Listed::from_vec(colours),
+    }))
+}
+
 // paint X Y W H PIXELS
-#[tactic(auto, unfolding(crate::specs::Lines::paint_of))]
 fn paint_line(alloc: Global, line: &[u8]) -> Result<Line, AllocError>
     ensures { IfOk result (λ l. l ≡ done_by (if length (words_of line.now) == 6 then paint_of (words_of line.now) else None)) }
 {
-    if word_count(line) != 6 {
+    match pixels_of(alloc, line)? {
+        Some(Pixels { rect, colours }) => Ok(Line::Do(Event::Paint { rect, colours })),
+        None => Ok(Line::Bad),
+    }
+}
+
+// write X Y W H PIXELS
+fn write_line(alloc: Global, line: &[u8]) -> Result<Line, AllocError>
+    ensures { IfOk result (λ l. l ≡ done_by (if length (words_of line.now) == 6 then write_of (words_of line.now) else None)) }
+{
+    match pixels_of(alloc, line)? {
+        Some(Pixels { rect, colours }) => Ok(Line::Do(Event::Write { rect, colours })),
+        None => Ok(Line::Bad),
+    }
+}
+
+// X1 Y1 X2 Y2
+#[tactic(auto, unfolding(crate::specs::Lines::corners_of))]
+fn corners_of(line: &[u8]) -> Option<Rect>
+    ensures { result ≡ corners_of (words_of line.now) }
+{
+    let x1 = signed(word(line, 1))?;
+    let y1 = signed(word(line, 2))?;
+    let x2 = signed(word(line, 3))?;
+    let y2 = signed(word(line, 4))?;
+    Some(Rect { x1, y1, x2, y2 })
+}
+
+// One rectangle as a list.
+fn alone(alloc: Global, rect: Rect) -> Result<Listed<Rect>, AllocError>
+    ensures { IfOk result (λ rects. rects ≡ rect ∷ []) }
+{
+    let mut rects = Listed::new(alloc);
+    rects.push(rect)?;
+    Ok(rects)
+}
+
+// mark X1 Y1 X2 Y2
+fn mark_line(alloc: Global, line: &[u8]) -> Result<Line, AllocError>
+    ensures { IfOk result (λ l. l ≡ done_by (mark_of (words_of line.now))) }
+{
+    if word_count(line) != 5 {
         return Ok(Line::Bad);
     }
-    let Some(places) = places_of(line) else {
+    let Some(rect) = corners_of(line) else {
         return Ok(Line::Bad);
     };
-    let Some(colours) = hex_colours(alloc, word(line, 5))? else {
+    let rects = alone(alloc, rect)?;
+    Ok(Line::Do(Event::Mark { rects }))
+}
+
+// X1 Y1 X2 Y2 DX DY
+#[tactic(auto, unfolding(crate::specs::Lines::move_of))]
+fn move_of(line: &[u8]) -> Option<Move>
+    ensures { result ≡ move_of (words_of line.now) }
+{
+    let rect = corners_of(line)?;
+    let dx = signed(word(line, 5))?;
+    let dy = signed(word(line, 6))?;
+    Some(Move { rect, dx, dy })
+}
+
+// schedule X1 Y1 X2 Y2 DX DY
+fn schedule_line(alloc: Global, line: &[u8]) -> Result<Line, AllocError>
+    ensures { IfOk result (λ l. l ≡ done_by (schedule_of (words_of line.now))) }
+{
+    if word_count(line) != 7 {
+        return Ok(Line::Bad);
+    }
+    let Some(Move { rect, dx, dy }) = move_of(line) else {
         return Ok(Line::Bad);
     };
-    let colours = spread(alloc, places.count, colours)?;
-    Ok(Line::Do(Event::Paint {
-        rect: places.rect,
-        colours: Listed::from_vec(colours),
+    let rects = alone(alloc, rect)?;
+    Ok(Line::Do(Event::ScheduleCopy { rects, dx, dy }))
+}
+
+// docopy X1 Y1 X2 Y2 DX DY
+fn copy_line(alloc: Global, line: &[u8]) -> Result<Line, AllocError>
+    ensures { IfOk result (λ l. l ≡ done_by (copy_of (words_of line.now))) }
+{
+    if word_count(line) != 7 {
+        return Ok(Line::Bad);
+    }
+    let Some(Move { rect, dx, dy }) = move_of(line) else {
+        return Ok(Line::Bad);
+    };
+    let rects = alone(alloc, rect)?;
+    Ok(Line::Do(Event::DoCopy { rects, dx, dy }))
+}
+
+// bell
+fn bell_line(line: &[u8]) -> Line
+    ensures { result ≡ done_by (bell_of (words_of line.now)) }
+{
+    if word_count(line) == 1 {
+        Line::Do(Event::Bell)
+    } else {
+        Line::Bad
+    }
+}
+
+// cuttext HEX
+fn text_line(alloc: Global, line: &[u8]) -> Result<Line, AllocError>
+    ensures { IfOk result (λ l. l ≡ done_by (text_of (words_of line.now))) }
+{
+    if word_count(line) != 2 {
+        return Ok(Line::Bad);
+    }
+    let Some(text) = hex_bytes(alloc, word(line, 1))? else {
+        return Ok(Line::Bad);
+    };
+    Ok(Line::Do(Event::CutText {
+        text: Listed::from_vec(text),
     }))
 }
 
@@ -243,7 +390,13 @@ pub fn parse_line(alloc: Global, line: &[u8]) -> Result<Line, AllocError>
     };
     match verb {
         Verb::Screen => screen_line(alloc, line),
+        Verb::Write => write_line(alloc, line),
         Verb::Paint => paint_line(alloc, line),
+        Verb::Mark => mark_line(alloc, line),
+        Verb::Schedule => schedule_line(alloc, line),
+        Verb::DoCopy => copy_line(alloc, line),
+        Verb::Bell => Ok(bell_line(line)),
+        Verb::CutText => text_line(alloc, line),
         Verb::Connect => Ok(done_by(only_viewer(line).map(|viewer| Event::Connect { viewer }))),
         Verb::Hear => hear_line(alloc, line),
         Verb::Cut => Ok(done_by(only_viewer(line).map(|viewer| Event::Cut { viewer }))),

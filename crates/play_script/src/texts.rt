@@ -69,6 +69,7 @@ fn refusal_name(refusal: ScreenError) -> &'static [u8]
         ScreenError::BadRectLimit => b"3 BadRectLimit",
         ScreenError::BadRect => b"4 BadRect",
         ScreenError::BadPixelCount => b"5 BadPixelCount",
+        ScreenError::TextTooLong => b"6 TextTooLong",
         ScreenError::NoViewer => b"7 NoViewer",
         ScreenError::NumberInUse => b"8 NumberInUse",
         ScreenError::OutOfMemory => b"9 OutOfMemory",
@@ -225,7 +226,6 @@ fn put_answered(
 {
     let bytes = answer.bytes.as_slice();
     match event {
-        Event::Paint { .. } => out.extend_from_slice(b"ok\n"),
         Event::Connect { viewer } => put_bytes_line(alloc, out, b"connect ", *viewer, bytes),
         Event::Hear { viewer, .. } => {
             put_bytes_line(alloc, out, b"hear ", *viewer, bytes)?;
@@ -233,7 +233,7 @@ fn put_answered(
             put_closed(alloc, out, *viewer, answer.closed)
         }
         Event::Cut { viewer } => put_bytes_line(alloc, out, b"cut ", *viewer, bytes),
-        Event::Close { .. } => out.extend_from_slice(b"ok\n"),
+        _ => out.extend_from_slice(b"ok\n"),
     }
 }
 

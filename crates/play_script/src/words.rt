@@ -1,7 +1,7 @@
 ghost use Rattle.std.specs.Prelude.{◌≡◌, ◌==◌, position, ℕ, ◌<◌, ◌∷◌, [], length, IfSome, SomeIff, ◌+◌, ◌*◌, ◌^◌};
 ghost use Rattle.std.specs.Char.{digit_value};
 ghost use Rattle.std.specs.Option.{option_map_or};
-ghost use Rattle.play_script.specs.Words.{parts, lines_of, words_of, word as word_of, number_up_to, number as number_of, viewer_number as viewer_number_of};
+ghost use Rattle.play_script.specs.Words.{parts, lines_of, words_of, word as word_of, number_up_to, number as number_of, signed as signed_of, viewer_number as viewer_number_of};
 
 use crate::hex::{are_digits, digit_value};
 
@@ -84,6 +84,16 @@ pub fn number(word: &[u8]) -> Option<u32>
 {
     let value = number_up_to(word, u64::from(NUMBER_LIMIT))?;
     Some(value as u32)
+}
+
+// A number, negative or not, of at most 2^31 - 1 without its sign.
+pub fn signed(word: &[u8]) -> Option<i32>
+    ensures { result ≡ signed_of word.now }
+{
+    match word {
+        [b'-', digits @ ..] => number(digits).map(|value| -(value as i32)),
+        _ => number(word).map(|value| value as i32),
+    }
 }
 
 // A viewer's number.
