@@ -3,7 +3,9 @@ pub mod MostFrequent
 pub mod Runs
 pub mod Listed
 pub mod Scans
+pub mod Early
 pub mod Lengths
 pub mod Paint
+pub mod Plain
 mod ReadBack
 mod InOrder

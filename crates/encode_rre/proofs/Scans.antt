@@ -9,7 +9,7 @@ use Rattle.std.proofs.lemmas.Bool.{eq-eqb, eqb-true, eqb-false, lt-ltb, cases_lt
 use Rattle.std.proofs.lemmas.Bool.Decides.{eqb_tells}
 use Rattle.encode_rre.specs.declared.Subrectangle.{Subrectangle}
 use Rattle.encode_rre.specs.declared.scan.Run.{Run}
-use Rattle.encode_rre.specs.Subrectangles.{rows_of, row_at, begins_run, stretch, has_run, begins_subrectangle, subrectangle_from}
+use Rattle.encode_rre.specs.Subrectangles.{rows_of, row_at, begins_run, stretch, has_run, run_at, begins_subrectangle, subrectangle_from, subrectangles_in}
 use Rattle.encode_rre.proofs.Runs.{Front, Front-one, prefix_is}
 
 -- ---- the rows of a rectangle
@@ -216,3 +216,32 @@ fewer_rows {X} f y (suc m) =
     let e : y + suc m ≡ y + m + 1 = omega arith in
     let more = fewer_rows f y m in
     rw e (omega (arith, more, ap (length {A = X}) (row_more f (y + m)), length-append (flat_map f (range_with_len 0 (y + m))) (f (y + m))))
+
+-- ---- a row that is the one above
+
+none_kept : (p : ℕ → Bool) (xs : List ℕ) → ((x : ℕ) → p x ≡ false) → filter p xs ≡ []
+none_kept p [] none = refl
+none_kept p (x ∷ xs) none = step (p x) (none x) (none_kept p xs none)
+  where
+    step : (t : Bool) → t ≡ false → filter p xs ≡ [] → cond t (x ∷ filter p xs) (filter p xs) ≡ []
+    step true e more = absurd cc
+    step false e more = more
+
+not_twice : (a o : Bool) → (a && o && not (a && true && true)) ≡ false
+not_twice true true = refl
+not_twice true false = refl
+not_twice false o = refl
+
+pub none_in_repeated : (rows : List (List ℕ)) (y : ℕ) → 0 < y → row_at rows y ≡ row_at rows (y - 1) → (b : ℕ) → subrectangles_in b rows y ≡ []
+none_in_repeated rows y some same b = ap (map (subrectangle_from rows y)) (none_kept (begins_subrectangle b rows y) (range_with_len 0 (length (row_at rows y))) none)
+  where
+    row : List ℕ
+    row = row_at rows y
+
+    none : (x : ℕ) → begins_subrectangle b rows y x ≡ false
+    none x =
+        ap (λ (r : List ℕ). begins_run row x && not (eqb (slice_index row x) b) && not (ltb 0 y && has_run (run_at row x) r)) (sym same)
+        ∙ ap (λ (t : Bool). begins_run row x && not (eqb (slice_index row x) b) && not (t && has_run (run_at row x) row)) (lt-ltb 0 y some)
+        ∙ ap (λ (t : Bool). begins_run row x && not (eqb (slice_index row x) b) && not (begins_run row x && t && eqb (stretch row x) (stretch row x))) (eq-eqb (slice_index row x) (slice_index row x) refl)
+        ∙ ap (λ (t : Bool). begins_run row x && not (eqb (slice_index row x) b) && not (begins_run row x && true && t)) (eq-eqb (stretch row x) (stretch row x) refl)
+        ∙ not_twice (begins_run row x) (not (eqb (slice_index row x) b))

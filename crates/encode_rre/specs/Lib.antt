@@ -1,5 +1,7 @@
 pub mod Rre
 pub mod Subrectangles
+pub mod Breaks
+pub mod Counted
 pub mod Reading
 pub mod Examples
 pub mod Claims

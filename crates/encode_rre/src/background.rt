@@ -1,9 +1,13 @@
-//! The background of a rectangle, found with a table of the pixels that were seen.
+//! The background of a rectangle: a guess that is tested, or else found with a table of the pixels that
+//! were seen.
 
-ghost use Rattle.std.specs.Prelude.{◌≡◌, ◌<◌, ◌≤◌, ◌⊎◌, true, false, length, IfOk};
-ghost use Rattle.encode_rre.specs.Subrectangles.{background_of};
+ghost use Rattle.std.specs.Prelude.{◌≡◌, ◌≢◌, ℕ, ◌+◌, ◌*◌, ◌<◌, ◌≤◌, ◌⊎◌, ◌^◌, true, false, nat_eq, length, IfOk, OnOk, IfSome};
+ghost use Rattle.std.specs.HashMap as hash;
+ghost use Rattle.std.specs.Option.{unwrap_or};
+ghost use Rattle.encode_rre.specs.Counted.{count_in, IsBestOf};
+ghost use Rattle.encode_rre.specs.Subrectangles.{background_of, times, rows_of, row_at};
 
-use crate::scan::stretch_from;
+use crate::scan::{row_of, stretch_from};
 use std::alloc::{AllocError, Global};
 use std::collections::HashMap;
 
@@ -19,27 +23,174 @@ fn is_better(pixel: u32, count: usize, best: u32, most: usize) -> bool
     }
 }
 
-/// The most frequent pixel, of several the smallest. Each run of one pixel is counted at once, so
-/// this takes one look-up a run, and memory for each pixel that differs.
-pub(crate) fn background_of(alloc: Global, pixels: &[u32]) -> Result<u32, AllocError>
-    requires { 0 < length pixels.now }
-    ensures { IfOk result (λ b. b ≡ background_of pixels.now) }
-{
-    let mut counts: HashMap<u32, usize> = HashMap::new(alloc);
-    let mut best = pixels[0];
-    let mut most = 0;
-    let mut start = 0;
-    while start < pixels.len() {
-        let pixel = pixels[start];
-        let run = stretch_from(pixels, start);
-        let before = counts.get(&pixel).copied().unwrap_or(0);
-        let count = before + run;
-        counts.insert(pixel, count)?;
-        if is_better(pixel, count, best, most) {
+/// A pixel that may be the most frequent one, or the most frequent beside another: one in 128 pixels
+/// has a vote, and a pixel that more than half of them have wins. It is only a guess.
+fn likely(pixels: &[u32], beside: Option<u32>) -> u32 {
+    let mut best = 0;
+    let mut votes = 0usize;
+    for k in 0..pixels.len() / 128 {
+        let pixel = pixels[128 * k + k % 127];
+        if beside == Some(pixel) {
+            continue;
+        }
+        if pixel == best {
+            votes = votes.saturating_add(1);
+        } else if votes == 0 {
             best = pixel;
-            most = count;
+            votes = 1;
+        } else {
+            votes -= 1;
+        }
+    }
+    best
+}
+
+/// How often a pixel stands there. This has no branch in its loop, so that many places are looked
+/// at in one step.
+fn times(pixels: &[u32], pixel: u32) -> usize
+    requires { length pixels.now < 2 ^ 32 }
+    ensures { result ≡ times pixel pixels.now }
+{
+    let mut count = 0u32;
+    for other in pixels {
+        count += u32::from(*other == pixel);
+    }
+    count as usize
+}
+
+/// The better background of two pixels, where no other can be as frequent as the one of them that
+/// stands there more often: all others together have fewer places.
+fn best_of_two(pixels: &[u32], one: u32, ones: usize, other: u32) -> Option<u32>
+    requires some { 0 < length pixels.now }
+    requires few { length pixels.now < 2 ^ 32 }
+    requires counted { ones ≡ times one pixels.now }
+    ensures { IfSome result (λ b. b ≡ background_of pixels.now) }
+{
+    let others = times(pixels, other);
+    if one == other || ones + others + ones.max(others) <= pixels.len() {
+        return None;
+    }
+    if is_better(one, ones, other, others) {
+        Some(one)
+    } else {
+        Some(other)
+    }
+}
+
+/// Adds to a pixel's count with one look-up, and gives the sum.
+fn add(counts: &mut HashMap<u32, usize>, pixel: u32, places: usize) -> Result<usize, AllocError>
+    requires { unwrap_or (hash.get nat_eq counts.old pixel) 0 + places < 2 ^ 64 }
+    ensures sum { IfOk result (λ n. n ≡ unwrap_or (hash.get nat_eq counts.old pixel) 0 + places) }
+    ensures itself { IfOk result (λ n. unwrap_or (hash.get nat_eq counts.new pixel) 0 ≡ n) }
+    ensures others { OnOk result ((q : ℕ) → pixel ≢ q → unwrap_or (hash.get nat_eq counts.new q) 0 ≡ unwrap_or (hash.get nat_eq counts.old q) 0) }
+{
+    let count = counts.entry(pixel)?.or_insert(0);
+    *count += places;
+    Ok(*count)
+}
+
+/// How often each pixel was counted, and the best background of those.
+#[derive(Drop)]
+struct Counter {
+    counts: HashMap<u32, usize>,
+    best: u32,
+    most: usize,
+}
+
+/// Counts the pixels of a row that stands there so many times. Each run of one pixel is counted at
+/// once, so this takes one look-up a run, and memory for each pixel that differs.
+fn count_row(counter: &mut Counter, row: &[u32], rows: usize) -> Result<(), AllocError>
+    requires some { 0 < rows }
+    requires few { rows < 2 ^ 16 }
+    requires columns { length row.now < 2 ^ 16 }
+    requires room { (q : ℕ) → count_in counter.old q < 2 ^ 40 }
+    requires best { IsBestOf (count_in counter.old) counter.old.best counter.old.most }
+    ensures counted { OnOk result ((q : ℕ) → count_in counter.new q ≡ count_in counter.old q + rows * times q row.now) }
+    ensures best { OnOk result (IsBestOf (count_in counter.new) counter.new.best counter.new.most) }
+{
+    let mut start = 0;
+    while start < row.len() {
+        let pixel = row[start];
+        let run = stretch_from(row, start);
+        let count = add(&mut counter.counts, pixel, rows * run)?;
+        if is_better(pixel, count, counter.best, counter.most) {
+            counter.best = pixel;
+            counter.most = count;
         }
         start += run;
     }
-    Ok(best)
+    Ok(())
+}
+
+/// How many rows from `top` on are like the one there.
+fn rows_like(pixels: &[u32], width: usize, height: usize, top: usize) -> usize
+    requires whole { length pixels.now ≡ width * height }
+    requires inside { top < height }
+    ensures some { 0 < result }
+    ensures within { top + result ≤ height }
+    ensures same { (k : ℕ) → k < result → row_at (rows_of width height pixels.now) (top + k) ≡ row_at (rows_of width height pixels.now) top }
+{
+    let row = row_of(pixels, width, height, top);
+    for y in top + 1..height {
+        if row_of(pixels, width, height, y) != row {
+            return y - top;
+        }
+    }
+    height - top
+}
+
+/// The most frequent pixel, of several the smallest, counted row by row; rows that are alike are
+/// counted at once.
+fn counted_background(
+    alloc: Global,
+    pixels: &[u32],
+    width: usize,
+    height: usize,
+) -> Result<u32, AllocError>
+    requires some { 0 < length pixels.now }
+    requires whole { length pixels.now ≡ width * height }
+    requires columns { width < 2 ^ 16 }
+    requires rows { height < 2 ^ 16 }
+    ensures { IfOk result (λ b. b ≡ background_of pixels.now) }
+{
+    let mut counter = Counter {
+        counts: HashMap::new(alloc),
+        best: pixels[0],
+        most: 0,
+    };
+    let mut y = 0;
+    while y < height {
+        let rows = rows_like(pixels, width, height, y);
+        count_row(&mut counter, row_of(pixels, width, height, y), rows)?;
+        y += rows;
+    }
+    Ok(counter.best)
+}
+
+/// The most frequent pixel, of several the smallest. Where a pixel that seems likely has more than
+/// half of the places, it is the one, and where two have enough of them, it is one of these; else
+/// all pixels are counted.
+pub(crate) fn background_of(
+    alloc: Global,
+    pixels: &[u32],
+    width: usize,
+    height: usize,
+) -> Result<u32, AllocError>
+    requires some { 0 < length pixels.now }
+    requires few { length pixels.now < 2 ^ 32 }
+    requires whole { length pixels.now ≡ width * height }
+    requires columns { width < 2 ^ 16 }
+    requires rows { height < 2 ^ 16 }
+    ensures { IfOk result (λ b. b ≡ background_of pixels.now) }
+{
+    let guess = likely(pixels, None);
+    let count = times(pixels, guess);
+    if pixels.len() / 2 < count {
+        return Ok(guess);
+    }
+    let other = likely(pixels, Some(guess));
+    match best_of_two(pixels, guess, count, other) {
+        Some(best) => Ok(best),
+        None => counted_background(alloc, pixels, width, height),
+    }
 }

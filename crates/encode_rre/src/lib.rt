@@ -1,14 +1,20 @@
 //! The encoding RRE (RFC 6143, 7.7.3): a background and subrectangles of one pixel each, or Raw
 //! where that is no shorter.
 //!
-//! The pixels of the area are kept while it is encoded, four bytes each. The background is found
-//! with one look-up for each run, in a table of the pixels that differ, so in at most as many steps
-//! and entries as the area has places. The scan goes over each place a bounded number of times, and
-//! ends with the row in which there are too many subrectangles to be shorter than Raw; their list
-//! has at most one row of them more than that.
+//! Cost, where the area has n places. A colour is its own pixel where the format has the server's
+//! components and no colour has a top byte; else the pixels are kept while the area is encoded, four
+//! bytes each. First the places are counted that begin a subrectangle whatever the background is,
+//! but for those of the background itself: one pass over the pixels, or two, with 2 KB of counters.
+//! Where these alone are too many to be shorter than Raw, as on noise, that is all. Then the
+//! background is guessed from n / 128 pixels, and the guess is tested in one pass, or two; only
+//! where no guess is sure, the pixels are counted, rows that are alike at once, with one look-up for
+//! each run, in a table of the pixels that differ, so in at most n steps and entries. The scan skips
+//! a row that is the one above, goes over each place of another a bounded number of times, and ends
+//! with the row in which there are too many subrectangles to be shorter than Raw; their list has at
+//! most one row of them more than that.
 #![tactic(auto)]
 
-ghost use Rattle.std.specs.Prelude.{◌≡◌, ◌*◌, ◌≤◌, ◌++◌, length, map, IfOk, MatchOption, OnOk, OnErr};
+ghost use Rattle.std.specs.Prelude.{◌≡◌, ℕ, ◌*◌, ◌<◌, ◌≤◌, ◌++◌, true, length, map, slice_index, IfOk, MatchOption, OnOk, OnErr};
 ghost use Rattle.pixel_translate.specs.Pixel.{pixel};
 ghost use Rattle.encode_raw.specs.Raw.{raw};
 ghost use Rattle.encode_rre.specs.Claims.{rre_reads_back};
@@ -16,10 +22,12 @@ ghost use Rattle.encode_rre.specs.Rre.{rre};
 ghost use Rattle.encode_rre.specs.Subrectangles.{ListsTheSubrectangles, ListsInOrder, FindsTheBackground};
 
 mod background;
+mod breaks;
 mod bytes;
 mod scan;
 
 use crate::background::background_of;
+use crate::breaks::has_too_many;
 use crate::bytes::rre_bytes;
 use crate::scan::subrectangles_within;
 use encode_raw::{encode_raw, raw_is_read_back};
@@ -38,16 +46,79 @@ pub struct Subrectangle {
     pub pixel: u32,
 }
 
-/// The pixel of each colour.
+/// The greatest colour, or 0 where there is none.
+fn greatest(colours: &[u32]) -> u32
+    ensures { (k : ℕ) → k < length colours.now → slice_index colours.now k ≤ result }
+{
+    let mut greatest = 0;
+    for colour in colours {
+        greatest = greatest.max(*colour);
+    }
+    greatest
+}
+
+/// Whether each colour is its own pixel: the format has the server's components, and no colour has
+/// a top byte.
+fn are_pixels(colours: &[u32], format: &PixelFormat) -> bool
+    ensures { result ≡ true → colours.now ≡ map (pixel format.now) colours.now }
+{
+    let components = PixelFormat {
+        depth: 24,
+        big_endian: false,
+        ..*format
+    };
+    components == PixelFormat::server() && greatest(colours) < 1 << 24
+}
+
+/// The pixel of each colour. A colour that is the one before it isn't translated again.
 fn pixels_of(alloc: Global, colours: &[u32], format: &PixelFormat) -> Result<Vec<u32>, AllocError>
     ensures { IfOk result (λ pixels. pixels.items ≡ map (pixel format.now) colours.now) }
 {
     let table = Table::new(format);
     let mut pixels = Vec::with_capacity(alloc, colours.len())?;
+    let mut last = 0;
+    let mut pixel = table.translate(last);
     for colour in colours {
-        pixels.push(table.translate(*colour))?;
+        if *colour != last {
+            last = *colour;
+            pixel = table.translate(last);
+        }
+        pixels.push(pixel)?;
     }
     Ok(pixels)
+}
+
+/// A rectangle in RRE, from the pixels of its colours, where its data is shorter than in Raw.
+fn rect_of(
+    alloc: Global,
+    area: Area,
+    colours: &[u32],
+    pixels: &[u32],
+    format: &PixelFormat,
+) -> Result<Option<Vec<u8>>, AllocError>
+    requires wide { 1 ≤ area.w }
+    requires high { 1 ≤ area.h }
+    requires whole { length colours.now ≡ area.w * area.h }
+    requires translated { pixels.now ≡ map (pixel format.now) colours.now }
+    ensures { IfOk result (λ rect. MatchOption rect (rre format.now area colours.now ≡ raw format.now area colours.now) (λ bytes. bytes.items ≡ rre format.now area colours.now)) }
+{
+    let pixel_len = format.bytes_per_pixel();
+    let raw_len = colours.len() * pixel_len;
+    let limit = raw_len / (pixel_len + 8);
+    let width = usize::from(area.w);
+    let height = usize::from(area.h);
+    if has_too_many(pixels, width, height, limit) {
+        return Ok(None);
+    }
+    let background = background_of(alloc, pixels, width, height)?;
+    let Some(subs) = subrectangles_within(alloc, pixels, width, height, background, limit)? else {
+        return Ok(None);
+    };
+    if 4 + pixel_len + subs.len() * (pixel_len + 8) >= raw_len {
+        return Ok(None);
+    }
+    let rect = rre_bytes(alloc, area, format, background, &subs)?;
+    Ok(Some(rect))
 }
 
 /// A rectangle in RRE, where its data is shorter than in Raw.
@@ -62,21 +133,11 @@ fn shorter_rect(
     requires whole { length colours.now ≡ area.w * area.h }
     ensures { IfOk result (λ rect. MatchOption rect (rre format.now area colours.now ≡ raw format.now area colours.now) (λ bytes. bytes.items ≡ rre format.now area colours.now)) }
 {
-    let pixels = pixels_of(alloc, colours, format)?;
-    let background = background_of(alloc, &pixels)?;
-    let pixel_len = format.bytes_per_pixel();
-    let raw_len = colours.len() * pixel_len;
-    let limit = raw_len / (pixel_len + 8);
-    let width = usize::from(area.w);
-    let height = usize::from(area.h);
-    let Some(subs) = subrectangles_within(alloc, &pixels, width, height, background, limit)? else {
-        return Ok(None);
-    };
-    if 4 + pixel_len + subs.len() * (pixel_len + 8) >= raw_len {
-        return Ok(None);
+    if are_pixels(colours, format) {
+        return rect_of(alloc, area, colours, colours, format);
     }
-    let rect = rre_bytes(alloc, area, format, background, &subs)?;
-    Ok(Some(rect))
+    let pixels = pixels_of(alloc, colours, format)?;
+    rect_of(alloc, area, colours, &pixels, format)
 }
 
 /// Appends a rectangle in RRE (RFC 6143, 7.7.3), or in Raw where RRE's data is no shorter: the

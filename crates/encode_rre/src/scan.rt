@@ -1,6 +1,6 @@
 //! The subrectangles of a rectangle, found row by row.
 
-ghost use Rattle.std.specs.Prelude.{◌≡◌, ◌+◌, ◌*◌, ◌<◌, ◌≤◌, ◌^◌, ◌++◌, true, length, drop, IfOk, MatchOption, OnOk};
+ghost use Rattle.std.specs.Prelude.{◌≡◌, ℕ, ◌+◌, ◌*◌, ◌<◌, ◌≤◌, ◌^◌, [], ◌++◌, true, length, drop, slice_index, IfOk, MatchOption, OnOk};
 ghost use Rattle.std.specs.List.{prefix_len};
 ghost use Rattle.encode_rre.specs.Subrectangles.{rows_of, row_at, stretch, has_run, begins_run, begins_subrectangle, run_at, subrectangle_from, subrectangles_in, subrectangles};
 
@@ -15,7 +15,58 @@ pub(crate) struct Run {
     pixel: u32,
 }
 
-/// How many pixels are the same from `start` on.
+/// Whether the pixels are all one. This has no branch in its loop, so that many are looked at in one
+/// step.
+fn are_all(pixels: &[u32], pixel: u32) -> bool
+    requires { length pixels.now < 2 ^ 16 }
+    ensures { result ≡ true → (k : ℕ) → k < length pixels.now → slice_index pixels.now k ≡ pixel }
+{
+    let mut others = 0u32;
+    for other in pixels {
+        others += u32::from(*other != pixel);
+    }
+    others == 0
+}
+
+/// Where the last block of 16 pixels that are all one ends, of those one behind another from `from`
+/// on.
+fn blocks_end(row: &[u32], from: usize, pixel: u32) -> usize
+    requires { from ≤ length row.now }
+    ensures before { from ≤ result }
+    ensures within { result ≤ length row.now }
+    ensures same { (k : ℕ) → from ≤ k → k < result → slice_index row.now k ≡ pixel }
+{
+    let mut x = from;
+    while 16 <= row.len() - x {
+        if !are_all(&row[x..x + 16], pixel) {
+            return x;
+        }
+        x += 16;
+    }
+    x
+}
+
+/// How many pixels are the same from `start` on, where those before `near` are.
+fn far_stretch(row: &[u32], start: usize, near: usize) -> usize
+    requires some { start < near }
+    requires inside { near ≤ length row.now }
+    requires same { (k : ℕ) → start ≤ k → k < near → slice_index row.now k ≡ slice_index row.now start }
+    ensures same { result ≡ stretch row.now start }
+    ensures some { 0 < result }
+    ensures within { start + result ≤ length row.now }
+{
+    let pixel = row[start];
+    let far = blocks_end(row, near, pixel);
+    for x in far..row.len() {
+        if row[x] != pixel {
+            return x - start;
+        }
+    }
+    row.len() - start
+}
+
+/// How many pixels are the same from `start` on: the first eight are looked at one by one, and then
+/// a block at a time.
 pub(crate) fn stretch_from(row: &[u32], start: usize) -> usize
     requires { start < length row.now }
     ensures same { result ≡ stretch row.now start }
@@ -23,12 +74,13 @@ pub(crate) fn stretch_from(row: &[u32], start: usize) -> usize
     ensures within { start + result ≤ length row.now }
 {
     let pixel = row[start];
-    for x in start + 1..row.len() {
+    let near = row.len().min(start + 8);
+    for x in start + 1..near {
         if row[x] != pixel {
             return x - start;
         }
     }
-    row.len() - start
+    far_stretch(row, start, near)
 }
 
 /// Whether a run begins at a place of the row.
@@ -46,7 +98,7 @@ fn has_run(row: &[u32], run: Run) -> bool
 }
 
 /// The row at `y`.
-fn row_of(pixels: &[u32], width: usize, height: usize, y: usize) -> &[u32]
+pub(crate) fn row_of(pixels: &[u32], width: usize, height: usize, y: usize) -> &[u32]
     requires whole { length pixels.now ≡ width * height }
     requires inside { y < height }
     ensures row { result.now ≡ row_at (rows_of width height pixels.now) y }
@@ -89,6 +141,15 @@ fn begins_with(
     run.pixel != background && !(0 < y && has_run(row_of(pixels, width, height, y - 1), run))
 }
 
+/// Whether the row at `y` is the one above it, so that none begins in it.
+fn repeats(pixels: &[u32], width: usize, height: usize, y: usize) -> bool
+    requires whole { length pixels.now ≡ width * height }
+    requires inside { y < height }
+    ensures { result ≡ true → (b : ℕ) → subrectangles_in b (rows_of width height pixels.now) y ≡ [] }
+{
+    0 < y && row_of(pixels, width, height, y) == row_of(pixels, width, height, y - 1)
+}
+
 /// Appends the subrectangles that begin in the row at `y`.
 fn push_row(
     subs: &mut Vec<Subrectangle>,
@@ -104,6 +165,9 @@ fn push_row(
     requires rows { height < 2 ^ 16 }
     ensures { OnOk result (subs.new.items ≡ subs.old.items ++ subrectangles_in background (rows_of width height pixels.now) y) }
 {
+    if repeats(pixels, width, height, y) {
+        return Ok(());
+    }
     let row = row_of(pixels, width, height, y);
     let mut x = 0;
     while x < width {

@@ -1,7 +1,13 @@
-//! Worked rectangles, each byte written out from RFC 6143.
+//! Worked rectangles, each byte written out from RFC 6143, and pictures that a slow encoder, straight
+//! from the definition, codes too. Each test also passes where one allocation, whichever, fails.
 
 ghost use Rattle.std.specs.Prelude.{◌≡◌, ◌*◌, ◌≤◌, length};
 
+mod pictures;
+mod slow;
+
+use self::pictures::{Numbers, format_of, next, picture_of};
+use self::slow::slow_rre;
 use super::*;
 use std::test::Fail;
 
@@ -15,7 +21,7 @@ const RGB565: PixelFormat = PixelFormat {
 };
 
 /// Whether a rectangle at (1, 2) is appended as its size, its encoding and its data; where memory
-/// was refused, whether nothing was appended.
+/// was refused, whether nothing was appended. Where it is refused before the call, nothing is asked.
 fn is_coded(
     alloc: Global,
     size: (u16, u16),
@@ -34,7 +40,9 @@ fn is_coded(
         h: size.1,
     };
     let mut out = Vec::new(alloc);
-    out.push(7)?;
+    if out.push(7).is_err() {
+        return Ok(true);
+    }
     let done = encode_rre(&mut out, area, colours, format);
     if done.is_err() {
         return Ok(out.as_slice() == [7].as_slice());
@@ -129,5 +137,45 @@ fn ragged_runs_stand_apart_by_row_and_place(rt: HostRuntime) -> Result<(), Fail>
         ],
     )?;
     assert!(rt; coded);
+    Ok(())
+}
+
+/// Whether a picture of the sequence is appended as the slow encoder has it, and in RRE; where memory
+/// was refused, whether nothing was appended. Its size is up to 40 by 36.
+fn is_coded_alike(alloc: Global, numbers: &mut Numbers) -> Result<(bool, bool), AllocError> {
+    let w = 1 + next(numbers, 40) as u16;
+    let h = 1 + next(numbers, 36) as u16;
+    let format = format_of(numbers);
+    let colours = picture_of(alloc, numbers, w, h)?;
+    if colours.len() != usize::from(w) * usize::from(h) {
+        return Ok((false, false));
+    }
+    let area = Area { x: 3, y: 700, w, h };
+    let slow = slow_rre(alloc, area, &colours, &format)?;
+    let mut out = Vec::new(alloc);
+    let done = encode_rre(&mut out, area, &colours, &format);
+    if done.is_err() {
+        return Ok((out.is_empty(), false));
+    }
+    let in_rre = slow.get(11).copied() == Some(2);
+    Ok((out.as_slice() == slow.as_slice(), in_rre))
+}
+
+#[test]
+fn pictures_are_coded_as_by_the_definition(rt: HostRuntime) -> Result<(), Fail> {
+    let mut numbers = Numbers(1);
+    let mut refused = 0u32;
+    let mut in_rre = 0u32;
+    for _ in 0..500u32 {
+        match is_coded_alike(rt.alloc(), &mut numbers) {
+            Ok((alike, shorter)) => {
+                assert!(rt; alike);
+                in_rre = in_rre.saturating_add(u32::from(shorter));
+            }
+            Err(_) => refused = refused.saturating_add(1),
+        }
+    }
+    assert!(rt; refused <= 1, "memory is refused at most once");
+    assert!(rt; in_rre > 100 && in_rre < 400, "{in_rre} of 500 are in RRE");
     Ok(())
 }

@@ -1,0 +1,7 @@
+use Rattle.std.proofs.Common.{◌≡◌, ◌≤◌, ◌+◌, length}
+use Rattle.encode_rre.specs.Breaks.{breaks}
+use Rattle.encode_rre.proofs.breaks.breaks_in.Given as goal
+
+-- the places passed are counted
+abbrev pub invariant-loop-x : goal.invariant-loop-x
+invariant-loop-x l = record { counted : l.count ≡ breaks l.row l.above l.x; small : l.count ≤ l.x; within : l.x ≤ length l.row + 1 }

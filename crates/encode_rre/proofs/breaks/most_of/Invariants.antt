@@ -1,0 +1,6 @@
+use Rattle.std.proofs.Common.{ℕ, ◌<◌, ◌≤◌, get_or}
+use Rattle.encode_rre.proofs.breaks.most_of.Given as goal
+
+-- none of those passed is greater
+abbrev pub invariant-loop-count : goal.invariant-loop-count
+invariant-loop-count l = (k : ℕ) → k < l.count-index → get_or l.buckets k 0 ≤ l.most

@@ -1,0 +1,98 @@
+//! A quick test for rectangles with too many subrectangles, whatever their background is.
+//!
+//! A place whose pixel differs from the one before it and from the one above it begins a
+//! subrectangle, unless its pixel is the background. In one row no two places of the background are
+//! such places and stand side by side, so at most half of a row's places are left out. Where that is
+//! too many, such places are counted by their pixels.
+
+ghost use Rattle.std.specs.Prelude.{◌≡◌, ℕ, ◌+◌, ◌*◌, ◌^◌, ◌<◌, ◌≤◌, true, length, slice_index};
+ghost use Rattle.encode_rre.specs.Breaks.{breaks, breaks_like};
+ghost use Rattle.encode_rre.specs.Subrectangles.{rows_of, subrectangles};
+
+use crate::scan::row_of;
+
+/// How many places of a row differ from the one before them and from the one above them. This has
+/// no branch in its loop, so that many places are looked at in one step.
+fn breaks_in(row: &[u32], above: &[u32]) -> usize
+    requires wide { length above.now ≡ length row.now }
+    requires columns { length row.now < 2 ^ 16 }
+    ensures { result ≡ breaks row.now above.now (length row.now) }
+{
+    let mut count = 0u32;
+    for x in 1..row.len() {
+        let here = row[x];
+        let begins = (row[x - 1] != here) & (above[x] != here);
+        count += u32::from(begins);
+    }
+    count as usize
+}
+
+/// Counts such places of a row by what is left of their pixel when it is divided by 251, and tells
+/// how many there are.
+fn add_breaks(buckets: &mut [usize; 251], row: &[u32], above: &[u32]) -> usize
+    requires wide { length above.now ≡ length row.now }
+    requires columns { length row.now < 2 ^ 16 }
+    requires room { (k : ℕ) → k < 251 → slice_index buckets.old k < 2 ^ 40 }
+    ensures count { result ≡ breaks row.now above.now (length row.now) }
+    ensures each { (k : ℕ) → k < 251 → slice_index buckets.new k ≡ slice_index buckets.old k + breaks_like k row.now above.now (length row.now) }
+{
+    let mut count = 0usize;
+    for x in 1..row.len() {
+        let here = row[x];
+        let begins = usize::from((row[x - 1] != here) & (above[x] != here));
+        buckets[(here % 251) as usize] += begins;
+        count += begins;
+    }
+    count
+}
+
+/// The greatest number.
+fn most_of(buckets: &[usize; 251]) -> usize
+    ensures { (k : ℕ) → k < 251 → slice_index buckets.now k ≤ result }
+{
+    let mut most = 0;
+    for count in buckets {
+        most = most.max(*count);
+    }
+    most
+}
+
+/// Whether more than `limit` such places are left when those with the background's pixel are left
+/// out, of which there are at most as many as in the fullest bucket.
+fn has_too_many_kinds(pixels: &[u32], width: usize, height: usize, limit: usize) -> bool
+    requires whole { length pixels.now ≡ width * height }
+    requires columns { width < 2 ^ 16 }
+    requires rows { height < 2 ^ 16 }
+    requires some { 0 < height }
+    ensures { result ≡ true → (b : ℕ) → limit < length (subrectangles b (rows_of width height pixels.now)) }
+{
+    let mut buckets = [0usize; 251];
+    let mut count = 0;
+    for y in 1..height {
+        let row = row_of(pixels, width, height, y);
+        let above = row_of(pixels, width, height, y - 1);
+        count += add_breaks(&mut buckets, row, above);
+    }
+    limit < count.saturating_sub(most_of(&buckets))
+}
+
+/// Whether there are more than `limit` subrectangles for certain: first with the half of each row left
+/// out, and then, where such places are enough, by their pixels.
+pub(crate) fn has_too_many(pixels: &[u32], width: usize, height: usize, limit: usize) -> bool
+    requires whole { length pixels.now ≡ width * height }
+    requires columns { width < 2 ^ 16 }
+    requires rows { height < 2 ^ 16 }
+    requires some { 0 < height }
+    requires limited { limit < 2 ^ 32 }
+    ensures { result ≡ true → (b : ℕ) → limit < length (subrectangles b (rows_of width height pixels.now)) }
+{
+    let mut count = 0;
+    for y in 1..height {
+        let row = row_of(pixels, width, height, y);
+        count += breaks_in(row, row_of(pixels, width, height, y - 1));
+        if limit + (y + 1) * width / 2 < count {
+            return true;
+        }
+    }
+    limit < count && has_too_many_kinds(pixels, width, height, limit)
+}

@@ -1,0 +1,89 @@
+//! Pictures from a linear congruential sequence: each number is 1664525 times the one before it plus
+//! 1013904223, without what is above 32 bits, and its upper half is used.
+
+ghost use Rattle.std.specs.Prelude.{◌<◌};
+
+use pixel_translate::{BitsPerPixel, Component, PixelFormat};
+use std::alloc::{AllocError, Global};
+
+/// Where the sequence is.
+#[derive(Drop)]
+pub(crate) struct Numbers(pub(crate) u32);
+
+/// The next number below `below`.
+pub(crate) fn next(numbers: &mut Numbers, below: u32) -> u32
+    requires { 0 < below }
+    ensures { result < below }
+{
+    numbers.0 = numbers.0.wrapping_mul(1664525).wrapping_add(1013904223);
+    (numbers.0 >> 16) % below
+}
+
+/// A colour of so many, which differ in each format.
+fn colour_of(number: u32) -> u32 {
+    number.wrapping_mul(0x9e3779b1) >> 8
+}
+
+/// A format of 8, 16 or 32 bits, and its pixels' order of bytes.
+pub(crate) fn format_of(numbers: &mut Numbers) -> PixelFormat {
+    let kind = next(numbers, 3);
+    let big_endian = next(numbers, 2) == 1;
+    let (bits, red, green, blue) = match kind {
+        0 => (BitsPerPixel::Eight, (7, 5), (7, 2), (3, 0)),
+        1 => (BitsPerPixel::Sixteen, (31, 11), (63, 5), (31, 0)),
+        _ => (BitsPerPixel::ThirtyTwo, (255, 16), (255, 8), (255, 0)),
+    };
+    PixelFormat {
+        bits,
+        depth: 24,
+        big_endian,
+        red: Component {
+            max: red.0,
+            shift: red.1,
+        },
+        green: Component {
+            max: green.0,
+            shift: green.1,
+        },
+        blue: Component {
+            max: blue.0,
+            shift: blue.1,
+        },
+    }
+}
+
+/// Colours row by row: each is the one before it, the one above it, or one of a number of colours;
+/// how often, and how many colours, is drawn first.
+pub(crate) fn picture_of(
+    alloc: Global,
+    numbers: &mut Numbers,
+    w: u16,
+    h: u16,
+) -> Result<Vec<u32>, AllocError> {
+    let colours = match next(numbers, 3) {
+        0 => 2,
+        1 => 5,
+        _ => 5000,
+    };
+    let new = 1 + next(numbers, 40);
+    let across = next(numbers, 40);
+    let mut picture = Vec::new(alloc);
+    for place in 0..usize::from(w) * usize::from(h) {
+        let draw = next(numbers, 80);
+        let drawn = colour_of(next(numbers, colours));
+        let before = picture.last().copied().unwrap_or(drawn);
+        let above = match place.checked_sub(usize::from(w)) {
+            Some(there) => picture.get(there).copied().unwrap_or(drawn),
+            None => before,
+        };
+        let colour = if draw < new {
+            drawn
+        } else if draw < new + across {
+            before
+        } else {
+            above
+        };
+        picture.push(colour)?;
+    }
+    Ok(picture)
+}
