@@ -8,7 +8,7 @@ use std::test::Fail;
 
 #[test]
 fn lines_that_are_bad(rt: HostRuntime) -> Result<(), Fail> {
-    let lines: [&[u8]; 46] = [
+    let lines: [&[u8]; 61] = [
         b"pant 1",
         b"Connect 1",
         b" ",
@@ -36,6 +36,21 @@ fn lines_that_are_bad(rt: HostRuntime) -> Result<(), Fail> {
         b"paint 0 0 1 1 0000001",
         b"paint 0 0 1 1 00000g",
         b"paint 0 0 1 1 --",
+        b"write 0 0 1 1",
+        b"write -1 0 1 1 -",
+        b"mark 0 0 1",
+        b"mark 0 0 1 1 1",
+        b"mark 0 0 1 +1",
+        b"mark 0 0 1 --1",
+        b"mark 0 0 1 -",
+        b"mark 0 0 1 2147483648",
+        b"schedule 0 0 1 1 1",
+        b"schedule 0 0 1 1 1 -2147483648",
+        b"docopy 0 0 1 1 1 1 1",
+        b"docopy 0 0 1 1 1 x",
+        b"bell ",
+        b"cuttext",
+        b"cuttext 123",
         b"connect",
         b"connect ",
         b"connect -",
@@ -124,6 +139,73 @@ fn painted_rectangles(rt: HostRuntime) -> Result<(), Fail> {
         return Err("no rectangle".into());
     };
     assert_eq!(rt; colours.as_slice().len(), 1 << 24);
+    Ok(())
+}
+
+#[test]
+fn written_rectangles(rt: HostRuntime) -> Result<(), Fail> {
+    let line = b"write 2 1 1 2 ff8000";
+    let Line::Do(Event::Write { rect, colours }) = parse_line(rt.alloc(), line)? else {
+        return Err("no rectangle".into());
+    };
+    assert_eq!(rt; (rect.x1, rect.y1, rect.x2, rect.y2), (2, 1, 3, 3));
+    assert_eq!(rt; colours.as_slice(), [0xff8000, 0xff8000].as_slice());
+    Ok(())
+}
+
+#[test]
+fn marked_rectangles(rt: HostRuntime) -> Result<(), Fail> {
+    let least = -i32::MAX;
+    let rows: [(&[u8], [i32; 4]); 3] = [
+        (b"mark 1 1 0 0", [1, 1, 0, 0]),
+        (b"mark -1 -02 3 -0", [-1, -2, 3, 0]),
+        (
+            b"mark -2147483647 0 2147483647 1",
+            [least, 0, i32::MAX, 1],
+        ),
+    ];
+    for (line, [x1, y1, x2, y2]) in rows {
+        let Line::Do(Event::Mark { rects }) = parse_line(rt.alloc(), line)? else {
+            return Err("no rectangle".into());
+        };
+        assert!(rt; rects.as_slice() == [Rect { x1, y1, x2, y2 }].as_slice(), "{line:?}");
+    }
+    Ok(())
+}
+
+#[test]
+fn copied_rectangles(rt: HostRuntime) -> Result<(), Fail> {
+    let want = Rect {
+        x1: 0,
+        y1: 1,
+        x2: 2,
+        y2: 3,
+    };
+    let line = b"schedule 0 1 2 3 -4 5";
+    let Line::Do(Event::ScheduleCopy { rects, dx, dy }) = parse_line(rt.alloc(), line)? else {
+        return Err("no copy".into());
+    };
+    assert_eq!(rt; rects.as_slice(), [want].as_slice());
+    assert_eq!(rt; (dx, dy), (-4, 5));
+    let line = b"docopy 0 1 2 3 6 -7";
+    let Line::Do(Event::DoCopy { rects, dx, dy }) = parse_line(rt.alloc(), line)? else {
+        return Err("no copy".into());
+    };
+    assert_eq!(rt; rects.as_slice(), [want].as_slice());
+    assert_eq!(rt; (dx, dy), (6, -7));
+    Ok(())
+}
+
+#[test]
+fn notices(rt: HostRuntime) -> Result<(), Fail> {
+    assert!(rt; matches!(parse_line(rt.alloc(), b"bell")?, Line::Do(Event::Bell)));
+    let rows: [(&[u8], &[u8]); 2] = [(b"cuttext 6869", b"hi"), (b"cuttext -", b"")];
+    for (line, bytes) in rows {
+        let Line::Do(Event::CutText { text }) = parse_line(rt.alloc(), line)? else {
+            return Err("no text".into());
+        };
+        assert!(rt; text.as_slice() == bytes, "{line:?}");
+    }
     Ok(())
 }
 
@@ -266,12 +348,13 @@ fn faults(rt: HostRuntime) -> Result<(), Fail> {
 #[test]
 fn refusals(rt: HostRuntime) -> Result<(), Fail> {
     let alloc = rt.alloc();
-    let rows: [(ScreenError, &[u8]); 8] = [
+    let rows: [(ScreenError, &[u8]); 9] = [
         (ScreenError::BadSize, b"refused 1 BadSize\n"),
         (ScreenError::BadName, b"refused 2 BadName\n"),
         (ScreenError::BadRectLimit, b"refused 3 BadRectLimit\n"),
         (ScreenError::BadRect, b"refused 4 BadRect\n"),
         (ScreenError::BadPixelCount, b"refused 5 BadPixelCount\n"),
+        (ScreenError::TextTooLong, b"refused 6 TextTooLong\n"),
         (ScreenError::NoViewer, b"refused 7 NoViewer\n"),
         (ScreenError::NumberInUse, b"refused 8 NumberInUse\n"),
         (ScreenError::OutOfMemory, b"refused 9 OutOfMemory\n"),

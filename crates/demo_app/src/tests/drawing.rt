@@ -1,0 +1,448 @@
+// Drawing commands, copies, encodings and notices: what viewers are sent, with the bytes of RFC 6143.
+
+use super::shows;
+use std::test::Fail;
+
+// Two copies by one offset, the second over the first one's places: both go as pixels.
+#[test]
+fn copies_of_copied_places(rt: HostRuntime) -> Result<(), Fail> {
+    let rows = [
+        ("screen 6 1 demo", "ok\n"),
+        ("paint 0 0 6 1 000001000002000003000004000005000006", "ok\n"),
+        ("connect 1", "connect 1 524642203030332e3030380a\n"),
+        (
+            "hear 1 524642203030332e3030380a0101",
+            "hear 1 010100000000000600012018000100ff00ff00ff1008000000000000000464656d6f\n",
+        ),
+        ("hear 1 020000020000000100000000", "hear 1 -\n"),
+        ("hear 1 03000000000000060001", "hear 1 -\n"),
+        (
+            "cut 1",
+            "cut 1 00000001000000000006000100000000010000000200000003000000040000000500000006000000\n",
+        ),
+        ("docopy 2 0 4 1 1 0", "ok\n"),
+        ("docopy 3 0 5 1 1 0", "ok\n"),
+        ("hear 1 03010000000000060001", "hear 1 -\n"),
+        ("cut 1", "cut 1 00000001000200000003000100000000020000000200000003000000\n"),
+    ];
+    shows(&rt, rt.alloc(), &rows, 0)
+}
+
+// A viewer that uses CopyRect is sent the copy, and another one the pixels.
+#[test]
+fn a_copy_for_who_uses_copyrect(rt: HostRuntime) -> Result<(), Fail> {
+    let rows = [
+        ("screen 4 1 demo", "ok\n"),
+        ("paint 0 0 4 1 000001000002000003000004", "ok\n"),
+        ("connect 1", "connect 1 524642203030332e3030380a\n"),
+        (
+            "hear 1 524642203030332e3030380a0101",
+            "hear 1 010100000000000400012018000100ff00ff00ff1008000000000000000464656d6f\n",
+        ),
+        ("connect 2", "connect 2 524642203030332e3030380a\n"),
+        (
+            "hear 2 524642203030332e3030380a0101",
+            "hear 2 010100000000000400012018000100ff00ff00ff1008000000000000000464656d6f\n",
+        ),
+        ("hear 1 020000020000000100000000", "hear 1 -\n"),
+        ("hear 1 03000000000000040001", "hear 1 -\n"),
+        ("cut 1", "cut 1 0000000100000000000400010000000001000000020000000300000004000000\n"),
+        ("hear 2 03000000000000040001", "hear 2 -\n"),
+        ("cut 2", "cut 2 0000000100000000000400010000000001000000020000000300000004000000\n"),
+        ("docopy 1 0 4 1 1 0", "ok\n"),
+        ("hear 1 03010000000000040001", "hear 1 -\n"),
+        ("hear 2 03010000000000040001", "hear 2 -\n"),
+        ("cut 1", "cut 1 0000000100010000000300010000000100000000\n"),
+        ("cut 2", "cut 2 00000001000100000003000100000000010000000200000003000000\n"),
+    ];
+    shows(&rt, rt.alloc(), &rows, 0)
+}
+
+// A list without CopyRect makes the pending copy pixels.
+#[test]
+fn copies_end_with_copyrect(rt: HostRuntime) -> Result<(), Fail> {
+    let rows = [
+        ("screen 4 1 demo", "ok\n"),
+        ("paint 0 0 4 1 000001000002000003000004", "ok\n"),
+        ("connect 1", "connect 1 524642203030332e3030380a\n"),
+        (
+            "hear 1 524642203030332e3030380a0101",
+            "hear 1 010100000000000400012018000100ff00ff00ff1008000000000000000464656d6f\n",
+        ),
+        ("connect 2", "connect 2 524642203030332e3030380a\n"),
+        (
+            "hear 2 524642203030332e3030380a0101",
+            "hear 2 010100000000000400012018000100ff00ff00ff1008000000000000000464656d6f\n",
+        ),
+        ("hear 1 020000020000000100000000", "hear 1 -\n"),
+        ("hear 1 03000000000000040001", "hear 1 -\n"),
+        ("cut 1", "cut 1 0000000100000000000400010000000001000000020000000300000004000000\n"),
+        ("hear 2 03000000000000040001", "hear 2 -\n"),
+        ("cut 2", "cut 2 0000000100000000000400010000000001000000020000000300000004000000\n"),
+        ("docopy 1 0 4 1 1 0", "ok\n"),
+        ("hear 1 0200000100000000", "hear 1 -\n"),
+        ("hear 1 03010000000000040001", "hear 1 -\n"),
+        ("cut 1", "cut 1 00000001000100000003000100000000010000000200000003000000\n"),
+    ];
+    shows(&rt, rt.alloc(), &rows, 0)
+}
+
+// The source of a pending copy is asked for anew, so the copy goes as pixels.
+#[test]
+fn a_lost_source(rt: HostRuntime) -> Result<(), Fail> {
+    let rows = [
+        ("screen 4 1 demo", "ok\n"),
+        ("paint 0 0 4 1 000001000002000003000004", "ok\n"),
+        ("connect 1", "connect 1 524642203030332e3030380a\n"),
+        (
+            "hear 1 524642203030332e3030380a0101",
+            "hear 1 010100000000000400012018000100ff00ff00ff1008000000000000000464656d6f\n",
+        ),
+        ("hear 1 020000020000000100000000", "hear 1 -\n"),
+        ("hear 1 03000000000000040001", "hear 1 -\n"),
+        ("cut 1", "cut 1 0000000100000000000400010000000001000000020000000300000004000000\n"),
+        ("docopy 2 0 3 1 1 0", "ok\n"),
+        ("hear 1 03000001000000010001", "hear 1 -\n"),
+        ("cut 1", "cut 1 0000000100010000000100010000000002000000\n"),
+        ("hear 1 03010000000000040001", "hear 1 -\n"),
+        ("cut 1", "cut 1 0000000100020000000100010000000002000000\n"),
+    ];
+    shows(&rt, rt.alloc(), &rows, 0)
+}
+
+// The same, with the copy asked for before the update.
+#[test]
+fn a_lost_source_and_its_copy(rt: HostRuntime) -> Result<(), Fail> {
+    let rows = [
+        ("screen 4 1 demo", "ok\n"),
+        ("paint 0 0 4 1 000001000002000003000004", "ok\n"),
+        ("connect 1", "connect 1 524642203030332e3030380a\n"),
+        (
+            "hear 1 524642203030332e3030380a0101",
+            "hear 1 010100000000000400012018000100ff00ff00ff1008000000000000000464656d6f\n",
+        ),
+        ("hear 1 020000020000000100000000", "hear 1 -\n"),
+        ("hear 1 03000000000000040001", "hear 1 -\n"),
+        ("cut 1", "cut 1 0000000100000000000400010000000001000000020000000300000004000000\n"),
+        ("docopy 2 0 3 1 1 0", "ok\n"),
+        ("hear 1 03000001000000010001", "hear 1 -\n"),
+        ("hear 1 03010000000000040001", "hear 1 -\n"),
+        ("cut 1", "cut 1 000000010001000000020001000000000200000002000000\n"),
+    ];
+    shows(&rt, rt.alloc(), &rows, 0)
+}
+
+// Bells and texts wait for the next update and come first, in their order.
+#[test]
+fn notices_come_before_rectangles(rt: HostRuntime) -> Result<(), Fail> {
+    let rows = [
+        ("screen 4 3 demo", "ok\n"),
+        ("connect 1", "connect 1 524642203030332e3030380a\n"),
+        (
+            "hear 1 524642203030332e3030380a0101",
+            "hear 1 010100000000000400032018000100ff00ff00ff1008000000000000000464656d6f\n",
+        ),
+        ("bell", "ok\n"),
+        ("cuttext 6869", "ok\n"),
+        ("cut 1", "cut 1 0203000000000000026869\n"),
+        ("cut 1", "cut 1 -\n"),
+        ("hear 1 03000000000000010001", "hear 1 -\n"),
+        ("bell", "ok\n"),
+        ("cut 1", "cut 1 020000000100000000000100010000000000000000\n"),
+    ];
+    shows(&rt, rt.alloc(), &rows, 0)
+}
+
+// A viewer that is not open yet keeps no notice.
+#[test]
+fn notices_for_open_viewers(rt: HostRuntime) -> Result<(), Fail> {
+    let rows = [
+        ("screen 4 3 demo", "ok\n"),
+        ("connect 1", "connect 1 524642203030332e3030380a\n"),
+        ("bell", "ok\n"),
+        (
+            "hear 1 524642203030332e3030380a0101",
+            "hear 1 010100000000000400032018000100ff00ff00ff1008000000000000000464656d6f\n",
+        ),
+        ("cut 1", "cut 1 -\n"),
+    ];
+    shows(&rt, rt.alloc(), &rows, 0)
+}
+
+// A sixty-fifth notice is not kept.
+#[test]
+fn sixty_four_notices(rt: HostRuntime) -> Result<(), Fail> {
+    let rows = [
+        ("screen 4 3 demo", "ok\n"),
+        ("connect 1", "connect 1 524642203030332e3030380a\n"),
+        (
+            "hear 1 524642203030332e3030380a0101",
+            "hear 1 010100000000000400032018000100ff00ff00ff1008000000000000000464656d6f\n",
+        ),
+        ("bell", "ok\n"),
+        ("bell", "ok\n"),
+        ("bell", "ok\n"),
+        ("bell", "ok\n"),
+        ("bell", "ok\n"),
+        ("bell", "ok\n"),
+        ("bell", "ok\n"),
+        ("bell", "ok\n"),
+        ("bell", "ok\n"),
+        ("bell", "ok\n"),
+        ("bell", "ok\n"),
+        ("bell", "ok\n"),
+        ("bell", "ok\n"),
+        ("bell", "ok\n"),
+        ("bell", "ok\n"),
+        ("bell", "ok\n"),
+        ("bell", "ok\n"),
+        ("bell", "ok\n"),
+        ("bell", "ok\n"),
+        ("bell", "ok\n"),
+        ("bell", "ok\n"),
+        ("bell", "ok\n"),
+        ("bell", "ok\n"),
+        ("bell", "ok\n"),
+        ("bell", "ok\n"),
+        ("bell", "ok\n"),
+        ("bell", "ok\n"),
+        ("bell", "ok\n"),
+        ("bell", "ok\n"),
+        ("bell", "ok\n"),
+        ("bell", "ok\n"),
+        ("bell", "ok\n"),
+        ("bell", "ok\n"),
+        ("bell", "ok\n"),
+        ("bell", "ok\n"),
+        ("bell", "ok\n"),
+        ("bell", "ok\n"),
+        ("bell", "ok\n"),
+        ("bell", "ok\n"),
+        ("bell", "ok\n"),
+        ("bell", "ok\n"),
+        ("bell", "ok\n"),
+        ("bell", "ok\n"),
+        ("bell", "ok\n"),
+        ("bell", "ok\n"),
+        ("bell", "ok\n"),
+        ("bell", "ok\n"),
+        ("bell", "ok\n"),
+        ("bell", "ok\n"),
+        ("bell", "ok\n"),
+        ("bell", "ok\n"),
+        ("bell", "ok\n"),
+        ("bell", "ok\n"),
+        ("bell", "ok\n"),
+        ("bell", "ok\n"),
+        ("bell", "ok\n"),
+        ("bell", "ok\n"),
+        ("bell", "ok\n"),
+        ("bell", "ok\n"),
+        ("bell", "ok\n"),
+        ("bell", "ok\n"),
+        ("bell", "ok\n"),
+        ("bell", "ok\n"),
+        ("bell", "ok\n"),
+        ("bell", "ok\n"),
+        (
+            "cut 1",
+            "cut 1 02020202020202020202020202020202020202020202020202020202020202020202020202020202020202020202020202020202020202020202020202020202\n",
+        ),
+    ];
+    shows(&rt, rt.alloc(), &rows, 0)
+}
+
+// Copies to the right are sent from the right, so that none is drawn over a later one's source.
+#[test]
+fn copies_from_right_to_left(rt: HostRuntime) -> Result<(), Fail> {
+    let rows = [
+        ("screen 6 1 demo", "ok\n"),
+        ("paint 0 0 6 1 000001000002000003000004000005000006", "ok\n"),
+        ("connect 1", "connect 1 524642203030332e3030380a\n"),
+        (
+            "hear 1 524642203030332e3030380a0101",
+            "hear 1 010100000000000600012018000100ff00ff00ff1008000000000000000464656d6f\n",
+        ),
+        ("hear 1 020000020000000100000000", "hear 1 -\n"),
+        ("hear 1 03000000000000060001", "hear 1 -\n"),
+        (
+            "cut 1",
+            "cut 1 00000001000000000006000100000000010000000200000003000000040000000500000006000000\n",
+        ),
+        ("docopy 4 0 5 1 2 0", "ok\n"),
+        ("docopy 2 0 3 1 2 0", "ok\n"),
+        ("hear 1 03010000000000060001", "hear 1 -\n"),
+        (
+            "cut 1",
+            "cut 1 000000020004000000010001000000010002000000020000000100010000000100000000\n",
+        ),
+    ];
+    shows(&rt, rt.alloc(), &rows, 0)
+}
+
+// A copy down, over itself.
+#[test]
+fn a_copy_down(rt: HostRuntime) -> Result<(), Fail> {
+    let rows = [
+        ("screen 1 4 demo", "ok\n"),
+        ("paint 0 0 1 4 000001000002000003000004", "ok\n"),
+        ("connect 1", "connect 1 524642203030332e3030380a\n"),
+        (
+            "hear 1 524642203030332e3030380a0101",
+            "hear 1 010100000000000100042018000100ff00ff00ff1008000000000000000464656d6f\n",
+        ),
+        ("hear 1 020000020000000100000000", "hear 1 -\n"),
+        ("hear 1 03000000000000010004", "hear 1 -\n"),
+        ("cut 1", "cut 1 0000000100000000000100040000000001000000020000000300000004000000\n"),
+        ("docopy 0 1 1 4 0 1", "ok\n"),
+        ("hear 1 03010000000000010004", "hear 1 -\n"),
+        ("cut 1", "cut 1 0000000100000001000100030000000100000000\n"),
+    ];
+    shows(&rt, rt.alloc(), &rows, 0)
+}
+
+// A copy that the application makes itself is sent all the same.
+#[test]
+fn a_scheduled_copy(rt: HostRuntime) -> Result<(), Fail> {
+    let rows = [
+        ("screen 1 4 demo", "ok\n"),
+        ("paint 0 0 1 4 000001000002000003000004", "ok\n"),
+        ("connect 1", "connect 1 524642203030332e3030380a\n"),
+        (
+            "hear 1 524642203030332e3030380a0101",
+            "hear 1 010100000000000100042018000100ff00ff00ff1008000000000000000464656d6f\n",
+        ),
+        ("hear 1 020000020000000100000000", "hear 1 -\n"),
+        ("hear 1 03000000000000010004", "hear 1 -\n"),
+        ("cut 1", "cut 1 0000000100000000000100040000000001000000020000000300000004000000\n"),
+        ("schedule 0 1 1 4 0 1", "ok\n"),
+        ("hear 1 03010000000000010004", "hear 1 -\n"),
+        ("cut 1", "cut 1 0000000100000001000100030000000100000000\n"),
+    ];
+    shows(&rt, rt.alloc(), &rows, 0)
+}
+
+// A copy by (0, 0), and one whose sources are all off the screen.
+#[test]
+fn copies_that_do_nothing(rt: HostRuntime) -> Result<(), Fail> {
+    let rows = [
+        ("screen 1 4 demo", "ok\n"),
+        ("paint 0 0 1 4 000001000002000003000004", "ok\n"),
+        ("connect 1", "connect 1 524642203030332e3030380a\n"),
+        (
+            "hear 1 524642203030332e3030380a0101",
+            "hear 1 010100000000000100042018000100ff00ff00ff1008000000000000000464656d6f\n",
+        ),
+        ("hear 1 020000020000000100000000", "hear 1 -\n"),
+        ("hear 1 03000000000000010004", "hear 1 -\n"),
+        ("cut 1", "cut 1 0000000100000000000100040000000001000000020000000300000004000000\n"),
+        ("docopy 0 1 1 4 0 0", "ok\n"),
+        ("docopy 0 1 1 4 0 9", "ok\n"),
+        ("hear 1 03010000000000010004", "hear 1 -\n"),
+        ("cut 1", "cut 1 -\n"),
+    ];
+    shows(&rt, rt.alloc(), &rows, 0)
+}
+
+// Written colours are sent once they are marked; the corners stand in the wrong order.
+#[test]
+fn written_places_are_marked(rt: HostRuntime) -> Result<(), Fail> {
+    let rows = [
+        ("screen 4 1 demo", "ok\n"),
+        ("connect 1", "connect 1 524642203030332e3030380a\n"),
+        (
+            "hear 1 524642203030332e3030380a0101",
+            "hear 1 010100000000000400012018000100ff00ff00ff1008000000000000000464656d6f\n",
+        ),
+        ("hear 1 03000000000000040001", "hear 1 -\n"),
+        ("cut 1", "cut 1 0000000100000000000400010000000000000000000000000000000000000000\n"),
+        ("write 0 0 1 1 0000ff", "ok\n"),
+        ("hear 1 03010000000000040001", "hear 1 -\n"),
+        ("cut 1", "cut 1 -\n"),
+        ("mark 1 1 0 0", "ok\n"),
+        ("cut 1", "cut 1 00000001000000000001000100000000ff000000\n"),
+    ];
+    shows(&rt, rt.alloc(), &rows, 0)
+}
+
+// The first encoding of the list that there is: RRE, of one colour.
+#[test]
+fn rre(rt: HostRuntime) -> Result<(), Fail> {
+    let rows = [
+        ("screen 4 4 demo", "ok\n"),
+        ("connect 1", "connect 1 524642203030332e3030380a\n"),
+        (
+            "hear 1 524642203030332e3030380a0101",
+            "hear 1 010100000000000400042018000100ff00ff00ff1008000000000000000464656d6f\n",
+        ),
+        ("hear 1 020000020000000700000002", "hear 1 -\n"),
+        ("paint 0 0 4 4 112233", "ok\n"),
+        ("hear 1 03000000000000040004", "hear 1 -\n"),
+        ("cut 1", "cut 1 000000010000000000040004000000020000000033221100\n"),
+    ];
+    shows(&rt, rt.alloc(), &rows, 0)
+}
+
+// Hextile: two tiles of one colour, the second with the background of the first.
+#[test]
+fn hextile(rt: HostRuntime) -> Result<(), Fail> {
+    let rows = [
+        ("screen 17 1 demo", "ok\n"),
+        ("connect 1", "connect 1 524642203030332e3030380a\n"),
+        (
+            "hear 1 524642203030332e3030380a0101",
+            "hear 1 010100000000001100012018000100ff00ff00ff1008000000000000000464656d6f\n",
+        ),
+        ("hear 1 020000020000000500000002", "hear 1 -\n"),
+        ("paint 0 0 17 1 112233", "ok\n"),
+        ("hear 1 03000000000000110001", "hear 1 -\n"),
+        ("cut 1", "cut 1 00000001000000000011000100000005023322110000\n"),
+    ];
+    shows(&rt, rt.alloc(), &rows, 0)
+}
+
+// A copy that is not asked for waits; after another update its pixels are owed.
+#[test]
+fn a_copy_waits_for_its_places(rt: HostRuntime) -> Result<(), Fail> {
+    let rows = [
+        ("screen 4 1 demo", "ok\n"),
+        ("paint 0 0 4 1 000001000002000003000004", "ok\n"),
+        ("connect 1", "connect 1 524642203030332e3030380a\n"),
+        (
+            "hear 1 524642203030332e3030380a0101",
+            "hear 1 010100000000000400012018000100ff00ff00ff1008000000000000000464656d6f\n",
+        ),
+        ("hear 1 020000020000000100000000", "hear 1 -\n"),
+        ("hear 1 03000000000000040001", "hear 1 -\n"),
+        ("cut 1", "cut 1 0000000100000000000400010000000001000000020000000300000004000000\n"),
+        ("docopy 2 0 3 1 1 0", "ok\n"),
+        ("paint 0 0 1 1 00000a", "ok\n"),
+        ("hear 1 03010000000000010001", "hear 1 -\n"),
+        ("cut 1", "cut 1 000000010000000000010001000000000a000000\n"),
+        ("hear 1 03010000000000040001", "hear 1 -\n"),
+        ("cut 1", "cut 1 0000000100020000000100010000000002000000\n"),
+    ];
+    shows(&rt, rt.alloc(), &rows, 0)
+}
+
+// A copy of a place that the viewer lacks goes as pixels.
+#[test]
+fn a_copy_of_what_is_owed(rt: HostRuntime) -> Result<(), Fail> {
+    let rows = [
+        ("screen 4 1 demo", "ok\n"),
+        ("paint 0 0 4 1 000001000002000003000004", "ok\n"),
+        ("connect 1", "connect 1 524642203030332e3030380a\n"),
+        (
+            "hear 1 524642203030332e3030380a0101",
+            "hear 1 010100000000000400012018000100ff00ff00ff1008000000000000000464656d6f\n",
+        ),
+        ("hear 1 020000020000000100000000", "hear 1 -\n"),
+        ("hear 1 03000000000000040001", "hear 1 -\n"),
+        ("cut 1", "cut 1 0000000100000000000400010000000001000000020000000300000004000000\n"),
+        ("paint 0 0 1 1 00000a", "ok\n"),
+        ("docopy 1 0 2 1 1 0", "ok\n"),
+        ("hear 1 03010000000000040001", "hear 1 -\n"),
+        ("cut 1", "cut 1 000000010000000000020001000000000a0000000a000000\n"),
+    ];
+    shows(&rt, rt.alloc(), &rows, 0)
+}
