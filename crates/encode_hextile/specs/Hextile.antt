@@ -1,5 +1,5 @@
 -- Hextile, as RFC 6143 section 7.7.4 has it.
-use Rattle.std.specs.Prelude.{ℕ, ◌+◌, ◌-◌, ◌*◌, Bool, true, false, not, ◌==◌, nat_lt, if◌then◌else◌, pos, List, [], ◌∷◌, ◌++◌, length, map, filter, flat_map, Option, None, Some}
+use Rattle.std.specs.Prelude.{◌≡◌, ℕ, ◌+◌, ◌-◌, ◌*◌, Bool, true, false, not, ◌==◌, nat_lt, if◌then◌else◌, pos, List, [], ◌∷◌, ◌++◌, length, take, map, filter, flat_map, Option, None, Some}
 use Rattle.std.specs.List.{list_all, concat}
 use Rattle.pixel_translate.specs.declared.Area.{Area}
 use Rattle.pixel_translate.specs.declared.PixelFormat.{PixelFormat}
@@ -53,22 +53,36 @@ subrectangle_bytes f coloured s = (if coloured then pixel_bytes f s.pixel else [
 abbrev pub subrectangle_list : PixelFormat → Bool → List Subrectangle → List ℕ
 subrectangle_list f coloured subs = length subs ∷ flat_map (subrectangle_bytes f coloured) subs
 
--- 7.7.4: a tile by its background, its subrectangles and its other pixels. The bits: 2 background, 4 foreground, 8 subrectangles, 16 coloured
+-- 7.7.4: the bits: 2 background, 4 foreground, 8 subrectangles, 16 coloured
+abbrev pub bits_of : Carried → ℕ → TilePixels → ℕ
+bits_of carried b Alone = bit_unless (is_carried carried.background b) 2
+bits_of carried b (OneOther p) = bit_unless (is_carried carried.background b) 2 + bit_unless (is_carried carried.foreground p) 4 + 8
+bits_of carried b Several = bit_unless (is_carried carried.background b) 2 + 8 + 16
+
+-- 7.7.4: the background and the foreground, where they are said
+abbrev pub said_bytes : PixelFormat → Carried → ℕ → TilePixels → List ℕ
+said_bytes f carried b Alone = bytes_unless (is_carried carried.background b) (pixel_bytes f b)
+said_bytes f carried b (OneOther p) = bytes_unless (is_carried carried.background b) (pixel_bytes f b) ++ bytes_unless (is_carried carried.foreground p) (pixel_bytes f p)
+said_bytes f carried b Several = bytes_unless (is_carried carried.background b) (pixel_bytes f b)
+
+-- 7.7.4: the subrectangles, where there are other pixels; coloured where these are several
+abbrev pub list_bytes : PixelFormat → List Subrectangle → TilePixels → List ℕ
+list_bytes f subs Alone = []
+list_bytes f subs (OneOther p) = subrectangle_list f false subs
+list_bytes f subs Several = subrectangle_list f true subs
+
+-- 7.7.4: a tile of one pixel leaves the foreground as it was, and coloured subrectangles leave none
+abbrev pub next_of : Carried → ℕ → TilePixels → Carried
+next_of carried b Alone = record { background = Some b; foreground = carried.foreground }
+next_of carried b (OneOther p) = record { background = Some b; foreground = Some p }
+next_of carried b Several = record { background = Some b; foreground = None }
+
+-- 7.7.4: a tile by its background, its subrectangles and its other pixels
 abbrev pub coded : PixelFormat → Carried → ℕ → List Subrectangle → TilePixels → Coded
-coded f carried b subs Alone = record {
-  bits = bit_unless (is_carried carried.background b) 2;
-  bytes = bytes_unless (is_carried carried.background b) (pixel_bytes f b);
-  next = record { background = Some b; foreground = carried.foreground };
-}
-coded f carried b subs (OneOther p) = record {
-  bits = bit_unless (is_carried carried.background b) 2 + bit_unless (is_carried carried.foreground p) 4 + 8;
-  bytes = bytes_unless (is_carried carried.background b) (pixel_bytes f b) ++ bytes_unless (is_carried carried.foreground p) (pixel_bytes f p) ++ subrectangle_list f false subs;
-  next = record { background = Some b; foreground = Some p };
-}
-coded f carried b subs Several = record {
-  bits = bit_unless (is_carried carried.background b) 2 + 8 + 16;
-  bytes = bytes_unless (is_carried carried.background b) (pixel_bytes f b) ++ subrectangle_list f true subs;
-  next = record { background = Some b; foreground = None };
+coded f carried b subs others = record {
+  bits = bits_of carried b others;
+  bytes = said_bytes f carried b others ++ list_bytes f subs others;
+  next = next_of carried b others;
 }
 
 -- 7.7.4: the tile's pixels themselves, behind the bit 1
@@ -101,3 +115,7 @@ hextile_of f w h pixels = tiles f (rows_of w h pixels) nothing (tiles_of w h)
 -- 7.7.4: a rectangle in Hextile
 abbrev pub hextile : PixelFormat → Area → List ℕ → List ℕ
 hextile f a colours = head a (pos 5) ++ hextile_of f a.w a.h (map (pixel f) colours)
+
+-- what was written stays in front
+abbrev pub BeginsWith : List ℕ → List ℕ → Type 0
+BeginsWith old new = take (length old) new ≡ old

@@ -1,26 +1,127 @@
 //! The encoding Hextile (RFC 6143, 7.7.4): tiles of 16 by 16, each a background and subrectangles
 //! of one pixel each, or its pixels where that is no longer.
+//!
+//! Nothing is allocated beyond the output: a tile's pixels and its subrectangles as bytes stand in
+//! arrays on the stack. In a tile of one or two pixels these are counted, once each. In any other
+//! the pixels are counted in buckets, and one by one only where a bucket has as many as the best
+//! background before it. A tile in which too many places differ from the one before and the one
+//! above is raw at once; else the scan ends with the row in which the subrectangles are as long as
+//! the pixels, and passes over each row that is as the one above.
 #![tactic(auto)]
 
-ghost use Rattle.std.specs.Prelude.{◌≡◌, ◌*◌, ◌≤◌, ◌++◌, length, OnOk, OnErr};
-ghost use Rattle.encode_hextile.specs.Hextile.{hextile};
+ghost use Rattle.std.specs.Prelude.{◌≡◌, ◌*◌, ◌<◌, ◌≤◌, ◌++◌, length, map, IfOk, OnOk, OnErr};
+ghost use Rattle.pixel_translate.specs.Pixel.{pixel};
+ghost use Rattle.encode_rre.specs.Subrectangles.{rows_of};
+ghost use Rattle.encode_hextile.specs.Tiles.{tiles_in};
+ghost use Rattle.encode_hextile.specs.Claims.{hextile_reads_back};
+ghost use Rattle.encode_hextile.specs.Hextile.{BeginsWith, tiles, carried_after, hextile, hextile_of};
 
+mod bytes;
+mod cut;
+mod palette;
+mod raw;
+mod scan;
+
+use crate::bytes::{NOTHING, put_tile};
+use crate::cut::{cut_tile, side_of};
+use encode_raw::rect_header;
+use pixel_translate::Table;
 pub use pixel_translate::{Area, PixelFormat};
 use std::alloc::AllocError;
 
 /// What a tile leaves to the next: the background and the foreground that need not be said again.
-#[derive(Clone, Copy, Debug, PartialEq, Eq)]
+#[derive(Clone, Copy)]
 pub(crate) struct Carried {
     background: Option<u32>,
     foreground: Option<u32>,
 }
 
 /// Which pixels a tile has beside its background: none, just one, or several.
-#[derive(Clone, Copy, Debug, PartialEq, Eq)]
+#[derive(Clone, Copy)]
 pub(crate) enum TilePixels {
     Alone,
     OneOther(u32),
     Several,
+}
+
+/// Appends a row of tiles. Gives what the last of them leaves.
+fn put_row_of_tiles(
+    out: &mut Vec<u8>,
+    colours: &[u32],
+    width: usize,
+    height: usize,
+    row: usize,
+    table: &Table,
+    before: Carried,
+) -> Result<Carried, AllocError>
+    requires whole { length colours.now ≡ width * height }
+    requires top { 16 * row < height }
+    ensures next { IfOk result (λ next. next ≡ carried_after table.now (rows_of width height (map (pixel table.now) colours.now)) before (tiles_in width row)) }
+    ensures ok { OnOk result (out.new.items ≡ out.old.items ++ tiles table.now (rows_of width height (map (pixel table.now) colours.now)) before (tiles_in width row)) }
+    ensures err { OnErr result (BeginsWith out.old.items out.new.items) }
+{
+    let format = table.format();
+    let is_server = format == PixelFormat::server();
+    let down = side_of(height, row);
+    let mut places = [0; 256];
+    let mut carried = before;
+    for column in 0..width.div_ceil(16) {
+        let across = side_of(width, column);
+        let size = across * down;
+        cut_tile(
+            &mut places[..size],
+            colours,
+            width,
+            height,
+            column,
+            row,
+            table,
+            is_server,
+        );
+        carried = put_tile(out, &places[..size], across, down, &format, carried)?;
+    }
+    Ok(carried)
+}
+
+/// Appends the tiles, row by row.
+fn put_tiles(
+    out: &mut Vec<u8>,
+    colours: &[u32],
+    width: usize,
+    height: usize,
+    table: &Table,
+) -> Result<(), AllocError>
+    requires whole { length colours.now ≡ width * height }
+    ensures ok { OnOk result (out.new.items ≡ out.old.items ++ hextile_of table.now width height (map (pixel table.now) colours.now)) }
+    ensures err { OnErr result (BeginsWith out.old.items out.new.items) }
+{
+    let mut carried = NOTHING;
+    for row in 0..height.div_ceil(16) {
+        carried = put_row_of_tiles(out, colours, width, height, row, table, carried)?;
+    }
+    Ok(())
+}
+
+/// Appends the head and the tiles.
+fn put_rectangle(
+    out: &mut Vec<u8>,
+    area: Area,
+    colours: &[u32],
+    format: &PixelFormat,
+) -> Result<(), AllocError>
+    requires whole { length colours.now ≡ area.w * area.h }
+    ensures ok { OnOk result (out.new.items ≡ out.old.items ++ hextile format.now area colours.now) }
+    ensures err { OnErr result (BeginsWith out.old.items out.new.items) }
+{
+    rect_header(out, area, 5)?;
+    let table = Table::new(format);
+    put_tiles(
+        out,
+        colours,
+        usize::from(area.w),
+        usize::from(area.h),
+        &table,
+    )
 }
 
 /// Appends a rectangle in Hextile (RFC 6143, 7.7.4): the colours `0x00RRGGBB` stand row by row from
@@ -39,8 +140,19 @@ pub fn encode_hextile(
     ensures ok { OnOk result (out.new.items ≡ out.old.items ++ hextile format.now area colours.now) }
     ensures err { OnErr result (out.new.items ≡ out.old.items) }
 {
-    Err(AllocError)
+    let before = out.len();
+    let done = put_rectangle(out, area, colours, format);
+    if done.is_err() {
+        out.truncate(before);
+    }
+    done
 }
+
+/// A viewer that reads a rectangle in Hextile by RFC 6143 shows each colour's pixel at its place,
+/// and every other place as before.
+pub fn hextile_is_read_back()
+    ensures { hextile_reads_back }
+{}
 
 #[cfg(test)]
 mod tests;

@@ -2,6 +2,8 @@
 
 ghost use Rattle.std.specs.Prelude.{◌≡◌, ◌*◌, ◌≤◌, length};
 
+mod plain;
+
 use super::*;
 use pixel_translate::{BitsPerPixel, Component};
 use std::alloc::Global;

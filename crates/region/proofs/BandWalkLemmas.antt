@@ -6,8 +6,8 @@ use Rattle.std.proofs.lemmas.Int.{ints, by_lt_z}
 use Rattle.region.specs.declared.Rect.{Rect}
 use Rattle.region.specs.Runs.{AreRuns}
 use Rattle.region.specs.Region.{Interval, Band, covers, rects_of_band, rects_of_bands, IsBand, AreBands, IsCanonical}
-use Rattle.region.specs.Rows.{interval_of, IsRow, row_has}
-use Rattle.region.specs.Bands.{BandAhead, BandReaches, IsBandEdge, band_rects}
+use Rattle.region.specs.Rows.{interval_of, IsRow, row_has, band_rects}
+use Rattle.region.specs.Bands.{BandAhead, BandReaches, IsBandEdge}
 use Rattle.region.proofs.RunLemmas.{value_at, inside, above_first, nothing_below, rest_runs, first_some}
 use Rattle.region.proofs.CanonicalLemmas.{in_row, in_rows, covers-band, covers-bands}
 use Rattle.region.proofs.OrderLemmas.{flat_map-append}
@@ -101,7 +101,7 @@ nothing_from n v (r ∷ s ∷ rest) z h a low = let e = ends_before n v r (s ∷
 pub none_from : (n : ℤ) (v : List Interval) (bs : List Band) (x z : ℤ) → AreRuns bs → Apart n v bs → n ≤ℤ z → covers (rects_of_bands bs) x z ≡ false
 none_from n v bs x z h a low = covers-bands bs x z h ∙ ap (λ o. in_row o x) (nothing_from n v bs z h a low)
 
-rects-map : (top bottom : ℤ) (row : List Rect) → rects_of_band (record { from = top; to = bottom; value = map interval_of row }) ≡ band_rects top bottom row
+pub rects-map : (top bottom : ℤ) (row : List Rect) → rects_of_band (record { from = top; to = bottom; value = map interval_of row }) ≡ band_rects top bottom row
 rects-map top bottom [] = refl
 rects-map top bottom (r ∷ row) = ap (λ l. record { x1 = r.x1; y1 = top; x2 = r.x2; y2 = bottom } ∷ l) (rects-map top bottom row)
 
@@ -214,19 +214,32 @@ other_band b (c ∷ bs) d h some = λ e. apart b.from b.to c.from h.0.0 h.0.1 (s
     head [] n = absurd (n refl)
     head (i ∷ is) n = refl
 
+-- the scan cuts off the first band
+pub band_split : (rs : List Rect) (b : Band) (later : List Band) (n : ℕ) → AreBands (b ∷ later) → rs ≡ rects_of_bands (b ∷ later) → ((d : Rect) → (get_or rs 0 d).y1 ≡ b.from) → n ≤ length rs → ((k : ℕ) (d : Rect) → 0 ≤ k → k < n → (get_or rs k d).y1 ≡ (get_or rs 0 d).y1)
+    → ((d : Rect) → n < length rs → (get_or rs n d).y1 ≢ (get_or rs 0 d).y1) → (take n rs ≡ rects_of_band b) × (drop n rs ≡ rects_of_bands later) × (n ≡ length (rects_of_band b))
+band_split rs b later n are is first within same ends =
+    let band = rects_of_band b in
+    let rest = rects_of_bands later in
+    let P : List Rect → Type 0 = λ l. n ≤ length l in
+    let S : List Rect → Type 0 = λ l. (k : ℕ) (d : Rect) → k < n → (get_or l k d).y1 ≡ b.from in
+    let E : List Rect → Type 0 = λ l. (d : Rect) → n < length l → (get_or l n d).y1 ≢ b.from in
+    let size : n ≡ length band = scanned b.from band rest n (in_one_band b) (λ d some. other_band b later d are some)
+    (subst P is within)
+    (subst S is (λ k d below. same k d (omega arith) below ∙ first d))
+    (subst E is (λ d below e. ends d below (e ∙ sym (first d)))) in
+    (ap (take n) is ∙ ap (λ m. take m (band ++ rest)) size ∙ take_all_of band rest, ap (drop n) is ∙ ap (λ m. drop m (band ++ rest)) size ∙ drop_all_of band rest, size)
+
+-- where the first band begins
+pub first_from : (rs : List Rect) (b : Band) (later : List Band) (d : Rect) → AreBands (b ∷ later) → rs ≡ rects_of_bands (b ∷ later) → (get_or rs 0 d).y1 ≡ b.from
+first_from rs b later d are is = ap (λ l. (get_or l 0 d).y1) is ∙ go b.value are.1.0.some
+  where
+    go : (is : List Interval) → is ≢ [] → (get_or (map (λ i. record { x1 = i.from; y1 = b.from; x2 = i.to; y2 = b.to }) is ++ rects_of_bands later) 0 d).y1 ≡ b.from
+    go [] n = absurd (n refl)
+    go (i ∷ is) n = refl
+
 pub front_split : (rs : List Rect) (f : Front rs) (n : ℕ) → n ≤ length rs → ((k : ℕ) (d : Rect) → 0 ≤ k → k < n → (get_or rs k d).y1 ≡ (get_or rs 0 d).y1) → ((d : Rect) → n < length rs → (get_or rs n d).y1 ≢ (get_or rs 0 d).y1)
     → (take n rs ≡ rects_of_band f.band) × (drop n rs ≡ rects_of_bands f.later)
-front_split rs f n within same ends =
-    let band = rects_of_band f.band in
-    let rest = rects_of_bands f.later in
-    let P : List Rect → Type 0 = λ l. n ≤ length l in
-    let S : List Rect → Type 0 = λ l. (k : ℕ) (d : Rect) → k < n → (get_or l k d).y1 ≡ f.band.from in
-    let E : List Rect → Type 0 = λ l. (d : Rect) → n < length l → (get_or l n d).y1 ≢ f.band.from in
-    let size : n ≡ length band = scanned f.band.from band rest n (in_one_band f.band) (λ d some. other_band f.band f.later d f.bands some)
-    (subst P f.is within)
-    (subst S f.is (λ k d below. same k d (omega arith) below ∙ (f.first d).0))
-    (subst E f.is (λ d below e. ends d below (e ∙ sym (f.first d).0))) in
-    (ap (take n) f.is ∙ ap (λ m. take m (band ++ rest)) size ∙ take_all_of band rest, ap (drop n) f.is ∙ ap (λ m. drop m (band ++ rest)) size ∙ drop_all_of band rest)
+front_split rs f n within same ends = let s = band_split rs f.band f.later n f.bands f.is (λ d. (f.first d).0) within same ends in (s.0, s.1)
 
 intervals-rects : (b : Band) → map interval_of (rects_of_band b) ≡ b.value
 intervals-rects b = go b.value

@@ -9,7 +9,7 @@ use Rattle.std.proofs.lemmas.List.Folds.{list_any_at}
 use Rattle.std.proofs.lemmas.List.Elements.{All-from_recursion, recursion_from_All}
 use Rattle.region.specs.declared.Rect.{Rect}
 use Rattle.region.specs.Runs.{Run, AreRuns}
-use Rattle.region.specs.Region.{Interval, Band, in_rect, on_screen, rects_of_band, rects_of_bands, IsBand, rects_of, beside, by_band, in_order}
+use Rattle.region.specs.Region.{Interval, Band, in_rect, on_screen, rects_of_band, rects_of_bands, IsBand, IsCanonical, rects_of, beside, by_band, in_order}
 use Rattle.region.proofs.RunLemmas.{first_some, rest_runs}
 use Rattle.region.proofs.CanonicalLemmas.{rects_of_is_canonical-holds, rects_of_covers-holds}
 use Rattle.region.proofs.RectLemmas.{band_rect}
@@ -67,10 +67,11 @@ some_bands : (bands : List Band) → AllByRecursion (λ b. b.from <ℤ b.to) ban
 some_bands [] h k = tt
 some_bands (b ∷ bands) h k = all_append HasPlaces (rects_of_band b) (rects_of_bands bands) (some_band b.from b.to b.value h.0 (some_runs b.value k.0.intervals)) (some_bands bands h.1 k.1)
 
+pub rects_some : (rs : List Rect) → IsCanonical rs → AllByRecursion HasPlaces rs
+rects_some rs h = subst (AllByRecursion HasPlaces) (sym h.2) (some_bands h.0 (some_runs h.0 h.1.0) h.1.1)
+
 some_rects : (w h : ℕ) (test : ℤ → ℤ → Bool) → AllByRecursion HasPlaces (rects_of w h test)
-some_rects w h test =
-    let canonical = rects_of_is_canonical-holds w h test in
-    subst (AllByRecursion HasPlaces) (sym canonical.2) (some_bands canonical.0 (some_runs canonical.0 canonical.1.0) canonical.1.1)
+some_rects w h test = rects_some (rects_of w h test) (rects_of_is_canonical-holds w h test)
 
 -- a rectangle of the list has a first and a last place, and they pass the test
 pub record IsOfTest (w h : ℕ) (test : ℤ → ℤ → Bool) (r : Rect) : Type 0 where

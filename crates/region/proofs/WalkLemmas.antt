@@ -1,14 +1,16 @@
 -- Two rows walked at once.
-use Rattle.std.proofs.Common.{◌≡◌, ◌≢◌, ◌≤◌, Bool, true, false, cond, ◌&&◌, List, [], ◌∷◌, ◌++◌, map, length, get_or, refl, sym, ◌∙◌, ap, subst, arith, Some, Option}
-use Rattle.std.specs.Prelude.{ℤ, pos, ◌<ℤ◌, ◌≤ℤ◌, int_lt, int_le, ◌||◌, is_some, not}
+use Rattle.std.proofs.Common.{◌≡◌, ◌≢◌, ℕ, ◌<◌, ◌≤◌, Bool, true, false, cond, ◌&&◌, List, [], ◌∷◌, ◌++◌, map, length, get_or, refl, sym, ◌∙◌, ap, subst, arith, Some, Option}
+use borrow.Author.Differences.{up, down}
+use Rattle.std.specs.Prelude.{ℤ, pos, negsuc, ◌-ℤ◌, ◌<ℤ◌, ◌≤ℤ◌, int_lt, int_le, ◌||◌, is_some, not}
 use mathlib.Core.Bool.{beq}
 use Rattle.std.specs.List.{AllByRecursion}
 use Rattle.std.proofs.lemmas.Int.{ints, by_lt_z}
+use Rattle.std.proofs.lemmas.List.{append-nil, append_assoc}
 use Rattle.region.specs.declared.Rect.{Rect}
 use Rattle.region.specs.declared.rows.Keep.{Keep}
 use Rattle.region.specs.declared.rows.Keep.TheVariants.{Either, Both, FirstAlone}
 use Rattle.region.specs.Held.{one_if}
-use Rattle.region.specs.Rows.{interval_of, IsRow, row_has, Ahead, Reaches, IsEdge, IsStart, kept}
+use Rattle.region.specs.Rows.{interval_of, IsRow, row_has, Ahead, Reaches, IsEdge, IsStart, RowAdded, band_rects, kept}
 use Rattle.region.proofs.RunLemmas.{value_at, inside, nothing_below, first_some}
 
 pub has_is : (rs : List Rect) (z : ℤ) → row_has rs z ≡ is_some (value_at (map interval_of rs) z)
@@ -177,7 +179,7 @@ row_begins k a b row x e row_a row_b start_a start_b = let P : List Rect → Typ
 
 module _ (k : Keep) (whole_a whole_b : List Rect) where
   -- the row with its last stretch
-  abbrev with_last : List Rect → Bool → ℤ → ℤ → List Rect
+  abbrev pub with_last : List Rect → Bool → ℤ → ℤ → List Rect
   with_last row on from x = row ++ one_if on (record { x1 = from; y1 = pos 0; x2 = x; y2 = pos 0 })
 
   append_none : (xs : List Rect) → xs ++ [] ≡ xs
@@ -297,13 +299,91 @@ module _ (k : Keep) (whole_a whole_b : List Rect) where
       turned_on true keeps s other t = absurd (other t)
       turned_on false keeps s other t = let P : List Rect → Type 0 = Below x in subst P (sym (append_none row)) (s.ends_off refl)
 
-pub row_state : (k : Keep) (whole_a whole_b : List Rect) (row row' : List Rect) (on on' : Bool) (from from' x : ℤ) (a b : List Rect) → RowState k whole_a whole_b row on from x a b
-    → row' ≡ row → on' ≡ on → from' ≡ from → RowState k whole_a whole_b row' on' from' x a b
-row_state k whole_a whole_b row row' on on' from from' x a b s e f g =
-    let P : List Rect → Type 0 = λ l. RowState k whole_a whole_b l on from x a b in
-    let Q : Bool → Type 0 = λ t. RowState k whole_a whole_b row' t from x a b in
-    let R : ℤ → Type 0 = λ n. RowState k whole_a whole_b row' on' n x a b in
+-- the rows that a walk has put behind the old list
+pub record RowWalk (k : Keep) (whole_a whole_b old out : List Rect) (top bottom : ℤ) (on : Bool) (from x : ℤ) (a b : List Rect) : Type 0 where
+  pub row : List Rect
+  pub is : out ≡ old ++ band_rects top bottom row
+  pub state : RowState k whole_a whole_b row on from x a b
+
+band_rects-append : (top bottom : ℤ) (row qs : List Rect) → band_rects top bottom (row ++ qs) ≡ band_rects top bottom row ++ band_rects top bottom qs
+band_rects-append top bottom [] qs = refl
+band_rects-append top bottom (r ∷ row) qs = ap (λ l. record { x1 = r.x1; y1 = top; x2 = r.x2; y2 = bottom } ∷ l) (band_rects-append top bottom row qs)
+
+pub walk_begins : (k : Keep) (a b old out : List Rect) (top bottom x : ℤ) → out ≡ old → IsRow a → IsRow b → IsStart x a → IsStart x b → RowWalk k a b old out top bottom false x x a b
+walk_begins k a b old out top bottom x e row_a row_b start_a start_b = record {
+  row = [];
+  is = e ∙ sym (append-nil old);
+  state = row_begins k a b [] x refl row_a row_b start_a start_b;
+}
+
+-- the last stretch's rectangle is put behind the others
+stretch_added : (k : Keep) (whole_a whole_b old out out' row : List Rect) (top bottom : ℤ) (on : Bool) (from x : ℤ) → out ≡ old ++ band_rects top bottom row
+    → out' ≡ out ++ one_if on (record { x1 = from; y1 = top; x2 = x; y2 = bottom }) → out' ≡ old ++ band_rects top bottom (with_last k whole_a whole_b row on from x)
+stretch_added k whole_a whole_b old out out' row top bottom on from x is e =
+    e ∙ ap (λ l. l ++ one_if on (record { x1 = from; y1 = top; x2 = x; y2 = bottom })) is
+    ∙ append_assoc old (band_rects top bottom row) (one_if on (record { x1 = from; y1 = top; x2 = x; y2 = bottom }))
+    ∙ ap (λ l. old ++ l) (ap (λ l. band_rects top bottom row ++ l) (one on) ∙ sym (band_rects-append top bottom row (one_if on (record { x1 = from; y1 = pos 0; x2 = x; y2 = pos 0 }))))
+  where
+    one : (on : Bool) → one_if on (record { x1 = from; y1 = top; x2 = x; y2 = bottom }) ≡ band_rects top bottom (one_if on (record { x1 = from; y1 = pos 0; x2 = x; y2 = pos 0 }))
+    one true = refl
+    one false = refl
+
+module _ (k : Keep) (whole_a whole_b old : List Rect) (top bottom : ℤ) where
+  pub walk_done : (out closed : List Rect) (on : Bool) (from x : ℤ) (a b : List Rect) → RowWalk k whole_a whole_b old out top bottom on from x a b → a ≡ [] → b ≡ []
+      → closed ≡ out ++ one_if on (record { x1 = from; y1 = top; x2 = x; y2 = bottom }) → RowAdded k whole_a whole_b top bottom old closed
+  walk_done out closed on from x a b w none_a none_b e =
+      let done = row_done k whole_a whole_b w.row (with_last k whole_a whole_b w.row on from x) on from x a b w.state none_a none_b refl in
+      record {
+        row = with_last k whole_a whole_b w.row on from x;
+        is = stretch_added k whole_a whole_b old out closed w.row top bottom on from x w.is e;
+        runs = done.0;
+        has = done.1;
+      }
+
+  pub walk_on : (out : List Rect) (on : Bool) (from x edge : ℤ) (a b a' b' : List Rect) (keeps : Bool) → RowWalk k whole_a whole_b old out top bottom on from x a b → IsEdge x edge a → IsEdge x edge b
+      → keeps ≡ kept k (row_has a x) (row_has b x) → keeps ≡ on
+      → IsRow a' → Ahead edge a' → ((z : ℤ) → edge ≤ℤ z → row_has a' z ≡ row_has a z) → IsRow b' → Ahead edge b' → ((z : ℤ) → edge ≤ℤ z → row_has b' z ≡ row_has b z)
+      → RowWalk k whole_a whole_b old out top bottom on from edge a' b'
+  walk_on out on from x edge a b a' b' keeps w edge_a edge_b e same row_a ahead_a same_a row_b ahead_b same_b = record {
+    row = w.row;
+    is = w.is;
+    state = row_on k whole_a whole_b w.row on from x edge a b a' b' keeps w.state edge_a edge_b e same row_a ahead_a same_a row_b ahead_b same_b;
+  }
+
+  pub walk_turn : (out out' : List Rect) (on : Bool) (from x edge : ℤ) (a b a' b' : List Rect) (keeps : Bool) → RowWalk k whole_a whole_b old out top bottom on from x a b → IsEdge x edge a → IsEdge x edge b
+      → keeps ≡ kept k (row_has a x) (row_has b x) → keeps ≢ on → out' ≡ out ++ one_if on (record { x1 = from; y1 = top; x2 = x; y2 = bottom })
+      → IsRow a' → Ahead edge a' → ((z : ℤ) → edge ≤ℤ z → row_has a' z ≡ row_has a z) → IsRow b' → Ahead edge b' → ((z : ℤ) → edge ≤ℤ z → row_has b' z ≡ row_has b z)
+      → RowWalk k whole_a whole_b old out' top bottom keeps x edge a' b'
+  walk_turn out out' on from x edge a b a' b' keeps w edge_a edge_b e other is row_a ahead_a same_a row_b ahead_b same_b = record {
+    row = with_last k whole_a whole_b w.row on from x;
+    is = stretch_added k whole_a whole_b old out out' w.row top bottom on from x w.is is;
+    state = row_turn k whole_a whole_b w.row (with_last k whole_a whole_b w.row on from x) on from x edge a b a' b' keeps w.state edge_a edge_b e other refl row_a ahead_a same_a row_b ahead_b same_b;
+  }
+
+pub walk_state : (k : Keep) (whole_a whole_b old : List Rect) (top bottom : ℤ) (out out' : List Rect) (on on' : Bool) (from from' x : ℤ) (a b : List Rect) → RowWalk k whole_a whole_b old out top bottom on from x a b
+    → out' ≡ out → on' ≡ on → from' ≡ from → RowWalk k whole_a whole_b old out' top bottom on' from' x a b
+walk_state k whole_a whole_b old top bottom out out' on on' from from' x a b s e f g =
+    let P : List Rect → Type 0 = λ l. RowWalk k whole_a whole_b old l top bottom on from x a b in
+    let Q : Bool → Type 0 = λ t. RowWalk k whole_a whole_b old out' top bottom t from x a b in
+    let R : ℤ → Type 0 = λ n. RowWalk k whole_a whole_b old out' top bottom on' n x a b in
     subst R (sym g) (subst Q (sym f) (subst P (sym e) s))
+
+up_of : (z : ℤ) → pos 0 ≤ℤ z → down z ≡ 0
+up_of (pos n) h = refl
+up_of (negsuc n) h = absurd (no n h)
+  where
+    no : (n : ℕ) → pos 0 ≤ℤ negsuc n → ⊥
+    no n h = omega (arith, ints, h)
+
+-- an edge further on leaves less to walk
+pub nearer_end : (x edge : ℤ) → x <ℤ edge → edge ≤ℤ pos 2147483648 → up (pos 2147483648 -ℤ edge) < up (pos 2147483648 -ℤ x)
+nearer_end x edge less room = omega (arith, ints, up_of (pos 2147483648 -ℤ edge) (omega (arith, ints)), up_of (pos 2147483648 -ℤ x) (omega (arith, ints)))
+
+pub added_at : (k : Keep) (a b old new : List Rect) (top top' bottom bottom' : ℤ) → RowAdded k a b top bottom old new → top ≡ top' → bottom ≡ bottom' → RowAdded k a b top' bottom' old new
+added_at k a b old new top top' bottom bottom' h e f =
+    let P : ℤ → Type 0 = λ n. RowAdded k a b n bottom old new in
+    let Q : ℤ → Type 0 = λ n. RowAdded k a b top' n old new in
+    subst Q f (subst P e h)
 
 pub edge_at : (x e e' : ℤ) (rs : List Rect) → IsEdge x e rs → e' ≡ e → IsEdge x e' rs
 edge_at x e e' rs h is = let P : ℤ → Type 0 = λ n. IsEdge x n rs in subst P (sym is) h

@@ -1,5 +1,5 @@
 -- Rows: lists of rectangles of which only the columns count, and what a walk over two of them keeps.
-use Rattle.std.specs.Prelude.{◌≡◌, Bool, false, ◌&&◌, ◌||◌, not, List, [], ◌∷◌, map, ℤ, ◌<ℤ◌, ◌≤ℤ◌, int_lt, int_le}
+use Rattle.std.specs.Prelude.{◌≡◌, ℕ, ◌+◌, ◌*◌, ◌≤◌, ◌<◌, cond, length, ◌++◌, Bool, false, ◌&&◌, ◌||◌, not, List, [], ◌∷◌, map, ℤ, ◌<ℤ◌, ◌≤ℤ◌, int_lt, int_le}
 use Rattle.std.specs.List.{list_any}
 use Rattle.region.specs.declared.Rect.{Rect}
 use Rattle.region.specs.declared.rows.Keep.{Keep}
@@ -47,3 +47,29 @@ kept FirstAlone a b = a && not b
 pub record IsStart (n : ℤ) (rs : List Rect) : Type 0 where
   pub ahead : Ahead n rs
   pub before : (z : ℤ) → z <ℤ n → row_has rs z ≡ false
+
+-- a row's rectangles, from top to bottom
+abbrev pub band_rects : ℤ → ℤ → List Rect → List Rect
+band_rects top bottom row = map (λ r. record { x1 = r.x1; y1 = top; x2 = r.x2; y2 = bottom }) row
+
+-- what is kept of two rows stands behind the old list
+pub record RowAdded (k : Keep) (a b : List Rect) (top bottom : ℤ) (old new : List Rect) : Type 0 where
+  pub row : List Rect
+  pub is : new ≡ old ++ band_rects top bottom row
+  pub runs : IsRow row
+  pub has : (x : ℤ) → row_has row x ≡ kept k (row_has a x) (row_has b x)
+
+-- how many ends of intervals lie behind x
+abbrev pub ends_left : ℤ → List Rect → ℕ
+ends_left x [] = 0
+ends_left x (r ∷ rs) = cond (int_le r.x1 x) 1 2 + 2 * length rs
+
+-- the edge is the first interval's next one
+abbrev pub OwnEdge : ℤ → ℤ → List Rect → Type 0
+OwnEdge x edge [] = ⊥
+OwnEdge x edge (r ∷ rs) = edge ≡ cond (int_le r.x1 x) r.x2 r.x1
+
+-- fewer ends lie behind an edge
+pub record EndsFewer (edge : ℤ) (rs later : List Rect) : Type 0 where
+  pub at_most : (x : ℤ) → x ≤ℤ edge → ends_left edge later ≤ ends_left x rs
+  pub less : (x : ℤ) → x <ℤ edge → OwnEdge x edge rs → ends_left edge later < ends_left x rs

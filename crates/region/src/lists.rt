@@ -1,9 +1,12 @@
 //! Lists of rectangles: membership, moves and orders.
 
-ghost use Rattle.std.specs.Prelude.{◌≡◌, ◌≢◌, IsTrue, IfOk, ℕ, ◌+ℤ◌, ◌&&◌, ◌<◌, ◌≤◌, true, not, int_le, int_lt, reverse, map, flat_map, length, slice_index_or};
+ghost use Rattle.std.specs.Prelude.{◌≡◌, ◌≢◌, IsTrue, IfOk, ℕ, ℤ, ◌+ℤ◌, ◌≤ℤ◌, ◌&&◌, ◌<◌, ◌≤◌, true, false, not, int_le, int_lt, reverse, map, flat_map, length, slice_index_or};
 ghost use Rattle.std.specs.List.{list_any};
 ghost use Rattle.region.specs.Region.{covers, in_rect, by_band, in_order};
-ghost use Rattle.region.specs.Held.{coordinate, in_range, moved, one_if};
+ghost use Rattle.std.specs.Ordering.{int_eq};
+ghost use Rattle.region.specs.declared.Rect.{Rect};
+ghost use Rattle.region.specs.Rows.{interval_of};
+ghost use Rattle.region.specs.Held.{coordinate, in_range, moved, leaves_range, one_if, with_bottom, Mapped, LiesIn, IsHullOf};
 
 use crate::Rect;
 use std::alloc::{AllocError, Global};
@@ -78,7 +81,7 @@ pub(crate) fn stays_in_range(rect: Rect, dx: i32, dy: i32) -> bool
 
 /// Whether each rectangle, moved, is in range.
 pub(crate) fn leave_range(list: &[Rect], dx: i32, dy: i32) -> bool
-    ensures { result ≡ list_any (λ rect. not (in_range (moved dx dy rect))) list.now }
+    ensures { result ≡ leaves_range dx dy list.now }
 {
     list.iter().any(|rect| !stays_in_range(*rect, dx, dy))
 }
@@ -88,6 +91,65 @@ fn shift(x: i32, by: i32) -> i32
     ensures { result ≡ x +ℤ by }
 {
     x + by
+}
+
+/// The rectangle with another bottom.
+fn lengthened(rect: &Rect, bottom: i32) -> Rect
+    ensures { result ≡ with_bottom bottom rect.now }
+{
+    let x1 = rect.x1;
+    let y1 = rect.y1;
+    let x2 = rect.x2;
+    Rect {
+        x1,
+        y1,
+        x2,
+        y2: bottom,
+    }
+}
+
+/// Gives the rectangles from `start` on another bottom.
+pub(crate) fn lengthen(rects: &mut [Rect], start: usize, bottom: i32)
+    requires { start ≤ length rects.old }
+    ensures { Mapped (with_bottom bottom) start rects.old rects.new }
+{
+    for i in start..rects.len() {
+        rects[i] = lengthened(&rects[i], bottom);
+    }
+}
+
+fn is_same_interval(first: &Rect, second: &Rect) -> bool
+    ensures { result ≡ (int_eq first.now.x1 second.now.x1 && int_eq first.now.x2 second.now.x2) }
+{
+    let start = first.x1;
+    let end = first.x2;
+    let other_start = second.x1;
+    let other_end = second.x2;
+    start == other_start && end == other_end
+}
+
+fn columns_agree(first: &[Rect], second: &[Rect]) -> bool
+    requires { length first.now ≡ length second.now }
+    ensures same { result ≡ true → map interval_of first.now ≡ map interval_of second.now }
+    ensures apart { result ≡ false → map interval_of first.now ≢ map interval_of second.now }
+{
+    for i in 0..first.len() {
+        if !is_same_interval(&first[i], &second[i]) {
+            return false;
+        }
+    }
+    true
+}
+
+/// Whether the rectangles have the same columns.
+pub(crate) fn has_same_columns(first: &[Rect], second: &[Rect]) -> bool
+    ensures same { result ≡ true → map interval_of first.now ≡ map interval_of second.now }
+    ensures apart { result ≡ false → map interval_of first.now ≢ map interval_of second.now }
+{
+    if first.len() != second.len() {
+        return false;
+    }
+    columns_agree(first, second)
 }
 
 fn moved_rect(rect: &Rect, dx: i32, dy: i32) -> Rect
@@ -106,6 +168,16 @@ fn moved_rect(rect: &Rect, dx: i32, dy: i32) -> Rect
         y1: shift(y1, dy),
         x2: shift(x2, dx),
         y2: shift(y2, dy),
+    }
+}
+
+/// Moves each rectangle.
+pub(crate) fn move_all(rects: &mut [Rect], dx: i32, dy: i32)
+    requires { leaves_range dx dy rects.old ≡ false }
+    ensures { Mapped (moved dx dy) 0 rects.old rects.new }
+{
+    for i in 0..rects.len() {
+        rects[i] = moved_rect(&rects[i], dx, dy);
     }
 }
 
@@ -169,4 +241,46 @@ pub(crate) fn copied(list: &Vec<Rect>) -> Result<Vec<Rect>, AllocError>
     ensures { IfOk result (λ copy. copy.items ≡ list.now.items) }
 {
     list.clone()
+}
+
+fn least(a: i32, b: i32) -> i32
+    ensures left { result ≤ℤ a }
+    ensures right { result ≤ℤ b }
+    ensures greatest { (n : ℤ) → n ≤ℤ a → n ≤ℤ b → n ≤ℤ result }
+{
+    if a < b { a } else { b }
+}
+
+fn greatest(a: i32, b: i32) -> i32
+    ensures left { a ≤ℤ result }
+    ensures right { b ≤ℤ result }
+    ensures least { (n : ℤ) → a ≤ℤ n → b ≤ℤ n → result ≤ℤ n }
+{
+    if a < b { b } else { a }
+}
+
+/// The least rectangle in which both lie.
+fn hull(first: Rect, second: Rect) -> Rect
+    ensures first { LiesIn first result }
+    ensures second { LiesIn second result }
+    ensures least { (q : Rect) → LiesIn first q → LiesIn second q → LiesIn result q }
+{
+    Rect {
+        x1: least(first.x1, second.x1),
+        y1: least(first.y1, second.y1),
+        x2: greatest(first.x2, second.x2),
+        y2: greatest(first.y2, second.y2),
+    }
+}
+
+/// The least rectangle in which each lies.
+pub(crate) fn hull_of(rects: &[Rect]) -> Rect
+    requires { 0 < length rects.now }
+    ensures { IsHullOf result (length rects.now) rects.now }
+{
+    let mut bounds = rects[0];
+    for i in 1..rects.len() {
+        bounds = hull(bounds, rects[i]);
+    }
+    bounds
 }

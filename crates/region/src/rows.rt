@@ -1,11 +1,10 @@
 //! Two rows walked at once.
 
-ghost use Rattle.std.specs.Prelude.{◌≡◌, ◌≢◌, ◌∷◌, ◌++◌, [], ℤ, pos, ◌≤ℤ◌, ◌<ℤ◌, IfOk, IfSome, None, int_le, if◌then◌else◌};
-ghost use Rattle.region.specs.Rows.{IsRow, row_has, Ahead, Reaches, IsFlat, IsEdge, IsStart, kept};
+ghost use Rattle.std.specs.Prelude.{◌≡◌, ◌≢◌, ◌∷◌, ◌++◌, [], ℤ, pos, ◌≤ℤ◌, ◌<ℤ◌, ◌&&◌, ◌⊎◌, ◌+◌, ◌≤◌, ◌<◌, length, vec_capacity, true, false, IfSome, None, int_le, if◌then◌else◌};
+ghost use Rattle.region.specs.Rows.{IsRow, row_has, Ahead, Reaches, IsFlat, IsEdge, IsStart, RowAdded, OwnEdge, EndsFewer, kept};
 ghost use Rattle.region.specs.Held.{one_if};
 
 use crate::Rect;
-use std::alloc::AllocError;
 
 /// Which places of two sets are kept.
 #[derive(Clone, Copy, Debug, PartialEq, Eq)]
@@ -53,6 +52,7 @@ fn row_edge(rest: &[Rect], x: i32) -> Option<i32>
     requires ahead { Ahead x rest.now }
     ensures none { result ≡ None → rest.now ≡ [] }
     ensures some { IfSome result (λ edge. IsEdge x edge rest.now) }
+    ensures own { IfSome result (λ edge. OwnEdge x edge rest.now) }
 {
     match rest {
         [] => None,
@@ -69,6 +69,7 @@ fn next_edge(first: &[Rect], second: &[Rect], x: i32) -> Option<i32>
     ensures none { result ≡ None → (first.now ≡ []) × (second.now ≡ []) }
     ensures in_first { IfSome result (λ edge. IsEdge x edge first.now) }
     ensures in_second { IfSome result (λ edge. IsEdge x edge second.now) }
+    ensures own { IfSome result (λ edge. OwnEdge x edge first.now ⊎ OwnEdge x edge second.now) }
 {
     match (row_edge(first, x), row_edge(second, x)) {
         (Some(a), Some(b)) => Some(if a < b { a } else { b }),
@@ -96,6 +97,7 @@ fn after(rest: &[Rect], edge: i32) -> &[Rect]
     ensures row { IsRow result.now }
     ensures ahead { Ahead edge result.now }
     ensures same { (z : ℤ) → edge ≤ℤ z → row_has result.now z ≡ row_has rest.now z }
+    ensures fewer { EndsFewer edge rest.now result.now }
 {
     match rest {
         [first, later @ ..] if first.x2 <= edge => later,
@@ -103,19 +105,26 @@ fn after(rest: &[Rect], edge: i32) -> &[Rect]
     }
 }
 
-/// The row's interval from `from` to `to`, if there is one.
-fn close(row: &mut Vec<Rect>, is_kept: bool, from: i32, to: i32) -> Result<(), AllocError>
-    ensures { IfOk result (λ _. row.new.items ≡ row.old.items ++ one_if is_kept (record { x1 = from; y1 = pos 0; x2 = to; y2 = pos 0 })) }
+/// Appends a rectangle to a list that has room.
+fn put(out: &mut Vec<Rect>, rect: Rect)
+    requires { length out.old.items < vec_capacity out.old }
+    ensures items { out.new.items ≡ out.old.items ++ rect ∷ [] }
+    ensures capacity { vec_capacity out.old ≤ vec_capacity out.new }
+{
+    if out.push(rect).is_err() {
+        return;
+    }
+}
+
+/// Appends the rectangle of an interval, if there is one.
+fn close(out: &mut Vec<Rect>, is_kept: bool, rect: Rect)
+    requires { is_kept ≡ true → length out.old.items < vec_capacity out.old }
+    ensures items { out.new.items ≡ out.old.items ++ one_if is_kept rect }
+    ensures capacity { vec_capacity out.old ≤ vec_capacity out.new }
 {
     if is_kept {
-        row.push(Rect {
-            x1: from,
-            y1: 0,
-            x2: to,
-            y2: 0,
-        })?;
+        put(out, rect);
     }
-    Ok(())
 }
 
 fn start_of(interval: &Rect) -> i32
@@ -151,25 +160,38 @@ fn rows_start(first: &[Rect], second: &[Rect]) -> i32
     }
 }
 
-/// Makes `row` the intervals of the places that are kept of two rows.
-pub(crate) fn kept_row(
-    row: &mut Vec<Rect>,
+/// Appends the places that are kept of two rows, as rectangles from `top` to before `bottom`, from the left.
+pub(crate) fn keep_row(
+    out: &mut Vec<Rect>,
     mut first: &[Rect],
     mut second: &[Rect],
     keep: Keep,
-) -> Result<(), AllocError>
+    top: i32,
+    bottom: i32,
+)
     requires first_row { IsRow first.now }
     requires second_row { IsRow second.now }
-    ensures { IfOk result (λ _. IsRow row.new.items × ((x : ℤ) → row_has row.new.items x ≡ kept keep (row_has first.now x) (row_has second.now x))) }
+    requires room { length out.old.items + (length first.now + length second.now) ≤ vec_capacity out.old }
+    ensures added { RowAdded keep first.now second.now top bottom out.old.items out.new.items }
+    ensures few { length out.new.items ≤ length out.old.items + (length first.now + length second.now) }
+    ensures capacity { vec_capacity out.old ≤ vec_capacity out.new }
 {
-    row.clear();
     let mut x = rows_start(first, second);
     let mut from = x;
     let mut is_kept = false;
     while let Some(edge) = next_edge(first, second, x) {
         let keeps = keep.keeps(begins(first, x), begins(second, x));
         if keeps != is_kept {
-            close(row, is_kept, from, x)?;
+            close(
+                out,
+                is_kept,
+                Rect {
+                    x1: from,
+                    y1: top,
+                    x2: x,
+                    y2: bottom,
+                },
+            );
             from = x;
             is_kept = keeps;
         }
@@ -177,6 +199,33 @@ pub(crate) fn kept_row(
         second = after(second, edge);
         x = edge;
     }
-    close(row, is_kept, from, x)?;
-    Ok(())
+    close(
+        out,
+        is_kept,
+        Rect {
+            x1: from,
+            y1: top,
+            x2: x,
+            y2: bottom,
+        },
+    );
+}
+
+/// Whether two rows share a place.
+pub(crate) fn rows_meet(mut first: &[Rect], mut second: &[Rect]) -> bool
+    requires first_row { IsRow first.now }
+    requires second_row { IsRow second.now }
+    ensures shared { result ≡ true → (x : ℤ) × ((row_has first.now x && row_has second.now x) ≡ true) }
+    ensures apart { result ≡ false → (x : ℤ) → (row_has first.now x && row_has second.now x) ≡ false }
+{
+    let mut x = rows_start(first, second);
+    while let Some(edge) = next_edge(first, second, x) {
+        if begins(first, x) && begins(second, x) {
+            return true;
+        }
+        first = after(first, edge);
+        second = after(second, edge);
+        x = edge;
+    }
+    false
 }

@@ -1,0 +1,7 @@
+pub mod Palettes
+pub mod Lists
+pub mod Cuts
+pub mod Coding
+pub mod Folds
+pub mod TileBack
+mod ReadBack

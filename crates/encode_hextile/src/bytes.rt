@@ -1,0 +1,202 @@
+//! A tile as bytes.
+
+ghost use Rattle.std.specs.Prelude.{◌≡◌, ◌+◌, ◌*◌, ◌<◌, ◌≤◌, ◌++◌, ◌∷◌, [], true, false, length, flat_map, IfOk, OnOk, OnErr};
+ghost use Rattle.pixel_translate.specs.Pixel.{pixel_bytes, bytes_per_pixel};
+ghost use Rattle.arrayvec.specs.ArrayVec.{array_vec_len};
+ghost use Rattle.encode_rre.specs.Subrectangles.{rows_of, subrectangles, background_of};
+ghost use Rattle.encode_hextile.specs.Hextile.{BeginsWith, is_carried, bytes_unless, bits_of, said_bytes, list_bytes, next_of, tile};
+ghost use Rattle.encode_hextile.specs.Palettes.{IsPaletteOf};
+
+use crate::palette::{Palette, palette_of};
+use crate::raw::put_raw;
+use crate::scan::{ROOM, list_subrectangles, put_number};
+use crate::{Carried, TilePixels};
+use arrayvec::ArrayVec;
+use pixel_translate::{BitsPerPixel, PixelFormat};
+use std::alloc::AllocError;
+
+/// Room for the byte of bits, two pixels, and the number of subrectangles.
+const FRONT: usize = 10;
+
+/// What is carried to the first tile, and behind a raw one.
+pub(crate) const NOTHING: Carried = Carried {
+    background: None,
+    foreground: None,
+};
+
+/// Whether a pixel is the one that is carried.
+fn is_said(carried: Option<u32>, pixel: u32) -> bool
+    ensures { result ≡ is_carried carried pixel }
+{
+    match carried {
+        Some(before) => before == pixel,
+        None => false,
+    }
+}
+
+/// The bits that a tile begins with.
+fn bits_of(carried: Carried, palette: Palette) -> u8
+    ensures { result ≡ bits_of carried palette.background palette.others }
+{
+    let background = if is_said(carried.background, palette.background) {
+        0
+    } else {
+        2
+    };
+    match palette.others {
+        TilePixels::Alone => background,
+        TilePixels::OneOther(pixel) => {
+            let foreground = if is_said(carried.foreground, pixel) {
+                0
+            } else {
+                4
+            };
+            background + foreground + 8
+        }
+        TilePixels::Several => background + 8 + 16,
+    }
+}
+
+/// What a tile leaves to the next.
+fn next_of(carried: Carried, palette: Palette) -> Carried
+    ensures { result ≡ next_of carried palette.background palette.others }
+{
+    let foreground = match palette.others {
+        TilePixels::Alone => carried.foreground,
+        TilePixels::OneOther(pixel) => Some(pixel),
+        TilePixels::Several => None,
+    };
+    Carried {
+        background: Some(palette.background),
+        foreground,
+    }
+}
+
+/// Appends a pixel, unless it is carried.
+fn put_unless_said(
+    front: &mut ArrayVec<u8, FRONT>,
+    format: &PixelFormat,
+    carried: Option<u32>,
+    pixel: u32,
+)
+    requires { array_vec_len front.old + 4 ≤ FRONT }
+    ensures items { front.new.items ≡ front.old.items ++ bytes_unless (is_carried carried pixel) (pixel_bytes format.now pixel) }
+    ensures len { array_vec_len front.new ≤ array_vec_len front.old + 4 }
+{
+    if !is_said(carried, pixel) {
+        put_number(front, format, pixel);
+    }
+}
+
+/// Writes the bits, the background and the foreground, so far as they are said.
+fn put_front(
+    front: &mut ArrayVec<u8, FRONT>,
+    format: &PixelFormat,
+    carried: Carried,
+    palette: Palette,
+)
+    requires { front.old.items ≡ [] }
+    ensures items { front.new.items ≡ bits_of carried palette.background palette.others ∷ said_bytes format.now carried palette.background palette.others }
+    ensures len { array_vec_len front.new ≤ 9 }
+{
+    front.push(bits_of(carried, palette));
+    put_unless_said(front, format, carried.background, palette.background);
+    if let TilePixels::OneOther(pixel) = palette.others {
+        put_unless_said(front, format, carried.foreground, pixel);
+    }
+}
+
+/// Writes the subrectangles and, behind the front, their number, unless they are too long.
+fn put_list(
+    front: &mut ArrayVec<u8, FRONT>,
+    list: &mut ArrayVec<u8, ROOM>,
+    pixels: &[u32],
+    width: usize,
+    height: usize,
+    format: &PixelFormat,
+    palette: Palette,
+) -> bool
+    requires room { array_vec_len front.old ≤ 9 }
+    requires empty { list.old.items ≡ [] }
+    requires whole { length pixels.now ≡ width * height }
+    requires some { 0 < length pixels.now }
+    requires columns { width ≤ 16 }
+    requires rows { height ≤ 16 }
+    requires stands { palette.background ≡ background_of pixels.now }
+    ensures yes { result ≡ true → front.new.items ++ list.new.items ≡ front.old.items ++ list_bytes format.now (subrectangles palette.background (rows_of width height pixels.now)) palette.others }
+    ensures no { result ≡ false → length pixels.now * bytes_per_pixel format.now ≤ length (list_bytes format.now (subrectangles palette.background (rows_of width height pixels.now)) palette.others) }
+{
+    let coloured = match palette.others {
+        TilePixels::Alone => return true,
+        TilePixels::OneOther(_) => false,
+        TilePixels::Several => true,
+    };
+    let background = palette.background;
+    match list_subrectangles(list, pixels, width, height, background, format, coloured) {
+        Some(count) => {
+            front.push(count as u8);
+            true
+        }
+        None => false,
+    }
+}
+
+/// Appends a tile whose pixels are known, coded where that is shorter, and else raw. Gives what it
+/// leaves to the next.
+fn put_coded(
+    out: &mut Vec<u8>,
+    pixels: &[u32],
+    width: usize,
+    height: usize,
+    format: &PixelFormat,
+    carried: Carried,
+    palette: Palette,
+) -> Result<Carried, AllocError>
+    requires whole { length pixels.now ≡ width * height }
+    requires some { 0 < length pixels.now }
+    requires columns { width ≤ 16 }
+    requires rows { height ≤ 16 }
+    requires stands { IsPaletteOf pixels.now palette }
+    ensures next { IfOk result (λ next. next ≡ (tile format.now carried (rows_of width height pixels.now)).next) }
+    ensures ok { OnOk result (out.new.items ≡ out.old.items ++ (tile format.now carried (rows_of width height pixels.now)).bits ∷ (tile format.now carried (rows_of width height pixels.now)).bytes) }
+    ensures err { OnErr result (BeginsWith out.old.items out.new.items) }
+{
+    let mut front = ArrayVec::new();
+    let mut list = ArrayVec::new();
+    put_front(&mut front, format, carried, palette);
+    let raw_len = pixels.len() * format.bytes_per_pixel();
+    if put_list(
+        &mut front, &mut list, pixels, width, height, format, palette,
+    ) && front.len() + list.len() <= raw_len
+    {
+        out.extend_from_slice(&front)?;
+        out.extend_from_slice(&list)?;
+        return Ok(next_of(carried, palette));
+    }
+    put_raw(out, pixels, format)?;
+    Ok(NOTHING)
+}
+
+/// Appends a tile, coded where that is shorter, and else raw. Gives what it leaves to the next.
+pub(crate) fn put_tile(
+    out: &mut Vec<u8>,
+    pixels: &[u32],
+    width: usize,
+    height: usize,
+    format: &PixelFormat,
+    carried: Carried,
+) -> Result<Carried, AllocError>
+    requires whole { length pixels.now ≡ width * height }
+    requires some { 0 < length pixels.now }
+    requires columns { width ≤ 16 }
+    requires rows { height ≤ 16 }
+    ensures next { IfOk result (λ next. next ≡ (tile format.now carried (rows_of width height pixels.now)).next) }
+    ensures ok { OnOk result (out.new.items ≡ out.old.items ++ (tile format.now carried (rows_of width height pixels.now)).bits ∷ (tile format.now carried (rows_of width height pixels.now)).bytes) }
+    ensures err { OnErr result (BeginsWith out.old.items out.new.items) }
+{
+    let Some(palette) = palette_of(pixels, width, height, format) else {
+        put_raw(out, pixels, format)?;
+        return Ok(NOTHING);
+    };
+    put_coded(out, pixels, width, height, format, carried, palette)
+}

@@ -1,0 +1,110 @@
+//! A tile cut out of the rows of a rectangle.
+
+ghost use Rattle.std.specs.Prelude.{◌≡◌, true, ◌-◌, ◌*◌, ◌+◌, ◌<◌, ◌≤◌, length, map, min};
+ghost use Rattle.std.specs.List.{concat};
+ghost use Rattle.pixel_translate.specs.Pixel.{pixel, server_format};
+ghost use Rattle.encode_rre.specs.Subrectangles.{rows_of};
+ghost use Rattle.encode_hextile.specs.Tiles.{tile_rows};
+
+use crate::scan::row_of;
+use pixel_translate::Table;
+
+/// The pixel of a colour. Where it is the last colour again, its pixel is known.
+fn pixel_after(table: &Table, last: u32, known: u32, colour: u32) -> u32
+    requires { known ≡ pixel table.now last }
+    ensures { result ≡ pixel table.now colour }
+{
+    if colour == last {
+        known
+    } else {
+        table.translate(colour)
+    }
+}
+
+/// Writes the pixels of a row of colours.
+fn write_row(places: &mut [u32], colours: &[u32], table: &Table)
+    requires { length places.old ≡ length colours.now }
+    ensures { places.new ≡ map (pixel table.now) colours.now }
+{
+    let mut last = 0;
+    let mut known = table.translate(0);
+    for x in 0..colours.len() {
+        known = pixel_after(table, last, known, colours[x]);
+        last = colours[x];
+        places[x] = known;
+    }
+}
+
+/// The pixel of a colour in the server's format, which is the colour.
+#[tactic(auto, using(pixel_translate::proofs::Server::server_pixel))]
+fn server_pixel(colour: u32) -> u32
+    ensures { result ≡ pixel server_format colour }
+{
+    colour % (1 << 24)
+}
+
+/// Writes the pixels of a row of colours in the server's format.
+fn write_server_row(places: &mut [u32], colours: &[u32])
+    requires { length places.old ≡ length colours.now }
+    ensures { places.new ≡ map (pixel server_format) colours.now }
+{
+    for x in 0..colours.len() {
+        places[x] = server_pixel(colours[x]);
+    }
+}
+
+/// Writes the pixels of a row of colours, by the quicker way.
+fn write_either(places: &mut [u32], colours: &[u32], table: &Table, is_server: bool)
+    requires len { length places.old ≡ length colours.now }
+    requires known { is_server ≡ true → table.now ≡ server_format }
+    ensures { places.new ≡ map (pixel table.now) colours.now }
+{
+    if is_server {
+        write_server_row(places, colours);
+    } else {
+        write_row(places, colours, table);
+    }
+}
+
+/// How many places of a side of a rectangle belong to a tile: 16, or fewer at its end.
+pub(crate) fn side_of(side: usize, tile: usize) -> usize
+    requires { 16 * tile < side }
+    ensures size { result ≡ min 16 (side - 16 * tile) }
+    ensures some { 0 < result }
+    ensures most { result ≤ 16 }
+    ensures inside { 16 * tile + result ≤ side }
+{
+    (side - 16 * tile).min(16)
+}
+
+/// Writes the pixels of a tile row by row, in places of just its size.
+pub(crate) fn cut_tile(
+    places: &mut [u32],
+    colours: &[u32],
+    width: usize,
+    height: usize,
+    column: usize,
+    row: usize,
+    table: &Table,
+    is_server: bool,
+)
+    requires whole { length colours.now ≡ width * height }
+    requires left { 16 * column < width }
+    requires top { 16 * row < height }
+    requires size { length places.old ≡ min 16 (width - 16 * column) * min 16 (height - 16 * row) }
+    requires known { is_server ≡ true → table.now ≡ server_format }
+    ensures { places.new ≡ concat (tile_rows (rows_of width height (map (pixel table.now) colours.now)) (record { column = column; row = row })) }
+{
+    let across = side_of(width, column);
+    let down = side_of(height, row);
+    for y in 0..down {
+        let source = row_of(colours, width, height, 16 * row + y);
+        let start = 16 * column;
+        write_either(
+            &mut places[y * across..y * across + across],
+            &source[start..start + across],
+            table,
+            is_server,
+        );
+    }
+}

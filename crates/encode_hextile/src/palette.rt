@@ -1,0 +1,217 @@
+//! The background of a tile, and which pixels it has beside it.
+
+ghost use Rattle.std.specs.Prelude.{◌≡◌, ◌+◌, ◌-◌, ◌*◌, ◌<◌, ◌≤◌, ◌⊎◌, ℕ, ◌%◌, true, false, List, length, slice_index, MatchOption};
+ghost use Rattle.encode_rre.specs.Subrectangles.{times, background_of, rows_of, row_at, subrectangles_in, subrectangles};
+ghost use Rattle.encode_hextile.specs.Palettes.{IsPaletteOf, HasSeveral, AreLong};
+
+use crate::TilePixels;
+use crate::scan::{row_of, stretch_from};
+use pixel_translate::PixelFormat;
+
+/// The background of a tile, and which pixels it has beside it.
+#[derive(Clone, Copy)]
+pub(crate) struct Palette {
+    pub(crate) background: u32,
+    pub(crate) others: TilePixels,
+}
+
+/// How often a pixel stands there. The count is as wide as a pixel, so that several are counted at once.
+fn count_of(pixels: &[u32], pixel: u32) -> usize
+    requires { length pixels.now ≤ 256 }
+    ensures { result ≡ times pixel pixels.now }
+{
+    let mut count = 0u32;
+    for p in pixels {
+        if *p == pixel {
+            count += 1;
+        }
+    }
+    count as usize
+}
+
+/// Whether a pixel that stands there `count` times is a better background than the best before it.
+fn is_better(pixel: u32, count: usize, best: u32, most: usize) -> bool
+    ensures yes { result ≡ true → (most < count) ⊎ ((most ≡ count) × (pixel < best)) }
+    ensures no { result ≡ false → (count ≤ most) × (most ≡ count → best ≤ pixel) }
+{
+    if most == count {
+        pixel < best
+    } else {
+        most < count
+    }
+}
+
+/// The background, and which pixel there is beside it, where there are at most two.
+fn few_pixels(pixels: &[u32]) -> Option<Palette>
+    requires some { 0 < length pixels.now }
+    requires few { length pixels.now ≤ 256 }
+    ensures { MatchOption result (HasSeveral pixels.now) (IsPaletteOf pixels.now) }
+{
+    let first = pixels[0];
+    let first_count = count_of(pixels, first);
+    if first_count == pixels.len() {
+        return Some(Palette {
+            background: first,
+            others: TilePixels::Alone,
+        });
+    }
+    let second = pixels[stretch_from(pixels, 0)];
+    let second_count = count_of(pixels, second);
+    if first_count + second_count < pixels.len() {
+        return None;
+    }
+    if is_better(second, second_count, first, first_count) {
+        Some(Palette {
+            background: second,
+            others: TilePixels::OneOther(first),
+        })
+    } else {
+        Some(Palette {
+            background: first,
+            others: TilePixels::OneOther(second),
+        })
+    }
+}
+
+/// In which of the buckets a pixel is counted.
+fn bucket_of(pixel: u32) -> usize
+    ensures value { result ≡ pixel % 251 }
+    ensures inside { result < 251 }
+{
+    pixel as usize % 251
+}
+
+/// How many pixels fall into each bucket: each pixel stands there at most as often.
+fn buckets_of(pixels: &[u32]) -> [u16; 251]
+    requires { length pixels.now ≤ 256 }
+    ensures { (pixel : ℕ) → times pixel pixels.now ≤ slice_index result (pixel % 251) }
+{
+    let mut buckets = [0; 251];
+    for pixel in pixels {
+        buckets[bucket_of(*pixel)] += 1;
+    }
+    buckets
+}
+
+/// How many pixels the fullest bucket has.
+fn fullest(buckets: &[u16; 251]) -> u16
+    ensures { (k : ℕ) → k < 251 → slice_index buckets.now k ≤ result }
+{
+    let mut most = 0;
+    for count in buckets {
+        most = most.max(*count);
+    }
+    most
+}
+
+/// The most frequent pixel, of several the smallest. A pixel is counted only where its bucket has
+/// as many as the best before it.
+fn most_frequent(pixels: &[u32], buckets: &[u16; 251]) -> u32
+    requires some { 0 < length pixels.now }
+    requires few { length pixels.now ≤ 256 }
+    requires counted { (pixel : ℕ) → times pixel pixels.now ≤ slice_index buckets.now (pixel % 251) }
+    ensures { result ≡ background_of pixels.now }
+{
+    let mut best = pixels[0];
+    let mut most = count_of(pixels, best);
+    for p in pixels {
+        let pixel = *p;
+        if is_better(pixel, usize::from(buckets[bucket_of(pixel)]), best, most) {
+            let count = count_of(pixels, pixel);
+            if is_better(pixel, count, best, most) {
+                best = pixel;
+                most = count;
+            }
+        }
+    }
+    best
+}
+
+/// Whether another pixel stands before a place of a row, and another above it.
+fn starts_at(row: &[u32], above: &[u32], x: usize) -> bool
+    requires before { 0 < x }
+    requires inside { x < length row.now }
+    requires len { length above.now ≡ length row.now }
+    ensures left { result ≡ true → slice_index row.now (x - 1) ≡ slice_index row.now x → ⊥ }
+    ensures top { result ≡ true → slice_index above.now x ≡ slice_index row.now x → ⊥ }
+{
+    row[x - 1] != row[x] && above[x] != row[x]
+}
+
+/// How many places of a row have another pixel than the place before them and the one above.
+fn starts_in(row: &[u32], above: &[u32]) -> usize
+    requires { length above.now ≡ length row.now }
+    ensures few { result ≤ length row.now }
+    ensures begin { (rows : List (List ℕ)) (y b : ℕ) → 0 < y → row_at rows y ≡ row.now → row_at rows (y - 1) ≡ above.now → result ≤ length (subrectangles_in b rows y) + times b row.now }
+{
+    let mut starts = 0;
+    for x in 1..row.len() {
+        if starts_at(row, above, x) {
+            starts += 1;
+        }
+    }
+    starts
+}
+
+/// A number of places at which subrectangles begin, but for those of the background.
+fn starts_of(pixels: &[u32], width: usize, height: usize) -> usize
+    requires whole { length pixels.now ≡ width * height }
+    requires columns { width ≤ 16 }
+    requires rows { height ≤ 16 }
+    ensures few { result ≤ 256 }
+    ensures begin { (b : ℕ) → result ≤ length (subrectangles b (rows_of width height pixels.now)) + times b pixels.now }
+{
+    let mut starts = 0;
+    for y in 1..height {
+        let above = row_of(pixels, width, height, y - 1);
+        starts += starts_in(row_of(pixels, width, height, y), above);
+    }
+    starts
+}
+
+/// Whether the subrectangles are surely as long as the pixels, whatever the background.
+fn is_noise(
+    pixels: &[u32],
+    width: usize,
+    height: usize,
+    format: &PixelFormat,
+    buckets: &[u16; 251],
+) -> bool
+    requires whole { length pixels.now ≡ width * height }
+    requires columns { width ≤ 16 }
+    requires rows { height ≤ 16 }
+    requires counted { (pixel : ℕ) → times pixel pixels.now ≤ slice_index buckets.now (pixel % 251) }
+    ensures { result ≡ true → (b : ℕ) → AreLong format.now width height pixels.now b }
+{
+    let pixel_len = format.bytes_per_pixel();
+    let starts = starts_of(pixels, width, height);
+    let others = starts.saturating_sub(usize::from(fullest(buckets)));
+    pixels.len() * pixel_len <= others * (pixel_len + 2)
+}
+
+/// The background, and which pixels there are beside it; or nothing, where these are several and
+/// their subrectangles are surely as long as the pixels.
+pub(crate) fn palette_of(
+    pixels: &[u32],
+    width: usize,
+    height: usize,
+    format: &PixelFormat,
+) -> Option<Palette>
+    requires some { 0 < length pixels.now }
+    requires whole { length pixels.now ≡ width * height }
+    requires columns { width ≤ 16 }
+    requires rows { height ≤ 16 }
+    ensures { MatchOption result (HasSeveral pixels.now × AreLong format.now width height pixels.now (background_of pixels.now)) (IsPaletteOf pixels.now) }
+{
+    if let Some(palette) = few_pixels(pixels) {
+        return Some(palette);
+    }
+    let buckets = buckets_of(pixels);
+    if is_noise(pixels, width, height, format, &buckets) {
+        return None;
+    }
+    Some(Palette {
+        background: most_frequent(pixels, &buckets),
+        others: TilePixels::Several,
+    })
+}
