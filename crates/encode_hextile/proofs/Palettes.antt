@@ -259,16 +259,16 @@ several ps b p q m = several_kind (beside b ps) none one
 -- ---- the background
 
 pub best_alone : (ps : List ℕ) (b : ℕ) → 0 < length ps → times b ps ≡ length ps → b ≡ background_of ps
-best_alone ps b some all = best_is ps b (length ps) some (record {
-  count = sym all;
+best_alone ps b some all = best_is ps (λ q. times q ps) b (length ps) (λ q. refl) some (record {
+  has = sym all;
   frequent = λ q. count_by-le-length (λ p. eqb p q) ps;
   smallest = λ q lt e. elim (cases_eq b q) [ inl h ↦ omega arith | inr h ↦ absurd (omega (arith, apart2 ps b q h, all, e, some)) ];
 })
 
 pub best_of_two : (ps : List ℕ) (p q : ℕ) → (p ≡ q → ⊥) → 0 < times p ps → times p ps + times q ps ≡ length ps
     → (times q ps < times p ps) ⊎ ((times q ps ≡ times p ps) × (p ≤ q)) → p ≡ background_of ps
-best_of_two ps p q ne some sum wins = best_is ps p (times p ps) (omega (arith, sum, some)) (record {
-  count = refl;
+best_of_two ps p q ne some sum wins = best_is ps (λ q. times q ps) p (times p ps) (λ q. refl) (omega (arith, sum, some)) (record {
+  has = refl;
   frequent = frequent;
   smallest = λ r lt e. elim (cases_eq p r) [
     | inl h ↦ omega arith
@@ -296,8 +296,8 @@ best_of_two ps p q ne some sum wins = best_is ps p (times p ps) (omega (arith, s
 
 -- none loses to another
 pub best_of_all : (ps : List ℕ) (b most : ℕ) → 0 < length ps → most ≡ times b ps → ((k : ℕ) → k < length ps → Loses ps b most (get_or ps k 0)) → b ≡ background_of ps
-best_of_all ps b most some count each = best_is ps b most some (record {
-  count = count;
+best_of_all ps b most some count each = best_is ps (λ q. times q ps) b most (λ q. refl) some (record {
+  has = count;
   frequent = λ q. elim (cases_lt 0 (times q ps)) [
     | inl lt ↦ (loses q lt).less
     | inr le ↦ omega arith
