@@ -1,22 +1,23 @@
 -- How long the bytes of subrectangles are.
-use Rattle.std.proofs.Common.{◌≡◌, ℕ, zero, suc, inl, inr, ◌+◌, ◌-◌, ◌*◌, ◌/◌, ◌<◌, ◌≤◌, ◌++◌, ◌&&◌, Bool, true, false, not, cond, eqb, map, filter, List, [], ◌∷◌, length, take, drop, get_or, refl, sym, ap, ◌∙◌, arith, length-append, append_assoc, append-nil}
+use Rattle.std.proofs.Common.{◌≡◌, ℕ, zero, suc, inl, inr, ◌+◌, ◌-◌, ◌*◌, ◌/◌, ◌<◌, ◌≤◌, ◌++◌, ◌&&◌, Bool, true, false, not, cond, eqb, map, filter, List, [], ◌∷◌, length, take, drop, get_or, slice_index, ◌⊎◌, subst, refl, sym, ap, ◌∙◌, arith, length-append, append_assoc, append-nil}
 use Rattle.std.specs.List.{flat_map, range_with_len}
 use Rattle.std.proofs.lemmas.Grind.{flat_map-append}
 use Rattle.std.proofs.Math.Nat.{suc-mul, zero-mul, mul-le-mul, mul-le-mul_right}
 use Rattle.std.proofs.Math.Seq.{take-length, take-add}
-use Rattle.std.proofs.lemmas.Bool.{eqb-true, eq-eqb, lt-ltb}
+use Rattle.std.proofs.lemmas.Bool.{eqb-true, eqb-false, eq-eqb, lt-ltb, cases_eq, cases_lt}
 use Rattle.std.proofs.lemmas.Bool.Decides.{eqb_tells}
-use Rattle.std.proofs.lemmas.List.{length-take-le, length-drop}
+use Rattle.std.proofs.lemmas.List.{length-take-le, length-drop, get_or-drop}
 use Rattle.std.proofs.lemmas.List.Sums.{count_by_more_yes, count_by_more_no, sum_by-append}
 use Rattle.pixel_translate.specs.declared.PixelFormat.{PixelFormat}
 use Rattle.pixel_translate.specs.declared.BitsPerPixel.{BitsPerPixel}
 use Rattle.pixel_translate.specs.declared.BitsPerPixel.TheVariants.{Eight, Sixteen, ThirtyTwo}
 use Rattle.pixel_translate.specs.Pixel.{bit_count, bytes_per_pixel, pixel_bytes}
 use Rattle.encode_rre.specs.declared.Subrectangle.{Subrectangle}
-use Rattle.encode_rre.specs.Subrectangles.{rows_of, row_at, times, background_of, begins_run, has_run, run_at, is_above, subrectangles_in, subrectangles, begins_subrectangle, subrectangle_from}
+use Rattle.encode_rre.specs.Subrectangles.{rows_of, row_at, times, background_of, begins_run, has_run, run_at, is_above, stretch, subrectangles_in, subrectangles, begins_subrectangle, subrectangle_from}
 use Rattle.encode_rre.proofs.Lengths.{pixel_length}
-use Rattle.encode_rre.proofs.Scans.{Step, found_before, one_more, some_run, row_is, row_more, fewer_rows, rows_count}
+use Rattle.encode_rre.proofs.Scans.{Step, found_before, one_more, some_run, stretch_is, run_same, row_is, row_more, fewer_rows, rows_count}
 use Rattle.encode_rre.proofs.MostFrequent.{finds_the_background}
+use Rattle.encode_rre.proofs.Runs.{Front, prefix_is}
 use Rattle.encode_rre.proofs.Paint.{and_true}
 use Rattle.encode_hextile.specs.Hextile.{subrectangle_bytes}
 
@@ -288,3 +289,72 @@ pub same_row : (b : ℕ) (rows : List (List ℕ)) (y : ℕ) (sb : Subrectangle �
 same_row b rows y sb old lt e =
     sym (ap (λ (t : List Subrectangle). old ++ flat_map sb t)
     (none_pass (begins_subrectangle b rows y) (subrectangle_from rows y) (range_with_len 0 (length (row_at rows y))) (λ x. none_in_same b rows y x lt e)) ∙ append-nil old)
+
+-- ---- stretches, from the right
+
+-- a stretch ends with the row, or before another pixel
+record Ends (row : List ℕ) (x n : ℕ) : Type 0 where
+  within : x + n ≤ length row
+  stops : x + n < length row → get_or row (x + n) 0 ≡ get_or row x 0 → ⊥
+
+stretch_ends : (row : List ℕ) (x n : ℕ) → x < length row → n ≡ stretch row x → Ends row x n
+stretch_ends row x n inside e = record {
+  within = omega (arith, front.within, length-drop x row, inside);
+  stops = λ lt q. eqb-false _ _ (front.stops (omega (arith, lt, length-drop x row))) (get_or-drop x row n 0 ∙ q);
+}
+  where
+    test : ℕ → Bool
+    test p = eqb p (slice_index row x)
+
+    front : Front test 0 (drop x row) n
+    front = subst (Front test 0 (drop x row)) (sym e) (prefix_is test 0 (drop x row))
+
+last_stretch : (row : List ℕ) (x : ℕ) → x + 1 ≡ length row → 1 ≡ stretch row x
+last_stretch row x e = stretch_is row x 1 (omega (arith, e)) (λ k le lt. ap (λ (i : ℕ). get_or row i 0) (let q : k ≡ x = omega arith in q)) (λ lt q. absurd (omega (arith, lt, e)))
+
+other_stretch : (row : List ℕ) (x : ℕ) → x + 1 < length row → (get_or row x 0 ≡ get_or row (x + 1) 0 → ⊥) → 1 ≡ stretch row x
+other_stretch row x lt ne = stretch_is row x 1 (omega arith) (λ k le below. ap (λ (i : ℕ). get_or row i 0) (let q : k ≡ x = omega arith in q)) (λ less q. ne (sym q))
+
+same_stretch : (row : List ℕ) (x n : ℕ) → x + 1 < length row → get_or row x 0 ≡ get_or row (x + 1) 0 → n ≡ stretch row (x + 1) → n + 1 ≡ stretch row x
+same_stretch row x n lt e h =
+    stretch_is row x (n + 1) (omega (arith, ends.within)) (λ k le below. elim (cases_eq k x) [
+      | inl q ↦ ap (λ (i : ℕ). get_or row i 0) q
+      | inr ne ↦ run_same row (x + 1) n lt h k (omega arith) (omega (arith, below)) ∙ sym e
+    ])
+    (λ less q. ends.stops (omega (arith, less)) (ap (λ (i : ℕ). get_or row i 0) (let z : x + 1 + n ≡ x + (n + 1) = omega arith in z) ∙ q ∙ e))
+  where
+    ends : Ends row (x + 1) n
+    ends = stretch_ends row (x + 1) n lt h
+
+-- one place more, where the one after it is known
+pub one_stretch : (row : List ℕ) (k after width now : ℕ) → k < length row → (0 < k → (after ≡ get_or row (length row - k) 0) × (width ≡ stretch row (length row - k))) → width ≤ k
+    → ((get_or row (length row - 1 - k) 0 ≡ after) × (now ≡ width + 1)) ⊎ ((get_or row (length row - 1 - k) 0 ≡ after → ⊥) × (now ≡ 1)) → now ≡ stretch row (length row - 1 - k)
+one_stretch row k after width now lt first few cases = elim (cases_lt 0 k) [
+  | inl some ↦
+      let f = first some in
+      let next : length row - k ≡ x + 1 = omega (arith, lt, some) in
+      let there : after ≡ get_or row (x + 1) 0 = f.0 ∙ ap (λ (i : ℕ). get_or row i 0) next in
+      elim cases [
+        | inl c ↦ c.1 ∙ same_stretch row x width (omega (arith, lt, some)) (c.0 ∙ there) (f.1 ∙ ap (stretch row) next)
+        | inr c ↦ c.1 ∙ other_stretch row x (omega (arith, lt, some)) (λ q. c.0 (q ∙ sym there))
+      ]
+  | inr le ↦
+      let one : now ≡ 1 = elim cases [ inl c ↦ omega (arith, c.1, few, le) | inr c ↦ c.1 ] in
+      one ∙ last_stretch row x (omega (arith, lt, le))
+]
+  where
+    x : ℕ
+    x = length row - 1 - k
+
+-- a stretch has a pixel, and lies within its row
+pub stretch_some : (row : List ℕ) (x n : ℕ) → x < length row → n ≡ stretch row x → 0 < n
+stretch_some row x n inside e = elim (cases_lt 0 n) [
+  | inl lt ↦ lt
+  | inr le ↦ absurd (ends.stops (omega (arith, le, inside)) (ap (λ (i : ℕ). get_or row i 0) (let q : x + n ≡ x = omega (arith, le) in q)))
+]
+  where
+    ends : Ends row x n
+    ends = stretch_ends row x n inside e
+
+pub stretch_within : (row : List ℕ) (x n : ℕ) → x < length row → n ≡ stretch row x → x + n ≤ length row
+stretch_within row x n inside e = (stretch_ends row x n inside e).within

@@ -1,6 +1,6 @@
 //! The subrectangles of a tile, found row by row and written as bytes.
 
-ghost use Rattle.std.specs.Prelude.{◌≡◌, ◌+◌, ◌-◌, ◌*◌, ◌<◌, ◌≤◌, ◌++◌, [], true, length, drop, flat_map, MatchOption, if◌then◌else◌};
+ghost use Rattle.std.specs.Prelude.{◌≡◌, ℕ, ◌+◌, ◌-◌, ◌*◌, ◌<◌, ◌≤◌, ◌++◌, [], true, length, drop, slice_index, flat_map, MatchOption, if◌then◌else◌};
 ghost use Rattle.std.specs.List.{prefix_len};
 ghost use Rattle.pixel_translate.specs.Pixel.{pixel_bytes, bytes_per_pixel};
 ghost use Rattle.arrayvec.specs.ArrayVec.{array_vec_len};
@@ -36,6 +36,35 @@ pub(crate) fn stretch_from(row: &[u32], start: usize) -> usize
         }
     }
     row.len() - start
+}
+
+/// How many pixels are the same from each place of a row on, found from the right with no branch.
+fn widths_of(row: &[u32]) -> [u8; 16]
+    requires { length row.now ≤ 16 }
+    ensures { (x : ℕ) → x < length row.now → slice_index result x ≡ stretch row.now x }
+{
+    let mut widths = [0; 16];
+    let mut width = 0;
+    let mut after = 0;
+    for k in 0..row.len() {
+        let x = row.len() - 1 - k;
+        width = if row[x] == after { width + 1 } else { 1 };
+        after = row[x];
+        widths[x] = width;
+    }
+    widths
+}
+
+/// How many pixels are the same from a place on, where that is known of each place.
+fn width_at(row: &[u32], widths: &[u8; 16], x: usize) -> usize
+    requires inside { x < length row.now }
+    requires narrow { length row.now ≤ 16 }
+    requires known { (k : ℕ) → k < length row.now → slice_index widths.now k ≡ stretch row.now k }
+    ensures same { result ≡ stretch row.now x }
+    ensures some { 0 < result }
+    ensures within { x + result ≤ length row.now }
+{
+    usize::from(widths[x])
 }
 
 /// Whether a run begins at a place of the row.
@@ -188,11 +217,12 @@ fn put_row(
         return;
     }
     let row = row_of(pixels, width, height, y);
+    let widths = widths_of(row);
     let mut x = 0;
     while x < width {
         let run = Stretch {
             x,
-            w: stretch_from(row, x),
+            w: width_at(row, &widths, x),
             pixel: row[x],
         };
         if begins_with(pixels, width, height, background, y, run) {
