@@ -1,7 +1,8 @@
 -- Values by place, by the number of the place.
-use Rattle.std.proofs.Common.{◌&&◌, zero, suc, map, not, zero-add, Bool, ◌||◌, take, refl, ◌≡◌, ℕ, ◌+◌, ◌*◌, ◌/◌, ◌%◌, ◌<◌, ◌≤◌, true, false, cond, List, length, get_or, sym, ◌∙◌, ap, arith, mul_comm, set, inl, inr}
+use Rattle.std.proofs.Common.{◌&&◌, zero, suc, map, not, zero-add, Bool, ◌||◌, take, [], ◌∷◌, refl, ◌≡◌, ℕ, ◌+◌, ◌*◌, ◌/◌, ◌%◌, ◌<◌, ◌≤◌, true, false, cond, List, length, get_or, sym, ◌∙◌, ap, arith, mul_comm, set, inl, inr}
 use Rattle.std.proofs.lemmas.Bool.Decides.{leb_tells}
-use Rattle.std.specs.Prelude.{ℤ, pos, ◌-ℤ◌}
+use Rattle.std.specs.Prelude.{ℤ, pos, ◌-ℤ◌, nat_abs}
+use mathlib.Core.Path.{fun_ext}
 use Rattle.std.specs.Vec.{with_items}
 use Rattle.std.specs.Global.{Vec}
 use Rattle.std.proofs.lemmas.List.{with_items_is}
@@ -165,3 +166,16 @@ forgotten-filled m r window awaiting before filled between new some was size sam
       done k Clean (omega (arith, same_new, n_new)) ∙ ap (λ b. cond b (uncopied (get_or between k Clean)) (get_or between k Clean)) (window_number r m.offset m.width m.height awaiting k some below is_awaiting)
           ∙ ap (λ z. cond (in_rect r (pos (k % m.width) -ℤ m.offset.0) (pos (k / m.width) -ℤ m.offset.1)) (uncopied z) z) (ap (λ marks. get_or marks k Clean) join),
     ))
+
+-- a test of the marks, place by place
+mapped-get_or : (f : Mark → Bool) → f Clean ≡ false → (marks : List Mark) (k : ℕ) → get_or (map f marks) k false ≡ f (get_or marks k Clean)
+mapped-get_or f none [] k = sym none
+mapped-get_or f none (m ∷ marks) zero = refl
+mapped-get_or f none (m ∷ marks) (suc k) = mapped-get_or f none marks k
+
+pub mapped_at : (f : Mark → Bool) → f Clean ≡ false → (w h : ℕ) (marks : List Mark) → at_place false w h (map f marks) ≡ (λ x y. f (at_place Clean w h marks x y))
+mapped_at f none w h marks = fun_ext (λ x. fun_ext (λ y. go (on_screen w h x y) (nat_abs y * w + nat_abs x)))
+  where
+    go : (b : Bool) (k : ℕ) → cond b (get_or (map f marks) k false) false ≡ f (cond b (get_or marks k Clean) Clean)
+    go true k = mapped-get_or f none marks k
+    go false k = sym none

@@ -32,6 +32,11 @@ is_owed Clean = false
 is_owed Copied = false
 is_owed Owed = true
 
+abbrev pub is_mark : Mark → Mark → Bool
+is_mark Clean m = is_clean m
+is_mark Copied m = is_copied m
+is_mark Owed m = is_owed m
+
 -- the mark, but Owed in place of Copied
 abbrev pub uncopied : Mark → Mark
 uncopied Clean = Clean

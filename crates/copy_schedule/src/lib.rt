@@ -9,9 +9,9 @@
 //! `places::settle`, it is one whether a rectangle went as a copy or as pixels, so it may take the two lists in either order.
 #![tactic(auto)]
 
-ghost use Rattle.std.specs.Prelude.{◌≡◌, ◌*◌, ◌^◌, ◌≤◌, IfOk, IfSome, OnOk, OnErr, option_map};
-ghost use Rattle.copy_schedule.specs.Marks.{new_marks, marked, copied_by, same_offset, without_copyrect, requested, pending, cut_of, cut_of_sent, marks_after, copies_of, pixels_of, after_sending, IsInside, HasSourcesInside, IsWithin};
-ghost use Rattle.region.specs.Region.{covers, in_rect};
+ghost use Rattle.std.specs.Prelude.{◌≡◌, false, ◌*◌, ◌^◌, ◌≤◌, IfOk, IfSome, OnOk, OnErr, option_map};
+ghost use Rattle.copy_schedule.specs.Marks.{is_clean, is_owed, is_copied, is_mark, mark_at, asked_at, new_marks, marked, copied_by, same_offset, without_copyrect, requested, pending, cut_of, cut_of_sent, marks_after, copies_of, pixels_of, after_sending, IsInside, HasSourcesInside, IsWithin};
+ghost use Rattle.region.specs.Region.{covers, in_rect, rects_of};
 
 mod copies;
 mod places;
@@ -243,6 +243,42 @@ impl Marks {
         ensures { result ≡ self.now.offset }
     {
         (self.offset_x, self.offset_y)
+    }
+
+    /// The owed places, as their canonical list. `AllocError` where memory for it, or for a byte a place, is refused.
+    pub fn modified(&self, alloc: Global) -> Result<Listed<Rect>, AllocError>
+        ensures { IfOk result (λ rects. rects ≡ rects_of self.now.width self.now.height (λ x y. is_owed (mark_at self.now x y))) }
+    {
+        let rects = self.rects_marked(alloc, Mark::Owed)?;
+        Ok(Listed::from_vec(rects))
+    }
+
+    /// The places that await a copy, as their canonical list. `AllocError` where memory for it, or for a byte a place, is
+    /// refused.
+    pub fn copied(&self, alloc: Global) -> Result<Listed<Rect>, AllocError>
+        ensures { IfOk result (λ rects. rects ≡ rects_of self.now.width self.now.height (λ x y. is_copied (mark_at self.now x y))) }
+    {
+        let rects = self.rects_marked(alloc, Mark::Copied)?;
+        Ok(Listed::from_vec(rects))
+    }
+
+    /// The places that are asked for, as their canonical list. `AllocError` where memory for it is refused.
+    pub fn requested(&self, alloc: Global) -> Result<Listed<Rect>, AllocError>
+        ensures { IfOk result (λ rects. rects ≡ rects_of self.now.width self.now.height (asked_at self.now)) }
+    {
+        let (width, height) = (self.width as usize, self.height as usize);
+        let rects = rects::all_rects(alloc, width, height, &self.asked_places)?;
+        Ok(Listed::from_vec(rects))
+    }
+
+    // The canonical list of the places that have a mark other than `Clean`.
+    fn rects_marked(&self, alloc: Global, mark: Mark) -> Result<Vec<Rect>, AllocError>
+        requires { is_clean mark ≡ false }
+        ensures { IfOk result (λ rects. rects.items ≡ rects_of self.now.width self.now.height (λ x y. is_mark mark (mark_at self.now x y))) }
+    {
+        let (width, height) = (self.width as usize, self.height as usize);
+        let chosen = places::marked_places(alloc, &self.places, mark)?;
+        rects::all_rects(alloc, width, height, &chosen)
     }
 
     fn has_offset(&self, dx: i32, dy: i32) -> bool

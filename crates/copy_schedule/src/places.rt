@@ -1,8 +1,8 @@
 //! Values by place, row by row: windows of a screen, and what is done to all places of one.
 
-ghost use Rattle.std.specs.Prelude.{◌≡◌, ℕ, ◌+◌, ◌*◌, ◌/◌, ◌%◌, ◌^◌, ◌<◌, ◌≤◌, length, pos, false, ◌-ℤ◌, ◌+ℤ◌, ◌||◌, not, IfOk, MatchOption, ◌&&◌, int_le, int_lt, nat_le, nat_lt, slice_index_or, if◌then◌else◌};
+ghost use Rattle.std.specs.Prelude.{◌≡◌, ℕ, map, ◌+◌, ◌*◌, ◌/◌, ◌%◌, ◌^◌, ◌<◌, ◌≤◌, length, pos, false, ◌-ℤ◌, ◌+ℤ◌, ◌||◌, not, IfOk, MatchOption, ◌&&◌, int_le, int_lt, nat_le, nat_lt, slice_index_or, if◌then◌else◌};
 ghost use Rattle.copy_schedule.specs.declared.Mark.{Mark};
-ghost use Rattle.copy_schedule.specs.Marks.{is_clean, is_copied, uncopied, is_wanted};
+ghost use Rattle.copy_schedule.specs.Marks.{is_clean, is_copied, is_mark, uncopied, is_wanted};
 ghost use Rattle.copy_schedule.specs.Places.{at_place, IsPlaceNumber};
 ghost use Rattle.copy_schedule.specs.Windows.{in_window};
 ghost use Rattle.region.specs.Region.{in_rect, covers, on_screen};
@@ -296,6 +296,23 @@ pub fn copyable_places(
         chosen[i] = is_copyable(*mark, asked, i, dx, dy, width, height);
     }
     Ok(chosen)
+}
+
+/// The places that have a mark.
+pub fn marked_places(alloc: Global, marks: &[Mark], mark: Mark) -> Result<Vec<bool>, AllocError>
+    ensures { IfOk result (λ chosen. chosen.items ≡ map (is_mark mark) marks.now) }
+{
+    let mut chosen = Vec::with_capacity(alloc, marks.len())?;
+    for place in marks {
+        chosen.push(has_mark(*place, mark))?;
+    }
+    Ok(chosen)
+}
+
+fn has_mark(place: Mark, mark: Mark) -> bool
+    ensures { result ≡ is_mark mark place }
+{
+    place == mark
 }
 
 /// Chooses the wanted places that were not chosen.

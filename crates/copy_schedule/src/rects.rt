@@ -115,6 +115,21 @@ pub fn rects_where(
     Ok(rects)
 }
 
+/// The canonical list of the chosen places of a screen.
+pub fn all_rects(
+    alloc: Global,
+    width: usize,
+    height: usize,
+    chosen: &[bool],
+) -> Result<Vec<Rect>, AllocError>
+    requires columns { width ≤ 2 ^ 24 }
+    requires rows { height ≤ 2 ^ 24 }
+    requires size { length chosen.now ≡ width * height }
+    ensures { IfOk result (λ rects. rects.items ≡ rects_of width height (at_place false width height chosen.now)) }
+{
+    rects_where(alloc, width, height, chosen, chosen.len())
+}
+
 /// The end of the band that begins at `start`: of the rectangles that begin in one row.
 fn rects_end(rects: &[Rect], start: usize) -> usize
     requires { start < length rects.now }
@@ -187,7 +202,7 @@ pub fn copies_where(
     if !has_chosen(chosen) {
         return Ok(Vec::new(alloc));
     }
-    let mut rects = rects_where(alloc, width, height, chosen, chosen.len())?;
+    let mut rects = all_rects(alloc, width, height, chosen)?;
     put_in_order(&mut rects, dx > 0, dy > 0);
     rects.truncate(limit);
     Ok(rects)

@@ -361,3 +361,13 @@ room_next most room left here rs i d so_far below is fits = omega (arith, so_far
 
 pub room_short : (most room left here : ℕ) (rs : List Rect) (i : ℕ) (d : Rect) → left + rows_in_all most (take i rs) ≡ room → i < length rs → here ≡ min (rows (get_or rs i d)) most → left < here → room < rows_in_all most rs
 room_short most room left here rs i d so_far below is less = omega (arith, so_far, rows_next most rs i d below ∙ ap (λ n. rows_in_all most (take i rs) + n) (sym is), rows_part most rs (i + 1), less)
+
+-- a sum that saturates
+pub added_least : (sum total here next most : ℕ) → sum ≤ total → sum ≤ most → next ≡ min (total + here) most → sum ≤ next
+added_least sum total here next most h room is = omega (arith, h, room, is)
+
+pub added_exact : (sum total here next most before after : ℕ) → (total < most → total ≡ sum + before) → next ≡ min (total + here) most → after ≡ before + here → next < most → next ≡ sum + after
+added_exact sum total here next most before after exact is more below =
+    let small : total < most = omega (arith, is, below) in
+    let e : total ≡ sum + before = exact small in
+    omega (arith, e, is, more, below)

@@ -6,23 +6,18 @@ ghost use Rattle.region.specs.Bands.{rows, rows_in_all, need};
 use crate::Rect;
 use std::alloc::{AllocError, Global};
 
-/// How many rows a rectangle has.
-fn rows_of(rect: &Rect) -> usize
-    ensures { result ≡ rows rect.now }
+/// How many rows a rectangle has, but not more than `most`.
+fn counted(rect: &Rect, most: usize) -> usize
+    ensures { result ≡ min (rows rect.now) most }
 {
     let top = rect.y1;
     let bottom = rect.y2;
-    if top < bottom {
+    let count = if top < bottom {
         (i64::from(bottom) - i64::from(top)) as usize
     } else {
         0
-    }
-}
-
-fn lesser(a: usize, b: usize) -> usize
-    ensures { result ≡ min a b }
-{
-    if a < b { a } else { b }
+    };
+    if count < most { count } else { most }
 }
 
 /// What is left of the room behind the rows of a list, of which no rectangle counts more than so often.
@@ -32,7 +27,7 @@ fn room_left(list: &[Rect], most: usize, room: usize) -> Option<usize>
 {
     let mut left = room;
     for i in 0..list.len() {
-        let rows = lesser(rows_of(&list[i]), most);
+        let rows = counted(&list[i], most);
         if left < rows {
             return None;
         }
@@ -58,13 +53,16 @@ pub(crate) fn is_enough(first: &[Rect], second: &[Rect], room: usize) -> bool
     }
 }
 
-/// How many rectangles are enough; less where the number is too large.
-fn rows_in_list(list: &[Rect], most: usize, sum: usize) -> usize {
-    let mut sum = sum;
+/// The sum and the rows of a list, of which no rectangle counts more than so often; `usize::MAX` where that is too large.
+fn rows_added(sum: usize, list: &[Rect], most: usize) -> usize
+    ensures least { sum ≤ result }
+    ensures exact { result < usize.MAX → result ≡ sum + rows_in_all most list.now }
+{
+    let mut total = sum;
     for i in 0..list.len() {
-        sum = sum.saturating_add(lesser(rows_of(&list[i]), most));
+        total = total.saturating_add(counted(&list[i], most));
     }
-    sum
+    total
 }
 
 /// A list with room for what is kept of two lists.
@@ -77,12 +75,10 @@ pub(crate) fn with_room(
     ensures room { IfOk result (λ out. need first.now second.now ≤ vec_capacity out) }
 {
     let most = most_rows(first, second);
-    let out = Vec::with_capacity(
-        alloc,
-        rows_in_list(second, most, rows_in_list(first, most, 0)),
-    )?;
-    if !is_enough(first, second, out.capacity()) {
+    let half = rows_added(0, first, most);
+    let total = rows_added(half, second, most);
+    if total == usize::MAX {
         return Err(AllocError);
     }
-    Ok(out)
+    Vec::with_capacity(alloc, total)
 }

@@ -16,7 +16,7 @@ returns c =
     let dy : FitsSigned w32 c.args.dy = c.ranges.dy in
     let all = rects_of c.args.width c.args.height (at_place false c.args.width c.args.height c.args.chosen.now) in
     let few : length all ≤ length c.args.chosen.now = subst (λ n. length all ≤ n) (sym c.requires.size) (length-rects_of c.args.width c.args.height (at_place false c.args.width c.args.height c.args.chosen.now)) in
-    let was = c.deref_mut.ensures.value ∙ c.in_ok-rects.ensures ∙ take_all (length c.args.chosen.now) all few in
+    let was = c.deref_mut.ensures.value ∙ c.in_ok-rects.ensures in
     c.truncate.ensures.items ∙ ap (take c.args.limit) (
     written c.in_ok-rects.rects c.deref_mut.result.now c.put_in_order.new.rects c.deref_mut.ensures.value c.put_in_order.auto.rects
     ∙ simp to_z-of_z at c.put_in_order.ensures ∙ ap (in_order (int_lt (pos 0) c.args.dx) (int_lt (pos 0) c.args.dy)) was)
