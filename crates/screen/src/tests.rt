@@ -1,7 +1,19 @@
+//! What no clause says of a screen: that each call succeeds where there is memory, and the bytes of worked
+//! examples, written out from RFC 6143. `copies` has the calls that copy, `marks` the other drawing calls, `bells`
+//! the notices, and `events` whole lists of events, also where an allocation fails. `steps` compares long runs with
+//! the plain picture and the plain viewers of `plain`.
+
+mod bells;
+mod copies;
+mod events;
+mod marks;
+mod plain;
+mod steps;
+
 use crate::{Answer, Config, Event, Screen, ScreenError, run};
 use listed::Listed;
 use messages::Fault;
-use region::Rect;
+use region::{Rect, Region, RegionError};
 use std::alloc::{AllocError, Global};
 use std::process::Abort;
 use std::test::Fail;
@@ -57,6 +69,68 @@ fn paint(alloc: Global, rect: Rect, colours: &[u32]) -> Result<Event, AllocError
         rect,
         colours: Listed::from_vec(colours.to_vec(alloc)?),
     })
+}
+
+/// SetEncodings with CopyRect and Raw.
+const WITH_COPYRECT: &[u8] = b"\x02\x00\x00\x02\x00\x00\x00\x01\x00\x00\x00\x00";
+
+/// A request of a rectangle.
+fn request(incremental: bool, x: u16, y: u16, w: u16, h: u16) -> [u8; 10] {
+    let [x1, x0] = x.to_be_bytes();
+    let [y1, y0] = y.to_be_bytes();
+    let [w1, w0] = w.to_be_bytes();
+    let [h1, h0] = h.to_be_bytes();
+    [3, u8::from(incremental), x1, x0, y1, y0, w1, w0, h1, h0]
+}
+
+/// A viewer opens, sends more, and is sent the whole screen.
+fn seat(
+    screen: &mut Screen,
+    viewer: u64,
+    (w, h): (u16, u16),
+    more: &[u8],
+) -> Result<(), ScreenError> {
+    screen.connect(viewer)?;
+    screen.hear(viewer, OPENING)?;
+    screen.hear(viewer, more)?;
+    screen.hear(viewer, &request(false, 0, 0, w, h))?;
+    screen.cut(viewer)?;
+    Ok(())
+}
+
+/// A screen of some size with these colours, row by row, and viewer 1, which uses CopyRect and was sent all of it.
+fn shown(alloc: Global, (w, h): (u16, u16), colours: &[u32]) -> Result<Screen, ScreenError> {
+    let size = config(alloc, u32::from(w), u32::from(h), b"", 50)?;
+    let mut screen = Screen::new(alloc, size)?;
+    screen.paint(rect(0, 0, i32::from(w), i32::from(h)), colours)?;
+    seat(&mut screen, 1, (w, h), WITH_COPYRECT)?;
+    Ok(screen)
+}
+
+fn region(alloc: Global, rect: Rect) -> Result<Region, ScreenError> {
+    match Region::from_rect(alloc, rect) {
+        Ok(region) => Ok(region),
+        Err(RegionError::OutOfRange) => Err(ScreenError::BadRect),
+        Err(RegionError::OutOfMemory) => Err(ScreenError::OutOfMemory),
+    }
+}
+
+/// The viewer is sent these bytes now, or nothing where there are none.
+fn expect_sent(
+    rt: &impl Abort,
+    screen: &mut Screen,
+    viewer: u64,
+    bytes: &[u8],
+) -> Result<(), ScreenError> {
+    assert_eq!(rt; screen.pending(viewer)?, !bytes.is_empty());
+    match screen.cut(viewer)? {
+        Some(update) => {
+            let sent = update.encode()?;
+            assert_eq!(rt; sent.as_slice(), bytes);
+        }
+        None => assert!(rt; bytes.is_empty()),
+    }
+    Ok(())
 }
 
 fn expect_bytes(rt: &impl Abort, answer: &Answer, bytes: &[u8]) {
