@@ -278,19 +278,34 @@ fn the_marked_places_are_listed(rt: HostRuntime) -> Result<(), Fail> {
     let alloc = rt.alloc();
     let none: [Rect; 0] = [];
     let mut marks = Marks::new(alloc, 4, 1)?;
-    assert_eq!(rt; marks.modified(alloc)?.as_slice(), [rect(0, 0, 4, 1)].as_slice());
+    assert_eq!(rt;
+        marks.modified(alloc)?.as_slice(),
+        [rect(0, 0, 4, 1)].as_slice()
+    );
     assert_eq!(rt; marks.copied(alloc)?.as_slice(), none.as_slice());
     assert_eq!(rt; marks.requested(alloc)?.as_slice(), none.as_slice());
     marks.request(rect(1, 0, 3, 1), false);
-    assert_eq!(rt; marks.requested(alloc)?.as_slice(), [rect(1, 0, 3, 1)].as_slice());
+    assert_eq!(rt;
+        marks.requested(alloc)?.as_slice(),
+        [rect(1, 0, 3, 1)].as_slice()
+    );
     marks.request(ALL, false);
     let _ = marks.cut(alloc, 50)?;
     assert_eq!(rt; marks.modified(alloc)?.as_slice(), none.as_slice());
     marks.mark(&[rect(1, 0, 2, 1)]);
     marks.copy(alloc, &[rect(3, 0, 4, 1)], 1, 0, true)?;
-    assert_eq!(rt; marks.copied(alloc)?.as_slice(), [rect(3, 0, 4, 1)].as_slice());
-    assert_eq!(rt; marks.modified(alloc)?.as_slice(), [rect(1, 0, 2, 1)].as_slice());
+    assert_eq!(rt;
+        marks.copied(alloc)?.as_slice(),
+        [rect(3, 0, 4, 1)].as_slice()
+    );
+    assert_eq!(rt;
+        marks.modified(alloc)?.as_slice(),
+        [rect(1, 0, 2, 1)].as_slice()
+    );
     marks.no_copyrect();
-    assert_eq!(rt; marks.modified(alloc)?.as_slice(), [rect(1, 0, 2, 1), rect(3, 0, 4, 1)].as_slice());
+    assert_eq!(rt;
+        marks.modified(alloc)?.as_slice(),
+        [rect(1, 0, 2, 1), rect(3, 0, 4, 1)].as_slice()
+    );
     Ok(())
 }

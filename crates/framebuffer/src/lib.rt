@@ -5,12 +5,12 @@
 #![tactic(auto)]
 
 mod blocks;
-mod spans;
 mod moves;
+mod spans;
 
 pub use blocks::{Block, block_of, block_within, read_block, replace};
-pub use spans::{destinations, straightened};
 pub use moves::move_colours;
+pub use spans::{destinations, straightened};
 
 #[cfg(test)]
 mod tests;

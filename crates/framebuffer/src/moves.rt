@@ -95,7 +95,13 @@ fn move_to_row(
     let from = source as usize * columns;
     let to = y as usize * columns;
     buffer.copy_from_slice(&picture[from..from + columns]);
-    move_row(&mut picture[to..to + columns], buffer, pieces, y as i32, offset.0);
+    move_row(
+        &mut picture[to..to + columns],
+        buffer,
+        pieces,
+        y as i32,
+        offset.0,
+    );
 }
 
 /// The row that comes after n others: from the bottom, or from the top.

@@ -159,16 +159,16 @@ fn marked_rectangles(rt: HostRuntime) -> Result<(), Fail> {
     let rows: [(&[u8], [i32; 4]); 3] = [
         (b"mark 1 1 0 0", [1, 1, 0, 0]),
         (b"mark -1 -02 3 -0", [-1, -2, 3, 0]),
-        (
-            b"mark -2147483647 0 2147483647 1",
-            [least, 0, i32::MAX, 1],
-        ),
+        (b"mark -2147483647 0 2147483647 1", [least, 0, i32::MAX, 1]),
     ];
     for (line, [x1, y1, x2, y2]) in rows {
         let Line::Do(Event::Mark { rects }) = parse_line(rt.alloc(), line)? else {
             return Err("no rectangle".into());
         };
-        assert!(rt; rects.as_slice() == [Rect { x1, y1, x2, y2 }].as_slice(), "{line:?}");
+        assert!(rt;
+            rects.as_slice() == [Rect { x1, y1, x2, y2 }].as_slice(),
+            "{line:?}"
+        );
     }
     Ok(())
 }

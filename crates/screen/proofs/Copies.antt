@@ -52,7 +52,7 @@ some_of w h r rects on =
     let fits : k < w * h = (let up : (y + 1) * w ≤ h * w = mul-le-mul_right w (omega arith) in let e = mul_comm w h in omega (arith, up, e, left)) in
     let value : ℕ → Bool = λ i. covers (r ∷ rects) (pos (i % w)) (pos (i / w)) in
     let here : value k ≡ true = ap (λ a. covers (r ∷ rects) (pos a) (pos (k / w))) (mod-mul-add y w x left) ∙ ap (λ b. covers (r ∷ rects) (pos x) (pos b)) (div-mul-add y w x left)
-        ∙ ap (λ a. covers (r ∷ rects) a (pos y)) is_x ∙ ap (covers (r ∷ rects) r.x1) is_y ∙ ap (λ b. b || covers rects r.x1 r.y1) (corner r on.columns on.rows) in
+    ∙ ap (λ a. covers (r ∷ rects) a (pos y)) is_x ∙ ap (covers (r ∷ rects) r.x1) is_y ∙ ap (λ b. b || covers rects r.x1 r.y1) (corner r on.columns on.rows) in
     list_any_at (λ b. b) (map value (range_with_len 0 (w * h))) k false (let n = length-map-range_with_len value 0 (w * h) in omega (arith, n, fits))
     (get_or-map-range_with_len value 0 (w * h) k k false fits (omega arith) ∙ here)
 

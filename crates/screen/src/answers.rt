@@ -8,7 +8,10 @@ use listed::Listed;
 use std::alloc::{AllocError, Global};
 
 /// Bytes for the viewer, and nothing else.
-pub fn with_bytes(alloc: Global, given: Result<Listed<u8>, ScreenError>) -> Result<Answer, ScreenError>
+pub fn with_bytes(
+    alloc: Global,
+    given: Result<Listed<u8>, ScreenError>,
+) -> Result<Answer, ScreenError>
     ensures { MatchResult given (λ bytes. result ≡ Ok (gives bytes)) (λ e. result ≡ Err e) }
 {
     let bytes = given?;

@@ -148,12 +148,7 @@ fn rectangles_of(
 }
 
 /// The rectangles that a viewer is sent next, and its marks once they are sent; none where no place is wanted.
-fn plan(
-    alloc: Global,
-    config: &Config,
-    picture: &[u32],
-    seat: &Seat,
-) -> Result<Planned, AllocError>
+fn plan(alloc: Global, config: &Config, picture: &[u32], seat: &Seat) -> Result<Planned, AllocError>
     requires size { length picture.now ≡ config.now.width * config.now.height }
     requires width { config.now.width ≤ 8192 }
     requires height { config.now.height ≤ 8192 }

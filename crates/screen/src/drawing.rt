@@ -111,12 +111,7 @@ pub fn all_copied_marks(
 }
 
 /// Each viewer's marks are these from now on, which a copy by (dx, dy) that drew the rectangles left.
-pub fn put_all_marks(
-    seats: &mut Vec<Seat>,
-    rects: &[Rect],
-    offset: (i32, i32),
-    all: Vec<Marks>,
-)
+pub fn put_all_marks(seats: &mut Vec<Seat>, rects: &[Rect], offset: (i32, i32), all: Vec<Marks>)
     requires { all.items ≡ map (marks_copied rects.now offset) seats.old.items }
     ensures { seats.new.items ≡ map (seat_with (marks_copied rects.now offset)) seats.old.items }
 {

@@ -83,12 +83,20 @@ impl<T: Drop> From<AllocFailed<T>> for ScreenError {
 #[derive(Debug, Drop)]
 pub enum Event {
     /// The rectangle's colours `0x00RRGGBB`, row by row, replace those of the picture; no viewer is told.
-    Write { rect: Rect, colours: Listed<u32> },
+    Write {
+        rect: Rect,
+        colours: Listed<u32>,
+    },
     /// The same, and the rectangle is owed to every viewer.
-    Paint { rect: Rect, colours: Listed<u32> },
+    Paint {
+        rect: Rect,
+        colours: Listed<u32>,
+    },
     /// The places of the rectangles are owed to every viewer. Here, and in copies, a list of rectangles stands for the places
     /// of all of them, each with its corners in order.
-    Mark { rects: Listed<Rect> },
+    Mark {
+        rects: Listed<Rect>,
+    },
     /// Every viewer is told of a copy to the rectangles' places from the places (dx, dy) before them; the picture stays.
     ScheduleCopy {
         rects: Listed<Rect>,
@@ -104,15 +112,26 @@ pub enum Event {
     /// A bell for every open viewer.
     Bell,
     /// A text for every open viewer.
-    CutText { text: Listed<u8> },
+    CutText {
+        text: Listed<u8>,
+    },
     /// A viewer connects.
-    Connect { viewer: u64 },
+    Connect {
+        viewer: u64,
+    },
     /// A piece of a viewer's bytes is heard.
-    Hear { viewer: u64, piece: Listed<u8> },
+    Hear {
+        viewer: u64,
+        piece: Listed<u8>,
+    },
     /// An update is cut for a viewer.
-    Cut { viewer: u64 },
+    Cut {
+        viewer: u64,
+    },
     /// A viewer's connection is closed.
-    Close { viewer: u64 },
+    Close {
+        viewer: u64,
+    },
 }
 
 /// What an event gave.

@@ -123,13 +123,7 @@ impl Screen {
     /// The places of a rectangle, as far as they are on the screen, are owed to every viewer
     /// (`rfbMarkRectAsModified` of `rfb.h`). Corners in the wrong order are swapped. Refused for want of
     /// memory alone.
-    pub fn mark_rect(
-        &mut self,
-        x1: i32,
-        y1: i32,
-        x2: i32,
-        y2: i32,
-    ) -> Result<(), ScreenError>
+    pub fn mark_rect(&mut self, x1: i32, y1: i32, x2: i32, y2: i32) -> Result<(), ScreenError>
         ensures step { (config : Config) (list : List Event) → self.old ≡ state config list →
             OnOk result (self.new ≡ state config (list ++ Event.Mark (record { x1 = x1; y1 = y1; x2 = x2; y2 = y2 } ∷ []) ∷ [])) }
         ensures answer { (config : Config) (list : List Event) → self.old ≡ state config list →
@@ -232,7 +226,14 @@ impl Screen {
         }
         let mut row = vec![in self.alloc; 0u32; width as usize]?;
         let marks = all_copied_marks(self.alloc, &self.seats, &pieces, (dx, dy))?;
-        move_colours(&mut self.picture, width, height, &pieces, (dx, dy), &mut row);
+        move_colours(
+            &mut self.picture,
+            width,
+            height,
+            &pieces,
+            (dx, dy),
+            &mut row,
+        );
         put_all_marks(&mut self.seats, &pieces, (dx, dy), marks);
         Ok(())
     }
@@ -261,12 +262,7 @@ impl Screen {
     }
 
     /// The same for the places of a region (`rfbDoCopyRegion` of `rfb.h`).
-    pub fn do_copy_region(
-        &mut self,
-        region: &Region,
-        dx: i32,
-        dy: i32,
-    ) -> Result<(), ScreenError>
+    pub fn do_copy_region(&mut self, region: &Region, dx: i32, dy: i32) -> Result<(), ScreenError>
         ensures step { (config : Config) (list : List Event) → self.old ≡ state config list →
             OnOk result (self.new ≡ state config (list ++ Event.DoCopy region.now.list dx dy ∷ [])) }
         ensures answer { (config : Config) (list : List Event) → self.old ≡ state config list →

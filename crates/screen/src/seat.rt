@@ -19,7 +19,8 @@ use crate::{Answer, Config};
 use copy_schedule::Marks;
 use listed::Listed;
 use messages::{
-    Ear, Encoding, Input, Item, Phase, Version, put_result, put_security, put_server_init, put_version,
+    Ear, Encoding, Input, Item, Phase, Version, put_result, put_security, put_server_init,
+    put_version,
 };
 use pixel_translate::{Area, PixelFormat};
 use region::Rect;

@@ -124,11 +124,7 @@ pub(crate) fn encode_all(
 
 impl Update {
     /// An update of notices, and of rectangles if there are any.
-    pub(crate) fn new(
-        alloc: Global,
-        notices: Vec<Notice>,
-        rectangles: Option<Rectangles>,
-    ) -> Update
+    pub(crate) fn new(alloc: Global, notices: Vec<Notice>, rectangles: Option<Rectangles>) -> Update
         requires { All IsShort notices.items }
         ensures { result ≡ all_bytes notices.items rectangles }
     {

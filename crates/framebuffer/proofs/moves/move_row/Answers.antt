@@ -15,11 +15,11 @@ nowhere = record { x1 = pos 0; y1 = pos 0; x2 = pos 0; y2 = pos 0 }
 pub loop-piece-preserved : goal.loop-piece-preserved
 loop-piece-preserved c = λ x below. elim c.if-has_row.branch [
   | then-has_row w ↦
-    ap (λ row. get_or row x 0) w.row-is
-    ∙ row_more c.args.pieces.now c.loop-piece.piece-index nowhere _ _ c.args.source.now c.args.row.now c.loop-piece.row w.move_part.new.row true x c.loop-piece-test.true w.if-has_row.ensures (c.loop-piece.invariant x below) (w.move_part.ensures x (omega (arith, below)))
+      ap (λ row. get_or row x 0) w.row-is
+      ∙ row_more c.args.pieces.now c.loop-piece.piece-index nowhere _ _ c.args.source.now c.args.row.now c.loop-piece.row w.move_part.new.row true x c.loop-piece-test.true w.if-has_row.ensures (c.loop-piece.invariant x below) (w.move_part.ensures x (omega (arith, below)))
   | else-has_row w ↦
-    ap (λ row. get_or row x 0) w.row-is
-    ∙ row_more c.args.pieces.now c.loop-piece.piece-index nowhere _ _ c.args.source.now c.args.row.now c.loop-piece.row c.loop-piece.row false x c.loop-piece-test.true w.if-has_row.ensures (c.loop-piece.invariant x below) refl
+      ap (λ row. get_or row x 0) w.row-is
+      ∙ row_more c.args.pieces.now c.loop-piece.piece-index nowhere _ _ c.args.source.now c.args.row.now c.loop-piece.row c.loop-piece.row false x c.loop-piece-test.true w.if-has_row.ensures (c.loop-piece.invariant x below) refl
 ]
 
 pub returns : goal.returns
