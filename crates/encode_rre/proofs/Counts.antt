@@ -2,7 +2,7 @@
 use Rattle.std.proofs.Common.{◌≡◌, ℕ, zero, suc, ◌+◌, ◌*◌, ◌/◌, ◌<◌, ◌≤◌, ◌⊎◌, inl, inr, false, cond, max, List, [], ◌∷◌, length, take, drop, eqb, get_or, sym, ap, ◌∙◌, arith, add-zero}
 use Rattle.std.proofs.lemmas.Bool.{eq-eqb, cases_eq}
 use Rattle.std.proofs.lemmas.Bool.Decides.{eqb_tells}
-use Rattle.std.proofs.lemmas.List.Sums.{count_by_more_yes, count_by_more_no, sum_by-cons, sum_by-append}
+use Rattle.std.proofs.lemmas.List.Sums.{count_by-le-length, count_by_more_yes, count_by_more_no, sum_by-cons, sum_by-append}
 use Rattle.std.proofs.Math.Nat.{suc-mul, zero-mul, mul-add}
 use Rattle.std.proofs.Math.Seq.{take-add}
 use Rattle.encode_rre.specs.Counted.{IsBestOf}
@@ -122,6 +122,13 @@ rows_alike w h ps y (suc n) q within alike =
     let row : times q (take w (drop ((y + n) * w) ps)) ≡ times q (row_at (rows_of w h ps) y) =
     ap (times q) (sym (row_is w h ps (y + n) (omega arith)) ∙ alike n (omega arith)) in
     ap (λ (k : ℕ). times q (take k ps)) at ∙ omega (arith, part, row, before, suc-mul n (times q (row_at (rows_of w h ps) y)))
+
+-- in some places more
+pub times_more : (ps : List ℕ) (p s n : ℕ) → times p (take (s + n) ps) ≡ times p (take s ps) + times p (take n (drop s ps))
+times_more ps p s n = ap (times p) (take-add s n ps) ∙ sum_by-append (λ (r : ℕ). cond {A = ℕ} (eqb r p) 1 0) (take s ps) (take n (drop s ps))
+
+pub times_few : (p : ℕ) (ps : List ℕ) → times p ps ≤ length ps
+times_few p ps = count_by-le-length (λ r. eqb r p) ps
 
 -- two pixels don't stand more often than there are places
 one_place : (p q x : ℕ) → (p ≡ q → ⊥) → cond {A = ℕ} (eqb x p) 1 0 + cond {A = ℕ} (eqb x q) 1 0 ≤ 1

@@ -3,6 +3,8 @@ pub mod MostFrequent
 pub mod Runs
 pub mod Listed
 pub mod Scans
+pub mod Starts
+pub mod Ends
 pub mod Early
 pub mod Lengths
 pub mod Paint

@@ -1,5 +1,6 @@
 pub mod Rre
 pub mod Subrectangles
+pub mod Starts
 pub mod Breaks
 pub mod Counted
 pub mod Reading

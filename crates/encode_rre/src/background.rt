@@ -58,6 +58,23 @@ fn times(pixels: &[u32], pixel: u32) -> usize
     count as usize
 }
 
+/// How often a pixel stands there, counted 4096 places at a time, and no further once there are more
+/// than `enough`.
+fn times_until(pixels: &[u32], pixel: u32, enough: usize) -> usize
+    requires { length pixels.now < 2 ^ 32 }
+    ensures some { result ≤ times pixel pixels.now }
+    ensures all { result ≤ enough → result ≡ times pixel pixels.now }
+{
+    let mut count = 0;
+    let mut seen = 0;
+    while seen < pixels.len() && count <= enough {
+        let end = pixels.len().min(seen + 4096);
+        count += times(&pixels[seen..end], pixel);
+        seen = end;
+    }
+    count
+}
+
 /// The better background of two pixels, where no other can be as frequent as the one of them that
 /// stands there more often: all others together have fewer places.
 fn best_of_two(pixels: &[u32], one: u32, ones: usize, other: u32) -> Option<u32>
@@ -184,8 +201,9 @@ pub(crate) fn background_of(
     ensures { IfOk result (λ b. b ≡ background_of pixels.now) }
 {
     let guess = likely(pixels, None);
-    let count = times(pixels, guess);
-    if pixels.len() / 2 < count {
+    let half = pixels.len() / 2;
+    let count = times_until(pixels, guess, half);
+    if half < count {
         return Ok(guess);
     }
     let other = likely(pixels, Some(guess));

@@ -76,8 +76,28 @@ fn has_too_many_kinds(pixels: &[u32], width: usize, height: usize, limit: usize)
     limit < count.saturating_sub(most_of(&buckets))
 }
 
-/// Whether there are more than `limit` subrectangles for certain: first with the half of each row left
-/// out, and then, where such places are enough, by their pixels.
+/// Whether there may be enough such places to be too many: there are few rows, or in one row of 16
+/// there are more than half as many as would be too many there. It is only a guess.
+fn may_have_too_many(pixels: &[u32], width: usize, height: usize, limit: usize) -> bool
+    requires whole { length pixels.now ≡ width * height }
+    requires columns { width < 2 ^ 16 }
+    requires rows { height < 2 ^ 16 }
+{
+    if height < 64 {
+        return true;
+    }
+    let mut count = 0usize;
+    for k in 0..height / 16 {
+        let y = 16 * k + 1 + k % 15;
+        let row = row_of(pixels, width, height, y);
+        count = count.saturating_add(breaks_in(row, row_of(pixels, width, height, y - 1)));
+    }
+    limit / 32 < count
+}
+
+/// Whether there are more than `limit` subrectangles for certain: where a part of the rows has many
+/// such places, first with the half of each row left out, and then, where such places are enough, by
+/// their pixels.
 pub(crate) fn has_too_many(pixels: &[u32], width: usize, height: usize, limit: usize) -> bool
     requires whole { length pixels.now ≡ width * height }
     requires columns { width < 2 ^ 16 }
@@ -86,6 +106,9 @@ pub(crate) fn has_too_many(pixels: &[u32], width: usize, height: usize, limit: u
     requires limited { limit < 2 ^ 32 }
     ensures { result ≡ true → (b : ℕ) → limit < length (subrectangles b (rows_of width height pixels.now)) }
 {
+    if !may_have_too_many(pixels, width, height, limit) {
+        return false;
+    }
     let mut count = 0;
     for y in 1..height {
         let row = row_of(pixels, width, height, y);

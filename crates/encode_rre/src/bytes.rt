@@ -1,7 +1,8 @@
 //! A rectangle in RRE as bytes.
 
 ghost use Rattle.std.specs.Prelude.{◌≡◌, ◌<◌, ◌^◌, ◌++◌, length, pos, IfOk, OnOk};
-ghost use Rattle.pixel_translate.specs.Pixel.{pixel_bytes};
+ghost use Rattle.std.specs.Int.{w32, to_le_bytes};
+ghost use Rattle.pixel_translate.specs.Pixel.{be16, pixel_bytes};
 ghost use Rattle.encode_raw.specs.Raw.{head};
 ghost use Rattle.encode_rre.specs.Rre.{subrectangle_bytes, rre_data};
 
@@ -34,6 +35,18 @@ fn put_number(out: &mut Vec<u8>, format: &PixelFormat, number: u32) -> Result<()
     }
 }
 
+/// Appends a number of four bytes, the lowest first, and a subrectangle's place and size, at once.
+fn put_twelve(out: &mut Vec<u8>, number: u32, sub: Subrectangle) -> Result<(), AllocError>
+    ensures { OnOk result (out.new.items ≡ out.old.items ++ (to_le_bytes w32 number ++ be16 sub.x ++ be16 sub.y ++ be16 sub.w ++ be16 sub.h)) }
+{
+    let [b0, b1, b2, b3] = number.to_le_bytes();
+    let [x1, x0] = sub.x.to_be_bytes();
+    let [y1, y0] = sub.y.to_be_bytes();
+    let [w1, w0] = sub.w.to_be_bytes();
+    let [h1, h0] = sub.h.to_be_bytes();
+    out.extend_from_slice(&[b0, b1, b2, b3, x1, x0, y1, y0, w1, w0, h1, h0])
+}
+
 /// Appends a subrectangle: its pixel, place and size.
 fn put_subrectangle(
     out: &mut Vec<u8>,
@@ -42,6 +55,9 @@ fn put_subrectangle(
 ) -> Result<(), AllocError>
     ensures { OnOk result (out.new.items ≡ out.old.items ++ subrectangle_bytes format.now sub) }
 {
+    if format.bits == BitsPerPixel::ThirtyTwo && !format.big_endian {
+        return put_twelve(out, sub.pixel, sub);
+    }
     let [x_high, x_low] = sub.x.to_be_bytes();
     let [y_high, y_low] = sub.y.to_be_bytes();
     let [w_high, w_low] = sub.w.to_be_bytes();

@@ -3,15 +3,17 @@
 //!
 //! Cost, where the area has n places. A colour is its own pixel where the format has the server's
 //! components and no colour has a top byte; else the pixels are kept while the area is encoded, four
-//! bytes each. First the places are counted that begin a subrectangle whatever the background is,
-//! but for those of the background itself: one pass over the pixels, or two, with 2 KB of counters.
-//! Where these alone are too many to be shorter than Raw, as on noise, that is all. Then the
-//! background is guessed from n / 128 pixels, and the guess is tested in one pass, or two; only
-//! where no guess is sure, the pixels are counted, rows that are alike at once, with one look-up for
-//! each run, in a table of the pixels that differ, so in at most n steps and entries. The scan skips
-//! a row that is the one above, goes over each place of another a bounded number of times, and ends
-//! with the row in which there are too many subrectangles to be shorter than Raw; their list has at
-//! most one row of them more than that.
+//! bytes each. First one row of 16 is looked at. Where these rows let expect too many subrectangles,
+//! and where there are fewer than 64 rows, the places are counted that begin one whatever the
+//! background is, but for those of the background itself: one pass over the pixels, or two, with 2 KB
+//! of counters. Where these alone are too many to be shorter than Raw, as on noise, that is all. Then
+//! the background is guessed from n / 128 pixels, and the guess is tested in one pass, which ends
+//! once it has more than half of the places, or in two; only where no guess is sure, the pixels are
+//! counted, rows that are alike at once, with one look-up for each run, in a table of the pixels that
+//! differ, so in at most n steps and entries. The scan skips a row that is the one above. Of another
+//! it first writes where the runs begin, two bytes each, in room for one row; it goes over each place
+//! a bounded number of times, and ends with the row in which there are too many subrectangles to be
+//! shorter than Raw; their list has at most one row of them more than that.
 #![tactic(auto)]
 
 ghost use Rattle.std.specs.Prelude.{◌≡◌, ℕ, ◌*◌, ◌<◌, ◌≤◌, ◌++◌, true, length, map, slice_index, IfOk, MatchOption, OnOk, OnErr};

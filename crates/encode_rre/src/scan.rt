@@ -2,7 +2,8 @@
 
 ghost use Rattle.std.specs.Prelude.{◌≡◌, ℕ, ◌+◌, ◌*◌, ◌<◌, ◌≤◌, ◌^◌, [], ◌++◌, true, length, drop, slice_index, IfOk, MatchOption, OnOk};
 ghost use Rattle.std.specs.List.{prefix_len};
-ghost use Rattle.encode_rre.specs.Subrectangles.{rows_of, row_at, stretch, has_run, begins_run, begins_subrectangle, run_at, subrectangle_from, subrectangles_in, subrectangles};
+ghost use Rattle.encode_rre.specs.Starts.{AreRuns};
+ghost use Rattle.encode_rre.specs.Subrectangles.{rows_of, row_at, stretch, has_run, begins_run, begins_subrectangle, run_at, subrectangles_in, subrectangles};
 
 use crate::Subrectangle;
 use std::alloc::{AllocError, Global};
@@ -19,7 +20,8 @@ pub(crate) struct Run {
 /// step.
 fn are_all(pixels: &[u32], pixel: u32) -> bool
     requires { length pixels.now < 2 ^ 16 }
-    ensures { result ≡ true → (k : ℕ) → k < length pixels.now → slice_index pixels.now k ≡ pixel }
+    ensures yes { result ≡ true → (k : ℕ) → k < length pixels.now → slice_index pixels.now k ≡ pixel }
+    ensures no { ((k : ℕ) → k < length pixels.now → slice_index pixels.now k ≡ pixel) → result ≡ true }
 {
     let mut others = 0u32;
     for other in pixels {
@@ -83,18 +85,22 @@ pub(crate) fn stretch_from(row: &[u32], start: usize) -> usize
     far_stretch(row, start, near)
 }
 
-/// Whether a run begins at a place of the row.
-fn begins_at(row: &[u32], x: usize) -> bool
-    ensures { result ≡ begins_run row.now x }
-{
-    x < row.len() && (x == 0 || row[x - 1] != row[x])
-}
-
-/// Whether the row has the run.
+/// Whether the row has the run. What stands at its ends and beside them is counted where it doesn't
+/// fit, with one branch for all four, and what lies between them is looked at only where it fits.
 fn has_run(row: &[u32], run: Run) -> bool
+    requires some { 0 < run.w }
+    requires inside { run.x + run.w ≤ length row.now }
+    requires columns { length row.now < 2 ^ 16 }
     ensures { result ≡ has_run run row.now }
 {
-    begins_at(row, run.x) && row[run.x] == run.pixel && stretch_from(row, run.x) == run.w
+    let end = run.x + run.w;
+    let before = row[run.x.saturating_sub(1)];
+    let behind = row[end.min(row.len() - 1)];
+    let first = u32::from(row[run.x] != run.pixel);
+    let last = u32::from(row[end - 1] != run.pixel);
+    let left = u32::from((run.x != 0) & (before == run.pixel));
+    let right = u32::from((end != row.len()) & (behind == run.pixel));
+    first + last + left + right == 0 && are_all(&row[run.x..end], run.pixel)
 }
 
 /// The row at `y`.
@@ -108,14 +114,18 @@ pub(crate) fn row_of(pixels: &[u32], width: usize, height: usize, y: usize) -> &
     &pixels[start..start + width]
 }
 
-/// How many rows from `top` on have the run.
+/// How many rows from `top` on have the run, which the one there has.
 fn rows_with(pixels: &[u32], width: usize, height: usize, top: usize, run: Run) -> usize
     requires whole { length pixels.now ≡ width * height }
+    requires columns { width < 2 ^ 16 }
     requires inside { top < height }
+    requires some { 0 < run.w }
+    requires within { run.x + run.w ≤ width }
+    requires has { has_run run (row_at (rows_of width height pixels.now) top) ≡ true }
     ensures rows { result ≡ prefix_len (has_run run) (drop top (rows_of width height pixels.now)) }
     ensures within { top + result ≤ height }
 {
-    for y in top..height {
+    for y in top + 1..height {
         if !has_run(row_of(pixels, width, height, y), run) {
             return y - top;
         }
@@ -133,7 +143,10 @@ fn begins_with(
     run: Run,
 ) -> bool
     requires whole { length pixels.now ≡ width * height }
+    requires columns { width < 2 ^ 16 }
     requires inside { y < height }
+    requires some { 0 < run.w }
+    requires within { run.x + run.w ≤ width }
     requires begins { begins_run (row_at (rows_of width height pixels.now) y) run.x ≡ true }
     requires is { run ≡ run_at (row_at (rows_of width height pixels.now) y) run.x }
     ensures { result ≡ begins_subrectangle background (rows_of width height pixels.now) y run.x }
@@ -150,9 +163,33 @@ fn repeats(pixels: &[u32], width: usize, height: usize, y: usize) -> bool
     0 < y && row_of(pixels, width, height, y) == row_of(pixels, width, height, y - 1)
 }
 
-/// Appends the subrectangles that begin in the row at `y`.
+/// Writes where the runs of a row begin, and where the last one ends, and tells how many there are.
+/// This has no branch in its loop, so runs of any lengths take the same time.
+fn find_runs(starts: &mut [u16], row: &[u32]) -> usize
+    requires some { 0 < length row.now }
+    requires columns { length row.now < 2 ^ 16 }
+    requires room { length row.now < length starts.old }
+    ensures runs { AreRuns row.now starts.new result }
+    ensures len { length starts.new ≡ length starts.old }
+{
+    starts[0] = 0;
+    let mut count = 1;
+    let mut before = row[0];
+    for x in 1..row.len() {
+        let here = row[x];
+        starts[count] = x as u16;
+        count += usize::from(before != here);
+        before = here;
+    }
+    starts[count] = row.len() as u16;
+    count
+}
+
+/// Appends the subrectangles that begin in the row at `y`. The places where its runs begin are
+/// written to `starts` first.
 fn push_row(
     subs: &mut Vec<Subrectangle>,
+    starts: &mut [u16],
     pixels: &[u32],
     width: usize,
     height: usize,
@@ -161,19 +198,23 @@ fn push_row(
 ) -> Result<(), AllocError>
     requires whole { length pixels.now ≡ width * height }
     requires inside { y < height }
+    requires some { 0 < width }
     requires columns { width < 2 ^ 16 }
     requires rows { height < 2 ^ 16 }
-    ensures { OnOk result (subs.new.items ≡ subs.old.items ++ subrectangles_in background (rows_of width height pixels.now) y) }
+    requires room { width < length starts.old }
+    ensures found { OnOk result (subs.new.items ≡ subs.old.items ++ subrectangles_in background (rows_of width height pixels.now) y) }
+    ensures len { length starts.new ≡ length starts.old }
 {
     if repeats(pixels, width, height, y) {
         return Ok(());
     }
     let row = row_of(pixels, width, height, y);
-    let mut x = 0;
-    while x < width {
+    let count = find_runs(starts, row);
+    for k in 0..count {
+        let x = usize::from(starts[k]);
         let run = Run {
             x,
-            w: stretch_from(row, x),
+            w: usize::from(starts[k + 1]) - x,
             pixel: row[x],
         };
         if begins_with(pixels, width, height, background, y, run) {
@@ -186,7 +227,6 @@ fn push_row(
                 pixel: run.pixel,
             })?;
         }
-        x += run.w;
     }
     Ok(())
 }
@@ -201,13 +241,15 @@ pub(crate) fn subrectangles_within(
     limit: usize,
 ) -> Result<Option<Vec<Subrectangle>>, AllocError>
     requires whole { length pixels.now ≡ width * height }
+    requires some { 0 < width }
     requires columns { width < 2 ^ 16 }
     requires rows { height < 2 ^ 16 }
     ensures { IfOk result (λ found. MatchOption found (limit < length (subrectangles background (rows_of width height pixels.now))) (λ subs. subs.items ≡ subrectangles background (rows_of width height pixels.now))) }
 {
+    let mut starts = vec![in alloc; 0u16; width + 1]?;
     let mut subs = Vec::new(alloc);
     for y in 0..height {
-        push_row(&mut subs, pixels, width, height, background, y)?;
+        push_row(&mut subs, &mut starts, pixels, width, height, background, y)?;
         if limit < subs.len() {
             return Ok(None);
         }

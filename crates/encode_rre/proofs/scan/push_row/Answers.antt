@@ -1,30 +1,40 @@
-use Rattle.std.proofs.Common.{◌≡◌, ℕ, List, length, arith, sym, ap, ◌∙◌, get_or, Vec, Global}
-use Rattle.encode_rre.specs.Subrectangles.{rows_of, row_at, stretch}
+use Rattle.std.proofs.Common.{◌≡◌, ◌≤◌, ◌<◌, ◌++◌, ℕ, ◌+◌, ◌-◌, List, length, arith, sym, ap, ◌∙◌, get_or, subst, Vec, Global}
+use Rattle.encode_rre.specs.Starts.{AreRuns}
+use Rattle.encode_rre.specs.Subrectangles.{rows_of, row_at, stretch, begins_run}
 use Rattle.encode_rre.specs.declared.Subrectangle.{Subrectangle}
-use Rattle.encode_rre.proofs.Scans.{Step, scan_step, found_yes, found_no, sub_is}
+use Rattle.encode_rre.proofs.Scans.{Step, found_before, scan_step, found_yes, found_no, sub_is}
 use Rattle.encode_rre.proofs.scan.push_row.Goals as goal
 use Rattle.encode_rre.proofs.scan.push_row.Goals.{then-begins_with+in_ok-push, else-begins_with}
 
-pub loop-x-preserved : goal.loop-x-preserved
-loop-x-preserved c =
+pub loop-k-preserved : goal.loop-k-preserved
+loop-k-preserved c =
     let rows : List (List ℕ) = rows_of c.args.width c.args.height c.args.pixels.now in
     let row : c.row_of-row.result.now ≡ row_at rows c.args.y = c.row_of-row.ensures.row in
-    let wide : length (row_at rows c.args.y) ≡ c.args.width = sym (ap (length {A = ℕ}) row) ∙ c.row_of-row.ensures.len in
-    let run : c.stretch_from.result ≡ stretch (row_at rows c.args.y) c.loop-x.x = c.stretch_from.ensures.same ∙ ap (λ (r : List ℕ). stretch r c.loop-x.x) row in
-    let step : Step c.args.background rows c.args.y c.loop-x.x c.stretch_from.result =
-    scan_step c.args.background rows c.args.y c.loop-x.x c.stretch_from.result (omega (arith, wide)) run in
+    let starts : List ℕ = c.find_runs-count.new.starts in
+    let runs : AreRuns (row_at rows c.args.y) starts c.find_runs-count.result = subst (λ (r : List ℕ). AreRuns r starts c.find_runs-count.result) row c.find_runs-count.ensures.runs in
+    let x : ℕ = c.from-x.result in
+    let n : ℕ = c.from.result - c.from-x.result in
+    let grows = runs.inside c.loop-k.k c.loop-k-test.true in
+    let here : get_or starts c.loop-k.k 0 ≡ x = omega (arith, c.from-x.ensures) in
+    let more : x + n ≡ get_or starts (c.loop-k.k + 1) 0 = omega (arith, c.from-x.ensures, c.from.ensures, grows) in
+    let run : n ≡ stretch (row_at rows c.args.y) x =
+    omega (arith, more, here, runs.steps c.loop-k.k c.loop-k-test.true, ap (stretch (row_at rows c.args.y)) here) in
+    let within : x + n ≤ length (row_at rows c.args.y) = omega (arith, more, runs.within (c.loop-k.k + 1) (omega (arith, c.loop-k-test.true))) in
+    let inside : x < length (row_at rows c.args.y) = omega (arith, within, more, here, grows) in
+    let step : Step c.args.background rows c.args.y x n = scan_step c.args.background rows c.args.y x n inside run in
+    let before : c.loop-k.subs.items ≡ c.args.subs.now.items ++ found_before c.args.background rows c.args.y x =
+    c.loop-k.invariant.found ∙ ap (λ (k : ℕ). c.args.subs.now.items ++ found_before c.args.background rows c.args.y k) here in
+    let after : c.if-begins_with.subs.items ≡ c.args.subs.now.items ++ found_before c.args.background rows c.args.y (x + n) = elim c.if-begins_with.branch [
+      | then-begins_with+in_ok-push w ↦
+          ap (λ (v : Vec Subrectangle Global). v.items) w.subs-is ∙ w.in_ok-push.ensures.items
+          ∙ found_yes c.args.subs.now.items c.loop-k.subs.items c.args.background rows c.args.y x n _ step before
+          (sym c.begins_with.ensures ∙ w.if-begins_with.true)
+          (sub_is rows c.args.y x n w.rows_with-rows.result (get_or c.row_of-row.result.now x 0) run (ap (λ (r : List ℕ). get_or r x 0) row) w.rows_with-rows.ensures.rows)
+      | else-begins_with w ↦
+          ap (λ (v : Vec Subrectangle Global). v.items) w.subs-is
+          ∙ found_no c.args.subs.now.items c.loop-k.subs.items c.args.background rows c.args.y x n step before (sym c.begins_with.ensures ∙ w.if-begins_with.false)
+    ] in
     record {
-      within = omega (arith, c.stretch_from.ensures.within, c.row_of-row.ensures.len);
-      begins = λ lt. step.begins (omega (arith, lt, wide));
-      found = elim c.if-begins_with.branch [
-        | then-begins_with+in_ok-push w ↦
-            ap (λ (v : Vec Subrectangle Global). v.items) w.subs-is ∙ w.in_ok-push.ensures.items
-            ∙ found_yes c.args.subs.now.items c.loop-x.subs.items c.args.background rows c.args.y c.loop-x.x c.stretch_from.result _ step c.loop-x.invariant.found
-            (sym c.begins_with.ensures ∙ w.if-begins_with.true)
-            (sub_is rows c.args.y c.loop-x.x c.stretch_from.result w.rows_with-rows.result (get_or c.row_of-row.result.now c.loop-x.x 0) run (ap (λ (r : List ℕ). get_or r c.loop-x.x 0) row) w.rows_with-rows.ensures.rows)
-        | else-begins_with w ↦
-            ap (λ (v : Vec Subrectangle Global). v.items) w.subs-is
-            ∙ found_no c.args.subs.now.items c.loop-x.subs.items c.args.background rows c.args.y c.loop-x.x c.stretch_from.result step c.loop-x.invariant.found
-            (sym c.begins_with.ensures ∙ w.if-begins_with.false)
-      ];
+      begins = λ lt. ap (begins_run (row_at rows c.args.y)) (sym more) ∙ step.begins (omega (arith, more, runs.inside (c.loop-k.k + 1) lt, runs.within (c.loop-k.k + 1 + 1) (omega (arith, lt))));
+      found = after ∙ ap (λ (k : ℕ). c.args.subs.now.items ++ found_before c.args.background rows c.args.y k) more;
     }

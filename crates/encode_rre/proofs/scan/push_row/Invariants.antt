@@ -1,15 +1,11 @@
-use Rattle.std.proofs.Common.{◌≡◌, ◌<◌, ◌≤◌, ◌-◌, ◌++◌, true}
+use Rattle.std.proofs.Common.{◌≡◌, ◌<◌, ◌++◌, true, get_or}
 use Rattle.encode_rre.specs.Subrectangles.{rows_of, row_at, begins_run}
 use Rattle.encode_rre.proofs.Scans.{found_before}
 use Rattle.encode_rre.proofs.scan.push_row.Given as goal
 
--- a run begins at x, and the subrectangles that begin before it are there
-abbrev pub invariant-loop-x : goal.invariant-loop-x
-invariant-loop-x l = record {
-  within : l.x ≤ l.width;
-  begins : l.x < l.width → begins_run (row_at (rows_of l.width l.height l.pixels) l.y) l.x ≡ true;
-  found : l.subs.items ≡ l.fn.subs.items ++ found_before l.background (rows_of l.width l.height l.pixels) l.y l.x;
+-- a run begins at the next start, and the subrectangles that begin before it are there
+abbrev pub invariant-loop-k : goal.invariant-loop-k
+invariant-loop-k l = record {
+  begins : l.k < l.count → begins_run (row_at (rows_of l.width l.height l.pixels) l.y) (get_or l.starts l.k 0) ≡ true;
+  found : l.subs.items ≡ l.fn.subs.items ++ found_before l.background (rows_of l.width l.height l.pixels) l.y (get_or l.starts l.k 0);
 }
-
-abbrev pub decreases-loop-x : goal.decreases-loop-x
-decreases-loop-x l = l.width - l.x

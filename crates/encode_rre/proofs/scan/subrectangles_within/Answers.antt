@@ -10,7 +10,7 @@ returns-then-limit-len c =
     let rows : List (List ℕ) = rows_of c.args.width c.args.height c.args.pixels.now in
     let found : ℕ → List Subrectangle = subrectangles_in c.args.background rows in
     let now : c.push_row.new.subs.items ≡ flat_map found (range_with_len 0 (c.loop-y.y + 1)) =
-    c.in_ok-push_row.ensures ∙ ap (λ (t : List Subrectangle). t ++ found c.loop-y.y) c.loop-y.invariant ∙ sym (row_more found c.loop-y.y) in
+    c.in_ok-push_row.ensures.found ∙ ap (λ (t : List Subrectangle). t ++ found c.loop-y.y) c.loop-y.invariant ∙ sym (row_more found c.loop-y.y) in
     let e : c.loop-y.y + 1 + (length rows - (c.loop-y.y + 1)) ≡ length rows = omega (arith, rows_count c.args.width c.args.height c.args.pixels.now) in
     let fewer = fewer_rows found (c.loop-y.y + 1) (length rows - (c.loop-y.y + 1)) in
     omega (arith, fewer, ap (λ (n : ℕ). length (flat_map found (range_with_len 0 n))) e, ap (length {A = Subrectangle}) now, c.if-limit-len.true, c.len.ensures)
@@ -18,7 +18,7 @@ returns-then-limit-len c =
 pub loop-y-preserved : goal.loop-y-preserved
 loop-y-preserved c =
     let found : ℕ → List Subrectangle = subrectangles_in c.args.background (rows_of c.args.width c.args.height c.args.pixels.now) in
-    c.in_ok-push_row.ensures ∙ ap (λ (t : List Subrectangle). t ++ found c.loop-y.y) c.loop-y.invariant ∙ sym (row_more found c.loop-y.y)
+    c.in_ok-push_row.ensures.found ∙ ap (λ (t : List Subrectangle). t ++ found c.loop-y.y) c.loop-y.invariant ∙ sym (row_more found c.loop-y.y)
 
 pub returns : goal.returns
 returns c =
