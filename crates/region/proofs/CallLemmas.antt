@@ -1,6 +1,6 @@
 -- Canonical lists of no rectangle and of one, and lists that are moved.
 use Rattle.std.proofs.Common.{◌≡◌, ◌≢◌, ℕ, zero, suc, ◌+◌, ◌<◌, ◌≤◌, min, Bool, true, false, ◌&&◌, List, [], ◌∷◌, ◌++◌, map, take, drop, get_or, length, refl, sym, ◌∙◌, ap, subst, below_more, arith}
-use Rattle.std.specs.Prelude.{ℤ, ◌<ℤ◌, ◌≤ℤ◌, int_lt, ◌||◌}
+use Rattle.std.specs.Prelude.{ℤ, ◌<ℤ◌, ◌≤ℤ◌, int_lt, ◌||◌, slice_index_or}
 use Rattle.std.specs.Ordering.{int_eq}
 use Rattle.std.proofs.Math.ListN.{set}
 use Rattle.std.proofs.lemmas.Bool.Decides.{Decides-int_eq}
@@ -29,6 +29,12 @@ or_false false = refl
 
 pub covers-one : (rs : List Rect) (r : Rect) (x y : ℤ) → rs ≡ r ∷ [] → covers rs x y ≡ in_rect r x y
 covers-one rs r x y e = ap (λ l. covers l x y) e ∙ or_false (in_rect r x y)
+
+-- a list of one rectangle
+pub covers-single : (rs : List Rect) (x y : ℤ) (d : Rect) → 1 ≤ length rs → length rs < 2 → covers rs x y ≡ in_rect (slice_index_or rs 0 d) x y
+covers-single [] x y d some few = absurd (omega (arith, some))
+covers-single (r ∷ []) x y d some few = or_false (in_rect r x y)
+covers-single (r ∷ q ∷ rs) x y d some few = absurd (omega (arith, few))
 
 -- a rectangle without columns or without rows has no places
 pub no_columns : (r : Rect) (x y : ℤ) → r.x2 ≤ℤ r.x1 → in_rect r x y ≡ false

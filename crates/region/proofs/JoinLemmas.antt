@@ -11,6 +11,7 @@ use Rattle.region.specs.Runs.{AreRuns}
 use Rattle.region.specs.Held.{with_bottom, Mapped}
 use Rattle.region.specs.Region.{Interval, Band, in_rect, covers, rects_of_band, rects_of_bands, IsBand, AreBands, IsCanonical}
 use Rattle.region.specs.Rows.{interval_of, IsRow, row_has, band_rects, RowAdded, kept}
+use Rattle.region.specs.Seams.{BandWalk}
 use Rattle.region.specs.Bands.{BandAhead, IsBandEdge, IsTop, LastBand, Built, RowBehind, GoesOn, RowJoined}
 use Rattle.region.proofs.RunLemmas.{value_at}
 use Rattle.region.proofs.OrderLemmas.{flat_map-append}
@@ -84,7 +85,7 @@ band_slice out last end y edge h l =
 pub rest_slice : (s out : List Rect) (end : ℕ) → s ≡ out → take (length s - end) (drop end s) ≡ drop end out
 rest_slice s out end e = take_all (length s - end) (drop end s) (omega (arith, length-drop end s)) ∙ ap (drop end) e
 
-apart_end : (bs : List Band) (b : Band) (n : ℤ) (v : List Interval) → b.to ≤ℤ n → (b.to ≡ n → b.value ≢ v) → Apart n v (bs ++ b ∷ [])
+pub apart_end : (bs : List Band) (b : Band) (n : ℤ) (v : List Interval) → b.to ≤ℤ n → (b.to ≡ n → b.value ≢ v) → Apart n v (bs ++ b ∷ [])
 apart_end [] b n v ends other = (ends, other)
 apart_end (r ∷ []) b n v ends other = (ends, other)
 apart_end (r ∷ s ∷ rest) b n v ends other = apart_end (s ∷ rest) b n v ends other
@@ -260,19 +261,8 @@ top_is rs d t some h e =
     ahead [] f = tt
     ahead (r ∷ rs) f = let Q : ℤ → Type 0 = λ n. f.band.from <ℤ n in subst Q (sym (f.first r).1) (front_some (r ∷ rs) f)
 
--- what a walk over two lists has kept above y
-pub record BandWalk (k : Keep) (whole_a whole_b out : List Rect) (last : ℕ) (y : ℤ) (a b : List Rect) : Type 0 where
-  pub built : Built out last y
-  pub canonical_a : IsCanonical a
-  pub canonical_b : IsCanonical b
-  pub ahead_a : BandAhead y a
-  pub ahead_b : BandAhead y b
-  pub same_a : (x z : ℤ) → y ≤ℤ z → covers a x z ≡ covers whole_a x z
-  pub same_b : (x z : ℤ) → y ≤ℤ z → covers b x z ≡ covers whole_b x z
-  pub so_far : (x z : ℤ) → z <ℤ y → covers out x z ≡ kept k (covers whole_a x z) (covers whole_b x z)
-
 -- there is nothing below the last band
-built_none : (out : List Rect) (last : ℕ) (y : ℤ) (x z : ℤ) → Built out last y → y ≤ℤ z → covers out x z ≡ false
+pub built_none : (out : List Rect) (last : ℕ) (y : ℤ) (x z : ℤ) → Built out last y → y ≤ℤ z → covers out x z ≡ false
 built_none out last y x z h low = elim h as (λ _. covers out x z ≡ false) [
   | inl none ↦ ap (λ l. covers l x z) none.0
   | inr l ↦ ap (λ r. covers r x z) (l.is ∙ sym (rects-last l.before l.band))

@@ -458,7 +458,7 @@ above_append : (n : ℤ) (xs ys : List Rect) → AreAbove n xs → AreAbove n ys
 above_append n [] ys h k = k
 above_append n (x ∷ xs) ys h k = (h.0, above_append n xs ys h.1 k)
 
-ends_above : (r : Band) (bs : List Band) (b : Band) → AreRuns (r ∷ bs ++ b ∷ []) → r.to ≤ℤ b.from
+pub ends_above : (r : Band) (bs : List Band) (b : Band) → AreRuns (r ∷ bs ++ b ∷ []) → r.to ≤ℤ b.from
 ends_above r [] b h = h.1
 ends_above r (s ∷ bs) b h =
     let a : r.to ≤ℤ s.from = h.1 in
@@ -466,7 +466,7 @@ ends_above r (s ∷ bs) b h =
     let d : s.to ≤ℤ b.from = ends_above s bs b h.3 in
     omega (arith, ints, a, c, d)
 
-bands_above : (bs : List Band) (b : Band) → AreRuns (bs ++ b ∷ []) → AreAbove b.from (rects_of_bands bs)
+pub bands_above : (bs : List Band) (b : Band) → AreRuns (bs ++ b ∷ []) → AreAbove b.from (rects_of_bands bs)
 bands_above [] b h = tt
 bands_above (r ∷ bs) b h =
     above_append b.from (rects_of_band r) (rects_of_bands bs) (go r.value) (bands_above bs b (rest_runs r (bs ++ b ∷ []) h))
@@ -494,7 +494,7 @@ above_none n (r ∷ rs) x z h low = ap (λ t. t || covers rs x z) (outside r h.0
 
 -- the scan upwards ends where the band begins
 module _ (P : Rect → Type 0) where
-  at_front : (fs rest : List Rect) (k : ℕ) (d : Rect) → AllByRecursion P fs → k < length fs → P (get_or (fs ++ rest) k d)
+  pub at_front : (fs rest : List Rect) (k : ℕ) (d : Rect) → AllByRecursion P fs → k < length fs → P (get_or (fs ++ rest) k d)
   at_front [] rest k d h below = absurd (none k below)
     where
       none : (k : ℕ) → k < 0 → ⊥
@@ -502,7 +502,7 @@ module _ (P : Rect → Type 0) where
   at_front (f ∷ fs) rest zero d h below = h.0
   at_front (f ∷ fs) rest (suc k) d h below = at_front fs rest k d h.1 (omega (arith, below))
 
-  at_middle : (fs gs hs : List Rect) (k : ℕ) (d : Rect) → AllByRecursion P gs → length fs ≤ k → k < length fs + length gs → P (get_or (fs ++ (gs ++ hs)) k d)
+  pub at_middle : (fs gs hs : List Rect) (k : ℕ) (d : Rect) → AllByRecursion P gs → length fs ≤ k → k < length fs + length gs → P (get_or (fs ++ (gs ++ hs)) k d)
   at_middle [] gs hs k d h low below = at_front gs hs k d h (omega (arith, below))
   at_middle (f ∷ fs) gs hs zero d h low below = absurd (none (length fs) low)
     where
@@ -510,7 +510,7 @@ module _ (P : Rect → Type 0) where
       none n h = omega (arith, h)
   at_middle (f ∷ fs) gs hs (suc k) d h low below = at_middle fs gs hs k d h (omega (arith, low)) (omega (arith, below))
 
-band_start_is : (fs gs hs : List Rect) (y : ℤ) (start end : ℕ) (d : Rect) → AllByRecursion (λ (r : Rect). r.y1 ≢ y) fs → AllByRecursion (λ (r : Rect). r.y1 ≡ y) gs → 0 < length gs → end ≡ length fs + length gs → BandFrom (fs ++ (gs ++ hs)) start end → start ≡ length fs
+pub band_start_is : (fs gs hs : List Rect) (y : ℤ) (start end : ℕ) (d : Rect) → AllByRecursion (λ (r : Rect). r.y1 ≢ y) fs → AllByRecursion (λ (r : Rect). r.y1 ≡ y) gs → 0 < length gs → end ≡ length fs + length gs → BandFrom (fs ++ (gs ++ hs)) start end → start ≡ length fs
 band_start_is fs gs hs y start end d others here some size b =
     let a : ℕ = length fs in
     let n : ℕ = length gs in
@@ -530,14 +530,14 @@ band_start_is fs gs hs y start end d others here some size b =
     within : (s e a b : ℕ) → a < s → s < e → e ≡ a + b → s - 1 < a + b
     within s e a b p q r = omega (arith, p, q, r)
 
-y_of : (b : Band) → AllByRecursion (λ (r : Rect). r.y1 ≡ b.from) (rects_of_band b)
+pub y_of : (b : Band) → AllByRecursion (λ (r : Rect). r.y1 ≡ b.from) (rects_of_band b)
 y_of b = go b.value
   where
     go : (is : List Interval) → AllByRecursion (λ (r : Rect). r.y1 ≡ b.from) (map (λ i. record { x1 = i.from; y1 = b.from; x2 = i.to; y2 = b.to }) is)
     go [] = tt
     go (i ∷ is) = (refl, go is)
 
-others_above : (n : ℤ) (rs : List Rect) → AreAbove n rs → AllByRecursion (λ (r : Rect). r.y1 ≢ n) rs
+pub others_above : (n : ℤ) (rs : List Rect) → AreAbove n rs → AllByRecursion (λ (r : Rect). r.y1 ≢ n) rs
 others_above n [] h = tt
 others_above n (r ∷ rs) h = (apart r.y1 n h.0.0, others_above n rs h.1)
   where
@@ -547,19 +547,19 @@ others_above n (r ∷ rs) h = (apart r.y1 n h.0.0, others_above n rs h.1)
         no : (a b : ℤ) → a <ℤ b → a ≡ b → ⊥
         no a b less e = omega (arith, ints, less, e)
 
-some_rects : (b : Band) → b.value ≢ [] → 0 < length (rects_of_band b)
+pub some_rects : (b : Band) → b.value ≢ [] → 0 < length (rects_of_band b)
 some_rects b n = go b.value n
   where
     go : (is : List Interval) → is ≢ [] → 0 < length (map (λ (i : Interval). let r : Rect = record { x1 = i.from; y1 = b.from; x2 = i.to; y2 = b.to } in r) is)
     go [] n = absurd (n refl)
     go (i ∷ is) n = omega arith
 
-prefix_runs : (bs : List Band) (b : Band) → AreRuns (bs ++ b ∷ []) → AreRuns bs
+pub prefix_runs : (bs : List Band) (b : Band) → AreRuns (bs ++ b ∷ []) → AreRuns bs
 prefix_runs [] b h = tt
 prefix_runs (r ∷ []) b h = h.0
 prefix_runs (r ∷ s ∷ bs) b h = (h.0, h.1, h.2, prefix_runs (s ∷ bs) b h.3)
 
-prefix_all : (bs : List Band) (b : Band) → AllByRecursion IsBand (bs ++ b ∷ []) → AllByRecursion IsBand bs
+pub prefix_all : (bs : List Band) (b : Band) → AllByRecursion IsBand (bs ++ b ∷ []) → AllByRecursion IsBand bs
 prefix_all [] b h = tt
 prefix_all (r ∷ bs) b h = (h.0, prefix_all bs b h.1)
 

@@ -245,11 +245,10 @@ need_start y m n (r ∷ rs) h = omega (arith, least (nat_of (r.y2 -ℤ y)) (rows
 pub record BandRoom (out : List Rect) (cap : ℕ) (y : ℤ) (a b : List Rect) : Type 0 where
   pub few : length out + (need_below y (edges_left y a + edges_left y b) a + need_below y (edges_left y a + edges_left y b) b) ≤ cap
 
-pub band_room_begins : (out a b : List Rect) (cap : ℕ) (y : ℤ) → out ≡ [] → need a b ≤ cap → BandRoom out cap y a b
-band_room_begins out a b cap y e room = record {
-  few = let n : length out ≡ 0 = ap length e in
-      let m : edges_left y a + edges_left y b ≤ 2 * (length a + length b) = omega (arith, edges_most y a, edges_most y b) in
-      omega (arith, n, room, need_start y (edges_left y a + edges_left y b) (2 * (length a + length b)) a m, need_start y (edges_left y a + edges_left y b) (2 * (length a + length b)) b m);
+pub band_room_begins : (out a b : List Rect) (cap : ℕ) (y : ℤ) → length out + need a b ≤ cap → BandRoom out cap y a b
+band_room_begins out a b cap y room = record {
+  few = let m : edges_left y a + edges_left y b ≤ 2 * (length a + length b) = omega (arith, edges_most y a, edges_most y b) in
+      omega (arith, room, need_start y (edges_left y a + edges_left y b) (2 * (length a + length b)) a m, need_start y (edges_left y a + edges_left y b) (2 * (length a + length b)) b m);
 }
 
 edges_less : (y edge : ℤ) (a b a' b' : List Rect) → y <ℤ edge → OwnBandEdge y edge a ⊎ OwnBandEdge y edge b → EdgesFewer edge a a' → EdgesFewer edge b b' → edges_left edge a' + edges_left edge b' < edges_left y a + edges_left y b

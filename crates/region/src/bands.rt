@@ -1,17 +1,16 @@
 //! The bands of two canonical lists walked at once.
 
-ghost use Rattle.std.specs.Prelude.{◌≡◌, ◌≢◌, ◌∷◌, ◌++◌, [], ℤ, ◌≤ℤ◌, ◌<ℤ◌, ◌↔◌, ◌⊎◌, ◌+◌, ◌≤◌, vec_capacity, ◌&&◌, true, false, IsTrue, IfOk, IfSome, None, int_le, if◌then◌else◌, map, length};
+ghost use Rattle.std.specs.Prelude.{◌≡◌, ◌≢◌, ◌∷◌, ◌++◌, [], ℤ, ◌≤ℤ◌, ◌<ℤ◌, ◌↔◌, ◌⊎◌, ◌+◌, ◌<◌, ◌≤◌, vec_capacity, ◌&&◌, true, false, IsTrue, IfOk, IfSome, None, int_le, if◌then◌else◌, map, length};
 ghost use Rattle.std.specs.Ordering.{int_eq};
 ghost use Rattle.region.specs.Region.{covers, IsCanonical};
 ghost use Rattle.region.specs.Rows.{IsRow, row_has, kept};
 ghost use Rattle.region.specs.Held.{SharePlace};
+ghost use Rattle.region.specs.Seams.{BandWalk};
 ghost use Rattle.region.specs.Bands.{BandAhead, BandReaches, IsBandEdge, OwnBandEdge, IsTop, RowPart, EdgesFewer, need, Built, RowBehind, GoesOn, RowJoined};
 
 use crate::Rect;
 use crate::lists::{band_end, has_same_columns, lengthen};
-use crate::rooms::with_room;
 use crate::rows::{Keep, keep_row, rows_meet};
-use std::alloc::AllocError;
 
 fn has_begun(rect: &Rect, y: i32) -> bool
     ensures { result ≡ int_le rect.now.y1 y }
@@ -20,7 +19,7 @@ fn has_begun(rect: &Rect, y: i32) -> bool
     top <= y
 }
 
-fn has_ended(rect: &Rect, y: i32) -> bool
+pub(crate) fn has_ended(rect: &Rect, y: i32) -> bool
     ensures { result ≡ int_le rect.now.y2 y }
 {
     let bottom = rect.y2;
@@ -112,9 +111,10 @@ fn top_of(rect: &Rect) -> i32
 }
 
 /// Where the first band begins.
-fn list_top(rest: &[Rect]) -> Option<i32>
+pub(crate) fn list_top(rest: &[Rect]) -> Option<i32>
     requires canonical { IsCanonical rest.now }
     ensures none { result ≡ None → rest.now ≡ [] }
+    ensures there { IfSome result (λ _. 0 < length rest.now) }
     ensures some { IfSome result (λ top. IsTop top rest.now) }
 {
     match rest {
@@ -199,17 +199,22 @@ fn add_row(
     join_row(out, last, end, y, edge)
 }
 
-/// Makes `out` the canonical list of the places that are kept of two canonical lists.
-pub(crate) fn combine(out: &mut Vec<Rect>, mut first: &[Rect], mut second: &[Rect], keep: Keep)
-    requires empty { out.old.items ≡ [] }
-    requires first_canonical { IsCanonical first.now }
-    requires second_canonical { IsCanonical second.now }
-    requires room { need first.now second.now ≤ vec_capacity out.old }
+/// Adds what is kept of two canonical lists from y on, behind bands that a walk over both has kept above y.
+pub(crate) fn walk_on(
+    out: &mut Vec<Rect>,
+    start: usize,
+    mut first: &[Rect],
+    mut second: &[Rect],
+    keep: Keep,
+    from: i32,
+)
+    requires walk { BandWalk keep (out.old.items ++ first.now) second.now out.old.items start from first.now second.now }
+    requires room { length out.old.items + need first.now second.now ≤ vec_capacity out.old }
     ensures canonical { IsCanonical out.new.items }
-    ensures places { (x y : ℤ) → covers out.new.items x y ≡ kept keep (covers first.now x y) (covers second.now x y) }
+    ensures places { (x y : ℤ) → covers out.new.items x y ≡ kept keep (covers (out.old.items ++ first.now) x y) (covers second.now x y) }
 {
-    let mut y = first_top(first, second);
-    let mut last = 0;
+    let mut y = from;
+    let mut last = start;
     while let Some(edge) = next_edge(first, second, y) {
         last = add_row(
             out,
@@ -226,24 +231,21 @@ pub(crate) fn combine(out: &mut Vec<Rect>, mut first: &[Rect], mut second: &[Rec
     }
 }
 
-/// The canonical list of the places that are kept of two canonical lists. Takes memory once.
-pub(crate) fn combined(
-    first: &Vec<Rect>,
-    second: &[Rect],
-    keep: Keep,
-) -> Result<Vec<Rect>, AllocError>
-    requires first_canonical { IsCanonical first.now.items }
+/// Makes `out` the canonical list of the places that are kept of two canonical lists.
+pub(crate) fn combine(out: &mut Vec<Rect>, first: &[Rect], second: &[Rect], keep: Keep)
+    requires empty { out.old.items ≡ [] }
+    requires first_canonical { IsCanonical first.now }
     requires second_canonical { IsCanonical second.now }
-    ensures canonical { IfOk result (λ out. IsCanonical out.items) }
-    ensures places { IfOk result (λ out. (x y : ℤ) → covers out.items x y ≡ kept keep (covers first.now.items x y) (covers second.now x y)) }
+    requires room { need first.now second.now ≤ vec_capacity out.old }
+    ensures canonical { IsCanonical out.new.items }
+    ensures places { (x y : ℤ) → covers out.new.items x y ≡ kept keep (covers first.now x y) (covers second.now x y) }
 {
-    let mut out = with_room(*first.allocator(), first, second)?;
-    combine(&mut out, first, second, keep);
-    Ok(out)
+    let y = first_top(first, second);
+    walk_on(out, 0, first, second, keep, y);
 }
 
 /// Whether two canonical lists share a place.
-pub(crate) fn lists_meet(mut first: &[Rect], mut second: &[Rect]) -> bool
+pub(crate) fn bands_meet(mut first: &[Rect], mut second: &[Rect]) -> bool
     requires first_canonical { IsCanonical first.now }
     requires second_canonical { IsCanonical second.now }
     ensures shared { result ≡ true → SharePlace first.now second.now }

@@ -52,6 +52,13 @@ pub(crate) fn is_in_range(rect: Rect) -> bool
     is_corner(rect.x1, rect.y1) && is_corner(rect.x2, rect.y2)
 }
 
+/// Whether a coordinate of some rectangle is not from -2^20 to 2^20.
+pub(crate) fn are_out_of_range(rects: &[Rect]) -> bool
+    ensures { result ≡ list_any (λ r. not (in_range r)) rects.now }
+{
+    rects.iter().any(|rect| !is_in_range(*rect))
+}
+
 /// Whether there are places between the corners.
 pub(crate) fn has_places(rect: Rect) -> bool
     ensures { result ≡ (int_lt rect.x1 rect.x2 && int_lt rect.y1 rect.y2) }

@@ -20,7 +20,7 @@ fn is_beside(first: &Rect, second: &Rect) -> bool
 }
 
 /// The start of the band that ends at `end`: of the rectangles that begin in one row.
-fn band_start(rects: &[Rect], end: usize) -> usize
+pub(crate) fn band_start(rects: &[Rect], end: usize) -> usize
     requires some { 0 < end }
     requires within { end ≤ length rects.now }
     ensures { BandFrom rects.now result end }

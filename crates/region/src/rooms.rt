@@ -65,6 +65,25 @@ fn rows_added(sum: usize, list: &[Rect], most: usize) -> usize
     total
 }
 
+/// A list with room for what is kept of two lists, and for so many rectangles more.
+pub(crate) fn with_more_room(
+    alloc: Global,
+    more: usize,
+    first: &[Rect],
+    second: &[Rect],
+) -> Result<Vec<Rect>, AllocError>
+    ensures items { IfOk result (λ out. out.items ≡ []) }
+    ensures room { IfOk result (λ out. more + need first.now second.now ≤ vec_capacity out) }
+{
+    let most = most_rows(first, second);
+    let half = rows_added(more, first, most);
+    let total = rows_added(half, second, most);
+    if total == usize::MAX {
+        return Err(AllocError);
+    }
+    Vec::with_capacity(alloc, total)
+}
+
 /// A list with room for what is kept of two lists.
 pub(crate) fn with_room(
     alloc: Global,
@@ -74,11 +93,5 @@ pub(crate) fn with_room(
     ensures items { IfOk result (λ out. out.items ≡ []) }
     ensures room { IfOk result (λ out. need first.now second.now ≤ vec_capacity out) }
 {
-    let most = most_rows(first, second);
-    let half = rows_added(0, first, most);
-    let total = rows_added(half, second, most);
-    if total == usize::MAX {
-        return Err(AllocError);
-    }
-    Vec::with_capacity(alloc, total)
+    with_more_room(alloc, 0, first, second)
 }

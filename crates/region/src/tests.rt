@@ -310,3 +310,59 @@ fn many_calls(rt: HostRuntime) -> Result<(), Fail> {
     }
     Ok(())
 }
+
+/// Rectangles of the board, in any order, of which many overlap and some have no places.
+fn drawn_rects(alloc: Global, seed: &mut u64, count: usize) -> Result<Vec<Rect>, AllocError> {
+    let mut rects = Vec::new(alloc);
+    for _ in 0..count {
+        rects.push(drawn_rect(seed))?;
+    }
+    Ok(rects)
+}
+
+fn union_of(alloc: Global, rects: &[Rect]) -> Result<Region, AllocError> {
+    Region::from_rects(alloc, rects).map_err(|_| AllocError)
+}
+
+/// The same places by one `or` a rectangle.
+fn one_by_one(alloc: Global, rects: &[Rect]) -> Result<Region, AllocError> {
+    let mut region = Region::new(alloc);
+    for rect in rects {
+        region.or(&region_of(alloc, *rect)?)?;
+    }
+    Ok(region)
+}
+
+#[test]
+fn rectangles_in_any_order(rt: HostRuntime) -> Result<(), Fail> {
+    let alloc = rt.alloc();
+    let mut seed = 7;
+    for count in 1..40 {
+        let rects = drawn_rects(alloc, &mut seed, count)?;
+        let region = union_of(alloc, &rects)?;
+        let mut board = vec![in alloc; false; 144]?;
+        for rect in &rects {
+            paint(&mut board, *rect, true, true);
+        }
+        assert!(rt; is_board(&region, &board));
+        let list = one_by_one(alloc, &rects)?.rects(alloc, false, false)?;
+        assert!(rt; is_list(&region, alloc, list.as_slice())?);
+    }
+    Ok(())
+}
+
+#[test]
+fn no_rectangles_and_one_too_far(rt: HostRuntime) -> Result<(), Fail> {
+    let alloc = rt.alloc();
+    assert!(rt; union_of(alloc, &[])?.is_empty());
+    assert!(rt; union_of(alloc, &[rect(3, 0, 3, 5), rect(0, 4, 9, 2)])?.is_empty());
+    let limit = 1 << 20;
+    let beyond = Region::from_rects(alloc, &[rect(0, 0, 1, 1), rect(5, -limit - 1, 5, 2)]);
+    assert!(rt; matches!(beyond, Err(RegionError::OutOfRange)));
+    let widest = union_of(
+        alloc,
+        &[rect(0, 0, limit, limit), rect(-limit, -limit, limit, limit)],
+    )?;
+    assert!(rt; is_list(&widest, alloc, &[rect(-limit, -limit, limit, limit)])?);
+    Ok(())
+}

@@ -3,7 +3,7 @@ use Rattle.std.specs.Int.{w32}
 use Rattle.std.proofs.lemmas.Int.{ints}
 use Rattle.region.proofs.JoinLemmas.{band_edge_at}
 use Rattle.region.proofs.MeetLemmas.{lists_step}
-use Rattle.region.proofs.bands.lists_meet.Goals as goal
+use Rattle.region.proofs.bands.bands_meet.Goals as goal
 
 pub loop-edge-preserved : goal.loop-edge-preserved
 loop-edge-preserved c =

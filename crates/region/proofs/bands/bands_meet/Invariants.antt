@@ -1,7 +1,7 @@
 use Rattle.std.specs.Prelude.{pos, ◌-ℤ◌}
 use borrow.Author.Differences.{up}
 use Rattle.region.proofs.MeetLemmas.{ListsApart}
-use Rattle.region.proofs.bands.lists_meet.Given as goal
+use Rattle.region.proofs.bands.bands_meet.Given as goal
 
 abbrev pub invariant-loop-edge : goal.invariant-loop-edge
 invariant-loop-edge l = ListsApart l.fn.first l.fn.second l.y l.first l.second

@@ -1,12 +1,12 @@
-use Rattle.std.specs.Prelude.{pos, ◌-ℤ◌, vec_capacity}
+use Rattle.std.specs.Prelude.{◌++◌, pos, ◌-ℤ◌, vec_capacity}
 use borrow.Author.Differences.{up}
-use Rattle.region.proofs.JoinLemmas.{BandWalk}
+use Rattle.region.specs.Seams.{BandWalk}
 use Rattle.region.proofs.RoomLemmas.{BandRoom}
-use Rattle.region.proofs.bands.combine.Given as goal
+use Rattle.region.proofs.bands.walk_on.Given as goal
 
 abbrev pub invariant-loop-edge : goal.invariant-loop-edge
 invariant-loop-edge l = record {
-  walk : BandWalk l.keep l.fn.first l.fn.second l.out.items l.last l.y l.first l.second;
+  walk : BandWalk l.keep (l.fn.out.items ++ l.fn.first) l.fn.second l.out.items l.last l.y l.first l.second;
   room : BandRoom l.out.items (vec_capacity l.out) l.y l.first l.second;
 }
 
