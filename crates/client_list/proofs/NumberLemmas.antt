@@ -1,0 +1,98 @@
+-- The viewer with a number.
+use Rattle.std.proofs.Common.{◌≡◌, ◌≢◌, ℕ, ◌+◌, ◌<◌, ◌≤◌, List, [], ◌∷◌, length, Option, Some, None, refl, sym, ap, ◌∙◌, inl, inr, arith, Contains, eqb, not}
+use Rattle.std.specs.Prelude.{slice_get, MatchOption, is_some, true, false}
+use Rattle.std.specs.Option.{option_map}
+use Rattle.std.specs.List.{IsDistinct, remove, filter}
+use Rattle.std.proofs.lemmas.Map.Keys.{IsDistinct-tail}
+use Rattle.slab.proofs.SlabLemmas.{Contains-cons}
+use Rattle.std.specs.Map.{keys_of, lookup}
+use Rattle.std.proofs.lemmas.Bool.{eq-eqb, ne_eqb, cases_eq, cases_lt}
+use Rattle.std.proofs.lemmas.List.{length-map}
+use Rattle.std.proofs.lemmas.Option.{slice_get-map, slice_get_past, same_Some}
+use Rattle.client_list.specs.Connected.{Connected, index_of, index_of_number, value_of, value_at, number_at, pair_at, IsPlace, IsPlaceOf, IsListed}
+use Rattle.client_list.proofs.IndexLemmas.{index_below, index_at, index_within, index_read}
+use Rattle.client_list.proofs.DistinctLemmas.{apart_from_first}
+
+module _ {T : Type 0} where
+  -- the value of a number is that of the pair where the number comes first
+  pub lookup-index : (pairs : List (ℕ × T)) (number : ℕ) → lookup (λ n. eqb n number) pairs ≡ option_map (λ pair. pair.1) (slice_get pairs (index_of (keys_of pairs) number))
+  lookup-index [] number = refl
+  lookup-index (pair ∷ rest) number =
+      elim (cases_eq pair.0 number) [
+        | inl same ↦ rw (eq-eqb pair.0 number same)
+        | inr differs ↦ rw (ne_eqb pair.0 number differs) (lookup-index rest number)
+      ]
+
+  -- the number at a place stands at the place's index
+  number_listed : (c : Connected T) (place number : ℕ) → number_at c place ≡ Some number → slice_get (keys_of c.pairs) (index_of c.places place) ≡ Some number
+  number_listed c place number is = slice_get-map (λ pair. pair.0) c.pairs (index_of c.places place) ∙ is
+
+  pub number_found : (c : Connected T) (place number : ℕ) → IsListed c → IsPlace c place → number_at c place ≡ Some number → IsPlaceOf c number place
+  number_found c place number listed there is =
+      (there, sym (index_at (keys_of c.pairs) (index_of c.places place) number listed.numbers (number_listed c place number is)), is)
+
+  -- where a viewer has another number, the number's first place comes later
+  pub number_differs : (c : Connected T) (place other number : ℕ) → IsListed c → IsPlace c place → number_at c place ≡ Some other → other ≢ number → index_of c.places place ≤ index_of_number c number → index_of c.places place + 1 ≤ index_of_number c number
+  number_differs c place other number listed there is differs before =
+      elim (cases_lt (index_of c.places place) (index_of_number c number)) [
+        | inl below ↦ omega arith
+        | inr past ↦
+            let same : index_of_number c number ≡ index_of c.places place = omega arith in
+            let long : length (keys_of c.pairs) ≡ length c.pairs = length-map c.pairs (λ pair. pair.0) in
+            let within : index_of_number c number < length (keys_of c.pairs) = omega (arith, long, listed.as_many, index_within c.places place there) in
+            let found = index_below (keys_of c.pairs) number within in
+            absurd (differs (same_Some other number (sym (number_listed c place other is) ∙ sym (ap (slice_get (keys_of c.pairs)) same) ∙ found)))
+      ]
+
+  -- a number that no viewer has
+  pub number_past : (c : Connected T) (number : ℕ) → length c.pairs ≤ index_of_number c number → value_of c number ≡ None
+  number_past c number past = lookup-index c.pairs number ∙ ap (option_map (λ pair. pair.1)) (slice_get_past c.pairs (index_of_number c number) past)
+
+  -- the value at a number's place is the number's
+  pub value_found : (c : Connected T) (place number : ℕ) → IsPlaceOf c number place → value_at c place ≡ value_of c number
+  value_found c place number found = ap (λ (i : ℕ). option_map (λ (pair : ℕ × T). pair.1) (slice_get c.pairs i)) found.1 ∙ sym (lookup-index c.pairs number)
+
+  -- a number that no viewer has isn't among the numbers
+  pub number_absent : (c : Connected T) (number : ℕ) → value_of c number ≡ None → Contains (keys_of c.pairs) number → ⊥
+  number_absent c number none there =
+      let i : ℕ = index_of_number c number in
+      let read : option_map (λ (pair : ℕ × T). pair.0) (slice_get c.pairs i) ≡ Some number = sym (slice_get-map (λ pair. pair.0) c.pairs i) ∙ index_read (keys_of c.pairs) number there in
+      let gone : option_map (λ (pair : ℕ × T). pair.1) (slice_get c.pairs i) ≡ None = sym (lookup-index c.pairs number) ∙ none in
+      both (slice_get c.pairs i) read gone
+    where
+      both : (o : Option (ℕ × T)) → option_map (λ (pair : ℕ × T). pair.0) o ≡ Some number → option_map (λ (pair : ℕ × T). pair.1) o ≡ None → ⊥
+      both None read gone = absurd (cc)
+      both (Some pair) read gone = absurd (cc)
+
+  -- without the pair where a number comes first, the pairs are those with other numbers
+  pub without-filter : (pairs : List (ℕ × T)) (number : ℕ) → IsDistinct eqb (keys_of pairs) → remove pairs (index_of (keys_of pairs) number) ≡ filter (λ pair. not (eqb pair.0 number)) pairs
+  without-filter [] number distinct = refl
+  without-filter (pair ∷ rest) number distinct =
+      elim (cases_eq pair.0 number) [
+        | inl same ↦ rw (eq-eqb pair.0 number same) (sym (all_others rest (λ n there. let apart = apart_from_first pair.0 (keys_of rest) distinct n there in λ equal. apart (equal ∙ sym same))))
+        | inr differs ↦ rw (ne_eqb pair.0 number differs) (ap (λ (l : List (ℕ × T)). pair ∷ l) (without-filter rest number (IsDistinct-tail eqb pair.0 (keys_of rest) distinct)))
+      ]
+    where
+      all_others : (rest : List (ℕ × T)) → ((n : ℕ) → Contains (keys_of rest) n → n ≢ number) → filter (λ pair. not (eqb pair.0 number)) rest ≡ rest
+      all_others [] apart = refl
+      all_others (pair ∷ rest) apart =
+          rw (ne_eqb pair.0 number (apart pair.0 (0, omega arith, refl)))
+          (ap (λ (l : List (ℕ × T)). pair ∷ l) (all_others rest (λ n there. apart n (Contains-cons pair.0 n (keys_of rest) there))))
+
+  -- a number's place has a value
+  pub place_value : (c : Connected T) (number place : ℕ) → IsPlaceOf c number place → (value : T) × (value_of c number ≡ Some value)
+  place_value c number place found = go (pair_at c place) refl found.2
+    where
+      go : (o : Option (ℕ × T)) → pair_at c place ≡ o → option_map (λ (pair : ℕ × T). pair.0) o ≡ Some number → (value : T) × (value_of c number ≡ Some value)
+      go None is has = absurd (cc)
+      go (Some pair) is has = (pair.1, sym (value_found c place number found) ∙ ap (option_map (λ (pair : ℕ × T). pair.1)) is)
+
+  -- where a search finds no place, no viewer has the number
+  pub not_found : (c : Connected T) (number : ℕ) (o : Option ℕ) → is_some o ≡ false → MatchOption o (value_of c number ≡ None) (IsPlaceOf c number) → value_of c number ≡ None
+  not_found c number None none found = found
+  not_found c number (Some place) none found = absurd (cc)
+
+  -- where it finds a place, one has it
+  pub was_found : (c : Connected T) (number : ℕ) (o : Option ℕ) → is_some o ≡ true → MatchOption o (value_of c number ≡ None) (IsPlaceOf c number) → (value : T) × (value_of c number ≡ Some value)
+  was_found c number None some found = absurd (cc)
+  was_found c number (Some place) some found = place_value c number place found

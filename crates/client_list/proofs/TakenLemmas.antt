@@ -1,0 +1,52 @@
+-- What a removal leaves of the value that contracts see.
+use Rattle.std.proofs.Common.{◌≡◌, ℕ, ◌+◌, Option, Some, None, subst, sym, ap, ◌∙◌, is_some, true}
+use Rattle.std.specs.Prelude.{IfSome}
+use Rattle.std.specs.List.{remove}
+use Rattle.slab.specs.Slab.{Slab, get, slab_len, Updates}
+use Rattle.client_list.specs.declared.links.Node.{Node}
+use Rattle.client_list.specs.Connected.{Connected, index_of, IsPlace}
+use Rattle.client_list.specs.Links.{along, places_in, pairs_in, listed, IsHeld, NextChanged, PreviousChanged}
+use Rattle.client_list.proofs.CallLemmas.{Shows}
+use Rattle.client_list.proofs.RemovalLemmas.{EntryAt, entry_at, map-remove, previous_has, next_has, removed_held, removed_view}
+
+module _ {T : Type 0} (old mid : Slab (Node T)) (first last : Option ℕ) (value : Connected T) (shown : Shows old first last value) (place key : ℕ) (same : key ≡ place) (there : IsPlace value place) (node : Node T) (found : get old key ≡ Some node) (gone : Updates old mid key None) where
+  abbrev index : ℕ
+  index = index_of (places_in shown.held.entries) place
+
+  entry : EntryAt shown.held.entries place
+  entry = entry_at shown.held.entries place (subst (λ (v : Connected T). IsPlace v place) shown.is there)
+
+  at_entry : key ≡ entry.entry.0
+  at_entry = same ∙ sym entry.is
+
+  found_there : get old entry.entry.0 ≡ Some node
+  found_there = sym (ap (get old) at_entry) ∙ found
+
+  gone_there : Updates old mid entry.entry.0 None
+  gone_there = subst (λ (k : ℕ). Updates old mid k None) at_entry gone
+
+  pub previous_there : IfSome node.previous (λ p. is_some (get mid p) ≡ true)
+  previous_there = previous_has old mid first last shown.held index entry.entry entry.found node found_there gone_there
+
+  module _ (joined : Slab (Node T)) (first' : Option ℕ) (next_changed : NextChanged mid joined first first' node.previous node.next) where
+    pub next_there : IfSome node.next (λ p. is_some (get joined p) ≡ true)
+    next_there = next_has old mid first last shown.held index entry.entry entry.found node found_there gone_there joined first' next_changed
+
+    module _ (new : Slab (Node T)) (last' : Option ℕ) (previous_changed : PreviousChanged joined new last last' node.next node.previous) (len : slab_len mid + 1 ≡ slab_len old) (len' : slab_len joined ≡ slab_len mid) (len'' : slab_len new ≡ slab_len joined) where
+      pub taken_held : IsHeld new first' last'
+      taken_held = removed_held old mid first last shown.held index entry.entry entry.found node found_there gone_there joined first' next_changed new last' previous_changed len len' len''
+
+      taken_view : listed (along (get new) (slab_len new) first') ≡ listed (remove shown.held.entries index)
+      taken_view = removed_view old mid first last shown.held index entry.entry entry.found node found_there gone_there joined first' next_changed new last' previous_changed len len' len''
+
+      pub taken_pairs : pairs_in (along (get new) (slab_len new) first') ≡ remove value.pairs (index_of value.places place)
+      taken_pairs =
+          ap (λ (v : Connected T). v.pairs) taken_view
+          ∙ map-remove (λ e. e.1) shown.held.entries index
+          ∙ ap (λ (v : Connected T). remove v.pairs (index_of v.places place)) (sym shown.is)
+
+      pub taken_places : places_in (along (get new) (slab_len new) first') ≡ remove value.places (index_of value.places place)
+      taken_places =
+          ap (λ (v : Connected T). v.places) taken_view
+          ∙ map-remove (λ e. e.0) shown.held.entries index
+          ∙ ap (λ (v : Connected T). remove v.places (index_of v.places place)) (sym shown.is)

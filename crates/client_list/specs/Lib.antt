@@ -1,0 +1,3 @@
+pub mod Connected
+pub mod Lending
+pub mod Links

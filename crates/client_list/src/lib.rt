@@ -1,0 +1,228 @@
+//! The viewers of a screen in their order of connecting: a doubly linked list whose nodes lie in a slab and whose links
+//! are keys of it. Contracts see the list of pairs of number and value, and beside it the list of their places.
+//!
+//! `links` has the nodes and changes their links. A walk goes from `first` by `next`, and `at_mut` may change each value
+//! on the way; `proofs/Walks.antt` has what a caller's loop needs.
+#![tactic(auto)]
+
+ghost use Rattle.std.specs.Prelude.{◌≡◌, ◌+◌, ◌++◌, ◌∷◌, ◌↔◌, [], ℕ, None, Some, IsTrue, IfSome, MatchOption, MatchResult, IsOkUnless, OnOk, OnErr, length, slice_get, option_copied, ◌==◌, not};
+ghost use Rattle.std.specs.Option.{option_copied_mut};
+ghost use Rattle.std.specs.Borrow.{sem};
+ghost use Rattle.std.specs.List.{remove as without_index, filter};
+ghost use Rattle.client_list.specs.Connected.{index_of, index_of_number, value_of, value_at, number_at, IsPlace, IsListed, IsPlaceOf, passed};
+ghost use Rattle.client_list.specs.declared.ConnectError.TheVariants.{NumberInUse, OutOfMemory};
+
+mod links;
+#[cfg(test)]
+mod tests;
+
+use links::{Node, add, set_next, set_previous};
+use slab::Slab;
+use std::alloc::Global;
+use std::marker::Model;
+
+/// The place of a viewer in the list. It stays the viewer's until that viewer is removed.
+#[derive(Clone, Copy, Debug, PartialEq, Eq)]
+pub struct Place {
+    key: usize,
+}
+
+impl Model for Place {
+    ghost use Rattle.std.specs.Prelude.{ℕ};
+
+    ghost Value = { ℕ };
+
+    ghost view = { λ a. a.key };
+
+    ghost inverse = { λ key. record { key = key } };
+}
+
+/// Why a viewer is not taken in.
+#[derive(Clone, Copy, Debug, PartialEq, Eq)]
+pub enum ConnectError {
+    /// A viewer has the number.
+    NumberInUse,
+    /// A growth was refused.
+    OutOfMemory,
+}
+
+/// No viewer has the number.
+#[derive(Clone, Copy, Debug, PartialEq, Eq)]
+pub struct NoViewer;
+
+/// Values by number, in the order in which their numbers connected.
+#[derive(Drop)]
+pub struct Clients<T> {
+    nodes: Slab<Node<T>>,
+    first: Option<Place>,
+    last: Option<Place>,
+}
+
+impl<T> Model for Clients<T> {
+    ghost use Rattle.client_list.specs.Connected.{Connected, connected_code};
+
+    ghost Value = { Connected T };
+
+    ghost coded = { connected_code T.code };
+
+    ghost use Rattle.client_list.specs.Links.{listed, along, IsHeld};
+    ghost use Rattle.slab.specs.Slab.{get, slab_len};
+
+    ghost view = { λ a. listed (along (get a.nodes) (slab_len a.nodes) a.first) };
+
+    ghost invariant = { λ a. IsHeld a.nodes a.first a.last };
+}
+
+impl<T> Clients<T> {
+    ghost use Rattle.client_list.specs.Lending.{lends_at, lends_number};
+
+    /// No viewers. This takes no memory.
+    pub fn new(alloc: Global) -> Self
+        ensures pairs { result.pairs ≡ [] }
+        ensures places { result.places ≡ [] }
+    {
+        Clients {
+            nodes: Slab::new(alloc),
+            first: None,
+            last: None,
+        }
+    }
+
+    /// How many viewers there are.
+    pub fn len(&self) -> usize
+        ensures pairs { result ≡ length self.now.pairs }
+        ensures places { result ≡ length self.now.places }
+        ensures listed { IsListed self.now }
+    {
+        self.nodes.len()
+    }
+
+    /// Whether there are none.
+    pub fn is_empty(&self) -> bool
+        ensures { IsTrue result ↔ (self.now.pairs ≡ []) }
+    {
+        self.nodes.is_empty()
+    }
+
+    /// The place of the viewer that connected first; `None` where there are no viewers.
+    pub fn first(&self) -> Option<Place>
+        ensures first { result ≡ slice_get self.now.places 0 }
+        ensures place { IfSome result (IsPlace self.now) }
+        ensures passed { passed self.now result ≡ 0 }
+        ensures listed { IsListed self.now }
+    {
+        self.first
+    }
+
+    /// The place of the viewer that connected next; `None` behind the last.
+    pub fn next(&self, place: Place) -> Option<Place>
+        requires { IsPlace self.now place }
+        ensures next { result ≡ slice_get self.now.places (index_of self.now.places place + 1) }
+        ensures place { IfSome result (IsPlace self.now) }
+        ensures passed { passed self.now result ≡ index_of self.now.places place + 1 }
+    {
+        self.nodes[place.key].next
+    }
+
+    /// The number of the viewer at a place.
+    pub fn number_at(&self, place: Place) -> u64
+        requires { IsPlace self.now place }
+        ensures { number_at self.now place ≡ Some result }
+    {
+        self.nodes[place.key].number
+    }
+
+    /// The value of the viewer at a place.
+    pub fn at(&self, place: Place) -> &T
+        requires { IsPlace self.now place }
+        ensures { value_at self.now place ≡ Some result.now }
+    {
+        &self.nodes[place.key].value
+    }
+
+    /// The value of the viewer at a place, for writing. The other values stay, and so do all numbers, places and their
+    /// order.
+    pub fn at_mut(&mut self, place: Place) -> &mut T
+        requires { IsPlace self.old place }
+        ensures* writes_back { sem 𝓛 (lends_at T.row self.entry place result) }
+        ensures value { value_at self.old place ≡ Some result.now }
+    {
+        let node = &mut self.nodes[place.key];
+        &mut node.value
+    }
+
+    /// The place of the viewer with a number, found by a walk.
+    pub fn place_of(&self, number: u64) -> Option<Place>
+        ensures place { result ≡ slice_get self.now.places (index_of_number self.now number) }
+        ensures found { MatchOption result (value_of self.now number ≡ None) (IsPlaceOf self.now number) }
+        ensures listed { IsListed self.now }
+    {
+        let mut place = self.first();
+        while let Some(at) = place {
+            if self.number_at(at) == number {
+                return Some(at);
+            }
+            place = self.next(at);
+        }
+        None
+    }
+
+    /// The value of the viewer with a number; `None` where no viewer has it.
+    pub fn get(&self, number: u64) -> Option<&T>
+        ensures { option_copied result ≡ value_of self.now number }
+    {
+        match self.place_of(number) {
+            Some(place) => Some(self.at(place)),
+            None => None,
+        }
+    }
+
+    /// The value of the viewer with a number, for writing; `None` where no viewer has it. The other values stay, and so
+    /// do all numbers, places and their order.
+    pub fn get_mut(&mut self, number: u64) -> Option<&mut T>
+        ensures* writes_back { sem 𝓛 (lends_number T.row self.entry number result) }
+        ensures value { option_copied_mut result ≡ value_of self.old number }
+    {
+        match self.place_of(number) {
+            Some(place) => Some(self.at_mut(place)),
+            None => None,
+        }
+    }
+
+    /// Takes out the viewer with a number; the others stay in their order, each at its place. `NoViewer` where no viewer
+    /// has the number, and then nothing changes. This takes no memory.
+    pub fn remove(&mut self, number: u64) -> Result<T, NoViewer>
+        ensures value { MatchResult result (λ value. value_of self.old number ≡ Some value) (λ _. value_of self.old number ≡ None) }
+        ensures pairs { OnOk result (self.new.pairs ≡ without_index self.old.pairs (index_of_number self.old number)) }
+        ensures places { OnOk result (self.new.places ≡ without_index self.old.places (index_of_number self.old number)) }
+        ensures others { OnOk result (self.new.pairs ≡ filter (λ pair. not (pair.0 == number)) self.old.pairs) }
+        ensures err { OnErr result (self.new ≡ self.old) }
+    {
+        let Some(place) = self.place_of(number) else {
+            return Err(NoViewer);
+        };
+        let node = self.nodes.remove(place.key);
+        set_next(&mut self.nodes, &mut self.first, node.previous, node.next);
+        set_previous(&mut self.nodes, &mut self.last, node.next, node.previous);
+        Ok(node.value)
+    }
+}
+
+impl<T: Drop> Clients<T> {
+    /// Takes in a viewer, behind all others. `NumberInUse` where a viewer has the number, then `OutOfMemory` where the
+    /// room is refused; either way the value is dropped, and nothing else changes.
+    pub fn connect(&mut self, number: u64, value: T) -> Result<(), ConnectError>
+        ensures pairs { OnOk result (self.new.pairs ≡ self.old.pairs ++ (number, value) ∷ []) }
+        ensures places { OnOk result ((place : ℕ) × (self.new.places ≡ self.old.places ++ place ∷ [])) }
+        ensures refused { MatchOption (value_of self.old number) (IsOkUnless result OutOfMemory) (λ _. result ≡ Err NumberInUse) }
+        ensures err { OnErr result (self.new ≡ self.old) }
+    {
+        if self.place_of(number).is_some() {
+            return Err(ConnectError::NumberInUse);
+        }
+        let place = Some(add(&mut self.nodes, number, value, self.last)?);
+        set_next(&mut self.nodes, &mut self.first, self.last, place);
+        self.last = place;
+        Ok(())
+    }
+}

@@ -1,0 +1,79 @@
+//! The nodes of the list, and what changes one link.
+
+ghost use Rattle.std.specs.Prelude.{◌≡◌, ◌+◌, None, Some, IfSome, MatchOption, IfOk, OnOk, OnErr, IsOkUnless};
+ghost use Rattle.slab.specs.Slab.{get, slab_len, ContainsKey, Updates, SameValues};
+ghost use Rattle.client_list.specs.Links.{node_of, NextChanged, PreviousChanged};
+ghost use Rattle.client_list.specs.declared.ConnectError.TheVariants.{OutOfMemory};
+
+use crate::{ConnectError, Place};
+use slab::Slab;
+
+/// A viewer: its number and value, and the places of the viewers before and behind it.
+#[derive(Drop)]
+pub struct Node<T> {
+    pub number: u64,
+    pub value: T,
+    pub previous: Option<Place>,
+    pub next: Option<Place>,
+}
+
+/// Leads on to `next` behind the viewer at a place, or from the front where there is no such place.
+pub fn set_next<T>(
+    nodes: &mut Slab<Node<T>>,
+    first: &mut Option<Place>,
+    place: Option<Place>,
+    next: Option<Place>,
+)
+    requires { IfSome place (ContainsKey nodes.old) }
+    ensures changed { NextChanged nodes.old nodes.new first.old first.new place next }
+    ensures len { slab_len nodes.new ≡ slab_len nodes.old }
+{
+    match place {
+        Some(place) => nodes[place.key].next = next,
+        None => *first = next,
+    }
+}
+
+/// Leads back to `previous` before the viewer at a place, or from the end where there is no such place.
+pub fn set_previous<T>(
+    nodes: &mut Slab<Node<T>>,
+    last: &mut Option<Place>,
+    place: Option<Place>,
+    previous: Option<Place>,
+)
+    requires { IfSome place (ContainsKey nodes.old) }
+    ensures changed { PreviousChanged nodes.old nodes.new last.old last.new place previous }
+    ensures len { slab_len nodes.new ≡ slab_len nodes.old }
+{
+    match place {
+        Some(place) => nodes[place.key].previous = previous,
+        None => *last = previous,
+    }
+}
+
+/// Puts in a node that leads back to `previous` and on to none; no link leads to it yet. `OutOfMemory` where the room is
+/// refused; then the value is dropped, and no node changes.
+pub fn add<T: Drop>(
+    nodes: &mut Slab<Node<T>>,
+    number: u64,
+    value: T,
+    previous: Option<Place>,
+) -> Result<Place, ConnectError>
+    ensures was_vacant { IfOk result (λ place. get nodes.old place ≡ None) }
+    ensures updates { IfOk result (λ place. Updates nodes.old nodes.new place (Some (node_of (number, value) previous None))) }
+    ensures len { OnOk result (slab_len nodes.new ≡ slab_len nodes.old + 1) }
+    ensures refused { IsOkUnless result OutOfMemory }
+    ensures values { OnErr result (SameValues nodes.old nodes.new) }
+    ensures len_kept { OnErr result (slab_len nodes.new ≡ slab_len nodes.old) }
+{
+    let node = Node {
+        number,
+        value,
+        previous,
+        next: None,
+    };
+    match nodes.insert(node) {
+        Ok(key) => Ok(Place { key }),
+        Err(_) => Err(ConnectError::OutOfMemory),
+    }
+}
