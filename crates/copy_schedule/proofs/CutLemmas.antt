@@ -82,13 +82,13 @@ module _ (m : Marks) (some : 0 < m.width) where
       each k below ∙ ap (λ z. cond (covers copies (pos (k % m.width)) (pos (k / m.width)) || covers pixels (pos (k % m.width)) (pos (k / m.width)) || is_clean z) Clean Owed) (sym (at_place-number Clean m.width m.height m.marks k some below))))
 
 -- the places of a screen
-record IsPlace (w h : ℕ) (x y : ℤ) : Type 0 where
-  left : pos 0 ≤ℤ x
-  right : x <ℤ pos w
-  top : pos 0 ≤ℤ y
-  bottom : y <ℤ pos h
+pub record IsPlace (w h : ℕ) (x y : ℤ) : Type 0 where
+  pub left : pos 0 ≤ℤ x
+  pub right : x <ℤ pos w
+  pub top : pos 0 ≤ℤ y
+  pub bottom : y <ℤ pos h
 
-is_place : (w h : ℕ) (x y : ℤ) → on_screen w h x y ≡ true → IsPlace w h x y
+pub is_place : (w h : ℕ) (x y : ℤ) → on_screen w h x y ≡ true → IsPlace w h x y
 is_place w h x y on = record { left = left w h x y on; right = right w h x y on; top = top w h x y on; bottom = bottom w h x y on }
   where
     left : (w h : ℕ) (x y : ℤ) → on_screen w h x y ≡ true → pos 0 ≤ℤ x

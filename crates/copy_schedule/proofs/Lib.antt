@@ -3,5 +3,7 @@ mod WindowLemmas
 mod BandLemmas
 mod OrderSteps
 mod CutLemmas
+mod SetLemmas
+mod KeptLemmas
 mod CopyLemmas
 mod RangeLemmas

@@ -1,4 +1,6 @@
 pub mod Places
 pub mod Windows
 pub mod Marks
+pub mod Kept
+pub mod Sets
 pub mod Examples

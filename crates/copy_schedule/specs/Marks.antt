@@ -1,9 +1,9 @@
 -- What a viewer's screen lacks, place by place, and what one update sends of it.
-use Rattle.std.specs.Prelude.{◌≤ℤ◌, ◌<ℤ◌, length, ◌≤◌, ℕ, ◌*◌, get_or, Bool, true, false, not, ◌&&◌, ◌||◌, if◌then◌else◌, List, take, replicate, ℤ, pos, ◌+ℤ◌, ◌-ℤ◌, Option, Some, None}
+use Rattle.std.specs.Prelude.{◌≡◌, ◌≤ℤ◌, ◌<ℤ◌, length, ◌≤◌, ℕ, ◌*◌, get_or, Bool, true, false, not, ◌&&◌, ◌||◌, if◌then◌else◌, List, take, replicate, ℤ, pos, ◌+ℤ◌, ◌-ℤ◌, Option, Some, None}
 use Rattle.std.specs.List.{All}
 use Rattle.std.specs.Ordering.{int_eq}
 use Rattle.region.specs.declared.Rect.{Rect}
-use Rattle.region.specs.Region.{covers, rects_of, order}
+use Rattle.region.specs.Region.{covers, on_screen, rects_of, order}
 use Rattle.copy_schedule.specs.declared.Cut.{Cut}
 use Rattle.copy_schedule.specs.declared.Mark.{Mark}
 use Rattle.copy_schedule.specs.declared.Mark.TheVariants.{Clean, Copied, Owed}
@@ -136,6 +136,10 @@ pending m = some_place m.width m.height (wanted m)
 abbrev pub after_sending : List Rect → List Rect → Marks → Marks
 after_sending copies pixels m = record (with_marks m (λ x y.
     if covers copies x y || covers pixels x y || is_clean (mark_at m x y) then Clean else Owed)) { offset = (pos 0, pos 0); asked = replicate (m.width * m.height) false }
+
+-- a set of places is on a w by h screen with the places (dx, dy) before them
+abbrev pub IsCutTo : ℕ → ℕ → ℤ × ℤ → List Rect → Type 0
+IsCutTo w h by rs = (x y : ℤ) → covers rs x y ≡ true → (on_screen w h x y && on_screen w h (x -ℤ by.0) (y -ℤ by.1)) ≡ true
 
 -- what one update sends, and the marks after it
 pub record Sent : Type 0 where

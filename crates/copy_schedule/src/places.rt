@@ -47,6 +47,8 @@ fn moved_edge(at: i32, by: i32, end: u32) -> usize
 
 /// The part of a rectangle, moved by (dx, dy), that is on a screen of `width` columns and `height` rows.
 pub fn window_of(rect: Rect, dx: i32, dy: i32, width: u32, height: u32) -> Window
+    ensures left { result.x1 ≤ width }
+    ensures top { result.y1 ≤ height }
     ensures columns { result.x2 ≤ width }
     ensures rows { result.y2 ≤ height }
     ensures places { (x y : ℕ) → x < width → y < height → in_window result x y ≡ in_rect rect (pos x -ℤ dx) (pos y -ℤ dy) }

@@ -1,9 +1,17 @@
-//! Worked examples of marks and cuts, and the canonical lists against a plain program.
+//! Worked examples of marks and cuts, the marks over regions beside the plain ones, and the canonical lists against a plain
+//! program.
 
-ghost use Rattle.std.specs.Prelude.{◌*◌, ◌^◌, ◌≤◌};
+ghost use Rattle.std.specs.Prelude.{◌≤◌, ◌≤ℤ◌, pos, IfOk};
+ghost use Rattle.copy_schedule.specs.Marks.{IsCutTo};
 
 use super::*;
+use plain::PlainMarks;
+use region::Region;
+use sets::{moved_by, screen_places, shared};
+use std::alloc::{AllocError, Global};
 use std::test::Fail;
+
+mod beside;
 
 const ALL: Rect = Rect {
     x1: 0,
@@ -16,22 +24,65 @@ fn rect(x1: i32, y1: i32, x2: i32, y2: i32) -> Rect {
     Rect { x1, y1, x2, y2 }
 }
 
-/// The whole screen is asked for, incrementally, and cut.
-fn cut_all(marks: &mut Marks, alloc: Global) -> Result<Option<Cut>, AllocError> {
-    marks.request(ALL, true);
-    marks.cut(alloc, 50)
+fn region_of(alloc: Global, rects: &[Rect]) -> Result<Region, AllocError> {
+    Region::from_rects(alloc, rects).map_err(|_| AllocError)
+}
+
+/// The rectangles' places that are on the screen with the places (dx, dy) before them.
+fn cut_region(
+    alloc: Global,
+    rects: &[Rect],
+    offset: (i32, i32),
+    width: u32,
+    height: u32,
+) -> Result<Region, AllocError>
+    requires width { width ≤ 8192 }
+    requires height { height ≤ 8192 }
+    ensures { IfOk result (λ part. IsCutTo width height offset part.list) }
+{
+    let all = region_of(alloc, rects)?;
+    let screen = screen_places(alloc, width, height)?;
+    let sources = moved_by(alloc, &screen, offset)?;
+    let inside = shared(alloc, &all, &screen)?;
+    let part = shared(alloc, &inside, &sources)?;
+    Ok(part)
+}
+
+fn mark(marks: &mut Marks, alloc: Global, rects: &[Rect]) -> Result<(), AllocError> {
+    let region = region_of(alloc, rects)?;
+    marks.mark(&region)
+}
+
+/// A copy of the rectangles, as far as they are on the screen with their sources.
+fn copy(
+    marks: &mut Marks,
+    alloc: Global,
+    rects: &[Rect],
+    dx: i32,
+    dy: i32,
+    uses_copyrect: bool,
+) -> Result<(), AllocError> {
+    let (width, height) = (marks.width(), marks.height());
+    let region = cut_region(alloc, rects, (dx, dy), width, height)?;
+    marks.copy(&region, dx, dy, uses_copyrect)
 }
 
 /// Marks of a screen that the viewer has whole.
 fn all_clean(alloc: Global, width: u32, height: u32) -> Result<Marks, AllocError>
-    requires width { 1 ≤ width }
-    requires height { 1 ≤ height }
-    requires places { width * height ≤ 2 ^ 24 }
+    requires some_columns { 1 ≤ width }
+    requires columns { width ≤ 8192 }
+    requires some_rows { 1 ≤ height }
+    requires rows { height ≤ 8192 }
 {
     let mut marks = Marks::new(alloc, width, height)?;
-    marks.request(ALL, false);
-    let _ = marks.cut(alloc, 50)?;
+    marks.request(ALL, false)?;
+    let _ = marks.cut(50)?;
     Ok(marks)
+}
+
+fn has_rects(region: &Region, alloc: Global, rects: &[Rect]) -> Result<bool, AllocError> {
+    let listed = region.rects(alloc, false, false)?;
+    Ok(listed.as_slice() == rects)
 }
 
 fn is_cut(cut: &Option<Cut>, copies: &[Rect], offset: (i32, i32), pixels: &[Rect]) -> bool {
@@ -43,22 +94,48 @@ fn is_cut(cut: &Option<Cut>, copies: &[Rect], offset: (i32, i32), pixels: &[Rect
     }
 }
 
+/// Whether an update of at most 50 rectangles of each kind sends these.
+fn sends(
+    marks: &mut Marks,
+    copies: &[Rect],
+    offset: (i32, i32),
+    pixels: &[Rect],
+) -> Result<bool, AllocError> {
+    let cut = marks.cut(50)?;
+    Ok(is_cut(&cut, copies, offset, pixels))
+}
+
+/// The same, once the whole screen is asked for.
+fn sends_all(
+    marks: &mut Marks,
+    copies: &[Rect],
+    offset: (i32, i32),
+    pixels: &[Rect],
+) -> Result<bool, AllocError> {
+    marks.request(ALL, true)?;
+    sends(marks, copies, offset, pixels)
+}
+
+/// Whether an update sends nothing, though the whole screen is asked for.
+fn sends_nothing(marks: &mut Marks) -> Result<bool, AllocError> {
+    marks.request(ALL, true)?;
+    let cut = marks.cut(50)?;
+    Ok(cut.is_none())
+}
+
 #[test]
 fn a_new_screen_is_owed_and_then_only_what_is_marked(rt: HostRuntime) -> Result<(), Fail> {
     let alloc = rt.alloc();
     let mut marks = Marks::new(alloc, 4, 3)?;
     assert_eq!(rt; (marks.width(), marks.height()), (4, 3));
     assert!(rt; !marks.pending(), "nothing is asked for");
-    marks.request(ALL, false);
+    marks.request(ALL, false)?;
     assert!(rt; marks.pending());
-    let first = marks.cut(alloc, 50)?;
-    assert!(rt; is_cut(&first, &[], (0, 0), &[rect(0, 0, 4, 3)]));
-    let nothing = cut_all(&mut marks, alloc)?;
-    assert!(rt; nothing.is_none());
-    marks.mark(&[rect(2, 1, 3, 2)]);
+    assert!(rt; sends(&mut marks, &[], (0, 0), &[rect(0, 0, 4, 3)])?);
+    assert!(rt; sends_nothing(&mut marks)?);
+    mark(&mut marks, alloc, &[rect(2, 1, 3, 2)])?;
     assert!(rt; marks.pending(), "the request still stands");
-    let second = marks.cut(alloc, 50)?;
-    assert!(rt; is_cut(&second, &[], (0, 0), &[rect(2, 1, 3, 2)]));
+    assert!(rt; sends(&mut marks, &[], (0, 0), &[rect(2, 1, 3, 2)])?);
     assert!(rt; !marks.pending());
     Ok(())
 }
@@ -67,43 +144,40 @@ fn a_new_screen_is_owed_and_then_only_what_is_marked(rt: HostRuntime) -> Result<
 fn a_request_counts_where_it_is_on_the_screen(rt: HostRuntime) -> Result<(), Fail> {
     let alloc = rt.alloc();
     let mut marks = Marks::new(alloc, 4, 3)?;
-    marks.request(rect(4, 0, 5, 1), false);
-    let outside = marks.cut(alloc, 50)?;
-    assert!(rt; outside.is_none());
-    marks.request(rect(3, 2, 13, 12), true);
-    let corner = marks.cut(alloc, 50)?;
-    assert!(rt; is_cut(&corner, &[], (0, 0), &[rect(3, 2, 4, 3)]));
+    marks.request(rect(4, 0, 5, 1), false)?;
+    assert!(rt; !marks.pending());
+    marks.request(rect(3, 2, 13, 12), true)?;
+    assert!(rt; sends(&mut marks, &[], (0, 0), &[rect(3, 2, 4, 3)])?);
     Ok(())
+}
+
+/// Whether an update of at most two rectangles of each kind sends these two.
+fn sends_two(marks: &mut Marks, x: i32) -> Result<bool, AllocError>
+    requires low { pos 0 ≤ℤ x }
+    requires high { x ≤ℤ pos 8192 }
+{
+    marks.request(ALL, true)?;
+    let cut = marks.cut(2)?;
+    let two = [rect(x, 0, x + 1, 1), rect(x + 2, 0, x + 3, 1)];
+    Ok(is_cut(&cut, &[], (0, 0), &two))
 }
 
 #[test]
 fn what_is_beyond_the_limit_comes_later(rt: HostRuntime) -> Result<(), Fail> {
     let alloc = rt.alloc();
     let mut marks = all_clean(alloc, 9, 1)?;
-    marks.mark(&[
+    let five = [
         rect(0, 0, 1, 1),
         rect(2, 0, 3, 1),
         rect(4, 0, 5, 1),
         rect(6, 0, 7, 1),
         rect(8, 0, 9, 1),
-    ]);
-    for x in [0, 4] {
-        marks.request(ALL, true);
-        let cut = marks.cut(alloc, 2)?;
-        assert!(rt;
-            is_cut(
-                &cut,
-                &[],
-                (0, 0),
-                &[rect(x, 0, x + 1, 1), rect(x + 2, 0, x + 3, 1)]
-            ),
-            "from {x}"
-        );
-    }
-    let last = cut_all(&mut marks, alloc)?;
-    assert!(rt; is_cut(&last, &[], (0, 0), &[rect(8, 0, 9, 1)]));
-    let nothing = cut_all(&mut marks, alloc)?;
-    assert!(rt; nothing.is_none());
+    ];
+    mark(&mut marks, alloc, &five)?;
+    assert!(rt; sends_two(&mut marks, 0)?);
+    assert!(rt; sends_two(&mut marks, 4)?);
+    assert!(rt; sends_all(&mut marks, &[], (0, 0), &[rect(8, 0, 9, 1)])?);
+    assert!(rt; sends_nothing(&mut marks)?);
     Ok(())
 }
 
@@ -113,35 +187,43 @@ fn many_marks_are_one_rectangle(rt: HostRuntime) -> Result<(), Fail> {
     let mut marks = all_clean(alloc, 9, 1)?;
     for number in 0..300 {
         let x = number % 5;
-        marks.mark(&[rect(x, 0, x + 1, 1)]);
+        mark(&mut marks, alloc, &[rect(x, 0, x + 1, 1)])?;
     }
-    let cut = cut_all(&mut marks, alloc)?;
-    assert!(rt; is_cut(&cut, &[], (0, 0), &[rect(0, 0, 5, 1)]));
+    assert!(rt; sends_all(&mut marks, &[], (0, 0), &[rect(0, 0, 5, 1)])?);
     Ok(())
 }
 
 #[test]
-fn a_copy_is_sent_as_a_copy_or_as_pixels(rt: HostRuntime) -> Result<(), Fail> {
+fn a_copy_is_sent_as_a_copy(rt: HostRuntime) -> Result<(), Fail> {
     let alloc = rt.alloc();
     let moved = [rect(1, 0, 4, 1)];
     let mut marks = all_clean(alloc, 4, 1)?;
-    marks.copy(alloc, &moved, 1, 0, true)?;
+    copy(&mut marks, alloc, &moved, 1, 0, true)?;
     assert_eq!(rt; marks.offset(), (1, 0));
-    let mut twin = marks.try_clone()?;
-    let copied = cut_all(&mut marks, alloc)?;
-    assert!(rt; is_cut(&copied, &moved, (1, 0), &[]));
+    assert!(rt; sends_all(&mut marks, &moved, (1, 0), &[])?);
     assert_eq!(rt; marks.offset(), (0, 0));
-    twin.no_copyrect();
-    let changed = cut_all(&mut twin, alloc)?;
-    assert!(rt; is_cut(&changed, &[], (1, 0), &moved));
-    let mut other = all_clean(alloc, 4, 1)?;
-    other.copy(alloc, &moved, 1, 0, false)?;
-    let pixels = cut_all(&mut other, alloc)?;
-    assert!(rt; is_cut(&pixels, &[], (0, 0), &moved));
-    let mut down = all_clean(alloc, 1, 4)?;
-    down.copy(alloc, &[rect(0, 1, 1, 4)], 0, 1, true)?;
-    let below = cut_all(&mut down, alloc)?;
-    assert!(rt; is_cut(&below, &[rect(0, 1, 1, 4)], (0, 1), &[]));
+    Ok(())
+}
+
+#[test]
+fn a_copy_is_sent_as_pixels_without_copyrect(rt: HostRuntime) -> Result<(), Fail> {
+    let alloc = rt.alloc();
+    let moved = [rect(1, 0, 4, 1)];
+    let mut marks = all_clean(alloc, 4, 1)?;
+    copy(&mut marks, alloc, &moved, 1, 0, true)?;
+    marks.no_copyrect()?;
+    assert!(rt; sends_all(&mut marks, &[], (1, 0), &moved)?);
+    copy(&mut marks, alloc, &moved, 1, 0, false)?;
+    assert!(rt; sends_all(&mut marks, &[], (0, 0), &moved)?);
+    Ok(())
+}
+
+#[test]
+fn a_copy_down_is_one_rectangle(rt: HostRuntime) -> Result<(), Fail> {
+    let alloc = rt.alloc();
+    let mut marks = all_clean(alloc, 1, 4)?;
+    copy(&mut marks, alloc, &[rect(0, 1, 1, 4)], 0, 1, true)?;
+    assert!(rt; sends_all(&mut marks, &[rect(0, 1, 1, 4)], (0, 1), &[])?);
     Ok(())
 }
 
@@ -149,10 +231,9 @@ fn a_copy_is_sent_as_a_copy_or_as_pixels(rt: HostRuntime) -> Result<(), Fail> {
 fn copies_over_their_own_sources_are_pixels(rt: HostRuntime) -> Result<(), Fail> {
     let alloc = rt.alloc();
     let mut marks = all_clean(alloc, 6, 1)?;
-    marks.copy(alloc, &[rect(2, 0, 4, 1)], 1, 0, true)?;
-    marks.copy(alloc, &[rect(3, 0, 5, 1)], 1, 0, true)?;
-    let cut = cut_all(&mut marks, alloc)?;
-    assert!(rt; is_cut(&cut, &[], (1, 0), &[rect(2, 0, 5, 1)]));
+    copy(&mut marks, alloc, &[rect(2, 0, 4, 1)], 1, 0, true)?;
+    copy(&mut marks, alloc, &[rect(3, 0, 5, 1)], 1, 0, true)?;
+    assert!(rt; sends_all(&mut marks, &[], (1, 0), &[rect(2, 0, 5, 1)])?);
     Ok(())
 }
 
@@ -160,26 +241,29 @@ fn copies_over_their_own_sources_are_pixels(rt: HostRuntime) -> Result<(), Fail>
 fn copies_to_the_right_go_from_the_right(rt: HostRuntime) -> Result<(), Fail> {
     let alloc = rt.alloc();
     let mut marks = all_clean(alloc, 6, 1)?;
-    marks.copy(alloc, &[rect(4, 0, 5, 1)], 2, 0, true)?;
-    marks.copy(alloc, &[rect(2, 0, 3, 1)], 2, 0, true)?;
-    let cut = cut_all(&mut marks, alloc)?;
-    assert!(rt; is_cut(&cut, &[rect(4, 0, 5, 1), rect(2, 0, 3, 1)], (2, 0), &[]));
+    copy(&mut marks, alloc, &[rect(4, 0, 5, 1)], 2, 0, true)?;
+    copy(&mut marks, alloc, &[rect(2, 0, 3, 1)], 2, 0, true)?;
+    let copies = [rect(4, 0, 5, 1), rect(2, 0, 3, 1)];
+    assert!(rt; sends_all(&mut marks, &copies, (2, 0), &[])?);
     Ok(())
+}
+
+/// Marks with a copy whose source is asked for anew.
+fn with_a_lost_source(alloc: Global) -> Result<Marks, AllocError> {
+    let mut marks = all_clean(alloc, 4, 1)?;
+    copy(&mut marks, alloc, &[rect(2, 0, 3, 1)], 1, 0, true)?;
+    marks.request(rect(1, 0, 2, 1), false)?;
+    Ok(marks)
 }
 
 #[test]
 fn a_source_that_is_asked_for_anew_is_lost(rt: HostRuntime) -> Result<(), Fail> {
     let alloc = rt.alloc();
-    let mut marks = all_clean(alloc, 4, 1)?;
-    marks.copy(alloc, &[rect(2, 0, 3, 1)], 1, 0, true)?;
-    marks.request(rect(1, 0, 2, 1), false);
+    let mut marks = with_a_lost_source(alloc)?;
     let mut twin = marks.try_clone()?;
-    let source = marks.cut(alloc, 50)?;
-    assert!(rt; is_cut(&source, &[], (1, 0), &[rect(1, 0, 2, 1)]));
-    let rest = cut_all(&mut marks, alloc)?;
-    assert!(rt; is_cut(&rest, &[], (0, 0), &[rect(2, 0, 3, 1)]));
-    let both = cut_all(&mut twin, alloc)?;
-    assert!(rt; is_cut(&both, &[], (1, 0), &[rect(1, 0, 3, 1)]));
+    assert!(rt; sends(&mut marks, &[], (1, 0), &[rect(1, 0, 2, 1)])?);
+    assert!(rt; sends_all(&mut marks, &[], (0, 0), &[rect(2, 0, 3, 1)])?);
+    assert!(rt; sends_all(&mut twin, &[], (1, 0), &[rect(1, 0, 3, 1)])?);
     Ok(())
 }
 
@@ -187,18 +271,21 @@ fn a_source_that_is_asked_for_anew_is_lost(rt: HostRuntime) -> Result<(), Fail> 
 fn a_copy_that_is_not_sent_is_owed(rt: HostRuntime) -> Result<(), Fail> {
     let alloc = rt.alloc();
     let mut marks = all_clean(alloc, 4, 1)?;
-    marks.copy(alloc, &[rect(2, 0, 3, 1)], 1, 0, true)?;
-    marks.mark(&[rect(0, 0, 1, 1)]);
-    marks.request(rect(0, 0, 1, 1), true);
-    let painted = marks.cut(alloc, 50)?;
-    assert!(rt; is_cut(&painted, &[], (1, 0), &[rect(0, 0, 1, 1)]));
-    let rest = cut_all(&mut marks, alloc)?;
-    assert!(rt; is_cut(&rest, &[], (0, 0), &[rect(2, 0, 3, 1)]));
-    let mut owed = all_clean(alloc, 4, 1)?;
-    owed.mark(&[rect(0, 0, 1, 1)]);
-    owed.copy(alloc, &[rect(1, 0, 2, 1)], 1, 0, true)?;
-    let both = cut_all(&mut owed, alloc)?;
-    assert!(rt; is_cut(&both, &[], (1, 0), &[rect(0, 0, 2, 1)]));
+    copy(&mut marks, alloc, &[rect(2, 0, 3, 1)], 1, 0, true)?;
+    mark(&mut marks, alloc, &[rect(0, 0, 1, 1)])?;
+    marks.request(rect(0, 0, 1, 1), true)?;
+    assert!(rt; sends(&mut marks, &[], (1, 0), &[rect(0, 0, 1, 1)])?);
+    assert!(rt; sends_all(&mut marks, &[], (0, 0), &[rect(2, 0, 3, 1)])?);
+    Ok(())
+}
+
+#[test]
+fn a_copy_of_what_is_owed_is_owed(rt: HostRuntime) -> Result<(), Fail> {
+    let alloc = rt.alloc();
+    let mut marks = all_clean(alloc, 4, 1)?;
+    mark(&mut marks, alloc, &[rect(0, 0, 1, 1)])?;
+    copy(&mut marks, alloc, &[rect(1, 0, 2, 1)], 1, 0, true)?;
+    assert!(rt; sends_all(&mut marks, &[], (1, 0), &[rect(0, 0, 2, 1)])?);
     Ok(())
 }
 
@@ -274,38 +361,75 @@ fn canonical_lists_are_those_of_a_plain_program(rt: HostRuntime) -> Result<(), F
 }
 
 #[test]
+fn the_asked_places_are_listed(rt: HostRuntime) -> Result<(), Fail> {
+    let alloc = rt.alloc();
+    let mut marks = Marks::new(alloc, 4, 1)?;
+    assert!(rt; has_rects(marks.modified(), alloc, &[rect(0, 0, 4, 1)])?);
+    assert!(rt; marks.copied().is_empty() && marks.requested().is_empty());
+    marks.request(rect(1, 0, 3, 1), false)?;
+    assert!(rt; has_rects(marks.requested(), alloc, &[rect(1, 0, 3, 1)])?);
+    Ok(())
+}
+
+#[test]
 fn the_marked_places_are_listed(rt: HostRuntime) -> Result<(), Fail> {
     let alloc = rt.alloc();
-    let none: [Rect; 0] = [];
-    let mut marks = Marks::new(alloc, 4, 1)?;
-    assert_eq!(rt;
-        marks.modified(alloc)?.as_slice(),
-        [rect(0, 0, 4, 1)].as_slice()
-    );
-    assert_eq!(rt; marks.copied(alloc)?.as_slice(), none.as_slice());
-    assert_eq!(rt; marks.requested(alloc)?.as_slice(), none.as_slice());
-    marks.request(rect(1, 0, 3, 1), false);
-    assert_eq!(rt;
-        marks.requested(alloc)?.as_slice(),
-        [rect(1, 0, 3, 1)].as_slice()
-    );
-    marks.request(ALL, false);
-    let _ = marks.cut(alloc, 50)?;
-    assert_eq!(rt; marks.modified(alloc)?.as_slice(), none.as_slice());
-    marks.mark(&[rect(1, 0, 2, 1)]);
-    marks.copy(alloc, &[rect(3, 0, 4, 1)], 1, 0, true)?;
-    assert_eq!(rt;
-        marks.copied(alloc)?.as_slice(),
-        [rect(3, 0, 4, 1)].as_slice()
-    );
-    assert_eq!(rt;
-        marks.modified(alloc)?.as_slice(),
-        [rect(1, 0, 2, 1)].as_slice()
-    );
-    marks.no_copyrect();
-    assert_eq!(rt;
-        marks.modified(alloc)?.as_slice(),
-        [rect(1, 0, 2, 1), rect(3, 0, 4, 1)].as_slice()
-    );
+    let mut marks = all_clean(alloc, 4, 1)?;
+    assert!(rt; marks.modified().is_empty() && marks.requested().is_empty());
+    mark(&mut marks, alloc, &[rect(1, 0, 2, 1)])?;
+    copy(&mut marks, alloc, &[rect(3, 0, 4, 1)], 1, 0, true)?;
+    assert!(rt; has_rects(marks.copied(), alloc, &[rect(3, 0, 4, 1)])?);
+    assert!(rt; has_rects(marks.modified(), alloc, &[rect(1, 0, 2, 1)])?);
+    marks.no_copyrect()?;
+    let owed = [rect(1, 0, 2, 1), rect(3, 0, 4, 1)];
+    assert!(rt; has_rects(marks.modified(), alloc, &owed)?);
+    Ok(())
+}
+
+/// The marks with a place owed, by way of `prepare_mark`; None where it is owed before `commit`.
+fn prepared_and_marked(alloc: Global, marks: &mut Marks) -> Result<Option<()>, AllocError> {
+    let corner = region_of(alloc, &[rect(0, 0, 1, 1)])?;
+    let prepared = marks.prepare_mark(&corner)?;
+    if !marks.modified().is_empty() {
+        return Ok(None);
+    }
+    marks.commit(prepared);
+    Ok(Some(()))
+}
+
+#[test]
+fn a_prepared_mark_counts_once_it_is_committed(rt: HostRuntime) -> Result<(), Fail> {
+    let alloc = rt.alloc();
+    let mut marks = all_clean(alloc, 4, 1)?;
+    assert!(rt; prepared_and_marked(alloc, &mut marks)?.is_some());
+    assert!(rt; has_rects(marks.modified(), alloc, &[rect(0, 0, 1, 1)])?);
+    let twin = marks.try_clone()?;
+    assert!(rt; has_rects(twin.modified(), alloc, &[rect(0, 0, 1, 1)])?);
+    Ok(())
+}
+
+/// The marks after a copy, by way of `prepare_copy`; None where it is copied before `commit`.
+fn prepared_and_copied(alloc: Global, marks: &mut Marks) -> Result<Option<()>, AllocError> {
+    let (width, height) = (marks.width(), marks.height());
+    let drawn = cut_region(alloc, &[rect(3, 0, 4, 1)], (1, 0), width, height)?;
+    let prepared = marks.prepare_copy(&drawn, 1, 0, true)?;
+    if !marks.copied().is_empty() {
+        return Ok(None);
+    }
+    marks.commit(prepared);
+    Ok(Some(()))
+}
+
+#[test]
+fn a_prepared_copy_counts_once_it_is_committed(rt: HostRuntime) -> Result<(), Fail> {
+    let alloc = rt.alloc();
+    let mut marks = all_clean(alloc, 4, 1)?;
+    mark(&mut marks, alloc, &[rect(0, 0, 2, 1)])?;
+    assert!(rt; prepared_and_copied(alloc, &mut marks)?.is_some());
+    assert!(rt; has_rects(marks.copied(), alloc, &[rect(3, 0, 4, 1)])?);
+    assert_eq!(rt; marks.offset(), (1, 0));
+    marks.no_copyrect()?;
+    mark(&mut marks, alloc, &[rect(2, 0, 3, 1)])?;
+    assert!(rt; has_rects(marks.modified(), alloc, &[rect(0, 0, 4, 1)])?);
     Ok(())
 }

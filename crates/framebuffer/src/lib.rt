@@ -10,7 +10,7 @@ mod spans;
 
 pub use blocks::{Block, block_of, block_within, read_block, replace};
 pub use moves::move_colours;
-pub use spans::{destinations, straightened};
+pub use spans::destinations;
 
 #[cfg(test)]
 mod tests;

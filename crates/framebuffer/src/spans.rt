@@ -1,6 +1,6 @@
 //! The places that a copy moves colours to: of the places that it names, those that are on the screen with their sources.
 
-ghost use Rattle.std.specs.Prelude.{◌≡◌, ℤ, ◌≤◌, ◌≤ℤ◌, ◌<ℤ◌, ◌+ℤ◌, ◌-ℤ◌, ◌&&◌, All, pos, map, ◌++◌, int_le, int_lt, IfOk, OnOk};
+ghost use Rattle.std.specs.Prelude.{◌≡◌, ℤ, ◌≤◌, ◌≤ℤ◌, ◌<ℤ◌, ◌+ℤ◌, ◌-ℤ◌, ◌&&◌, All, pos, ◌++◌, int_le, int_lt, IfOk, OnOk};
 ghost use Rattle.region.specs.Region.{in_rect, covers, on_screen};
 ghost use Rattle.region.specs.Held.{one_if};
 ghost use Rattle.copy_schedule.specs.Places.{cut_destination};
@@ -96,17 +96,6 @@ fn straight(rect: Rect) -> Rect
         x2: rect.x1.max(rect.x2),
         y2: rect.y1.max(rect.y2),
     }
-}
-
-/// The rectangles with their corners in order.
-pub fn straightened(alloc: Global, rects: &[Rect]) -> Result<Vec<Rect>, AllocError>
-    ensures { IfOk result (λ list. list.items ≡ map straight rects.now) }
-{
-    let mut list = Vec::with_capacity(alloc, rects.len())?;
-    for rect in rects {
-        list.push(straight(*rect))?;
-    }
-    Ok(list)
 }
 
 fn has_places(rect: &Rect) -> bool

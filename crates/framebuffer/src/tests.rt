@@ -25,19 +25,11 @@ fn corners_are_put_in_order(rt: HostRuntime) -> Result<(), Fail> {
         rect(MAX, MIN, MIN, MAX),
         rect(4, 4, 4, 4),
     ];
-    let straight = straightened(rt.alloc(), &given)?;
+    let straight = destinations(rt.alloc(), &given, 0, 0, 5, 6)?;
     let one = rect(1, 2, 3, 5);
     assert_eq!(rt;
         straight.as_slice(),
-        [
-            one,
-            one,
-            one,
-            one,
-            rect(MIN, MIN, MAX, MAX),
-            rect(4, 4, 4, 4)
-        ]
-        .as_slice()
+        [one, one, one, one, rect(0, 0, 5, 6)].as_slice()
     );
     Ok(())
 }

@@ -22,7 +22,7 @@ abbrev pub Distinct : List ℕ → Type 0
 Distinct [] = Unit {0}
 Distinct (n ∷ ns) = (has n ns ≡ false) × Distinct ns
 
-or_parts : (a b : Bool) → (a || b) ≡ false → (a ≡ false) × (b ≡ false)
+pub or_parts : (a b : Bool) → (a || b) ≡ false → (a ≡ false) × (b ≡ false)
 or_parts true b h = absurd cc
 or_parts false b h = (refl, h)
 
@@ -48,7 +48,7 @@ has-last n v (m ∷ ns) h other =
     let parts = or_parts (m == n) (has n ns) h in
     ap (λ b. b || has n (ns ++ v ∷ [])) parts.0 ∙ has-last n v ns parts.1 other
 
-swap-eq : (u v : ℕ) → (u == v) ≡ false → (v == u) ≡ false
+pub swap-eq : (u v : ℕ) → (u == v) ≡ false → (v == u) ≡ false
 swap-eq u v h = grind (arith, nat_tests)
 
 distinct-last : (v : ℕ) (ns : List ℕ) → Distinct ns → has v ns ≡ false → Distinct (ns ++ v ∷ [])

@@ -1,6 +1,6 @@
 -- What a copy does to the picture and the viewers, by the rectangles that it moves colours to.
 use Rattle.std.proofs.Common.{◌≡◌, ◌≢◌, ℕ, ℤ, pos, ◌+◌, ◌*◌, ◌/◌, ◌%◌, ◌<◌, ◌≤◌, ◌⊎◌, inl, inr, Bool, true, false, cond, not, ◌||◌, List, [], ◌∷◌, map, All, refl, sym, ap, ◌∙◌, arith, mul_comm}
-use Rattle.std.specs.Prelude.{nat_abs, ◌<ℤ◌}
+use Rattle.std.specs.Prelude.{nat_abs, ◌<ℤ◌, ◌-ℤ◌, ◌&&◌, slice_index_or}
 use Rattle.std.specs.List.{list_any, range_with_len}
 use Rattle.std.proofs.Math.Nat.{mul-le-mul_right}
 use Rattle.std.proofs.lemmas.Nat.{div-mul-add, mod-mul-add}
@@ -8,13 +8,13 @@ use Rattle.std.proofs.lemmas.Int.{ints}
 use Rattle.std.proofs.lemmas.List.FromFn.{get_or-map-range_with_len, length-map-range_with_len}
 use Rattle.std.proofs.lemmas.List.Folds.{list_any_at}
 use Rattle.region.specs.declared.Rect.{Rect}
-use Rattle.region.specs.Region.{in_rect, covers, by_band, beside, in_order}
-use Rattle.std.specs.Ordering.{int_eq}
-use Rattle.std.specs.Prelude.{flat_map}
+use Rattle.region.specs.Region.{in_rect, covers, on_screen}
 use Rattle.copy_schedule.specs.Places.{some_place, cut_destination}
-use Rattle.copy_schedule.specs.Marks.{IsOnScreen, same_offset, copied_by}
+use Rattle.copy_schedule.specs.Marks.{IsOnScreen, IsCutTo, same_offset, copied_by}
+use Rattle.screen.specs.declared.Config.{Config}
 use Rattle.screen.specs.declared.place.Seat.{Seat}
 use Rattle.screen.specs.Viewer.{does_nothing, viewer_copied}
+use Rattle.screen.specs.Held.{IsSized}
 use Rattle.screen.specs.Entries.{viewer_in, seat_with, marks_copied}
 
 -- ---- whether a copy does something
@@ -63,20 +63,19 @@ something w h set by (r ∷ pieces) places inside far =
     ∙ ap (λ (f : ℤ → ℤ → Bool). not (some_place w h f)) (sym places)
     ∙ ap not (some_of w h r pieces (inside 0 r (omega arith)))
 
--- ---- a region's list, from the top and from the left
+-- ---- where it does something, it is on the screen
 
-one_band : (r : Rect) (lines : List (List Rect)) → flat_map (λ l. l) (beside r lines) ≡ r ∷ flat_map (λ l. l) lines
-one_band r [] = refl
-one_band r ([] ∷ lines) = refl
-one_band r ((q ∷ qs) ∷ lines) = go (int_eq r.y1 q.y1)
-  where
-    go : (b : Bool) → flat_map (λ l. l) (cond b ((r ∷ q ∷ qs) ∷ lines) ((r ∷ []) ∷ (q ∷ qs) ∷ lines)) ≡ r ∷ q ∷ flat_map (λ l. l) (qs ∷ lines)
-    go true = refl
-    go false = refl
+inside : (a b c : Bool) → (a && b && c) ≡ true → (b && c) ≡ true
+inside true b c e = e
+inside false b c e = absurd cc
 
-pub plain_order : (rs : List Rect) → in_order false false rs ≡ rs
-plain_order [] = refl
-plain_order (r ∷ rs) = one_band r (by_band rs) ∙ ap (λ l. r ∷ l) (plain_order rs)
+pub all-cut : (c : Config) (set : ℤ → ℤ → Bool) (by : ℤ × ℤ) (pieces : List Rect) (seats : List Seat) → covers pieces ≡ cut_destination c.width c.height set by → All (IsSized c) seats
+    → All (λ s. IsCutTo s.marks.width s.marks.height by pieces) seats
+all-cut c set by pieces seats places sized = λ k d below x y is.
+    let size = sized k d below in
+    ap (λ w. on_screen w (slice_index_or seats k d).marks.height x y && on_screen w (slice_index_or seats k d).marks.height (x -ℤ by.0) (y -ℤ by.1)) size.width
+    ∙ ap (λ h. on_screen c.width h x y && on_screen c.width h (x -ℤ by.0) (y -ℤ by.1)) size.height
+    ∙ inside (set x y) (on_screen c.width c.height x y) (on_screen c.width c.height (x -ℤ by.0) (y -ℤ by.1)) (ap (λ (f : ℤ → ℤ → Bool). f x y) (sym places) ∙ is)
 
 -- ---- the viewers
 
@@ -86,15 +85,15 @@ seat_still w h set by s none = sym (ap (λ b. record (viewer_in s) { marks = con
 
 -- the copy is done
 pub seat_moved : (w h : ℕ) (set : ℤ → ℤ → Bool) (by : ℤ × ℤ) (pieces : List Rect) (s : Seat) → covers pieces ≡ cut_destination w h set by → does_nothing w h set by ≡ false
-    → viewer_in (seat_with (marks_copied pieces by) s) ≡ viewer_copied w h set by (viewer_in s)
+    → viewer_in (seat_with (marks_copied (covers pieces) by) s) ≡ viewer_copied w h set by (viewer_in s)
 seat_moved w h set by pieces s places some =
     ap (λ (f : ℤ → ℤ → Bool). record (viewer_in s) { marks = copied_by f by s.uses_copyrect s.marks }) places
     ∙ sym (ap (λ b. record (viewer_in s) { marks = cond b s.marks (copied_by (cut_destination w h set by) by s.uses_copyrect s.marks) }) some)
 
 -- the marks of a copy are of the screen's size
-pub same_size : (pieces : List Rect) (by : ℤ × ℤ) (s : Seat) → ((marks_copied pieces by s).width ≡ s.marks.width) × ((marks_copied pieces by s).height ≡ s.marks.height)
-same_size pieces by s = go s.uses_copyrect
+pub same_size : (set : ℤ → ℤ → Bool) (by : ℤ × ℤ) (s : Seat) → ((marks_copied set by s).width ≡ s.marks.width) × ((marks_copied set by s).height ≡ s.marks.height)
+same_size set by s = go s.uses_copyrect
   where
-    go : (b : Bool) → ((copied_by (covers pieces) by b s.marks).width ≡ s.marks.width) × ((copied_by (covers pieces) by b s.marks).height ≡ s.marks.height)
+    go : (b : Bool) → ((copied_by set by b s.marks).width ≡ s.marks.width) × ((copied_by set by b s.marks).height ≡ s.marks.height)
     go true = (refl, refl)
     go false = (refl, refl)

@@ -257,16 +257,12 @@ answer-close c es v = answer-hit c v es (Close v) refl ∙ go (viewer_of c v es)
     go None = refl
     go (Some w) = refl
 
-pub entries-without : (v : ℕ) (seats : List Seat) → map entry (filter (λ s. not (s.number == v)) seats) ≡ filter (λ p. not (p.0 == v)) (map entry seats)
+pub entries-without : (v : ℕ) (pairs : List (ℕ × Seat)) → map entry (filter (λ p. not (p.0 == v)) pairs) ≡ filter (λ p. not (p.0 == v)) (map entry pairs)
 entries-without v [] = refl
-entries-without v (s ∷ seats) = elim (s.number == v) as (λ b. map entry (cond (not b) (s ∷ filter (λ s. not (s.number == v)) seats) (filter (λ s. not (s.number == v)) seats)) ≡ cond (not b) (entry s ∷ filter (λ p. not (p.0 == v)) (map entry seats)) (filter (λ p. not (p.0 == v)) (map entry seats))) [
-  | true ↦ entries-without v seats
-  | false ↦ ap (λ l. entry s ∷ l) (entries-without v seats)
+entries-without v (pair ∷ pairs) = elim (pair.0 == v) as (λ b. map entry (cond (not b) (pair ∷ filter (λ p. not (p.0 == v)) pairs) (filter (λ p. not (p.0 == v)) pairs)) ≡ cond (not b) (entry pair ∷ filter (λ p. not (p.0 == v)) (map entry pairs)) (filter (λ p. not (p.0 == v)) (map entry pairs))) [
+  | true ↦ entries-without v pairs
+  | false ↦ ap (λ l. entry pair ∷ l) (entries-without v pairs)
 ]
-
-pub entries-any : (v : ℕ) (seats : List Seat) → list_any (λ s. s.number == v) seats ≡ list_any (λ p. p.0 == v) (map entry seats)
-entries-any v [] = refl
-entries-any v (s ∷ seats) = ap (λ b. (s.number == v) || b) (entries-any v seats)
 
 -- ---- the picture is everyone's
 

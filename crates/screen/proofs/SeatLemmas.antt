@@ -1,5 +1,5 @@
 -- What is done to a seat, and the inputs among items.
-use Rattle.std.proofs.Common.{◌≡◌, ℕ, ℤ, pos, negsuc, ◌+◌, List, [], ◌∷◌, ◌++◌, reverse, None, refl, sym, ap, ◌∙◌, arith, append_assoc}
+use Rattle.std.proofs.Common.{◌≡◌, true, false, ℕ, ℤ, pos, negsuc, ◌+◌, List, [], ◌∷◌, ◌++◌, reverse, None, refl, sym, ap, ◌∙◌, arith, append_assoc}
 use Rattle.std.specs.Prelude.{min}
 use Rattle.std.specs.List.{filter_map, cons_option}
 use Rattle.std.proofs.lemmas.Bool.Decides.{nat_tests}
@@ -11,8 +11,27 @@ use Rattle.messages.specs.declared.Input.{Input}
 use Rattle.messages.specs.declared.Item.{Item}
 use Rattle.messages.specs.declared.Item.TheVariants as item
 use Rattle.region.specs.Region.{in_rect}
-use Rattle.screen.specs.Alone.{input_of}
-use Rattle.screen.specs.Viewer.{area_places}
+use Rattle.screen.specs.declared.Config.{Config}
+use Rattle.screen.specs.Alone.{input_of, after_items}
+use Rattle.screen.specs.Viewer.{Viewer, area_places, after_item}
+
+item-size : {B : Type 0} (w h : ℕ) (i : Item) (v : Viewer B) → ((after_item w h i v).marks.width ≡ v.marks.width) × ((after_item w h i v).marks.height ≡ v.marks.height)
+item-size w h (item.Encodings preferred true) v = (refl, refl)
+item-size w h (item.Encodings preferred false) v = (refl, refl)
+item-size w h (item.Request true area) v = (refl, refl)
+item-size w h (item.Request false area) v = (refl, refl)
+item-size w h (item.Version version) v = (refl, refl)
+item-size w h item.Choice v = (refl, refl)
+item-size w h (item.Init shared) v = (refl, refl)
+item-size w h (item.Format f) v = (refl, refl)
+item-size w h (item.Input input) v = (refl, refl)
+
+-- a viewer's messages leave the size of its marks
+pub items-size : {B : Type 0} (c : Config) (is : List Item) (v : Viewer B) → ((after_items c is v).marks.width ≡ v.marks.width) × ((after_items c is v).marks.height ≡ v.marks.height)
+items-size c [] v = (refl, refl)
+items-size c (i ∷ is) v =
+    let first = item-size c.width c.height i v in
+    let rest = items-size c is (after_item c.width c.height i v) in (rest.0 ∙ first.0, rest.1 ∙ first.1)
 
 -- an input at the end goes to the front of the inputs
 pub input-last : (items rest : List Item) (i : Input) (inputs all : List Input) → items ≡ rest ++ item.Input i ∷ [] → filter_map input_of items ++ reverse inputs ≡ all

@@ -1,6 +1,6 @@
 //! What an update copies out of the screen: the rectangles that the marks chose, with their colours.
 
-ghost use Rattle.std.specs.Prelude.{◌≡◌, ◌<◌, ◌≤◌, ◌+◌, ◌*◌, ◌^◌, All, length, map, flat_map, IfOk, pos, ◌≤ℤ◌, ◌<ℤ◌, ◌-ℤ◌, nat_abs, [], ◌≢◌, IfSome, OnOk, OnErr};
+ghost use Rattle.std.specs.Prelude.{◌≡◌, ◌<◌, ◌≤◌, ◌+◌, ◌*◌, ◌^◌, All, length, flat_map, IfOk, ◌-ℤ◌, nat_abs, [], ◌≢◌, IfSome, OnOk, OnErr};
 ghost use Rattle.copy_schedule.specs.Marks.{IsOnScreen, IsInside, HasSourcesInside, source_rect};
 ghost use Rattle.pixel_translate.specs.declared.PixelFormat.{PixelFormat};
 ghost use Rattle.copy_schedule.specs.Marks.{cut_of};
@@ -15,9 +15,9 @@ ghost use Rattle.screen.specs.Given.{bytes_given, marks_put, sent_bytes, sent_ma
 
 use crate::Config;
 use crate::parts::{Coloured, Moved, Rectangles};
-use crate::place::{Planned, Seat};
+use crate::place::{Planned, Seat, put_marks};
 use crate::update::{Update, encode_all};
-use copy_schedule::{Cut, Marks};
+use copy_schedule::Cut;
 use framebuffer::{Block, block_within, read_block};
 use messages::Encoding;
 use pixel_translate::{Area, PixelFormat};
@@ -168,7 +168,7 @@ fn plan(alloc: Global, config: &Config, picture: &[u32], seat: &Seat) -> Result<
         });
     }
     let mut marks = seat.marks.try_clone()?;
-    let Some(cut) = marks.cut(alloc, config.rects_per_update)? else {
+    let Some(cut) = marks.cut(config.rects_per_update)? else {
         return Ok(Planned {
             rectangles: None,
             marks: None,
@@ -179,15 +179,6 @@ fn plan(alloc: Global, config: &Config, picture: &[u32], seat: &Seat) -> Result<
         rectangles: Some(rectangles),
         marks: Some(marks),
     })
-}
-
-/// The viewer's marks are these from now on, if there are any.
-fn put_marks(seat: &mut Seat, marks: Option<Marks>)
-    ensures { seat.new ≡ record seat.old { marks = marks_put seat.old.marks marks } }
-{
-    if let Some(marks) = marks {
-        seat.marks = marks;
-    }
 }
 
 /// Cuts an update for a viewer, or None where there is nothing to send. All growths are made before
@@ -206,7 +197,6 @@ pub fn cut_in(
     ensures bytes { IfOk result (λ update. bytes_given update ≡ (sending_kept config.now.width config.now.height config.now.rects_per_update picture.now (viewer_in seat.old)).0) }
     ensures viewer { OnOk result (viewer_in seat.new ≡ (sending_kept config.now.width config.now.height config.now.rects_per_update picture.now (viewer_in seat.old)).1) }
     ensures some { IfOk result (λ update. IfSome update (λ u. u ≢ [])) }
-    ensures number { seat.new.number ≡ seat.old.number }
     ensures sized { IsSized config.now seat.new }
     ensures err { OnErr result (seat.new ≡ seat.old) }
 {
@@ -236,7 +226,6 @@ pub fn cut_bytes_in(
     requires sized { IsSized config.now seat.old }
     ensures bytes { IfOk result (λ bytes. bytes.items ≡ (sending_kept config.now.width config.now.height config.now.rects_per_update picture.now (viewer_in seat.old)).0) }
     ensures viewer { OnOk result (viewer_in seat.new ≡ (sending_kept config.now.width config.now.height config.now.rects_per_update picture.now (viewer_in seat.old)).1) }
-    ensures number { seat.new.number ≡ seat.old.number }
     ensures sized { IsSized config.now seat.new }
     ensures err { OnErr result (seat.new ≡ seat.old) }
 {

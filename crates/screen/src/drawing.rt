@@ -1,29 +1,29 @@
 //! What drawing calls do to the viewers: places that are owed, copies that they may make themselves, and notices.
+//!
+//! A drawing call prepares the new marks of every viewer first, then changes the picture, and then puts the marks in place by
+//! steps that take no memory. Of its places it makes one region, for all viewers, and none where there is no viewer.
 
-ghost use Rattle.std.specs.Prelude.{◌≡◌, ◌≢◌, ◌⊎◌, true, false, pos, ◌≤◌, ◌*◌, ◌^◌, List, ◌∷◌, [], map, length, replicate, IfOk};
-ghost use Rattle.region.specs.Region.{covers};
-ghost use Rattle.copy_schedule.specs.Marks.{Marks, copied_by, same_offset};
-ghost use Rattle.screen.specs.declared.place.Seat.{Seat};
+ghost use Rattle.std.specs.Prelude.{◌≡◌, ◌≢◌, ◌⊎◌, true, false, pos, ◌≤◌, ◌^◌, [], All, map, length, replicate, IfOk};
+ghost use Rattle.std.specs.Map.{values_of};
+ghost use Rattle.client_list.specs.Connected.{changed};
+ghost use Rattle.region.specs.Region.{covers, in_rect};
+ghost use Rattle.region.specs.Held.{in_range};
+ghost use Rattle.copy_schedule.specs.Marks.{same_offset, IsCutTo, IsOnScreen};
+ghost use Rattle.framebuffer.specs.Picture.{union_of};
 ghost use Rattle.screen.specs.declared.notices.Notice.{Notice};
 ghost use Rattle.screen.specs.Short.{IsShort};
-ghost use Rattle.screen.specs.Entries.{seat_marked, seat_noticed, seat_with, marks_copied};
+ghost use Rattle.screen.specs.Held.{IsSized};
+ghost use Rattle.screen.specs.Entries.{seat_noticed, marks_owed, marks_copied, with_marks_of};
 
+use crate::Config;
 use crate::notices::Notice;
 use crate::place::Seat;
-use copy_schedule::Marks;
+use client_list::Clients;
+use copy_schedule::Prepared;
+use framebuffer::destinations;
 use listed::Listed;
-use region::Rect;
+use region::{Rect, Region, RegionError};
 use std::alloc::{AllocError, Global};
-
-/// Each viewer is owed the rectangles' places.
-pub fn mark_all(seats: &mut Vec<Seat>, rects: &[Rect])
-    ensures { seats.new.items ≡ map (seat_marked rects.now) seats.old.items }
-{
-    for i in 0..seats.len() {
-        let seat = &mut seats[i];
-        seat.marks.mark(rects);
-    }
-}
 
 /// A viewer keeps a notice, where it is open.
 fn keep_notice(seat: &mut Seat, notice: Notice)
@@ -36,12 +36,13 @@ fn keep_notice(seat: &mut Seat, notice: Notice)
 }
 
 /// Each viewer keeps a Bell, where it is open.
-pub fn ring_all(seats: &mut Vec<Seat>)
-    ensures { seats.new.items ≡ map (seat_noticed Notice.Bell) seats.old.items }
+pub fn ring_all(clients: &mut Clients<Seat>)
+    ensures { clients.new.pairs ≡ changed (seat_noticed Notice.Bell) clients.old.pairs }
 {
-    for i in 0..seats.len() {
-        let seat = &mut seats[i];
-        keep_notice(seat, Notice::Bell);
+    let mut place = clients.first();
+    while let Some(at) = place {
+        keep_notice(clients.at_mut(at), Notice::Bell);
+        place = clients.next(at);
     }
 }
 
@@ -58,17 +59,18 @@ pub fn texts(alloc: Global, text: &[u8], count: usize) -> Result<Vec<Notice>, Al
 }
 
 /// Each viewer keeps one of the texts, where it is open.
-pub fn tell_all(seats: &mut Vec<Seat>, text: &[u8], notices: Vec<Notice>)
+pub fn tell_all(clients: &mut Clients<Seat>, text: &[u8], notices: Vec<Notice>)
     requires short { length text.now ≤ 2 ^ 16 }
-    requires texts { notices.items ≡ replicate (length seats.old.items) (Notice.CutText text.now) }
-    ensures { seats.new.items ≡ map (seat_noticed (Notice.CutText text.now)) seats.old.items }
+    requires texts { notices.items ≡ replicate (length clients.old.pairs) (Notice.CutText text.now) }
+    ensures { clients.new.pairs ≡ changed (seat_noticed (Notice.CutText text.now)) clients.old.pairs }
 {
     let mut notices = notices;
-    for i in 0..seats.len() {
-        let seat = &mut seats[i];
+    let mut place = clients.first();
+    while let Some(at) = place {
         if let Some(notice) = notices.pop() {
-            keep_notice(seat, notice);
+            keep_notice(clients.at_mut(at), notice);
         }
+        place = clients.next(at);
     }
 }
 
@@ -80,47 +82,144 @@ pub fn moves_nothing(rects: &[Rect], offset: (i32, i32)) -> bool
     (offset.0 == 0 && offset.1 == 0) || rects.is_empty()
 }
 
-/// The marks of a viewer once a copy by (dx, dy) drew the rectangles.
-fn copied_marks(
-    alloc: Global,
-    seat: &Seat,
-    rects: &[Rect],
-    offset: (i32, i32),
-) -> Result<Marks, AllocError>
-    ensures { IfOk result (λ marks. marks ≡ copied_by (covers rects.now) offset seat.now.uses_copyrect seat.now.marks) }
+/// The region of rectangles of a screen.
+fn region_of(alloc: Global, rects: &[Rect]) -> Result<Region, AllocError>
+    requires { All (IsOnScreen 8192 8192) rects.now }
+    ensures { IfOk result (λ region. covers region.list ≡ covers rects.now) }
 {
-    let mut marks = seat.marks.try_clone()?;
-    marks.copy(alloc, rects, offset.0, offset.1, seat.uses_copyrect)?;
-    Ok(marks)
+    match Region::from_rects(alloc, rects) {
+        Ok(region) => Ok(region),
+        Err(RegionError::OutOfMemory) => Err(AllocError),
+        Err(RegionError::OutOfRange) => unreachable!(),
+    }
 }
 
-/// The marks of each viewer once a copy by (dx, dy) drew the rectangles.
-pub fn all_copied_marks(
-    alloc: Global,
-    seats: &[Seat],
-    rects: &[Rect],
-    offset: (i32, i32),
-) -> Result<Vec<Marks>, AllocError>
-    ensures { IfOk result (λ all. all.items ≡ map (marks_copied rects.now offset) seats.now) }
+/// The region of a rectangle of a screen.
+fn region_of_rect(alloc: Global, rect: Rect) -> Result<Region, AllocError>
+    requires { in_range rect ≡ true }
+    ensures { IfOk result (λ region. covers region.list ≡ in_rect rect) }
 {
-    let mut all = Vec::with_capacity(alloc, seats.len())?;
-    for seat in seats {
-        all.push(copied_marks(alloc, seat, rects, offset)?)?;
+    match Region::from_rect(alloc, rect) {
+        Ok(region) => Ok(region),
+        Err(RegionError::OutOfMemory) => Err(AllocError),
+        Err(RegionError::OutOfRange) => unreachable!(),
+    }
+}
+
+/// The marks of each viewer once the region's places are owed.
+pub fn marks_with_region(
+    alloc: Global,
+    clients: &Clients<Seat>,
+    region: &Region,
+) -> Result<Vec<Prepared>, AllocError>
+    ensures { IfOk result (λ all. all.items ≡ map (marks_owed (covers region.now.list)) (values_of clients.now.pairs)) }
+{
+    let mut all = Vec::with_capacity(alloc, clients.len())?;
+    let mut place = clients.first();
+    while let Some(at) = place {
+        let seat = clients.at(at);
+        all.push(seat.marks.prepare_mark(region)?)?;
+        place = clients.next(at);
     }
     Ok(all)
 }
 
-/// Each viewer's marks are these from now on, which a copy by (dx, dy) that drew the rectangles left.
-pub fn put_all_marks(seats: &mut Vec<Seat>, rects: &[Rect], offset: (i32, i32), all: Vec<Marks>)
-    requires { all.items ≡ map (marks_copied rects.now offset) seats.old.items }
-    ensures { seats.new.items ≡ map (seat_with (marks_copied rects.now offset)) seats.old.items }
+/// The marks of each viewer once the places of a rectangle of the screen are owed.
+pub fn marks_with_rect(
+    alloc: Global,
+    clients: &Clients<Seat>,
+    rect: Rect,
+) -> Result<Vec<Prepared>, AllocError>
+    requires { in_range rect ≡ true }
+    ensures { IfOk result (λ all. all.items ≡ map (marks_owed (in_rect rect)) (values_of clients.now.pairs)) }
 {
-    let mut all = all;
+    if clients.is_empty() {
+        return Ok(Vec::new(alloc));
+    }
+    let region = region_of_rect(alloc, rect)?;
+    marks_with_region(alloc, clients, &region)
+}
+
+/// The marks of each viewer once the places of rectangles, as far as they are on the screen, are owed. Corners may stand in the
+/// wrong order, anywhere.
+pub fn marks_with_rects(
+    alloc: Global,
+    config: &Config,
+    clients: &Clients<Seat>,
+    rects: &[Rect],
+) -> Result<Vec<Prepared>, AllocError>
+    requires some_columns { 1 ≤ config.now.width }
+    requires columns { config.now.width ≤ 8192 }
+    requires rows { config.now.height ≤ 8192 }
+    requires sized { All (IsSized config.now) (values_of clients.now.pairs) }
+    ensures { IfOk result (λ all. all.items ≡ map (marks_owed (union_of rects.now)) (values_of clients.now.pairs)) }
+{
+    if clients.is_empty() {
+        return Ok(Vec::new(alloc));
+    }
+    let pieces = destinations(alloc, rects, 0, 0, config.width, config.height)?;
+    let region = region_of(alloc, &pieces)?;
+    marks_with_region(alloc, clients, &region)
+}
+
+/// A viewer's marks once a copy by (dx, dy) drew the region.
+fn copied_marks(seat: &Seat, region: &Region, offset: (i32, i32)) -> Result<Prepared, AllocError>
+    requires cut { IsCutTo seat.now.marks.width seat.now.marks.height offset region.now.list }
+    ensures { IfOk result (λ marks. marks ≡ marks_copied (covers region.now.list) offset seat.now) }
+{
+    seat.marks
+        .prepare_copy(region, offset.0, offset.1, seat.uses_copyrect)
+}
+
+/// The marks of each viewer once a copy by (dx, dy) drew the region.
+fn marks_with_copied_region(
+    alloc: Global,
+    clients: &Clients<Seat>,
+    region: &Region,
+    offset: (i32, i32),
+) -> Result<Vec<Prepared>, AllocError>
+    requires cut { All (λ s. IsCutTo s.marks.width s.marks.height offset region.now.list) (values_of clients.now.pairs) }
+    ensures { IfOk result (λ all. all.items ≡ map (marks_copied (covers region.now.list) offset) (values_of clients.now.pairs)) }
+{
+    let mut all = Vec::with_capacity(alloc, clients.len())?;
+    let mut place = clients.first();
+    while let Some(at) = place {
+        all.push(copied_marks(clients.at(at), region, offset)?)?;
+        place = clients.next(at);
+    }
+    Ok(all)
+}
+
+/// The marks of each viewer once a copy by (dx, dy) drew rectangles, which are on the screen with their sources.
+pub fn marks_with_copy(
+    alloc: Global,
+    clients: &Clients<Seat>,
+    rects: &[Rect],
+    offset: (i32, i32),
+) -> Result<Vec<Prepared>, AllocError>
+    requires inside { All (IsOnScreen 8192 8192) rects.now }
+    requires cut { All (λ s. IsCutTo s.marks.width s.marks.height offset rects.now) (values_of clients.now.pairs) }
+    ensures { IfOk result (λ all. all.items ≡ map (marks_copied (covers rects.now) offset) (values_of clients.now.pairs)) }
+{
+    if clients.is_empty() {
+        return Ok(Vec::new(alloc));
+    }
+    let region = region_of(alloc, rects)?;
+    marks_with_copied_region(alloc, clients, &region, offset)
+}
+
+/// Each viewer's marks are the prepared ones from now on, the first viewer's the first. This takes no memory.
+pub fn commit_all(clients: &mut Clients<Seat>, mut all: Vec<Prepared>)
+    requires { length all.items ≡ length clients.old.pairs }
+    ensures { clients.new.pairs ≡ with_marks_of clients.old.pairs all.items }
+{
     all.reverse();
-    for i in 0..seats.len() {
-        let seat = &mut seats[i];
-        if let Some(marks) = all.pop() {
-            seat.marks = marks;
+    let mut place = clients.first();
+    while let Some(at) = place {
+        if let Some(prepared) = all.pop() {
+            let seat = clients.at_mut(at);
+            seat.marks.commit(prepared);
         }
+        place = clients.next(at);
     }
 }

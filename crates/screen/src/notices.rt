@@ -1,6 +1,6 @@
 //! The notices that wait for a viewer, in the order in which they were made.
 
-ghost use Rattle.std.specs.Prelude.{◌≡◌, ◌≤◌, ◌++◌, [], All, IfOk, OnOk, OnErr, flat_map};
+ghost use Rattle.std.specs.Prelude.{◌≡◌, ◌++◌, [], All, IfOk, OnOk, OnErr, flat_map};
 ghost use Rattle.screen.specs.Viewer.{none_wait, with_notice};
 ghost use Rattle.screen.specs.Sending.{notice_bytes};
 ghost use Rattle.screen.specs.Short.{IsShort};

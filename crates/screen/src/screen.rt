@@ -1,6 +1,6 @@
 //! The screen: each call is one hold of it, and leaves it standing for the list of events so far.
 
-ghost use Rattle.std.specs.Prelude.{◌≡◌, ◌≢◌, ◌++◌, ◌∷◌, [], List, IfSome, replicate, IfOk, OnOk, OnErr, MatchOption, MatchResult, IsOkUnless};
+ghost use Rattle.std.specs.Prelude.{◌≡◌, ◌≢◌, ◌++◌, ◌∷◌, [], List, IfSome, replicate, IfOk, OnOk, OnErr, MatchOption, IsOkUnless};
 ghost use Rattle.screen.specs.declared.Config.{Config};
 ghost use Rattle.screen.specs.declared.Event.{Event};
 ghost use Rattle.screen.specs.Alone.{config_refusal, nothing_to_say, gives, something_to_send, told, Tells};
@@ -10,14 +10,16 @@ ghost use Rattle.screen.specs.Answers.{state, answer_to};
 use crate::answers::{settled, with_bytes, with_nothing};
 use crate::cutting::{cut_bytes_in, cut_in};
 use crate::drawing::{
-    all_copied_marks, mark_all, moves_nothing, put_all_marks, ring_all, tell_all, texts,
+    commit_all, marks_with_copy, marks_with_rect, marks_with_rects, marks_with_region,
+    moves_nothing, ring_all, tell_all, texts,
 };
 use crate::limits::{checked, refusal_of};
 use crate::place::Seat;
-use crate::seat::{has_seat, hear_in, is_pending, place_of, remove, seat_viewer};
+use crate::seat::{hear_in, is_pending, seat_viewer};
 use crate::update::Update;
 use crate::{Answer, Config, Event, ScreenError};
-use framebuffer::{destinations, move_colours, replace, straightened};
+use client_list::Clients;
+use framebuffer::{destinations, move_colours, replace};
 use listed::Listed;
 use region::{Rect, Region};
 use std::alloc::{AllocError, Global};
@@ -29,11 +31,12 @@ pub struct Screen {
     alloc: Global,
     config: Config,
     picture: Vec<u32>,
-    seats: Vec<Seat>,
+    clients: Clients<Seat>,
 }
 
 impl Model for Screen {
     ghost use Rattle.std.specs.Prelude.{map};
+    ghost use Rattle.std.specs.Map.{values_of};
     ghost use Rattle.screen.specs.Answers.{State};
 
     ghost Value = { State };
@@ -41,9 +44,9 @@ impl Model for Screen {
     ghost use Rattle.screen.specs.Entries.{entry};
     ghost use Rattle.screen.specs.Held.{IsHeld};
 
-    ghost view = { λ a. record { config = a.config; picture = a.picture.items; viewers = map entry a.seats.items } };
+    ghost view = { λ a. record { config = a.config; picture = a.picture.items; viewers = map entry a.clients.pairs } };
 
-    ghost invariant = { λ a. IsHeld a.config a.picture.items a.seats.items };
+    ghost invariant = { λ a. IsHeld a.config a.picture.items (values_of a.clients.pairs) };
 }
 
 impl Screen {
@@ -61,7 +64,7 @@ impl Screen {
             alloc,
             config,
             picture,
-            seats: Vec::new(alloc),
+            clients: Clients::new(alloc),
         })
     }
 
@@ -76,6 +79,7 @@ impl Screen {
         ensures err { OnErr result (self.new ≡ self.old) }
     {
         let block = checked(&self.config, rect, colours)?;
+        let marks = marks_with_rect(self.alloc, &self.clients, rect)?;
         replace(
             &mut self.picture,
             self.config.width,
@@ -83,7 +87,7 @@ impl Screen {
             block,
             colours,
         );
-        mark_all(&mut self.seats, &[rect]);
+        commit_all(&mut self.clients, marks);
         Ok(())
     }
 
@@ -96,12 +100,12 @@ impl Screen {
             Tells (λ _. nothing_to_say) result (answer_to config list (Event.Write rect colours.now)) }
         ensures err { OnErr result (self.new ≡ self.old) }
     {
-        let block = checked(&self.config, rect, colours)?;
+        let written = checked(&self.config, rect, colours)?;
         replace(
             &mut self.picture,
             self.config.width,
             self.config.height,
-            block,
+            written,
             colours,
         );
         Ok(())
@@ -115,8 +119,8 @@ impl Screen {
             Tells (λ _. nothing_to_say) result (answer_to config list (Event.Mark rects.now)) }
         ensures err { OnErr result (self.new ≡ self.old) }
     {
-        let straight = straightened(self.alloc, rects)?;
-        mark_all(&mut self.seats, &straight);
+        let marks = marks_with_rects(self.alloc, &self.config, &self.clients, rects)?;
+        commit_all(&mut self.clients, marks);
         Ok(())
     }
 
@@ -142,8 +146,10 @@ impl Screen {
             Tells (λ _. nothing_to_say) result (answer_to config list (Event.Mark region.now.list)) }
         ensures err { OnErr result (self.new ≡ self.old) }
     {
-        let rects = region.rects(self.alloc, false, false)?;
-        self.mark_rects(rects.as_slice())
+        region.has_canonical_list();
+        let marks = marks_with_region(self.alloc, &self.clients, region)?;
+        commit_all(&mut self.clients, marks);
+        Ok(())
     }
 
     /// Each viewer is told that the rectangles' places get the colours of the places (dx, dy) before them;
@@ -166,8 +172,8 @@ impl Screen {
         if moves_nothing(&pieces, (dx, dy)) {
             return Ok(());
         }
-        let marks = all_copied_marks(self.alloc, &self.seats, &pieces, (dx, dy))?;
-        put_all_marks(&mut self.seats, &pieces, (dx, dy), marks);
+        let marks = marks_with_copy(self.alloc, &self.clients, &pieces, (dx, dy))?;
+        commit_all(&mut self.clients, marks);
         Ok(())
     }
 
@@ -225,7 +231,7 @@ impl Screen {
             return Ok(());
         }
         let mut row = vec![in self.alloc; 0u32; width as usize]?;
-        let marks = all_copied_marks(self.alloc, &self.seats, &pieces, (dx, dy))?;
+        let marks = marks_with_copy(self.alloc, &self.clients, &pieces, (dx, dy))?;
         move_colours(
             &mut self.picture,
             width,
@@ -234,7 +240,7 @@ impl Screen {
             (dx, dy),
             &mut row,
         );
-        put_all_marks(&mut self.seats, &pieces, (dx, dy), marks);
+        commit_all(&mut self.clients, marks);
         Ok(())
     }
 
@@ -282,7 +288,7 @@ impl Screen {
             Tells (λ _. nothing_to_say) result (answer_to config list (Event.Bell)) }
         ensures err { OnErr result (self.new ≡ self.old) }
     {
-        ring_all(&mut self.seats);
+        ring_all(&mut self.clients);
         Ok(())
     }
 
@@ -298,8 +304,8 @@ impl Screen {
         if text.len() > 1 << 16 {
             return Err(ScreenError::TextTooLong);
         }
-        let notices = texts(self.alloc, text, self.seats.len())?;
-        tell_all(&mut self.seats, text, notices);
+        let notices = texts(self.alloc, text, self.clients.len())?;
+        tell_all(&mut self.clients, text, notices);
         Ok(())
     }
 
@@ -312,10 +318,10 @@ impl Screen {
             Tells gives result (answer_to config list (Event.Connect number)) }
         ensures err { OnErr result (self.new ≡ self.old) }
     {
-        if has_seat(&self.seats, number) {
+        if self.clients.place_of(number).is_some() {
             return Err(ScreenError::NumberInUse);
         }
-        Ok(seat_viewer(self.alloc, &self.config, &mut self.seats, number)?)
+        Ok(seat_viewer(self.alloc, &self.config, &mut self.clients, number)?)
     }
 
     /// Closes a viewer's connection. Refused as `NoViewer` where there is none with the number.
@@ -326,11 +332,10 @@ impl Screen {
             told (λ _. nothing_to_say) result ≡ answer_to config list (Event.Close number) }
         ensures err { OnErr result (self.new ≡ self.old) }
     {
-        if !has_seat(&self.seats, number) {
-            return Err(ScreenError::NoViewer);
+        match self.clients.remove(number) {
+            Ok(_) => Ok(()),
+            Err(_) => Err(ScreenError::NoViewer),
         }
-        remove(&mut self.seats, number);
-        Ok(())
     }
 
     /// A piece of a viewer's bytes is heard (RFC 6143, 7.1 to 7.5): what it is answered, what it
@@ -343,10 +348,9 @@ impl Screen {
             Tells (λ a. a) result (answer_to config list (Event.Hear number piece.now)) }
         ensures err { OnErr result (self.new ≡ self.old) }
     {
-        let Some(place) = place_of(&self.seats, number) else {
+        let Some(seat) = self.clients.get_mut(number) else {
             return Err(ScreenError::NoViewer);
         };
-        let seat = &mut self.seats[place];
         Ok(hear_in(self.alloc, &self.config, seat, piece)?)
     }
 
@@ -356,10 +360,10 @@ impl Screen {
         ensures { (config : Config) (list : List Event) → self.now ≡ state config list →
             result ≡ something_to_send (answer_to config list (Event.Cut number)) }
     {
-        let Some(place) = place_of(&self.seats, number) else {
+        let Some(seat) = self.clients.get(number) else {
             return Err(ScreenError::NoViewer);
         };
-        Ok(is_pending(&self.seats[place]))
+        Ok(is_pending(seat))
     }
 
     /// Cuts an update for a viewer: its rectangles, with copies of their colours; None where there is
@@ -372,10 +376,9 @@ impl Screen {
         ensures some { IfOk result (λ update. IfSome update (λ u. u ≢ [])) }
         ensures err { OnErr result (self.new ≡ self.old) }
     {
-        let Some(place) = place_of(&self.seats, number) else {
+        let Some(seat) = self.clients.get_mut(number) else {
             return Err(ScreenError::NoViewer);
         };
-        let seat = &mut self.seats[place];
         Ok(cut_in(self.alloc, &self.config, &self.picture, seat)?)
     }
 
@@ -387,10 +390,9 @@ impl Screen {
             Tells gives result (answer_to config list (Event.Cut number)) }
         ensures err { OnErr result (self.new ≡ self.old) }
     {
-        let Some(place) = place_of(&self.seats, number) else {
+        let Some(seat) = self.clients.get_mut(number) else {
             return Err(ScreenError::NoViewer);
         };
-        let seat = &mut self.seats[place];
         let bytes = cut_bytes_in(self.alloc, &self.config, &self.picture, seat)?;
         Ok(Listed::from_vec(bytes))
     }

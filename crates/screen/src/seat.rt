@@ -1,21 +1,24 @@
 //! A viewer in its place: what its messages do to it, and what it is answered.
 
-ghost use Rattle.std.specs.Prelude.{◌≡◌, ◌&&◌, ◌||◌, ℕ, List, All, ◌∷◌, OnErr, ◌++◌, ◌<◌, ◌≤◌, ◌^◌, ◌*◌, [], ◌==◌, length, map, MatchOption, false, filter, not, filter_map, if◌then◌else◌, vec_len, vec_capacity, IfOk, OnOk};
+ghost use Rattle.std.specs.Prelude.{◌≡◌, ◌&&◌, ◌||◌, ℕ, List, All, ◌∷◌, OnErr, ◌++◌, ◌<◌, ◌≤◌, ◌^◌, [], length, map, false, not, filter_map, if◌then◌else◌, vec_len, vec_capacity, IfOk, OnOk};
 ghost use Rattle.messages.specs.Grammar.{after};
 ghost use Rattle.messages.specs.Reading.{rest, new_items, is_open_rest};
 ghost use Rattle.messages.specs.Server.{server_version, server_init, answer, answers};
 ghost use Rattle.region.specs.Region.{in_rect};
-ghost use Rattle.copy_schedule.specs.Marks.{pending, without_copyrect};
+ghost use Rattle.copy_schedule.specs.Marks.{pending, requested, without_copyrect};
 ghost use Rattle.screen.specs.Alone.{input_of, after_items, heard_answer};
 ghost use Rattle.screen.specs.Viewer.{none_wait, area_places, after_item, new_viewer};
 ghost use Rattle.screen.specs.Answers.{kept};
 ghost use Rattle.screen.specs.Held.{IsSized};
-ghost use Rattle.screen.specs.Entries.{entry, viewer_in, IsPlaceOf};
-ghost use Rattle.std.specs.List.{list_any};
+ghost use Rattle.screen.specs.Entries.{entry, viewer_in, viewer_by};
+ghost use Rattle.screen.specs.Given.{marks_put};
+ghost use Rattle.std.specs.Map.{values_of};
+ghost use Rattle.client_list.specs.Connected.{value_of};
 
 use crate::notices::Notices;
-use crate::place::Seat;
+use crate::place::{Draft, Seat, put_marks};
 use crate::{Answer, Config};
+use client_list::Clients;
 use copy_schedule::Marks;
 use listed::Listed;
 use messages::{
@@ -26,37 +29,11 @@ use pixel_translate::{Area, PixelFormat};
 use region::Rect;
 use std::alloc::{AllocError, Global};
 
-/// The place of the viewer with a number.
-pub fn place_of(seats: &[Seat], number: u64) -> Option<usize>
-    ensures { MatchOption result (list_any (λ s. s.number == number) seats.now ≡ false) (λ i. IsPlaceOf seats.now number i) }
-{
-    for (i, seat) in seats.iter().enumerate() {
-        if seat.number == number {
-            return Some(i);
-        }
-    }
-    None
-}
-
-/// Whether a viewer has a number.
-pub fn has_seat(seats: &[Seat], number: u64) -> bool
-    ensures { result ≡ list_any (λ s. s.number == number) seats.now }
-{
-    seats.iter().any(|seat| seat.number == number)
-}
-
 /// Whether a viewer would be given something now.
 pub fn is_pending(seat: &Seat) -> bool
     ensures { result ≡ (is_open_rest seat.now.ear && (not (none_wait seat.now.notices) || pending seat.now.marks)) }
 {
     seat.ear.is_open() && (!seat.notices.is_empty() || seat.marks.pending())
-}
-
-/// Removes the viewers with a number.
-pub fn remove(seats: &mut Vec<Seat>, number: u64)
-    ensures { seats.new.items ≡ filter (λ s. not (s.number == number)) seats.old.items }
-{
-    seats.retain(|seat| seat.number != number);
 }
 
 /// The rectangle of an area's places that are on a screen.
@@ -73,48 +50,93 @@ fn cut_area(width: u32, height: u32, area: Area) -> Rect
     }
 }
 
-/// The viewer's SetEncodings (RFC 6143, 7.5.2): its places that await a copy are owed where CopyRect isn't listed.
-fn take_encodings(seat: &mut Seat, preferred: Encoding, copyrect: bool)
-    ensures { seat.new ≡ record seat.old { encoding = preferred; uses_copyrect = copyrect; marks = if copyrect then seat.old.marks else without_copyrect seat.old.marks } }
+/// A viewer's draft, before its messages change it.
+fn draft_of(seat: &Seat, ear: Ear) -> Draft
+    ensures { viewer_by seat.now result ≡ record (viewer_in seat.now) { heard = ear } }
 {
-    seat.encoding = preferred;
-    seat.uses_copyrect = copyrect;
-    if !copyrect {
-        seat.marks.no_copyrect();
+    Draft {
+        ear,
+        format: seat.format,
+        encoding: seat.encoding,
+        uses_copyrect: seat.uses_copyrect,
+        marks: None,
     }
+}
+
+/// The marks that are changed already, or else a copy of the viewer's.
+fn marks_to_change(seat: &Seat, marks: Option<Marks>) -> Result<Marks, AllocError>
+    ensures { IfOk result (λ copy. copy ≡ marks_put seat.now.marks marks) }
+{
+    match marks {
+        Some(marks) => Ok(marks),
+        None => seat.marks.try_clone(),
+    }
+}
+
+/// The viewer's SetEncodings (RFC 6143, 7.5.2): its places that await a copy are owed where CopyRect isn't listed.
+fn take_encodings(
+    draft: &mut Draft,
+    seat: &Seat,
+    preferred: Encoding,
+    copyrect: bool,
+) -> Result<(), AllocError>
+    ensures { OnOk result (viewer_by seat.now draft.new ≡ record (viewer_by seat.now draft.old) { encoding = preferred; uses_copyrect = copyrect; marks = if copyrect then marks_put seat.now.marks draft.old.marks else without_copyrect (marks_put seat.now.marks draft.old.marks) }) }
+{
+    draft.encoding = preferred;
+    draft.uses_copyrect = copyrect;
+    if !copyrect {
+        let mut marks = marks_to_change(seat, draft.marks.take())?;
+        marks.no_copyrect()?;
+        draft.marks = Some(marks);
+    }
+    Ok(())
+}
+
+/// The viewer's FramebufferUpdateRequest (RFC 6143, 7.5.3).
+fn take_request(
+    draft: &mut Draft,
+    seat: &Seat,
+    rect: Rect,
+    incremental: bool,
+) -> Result<(), AllocError>
+    ensures { OnOk result (viewer_by seat.now draft.new ≡ record (viewer_by seat.now draft.old) { marks = requested (in_rect rect) incremental (marks_put seat.now.marks draft.old.marks) }) }
+{
+    let mut marks = marks_to_change(seat, draft.marks.take())?;
+    marks.request(rect, incremental)?;
+    draft.marks = Some(marks);
+    Ok(())
 }
 
 /// What a viewer's message does to it (RFC 6143, 7.5).
-fn take_item(seat: &mut Seat, config: &Config, item: &Item)
-    ensures number { seat.new.number ≡ seat.old.number }
-    ensures viewer { viewer_in seat.new ≡ after_item config.now.width config.now.height item.now (viewer_in seat.old) }
-    ensures width { seat.new.marks.width ≡ seat.old.marks.width }
-    ensures height { seat.new.marks.height ≡ seat.old.marks.height }
+fn take_item(draft: &mut Draft, seat: &Seat, config: &Config, item: &Item) -> Result<(), AllocError>
+    ensures { OnOk result (viewer_by seat.now draft.new ≡ after_item config.now.width config.now.height item.now (viewer_by seat.now draft.old)) }
 {
     match item {
-        Item::Format(format) => seat.format = *format,
+        Item::Format(format) => {
+            draft.format = *format;
+            Ok(())
+        }
         Item::Encodings {
             preferred,
             copyrect,
-        } => take_encodings(seat, *preferred, *copyrect),
+        } => take_encodings(draft, seat, *preferred, *copyrect),
         Item::Request { incremental, area } => {
             let rect = cut_area(config.width, config.height, *area);
-            seat.marks.request(rect, *incremental);
+            take_request(draft, seat, rect, *incremental)
         }
-        _ => {}
+        _ => Ok(()),
     }
 }
 
-/// What several do, in their order.
-fn take_items(seat: &mut Seat, config: &Config, items: &[Item])
-    ensures number { seat.new.number ≡ seat.old.number }
-    ensures viewer { viewer_in seat.new ≡ after_items config.now items.now (viewer_in seat.old) }
-    ensures width { seat.new.marks.width ≡ seat.old.marks.width }
-    ensures height { seat.new.marks.height ≡ seat.old.marks.height }
+/// What a viewer is once it heard these items last, by this ear. Its marks are copied at the first item that changes them.
+fn draft_after(config: &Config, seat: &Seat, ear: Ear, items: &[Item]) -> Result<Draft, AllocError>
+    ensures { IfOk result (λ draft. viewer_by seat.now draft ≡ after_items config.now items.now (record (viewer_in seat.now) { heard = ear })) }
 {
+    let mut draft = draft_of(seat, ear);
     for item in items {
-        take_item(seat, config, item);
+        take_item(&mut draft, seat, config, item)?;
     }
+    Ok(draft)
 }
 
 /// Where a conversation stands behind an item (RFC 6143, 7.1 to 7.3 and appendix A).
@@ -177,15 +199,14 @@ fn greetings(
 }
 
 /// A viewer that has just connected.
-fn new_seat(alloc: Global, config: &Config, number: u64) -> Result<Seat, AllocError>
-    requires width { 1 ≤ config.now.width }
-    requires height { 1 ≤ config.now.height }
-    requires places { config.now.width * config.now.height ≤ 2 ^ 24 }
-    ensures number { IfOk result (λ seat. seat.number ≡ number) }
-    ensures viewer { IfOk result (λ seat. viewer_in seat ≡ kept (new_viewer config.now.width config.now.height)) }
+fn new_seat(alloc: Global, config: &Config) -> Result<Seat, AllocError>
+    requires some_columns { 1 ≤ config.now.width }
+    requires columns { config.now.width ≤ 8192 }
+    requires some_rows { 1 ≤ config.now.height }
+    requires rows { config.now.height ≤ 8192 }
+    ensures { IfOk result (λ seat. viewer_in seat ≡ kept (new_viewer config.now.width config.now.height)) }
 {
     Ok(Seat {
-        number,
         ear: Ear::new(alloc),
         format: PixelFormat::server(),
         encoding: Encoding::Raw,
@@ -210,15 +231,15 @@ fn inputs_of(mut items: Vec<Item>, mut inputs: Vec<Input>) -> Vec<Input>
     inputs
 }
 
-/// A viewer's ear is this from now on, which heard these items last.
-fn hear_items(seat: &mut Seat, config: &Config, ear: Ear, items: &[Item])
-    ensures number { seat.new.number ≡ seat.old.number }
-    ensures viewer { viewer_in seat.new ≡ after_items config.now items.now (record (viewer_in seat.old) { heard = ear }) }
-    ensures width { seat.new.marks.width ≡ seat.old.marks.width }
-    ensures height { seat.new.marks.height ≡ seat.old.marks.height }
+/// A viewer is as the draft says from now on. This takes no memory.
+fn put_draft(seat: &mut Seat, draft: Draft)
+    ensures { viewer_in seat.new ≡ viewer_by seat.old draft }
 {
-    seat.ear = ear;
-    take_items(seat, config, items);
+    seat.ear = draft.ear;
+    seat.format = draft.format;
+    seat.encoding = draft.encoding;
+    seat.uses_copyrect = draft.uses_copyrect;
+    put_marks(seat, draft.marks);
 }
 
 /// A viewer's piece is heard: what it is answered. All growths are made before the viewer changes.
@@ -234,7 +255,6 @@ pub fn hear_in(
     ensures answer { (before : List ℕ) → seat.old.ear ≡ rest before → IfOk result (λ a. a ≡ heard_answer config.now before piece.now) }
     ensures viewer { (before : List ℕ) → seat.old.ear ≡ rest before →
         OnOk result (viewer_in seat.new ≡ after_items config.now (new_items before piece.now) (record (viewer_in seat.old) { heard = rest (before ++ piece.now) })) }
-    ensures number { seat.new.number ≡ seat.old.number }
     ensures width { seat.new.marks.width ≡ seat.old.marks.width }
     ensures height { seat.new.marks.height ≡ seat.old.marks.height }
     ensures err { OnErr result (seat.new ≡ seat.old) }
@@ -245,7 +265,8 @@ pub fn hear_in(
     let items = heard.items.into_vec();
     let bytes = greetings(alloc, config, phase, &items)?;
     let room = Vec::with_capacity(alloc, items.len())?;
-    hear_items(seat, config, ear, &items);
+    let draft = draft_after(config, seat, ear, &items)?;
+    put_draft(seat, draft);
     Ok(Answer {
         bytes: Listed::from_vec(bytes),
         inputs: Listed::from_vec(inputs_of(items, room)),
@@ -254,24 +275,29 @@ pub fn hear_in(
     })
 }
 
-/// A viewer that connects comes last; it is given the server's version.
+/// A viewer that connects comes last; it is given the server's version. `AllocError` where memory is refused, since the number
+/// is no viewer's yet.
 pub fn seat_viewer(
     alloc: Global,
     config: &Config,
-    seats: &mut Vec<Seat>,
+    clients: &mut Clients<Seat>,
     number: u64,
 ) -> Result<Listed<u8>, AllocError>
-    requires width { 1 ≤ config.now.width }
-    requires height { 1 ≤ config.now.height }
-    requires places { config.now.width * config.now.height ≤ 2 ^ 24 }
+    requires absent { value_of clients.old number ≡ None }
+    requires some_columns { 1 ≤ config.now.width }
+    requires columns { config.now.width ≤ 8192 }
+    requires some_rows { 1 ≤ config.now.height }
+    requires rows { config.now.height ≤ 8192 }
     ensures version { IfOk result (λ bytes. bytes ≡ server_version) }
-    ensures entries { OnOk result (map entry seats.new.items ≡ map entry seats.old.items ++ (number, kept (new_viewer config.now.width config.now.height)) ∷ []) }
-    ensures sized { All (IsSized config.now) seats.old.items → All (IsSized config.now) seats.new.items }
-    ensures err { OnErr result (seats.new.items ≡ seats.old.items) }
+    ensures entries { OnOk result (map entry clients.new.pairs ≡ map entry clients.old.pairs ++ (number, kept (new_viewer config.now.width config.now.height)) ∷ []) }
+    ensures sized { All (IsSized config.now) (values_of clients.old.pairs) → All (IsSized config.now) (values_of clients.new.pairs) }
+    ensures err { OnErr result (clients.new ≡ clients.old) }
 {
     let mut version = Vec::new(alloc);
     put_version(&mut version)?;
-    let seat = new_seat(alloc, config, number)?;
-    seats.push(seat)?;
-    Ok(Listed::from_vec(version))
+    let seat = new_seat(alloc, config)?;
+    match clients.connect(number, seat) {
+        Ok(()) => Ok(Listed::from_vec(version)),
+        Err(_) => Err(AllocError),
+    }
 }

@@ -139,23 +139,30 @@ fn expect_bytes(rt: &impl Abort, answer: &Answer, bytes: &[u8]) {
     assert!(rt; answer.closed.is_none());
 }
 
-#[test]
-fn a_viewer_opens_and_sees_what_is_painted(rt: HostRuntime) -> Result<(), Fail> {
-    let alloc = rt.alloc();
-    let mut screen = Screen::new(alloc, demo(alloc)?)?;
+/// Viewer 1 connects and opens.
+fn open(rt: &impl Abort, screen: &mut Screen) -> Result<(), ScreenError> {
     assert_eq!(rt; screen.connect(1)?.as_slice(), b"RFB 003.008\n".as_slice());
-    expect_bytes(&rt, &screen.hear(1, OPENING)?, OPENED);
+    expect_bytes(rt, &screen.hear(1, OPENING)?, OPENED);
     assert!(rt; !screen.pending(1)?);
-    expect_bytes(&rt, &screen.hear(1, WHOLE)?, b"");
+    Ok(())
+}
+
+/// It asks for the whole screen, and then for what changed: nothing yet.
+fn see_all(rt: &impl Abort, screen: &mut Screen) -> Result<(), Fail> {
+    expect_bytes(rt, &screen.hear(1, WHOLE)?, b"");
     assert!(rt; screen.pending(1)?);
     let update = screen.cut(1)?.ok_or("an update")?;
     assert_eq!(rt; update.encode()?.len(), 64);
-    expect_bytes(&rt, &screen.hear(1, CHANGES)?, b"");
+    expect_bytes(rt, &screen.hear(1, CHANGES)?, b"");
     assert!(rt; screen.cut(1)?.is_none());
+    Ok(())
+}
+
+/// A place is painted. The update keeps the colours of the step that made it.
+fn see_orange(rt: &impl Abort, screen: &mut Screen) -> Result<(), Fail> {
     screen.paint(rect(2, 1, 3, 2), &[0xff_8000])?;
     assert!(rt; screen.pending(1)?);
     let update = screen.cut(1)?.ok_or("an update")?;
-    // The update keeps the colours of the step that made it.
     screen.paint(rect(0, 0, 4, 3), &[0x7; 12])?;
     screen.close(1)?;
     assert_eq!(rt; update.encode()?.as_slice(), ORANGE);
@@ -163,22 +170,41 @@ fn a_viewer_opens_and_sees_what_is_painted(rt: HostRuntime) -> Result<(), Fail> 
 }
 
 #[test]
-fn a_run_answers_each_viewer(rt: HostRuntime) -> Result<(), Fail> {
+fn a_viewer_opens_and_sees_what_is_painted(rt: HostRuntime) -> Result<(), Fail> {
     let alloc = rt.alloc();
-    let mut events = Vec::new(alloc);
-    for viewer in 1..3u64 {
-        events.push(Event::Connect { viewer })?;
-        events.push(hear(alloc, viewer, OPENING)?)?;
-        events.push(hear(alloc, viewer, WHOLE)?)?;
-        events.push(Event::Cut { viewer })?;
-        events.push(hear(alloc, viewer, CHANGES)?)?;
-    }
-    // Viewer 1 sends what is no message; viewer 2 is sent its bytes all the same.
+    let mut screen = Screen::new(alloc, demo(alloc)?)?;
+    open(&rt, &mut screen)?;
+    see_all(&rt, &mut screen)?;
+    see_orange(&rt, &mut screen)
+}
+
+/// A viewer opens and is sent the whole screen.
+fn push_whole(alloc: Global, events: &mut Vec<Event>, viewer: u64) -> Result<(), AllocError> {
+    events.push(Event::Connect { viewer })?;
+    events.push(hear(alloc, viewer, OPENING)?)?;
+    events.push(hear(alloc, viewer, WHOLE)?)?;
+    events.push(Event::Cut { viewer })?;
+    events.push(hear(alloc, viewer, CHANGES)?)?;
+    Ok(())
+}
+
+/// Viewer 1 sends what is no message, and a place is painted.
+fn push_fault(alloc: Global, events: &mut Vec<Event>) -> Result<(), AllocError> {
     events.push(hear(alloc, 1, b"\x07")?)?;
     events.push(hear(alloc, 1, b"\x00")?)?;
     events.push(paint(alloc, rect(2, 1, 3, 2), &[0x12_ff_8000])?)?;
     events.push(Event::Cut { viewer: 1 })?;
     events.push(Event::Cut { viewer: 2 })?;
+    Ok(())
+}
+
+#[test]
+fn a_run_answers_each_viewer(rt: HostRuntime) -> Result<(), Fail> {
+    let alloc = rt.alloc();
+    let mut events = Vec::new(alloc);
+    push_whole(alloc, &mut events, 1)?;
+    push_whole(alloc, &mut events, 2)?;
+    push_fault(alloc, &mut events)?;
     let given = run(alloc, demo(alloc)?, &events)?;
     assert_eq!(rt; given.len(), 15);
     expect_bytes(&rt, &given[6], OPENED);
@@ -186,16 +212,16 @@ fn a_run_answers_each_viewer(rt: HostRuntime) -> Result<(), Fail> {
         assert_eq!(rt; given[again].closed, Some(Fault::UnknownMessage(7)));
         assert!(rt; given[again].bytes.as_slice().is_empty());
     }
+    // Viewer 2 is sent its bytes all the same.
     expect_bytes(&rt, &given[13], b"");
     expect_bytes(&rt, &given[14], ORANGE);
     Ok(())
 }
 
 #[test]
-fn refusals_are_exact(rt: HostRuntime) -> Result<(), Fail> {
+fn refusals_of_paint_are_exact(rt: HostRuntime) -> Result<(), Fail> {
     let alloc = rt.alloc();
     let mut screen = Screen::new(alloc, demo(alloc)?)?;
-    screen.connect(1)?;
     assert_eq!(rt;
         screen.paint(rect(3, 0, 5, 1), &[1, 2]),
         Err(ScreenError::BadRect)
@@ -213,6 +239,14 @@ fn refusals_are_exact(rt: HostRuntime) -> Result<(), Fail> {
         Err(ScreenError::BadPixelCount)
     );
     assert_eq!(rt; screen.paint(rect(2, 2, 2, 3), &[]), Ok(()));
+    Ok(())
+}
+
+#[test]
+fn refusals_of_numbers_are_exact(rt: HostRuntime) -> Result<(), Fail> {
+    let alloc = rt.alloc();
+    let mut screen = Screen::new(alloc, demo(alloc)?)?;
+    screen.connect(1)?;
     assert_eq!(rt; screen.cut(9).err(), Some(ScreenError::NoViewer));
     assert_eq!(rt; screen.pending(9), Err(ScreenError::NoViewer));
     assert_eq!(rt; screen.hear(9, b"").err(), Some(ScreenError::NoViewer));
@@ -250,34 +284,27 @@ fn configurations_outside_the_limits_are_refused(rt: HostRuntime) -> Result<(), 
     Ok(())
 }
 
+/// Two places of colour a in the first row, as an update.
+fn two_places(first: u8, second: u8) -> [u8; 36] {
+    [
+        0, 0, 0, 2, 0, first, 0, 0, 0, 1, 0, 1, 0, 0, 0, 0, 10, 0, 0, 0, 0, second, 0, 0, 0, 1, 0,
+        1, 0, 0, 0, 0, 10, 0, 0, 0,
+    ]
+}
+
 #[test]
 fn a_limit_owes_the_rest(rt: HostRuntime) -> Result<(), Fail> {
     let alloc = rt.alloc();
     let mut screen = Screen::new(alloc, config(alloc, 9, 1, b"", 2)?)?;
-    screen.connect(7)?;
-    screen.hear(7, OPENING)?;
-    screen.hear(7, b"\x03\x00\x00\x00\x00\x00\x00\x09\x00\x01")?;
-    screen.cut(7)?;
+    seat(&mut screen, 7, (9, 1), &[])?;
     for x in [0, 2, 4, 6, 8] {
         screen.paint(rect(x, 0, x + 1, 1), &[0xa])?;
     }
-    let asked = b"\x03\x01\x00\x00\x00\x00\x00\x09\x00\x01";
-    for (first, second) in [(0, 2), (4, 6)] {
-        screen.hear(7, asked)?;
-        let bytes = screen.cut(7)?.ok_or("an update")?.encode()?;
-        let want = [
-            0, 0, 0, 2, 0, first, 0, 0, 0, 1, 0, 1, 0, 0, 0, 0, 10, 0, 0, 0, 0, second, 0, 0, 0, 1,
-            0, 1, 0, 0, 0, 0, 10, 0, 0, 0,
-        ];
-        assert_eq!(rt; bytes.as_slice(), want.as_slice());
+    let last = [0, 0, 0, 1, 0, 8, 0, 0, 0, 1, 0, 1, 0, 0, 0, 0, 10, 0, 0, 0];
+    let sent: [&[u8]; 4] = [&two_places(0, 2), &two_places(4, 6), &last, &[]];
+    for bytes in sent {
+        screen.hear(7, &request(true, 0, 0, 9, 1))?;
+        expect_sent(&rt, &mut screen, 7, bytes)?;
     }
-    screen.hear(7, asked)?;
-    let bytes = screen.cut(7)?.ok_or("an update")?.encode()?;
-    assert_eq!(rt;
-        bytes.as_slice(),
-        [0, 0, 0, 1, 0, 8, 0, 0, 0, 1, 0, 1, 0, 0, 0, 0, 10, 0, 0, 0].as_slice()
-    );
-    screen.hear(7, asked)?;
-    assert!(rt; screen.cut(7)?.is_none());
     Ok(())
 }

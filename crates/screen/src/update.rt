@@ -1,6 +1,6 @@
 //! What one sending step sends: copied out of the screen under its lock, and encoded without it.
 
-ghost use Rattle.std.specs.Prelude.{◌≡◌, ◌+◌, ◌<◌, ◌^◌, ◌++◌, All, length, flat_map, IfOk, OnOk};
+ghost use Rattle.std.specs.Prelude.{◌≡◌, ◌+◌, ◌<◌, ◌++◌, All, flat_map, IfOk, OnOk};
 ghost use Rattle.screen.specs.Short.{IsShort};
 ghost use Rattle.screen.specs.Updates.{moved_bytes, coloured_bytes, rectangles_bytes, all_bytes};
 

@@ -116,6 +116,13 @@ fn a_copy_whose_source_is_asked_for_anew_is_sent_as_pixels(rt: HostRuntime) -> R
         1,
         &[0, 0, 0, 1, 0, 2, 0, 0, 0, 1, 0, 1, 0, 0, 0, 0, 2, 0, 0, 0],
     )?;
+    Ok(())
+}
+
+#[test]
+fn a_copy_and_its_source_that_is_asked_for_anew_are_sent_as_one(
+    rt: HostRuntime,
+) -> Result<(), Fail> {
     let mut screen = shown(rt.alloc(), (4, 1), &[1, 2, 3, 4])?;
     screen.do_copy_rect(2, 0, 3, 1, 1, 0)?;
     screen.hear(1, &request(false, 1, 0, 1, 1))?;

@@ -4,7 +4,7 @@
 use super::{OPENING, WITH_COPYRECT, config, hear, paint, rect, region, request, shown};
 use crate::{Config, Event, Screen, ScreenError, run};
 use listed::Listed;
-use region::Rect;
+use region::{Rect, Region};
 use std::alloc::{AllocError, Global};
 use std::process::Abort;
 use std::test::Fail;
@@ -51,33 +51,52 @@ fn rects(alloc: Global, rects: &[Rect]) -> Result<Listed<Rect>, AllocError> {
     Ok(Listed::from_vec(rects.to_vec(alloc)?))
 }
 
-fn two_viewers(alloc: Global) -> Result<Vec<Event>, AllocError> {
+fn push_pieces(
+    alloc: Global,
+    events: &mut Vec<Event>,
+    pieces: &[(u64, &[u8])],
+) -> Result<(), AllocError> {
+    for (viewer, piece) in pieces {
+        events.push(hear(alloc, *viewer, piece)?)?;
+    }
+    Ok(())
+}
+
+fn push_cuts(events: &mut Vec<Event>) -> Result<(), AllocError> {
+    events.push(Event::Cut { viewer: 1 })?;
+    events.push(Event::Cut { viewer: 2 })?;
+    Ok(())
+}
+
+/// Two viewers connect and are sent the picture; the first uses CopyRect.
+fn push_openings(alloc: Global, events: &mut Vec<Event>) -> Result<(), AllocError> {
     let whole = request(false, 0, 0, 4, 1);
-    let changes = request(true, 0, 0, 4, 1);
-    let mut events = Vec::with_capacity(alloc, 15)?;
     events.push(paint(alloc, rect(0, 0, 4, 1), &[1, 2, 3, 4])?)?;
     events.push(Event::Connect { viewer: 1 })?;
     events.push(Event::Connect { viewer: 2 })?;
-    for (viewer, piece) in [
+    let pieces: [(u64, &[u8]); 5] = [
         (1, OPENING),
         (2, OPENING),
         (1, WITH_COPYRECT),
         (1, &whole),
         (2, &whole),
-    ] {
-        events.push(hear(alloc, viewer, piece)?)?;
-    }
-    events.push(Event::Cut { viewer: 1 })?;
-    events.push(Event::Cut { viewer: 2 })?;
+    ];
+    push_pieces(alloc, events, &pieces)?;
+    push_cuts(events)
+}
+
+fn two_viewers(alloc: Global) -> Result<Vec<Event>, AllocError> {
+    let changes = request(true, 0, 0, 4, 1);
+    let mut events = Vec::with_capacity(alloc, 15)?;
+    push_openings(alloc, &mut events)?;
     events.push(Event::DoCopy {
         rects: rects(alloc, &[rect(1, 0, 4, 1)])?,
         dx: 1,
         dy: 0,
     })?;
-    events.push(hear(alloc, 1, &changes)?)?;
-    events.push(hear(alloc, 2, &changes)?)?;
-    events.push(Event::Cut { viewer: 1 })?;
-    events.push(Event::Cut { viewer: 2 })?;
+    let pieces: [(u64, &[u8]); 2] = [(1, &changes), (2, &changes)];
+    push_pieces(alloc, &mut events, &pieces)?;
+    push_cuts(&mut events)?;
     Ok(events)
 }
 
@@ -114,14 +133,26 @@ const EVERY_KIND: [&[u8]; 21] = [
     &[],
 ];
 
-fn every_kind(alloc: Global) -> Result<Vec<Event>, AllocError> {
+/// The viewer asks for what changed, and an update is cut.
+fn push_cut(alloc: Global, events: &mut Vec<Event>) -> Result<(), AllocError> {
     let changes = request(true, 0, 0, 4, 1);
-    let mut events = Vec::with_capacity(alloc, 21)?;
-    events.push(Event::Connect { viewer: 1 })?;
-    for piece in [OPENING, WITH_COPYRECT, &request(false, 0, 0, 4, 1)] {
-        events.push(hear(alloc, 1, piece)?)?;
-    }
+    events.push(hear(alloc, 1, &changes)?)?;
     events.push(Event::Cut { viewer: 1 })?;
+    Ok(())
+}
+
+/// A viewer that uses CopyRect connects and is sent the picture.
+fn push_opening(alloc: Global, events: &mut Vec<Event>) -> Result<(), AllocError> {
+    let whole = request(false, 0, 0, 4, 1);
+    events.push(Event::Connect { viewer: 1 })?;
+    let pieces: [(u64, &[u8]); 3] = [(1, OPENING), (1, WITH_COPYRECT), (1, &whole)];
+    push_pieces(alloc, events, &pieces)?;
+    events.push(Event::Cut { viewer: 1 })?;
+    Ok(())
+}
+
+/// Colours that are written and then marked, and two notices.
+fn push_notices(alloc: Global, events: &mut Vec<Event>) -> Result<(), AllocError> {
     events.push(Event::Write {
         rect: rect(0, 0, 2, 1),
         colours: Listed::from_vec([1, 2].to_vec(alloc)?),
@@ -133,34 +164,39 @@ fn every_kind(alloc: Global) -> Result<Vec<Event>, AllocError> {
     events.push(Event::CutText {
         text: Listed::from_vec(b"hi".to_vec(alloc)?),
     })?;
-    events.push(hear(alloc, 1, &changes)?)?;
-    events.push(Event::Cut { viewer: 1 })?;
-    push_copies(alloc, &mut events)?;
-    events.push(paint(alloc, rect(0, 0, 1, 1), &[0xff8000])?)?;
-    events.push(hear(alloc, 1, &changes)?)?;
-    events.push(Event::Cut { viewer: 1 })?;
-    events.push(Event::Close { viewer: 1 })?;
-    Ok(events)
+    push_cut(alloc, events)
 }
 
-/// A copy that the viewer is only told of, and one of two places that is made.
-fn push_copies(alloc: Global, events: &mut Vec<Event>) -> Result<(), AllocError> {
-    let changes = request(true, 0, 0, 4, 1);
+/// A copy that the viewer is only told of.
+fn push_told_copy(alloc: Global, events: &mut Vec<Event>) -> Result<(), AllocError> {
     events.push(Event::ScheduleCopy {
         rects: rects(alloc, &[rect(2, 0, 4, 1)])?,
         dx: 2,
         dy: 0,
     })?;
-    events.push(hear(alloc, 1, &changes)?)?;
-    events.push(Event::Cut { viewer: 1 })?;
+    push_cut(alloc, events)
+}
+
+/// A copy of two places that is made.
+fn push_copy(alloc: Global, events: &mut Vec<Event>) -> Result<(), AllocError> {
     events.push(Event::DoCopy {
         rects: rects(alloc, &[rect(1, 0, 2, 1), rect(3, 0, 4, 1)])?,
         dx: 1,
         dy: 0,
     })?;
-    events.push(hear(alloc, 1, &changes)?)?;
-    events.push(Event::Cut { viewer: 1 })?;
-    Ok(())
+    push_cut(alloc, events)
+}
+
+fn every_kind(alloc: Global) -> Result<Vec<Event>, AllocError> {
+    let mut events = Vec::with_capacity(alloc, 21)?;
+    push_opening(alloc, &mut events)?;
+    push_notices(alloc, &mut events)?;
+    push_told_copy(alloc, &mut events)?;
+    push_copy(alloc, &mut events)?;
+    events.push(paint(alloc, rect(0, 0, 1, 1), &[0xff8000])?)?;
+    push_cut(alloc, &mut events)?;
+    events.push(Event::Close { viewer: 1 })?;
+    Ok(events)
 }
 
 fn four_by_one(alloc: Global) -> Result<Config, AllocError> {
@@ -236,6 +272,43 @@ macro_rules! again {
     };
 }
 
+/// A second viewer connects and opens.
+fn open_again(rt: &impl Abort, screen: &mut Screen) {
+    let version = again!(rt, screen.connect(2));
+    assert_eq!(rt; version.as_slice(), VERSION);
+    let opened = again!(rt, screen.hear(2, OPENING));
+    assert_eq!(rt; opened.bytes.len(), 30);
+}
+
+/// A place is written and marked, and a text is sent.
+fn draw_again(rt: &impl Abort, screen: &mut Screen, zone: &Region) {
+    again!(rt, screen.write_pixels(rect(0, 0, 1, 1), &[10]));
+    again!(rt, screen.mark_region(zone));
+    again!(rt, screen.cut_text(b"hi"));
+}
+
+/// A copy by each of the calls.
+fn copy_again(rt: &impl Abort, screen: &mut Screen, zone: &Region) {
+    again!(rt, screen.do_copy_rect(2, 0, 4, 1, 1, 0));
+    again!(rt, screen.schedule_copy_rect(5, 0, 6, 1, 1, 0));
+    again!(rt, screen.do_copy_region(zone, 1, 0));
+    again!(rt, screen.schedule_copy_region(zone, 0, 1));
+}
+
+/// What the first viewer is sent then.
+fn expect_copies(rt: &impl Abort, screen: &mut Screen) {
+    again!(rt, screen.hear(1, &request(true, 0, 0, 6, 1)));
+    let update = again!(rt, screen.cut(1)).expect(rt, "an update");
+    let bytes = again!(rt, update.encode());
+    let want = [
+        3, 0, 0, 0, 0, 0, 0, 2, 0x68, 0x69, 0, 0, 0, 3, 0, 5, 0, 0, 0, 1, 0, 1, 0, 0, 0, 1, 0, 4,
+        0, 0, 0, 2, 0, 0, 0, 2, 0, 1, 0, 0, 0, 1, 0, 1, 0, 0, 0, 0, 0, 0, 0, 1, 0, 1, 0, 0, 0, 0,
+        10, 0, 0, 0,
+    ];
+    assert_eq!(rt; bytes.as_slice(), want.as_slice());
+    assert!(rt; again!(rt, screen.cut(1)).is_none());
+}
+
 #[test]
 fn named_calls_whichever_allocation_is_refused(rt: HostRuntime) {
     let alloc = rt.alloc();
@@ -245,25 +318,8 @@ fn named_calls_whichever_allocation_is_refused(rt: HostRuntime) {
     let Ok(zone) = region(alloc, rect(0, 0, 1, 1)) else {
         return;
     };
-    let version = again!(&rt, screen.connect(2));
-    assert_eq!(rt; version.as_slice(), VERSION);
-    let opened = again!(&rt, screen.hear(2, OPENING));
-    assert_eq!(rt; opened.bytes.len(), 30);
-    again!(&rt, screen.write_pixels(rect(0, 0, 1, 1), &[10]));
-    again!(&rt, screen.mark_region(&zone));
-    again!(&rt, screen.cut_text(b"hi"));
-    again!(&rt, screen.do_copy_rect(2, 0, 4, 1, 1, 0));
-    again!(&rt, screen.schedule_copy_rect(5, 0, 6, 1, 1, 0));
-    again!(&rt, screen.do_copy_region(&zone, 1, 0));
-    again!(&rt, screen.schedule_copy_region(&zone, 0, 1));
-    again!(&rt, screen.hear(1, &request(true, 0, 0, 6, 1)));
-    let update = again!(&rt, screen.cut(1)).expect(&rt, "an update");
-    let bytes = again!(&rt, update.encode());
-    let want = [
-        3, 0, 0, 0, 0, 0, 0, 2, 0x68, 0x69, 0, 0, 0, 3, 0, 5, 0, 0, 0, 1, 0, 1, 0, 0, 0, 1, 0, 4,
-        0, 0, 0, 2, 0, 0, 0, 2, 0, 1, 0, 0, 0, 1, 0, 1, 0, 0, 0, 0, 0, 0, 0, 1, 0, 1, 0, 0, 0, 0,
-        10, 0, 0, 0,
-    ];
-    assert_eq!(rt; bytes.as_slice(), want.as_slice());
-    assert!(rt; again!(&rt, screen.cut(1)).is_none());
+    open_again(&rt, &mut screen);
+    draw_again(&rt, &mut screen, &zone);
+    copy_again(&rt, &mut screen, &zone);
+    expect_copies(&rt, &mut screen);
 }

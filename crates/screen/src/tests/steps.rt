@@ -53,27 +53,32 @@ impl World {
     /// A screen with three open viewers, of which the first and the third use CopyRect.
     fn new(alloc: Global, width: u16, height: u16, limit: u32) -> Result<World, ScreenError> {
         let size = config(alloc, u32::from(width), u32::from(height), b"", limit)?;
-        let mut screen = Screen::new(alloc, size)?;
-        let mut watchers = Vec::new(alloc);
-        for (number, encodings) in [(1, WITH_COPYRECT), (2, RAW), (3, WITH_COPYRECT)] {
-            screen.connect(number)?;
-            screen.hear(number, OPENING)?;
-            screen.hear(number, encodings)?;
-            watchers.push(Watcher {
-                number,
-                viewer: Viewer::new(alloc, width, height)?,
-                asked: Vec::new(alloc),
-            })?;
-        }
-        Ok(World {
+        let mut world = World {
             alloc,
             width,
             height,
-            screen,
+            screen: Screen::new(alloc, size)?,
             picture: Picture::new(alloc, width, height)?,
             is_wide: limit >= 50,
-            watchers,
-        })
+            watchers: Vec::new(alloc),
+        };
+        world.watch(1, WITH_COPYRECT)?;
+        world.watch(2, RAW)?;
+        world.watch(3, WITH_COPYRECT)?;
+        Ok(world)
+    }
+
+    /// A viewer connects and opens.
+    fn watch(&mut self, number: u64, encodings: &[u8]) -> Result<(), ScreenError> {
+        self.screen.connect(number)?;
+        self.screen.hear(number, OPENING)?;
+        self.screen.hear(number, encodings)?;
+        self.watchers.push(Watcher {
+            number,
+            viewer: Viewer::new(self.alloc, self.width, self.height)?,
+            asked: Vec::new(self.alloc),
+        })?;
+        Ok(())
     }
 
     /// The whole screen.

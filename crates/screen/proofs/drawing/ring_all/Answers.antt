@@ -1,10 +1,22 @@
-use Rattle.std.proofs.Common.{◌<◌, length, rules}
-use Rattle.std.proofs.lemmas.List.Edits.{map_over_more}
+use Rattle.client_list.proofs.Walks.{change_step}
 use Rattle.screen.specs.declared.notices.Notice.TheVariants as notice
 use Rattle.screen.specs.Entries.{seat_noticed}
 use Rattle.screen.proofs.drawing.ring_all.Goals as goal
 
-pub loop-i-preserved : goal.loop-i-preserved
-loop-i-preserved c =
-    let inside : c.loop-i.i < length c.args.seats.now.items = search rules in
-    rw c.keep_notice.ensures (map_over_more (seat_noticed notice.Bell) c.args.seats.now.items c.loop-i.seats.items c.loop-i.i c.index_mut-seat.result.now inside c.loop-i.invariant c.index_mut-seat.ensures.value)
+pub loop-place-preserved : goal.loop-place-preserved
+loop-place-preserved c =
+    change_step
+    (seat_noticed notice.Bell)
+    c.args.clients.now
+    c.loop-place.clients
+    c.loop-place.place
+    c.next-place.result
+    c.in-Some.at
+    c.at_mut.result.now
+    c.keep_notice.new.seat
+    c.loop-place.invariant
+    c.in-Some.is
+    c.at_mut.ensures.value
+    c.keep_notice.ensures
+    c.next-place.ensures.place
+    c.next-place.ensures.passed

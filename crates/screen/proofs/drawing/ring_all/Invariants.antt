@@ -1,8 +1,13 @@
-use Rattle.std.proofs.Common.{◌≡◌, ◌++◌, map, take, drop}
+use Rattle.std.proofs.Common.{◌-◌, length}
+use Rattle.client_list.specs.Connected.{changed, passed}
+use Rattle.client_list.proofs.Walks.{IsWalk}
 use Rattle.screen.specs.declared.notices.Notice.TheVariants as notice
 use Rattle.screen.specs.Entries.{seat_noticed}
 use Rattle.screen.proofs.drawing.ring_all.Given as goal
 
--- the seats before i keep a bell, and the others are as they were
-abbrev pub invariant-loop-i : goal.invariant-loop-i
-invariant-loop-i l = l.seats.items ≡ map (seat_noticed notice.Bell) (take l.i l.fn.seats.items) ++ drop l.i l.fn.seats.items
+-- the viewers that were passed keep a bell
+abbrev pub invariant-loop-place : goal.invariant-loop-place
+invariant-loop-place l = IsWalk l.fn.clients (changed (seat_noticed notice.Bell) l.fn.clients.pairs) l.clients l.place
+
+abbrev pub decreases-loop-place : goal.decreases-loop-place
+decreases-loop-place l = length l.clients.places - passed l.clients l.place

@@ -1,24 +1,34 @@
-use Rattle.std.proofs.Common.{◌<◌, length, rules, ap, ◌∙◌}
-use Rattle.std.proofs.lemmas.List.Edits.{map_over_more}
-use Rattle.std.specs.Vec.{with_item}
+use Rattle.std.proofs.Common.{◌≡◌, ◌<◌, ℕ, ◌-◌, ◌+◌, length, replicate, sym, ap, ◌∙◌, arith, rules, Option}
+use Rattle.client_list.specs.Connected.{Connected, IsPlace, index_of, passed}
+use Rattle.client_list.proofs.IndexLemmas.{index_within}
+use Rattle.client_list.proofs.Walks.{change_step, walk_place}
 use Rattle.screen.specs.declared.notices.Notice.{Notice}
 use Rattle.screen.specs.declared.notices.Notice.TheVariants as notice
+use Rattle.screen.specs.declared.place.Seat.{Seat}
 use Rattle.screen.specs.Entries.{seat_noticed}
 use Rattle.screen.proofs.LoopLemmas.{replicate-taken, replicate-some}
 use Rattle.screen.proofs.drawing.tell_all.Goals as goal
-use Rattle.screen.proofs.drawing.tell_all.Goals.{in-Some, in_default}
+use Rattle.screen.proofs.drawing.tell_all.Goals.{in-Some-pop, in_default-pop}
 
-pub loop-i-preserved : goal.loop-i-preserved
-loop-i-preserved c =
-    let inside : c.loop-i.i < length c.args.seats.now.items = search rules in
+pub loop-place-preserved : goal.loop-place-preserved
+loop-place-preserved c =
     let text : Notice = notice.CutText c.args.text.now in
+    let start : Connected Seat = c.args.clients.now in
+    let now : Connected Seat = c.loop-place.clients in
+    let n : ℕ = index_of now.places c.in-Some.at in
+    let there : IsPlace now c.in-Some.at = walk_place now c.loop-place.place c.in-Some.at c.in-Some.is c.loop-place.invariant.walk.place in
+    let same : length now.places ≡ length start.places = ap length c.loop-place.invariant.walk.places in
+    let below : n < length start.places = omega (arith, index_within now.places c.in-Some.at there, same) in
+    let left = c.loop-place.invariant.left ∙ ap (λ (o : Option ℕ). replicate (length start.places - passed now o) text) c.in-Some.is in
     elim c.match-pop.branch [
-      | in-Some w ↦
-          let taken = replicate-taken (length c.args.seats.now.items) c.loop-i.i text w.in-Some.notice c.loop-i.notices.items c.pop.new.self.items inside c.loop-i.invariant.left w.in-Some.ensures.items in
-          record {
-            seats = ap (λ v. v.items) w.seats-is ∙ ap (λ s. (with_item c.loop-i.seats c.loop-i.i s).items) (w.keep_notice.ensures ∙ ap (λ n. seat_noticed n c.index_mut-seat.result.now) taken.1)
-                ∙ map_over_more (seat_noticed text) c.args.seats.now.items c.loop-i.seats.items c.loop-i.i c.index_mut-seat.result.now inside c.loop-i.invariant.seats c.index_mut-seat.ensures.value;
-            left = taken.0;
-          }
-      | in_default w ↦ absurd (replicate-some (length c.args.seats.now.items) c.loop-i.i text c.loop-i.notices.items inside c.loop-i.invariant.left (search rules))
+      | in-Some-pop w ↦
+          let taken = replicate-taken (length start.places) n text w.in-Some-pop.notice c.loop-place.notices.items c.pop.new.self.items below left w.in-Some-pop.ensures.items in
+          let step = rw w.clients-is at c.next-place.ensures.passed in
+          rw w.clients-is (record {
+            walk =
+                change_step (seat_noticed text) start now c.loop-place.place c.next-place.result c.in-Some.at w.at_mut.result.now w.keep_notice.new.seat c.loop-place.invariant.walk c.in-Some.is w.at_mut.ensures.value
+                (w.keep_notice.ensures ∙ ap (λ (t : Notice). seat_noticed t w.at_mut.result.now) taken.1) (rw w.clients-is at c.next-place.ensures.place) step;
+            left = taken.0 ∙ sym (ap (λ (m : ℕ). replicate (length start.places - m) text) step);
+          })
+      | in_default-pop w ↦ absurd (replicate-some (length start.places) n text c.loop-place.notices.items below left (search rules))
     ]

@@ -1,11 +1,16 @@
-use Rattle.std.proofs.Common.{◌≡◌, ◌-◌, ◌++◌, map, take, drop, length, replicate}
+use Rattle.std.proofs.Common.{◌≡◌, ◌-◌, length, replicate}
+use Rattle.client_list.specs.Connected.{changed, passed}
+use Rattle.client_list.proofs.Walks.{IsWalk}
 use Rattle.screen.specs.declared.notices.Notice.TheVariants as notice
 use Rattle.screen.specs.Entries.{seat_noticed}
 use Rattle.screen.proofs.drawing.tell_all.Given as goal
 
--- the seats before i keep their texts, and there is one left for each of the others
-abbrev pub invariant-loop-i : goal.invariant-loop-i
-invariant-loop-i l = record {
-  seats : l.seats.items ≡ map (seat_noticed (notice.CutText l.text)) (take l.i l.fn.seats.items) ++ drop l.i l.fn.seats.items;
-  left : l.notices.items ≡ replicate (length l.fn.seats.items - l.i) (notice.CutText l.text);
+-- the viewers that were passed keep their texts, and there is one left for each of the others
+abbrev pub invariant-loop-place : goal.invariant-loop-place
+invariant-loop-place l = record {
+  walk : IsWalk l.fn.clients (changed (seat_noticed (notice.CutText l.text)) l.fn.clients.pairs) l.clients l.place;
+  left : l.notices.items ≡ replicate (length l.fn.clients.places - passed l.clients l.place) (notice.CutText l.text);
 }
+
+abbrev pub decreases-loop-place : goal.decreases-loop-place
+decreases-loop-place l = length l.clients.places - passed l.clients l.place

@@ -1,33 +1,41 @@
-use Rattle.std.proofs.Common.{◌≡◌, sym, ap, ◌∙◌, true, false}
+use Rattle.std.proofs.Common.{◌≡◌, ℕ, List, [], ◌∷◌, ◌++◌, map, sym, ap, ◌∙◌, Ok, Err, subst}
 use Rattle.std.specs.Prelude.{◌==◌, not}
-use Rattle.std.specs.List.{list_any}
-use Rattle.std.proofs.lemmas.List.Elements.{All-filter}
-use Rattle.screen.specs.Held.{IsSized}
-use Rattle.screen.proofs.Calls.{close-absent, close-there, close-answer}
+use Rattle.std.specs.Map.{values_of}
+use Rattle.client_list.specs.Connected.{Connected}
+use Rattle.screen.specs.declared.Event.TheVariants.{Close}
+use Rattle.screen.specs.declared.place.Seat.{Seat}
+use Rattle.screen.specs.Held.{IsHeld, IsSized}
+use Rattle.screen.specs.Answers.{state, answer_to}
+use Rattle.screen.specs.Alone.{nothing_to_say, told}
+use Rattle.screen.proofs.Kept.{all-some}
+use Rattle.screen.proofs.Calls.{seen, at_config, close-absent, close-there, close-answer_absent, close-answer_there}
 use Rattle.screen.proofs.screen.Screen.close.Goals as goal
-
-pub returns-then-not-has_seat-clause-step : goal.returns-then-not-has_seat-clause-step
-returns-then-not-has_seat-clause-step c = λ config list h.
-    let away : list_any (λ s. s.number == c.args.number) c.self.inside.seats.items ≡ false = ap (list_any (λ s. s.number == c.args.number)) (sym c.deref.ensures.value) ∙ sym c.has_seat.ensures ∙ c.if-not-has_seat.true in
-    h ∙ close-absent c.self.inside.config config list c.self.inside.picture.items c.self.inside.seats.items c.args.number (c.self.view_is ∙ h) away
-
-pub returns-then-not-has_seat-clause-answer : goal.returns-then-not-has_seat-clause-answer
-returns-then-not-has_seat-clause-answer c = λ config list h.
-    let away : list_any (λ s. s.number == c.args.number) c.self.inside.seats.items ≡ false = ap (list_any (λ s. s.number == c.args.number)) (sym c.deref.ensures.value) ∙ sym c.has_seat.ensures ∙ c.if-not-has_seat.true in
-    close-answer c.self.inside.config config list c.self.inside.picture.items c.self.inside.seats.items c.args.number false (c.self.view_is ∙ h) away
+use Rattle.screen.proofs.screen.Screen.close.Goals.{in-Ok, in-Err}
 
 pub invariant_of-self : goal.invariant_of-self
-invariant_of-self c = record {
-  accepted = c.self.invariant.accepted;
-  size = c.self.invariant.size;
-  sized = rw c.remove.ensures (All-filter (λ s. not (s.number == c.args.number)) (IsSized c.self.inside.config) c.self.inside.seats.items c.self.invariant.sized);
-}
+invariant_of-self c = elim c.match-remove.branch [
+  | in-Ok w ↦ record {
+    accepted = c.self.invariant.accepted;
+    size = c.self.invariant.size;
+    sized = rw w.in-Ok.ensures.others (all-some (IsSized c.self.inside.config) (λ pair. not (pair.0 == c.args.number)) c.self.inside.clients.pairs c.self.invariant.sized);
+  }
+  | in-Err w ↦ subst (λ (l : Connected Seat). IsHeld c.self.inside.config c.self.inside.picture.items (values_of l.pairs)) (sym w.in-Err.ensures.err) c.self.invariant
+]
 
 pub returns-clause-step : goal.returns-clause-step
 returns-clause-step c = λ config list h.
-    rw c.remove.ensures (close-there c.self.inside.config config list c.self.inside.picture.items c.self.inside.seats.items c.args.number (c.self.view_is ∙ h))
+    let here = c.self.inside in
+    at_config (λ k. seen here.config here.picture.items c.remove.new.self.pairs ≡ state k (list ++ Close c.args.number ∷ [])) here.config config here.picture.items here.clients.pairs list (c.self.view_is ∙ h) (λ k.
+    elim c.match-remove.branch [
+      | in-Ok w ↦ ap (seen here.config here.picture.items) w.in-Ok.ensures.others ∙ close-there here.config list here.picture.items here.clients.pairs c.args.number k
+      | in-Err w ↦ ap (λ (l : Connected Seat). seen here.config here.picture.items l.pairs) w.in-Err.ensures.err ∙ k ∙ close-absent here.config list here.picture.items here.clients.pairs c.args.number k w.in-Err.ensures.value
+    ])
 
 pub returns-clause-answer : goal.returns-clause-answer
 returns-clause-answer c = λ config list h.
-    let there : list_any (λ s. s.number == c.args.number) c.self.inside.seats.items ≡ true = ap (list_any (λ s. s.number == c.args.number)) (sym c.deref.ensures.value) ∙ sym c.has_seat.ensures ∙ c.if-not-has_seat.false in
-    close-answer c.self.inside.config config list c.self.inside.picture.items c.self.inside.seats.items c.args.number true (c.self.view_is ∙ h) there
+    let here = c.self.inside in
+    at_config (λ k. told (λ _. nothing_to_say) c.match-remove.result ≡ answer_to k list (Close c.args.number)) here.config config here.picture.items here.clients.pairs list (c.self.view_is ∙ h) (λ k.
+    elim c.match-remove.branch [
+      | in-Ok w ↦ rw w.result-is (close-answer_there here.config list here.picture.items here.clients.pairs c.args.number _ k (sym w.in-Ok.ensures.value))
+      | in-Err w ↦ rw w.result-is (close-answer_absent here.config list here.picture.items here.clients.pairs c.args.number k w.in-Err.ensures.value)
+    ])

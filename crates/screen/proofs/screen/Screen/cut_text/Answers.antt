@@ -6,7 +6,7 @@ use Rattle.screen.specs.declared.Event.TheVariants.{CutText}
 use Rattle.screen.specs.declared.notices.Notice.TheVariants as notice
 use Rattle.screen.specs.Answers.{State}
 use Rattle.screen.specs.Entries.{entry, seat_noticed}
-use Rattle.screen.proofs.Drawn.{state-drawn, sized-map}
+use Rattle.screen.proofs.Drawn.{state-drawn, sized-changed}
 use Rattle.screen.proofs.screen.Screen.cut_text.Goals as goal
 
 short : (n : ℕ) → n ≤ 65536 → (if nat_lt 65536 n then Some refusals.TextTooLong else None) ≡ None
@@ -16,12 +16,12 @@ pub invariant_of-self : goal.invariant_of-self
 invariant_of-self c = record {
   accepted = c.self.invariant.accepted;
   size = c.self.invariant.size;
-  sized = rw c.tell_all.ensures (sized-map c.self.inside.config (seat_noticed (notice.CutText c.args.text.now)) c.self.inside.seats.items (λ s was. record { width = was.width; height = was.height }) c.self.invariant.sized);
+  sized = rw c.tell_all.ensures (sized-changed c.self.inside.config (seat_noticed (notice.CutText c.args.text.now)) c.self.inside.clients.pairs (λ s was. record { width = was.width; height = was.height }) c.self.invariant.sized);
 }
 
 pub returns-clause-step : goal.returns-clause-step
 returns-clause-step c = λ config list h.
     let here = c.self.inside in
-    let after : List _ → State = λ seats. record { config = here.config; picture = here.picture.items; viewers = map entry seats } in
+    let after : List _ → State = λ pairs. record { config = here.config; picture = here.picture.items; viewers = map entry pairs } in
     ap after c.tell_all.ensures
-    ∙ state-drawn config here.config here.picture.items here.picture.items here.seats.items (seat_noticed (notice.CutText c.args.text.now)) (CutText c.args.text.now) list refl (short (length c.args.text.now) c.if-text.false) refl (λ s. refl) (c.self.view_is ∙ h)
+    ∙ state-drawn config here.config here.picture.items here.picture.items here.clients.pairs (seat_noticed (notice.CutText c.args.text.now)) (CutText c.args.text.now) list refl (short (length c.args.text.now) c.if-text.false) refl (λ s. refl) (c.self.view_is ∙ h)

@@ -5,7 +5,7 @@ use Rattle.std.proofs.lemmas.Int.{to_z-of_z}
 use Rattle.region.specs.declared.Rect.{Rect}
 use Rattle.screen.specs.declared.Event.TheVariants.{ScheduleCopy}
 use Rattle.screen.specs.Answers.{state}
-use Rattle.screen.proofs.Copies.{plain_order}
+use Rattle.region.proofs.OrderLemmas.{in_order-plain}
 use Rattle.screen.proofs.screen.Screen.schedule_copy_region.Goals as goal
 
 pub returns-clause-step : goal.returns-clause-step
@@ -14,4 +14,4 @@ returns-clause-step c = λ config list h.
     let dy : FitsSigned w32 c.args.dy = c.ranges.dy in
     let P : List Rect → Type 0 = λ rects. OnOk c.schedule_copy.result (c.schedule_copy.new.self ≡ state config (list ++ ScheduleCopy rects c.args.dx c.args.dy ∷ [])) in
     let done : P c.as_slice.result.now = simp to_z-of_z at (c.schedule_copy.ensures.step config list h) in
-    subst P (c.as_slice.ensures ∙ c.in_ok-rects.ensures.order ∙ plain_order c.args.region.now.list) done
+    subst P (c.as_slice.ensures ∙ c.in_ok-rects.ensures.order ∙ in_order-plain c.args.region.now.list) done

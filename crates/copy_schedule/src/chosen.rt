@@ -1,0 +1,94 @@
+//! What an update sends of a screen's places.
+
+ghost use Rattle.std.specs.Prelude.{◌≡◌, ◌&&◌, ◌||◌, not, ℤ, ◌-ℤ◌, IfOk, take, All};
+ghost use Rattle.region.specs.Region.{covers, order, IsCanonical};
+ghost use Rattle.copy_schedule.specs.Marks.{IsOnScreen};
+ghost use Rattle.copy_schedule.specs.Kept.{LiesOn, IsKept};
+
+use crate::kept::Kept;
+use crate::sets::{moved_by, shared, union_of, united, without};
+use region::{Rect, Region};
+use std::alloc::{AllocError, Global};
+
+/// The places that are asked for and not clean: those that are sent as copies, and those that are sent as pixels. Beside
+/// them all places that are not clean.
+#[derive(Drop)]
+pub struct Chosen {
+    pub copies: Region,
+    pub pixels: Region,
+    pub unclean: Region,
+}
+
+/// The places that may be sent as copies: they and their sources, (dx, dy) before them, are asked for.
+fn copyable(
+    alloc: Global,
+    copied: &Region,
+    asked: &Region,
+    offset: (i32, i32),
+) -> Result<Region, AllocError>
+    requires copied { LiesOn 8192 8192 copied.now.list }
+    requires asked { LiesOn 8192 8192 asked.now.list }
+    ensures { IfOk result (λ all. (x y : ℤ) → covers all.list x y ≡ (covers asked.now.list x y && covers copied.now.list x y && covers asked.now.list (x -ℤ offset.0) (y -ℤ offset.1))) }
+{
+    let sources = moved_by(alloc, asked, offset)?;
+    let both = shared(alloc, copied, asked)?;
+    let all = shared(alloc, &both, &sources)?;
+    Ok(all)
+}
+
+/// What may be sent next.
+pub fn choose(
+    alloc: Global,
+    kept: &Kept,
+    asked: &Region,
+    offset: (i32, i32),
+) -> Result<Chosen, AllocError>
+    requires kept { IsKept 8192 8192 kept.now }
+    requires asked { LiesOn 8192 8192 asked.now.list }
+    ensures copies { IfOk result (λ c. (x y : ℤ) → covers c.copies.list x y ≡ (covers asked.now.list x y && covers kept.now.copied.list x y && covers asked.now.list (x -ℤ offset.0) (y -ℤ offset.1))) }
+    ensures pixels { IfOk result (λ c. (x y : ℤ) → covers c.pixels.list x y ≡ (covers asked.now.list x y && (covers kept.now.owed.list x y || covers kept.now.copied.list x y) && not (covers c.copies.list x y))) }
+    ensures unclean { IfOk result (λ c. (x y : ℤ) → covers c.unclean.list x y ≡ (covers kept.now.owed.list x y || covers kept.now.copied.list x y)) }
+{
+    let copies = copyable(alloc, &kept.copied, asked, offset)?;
+    let unclean = united(alloc, &kept.owed, &kept.copied)?;
+    let wanted = shared(alloc, asked, &unclean)?;
+    let pixels = without(alloc, &wanted, &copies)?;
+    Ok(Chosen {
+        copies,
+        pixels,
+        unclean,
+    })
+}
+
+/// The first rectangles of a region, at most `limit`, in the order for copies by (dx, dy).
+pub fn first_rects(
+    alloc: Global,
+    region: &Region,
+    offset: (i32, i32),
+    limit: u32,
+) -> Result<Vec<Rect>, AllocError>
+    ensures rects { IfOk result (λ rects. rects.items ≡ take limit (order offset.0 offset.1 region.now.list)) }
+    ensures canonical { IsCanonical region.now.list }
+{
+    let mut rects = region.rects(alloc, 0 < offset.0, 0 < offset.1)?.into_vec();
+    rects.truncate(limit as usize);
+    Ok(rects)
+}
+
+/// The places that are left once the rectangles are sent.
+pub fn left_after(
+    alloc: Global,
+    unclean: &Region,
+    copies: &[Rect],
+    pixels: &[Rect],
+) -> Result<Region, AllocError>
+    requires copies { All (IsOnScreen 8192 8192) copies.now }
+    requires pixels { All (IsOnScreen 8192 8192) pixels.now }
+    ensures { IfOk result (λ left. (x y : ℤ) → covers left.list x y ≡ (covers unclean.now.list x y && not (covers copies.now x y || covers pixels.now x y))) }
+{
+    let moved = union_of(alloc, copies)?;
+    let drawn = union_of(alloc, pixels)?;
+    let sent = united(alloc, &moved, &drawn)?;
+    let left = without(alloc, unclean, &sent)?;
+    Ok(left)
+}

@@ -1,0 +1,356 @@
+//! The marks over regions: the places that are owed, that await a copy, and that are asked for.
+
+ghost use Rattle.std.specs.Prelude.{◌≡◌, ◌≤◌, ◌*◌, ◌&&◌, ◌||◌, not, false, pos, ℤ, replicate, if◌then◌else◌, IfOk, IfSome, OnOk, OnErr, option_map};
+ghost use Rattle.copy_schedule.specs.declared.Mark.TheVariants.{Clean, Owed};
+ghost use Rattle.region.specs.Region.{covers, in_rect, rects_of};
+ghost use Rattle.copy_schedule.specs.Marks.{is_clean, is_owed, is_copied, mark_at, asked_at, with_marks, new_marks, marked, copied_by, same_offset, without_copyrect, requested, pending, cut_of, cut_of_sent, marks_after, copies_of, pixels_of, IsInside, HasSourcesInside, IsWithin, IsCutTo};
+ghost use Rattle.copy_schedule.specs.Kept.{IsKept, LiesOn, with_kept};
+
+use crate::Cut;
+use crate::chosen::{choose, first_rects, left_after};
+use crate::kept::{Kept, clone_of, forgetting, losing, moving, owing, owing_copies};
+use crate::sets::{on_screen, part_of, screen_places, united};
+use listed::Listed;
+use region::{Rect, Region};
+use std::alloc::{AllocError, Global};
+use std::marker::Model;
+
+/// One viewer's marks: the places of the screen that are owed to it, those that await a copy and by which offset, and those
+/// that it asked for. All other places are clean.
+#[derive(Debug, Drop)]
+pub struct Marks {
+    alloc: Global,
+    width: u32,
+    height: u32,
+    kept: Kept,
+    offset_x: i32,
+    offset_y: i32,
+    asked: Region,
+}
+
+impl Model for Marks {
+    ghost use Rattle.copy_schedule.specs.Marks.{Marks};
+    ghost use Rattle.copy_schedule.specs.Kept.{kept_mark, IsScreen};
+    ghost use Rattle.copy_schedule.specs.Places.{by_place};
+    ghost use Rattle.region.specs.Region.{covers};
+
+    ghost Value = { Marks };
+
+    ghost view = { λ a. record { width = a.width; height = a.height; marks = by_place a.width a.height (kept_mark a.kept); offset = (a.offset_x, a.offset_y); asked = by_place a.width a.height (covers a.asked.list) } };
+
+    ghost invariant = { λ a. IsScreen a.width a.height a.kept a.asked.list };
+}
+
+/// Marks that a call would leave, ready for `Marks::commit`.
+#[derive(Debug, Drop)]
+pub struct Prepared {
+    marks: Marks,
+}
+
+impl Model for Prepared {
+    ghost use Rattle.copy_schedule.specs.Marks.{Marks};
+
+    ghost Value = { Marks };
+
+    ghost view = { λ a. a.marks };
+}
+
+/// What an update sends, and the places that are owed after it.
+#[derive(Drop)]
+struct Sending {
+    copies: Vec<Rect>,
+    pixels: Vec<Rect>,
+    owed: Region,
+}
+
+impl Marks {
+    /// At connecting every place is owed, and none is asked for. The width and the height are in places, at most 8192 each.
+    /// `AllocError` where memory for a rectangle is refused.
+    pub fn new(alloc: Global, width: u32, height: u32) -> Result<Marks, AllocError>
+        requires some_columns { 1 ≤ width }
+        requires columns { width ≤ 8192 }
+        requires some_rows { 1 ≤ height }
+        requires rows { height ≤ 8192 }
+        ensures { IfOk result (λ marks. marks ≡ new_marks width height) }
+    {
+        let owed = screen_places(alloc, width, height)?;
+        Ok(Marks {
+            alloc,
+            width,
+            height,
+            kept: Kept {
+                owed,
+                copied: Region::new(alloc),
+            },
+            offset_x: 0,
+            offset_y: 0,
+            asked: Region::new(alloc),
+        })
+    }
+
+    /// Equal marks. `AllocError` where memory is refused.
+    pub fn try_clone(&self) -> Result<Marks, AllocError>
+        ensures { IfOk result (λ marks. marks ≡ self.now) }
+    {
+        let kept = clone_of(self.alloc, &self.kept)?;
+        let asked = self.asked.try_clone(self.alloc)?;
+        Ok(Marks {
+            alloc: self.alloc,
+            width: self.width,
+            height: self.height,
+            kept,
+            offset_x: self.offset_x,
+            offset_y: self.offset_y,
+            asked,
+        })
+    }
+
+    /// The marks as `mark` would leave them. `AllocError` where memory is refused.
+    pub fn prepare_mark(&self, region: &Region) -> Result<Prepared, AllocError>
+        ensures { IfOk result (λ prepared. prepared ≡ marked (covers region.now.list) self.now) }
+    {
+        let drawn = on_screen(self.alloc, region, self.width, self.height)?;
+        let kept = owing(self.alloc, &self.kept, &drawn)?;
+        let prepared = self.prepared(kept, (self.offset_x, self.offset_y))?;
+        Ok(prepared)
+    }
+
+    /// The marks as `copy` would leave them. `AllocError` where memory is refused.
+    pub fn prepare_copy(
+        &self,
+        region: &Region,
+        dx: i32,
+        dy: i32,
+        uses_copyrect: bool,
+    ) -> Result<Prepared, AllocError>
+        requires cut { IsCutTo self.now.width self.now.height (dx, dy) region.now.list }
+        ensures { IfOk result (λ prepared. prepared ≡ copied_by (covers region.now.list) (dx, dy) uses_copyrect self.now) }
+    {
+        if !uses_copyrect {
+            return self.prepare_mark(region);
+        }
+        let stays = self.has_offset(dx, dy);
+        let left = losing(self.alloc, &self.kept, region, (dx, dy), stays)?;
+        let kept = moving(self.alloc, &left, region, (dx, dy))?;
+        let prepared = self.prepared(kept, (dx, dy))?;
+        Ok(prepared)
+    }
+
+    /// The marks are the prepared ones from now on. This takes no memory.
+    pub fn commit(&mut self, prepared: Prepared)
+        ensures { self.new ≡ prepared }
+    {
+        *self = prepared.marks;
+    }
+
+    /// The region's places on the screen become owed (`rfbMarkRegionAsModified` of `rfb.h`). After an `AllocError` the marks
+    /// are as they were.
+    pub fn mark(&mut self, region: &Region) -> Result<(), AllocError>
+        ensures ok { OnOk result (self.new ≡ marked (covers region.now.list) self.old) }
+        ensures err { OnErr result (self.new ≡ self.old) }
+    {
+        let prepared = self.prepare_mark(region)?;
+        self.commit(prepared);
+        Ok(())
+    }
+
+    /// A copy drew the region with the pixels of the places less (dx, dy) (`rfbScheduleCopyRegion` of `rfb.h`). A viewer that
+    /// uses CopyRect may copy them itself, where it has their sources; for another they are owed. Places that await
+    /// pixels by another offset are owed from then on, and so are those from which this copy takes pixels that they still await.
+    ///
+    /// The region is on the screen with its sources. It is meant to have places, and the offset not to be (0, 0). After an
+    /// `AllocError` the marks are as they were.
+    pub fn copy(
+        &mut self,
+        region: &Region,
+        dx: i32,
+        dy: i32,
+        uses_copyrect: bool,
+    ) -> Result<(), AllocError>
+        requires cut { IsCutTo self.old.width self.old.height (dx, dy) region.now.list }
+        ensures ok { OnOk result (self.new ≡ copied_by (covers region.now.list) (dx, dy) uses_copyrect self.old) }
+        ensures err { OnErr result (self.new ≡ self.old) }
+    {
+        let prepared = self.prepare_copy(region, dx, dy, uses_copyrect)?;
+        self.commit(prepared);
+        Ok(())
+    }
+
+    /// A FramebufferUpdateRequest (RFC 6143, section 7.5.3): the rectangle's places on the screen are asked for. Where it is not
+    /// incremental, they are owed, and so are the places that await a copy from one of them. After an `AllocError` the marks
+    /// are as they were.
+    pub fn request(&mut self, rect: Rect, incremental: bool) -> Result<(), AllocError>
+        ensures ok { OnOk result (self.new ≡ requested (in_rect rect) incremental self.old) }
+        ensures err { OnErr result (self.new ≡ self.old) }
+    {
+        let (width, height) = (self.width, self.height);
+        let part = part_of(self.alloc, rect, (0, 0), width, height)?;
+        let asked = united(self.alloc, &self.asked, &part)?;
+        if incremental {
+            self.asked = asked;
+            return Ok(());
+        }
+        let offset = (self.offset_x, self.offset_y);
+        let awaiting = part_of(self.alloc, rect, offset, width, height)?;
+        let kept = forgetting(self.alloc, &self.kept, &part, &awaiting)?;
+        self.kept = kept;
+        self.asked = asked;
+        Ok(())
+    }
+
+    /// The viewer's SetEncodings lists no CopyRect (RFC 6143, section 7.5.2): the places that await a copy are owed. After an
+    /// `AllocError` the marks are as they were.
+    pub fn no_copyrect(&mut self) -> Result<(), AllocError>
+        ensures ok { OnOk result (self.new ≡ without_copyrect self.old) }
+        ensures err { OnErr result (self.new ≡ self.old) }
+    {
+        let kept = owing_copies(self.alloc, &self.kept)?;
+        self.kept = kept;
+        Ok(())
+    }
+
+    /// Whether a place is asked for and not clean (`FB_UPDATE_PENDING` of `rfb.h`): whether `cut` gives something.
+    pub fn pending(&self) -> bool
+        ensures { result ≡ pending self.now }
+    {
+        self.asked.meets(&self.kept.owed) || self.asked.meets(&self.kept.copied)
+    }
+
+    /// What the next update sends (`rfbSendFramebufferUpdate` of `rfb.h`). It is marked as sent: its places are clean, every other
+    /// place that is not clean is owed, none is asked for, and the offset is (0, 0).
+    ///
+    /// A place is sent as a copy where it awaits one and its source is asked for too. Of the copies, and of the pixel
+    /// rectangles, the first ones go, at most `limit` of each (`maxRectsPerUpdate` of `rfb.h`). None where no place is asked for
+    /// and not clean; nothing changes then. After an `AllocError` the marks are as they were.
+    pub fn cut(&mut self, limit: u32) -> Result<Option<Cut>, AllocError>
+        ensures sent { IfOk result (λ cut. cut ≡ option_map cut_of_sent (cut_of limit self.old)) }
+        ensures after { OnOk result (self.new ≡ marks_after limit self.old) }
+        ensures inside { IfOk result (λ cut. IfSome cut (IsInside self.old.width self.old.height)) }
+        ensures sources { IfOk result (λ cut. IfSome cut (HasSourcesInside self.old.width self.old.height)) }
+        ensures count { IfOk result (λ cut. IfSome cut (IsWithin limit)) }
+        ensures err { OnErr result (self.new ≡ self.old) }
+    {
+        if !self.pending() {
+            return Ok(None);
+        }
+        let offset = self.offset();
+        let Sending {
+            copies,
+            pixels,
+            owed,
+        } = self.sending(limit)?;
+        self.settle(owed);
+        Ok(Some(Cut {
+            copies: Listed::from_vec(copies),
+            offset,
+            pixels: Listed::from_vec(pixels),
+        }))
+    }
+
+    /// The columns of the screen, 1 to 8192.
+    pub fn width(&self) -> u32
+        ensures same { result ≡ self.now.width }
+        ensures some { 1 ≤ result }
+        ensures limit { result ≤ 8192 }
+    {
+        self.width
+    }
+
+    /// The rows of the screen, 1 to 8192.
+    pub fn height(&self) -> u32
+        ensures same { result ≡ self.now.height }
+        ensures some { 1 ≤ result }
+        ensures limit { result ≤ 8192 }
+    {
+        self.height
+    }
+
+    /// The offset (dx, dy) of the pending copies.
+    pub fn offset(&self) -> (i32, i32)
+        ensures { result ≡ self.now.offset }
+    {
+        (self.offset_x, self.offset_y)
+    }
+
+    /// The owed places.
+    pub fn modified(&self) -> &Region
+        ensures { result.now.list ≡ rects_of self.now.width self.now.height (λ x y. is_owed (mark_at self.now x y)) }
+    {
+        self.kept.owed.has_canonical_list();
+        &self.kept.owed
+    }
+
+    /// The places that await a copy.
+    pub fn copied(&self) -> &Region
+        ensures { result.now.list ≡ rects_of self.now.width self.now.height (λ x y. is_copied (mark_at self.now x y)) }
+    {
+        self.kept.copied.has_canonical_list();
+        &self.kept.copied
+    }
+
+    /// The places that are asked for.
+    pub fn requested(&self) -> &Region
+        ensures { result.now.list ≡ rects_of self.now.width self.now.height (asked_at self.now) }
+    {
+        self.asked.has_canonical_list();
+        &self.asked
+    }
+
+    // These places and this offset, with the places that are asked for.
+    fn prepared(&self, kept: Kept, offset: (i32, i32)) -> Result<Prepared, AllocError>
+        requires { IsKept self.now.width self.now.height kept }
+        ensures { IfOk result (λ prepared. prepared ≡ record (with_kept kept self.now) { offset = offset }) }
+    {
+        let asked = self.asked.try_clone(self.alloc)?;
+        Ok(Prepared {
+            marks: Marks {
+                alloc: self.alloc,
+                width: self.width,
+                height: self.height,
+                kept,
+                offset_x: offset.0,
+                offset_y: offset.1,
+                asked,
+            },
+        })
+    }
+
+    // What the next update sends, and what is owed after it.
+    fn sending(&self, limit: u32) -> Result<Sending, AllocError>
+        ensures some { 1 ≤ self.now.width }
+        ensures copies { IfOk result (λ s. s.copies.items ≡ copies_of limit self.now) }
+        ensures pixels { IfOk result (λ s. s.pixels.items ≡ pixels_of limit self.now) }
+        ensures owed { IfOk result (λ s. (x y : ℤ) → covers s.owed.list x y ≡ (not (is_clean (mark_at self.now x y)) && not (covers s.copies.items x y || covers s.pixels.items x y))) }
+    {
+        let offset = (self.offset_x, self.offset_y);
+        let parts = choose(self.alloc, &self.kept, &self.asked, offset)?;
+        let copies = first_rects(self.alloc, &parts.copies, offset, limit)?;
+        let pixels = first_rects(self.alloc, &parts.pixels, (0, 0), limit)?;
+        let owed = left_after(self.alloc, &parts.unclean, &copies, &pixels)?;
+        Ok(Sending {
+            copies,
+            pixels,
+            owed,
+        })
+    }
+
+    // These places are owed and no others, and none is asked for.
+    fn settle(&mut self, owed: Region)
+        requires { LiesOn self.old.width self.old.height owed.list }
+        ensures { self.new ≡ record (with_marks self.old (λ x y. if covers owed.list x y then Owed else Clean)) { offset = (pos 0, pos 0); asked = replicate (self.old.width * self.old.height) false } }
+    {
+        self.kept = Kept {
+            owed,
+            copied: Region::new(self.alloc),
+        };
+        self.asked.clear();
+        self.offset_x = 0;
+        self.offset_y = 0;
+    }
+
+    fn has_offset(&self, dx: i32, dy: i32) -> bool
+        ensures { result ≡ same_offset self.now.offset (dx, dy) }
+    {
+        self.offset_x == dx && self.offset_y == dy
+    }
+}

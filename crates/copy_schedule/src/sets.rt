@@ -1,0 +1,176 @@
+//! Set operations on regions of a screen's places, each with a region of its own as its result.
+
+ghost use Rattle.std.specs.Prelude.{◌≡◌, ◌≤◌, ◌||◌, ◌&&◌, not, true, ℤ, ◌-ℤ◌, IfOk, All};
+ghost use Rattle.region.specs.Region.{covers, in_rect, on_screen};
+ghost use Rattle.region.specs.Held.{in_range};
+ghost use Rattle.copy_schedule.specs.Marks.{IsOnScreen};
+ghost use Rattle.copy_schedule.specs.Kept.{LiesOn};
+ghost use Rattle.copy_schedule.specs.Sets.{is_far_by, lies_between, rect_of};
+
+use crate::places::{Window, window_of};
+use region::{Rect, Region};
+use std::alloc::{AllocError, Global};
+
+/// The most columns, and rows, that a screen has.
+const LIMIT: i32 = 8192;
+
+/// The places of either.
+pub fn united(alloc: Global, first: &Region, second: &Region) -> Result<Region, AllocError>
+    ensures { IfOk result (λ all. (x y : ℤ) → covers all.list x y ≡ (covers first.now.list x y || covers second.now.list x y)) }
+{
+    let mut all = first.try_clone(alloc)?;
+    all.or(second)?;
+    Ok(all)
+}
+
+/// The places of both.
+pub fn shared(alloc: Global, first: &Region, second: &Region) -> Result<Region, AllocError>
+    ensures { IfOk result (λ both. (x y : ℤ) → covers both.list x y ≡ (covers first.now.list x y && covers second.now.list x y)) }
+{
+    let mut both = first.try_clone(alloc)?;
+    let _ = both.and(second)?;
+    Ok(both)
+}
+
+/// The places of the first that are not in the second.
+pub fn without(alloc: Global, first: &Region, second: &Region) -> Result<Region, AllocError>
+    ensures { IfOk result (λ rest. (x y : ℤ) → covers rest.list x y ≡ (covers first.now.list x y && not (covers second.now.list x y))) }
+{
+    let mut rest = first.try_clone(alloc)?;
+    let _ = rest.subtract(second)?;
+    Ok(rest)
+}
+
+/// The places of some rectangles of a screen.
+pub fn union_of(alloc: Global, rects: &[Rect]) -> Result<Region, AllocError>
+    requires { All (IsOnScreen 8192 8192) rects.now }
+    ensures { IfOk result (λ all. (x y : ℤ) → covers all.list x y ≡ covers rects.now x y) }
+{
+    Region::from_rects(alloc, rects).map_err(|_| AllocError)
+}
+
+fn is_far(by: i32) -> bool
+    ensures { result ≡ is_far_by by }
+{
+    by <= -LIMIT || LIMIT <= by
+}
+
+/// Whether (dx, dy) leads from every place of a screen off it.
+pub fn leads_off(offset: (i32, i32)) -> bool
+    ensures { result ≡ (is_far_by offset.0 || is_far_by offset.1) }
+{
+    is_far(offset.0) || is_far(offset.1)
+}
+
+/// The places whose places (dx, dy) before them are in the region, as far as a screen goes.
+pub fn moved_by(alloc: Global, region: &Region, offset: (i32, i32)) -> Result<Region, AllocError>
+    requires { LiesOn 8192 8192 region.now.list }
+    ensures { IfOk result (λ moved. (x y : ℤ) → on_screen 8192 8192 x y ≡ true → covers moved.list x y ≡ covers region.now.list (x -ℤ offset.0) (y -ℤ offset.1)) }
+{
+    if leads_off(offset) {
+        return Ok(Region::new(alloc));
+    }
+    let mut moved = region.try_clone(alloc)?;
+    moved.has_canonical_list();
+    let _ = moved.offset(offset.0, offset.1);
+    Ok(moved)
+}
+
+/// The places of a rectangle whose coordinates a region can have.
+fn places_of(alloc: Global, rect: Rect) -> Result<Region, AllocError>
+    requires { in_range rect ≡ true }
+    ensures { IfOk result (λ all. (x y : ℤ) → covers all.list x y ≡ in_rect rect x y) }
+{
+    Region::from_rect(alloc, rect).map_err(|_| AllocError)
+}
+
+/// The places of a screen.
+pub fn screen_places(alloc: Global, width: u32, height: u32) -> Result<Region, AllocError>
+    requires width { width ≤ 8192 }
+    requires height { height ≤ 8192 }
+    ensures { IfOk result (λ all. (x y : ℤ) → covers all.list x y ≡ on_screen width height x y) }
+{
+    let screen = Rect {
+        x1: 0,
+        y1: 0,
+        x2: width as i32,
+        y2: height as i32,
+    };
+    places_of(alloc, screen)
+}
+
+/// The rectangle of a window of a screen.
+fn window_rect(window: Window) -> Rect
+    requires left { window.x1 ≤ 8192 }
+    requires top { window.y1 ≤ 8192 }
+    requires right { window.x2 ≤ 8192 }
+    requires bottom { window.y2 ≤ 8192 }
+    ensures { result ≡ rect_of window }
+{
+    Rect {
+        x1: window.x1 as i32,
+        y1: window.y1 as i32,
+        x2: window.x2 as i32,
+        y2: window.y2 as i32,
+    }
+}
+
+/// The places of a screen whose places (dx, dy) before them are in a rectangle.
+pub fn part_of(
+    alloc: Global,
+    rect: Rect,
+    offset: (i32, i32),
+    width: u32,
+    height: u32,
+) -> Result<Region, AllocError>
+    requires width { width ≤ 8192 }
+    requires height { height ≤ 8192 }
+    ensures { IfOk result (λ part. (x y : ℤ) → covers part.list x y ≡ (in_rect rect (x -ℤ offset.0) (y -ℤ offset.1) && on_screen width height x y)) }
+{
+    let window = window_of(rect, offset.0, offset.1, width, height);
+    let part = places_of(alloc, window_rect(window))?;
+    Ok(part)
+}
+
+/// Whether the numbers from `low` to before `high` are from 0 to before `end`.
+fn is_between(low: i32, high: i32, end: u32) -> bool
+    ensures { result ≡ lies_between end low high }
+{
+    0 <= low && i64::from(high) <= i64::from(end)
+}
+
+/// Whether a rectangle lies on the screen.
+fn is_within(rect: Rect, width: u32, height: u32) -> bool
+    ensures { result ≡ (lies_between width rect.x1 rect.x2 && lies_between height rect.y1 rect.y2) }
+{
+    is_between(rect.x1, rect.x2, width) && is_between(rect.y1, rect.y2, height)
+}
+
+/// Whether a region's box is on the screen.
+fn fits(region: &Region, width: u32, height: u32) -> bool
+    ensures { result ≡ true → LiesOn width height region.now.list }
+{
+    match region.bbox() {
+        Some(hull) => is_within(hull, width, height),
+        None => true,
+    }
+}
+
+/// The region's places that are on a screen.
+pub fn on_screen(
+    alloc: Global,
+    region: &Region,
+    width: u32,
+    height: u32,
+) -> Result<Region, AllocError>
+    requires width { width ≤ 8192 }
+    requires height { height ≤ 8192 }
+    ensures { IfOk result (λ part. (x y : ℤ) → covers part.list x y ≡ (covers region.now.list x y && on_screen width height x y)) }
+{
+    let mut part = region.try_clone(alloc)?;
+    if !fits(&part, width, height) {
+        let screen = screen_places(alloc, width, height)?;
+        let _ = part.and(&screen)?;
+    }
+    Ok(part)
+}
