@@ -127,6 +127,26 @@ fn two_squares(rt: HostRuntime) -> Result<(), Fail> {
 }
 
 #[test]
+fn two_squares_and_what_is_made_of_both(rt: HostRuntime) -> Result<(), Fail> {
+    let alloc = rt.alloc();
+    let square = region_of(alloc, rect(0, 0, 2, 2))?;
+    let other = region_of(alloc, rect(1, 1, 3, 3))?;
+    let all = square.union(&other)?;
+    assert!(rt;
+        is_list(
+            &all,
+            alloc,
+            &[rect(0, 0, 2, 1), rect(0, 1, 3, 2), rect(1, 2, 3, 3)]
+        )?
+    );
+    assert!(rt; is_list(&square.intersection(&other)?, alloc, &[rect(1, 1, 2, 2)])?);
+    let left = square.difference(&other)?;
+    assert!(rt; is_list(&left, alloc, &[rect(0, 0, 2, 1), rect(0, 1, 1, 2)])?);
+    assert!(rt; is_list(&square, alloc, &[rect(0, 0, 2, 2)])?);
+    Ok(())
+}
+
+#[test]
 fn room_for_a_union(rt: HostRuntime) -> Result<(), Fail> {
     let alloc = rt.alloc();
     let mut region = region_of(alloc, rect(0, 0, 2, 1))?;
@@ -266,7 +286,7 @@ fn change(
 ) -> Result<bool, AllocError> {
     let rect = drawn_rect(seed);
     let other = region_of(alloc, rect)?;
-    match drawn(seed, 8) {
+    match drawn(seed, 11) {
         0 | 1 => {
             region.or(&other)?;
             paint(board, rect, true, true);
@@ -292,6 +312,18 @@ fn change(
             if let Some(popped) = region.pop_rect(drawn(seed, 2) == 1, drawn(seed, 2) == 1) {
                 paint(board, popped, true, false);
             }
+        }
+        7 => {
+            *region = region.union(&other)?;
+            paint(board, rect, true, true);
+        }
+        8 => {
+            *region = region.difference(&other)?;
+            paint(board, rect, true, false);
+        }
+        9 => {
+            *region = region.intersection(&other)?;
+            paint(board, rect, false, false);
         }
         _ => move_both(alloc, seed, region, board)?,
     }
