@@ -7,3 +7,4 @@ mod SetLemmas
 mod KeptLemmas
 mod CopyLemmas
 mod RangeLemmas
+pub mod ScreenRects

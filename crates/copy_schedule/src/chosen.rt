@@ -6,7 +6,7 @@ ghost use Rattle.copy_schedule.specs.Marks.{IsOnScreen};
 ghost use Rattle.copy_schedule.specs.Kept.{LiesOn, IsKept};
 
 use crate::kept::Kept;
-use crate::sets::{moved_by, shared, union_of, united, without};
+use crate::sets::{moved_by, union_of};
 use region::{Rect, Region};
 use std::alloc::{AllocError, Global};
 
@@ -31,8 +31,8 @@ fn copyable(
     ensures { IfOk result (λ all. (x y : ℤ) → covers all.list x y ≡ (covers asked.now.list x y && covers copied.now.list x y && covers asked.now.list (x -ℤ offset.0) (y -ℤ offset.1))) }
 {
     let sources = moved_by(alloc, asked, offset)?;
-    let both = shared(alloc, copied, asked)?;
-    let all = shared(alloc, &both, &sources)?;
+    let both = copied.intersection(asked)?;
+    let all = both.intersection(&sources)?;
     Ok(all)
 }
 
@@ -50,9 +50,9 @@ pub fn choose(
     ensures unclean { IfOk result (λ c. (x y : ℤ) → covers c.unclean.list x y ≡ (covers kept.now.owed.list x y || covers kept.now.copied.list x y)) }
 {
     let copies = copyable(alloc, &kept.copied, asked, offset)?;
-    let unclean = united(alloc, &kept.owed, &kept.copied)?;
-    let wanted = shared(alloc, asked, &unclean)?;
-    let pixels = without(alloc, &wanted, &copies)?;
+    let unclean = kept.owed.union(&kept.copied)?;
+    let wanted = asked.intersection(&unclean)?;
+    let pixels = wanted.difference(&copies)?;
     Ok(Chosen {
         copies,
         pixels,
@@ -88,7 +88,7 @@ pub fn left_after(
 {
     let moved = union_of(alloc, copies)?;
     let drawn = union_of(alloc, pixels)?;
-    let sent = united(alloc, &moved, &drawn)?;
-    let left = without(alloc, unclean, &sent)?;
+    let sent = moved.union(&drawn)?;
+    let left = unclean.difference(&sent)?;
     Ok(left)
 }

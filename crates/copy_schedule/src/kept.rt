@@ -7,7 +7,7 @@ ghost use Rattle.copy_schedule.specs.Marks.{is_copied, moved_mark, IsCutTo};
 ghost use Rattle.copy_schedule.specs.Kept.{kept_mark, LiesOn, IsKept};
 ghost use Rattle.copy_schedule.specs.Sets.{is_far_by};
 
-use crate::sets::{leads_off, moved_by, shared, united, without};
+use crate::sets::{leads_off, moved_by};
 use region::Region;
 use std::alloc::{AllocError, Global};
 
@@ -29,21 +29,21 @@ pub fn clone_of(alloc: Global, kept: &Kept) -> Result<Kept, AllocError>
 }
 
 /// The set's places become owed.
-pub fn owing(alloc: Global, kept: &Kept, set: &Region) -> Result<Kept, AllocError>
+pub fn owing(kept: &Kept, set: &Region) -> Result<Kept, AllocError>
     ensures marks { IfOk result (λ k. (x y : ℤ) → kept_mark k x y ≡ (if covers set.now.list x y then Owed else kept_mark kept.now x y)) }
     ensures kept { IfOk result (λ k. (w h : ℕ) → IsKept w h kept.now → LiesOn w h set.now.list → IsKept w h k) }
 {
-    let owed = united(alloc, &kept.owed, set)?;
-    let copied = without(alloc, &kept.copied, set)?;
+    let owed = kept.owed.union(set)?;
+    let copied = kept.copied.difference(set)?;
     Ok(Kept { owed, copied })
 }
 
 /// The copied places become owed.
-pub fn owing_copies(alloc: Global, kept: &Kept) -> Result<Kept, AllocError>
+pub fn owing_copies(kept: &Kept) -> Result<Kept, AllocError>
     ensures marks { IfOk result (λ k. (x y : ℤ) → kept_mark k x y ≡ (if covers kept.now.copied.list x y then Owed else kept_mark kept.now x y)) }
     ensures kept { IfOk result (λ k. (w h : ℕ) → IsKept w h kept.now → IsKept w h k) }
 {
-    let left = owing(alloc, kept, &kept.copied)?;
+    let left = owing(kept, &kept.copied)?;
     Ok(left)
 }
 
@@ -75,7 +75,7 @@ fn lost_places(
     }
     let back = (opposite(offset.0), opposite(offset.1));
     let sources = moved_by(alloc, drawn, back)?;
-    let lost = shared(alloc, copied, &sources)?;
+    let lost = copied.intersection(&sources)?;
     Ok(lost)
 }
 
@@ -94,7 +94,7 @@ pub fn losing(
     ensures kept { IfOk result (λ k. (w h : ℕ) → IsKept w h kept.now → IsKept w h k) }
 {
     let lost = lost_places(alloc, &kept.copied, drawn, offset, stays)?;
-    let left = owing(alloc, kept, &lost)?;
+    let left = owing(kept, &lost)?;
     Ok(left)
 }
 
@@ -109,26 +109,21 @@ pub fn moving(
     ensures marks { IfOk result (λ k. (x y : ℤ) → on_screen 8192 8192 x y ≡ true → kept_mark k x y ≡ moved_mark (covers drawn.now.list x y) (kept_mark kept.now x y) (kept_mark kept.now (x -ℤ offset.0) (y -ℤ offset.1))) }
     ensures kept { IfOk result (λ k. (w h : ℕ) → IsKept w h kept.now → LiesOn w h drawn.now.list → IsKept w h k) }
 {
-    let all = united(alloc, &kept.copied, drawn)?;
+    let all = kept.copied.union(drawn)?;
     let sources = moved_by(alloc, &kept.owed, offset)?;
-    let taken = shared(alloc, &all, &sources)?;
-    let owed = united(alloc, &kept.owed, &taken)?;
-    let copied = without(alloc, &all, &owed)?;
+    let taken = all.intersection(&sources)?;
+    let owed = kept.owed.union(&taken)?;
+    let copied = all.difference(&owed)?;
     Ok(Kept { owed, copied })
 }
 
 /// A set and those of the copied places that are in another become owed.
-pub fn forgetting(
-    alloc: Global,
-    kept: &Kept,
-    set: &Region,
-    other: &Region,
-) -> Result<Kept, AllocError>
+pub fn forgetting(kept: &Kept, set: &Region, other: &Region) -> Result<Kept, AllocError>
     ensures marks { IfOk result (λ k. (x y : ℤ) → kept_mark k x y ≡ (if covers set.now.list x y || (covers kept.now.copied.list x y && covers other.now.list x y) then Owed else kept_mark kept.now x y)) }
     ensures kept { IfOk result (λ k. (w h : ℕ) → IsKept w h kept.now → LiesOn w h set.now.list → IsKept w h k) }
 {
-    let awaiting = shared(alloc, &kept.copied, other)?;
-    let all = united(alloc, set, &awaiting)?;
-    let left = owing(alloc, kept, &all)?;
+    let awaiting = kept.copied.intersection(other)?;
+    let all = set.union(&awaiting)?;
+    let left = owing(kept, &all)?;
     Ok(left)
 }

@@ -9,7 +9,7 @@ ghost use Rattle.copy_schedule.specs.Kept.{IsKept, LiesOn, with_kept};
 use crate::Cut;
 use crate::chosen::{choose, first_rects, left_after};
 use crate::kept::{Kept, clone_of, forgetting, losing, moving, owing, owing_copies};
-use crate::sets::{on_screen, part_of, screen_places, united};
+use crate::sets::{on_screen, part_of, screen_places};
 use listed::Listed;
 use region::{Rect, Region};
 use std::alloc::{AllocError, Global};
@@ -110,7 +110,7 @@ impl Marks {
         ensures { IfOk result (λ prepared. prepared ≡ marked (covers region.now.list) self.now) }
     {
         let drawn = on_screen(self.alloc, region, self.width, self.height)?;
-        let kept = owing(self.alloc, &self.kept, &drawn)?;
+        let kept = owing(&self.kept, &drawn)?;
         let prepared = self.prepared(kept, (self.offset_x, self.offset_y))?;
         Ok(prepared)
     }
@@ -185,14 +185,14 @@ impl Marks {
     {
         let (width, height) = (self.width, self.height);
         let part = part_of(self.alloc, rect, (0, 0), width, height)?;
-        let asked = united(self.alloc, &self.asked, &part)?;
+        let asked = self.asked.union(&part)?;
         if incremental {
             self.asked = asked;
             return Ok(());
         }
         let offset = (self.offset_x, self.offset_y);
         let awaiting = part_of(self.alloc, rect, offset, width, height)?;
-        let kept = forgetting(self.alloc, &self.kept, &part, &awaiting)?;
+        let kept = forgetting(&self.kept, &part, &awaiting)?;
         self.kept = kept;
         self.asked = asked;
         Ok(())
@@ -204,7 +204,7 @@ impl Marks {
         ensures ok { OnOk result (self.new ≡ without_copyrect self.old) }
         ensures err { OnErr result (self.new ≡ self.old) }
     {
-        let kept = owing_copies(self.alloc, &self.kept)?;
+        let kept = owing_copies(&self.kept)?;
         self.kept = kept;
         Ok(())
     }

@@ -8,45 +8,22 @@ ghost use Rattle.copy_schedule.specs.Kept.{LiesOn};
 ghost use Rattle.copy_schedule.specs.Sets.{is_far_by, lies_between, rect_of};
 
 use crate::places::{Window, window_of};
-use region::{Rect, Region};
+use region::{Rect, Region, RegionError};
 use std::alloc::{AllocError, Global};
 
 /// The most columns, and rows, that a screen has.
 const LIMIT: i32 = 8192;
-
-/// The places of either.
-pub fn united(alloc: Global, first: &Region, second: &Region) -> Result<Region, AllocError>
-    ensures { IfOk result (λ all. (x y : ℤ) → covers all.list x y ≡ (covers first.now.list x y || covers second.now.list x y)) }
-{
-    let mut all = first.try_clone(alloc)?;
-    all.or(second)?;
-    Ok(all)
-}
-
-/// The places of both.
-pub fn shared(alloc: Global, first: &Region, second: &Region) -> Result<Region, AllocError>
-    ensures { IfOk result (λ both. (x y : ℤ) → covers both.list x y ≡ (covers first.now.list x y && covers second.now.list x y)) }
-{
-    let mut both = first.try_clone(alloc)?;
-    let _ = both.and(second)?;
-    Ok(both)
-}
-
-/// The places of the first that are not in the second.
-pub fn without(alloc: Global, first: &Region, second: &Region) -> Result<Region, AllocError>
-    ensures { IfOk result (λ rest. (x y : ℤ) → covers rest.list x y ≡ (covers first.now.list x y && not (covers second.now.list x y))) }
-{
-    let mut rest = first.try_clone(alloc)?;
-    let _ = rest.subtract(second)?;
-    Ok(rest)
-}
 
 /// The places of some rectangles of a screen.
 pub fn union_of(alloc: Global, rects: &[Rect]) -> Result<Region, AllocError>
     requires { All (IsOnScreen 8192 8192) rects.now }
     ensures { IfOk result (λ all. (x y : ℤ) → covers all.list x y ≡ covers rects.now x y) }
 {
-    Region::from_rects(alloc, rects).map_err(|_| AllocError)
+    match Region::from_rects(alloc, rects) {
+        Ok(all) => Ok(all),
+        Err(RegionError::OutOfMemory) => Err(AllocError),
+        Err(RegionError::OutOfRange) => unreachable!(),
+    }
 }
 
 fn is_far(by: i32) -> bool
@@ -81,7 +58,11 @@ fn places_of(alloc: Global, rect: Rect) -> Result<Region, AllocError>
     requires { in_range rect ≡ true }
     ensures { IfOk result (λ all. (x y : ℤ) → covers all.list x y ≡ in_rect rect x y) }
 {
-    Region::from_rect(alloc, rect).map_err(|_| AllocError)
+    match Region::from_rect(alloc, rect) {
+        Ok(all) => Ok(all),
+        Err(RegionError::OutOfMemory) => Err(AllocError),
+        Err(RegionError::OutOfRange) => unreachable!(),
+    }
 }
 
 /// The places of a screen.
@@ -167,10 +148,10 @@ pub fn on_screen(
     requires height { height ≤ 8192 }
     ensures { IfOk result (λ part. (x y : ℤ) → covers part.list x y ≡ (covers region.now.list x y && on_screen width height x y)) }
 {
-    let mut part = region.try_clone(alloc)?;
-    if !fits(&part, width, height) {
-        let screen = screen_places(alloc, width, height)?;
-        let _ = part.and(&screen)?;
+    if fits(region, width, height) {
+        return region.try_clone(alloc);
     }
+    let screen = screen_places(alloc, width, height)?;
+    let part = region.intersection(&screen)?;
     Ok(part)
 }

@@ -7,7 +7,7 @@ ghost use Rattle.copy_schedule.specs.Marks.{IsCutTo};
 use super::*;
 use plain::PlainMarks;
 use region::Region;
-use sets::{moved_by, screen_places, shared};
+use sets::{moved_by, screen_places};
 use std::alloc::{AllocError, Global};
 use std::test::Fail;
 
@@ -43,8 +43,8 @@ fn cut_region(
     let all = region_of(alloc, rects)?;
     let screen = screen_places(alloc, width, height)?;
     let sources = moved_by(alloc, &screen, offset)?;
-    let inside = shared(alloc, &all, &screen)?;
-    let part = shared(alloc, &inside, &sources)?;
+    let inside = all.intersection(&screen)?;
+    let part = inside.intersection(&sources)?;
     Ok(part)
 }
 

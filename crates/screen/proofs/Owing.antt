@@ -56,24 +56,6 @@ owed-cut c set cut (s ∷ seats) some is sized =
     ∙ cut-same c.width c.height set x y (sym (ap (λ w. on_screen w s.marks.height x y) size.width ∙ ap (λ h. on_screen c.width h x y) size.height) ∙ on)))
     ∙ ap (λ (l : List Marks). marks_owed set s ∷ l) (owed-cut c set cut seats some is (λ k d below. sized (suc k) d (omega (arith, below))))
 
--- ---- where rectangles of a screen lie
-
-rect-in_range : (r : Rect) → IsOnScreen 8192 8192 r → in_range r ≡ true
-rect-in_range r on =
-    let left = on.left in
-    let columns = on.columns in
-    let right = on.right in
-    let top = on.top in
-    let rows = on.rows in
-    let bottom = on.bottom in
-    grind (arith, ints)
-
-pub all-in_range : (rects : List Rect) → All (IsOnScreen 8192 8192) rects → list_any (λ r. not (in_range r)) rects ≡ false
-all-in_range [] all = refl
-all-in_range (r ∷ rects) all =
-    ap (λ b. not b || list_any (λ r. not (in_range r)) rects) (rect-in_range r (all 0 r (omega arith)))
-    ∙ all-in_range rects (λ k d below. all (suc k) d (omega (arith, below)))
-
 -- ---- a region's rectangles
 
 straight-one : (r : Rect) → r.x1 <ℤ r.x2 → r.y1 <ℤ r.y2 → straight r ≡ r
