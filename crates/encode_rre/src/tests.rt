@@ -9,6 +9,7 @@ mod slow;
 use self::pictures::{Numbers, format_of, next, picture_of};
 use self::slow::slow_rre;
 use super::*;
+use std::process::Abort;
 use std::test::Fail;
 
 const RGB565: PixelFormat = PixelFormat {
@@ -141,10 +142,16 @@ fn ragged_runs_stand_apart_by_row_and_place(rt: HostRuntime) -> Result<(), Fail>
 }
 
 /// Whether a picture of the sequence is appended as the slow encoder has it, and in RRE; where memory
-/// was refused, whether nothing was appended. Its size is up to 40 by 36.
-fn is_coded_alike(alloc: Global, numbers: &mut Numbers) -> Result<(bool, bool), AllocError> {
-    let w = 1 + next(numbers, 40) as u16;
-    let h = 1 + next(numbers, 36) as u16;
+/// was refused, whether nothing was appended.
+fn is_coded_alike(
+    alloc: Global,
+    numbers: &mut Numbers,
+    w: u16,
+    h: u16,
+) -> Result<(bool, bool), AllocError>
+    requires wide { 1 ≤ w }
+    requires high { 1 ≤ h }
+{
     let format = format_of(numbers);
     let colours = picture_of(alloc, numbers, w, h)?;
     if colours.len() != usize::from(w) * usize::from(h) {
@@ -161,13 +168,21 @@ fn is_coded_alike(alloc: Global, numbers: &mut Numbers) -> Result<(bool, bool), 
     Ok((out.as_slice() == slow.as_slice(), in_rre))
 }
 
-#[test]
-fn pictures_are_coded_as_by_the_definition(rt: HostRuntime) -> Result<(), Fail> {
+/// How many of so many pictures are in RRE. Each is coded as by the slow encoder. They have up to
+/// `columns` columns, and `rows` rows or up to 35 more.
+fn count_in_rre(rt: &impl Abort, alloc: Global, count: u32, columns: u32, rows: u32) -> u32
+    requires some { 1 ≤ columns }
+    requires columns { columns ≤ 100 }
+    requires high { 1 ≤ rows }
+    requires rows { rows ≤ 100 }
+{
     let mut numbers = Numbers(1);
     let mut refused = 0u32;
     let mut in_rre = 0u32;
-    for _ in 0..500u32 {
-        match is_coded_alike(rt.alloc(), &mut numbers) {
+    for _ in 0..count {
+        let w = 1 + next(&mut numbers, columns) as u16;
+        let h = (rows + next(&mut numbers, 36)) as u16;
+        match is_coded_alike(alloc, &mut numbers, w, h) {
             Ok((alike, shorter)) => {
                 assert!(rt; alike);
                 in_rre = in_rre.saturating_add(u32::from(shorter));
@@ -176,6 +191,17 @@ fn pictures_are_coded_as_by_the_definition(rt: HostRuntime) -> Result<(), Fail> 
         }
     }
     assert!(rt; refused <= 1, "memory is refused at most once");
+    in_rre
+}
+
+#[test]
+fn pictures_are_coded_as_by_the_definition(rt: HostRuntime) {
+    let in_rre = count_in_rre(&rt, rt.alloc(), 500, 40, 1);
     assert!(rt; in_rre > 100 && in_rre < 400, "{in_rre} of 500 are in RRE");
-    Ok(())
+}
+
+#[test]
+fn tall_pictures_are_coded_as_by_the_definition(rt: HostRuntime) {
+    let in_rre = count_in_rre(&rt, rt.alloc(), 100, 24, 64);
+    assert!(rt; in_rre > 20 && in_rre < 80, "{in_rre} of 100 are in RRE");
 }
