@@ -107,21 +107,15 @@ fn put_rectangle(
     out: &mut Vec<u8>,
     area: Area,
     colours: &[u32],
-    format: &PixelFormat,
+    table: &Table,
 ) -> Result<(), AllocError>
     requires whole { length colours.now ≡ area.w * area.h }
-    ensures ok { OnOk result (out.new.items ≡ out.old.items ++ hextile format.now area colours.now) }
+    ensures ok { OnOk result (out.new.items ≡ out.old.items ++ hextile table.now area colours.now) }
     ensures err { OnErr result (BeginsWith out.old.items out.new.items) }
 {
     rect_header(out, area, 5)?;
-    let table = Table::new(format);
-    put_tiles(
-        out,
-        colours,
-        usize::from(area.w),
-        usize::from(area.h),
-        &table,
-    )
+    let (width, height) = (usize::from(area.w), usize::from(area.h));
+    put_tiles(out, colours, width, height, table)
 }
 
 /// Appends a rectangle in Hextile (RFC 6143, 7.7.4): the colours `0x00RRGGBB` stand row by row from
@@ -140,8 +134,24 @@ pub fn encode_hextile(
     ensures ok { OnOk result (out.new.items ≡ out.old.items ++ hextile format.now area colours.now) }
     ensures err { OnErr result (out.new.items ≡ out.old.items) }
 {
+    encode_hextile_with_table(out, area, colours, &Table::new(format))
+}
+
+/// Appends the same rectangle by a table of the format, which one call after another can use.
+pub fn encode_hextile_with_table(
+    out: &mut Vec<u8>,
+    area: Area,
+    colours: &[u32],
+    table: &Table,
+) -> Result<(), AllocError>
+    requires wide { 1 ≤ area.w }
+    requires high { 1 ≤ area.h }
+    requires whole { length colours.now ≡ area.w * area.h }
+    ensures ok { OnOk result (out.new.items ≡ out.old.items ++ hextile table.now area colours.now) }
+    ensures err { OnErr result (out.new.items ≡ out.old.items) }
+{
     let before = out.len();
-    let done = put_rectangle(out, area, colours, format);
+    let done = put_rectangle(out, area, colours, table);
     if done.is_err() {
         out.truncate(before);
     }

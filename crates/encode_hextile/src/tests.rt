@@ -230,3 +230,24 @@ fn two_bytes_a_pixel_stand_in_their_order(rt: HostRuntime) -> Result<(), Fail> {
     assert!(rt; coded);
     Ok(())
 }
+
+#[test]
+fn one_table_serves_two_rectangles_and_nothing_is_carried(rt: HostRuntime) -> Result<(), Fail> {
+    let mut out = Vec::new(rt.alloc());
+    let table = Table::new(&RGB565);
+    for x in [0u16, 2] {
+        let area = Area {
+            x,
+            y: 0,
+            w: 2,
+            h: 2,
+        };
+        encode_hextile_with_table(&mut out, area, &[0xff_8000; 4], &table)?;
+    }
+    let want = [
+        0, 0, 0, 0, 0, 2, 0, 2, 0, 0, 0, 5, 0x02, 0xfc, 0x00, 0, 2, 0, 0, 0, 2, 0, 2, 0, 0, 0, 5,
+        0x02, 0xfc, 0x00,
+    ];
+    assert_eq!(rt; out.as_slice(), want.as_slice());
+    Ok(())
+}

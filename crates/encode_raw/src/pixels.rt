@@ -91,18 +91,18 @@ fn write_32(places: &mut [u8], colours: &[u32], table: &Table)
 }
 
 /// Writes a pixel for each colour, in places of just their size.
-pub fn write_pixels(places: &mut [u8], colours: &[u32], format: &PixelFormat)
-    requires { length places.old ≡ bytes_per_pixel format.now * length colours.now }
-    ensures { places.new ≡ flat_map (colour_bytes format.now) colours.now }
+pub fn write_pixels(places: &mut [u8], colours: &[u32], table: &Table)
+    requires { length places.old ≡ bytes_per_pixel table.now * length colours.now }
+    ensures { places.new ≡ flat_map (colour_bytes table.now) colours.now }
 {
-    if *format == PixelFormat::server() {
+    let format = table.format();
+    if format == PixelFormat::server() {
         write_server(places, colours);
         return;
     }
-    let table = Table::new(format);
     match format.bits {
-        BitsPerPixel::Eight => write_8(places, colours, &table),
-        BitsPerPixel::Sixteen => write_16(places, colours, &table),
-        BitsPerPixel::ThirtyTwo => write_32(places, colours, &table),
+        BitsPerPixel::Eight => write_8(places, colours, table),
+        BitsPerPixel::Sixteen => write_16(places, colours, table),
+        BitsPerPixel::ThirtyTwo => write_32(places, colours, table),
     }
 }

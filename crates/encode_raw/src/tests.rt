@@ -1,5 +1,5 @@
-use crate::{Area, PixelFormat, encode_copy, encode_raw, rect_header};
-use pixel_translate::{BitsPerPixel, Component};
+use crate::{Area, PixelFormat, encode_copy, encode_raw, encode_raw_with_table, rect_header};
+use pixel_translate::{BitsPerPixel, Component, Table};
 use std::test::Fail;
 
 fn rgb565() -> PixelFormat {
@@ -82,5 +82,26 @@ fn rows_stand_one_after_the_other(rt: HostRuntime) -> Result<(), Fail> {
         out.as_slice(),
         [0, 0, 0, 0, 0, 3, 0, 2, 0, 0, 0, 0, 1, 2, 3, 4, 5, 6].as_slice()
     );
+    Ok(())
+}
+
+#[test]
+fn one_table_serves_two_rectangles(rt: HostRuntime) -> Result<(), Fail> {
+    let mut out = Vec::new(rt.alloc());
+    let table = Table::new(&rgb565());
+    for (x, colour) in [(2u16, 0xff_8000), (3, 0x00_00ff)] {
+        let place = Area {
+            x,
+            y: 1,
+            w: 1,
+            h: 1,
+        };
+        encode_raw_with_table(&mut out, place, &[colour], &table)?;
+    }
+    let want = [
+        0, 2, 0, 1, 0, 1, 0, 1, 0, 0, 0, 0, 0x00, 0xfc, 0, 3, 0, 1, 0, 1, 0, 1, 0, 0, 0, 0, 0x1f,
+        0x00,
+    ];
+    assert_eq!(rt; out.as_slice(), want.as_slice());
     Ok(())
 }

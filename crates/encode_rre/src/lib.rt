@@ -32,7 +32,7 @@ use crate::background::background_of;
 use crate::breaks::has_too_many;
 use crate::bytes::rre_bytes;
 use crate::scan::subrectangles_within;
-use encode_raw::{encode_raw, raw_is_read_back};
+use encode_raw::{encode_raw_with_table, raw_is_read_back};
 use pixel_translate::Table;
 pub use pixel_translate::{Area, PixelFormat};
 use std::alloc::{AllocError, Global};
@@ -64,19 +64,13 @@ fn greatest(colours: &[u32]) -> u32
 fn are_pixels(colours: &[u32], format: &PixelFormat) -> bool
     ensures { result ≡ true → colours.now ≡ map (pixel format.now) colours.now }
 {
-    let components = PixelFormat {
-        depth: 24,
-        big_endian: false,
-        ..*format
-    };
-    components == PixelFormat::server() && greatest(colours) < 1 << 24
+    format.has_server_components() && greatest(colours) < 1 << 24
 }
 
 /// The pixel of each colour. A colour that is the one before it isn't translated again.
-fn pixels_of(alloc: Global, colours: &[u32], format: &PixelFormat) -> Result<Vec<u32>, AllocError>
-    ensures { IfOk result (λ pixels. pixels.items ≡ map (pixel format.now) colours.now) }
+fn pixels_of(alloc: Global, colours: &[u32], table: &Table) -> Result<Vec<u32>, AllocError>
+    ensures { IfOk result (λ pixels. pixels.items ≡ map (pixel table.now) colours.now) }
 {
-    let table = Table::new(format);
     let mut pixels = Vec::with_capacity(alloc, colours.len())?;
     let mut last = 0;
     let mut pixel = table.translate(last);
@@ -128,18 +122,19 @@ fn shorter_rect(
     alloc: Global,
     area: Area,
     colours: &[u32],
-    format: &PixelFormat,
+    table: &Table,
 ) -> Result<Option<Vec<u8>>, AllocError>
     requires wide { 1 ≤ area.w }
     requires high { 1 ≤ area.h }
     requires whole { length colours.now ≡ area.w * area.h }
-    ensures { IfOk result (λ rect. MatchOption rect (rre format.now area colours.now ≡ raw format.now area colours.now) (λ bytes. bytes.items ≡ rre format.now area colours.now)) }
+    ensures { IfOk result (λ rect. MatchOption rect (rre table.now area colours.now ≡ raw table.now area colours.now) (λ bytes. bytes.items ≡ rre table.now area colours.now)) }
 {
-    if are_pixels(colours, format) {
-        return rect_of(alloc, area, colours, colours, format);
+    let format = table.format();
+    if are_pixels(colours, &format) {
+        return rect_of(alloc, area, colours, colours, &format);
     }
-    let pixels = pixels_of(alloc, colours, format)?;
-    rect_of(alloc, area, colours, &pixels, format)
+    let pixels = pixels_of(alloc, colours, table)?;
+    rect_of(alloc, area, colours, &pixels, &format)
 }
 
 /// Appends a rectangle in RRE (RFC 6143, 7.7.3), or in Raw where RRE's data is no shorter: the
@@ -158,10 +153,26 @@ pub fn encode_rre(
     ensures ok { OnOk result (out.new.items ≡ out.old.items ++ rre format.now area colours.now) }
     ensures err { OnErr result (out.new.items ≡ out.old.items) }
 {
+    encode_rre_with_table(out, area, colours, &Table::new(format))
+}
+
+/// Appends the same rectangle by a table of the format, which one call after another can use.
+pub fn encode_rre_with_table(
+    out: &mut Vec<u8>,
+    area: Area,
+    colours: &[u32],
+    table: &Table,
+) -> Result<(), AllocError>
+    requires wide { 1 ≤ area.w }
+    requires high { 1 ≤ area.h }
+    requires whole { length colours.now ≡ area.w * area.h }
+    ensures ok { OnOk result (out.new.items ≡ out.old.items ++ rre table.now area colours.now) }
+    ensures err { OnErr result (out.new.items ≡ out.old.items) }
+{
     let alloc = *out.allocator();
-    match shorter_rect(alloc, area, colours, format)? {
+    match shorter_rect(alloc, area, colours, table)? {
         Some(rect) => out.extend_from_slice(&rect),
-        None => encode_raw(out, area, colours, format),
+        None => encode_raw_with_table(out, area, colours, table),
     }
 }
 

@@ -205,3 +205,24 @@ fn tall_pictures_are_coded_as_by_the_definition(rt: HostRuntime) {
     let in_rre = count_in_rre(&rt, rt.alloc(), 100, 24, 64);
     assert!(rt; in_rre > 20 && in_rre < 80, "{in_rre} of 100 are in RRE");
 }
+
+#[test]
+fn one_table_serves_two_rectangles(rt: HostRuntime) -> Result<(), Fail> {
+    let mut out = Vec::new(rt.alloc());
+    let table = Table::new(&RGB565);
+    for (y, colour) in [(0u16, 0xff_8000), (4, 0x00_00ff)] {
+        let area = Area {
+            x: 0,
+            y,
+            w: 4,
+            h: 4,
+        };
+        encode_rre_with_table(&mut out, area, &[colour; 16], &table)?;
+    }
+    let want = [
+        0, 0, 0, 0, 0, 4, 0, 4, 0, 0, 0, 2, 0, 0, 0, 0, 0xfc, 0x00, 0, 0, 0, 4, 0, 4, 0, 4, 0, 0,
+        0, 2, 0, 0, 0, 0, 0x00, 0x1f,
+    ];
+    assert_eq!(rt; out.as_slice(), want.as_slice());
+    Ok(())
+}

@@ -3,7 +3,8 @@ use Rattle.std.proofs.Common.{◌≡◌, ℕ, ◌+◌, ◌*◌, ◌/◌, ◌%◌
 use Rattle.std.proofs.Math.Nat.{mod-eq_of_lt}
 use Rattle.std.proofs.lemmas.Nat.{or_shifted}
 use Rattle.pixel_translate.specs.declared.BitsPerPixel.TheVariants.{ThirtyTwo}
-use Rattle.pixel_translate.specs.Pixel.{component, server_format, red_of, green_of, blue_of, IsItself}
+use Rattle.pixel_translate.specs.declared.PixelFormat.{PixelFormat}
+use Rattle.pixel_translate.specs.Pixel.{component, pixel, server_format, red_of, green_of, blue_of, IsItself, AreThemselves}
 
 -- a component with 256 values is as it was, in its place
 in_place : (value shift : ℕ) → value < 256 → value * 2 ^ shift < 2 ^ 32 → component ThirtyTwo (record { max = 255; shift = shift }) value ≡ value * 2 ^ shift
@@ -25,3 +26,6 @@ server_pixel colour =
     ∙ ap (λ n. bit_or n b) (or_shifted r 16 (g * 2 ^ 8) (omega arith) ∙ (let e : r * 2 ^ 16 + g * 2 ^ 8 ≡ (r * 2 ^ 8 + g) * 2 ^ 8 = omega arith in e))
     ∙ or_shifted (r * 2 ^ 8 + g) 8 b b-small
     ∙ omega arith
+
+pub same_components : AreThemselves
+same_components f colour same = ap (λ (g : PixelFormat). pixel g colour) same ∙ server_pixel colour

@@ -1,20 +1,19 @@
 -- Places that are owed: those off the screen count for nothing, and a region's rectangles have their corners in order.
-use Rattle.std.proofs.Common.{◌≡◌, ℕ, zero, suc, ℤ, pos, ◌+◌, ◌*◌, ◌/◌, ◌%◌, ◌<◌, ◌≤◌, Bool, true, cond, false, not, ◌&&◌, ◌||◌, List, [], ◌∷◌, map, length, All, refl, sym, ap, ◌∙◌, arith, mul_comm}
+use Rattle.std.proofs.Common.{◌≡◌, ℕ, suc, ℤ, pos, ◌*◌, ◌/◌, ◌%◌, ◌<◌, ◌≤◌, Bool, true, cond, ◌&&◌, List, [], ◌∷◌, map, All, refl, sym, ap, ◌∙◌, arith, mul_comm}
 use Rattle.std.specs.Prelude.{◌-ℤ◌, ◌<ℤ◌}
 use Rattle.std.specs.Int.{int_min, int_max}
-use Rattle.std.specs.List.{range_with_len, list_any, AllByRecursion}
+use Rattle.std.specs.List.{range_with_len, AllByRecursion}
 use Rattle.std.proofs.Math.Nat.{mod-lt, div-lt_iff_lt-mul}
 use Rattle.std.proofs.lemmas.Bool.Decides.{nat_tests}
 use Rattle.std.proofs.lemmas.Int.{ints}
 use Rattle.std.proofs.lemmas.List.FromFn.{fill_by_all, get_or-map-range_with_len, length-map-range_with_len}
 use Rattle.region.specs.declared.Rect.{Rect}
 use Rattle.region.specs.Region.{covers, on_screen, IsCanonical}
-use Rattle.region.specs.Held.{in_range}
 use Rattle.region.proofs.ScreenLemmas.{HasPlaces, rects_some}
 use Rattle.copy_schedule.specs.declared.Mark.{Mark}
 use Rattle.copy_schedule.specs.declared.Mark.TheVariants.{Clean, Owed}
 use Rattle.copy_schedule.specs.Places.{cut_destination}
-use Rattle.copy_schedule.specs.Marks.{Marks, mark_at, marked, IsOnScreen}
+use Rattle.copy_schedule.specs.Marks.{Marks, mark_at, marked}
 use Rattle.framebuffer.specs.Picture.{straight, union_of}
 use Rattle.screen.specs.declared.Config.{Config}
 use Rattle.screen.specs.declared.place.Seat.{Seat}

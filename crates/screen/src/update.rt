@@ -6,11 +6,11 @@ ghost use Rattle.screen.specs.Updates.{moved_bytes, coloured_bytes, rectangles_b
 
 use crate::notices::{Notice, put_notices};
 use crate::parts::{Coloured, Moved, Rectangles};
-use encode_hextile::encode_hextile;
-use encode_raw::{encode_copy, encode_raw};
-use encode_rre::encode_rre;
+use encode_hextile::encode_hextile_with_table;
+use encode_raw::{encode_copy, encode_raw_with_table};
+use encode_rre::encode_rre_with_table;
 use messages::{Encoding, put_update_head};
-use pixel_translate::PixelFormat;
+use pixel_translate::Table;
 use std::alloc::{AllocError, Global};
 use std::marker::Model;
 
@@ -50,14 +50,15 @@ fn put_rectangle(
     out: &mut Vec<u8>,
     rectangle: &Coloured,
     encoding: Encoding,
-    format: &PixelFormat,
+    table: &Table,
 ) -> Result<(), AllocError>
-    ensures { OnOk result (out.new.items ≡ out.old.items ++ coloured_bytes encoding format.now rectangle.now) }
+    ensures { OnOk result (out.new.items ≡ out.old.items ++ coloured_bytes encoding table.now rectangle.now) }
 {
+    let (area, colours) = (rectangle.area, &rectangle.colours);
     match encoding {
-        Encoding::Raw => encode_raw(out, rectangle.area, &rectangle.colours, format),
-        Encoding::Rre => encode_rre(out, rectangle.area, &rectangle.colours, format),
-        Encoding::Hextile => encode_hextile(out, rectangle.area, &rectangle.colours, format),
+        Encoding::Raw => encode_raw_with_table(out, area, colours, table),
+        Encoding::Rre => encode_rre_with_table(out, area, colours, table),
+        Encoding::Hextile => encode_hextile_with_table(out, area, colours, table),
     }
 }
 
@@ -66,12 +67,12 @@ fn put_coloured(
     out: &mut Vec<u8>,
     rectangles: &[Coloured],
     encoding: Encoding,
-    format: &PixelFormat,
+    table: &Table,
 ) -> Result<(), AllocError>
-    ensures { OnOk result (out.new.items ≡ out.old.items ++ flat_map (coloured_bytes encoding format.now) rectangles.now) }
+    ensures { OnOk result (out.new.items ≡ out.old.items ++ flat_map (coloured_bytes encoding table.now) rectangles.now) }
 {
     for rectangle in rectangles {
-        put_rectangle(out, rectangle, encoding, format)?;
+        put_rectangle(out, rectangle, encoding, table)?;
     }
     Ok(())
 }
@@ -97,12 +98,8 @@ fn put_rectangles(out: &mut Vec<u8>, rectangles: &Rectangles) -> Result<(), Allo
     let count = rectangles.moves.len() + rectangles.coloured.len();
     put_update_head(out, count as u16)?;
     put_moves(out, &rectangles.moves)?;
-    put_coloured(
-        out,
-        &rectangles.coloured,
-        rectangles.encoding,
-        &rectangles.format,
-    )
+    let table = Table::new(&rectangles.format);
+    put_coloured(out, &rectangles.coloured, rectangles.encoding, &table)
 }
 
 /// The bytes of notices, and then of a FramebufferUpdate if there is one.

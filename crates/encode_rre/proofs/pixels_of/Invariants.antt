@@ -5,6 +5,6 @@ use Rattle.encode_rre.proofs.pixels_of.Given as goal
 -- the colours passed are translated, and so is the last of them
 abbrev pub invariant-loop-colour : goal.invariant-loop-colour
 invariant-loop-colour l = record {
-  translated : l.pixels.items ≡ map (pixel l.format) (take l.colour-index l.colours);
-  again : l.pixel ≡ pixel l.format l.last;
+  translated : l.pixels.items ≡ map (pixel l.table) (take l.colour-index l.colours);
+  again : l.pixel ≡ pixel l.table l.last;
 }

@@ -1,4 +1,4 @@
-use Rattle.std.proofs.Common.{ℤ, ◌≡◌, Bool, true, ap, ◌∙◌, sym}
+use Rattle.std.proofs.Common.{ℤ, Bool, ap, ◌∙◌, sym}
 use Rattle.screen.proofs.drawing.marks_with_copy.Goals as goal
 
 pub marks_with_copied_region-requires : goal.marks_with_copied_region-requires

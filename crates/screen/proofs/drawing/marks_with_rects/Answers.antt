@@ -1,11 +1,10 @@
-use Rattle.std.proofs.Common.{◌≡◌, ℤ, Bool, pos, List, map, ap, ◌∙◌, subst}
+use Rattle.std.proofs.Common.{◌≡◌, ℤ, Bool, pos, List, ap, ◌∙◌, subst}
 use Rattle.std.specs.Prelude.{IfOk}
 use Rattle.std.specs.Map.{values_of}
 use Rattle.region.specs.Region.{covers}
 use Rattle.copy_schedule.specs.Marks.{Marks}
 use Rattle.copy_schedule.specs.Places.{cut_destination}
 use Rattle.framebuffer.specs.Picture.{union_of}
-use Rattle.screen.specs.Entries.{marks_owed}
 use Rattle.screen.proofs.Owing.{owed-cut}
 use Rattle.screen.proofs.drawing.marks_with_rects.Goals as goal
 

@@ -1,4 +1,4 @@
-use Rattle.std.proofs.Common.{◌≡◌, ◌<◌, ℕ, ◌-◌, ◌+◌, length, replicate, sym, ap, ◌∙◌, arith, rules, Option}
+use Rattle.std.proofs.Common.{◌≡◌, ◌<◌, ℕ, ◌-◌, length, replicate, sym, ap, ◌∙◌, arith, rules, Option}
 use Rattle.client_list.specs.Connected.{Connected, IsPlace, index_of, passed}
 use Rattle.client_list.proofs.IndexLemmas.{index_within}
 use Rattle.client_list.proofs.Walks.{change_step, walk_place}

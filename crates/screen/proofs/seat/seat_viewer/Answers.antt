@@ -1,4 +1,4 @@
-use Rattle.std.proofs.Common.{ap, ◌∙◌}
+use Rattle.std.proofs.Common.{ap}
 use Rattle.messages.specs.Reading.{Rest}
 use Rattle.screen.specs.Viewer.{Viewer}
 use Rattle.screen.specs.Held.{IsSized}

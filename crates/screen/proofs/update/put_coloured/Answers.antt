@@ -7,7 +7,7 @@ use Rattle.screen.proofs.update.put_coloured.Goals as goal
 
 pub loop-rectangle-preserved : goal.loop-rectangle-preserved
 loop-rectangle-preserved c =
-    let f : Coloured → List ℕ = coloured_bytes c.args.encoding c.args.format.now in
+    let f : Coloured → List ℕ = coloured_bytes c.args.encoding c.args.table.now in
     let done : List Coloured = take c.loop-rectangle.rectangle-index c.args.rectangles.now in
     let next : Coloured = c.rectangle-item.result in
     let below : c.loop-rectangle.rectangle-index < length c.args.rectangles.now = search rules in

@@ -4,4 +4,4 @@ use Rattle.screen.specs.Updates.{coloured_bytes}
 use Rattle.screen.proofs.update.put_coloured.Given as goal
 
 abbrev pub invariant-loop-rectangle : goal.invariant-loop-rectangle
-invariant-loop-rectangle l = l.out.items ≡ l.fn.out.items ++ flat_map (coloured_bytes l.encoding l.format) (take l.rectangle-index l.rectangles)
+invariant-loop-rectangle l = l.out.items ≡ l.fn.out.items ++ flat_map (coloured_bytes l.encoding l.table) (take l.rectangle-index l.rectangles)

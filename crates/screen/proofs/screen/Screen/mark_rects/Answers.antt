@@ -1,7 +1,6 @@
 use Rattle.std.proofs.Common.{ℕ, ap, ◌∙◌, map, List, refl}
 use Rattle.screen.specs.declared.Event.TheVariants.{Mark}
 use Rattle.screen.specs.declared.place.Seat.{Seat}
-use Rattle.std.specs.Map.{values_of}
 use Rattle.screen.specs.Answers.{State}
 use Rattle.framebuffer.specs.Picture.{union_of}
 use Rattle.screen.specs.Entries.{entry, seat_with, marks_owed}

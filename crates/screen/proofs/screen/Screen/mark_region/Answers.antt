@@ -3,7 +3,6 @@ use Rattle.region.specs.Region.{covers}
 use Rattle.screen.specs.declared.Event.TheVariants.{Mark}
 use Rattle.screen.specs.declared.place.Seat.{Seat}
 use Rattle.screen.specs.Viewer.{viewer_marked}
-use Rattle.std.specs.Map.{values_of}
 use Rattle.screen.specs.Answers.{State}
 use Rattle.screen.specs.Entries.{entry, viewer_in, seat_with, marks_owed}
 use Rattle.screen.proofs.Committed.{with-made}

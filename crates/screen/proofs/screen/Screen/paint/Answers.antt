@@ -2,7 +2,6 @@ use Rattle.std.proofs.Common.{ℕ, sym, ap, ◌∙◌, map, List, refl}
 use Rattle.screen.specs.declared.Event.TheVariants.{Paint}
 use Rattle.screen.specs.declared.place.Seat.{Seat}
 use Rattle.region.specs.Region.{in_rect}
-use Rattle.std.specs.Map.{values_of}
 use Rattle.screen.specs.Answers.{State}
 use Rattle.framebuffer.specs.Picture.{written}
 use Rattle.screen.specs.Entries.{entry, seat_with, marks_owed}
