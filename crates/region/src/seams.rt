@@ -9,7 +9,7 @@ ghost use Rattle.region.specs.Seams.{CutBy, SeamAt, EndsAt, Follow};
 
 use crate::Rect;
 use crate::bands::{bands_meet, combine, has_ended, list_top, walk_on};
-use crate::lists::band_end;
+use crate::lists::{band_end, in_some};
 use crate::pops::band_start;
 use crate::rooms::{with_more_room, with_room};
 use crate::rows::Keep;
@@ -105,6 +105,18 @@ fn bands_above(list: &[Rect], y: i32) -> &[Rect]
 {
     let count = count_begun(list, y);
     &list[..count]
+}
+
+/// Whether a place is in a canonical list. Of its bands only the place's own is gone over.
+pub(crate) fn holds(list: &[Rect], x: i32, y: i32) -> bool
+    requires { IsCanonical list.now }
+    ensures { result ≡ covers list.now x y }
+{
+    let below = bands_below(list, y);
+    match y.checked_add(1) {
+        Some(next) => in_some(bands_above(below, next), x, y),
+        None => in_some(below, x, y),
+    }
 }
 
 /// The bands of a list from another's first row to its last.

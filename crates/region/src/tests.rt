@@ -39,6 +39,8 @@ fn corners(rt: HostRuntime) -> Result<(), Fail> {
     let limit = 1 << 20;
     let widest = region_of(alloc, rect(-limit, -limit, limit, limit))?;
     assert!(rt; widest.contains(-limit, limit - 1));
+    assert!(rt; !widest.contains(0, limit) && !widest.contains(0, i32::MAX));
+    assert!(rt; !widest.contains(0, i32::MIN));
     let beyond = Region::from_rect(alloc, rect(0, 0, limit + 1, 1));
     assert!(rt; matches!(beyond, Err(RegionError::OutOfRange)));
     let thin = region_of(alloc, rect(3, 0, 3, 5))?;
