@@ -11,6 +11,7 @@ use sets::{moved_by, screen_places};
 use std::alloc::{AllocError, Global};
 use std::test::Fail;
 
+mod again;
 mod beside;
 
 const ALL: Rect = Rect {
