@@ -1,6 +1,6 @@
-//! Set operations on regions of a screen's places, each with a region of its own as its result.
+//! Regions of a screen's places: those of rectangles, moved ones, and the parts of others that are on the screen.
 
-ghost use Rattle.std.specs.Prelude.{◌≡◌, ◌≤◌, ◌||◌, ◌&&◌, not, true, ℤ, ◌-ℤ◌, IfOk, All};
+ghost use Rattle.std.specs.Prelude.{◌≡◌, ◌≤◌, ◌||◌, ◌&&◌, true, ℤ, ◌-ℤ◌, IfOk, All};
 ghost use Rattle.region.specs.Region.{covers, in_rect, on_screen};
 ghost use Rattle.region.specs.Held.{in_range};
 ghost use Rattle.copy_schedule.specs.Marks.{IsOnScreen};
