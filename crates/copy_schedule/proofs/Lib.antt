@@ -1,10 +1,10 @@
-mod PlaceLemmas
+pub mod PlaceLemmas
 mod WindowLemmas
 mod BandLemmas
 mod OrderSteps
-mod CutLemmas
+pub mod CutLemmas
 mod SetLemmas
-mod KeptLemmas
+pub mod KeptLemmas
 mod CopyLemmas
 mod RangeLemmas
 pub mod ScreenRects

@@ -14,3 +14,9 @@ mod LoopLemmas
 mod Committed
 mod Owing
 pub mod SeatLemmas
+mod Watched
+mod Told
+mod Pictured
+mod Painted
+mod Shown
+mod Unchanged

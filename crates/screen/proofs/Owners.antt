@@ -266,7 +266,7 @@ entries-without v (pair ∷ pairs) = elim (pair.0 == v) as (λ b. map entry (con
 
 -- ---- the picture is everyone's
 
-own-picture : (c : Config) (e : Event) (s : One) (o : Option (Viewer (List ℕ))) → (own_step c e s o).0.picture ≡ s.picture
+pub own-picture : (c : Config) (e : Event) (s : One) (o : Option (Viewer (List ℕ))) → (own_step c e s o).0.picture ≡ s.picture
 own-picture c (Connect n) s None = refl
 own-picture c (Connect n) s (Some v) = refl
 own-picture c (Hear n piece) s (Some v) = refl

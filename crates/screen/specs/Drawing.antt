@@ -12,7 +12,7 @@ use Rattle.screen.specs.Answers.{answers, picture_of}
 use Rattle.screen.specs.Examples.{demo, opens, ask, last_answers, sized, clean, update, head, px}
 
 -- one that uses CopyRect too
-abbrev clean_with_copies : ℕ → ℕ → ℕ → List Event
+abbrev pub clean_with_copies : ℕ → ℕ → ℕ → List Event
 clean_with_copies v w h = opens v ++ Hear v (2 ∷ 0 ∷ 0 ∷ 2 ∷ 0 ∷ 0 ∷ 0 ∷ 1 ∷ 0 ∷ 0 ∷ 0 ∷ 0 ∷ []) ∷ Hear v (ask 0 0 0 w h) ∷ Cut v ∷ []
 
 -- two viewers, one with CopyRect
@@ -21,14 +21,14 @@ two_viewers : last_answers 2 (answers (sized 4 1 50) (Paint (rect 0 0 4 1) (1 �
     (gives (update 1 ++ head 1 0 3 1 1 ++ 0 ∷ 0 ∷ 0 ∷ 0 ∷ []) ∷ gives (update 1 ++ head 1 0 3 1 0 ++ px (1 ∷ 2 ∷ 3 ∷ [])) ∷ [])
 two_viewers = refl
 
-abbrev six : Config
+abbrev pub six : Config
 six = sized 6 1 50
 
-abbrev six_start : List Event
+abbrev pub six_start : List Event
 six_start = Paint (rect 0 0 6 1) (1 ∷ 2 ∷ 3 ∷ 4 ∷ 5 ∷ 6 ∷ []) ∷ clean_with_copies 1 6 1
 
 -- copies that are sent right to left
-abbrev right_to_left : List Event
+abbrev pub right_to_left : List Event
 right_to_left = six_start ++ DoCopy (rect 4 0 5 1 ∷ []) (pos 2) (pos 0) ∷ DoCopy (rect 2 0 3 1 ∷ []) (pos 2) (pos 0) ∷ Hear 1 (ask 1 0 0 6 1) ∷ Cut 1 ∷ []
 
 sent_right_to_left : last_answers 1 (answers six right_to_left) ≡ (gives (update 2 ++ head 4 0 1 1 1 ++ 0 ∷ 2 ∷ 0 ∷ 0 ∷ head 2 0 1 1 1 ++ 0 ∷ 0 ∷ 0 ∷ 0 ∷ []) ∷ [])
@@ -49,20 +49,20 @@ long_text : answers demo (CutText (replicate 65537 0) ∷ []) ≡ (refuses refus
 long_text = refl
 
 -- two copies by one offset, the second over the first's places
-abbrev twice : List Event
+abbrev pub twice : List Event
 twice = six_start ++ DoCopy (rect 2 0 4 1 ∷ []) (pos 1) (pos 0) ∷ DoCopy (rect 3 0 5 1 ∷ []) (pos 1) (pos 0) ∷ Hear 1 (ask 1 0 0 6 1) ∷ Cut 1 ∷ []
 
 twice_sent : last_answers 1 (answers six twice) ≡ (gives (update 1 ++ head 2 0 3 1 0 ++ px (2 ∷ 2 ∷ 3 ∷ [])) ∷ [])
 twice_sent = refl
 
-abbrev four : Config
+abbrev pub four : Config
 four = sized 4 1 50
 
-abbrev four_start : List Event
+abbrev pub four_start : List Event
 four_start = Paint (rect 0 0 4 1) (1 ∷ 2 ∷ 3 ∷ 4 ∷ []) ∷ clean_with_copies 1 4 1
 
 -- a copy whose source is asked for anew
-abbrev lost_source : List Event
+abbrev pub lost_source : List Event
 lost_source = four_start ++ DoCopy (rect 2 0 3 1 ∷ []) (pos 1) (pos 0) ∷ Hear 1 (ask 0 1 0 1 1) ∷ Cut 1 ∷ Hear 1 (ask 1 0 0 4 1) ∷ Cut 1 ∷ []
 
 lost_source_sent : last_answers 3 (answers four lost_source) ≡ (gives (update 1 ++ head 1 0 1 1 0 ++ px (2 ∷ [])) ∷ nothing_to_say ∷ gives (update 1 ++ head 2 0 1 1 0 ++ px (2 ∷ [])) ∷ [])

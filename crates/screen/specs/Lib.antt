@@ -6,8 +6,13 @@ pub mod Sending
 pub mod Alone
 pub mod Answers
 pub mod Claims
+pub mod Shown
+pub mod Pictures
 pub mod Checked
 pub mod Entries
 pub mod Held
 pub mod Examples
 pub mod Drawing
+pub mod Shows
+pub mod History
+pub mod HistoryExamples

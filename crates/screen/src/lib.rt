@@ -16,7 +16,7 @@ mod update;
 use listed::Listed;
 use messages::{Fault, Input};
 use region::Rect;
-pub use runs::{run, viewers_are_alone};
+pub use runs::{pictures_are_shown, run, viewers_are_alone};
 pub use screen::Screen;
 use std::alloc::{AllocError, AllocFailed};
 pub use update::Update;

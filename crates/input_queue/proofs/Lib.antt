@@ -1,0 +1,4 @@
+pub mod Places
+pub mod Moves
+pub mod Settled
+pub mod Shares

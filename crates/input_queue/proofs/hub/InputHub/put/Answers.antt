@@ -1,0 +1,12 @@
+use Rattle.std.proofs.Common.{rules, ap, refl, ◌∙◌}
+use Rattle.input_queue.proofs.Moves.{puts, learns_held, seat_kept}
+use Rattle.input_queue.proofs.hub.InputHub.put.Goals as goal
+
+pub push_as-requires-clause-rule : goal.push_as-requires-clause-rule
+push_as-requires-clause-rule g c = let is = ap (λ v. v.puts) c.seat.invariant.1 in (puts _ _ _ _ is, learns_held _ _ is)
+
+pub invariant_of-seat : goal.invariant_of-seat
+invariant_of-seat g c =
+    let i = c.seat.invariant in
+    let k = seat_kept _ _ _ _ _ _ c.push_as.ensures.rule i.1 refl i.2 in
+    (c.push_as.ensures.queue.2 ∙ i.0, k.0, k.1)

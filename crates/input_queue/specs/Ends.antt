@@ -1,0 +1,45 @@
+-- What contracts see of a queue's ends.
+use Rattle.std.specs.Prelude.{◌≡◌, ℕ, ◌==◌, nat_eq, List, [], ◌++◌, length, map}
+use Rattle.std.specs.List.{IsDistinct, filter}
+use Rattle.atomic_table.specs.Seated.{TableId}
+use Rattle.input_queue.specs.declared.Told.{Told}
+use Rattle.input_queue.specs.declared.rule.Note.{Note}
+use Rattle.input_queue.specs.Rule.{Interleaves}
+
+-- a queue: which it is, how many inputs it can hold, and how many seats it has made
+pub record Hub : Type 0 where
+  pub queue : TableId
+  pub capacity : ℕ
+  pub seats : ℕ
+
+-- the end that takes, and what it took
+pub record Taking : Type 0 where
+  pub queue : TableId
+  pub taken : List Told
+
+-- one viewer's end, the how-manieth of its queue's, and what was accepted at it
+pub record Putting : Type 0 where
+  pub queue : TableId
+  pub number : ℕ
+  pub viewer : ℕ
+  pub accepted : List Told
+
+-- of a list, what came from a viewer
+abbrev pub of_viewer : ℕ → List Told → List Told
+of_viewer v list = filter (λ t. t.viewer == v) list
+
+-- no two seats have one viewer
+abbrev pub ViewersApart : List Putting → Type 0
+ViewersApart seats = IsDistinct nat_eq (map (λ s. s.viewer) seats)
+
+-- At one moment the queue held these: what was taken by then, followed by them, was an interleaving of what the seats had accepted, which was this list at the seat with this number.
+abbrev pub HeldBeside : ℕ → List Told → List Told → Type 0
+HeldBeside number accepted items = (taken : List Told) × (lists : ℕ → List Told) × (lists number ≡ accepted) × Interleaves lists (taken ++ items)
+
+-- At one moment the queue was empty: what was taken was an interleaving of what the seats had accepted.
+abbrev pub AllTaken : List Told → Type 0
+AllTaken taken = (lists : ℕ → List Told) × Interleaves lists taken
+
+-- what the taker notes of a seat
+abbrev pub note_of : Putting → Note
+note_of s = record { number = s.number; accepted = s.accepted }

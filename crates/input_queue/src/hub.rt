@@ -1,0 +1,217 @@
+//! The queue's ends.
+ghost use Rattle.std.specs.Prelude.{◌≡◌, ◌≤◌, ◌<◌, ◌+◌, ◌-◌, ◌^◌, [], ◌++◌, ◌∷◌, ℕ, List, length, map, All, min, IfOk, MatchResult, MatchOption, IsOkUnless, nat_le, ◌&&◌, MatchBool};
+ghost use Rattle.input_queue.specs.Ends.{Putting, of_viewer, ViewersApart, HeldBeside, AllTaken, note_of};
+ghost use Rattle.input_queue.specs.declared.Told.{Told};
+ghost use Rattle.crossbeam_queue.specs.Passes.{view as known, IsPassOf};
+ghost use Rattle.crossbeam_queue.specs.Fifo.{Held};
+ghost use Rattle.input_queue.specs.Views.{hub, taker, joined};
+ghost use Rattle.input_queue.specs.Rule.{Reached, Closed};
+
+use crate::rule::{Puts, Queue, SeatBack, SeatMade, TakerBack, TakerMade, Takes, Ticket, Whole};
+use crate::{Full, Left, QueueError, Told};
+use listed::Listed;
+use messages::Input;
+use std::alloc::{AllocError, Global};
+use std::marker::Model;
+use std::sync::Wait;
+
+/// A queue of inputs, which threads share: a seat for each viewer puts, and one taker takes. Contracts
+/// see which queue it is, how many inputs it can hold, and how many seats it has made.
+#[derive(Drop)]
+pub struct InputHub {
+    alloc: Global,
+    queue: Queue,
+    pass: Ticket,
+    seats: u64,
+}
+
+impl Model for InputHub {
+    ghost use Rattle.input_queue.specs.Ends.{Hub};
+    ghost use Rattle.std.specs.Prelude.{◌≡◌, ◌<◌, ◌-◌, ◌^◌, []};
+    ghost use Rattle.crossbeam_queue.specs.Passes.{view as known, IsPassOf, ruled_capacity};
+    ghost use Rattle.input_queue.specs.Views.{hub};
+
+    ghost Value = { Hub };
+
+    ghost view = { λ a. record { queue = a.queue.table.shared.table_id; capacity = ruled_capacity a.queue; seats = a.seats } };
+
+    ghost invariant = { λ a. IsPassOf a.queue a.pass × (known a.pass ≡ hub (known a.pass).number) × (a.seats < 2 ^ 64 - 1 → (known a.pass).number ≡ a.seats) };
+}
+
+/// The end that takes. Contracts see what it took.
+#[derive(Drop)]
+pub struct Taker {
+    pass: Ticket,
+}
+
+impl Model for Taker {
+    ghost use Rattle.input_queue.specs.Ends.{Taking};
+    ghost use Rattle.std.specs.Prelude.{◌≡◌, []};
+    ghost use Rattle.crossbeam_queue.specs.Passes.{view as known};
+    ghost use Rattle.input_queue.specs.Views.{taker};
+
+    ghost Value = { Taking };
+
+    ghost view = { λ a. record { queue = a.pass.table_id; taken = (known a.pass).taken } };
+
+    ghost invariant = { λ a. (a.pass.me.1 ≡ []) × (known a.pass ≡ taker (known a.pass).taken []) };
+}
+
+/// The end of one viewer, which puts. Contracts see what was accepted at it.
+#[derive(Drop)]
+pub struct InputSeat {
+    viewer: u64,
+    pass: Ticket,
+}
+
+impl Model for InputSeat {
+    ghost use Rattle.input_queue.specs.Ends.{Putting};
+    ghost use Rattle.std.specs.Prelude.{◌≡◌, [], All};
+    ghost use Rattle.crossbeam_queue.specs.Passes.{view as known};
+    ghost use Rattle.input_queue.specs.Views.{seat};
+
+    ghost Value = { Putting };
+
+    ghost view = { λ a. record { queue = a.pass.table_id; number = (known a.pass).number; viewer = a.viewer; accepted = (known a.pass).accepted } };
+
+    ghost invariant = { λ a. (a.pass.me.1 ≡ []) × (known a.pass ≡ seat (known a.pass).number (known a.pass).accepted) × All (λ t. t.viewer ≡ a.viewer) (known a.pass).accepted };
+}
+
+impl InputHub {
+    /// An empty queue that can hold so many inputs, with its taker. `BadCapacity` unless these are 1 to
+    /// 65,536. All room is made here.
+    pub fn new(alloc: Global, capacity: usize) -> Result<(InputHub, Taker), QueueError>
+        ensures refused { MatchBool (nat_le 1 capacity && nat_le capacity 65536) (IsOkUnless result QueueError.OutOfMemory) (result ≡ Err QueueError.BadCapacity) }
+        ensures hub { IfOk result (λ made. (made.0.capacity ≡ capacity) × (made.0.seats ≡ 0)) }
+        ensures taker { IfOk result (λ made. (made.1.queue ≡ made.0.queue) × (made.1.taken ≡ [])) }
+    {
+        if capacity == 0 || capacity > 65_536 {
+            return Err(QueueError::BadCapacity);
+        }
+        let (queue, mut pass) = Queue::ruled(alloc, capacity)?;
+        let taking = queue.another::<TakerMade>(&mut pass);
+        let hub = InputHub {
+            alloc,
+            queue,
+            pass,
+            seats: 0,
+        };
+        Ok((hub, Taker { pass: taking }))
+    }
+
+    /// A seat for a viewer. The hub counts its seats; the count stops at 2^64 - 1.
+    pub fn seat(&mut self, viewer: u64) -> InputSeat
+        ensures hub { self.new ≡ record self.old { seats = min (self.old.seats + 1) (2 ^ 64 - 1) } }
+        ensures queue { result.queue ≡ self.old.queue }
+        ensures viewer { result.viewer ≡ viewer }
+        ensures number { self.old.seats < 2 ^ 64 - 1 → result.number ≡ self.old.seats }
+        ensures accepted { result.accepted ≡ [] }
+    {
+        let pass = self.queue.another::<SeatMade>(&mut self.pass);
+        self.seats = self.seats.saturating_add(1);
+        InputSeat { viewer, pass }
+    }
+
+    /// Puts an input behind the others. It comes back where the queue held as many as it can at that
+    /// step. After 2^62 accepted inputs this waits for ever.
+    pub fn put<R: Wait>(&self, rt: &R, seat: &mut InputSeat, input: Input) -> Result<(), Full>
+        requires { seat.old.queue ≡ self.now.queue }
+        ensures accepted { IfOk result (λ _. seat.new ≡ record seat.old { accepted = seat.old.accepted ++ record { viewer = seat.old.viewer; input = input } ∷ [] }) }
+        ensures back { MatchResult result (λ _. Unit {0}) (λ full. (full.0 ≡ input) × (seat.new ≡ seat.old)) }
+        ensures full { MatchResult result (λ _. Unit {0}) (λ _. (items : List Told) × (length items ≡ self.now.capacity) × HeldBeside seat.old.number seat.old.accepted items) }
+    {
+        let told = Told {
+            viewer: seat.viewer,
+            input,
+        };
+        match self.queue.push_as::<Puts, R>(rt, &mut seat.pass, told) {
+            Ok(()) => Ok(()),
+            Err(told) => Err(Full(told.input)),
+        }
+    }
+
+    /// Takes the input in front. None where the queue was empty at some moment of the call.
+    pub fn take<R: Wait>(&self, rt: &R, taker: &mut Taker) -> Option<Told>
+        requires { taker.old.queue ≡ self.now.queue }
+        ensures { MatchOption result ((taker.new ≡ taker.old) × AllTaken taker.old.taken) (λ told. taker.new ≡ record taker.old { taken = taker.old.taken ++ told ∷ [] }) }
+    {
+        self.queue.pop_as::<Takes, R>(rt, &mut taker.pass)
+    }
+
+    /// Gives back the seats, takes what is left, and gives back the taker. Where these are all seats that
+    /// the hub made and no two have one viewer, each viewer's inputs, those taken and then those left, are
+    /// what its seat accepted, in order.
+    pub fn join<R: Wait>(
+        self,
+        rt: &R,
+        taker: Taker,
+        seats: Vec<InputSeat>,
+    ) -> Result<Left, AllocError>
+        requires taker { taker.queue ≡ self.queue }
+        requires seats { All (λ s. s.queue ≡ self.queue) seats.items }
+        ensures { IfOk result (λ left. length seats.items ≡ self.seats → self.seats < 2 ^ 64 - 1 → ViewersApart seats.items → All (λ s. of_viewer s.viewer (taker.taken ++ left.items) ≡ s.accepted) seats.items) }
+    {
+        let InputHub {
+            alloc,
+            queue,
+            mut pass,
+            seats: _,
+        } = self;
+        let mut taking = give_back_all(&queue, taker.pass, seats);
+        let items = take_all(rt, alloc, &queue, &mut taking)?;
+        queue.absorb::<TakerBack>(&mut pass, taking);
+        queue.learn_as::<Whole>(&mut pass);
+        Ok(Left {
+            items: Listed::from_vec(items),
+        })
+    }
+}
+
+/// The taker notes what a seat accepted.
+fn give_back(queue: &Queue, taking: &mut Ticket, seat: InputSeat)
+    requires queue { IsPassOf queue.now taking.old × (seat.queue ≡ queue.now.table.shared.table_id) }
+    requires taker { known taking.old ≡ taker (known taking.old).taken (known taking.old).noted }
+    ensures queue { IsPassOf queue.now taking.new }
+    ensures noted { known taking.new ≡ taker (known taking.old).taken (note_of seat ∷ (known taking.old).noted) }
+    ensures own { All (λ t. t.viewer ≡ seat.viewer) seat.accepted }
+{
+    queue.absorb::<SeatBack>(taking, seat.pass);
+}
+
+/// The taker notes what each seat accepted.
+fn give_back_all(queue: &Queue, mut taking: Ticket, mut seats: Vec<InputSeat>) -> Ticket
+    requires queue { IsPassOf queue.now taking × All (λ s. s.queue ≡ queue.now.table.shared.table_id) seats.items }
+    requires taker { known taking ≡ taker (known taking).taken [] }
+    ensures queue { IsPassOf queue.now result }
+    ensures noted { known result ≡ taker (known taking).taken (map note_of seats.items) }
+    ensures own { All (λ s. All (λ t. t.viewer ≡ s.viewer) s.accepted) seats.items }
+{
+    while let Some(seat) = seats.pop() {
+        give_back(queue, &mut taking, seat);
+    }
+    taking
+}
+
+/// Takes until the queue is empty.
+fn take_all<R: Wait>(
+    rt: &R,
+    alloc: Global,
+    queue: &Queue,
+    taking: &mut Ticket,
+) -> Result<Vec<Told>, AllocError>
+    requires queue { IsPassOf queue.now taking.old }
+    requires taker { known taking.old ≡ taker (known taking.old).taken (known taking.old).noted }
+    ensures queue { IsPassOf queue.now taking.new }
+    ensures taken { IfOk result (λ items. known taking.new ≡ taker ((known taking.old).taken ++ items.items) (known taking.old).noted) }
+    ensures empty { IfOk result (λ _. Held 0 (Reached (known taking.new))) }
+{
+    let mut items = Vec::new(alloc);
+    for _ in rt.forever() {
+        items.reserve(1)?;
+        match queue.pop_as::<Takes, R>(rt, taking) {
+            Some(told) => items.push_reserved(told),
+            None => return Ok(items),
+        }
+    }
+    unreachable!()
+}

@@ -1,0 +1,21 @@
+use Rattle.std.proofs.Common.{◌≡◌, List, Option, None, Some, Result, Ok, Err, MatchOption, refl, sym, subst, arith}
+use Rattle.std.proofs.lemmas.Grind.{common_steps}
+use Rattle.screen.specs.declared.Answer.{Answer}
+use Rattle.screen.specs.declared.ScreenError.{ScreenError}
+use Rattle.screen.specs.Answers.{answers}
+use Rattle.screen.specs.Pictures.{ShowPictures}
+use Rattle.screen.proofs.runs.run.Goals as goal
+
+-- a screen is made where no refusal stands
+no-refusal : {X : Type 0} (o : Option ScreenError) (made : Type 0) (x : X) → MatchOption o made (λ e. ◌≡◌ {A = Result X ScreenError} (Ok x) (Err e)) → o ≡ None
+no-refusal None made x h = refl
+no-refusal (Some e) made x h = absurd cc
+
+pub returns-clause-pictures : goal.returns-clause-pictures
+returns-clause-pictures c = λ told.
+    let given : c.loop-event.given.items ≡ answers c.args.config c.args.events.now = (let h = c.loop-event in grind (arith, common_steps)) in
+    let accepted = no-refusal _ _ _ c.in_ok-screen.ensures.refused in
+    subst (λ (l : List Answer). ShowPictures c.args.config c.args.events.now l) (sym given) (c.pictures_are_shown.ensures c.args.config c.args.events.now accepted told)
+
+pub returns-clause-answers : goal.returns-clause-answers
+returns-clause-answers c = grind (arith, common_steps)

@@ -1,0 +1,85 @@
+-- Worked examples, which compute.
+use Rattle.std.specs.Prelude.{◌≡◌, ℕ, List, [], ◌∷◌, ◌++◌, map, option_map, codes, take, Option, None, Some, refl}
+use Rattle.std.specs.List.{range_with_len}
+use Rattle.pixel_translate.specs.declared.BitsPerPixel.TheVariants.{Eight}
+use Rattle.pixel_translate.specs.declared.PixelFormat.{PixelFormat}
+use Rattle.pixel_translate.specs.Pixel.{server_format}
+use Rattle.pixel_translate.specs.Examples.{F}
+use Rattle.encode_raw.specs.Reading.{◌>>=◌, Shown, pixels_at}
+use Rattle.encode_rre.specs.Reading.{subrectangles_at}
+use Rattle.messages.specs.declared.Version.TheVariants.{V33, V37, V38}
+use Rattle.viewer_picture.specs.Messages.{rectangles_at, messages_in, messages_at}
+use Rattle.viewer_picture.specs.Opening.{security_at, result_at, init_at}
+
+abbrev one_byte : PixelFormat
+one_byte = record server_format { bits = Eight }
+
+abbrev blank : Shown
+blank x y = None
+
+-- what the first four places show
+abbrev shows : List ℕ → Option (List (Option ℕ))
+shows bytes = do
+  shown ← messages_at one_byte blank bytes
+  Some (map (λ x. option_map (λ d. d.pixel) (shown x 0)) (range_with_len 0 4))
+
+abbrev three_pixels : List ℕ
+three_pixels = 0 ∷ 0 ∷ 0 ∷ 1 ∷ 0 ∷ 0 ∷ 0 ∷ 0 ∷ 0 ∷ 3 ∷ 0 ∷ 1 ∷ 0 ∷ 0 ∷ 0 ∷ 0 ∷ 1 ∷ 2 ∷ 3 ∷ []
+
+in_raw : shows three_pixels ≡ Some (Some 1 ∷ Some 2 ∷ Some 3 ∷ None ∷ [])
+unfolding pixels_at rectangles_at messages_in
+in_raw = refl
+
+-- a bell and a text, and then an update of two copies: the first moves all its places at once, the second copies what it left
+abbrev bell_and_text : List ℕ
+bell_and_text = 2 ∷ 3 ∷ 0 ∷ 0 ∷ 0 ∷ 0 ∷ 0 ∷ 0 ∷ 2 ∷ 0x68 ∷ 0x69 ∷ []
+
+abbrev two_copies : List ℕ
+two_copies = 0 ∷ 0 ∷ 0 ∷ 2
+    ∷ 0 ∷ 1 ∷ 0 ∷ 0 ∷ 0 ∷ 2 ∷ 0 ∷ 1 ∷ 0 ∷ 0 ∷ 0 ∷ 1 ∷ 0 ∷ 0 ∷ 0 ∷ 0
+    ∷ 0 ∷ 3 ∷ 0 ∷ 0 ∷ 0 ∷ 1 ∷ 0 ∷ 1 ∷ 0 ∷ 0 ∷ 0 ∷ 1 ∷ 0 ∷ 2 ∷ 0 ∷ 0 ∷ []
+
+copied_in_turn : shows (three_pixels ++ bell_and_text ++ two_copies) ≡ Some (Some 1 ∷ Some 1 ∷ Some 2 ∷ Some 2 ∷ [])
+unfolding pixels_at rectangles_at messages_in
+copied_in_turn = refl
+
+-- what is copied from a place that shows nothing shows nothing
+nothing_copied : shows (two_copies ++ three_pixels) ≡ Some (Some 1 ∷ Some 2 ∷ Some 3 ∷ None ∷ [])
+unfolding pixels_at rectangles_at messages_in
+nothing_copied = refl
+
+-- RRE whose subrectangles lie over one another
+overlapping : shows (0 ∷ 0 ∷ 0 ∷ 1 ∷ 0 ∷ 0 ∷ 0 ∷ 0 ∷ 0 ∷ 4 ∷ 0 ∷ 1 ∷ 0 ∷ 0 ∷ 0 ∷ 2 ∷ 0 ∷ 0 ∷ 0 ∷ 2 ∷ 7
+    ∷ 8 ∷ 0 ∷ 0 ∷ 0 ∷ 0 ∷ 0 ∷ 3 ∷ 0 ∷ 1
+    ∷ 9 ∷ 0 ∷ 2 ∷ 0 ∷ 0 ∷ 0 ∷ 1 ∷ 0 ∷ 1 ∷ []) ≡ Some (Some 8 ∷ Some 8 ∷ Some 9 ∷ Some 7 ∷ [])
+unfolding rectangles_at messages_in subrectangles_at
+overlapping = refl
+
+-- bytes that end too early, a message of no type, and a rectangle of an encoding that isn't known
+cut_short : shows (take 18 three_pixels) ≡ None
+unfolding pixels_at rectangles_at messages_in
+cut_short = refl
+
+no_type : shows (three_pixels ++ 9 ∷ []) ≡ None
+unfolding pixels_at rectangles_at messages_in
+no_type = refl
+
+no_encoding : shows (0 ∷ 0 ∷ 0 ∷ 1 ∷ 0 ∷ 0 ∷ 0 ∷ 0 ∷ 0 ∷ 1 ∷ 0 ∷ 1 ∷ 0 ∷ 0 ∷ 0 ∷ 16 ∷ 0 ∷ []) ≡ None
+unfolding rectangles_at messages_in
+no_encoding = refl
+
+-- the opening
+security_of_38 : security_at V38 (1 ∷ 1 ∷ 7 ∷ []) ≡ Some (7 ∷ [])
+security_of_38 = refl
+
+security_of_33 : security_at V33 (0 ∷ 0 ∷ 0 ∷ 1 ∷ 7 ∷ []) ≡ Some (7 ∷ [])
+security_of_33 = refl
+
+another_security : security_at V37 (1 ∷ 2 ∷ []) ≡ None
+another_security = refl
+
+no_result_in_37 : result_at V37 (7 ∷ []) ≡ Some (7 ∷ [])
+no_result_in_37 = refl
+
+told : init_at (0 ∷ 4 ∷ 0 ∷ 3 ∷ F ++ 0 ∷ 0 ∷ 0 ∷ 4 ∷ codes "demo") ≡ Some (record { width = 4; height = 3; format = server_format }, [])
+told = refl
