@@ -8,9 +8,9 @@ use Rattle.messages.specs.Reading.{Rest}
 use Rattle.screen.specs.declared.Config.{Config}
 use Rattle.screen.specs.declared.Event.{Event}
 use Rattle.screen.specs.declared.Event.TheVariants.{Write, Paint, Mark, ScheduleCopy, DoCopy, Bell, CutText, Connect, Hear, Cut, Close}
-use Rattle.screen.specs.Viewer.{Viewer, new_viewer}
+use Rattle.viewer.specs.Viewer.{Viewer, new_viewer, kept}
 use Rattle.screen.specs.Alone.{own_step, owner_of}
-use Rattle.screen.specs.Answers.{viewer_of, picture_of, live_from, after_arrival, kept, entry_of, State, state}
+use Rattle.screen.specs.Answers.{viewer_of, picture_of, live_from, after_arrival, entry_of, State, state}
 use Rattle.screen.proofs.Steps.{live-append}
 use Rattle.screen.proofs.Owners.{one_of, viewer-hit, viewer-miss, picture-own, there-is}
 

@@ -10,36 +10,35 @@ use Rattle.screen.specs.declared.Event.TheVariants.{Connect, Hear, Cut, Close}
 use Rattle.screen.specs.declared.Answer.{Answer}
 use Rattle.screen.specs.declared.ScreenError.{ScreenError}
 use Rattle.screen.specs.declared.ScreenError.TheVariants as refusals
-use Rattle.screen.specs.declared.place.Seat.{Seat}
-use Rattle.screen.specs.declared.notices.Notice.{Notice}
-use Rattle.screen.specs.declared.notices.Notice.TheVariants as notice
-use Rattle.screen.specs.Viewer.{Viewer, none_wait, new_viewer}
+use Rattle.viewer.specs.Viewer.{KeptViewer, kept, Viewer, none_wait, new_viewer}
+use Rattle.viewer.specs.declared.notices.Notice.{Notice}
+use Rattle.viewer.specs.declared.notices.Notice.TheVariants as notice
 use Rattle.copy_schedule.specs.Marks.{Sent, pending, copies_of, pixels_of, after_sending}
 use Rattle.messages.specs.Reading.{is_open_rest}
-use Rattle.screen.specs.Sending.{sending_kept, with_update}
-use Rattle.screen.specs.Alone.{own_step, after_items, heard_answer, gives, refuses, nothing_to_say, some_bytes, Tells}
-use Rattle.screen.specs.Answers.{viewer_of, kept, State, state, answer_to}
-use Rattle.screen.specs.Entries.{entry, viewer_in}
-use Rattle.screen.proofs.Owners.{one_of, replaced, answer-hit, state-has, entries-without, state-close, answer-close, state-hear, answer-hear}
+use Rattle.viewer.specs.Sending.{sending_kept, with_update}
+use Rattle.screen.specs.Alone.{own_step, heard_answer, gives, refuses, nothing_to_say, some_bytes, Tells}
+use Rattle.viewer.specs.Hearing.{after_items}
+use Rattle.screen.specs.Answers.{viewer_of, State, state, answer_to}
+use Rattle.screen.proofs.Owners.{one_of, replaced, answer-hit, state-has, state-close, answer-close, state-hear, answer-hear}
 use Rattle.screen.proofs.Arrivals.{state-connect}
-use Rattle.screen.proofs.Seats.{seat_of, with_seat, StandsFor, stands-for, stands-for_none, seat-set}
+use Rattle.screen.proofs.Connected.{viewer_numbered, with_numbered, StandsFor, stands-for, stands-for_none, numbered-set}
 use Rattle.screen.proofs.Sent.{state-cut, answer-cut}
 
 -- how a screen is seen
-abbrev pub seen : Config → List ℕ → List (ℕ × Seat) → State
-seen c p pairs = record { config = c; picture = p; viewers = map entry pairs }
+abbrev pub seen : Config → List ℕ → List (ℕ × KeptViewer) → State
+seen c p pairs = record { config = c; picture = p; viewers = pairs }
 
 -- a screen has the configuration of the list whose state it stands for
-pub at_config : (P : Config → Type 0) (c config : Config) (p : List ℕ) (pairs : List (ℕ × Seat)) (es : List Event) → seen c p pairs ≡ state config es → (seen c p pairs ≡ state c es → P c) → P config
+pub at_config : (P : Config → Type 0) (c config : Config) (p : List ℕ) (pairs : List (ℕ × KeptViewer)) (es : List Event) → seen c p pairs ≡ state config es → (seen c p pairs ≡ state c es → P c) → P config
 at_config P c config p pairs es h at =
     let same : c ≡ config = ap (λ (s : State). s.config) h in
     subst P same (at (subst (λ (k : Config). seen c p pairs ≡ state k es) (sym same) h))
 
-pub seated : (c : Config) (es : List Event) (p : List ℕ) (pairs : List (ℕ × Seat)) (v : ℕ) (old : Seat) → seen c p pairs ≡ state c es → Some old ≡ seat_of pairs v → StandsFor c es v old
-seated c es p pairs v old h there = stands-for c es pairs v old (ap (λ (s : State). s.viewers) h) (sym there)
+pub stands_there : (c : Config) (es : List Event) (p : List ℕ) (pairs : List (ℕ × KeptViewer)) (v : ℕ) (old : KeptViewer) → seen c p pairs ≡ state c es → Some old ≡ viewer_numbered pairs v → StandsFor c es v old
+stands_there c es p pairs v old h there = stands-for c es pairs v old (ap (λ (s : State). s.viewers) h) (sym there)
 
-pub none_seated : (c : Config) (es : List Event) (p : List ℕ) (pairs : List (ℕ × Seat)) (v : ℕ) → seen c p pairs ≡ state c es → seat_of pairs v ≡ None → viewer_of c v es ≡ None
-none_seated c es p pairs v h away = stands-for_none c es pairs v (ap (λ (s : State). s.viewers) h) away
+pub none_there : (c : Config) (es : List Event) (p : List ℕ) (pairs : List (ℕ × KeptViewer)) (v : ℕ) → seen c p pairs ≡ state c es → viewer_numbered pairs v ≡ None → viewer_of c v es ≡ None
+none_there c es p pairs v h away = stands-for_none c es pairs v (ap (λ (s : State). s.viewers) h) away
 
 -- ---- who isn't there
 
@@ -51,22 +50,22 @@ answer-absent_cut c es v absent = answer-hit c v es (Cut v) refl ∙ ap (λ o. (
 
 -- ---- hearing
 
-pub hear-step : (c : Config) (es : List Event) (p : List ℕ) (pairs : List (ℕ × Seat)) (v : ℕ) (old new : Seat) (piece : List ℕ) → seen c p pairs ≡ state c es → Some old ≡ seat_of pairs v
-    → ((before : List ℕ) → old.ear ≡ rest before → viewer_in new ≡ after_items c (new_items before piece) (record (viewer_in old) { heard = rest (before ++ piece) }))
-    → seen c p (with_seat pairs v new) ≡ state c (es ++ Hear v piece ∷ [])
+pub hear-step : (c : Config) (es : List Event) (p : List ℕ) (pairs : List (ℕ × KeptViewer)) (v : ℕ) (old new : KeptViewer) (piece : List ℕ) → seen c p pairs ≡ state c es → Some old ≡ viewer_numbered pairs v
+    → ((before : List ℕ) → old.heard ≡ rest before → new ≡ after_items c.width c.height (new_items before piece) (record old { heard = rest (before ++ piece) }))
+    → seen c p (with_numbered pairs v new) ≡ state c (es ++ Hear v piece ∷ [])
 hear-step c es p pairs v old new piece h there viewer =
-    let at = seated c es p pairs v old h there in
+    let at = stands_there c es p pairs v old h there in
     let s : List ℕ → List (ℕ × Viewer Rest) → State = λ q vs. record { config = c; picture = q; viewers = vs } in
-    let ear : old.ear ≡ rest at.was.heard = sym (ap (λ (w : Viewer Rest). w.heard) at.as_kept) in
-    ap (s p) (seat-set c es pairs v new (ap (λ (t : State). t.viewers) h)
-    ∙ ap (λ w. map (replaced v w) (state c es).viewers) (viewer at.was.heard ear ∙ sym (ap (λ (w : Viewer Rest). after_items c (new_items at.was.heard piece) (record w { heard = rest (at.was.heard ++ piece) })) at.as_kept)))
-    ∙ ap (λ q. s q (map (replaced v (after_items c (new_items at.was.heard piece) (record (kept at.was) { heard = rest (at.was.heard ++ piece) }))) (state c es).viewers)) (ap (λ (t : State). t.picture) h)
+    let ear : old.heard ≡ rest at.was.heard = sym (ap (λ (w : Viewer Rest). w.heard) at.as_kept) in
+    ap (s p) (numbered-set c es pairs v new (ap (λ (t : State). t.viewers) h)
+    ∙ ap (λ w. map (replaced v w) (state c es).viewers) (viewer at.was.heard ear ∙ sym (ap (λ (w : Viewer Rest). after_items c.width c.height (new_items at.was.heard piece) (record w { heard = rest (at.was.heard ++ piece) })) at.as_kept)))
+    ∙ ap (λ q. s q (map (replaced v (after_items c.width c.height (new_items at.was.heard piece) (record (kept at.was) { heard = rest (at.was.heard ++ piece) }))) (state c es).viewers)) (ap (λ (t : State). t.picture) h)
     ∙ sym (state-hear c es v piece at.was at.there)
 
-pub hear-answer : (c : Config) (es : List Event) (p : List ℕ) (pairs : List (ℕ × Seat)) (v : ℕ) (old : Seat) (piece : List ℕ) → seen c p pairs ≡ state c es → Some old ≡ seat_of pairs v
-    → (before : List ℕ) × (old.ear ≡ rest before) × (answer_to c es (Hear v piece) ≡ heard_answer c before piece)
+pub hear-answer : (c : Config) (es : List Event) (p : List ℕ) (pairs : List (ℕ × KeptViewer)) (v : ℕ) (old : KeptViewer) (piece : List ℕ) → seen c p pairs ≡ state c es → Some old ≡ viewer_numbered pairs v
+    → (before : List ℕ) × (old.heard ≡ rest before) × (answer_to c es (Hear v piece) ≡ heard_answer c before piece)
 hear-answer c es p pairs v old piece h there =
-    let at = seated c es p pairs v old h there in (
+    let at = stands_there c es p pairs v old h there in (
       at.was.heard,
       sym (ap (λ (w : Viewer Rest). w.heard) at.as_kept),
       answer-hear c es v piece at.was at.there,
@@ -74,40 +73,40 @@ hear-answer c es p pairs v old piece h there =
 
 -- ---- cutting
 
-pub cut-step : (c : Config) (es : List Event) (p : List ℕ) (pairs : List (ℕ × Seat)) (v : ℕ) (old new : Seat) → seen c p pairs ≡ state c es → Some old ≡ seat_of pairs v
-    → viewer_in new ≡ (sending_kept c.width c.height c.rects_per_update p (viewer_in old)).1
-    → seen c p (with_seat pairs v new) ≡ state c (es ++ Cut v ∷ [])
+pub cut-step : (c : Config) (es : List Event) (p : List ℕ) (pairs : List (ℕ × KeptViewer)) (v : ℕ) (old new : KeptViewer) → seen c p pairs ≡ state c es → Some old ≡ viewer_numbered pairs v
+    → new ≡ (sending_kept c.width c.height c.rects_per_update p (old)).1
+    → seen c p (with_numbered pairs v new) ≡ state c (es ++ Cut v ∷ [])
 cut-step c es p pairs v old new h there viewer =
-    let at = seated c es p pairs v old h there in
+    let at = stands_there c es p pairs v old h there in
     let s : List ℕ → List (ℕ × Viewer Rest) → State = λ q vs. record { config = c; picture = q; viewers = vs } in
     let picture : p ≡ (state c es).picture = ap (λ (t : State). t.picture) h in
-    ap (s p) (seat-set c es pairs v new (ap (λ (t : State). t.viewers) h) ∙ ap (λ w. map (replaced v w) (state c es).viewers) (viewer ∙ sym (ap (λ w. (sending_kept c.width c.height c.rects_per_update p w).1) at.as_kept)))
+    ap (s p) (numbered-set c es pairs v new (ap (λ (t : State). t.viewers) h) ∙ ap (λ w. map (replaced v w) (state c es).viewers) (viewer ∙ sym (ap (λ w. (sending_kept c.width c.height c.rects_per_update p w).1) at.as_kept)))
     ∙ ap (λ q. s q (map (replaced v (sending_kept c.width c.height c.rects_per_update q (kept at.was)).1) (state c es).viewers)) picture
     ∙ sym (state-cut c es v at.was at.there)
 
-pub cut-answer : (c : Config) (es : List Event) (p : List ℕ) (pairs : List (ℕ × Seat)) (v : ℕ) (old : Seat) → seen c p pairs ≡ state c es → Some old ≡ seat_of pairs v
-    → answer_to c es (Cut v) ≡ gives (sending_kept c.width c.height c.rects_per_update p (viewer_in old)).0
+pub cut-answer : (c : Config) (es : List Event) (p : List ℕ) (pairs : List (ℕ × KeptViewer)) (v : ℕ) (old : KeptViewer) → seen c p pairs ≡ state c es → Some old ≡ viewer_numbered pairs v
+    → answer_to c es (Cut v) ≡ gives (sending_kept c.width c.height c.rects_per_update p (old)).0
 cut-answer c es p pairs v old h there =
-    let at = seated c es p pairs v old h there in
+    let at = stands_there c es p pairs v old h there in
     answer-cut c es v at.was at.there
     ∙ ap (λ q. gives (sending_kept c.width c.height c.rects_per_update q (kept at.was)).0) (sym (ap (λ (t : State). t.picture) h))
     ∙ ap (λ w. gives (sending_kept c.width c.height c.rects_per_update p w).0) at.as_kept
 
 -- ---- connecting
 
-pub connect-step : (c : Config) (es : List Event) (p : List ℕ) (pairs new : List (ℕ × Seat)) (v : ℕ) → seen c p pairs ≡ state c es → seat_of pairs v ≡ None
-    → map entry new ≡ map entry pairs ++ (v, kept (new_viewer c.width c.height)) ∷ [] → seen c p new ≡ state c (es ++ Connect v ∷ [])
+pub connect-step : (c : Config) (es : List Event) (p : List ℕ) (pairs new : List (ℕ × KeptViewer)) (v : ℕ) → seen c p pairs ≡ state c es → viewer_numbered pairs v ≡ None
+    → new ≡ pairs ++ (v, kept (new_viewer c.width c.height)) ∷ [] → seen c p new ≡ state c (es ++ Connect v ∷ [])
 connect-step c es p pairs new v h away added =
     let s : List ℕ → List (ℕ × Viewer Rest) → State = λ q vs. record { config = c; picture = q; viewers = vs } in
     ap (s p) added
     ∙ ap (λ (t : State). record { config = c; picture = t.picture; viewers = t.viewers ++ (v, kept (new_viewer c.width c.height)) ∷ [] }) h
-    ∙ sym (state-connect c es v (none_seated c es p pairs v h away))
+    ∙ sym (state-connect c es v (none_there c es p pairs v h away))
 
-pub connect-answer : (c : Config) (es : List Event) (p : List ℕ) (pairs : List (ℕ × Seat)) (v : ℕ) → seen c p pairs ≡ state c es → seat_of pairs v ≡ None → answer_to c es (Connect v) ≡ gives server_version
-connect-answer c es p pairs v h away = answer-hit c v es (Connect v) refl ∙ ap (λ o. (own_step c (Connect v) (one_of c v es) o).1) (none_seated c es p pairs v h away)
+pub connect-answer : (c : Config) (es : List Event) (p : List ℕ) (pairs : List (ℕ × KeptViewer)) (v : ℕ) → seen c p pairs ≡ state c es → viewer_numbered pairs v ≡ None → answer_to c es (Connect v) ≡ gives server_version
+connect-answer c es p pairs v h away = answer-hit c v es (Connect v) refl ∙ ap (λ o. (own_step c (Connect v) (one_of c v es) o).1) (none_there c es p pairs v h away)
 
-pub in_use-answer : (c : Config) (es : List Event) (p : List ℕ) (pairs : List (ℕ × Seat)) (v : ℕ) (old : Seat) → seen c p pairs ≡ state c es → Some old ≡ seat_of pairs v → answer_to c es (Connect v) ≡ refuses refusals.NumberInUse
-in_use-answer c es p pairs v old h there = answer-hit c v es (Connect v) refl ∙ ap (λ o. (own_step c (Connect v) (one_of c v es) o).1) (seated c es p pairs v old h there).there
+pub in_use-answer : (c : Config) (es : List Event) (p : List ℕ) (pairs : List (ℕ × KeptViewer)) (v : ℕ) (old : KeptViewer) → seen c p pairs ≡ state c es → Some old ≡ viewer_numbered pairs v → answer_to c es (Connect v) ≡ refuses refusals.NumberInUse
+in_use-answer c es p pairs v old h there = answer-hit c v es (Connect v) refl ∙ ap (λ o. (own_step c (Connect v) (one_of c v es) o).1) (stands_there c es p pairs v old h there).there
 
 -- ---- closing
 
@@ -119,26 +118,25 @@ filter-none (p ∷ ps) v h = go (p.0 == v) h (λ k. filter-none ps v k)
     go true k rest = absurd cc
     go false k rest = ap (λ l. p ∷ l) (rest k)
 
-pub close-absent : (c : Config) (es : List Event) (p : List ℕ) (pairs : List (ℕ × Seat)) (v : ℕ) → seen c p pairs ≡ state c es → seat_of pairs v ≡ None → state c es ≡ state c (es ++ Close v ∷ [])
+pub close-absent : (c : Config) (es : List Event) (p : List ℕ) (pairs : List (ℕ × KeptViewer)) (v : ℕ) → seen c p pairs ≡ state c es → viewer_numbered pairs v ≡ None → state c es ≡ state c (es ++ Close v ∷ [])
 close-absent c es p pairs v h away =
-    ap (λ vs. record (state c es) { viewers = vs }) (sym (filter-none (state c es).viewers v (state-has c es v ∙ ap is_some (none_seated c es p pairs v h away)))) ∙ sym (state-close c es v)
+    ap (λ vs. record (state c es) { viewers = vs }) (sym (filter-none (state c es).viewers v (state-has c es v ∙ ap is_some (none_there c es p pairs v h away)))) ∙ sym (state-close c es v)
 
-pub close-there : (c : Config) (es : List Event) (p : List ℕ) (pairs : List (ℕ × Seat)) (v : ℕ) → seen c p pairs ≡ state c es
+pub close-there : (c : Config) (es : List Event) (p : List ℕ) (pairs : List (ℕ × KeptViewer)) (v : ℕ) → seen c p pairs ≡ state c es
     → seen c p (filter (λ pair. not (pair.0 == v)) pairs) ≡ state c (es ++ Close v ∷ [])
 close-there c es p pairs v h =
-    ap (λ vs. record { config = c; picture = p; viewers = vs }) (entries-without v pairs)
-    ∙ ap (λ (s : State). record s { viewers = filter (λ q. not (q.0 == v)) s.viewers }) h
+    ap (λ (s : State). record s { viewers = filter (λ q. not (q.0 == v)) s.viewers }) h
     ∙ sym (state-close c es v)
 
 -- a close is refused where the viewer isn't there
 close-answer : (c : Config) (es : List Event) (v : ℕ) (o : Option (Viewer (List ℕ))) → viewer_of c v es ≡ o → cond (is_some o) nothing_to_say (refuses refusals.NoViewer) ≡ answer_to c es (Close v)
 close-answer c es v o is = ap (λ b. cond b nothing_to_say (refuses refusals.NoViewer)) (sym (state-has c es v ∙ ap is_some is)) ∙ sym (answer-close c es v)
 
-pub close-answer_absent : (c : Config) (es : List Event) (p : List ℕ) (pairs : List (ℕ × Seat)) (v : ℕ) → seen c p pairs ≡ state c es → seat_of pairs v ≡ None → refuses refusals.NoViewer ≡ answer_to c es (Close v)
-close-answer_absent c es p pairs v h away = close-answer c es v None (none_seated c es p pairs v h away)
+pub close-answer_absent : (c : Config) (es : List Event) (p : List ℕ) (pairs : List (ℕ × KeptViewer)) (v : ℕ) → seen c p pairs ≡ state c es → viewer_numbered pairs v ≡ None → refuses refusals.NoViewer ≡ answer_to c es (Close v)
+close-answer_absent c es p pairs v h away = close-answer c es v None (none_there c es p pairs v h away)
 
-pub close-answer_there : (c : Config) (es : List Event) (p : List ℕ) (pairs : List (ℕ × Seat)) (v : ℕ) (old : Seat) → seen c p pairs ≡ state c es → Some old ≡ seat_of pairs v → nothing_to_say ≡ answer_to c es (Close v)
-close-answer_there c es p pairs v old h there = let at = seated c es p pairs v old h there in close-answer c es v (Some at.was) at.there
+pub close-answer_there : (c : Config) (es : List Event) (p : List ℕ) (pairs : List (ℕ × KeptViewer)) (v : ℕ) (old : KeptViewer) → seen c p pairs ≡ state c es → Some old ≡ viewer_numbered pairs v → nothing_to_say ≡ answer_to c es (Close v)
+close-answer_there c es p pairs v old h there = let at = stands_there c es p pairs v old h there in close-answer c es v (Some at.was) at.there
 
 -- ---- whether there is something to send
 

@@ -12,10 +12,9 @@ use Rattle.region.specs.Region.{in_rect, covers, on_screen}
 use Rattle.copy_schedule.specs.Places.{some_place, cut_destination}
 use Rattle.copy_schedule.specs.Marks.{IsOnScreen, IsCutTo, same_offset, copied_by}
 use Rattle.screen.specs.declared.Config.{Config}
-use Rattle.screen.specs.declared.place.Seat.{Seat}
-use Rattle.screen.specs.Viewer.{does_nothing, viewer_copied}
+use Rattle.viewer.specs.Viewer.{KeptViewer, does_nothing, viewer_copied}
 use Rattle.screen.specs.Held.{IsSized}
-use Rattle.screen.specs.Entries.{viewer_in, seat_with, marks_copied}
+use Rattle.screen.specs.Entries.{viewer_with, marks_copied}
 
 -- ---- whether a copy does something
 
@@ -69,7 +68,7 @@ inside : (a b c : Bool) → (a && b && c) ≡ true → (b && c) ≡ true
 inside true b c e = e
 inside false b c e = absurd cc
 
-pub all-cut : (c : Config) (set : ℤ → ℤ → Bool) (by : ℤ × ℤ) (pieces : List Rect) (seats : List Seat) → covers pieces ≡ cut_destination c.width c.height set by → All (IsSized c) seats
+pub all-cut : (c : Config) (set : ℤ → ℤ → Bool) (by : ℤ × ℤ) (pieces : List Rect) (seats : List KeptViewer) → covers pieces ≡ cut_destination c.width c.height set by → All (IsSized c) seats
     → All (λ s. IsCutTo s.marks.width s.marks.height by pieces) seats
 all-cut c set by pieces seats places sized = λ k d below x y is.
     let size = sized k d below in
@@ -80,18 +79,18 @@ all-cut c set by pieces seats places sized = λ k d below x y is.
 -- ---- the viewers
 
 -- nothing is done to a seat
-pub seat_still : (w h : ℕ) (set : ℤ → ℤ → Bool) (by : ℤ × ℤ) (s : Seat) → does_nothing w h set by ≡ true → viewer_in s ≡ viewer_copied w h set by (viewer_in s)
-seat_still w h set by s none = sym (ap (λ b. record (viewer_in s) { marks = cond b s.marks (copied_by (cut_destination w h set by) by s.uses_copyrect s.marks) }) none)
+pub viewer_still : (w h : ℕ) (set : ℤ → ℤ → Bool) (by : ℤ × ℤ) (s : KeptViewer) → does_nothing w h set by ≡ true → s ≡ viewer_copied w h set by s
+viewer_still w h set by s none = sym (ap (λ b. record s { marks = cond b s.marks (copied_by (cut_destination w h set by) by s.uses_copyrect s.marks) }) none)
 
 -- the copy is done
-pub seat_moved : (w h : ℕ) (set : ℤ → ℤ → Bool) (by : ℤ × ℤ) (pieces : List Rect) (s : Seat) → covers pieces ≡ cut_destination w h set by → does_nothing w h set by ≡ false
-    → viewer_in (seat_with (marks_copied (covers pieces) by) s) ≡ viewer_copied w h set by (viewer_in s)
-seat_moved w h set by pieces s places some =
-    ap (λ (f : ℤ → ℤ → Bool). record (viewer_in s) { marks = copied_by f by s.uses_copyrect s.marks }) places
-    ∙ sym (ap (λ b. record (viewer_in s) { marks = cond b s.marks (copied_by (cut_destination w h set by) by s.uses_copyrect s.marks) }) some)
+pub viewer_moved : (w h : ℕ) (set : ℤ → ℤ → Bool) (by : ℤ × ℤ) (pieces : List Rect) (s : KeptViewer) → covers pieces ≡ cut_destination w h set by → does_nothing w h set by ≡ false
+    → viewer_with (marks_copied (covers pieces) by) s ≡ viewer_copied w h set by s
+viewer_moved w h set by pieces s places some =
+    ap (λ (f : ℤ → ℤ → Bool). record s { marks = copied_by f by s.uses_copyrect s.marks }) places
+    ∙ sym (ap (λ b. record s { marks = cond b s.marks (copied_by (cut_destination w h set by) by s.uses_copyrect s.marks) }) some)
 
 -- the marks of a copy are of the screen's size
-pub same_size : (set : ℤ → ℤ → Bool) (by : ℤ × ℤ) (s : Seat) → ((marks_copied set by s).width ≡ s.marks.width) × ((marks_copied set by s).height ≡ s.marks.height)
+pub same_size : (set : ℤ → ℤ → Bool) (by : ℤ × ℤ) (s : KeptViewer) → ((marks_copied set by s).width ≡ s.marks.width) × ((marks_copied set by s).height ≡ s.marks.height)
 same_size set by s = go s.uses_copyrect
   where
     go : (b : Bool) → ((copied_by set by b s.marks).width ≡ s.marks.width) × ((copied_by set by b s.marks).height ≡ s.marks.height)

@@ -3,7 +3,7 @@ mod Steps
 mod Owners
 mod Alike
 mod Arrivals
-mod Seats
+mod Connected
 mod Kept
 mod Sent
 mod Drawn
@@ -13,7 +13,6 @@ mod Refused
 mod LoopLemmas
 mod Committed
 mod Owing
-pub mod SeatLemmas
 mod Watched
 mod Told
 mod Pictured

@@ -5,8 +5,7 @@ use Rattle.messages.specs.declared.Phase.{Phase}
 use Rattle.messages.specs.declared.Phase.TheVariants as phase
 use Rattle.messages.specs.Grammar.{End, waiting, faulty}
 use Rattle.messages.specs.Reading.{heard, Unfinished, unfinished_of, is_open_rest}
-use Rattle.screen.specs.Viewer.{Viewer, is_open, is_open_viewer}
-use Rattle.screen.specs.Answers.{kept}
+use Rattle.viewer.specs.Viewer.{Viewer, is_open, is_open_viewer, kept}
 
 open-by-rest : (p : Phase) (end : End) (bytes : List ℕ) → is_open p end ≡ is_open_rest (record { phase = p; unfinished = unfinished_of p end bytes })
 open-by-rest phase.Version waiting bytes = refl

@@ -16,7 +16,7 @@ use Rattle.copy_schedule.specs.Places.{cut_destination}
 use Rattle.copy_schedule.specs.Marks.{Marks, mark_at, marked}
 use Rattle.framebuffer.specs.Picture.{straight, union_of}
 use Rattle.screen.specs.declared.Config.{Config}
-use Rattle.screen.specs.declared.place.Seat.{Seat}
+use Rattle.viewer.specs.Viewer.{KeptViewer}
 use Rattle.screen.specs.Entries.{marks_owed}
 use Rattle.screen.specs.Held.{IsSized}
 
@@ -46,7 +46,7 @@ cut-same w h set x y on =
     both : (b : Bool) → ((b && true) && true) ≡ b
     both b = elim b as (λ t. ((t && true) && true) ≡ t) [ true ↦ refl | _ ↦ refl ]
 
-pub owed-cut : (c : Config) (set cut : ℤ → ℤ → Bool) (seats : List Seat) → 1 ≤ c.width → cut ≡ cut_destination c.width c.height set (pos 0, pos 0) → All (IsSized c) seats → map (marks_owed cut) seats ≡ map (marks_owed set) seats
+pub owed-cut : (c : Config) (set cut : ℤ → ℤ → Bool) (seats : List KeptViewer) → 1 ≤ c.width → cut ≡ cut_destination c.width c.height set (pos 0, pos 0) → All (IsSized c) seats → map (marks_owed cut) seats ≡ map (marks_owed set) seats
 owed-cut c set cut [] some is sized = refl
 owed-cut c set cut (s ∷ seats) some is sized =
     let size = sized 0 s (omega arith) in

@@ -10,12 +10,11 @@ use Rattle.screen.specs.declared.Event.{Event}
 use Rattle.screen.specs.declared.Event.TheVariants.{Write, Paint, Mark, ScheduleCopy, DoCopy, Bell, CutText, Connect, Hear, Cut, Close}
 use Rattle.messages.specs.declared.Item.{Item}
 use Rattle.messages.specs.declared.Item.TheVariants as item
-use Rattle.screen.specs.Viewer.{Viewer, is_open_viewer, after_item}
-use Rattle.screen.specs.Alone.{One, step, own_step, draw_step, after, answers_from, alone, owner_of, drawing_refusal, drawn, shown_drawing, after_items, hearing, empty_screen, nothing_to_say, refuses}
-use Rattle.screen.specs.Answers.{own, is_owner, is_drawing, last_of, answer_to, picture_of, viewer_of, live_from, after_arrival, kept, entry_of, State, state}
-use Rattle.screen.specs.declared.place.Seat.{Seat}
+use Rattle.viewer.specs.Viewer.{Viewer, is_open_viewer, after_item, kept, KeptViewer}
+use Rattle.screen.specs.Alone.{One, step, own_step, draw_step, after, answers_from, alone, owner_of, drawing_refusal, drawn, shown_drawing, hearing, empty_screen, nothing_to_say, refuses}
+use Rattle.viewer.specs.Hearing.{after_items}
+use Rattle.screen.specs.Answers.{own, is_owner, is_drawing, last_of, answer_to, picture_of, viewer_of, live_from, after_arrival, entry_of, State, state}
 use Rattle.screen.specs.declared.ScreenError.TheVariants as refusals
-use Rattle.screen.specs.Entries.{entry}
 use Rattle.screen.proofs.Steps.{after-append, filter-append, live-append}
 
 -- ---- the answer to the last event
@@ -257,13 +256,6 @@ answer-close c es v = answer-hit c v es (Close v) refl ∙ go (viewer_of c v es)
     go None = refl
     go (Some w) = refl
 
-pub entries-without : (v : ℕ) (pairs : List (ℕ × Seat)) → map entry (filter (λ p. not (p.0 == v)) pairs) ≡ filter (λ p. not (p.0 == v)) (map entry pairs)
-entries-without v [] = refl
-entries-without v (pair ∷ pairs) = elim (pair.0 == v) as (λ b. map entry (cond (not b) (pair ∷ filter (λ p. not (p.0 == v)) pairs) (filter (λ p. not (p.0 == v)) pairs)) ≡ cond (not b) (entry pair ∷ filter (λ p. not (p.0 == v)) (map entry pairs)) (filter (λ p. not (p.0 == v)) (map entry pairs))) [
-  | true ↦ entries-without v pairs
-  | false ↦ ap (λ l. entry pair ∷ l) (entries-without v pairs)
-]
-
 -- ---- the picture is everyone's
 
 pub own-picture : (c : Config) (e : Event) (s : One) (o : Option (Viewer (List ℕ))) → (own_step c e s o).0.picture ≡ s.picture
@@ -380,9 +372,9 @@ pub state-find : (c : Config) (es : List Event) (v : ℕ) → find (λ p. p.0 ==
 state-find c es v = entries-find c es v (live_from [] es) (there-is c v es)
 
 -- the items' effects don't look at what is kept of the bytes
-pub kept-items : (c : Config) (items : List Item) (v : Viewer (List ℕ)) → kept (after_items c items v) ≡ after_items c items (kept v)
+pub kept-items : (c : Config) (items : List Item) (v : Viewer (List ℕ)) → kept (after_items c.width c.height items v) ≡ after_items c.width c.height items (kept v)
 kept-items c [] v = refl
-kept-items c (i ∷ items) v = kept-items c items (after_item c.width c.height i v) ∙ ap (after_items c items) (kept-item c.width c.height i v)
+kept-items c (i ∷ items) v = kept-items c items (after_item c.width c.height i v) ∙ ap (after_items c.width c.height items) (kept-item c.width c.height i v)
   where
     kept-item : (w h : ℕ) (i : Item) (v : Viewer (List ℕ)) → kept (after_item w h i v) ≡ after_item w h i (kept v)
     kept-item w h (item.Version version) v = refl
@@ -398,11 +390,11 @@ pub state-hear : (c : Config) (es : List Event) (v : ℕ) (piece : List ℕ) (wa
     → state c (es ++ Hear v piece ∷ []) ≡ record {
       config = c;
       picture = (state c es).picture;
-      viewers = map (replaced v (after_items c (new_items was.heard piece) (record (kept was) { heard = rest (was.heard ++ piece) }))) (state c es).viewers;
+      viewers = map (replaced v (after_items c.width c.height (new_items was.heard piece) (record (kept was) { heard = rest (was.heard ++ piece) }))) (state c es).viewers;
     }
 state-hear c es v piece was h =
     let items = new_items was.heard piece in
-    let now : Viewer (List ℕ) = after_items c items (record was { heard = was.heard ++ piece }) in
+    let now : Viewer (List ℕ) = after_items c.width c.height items (record was { heard = was.heard ++ piece }) in
     let s : Viewer Rest → State = λ w. record { config = c; picture = (state c es).picture; viewers = map (replaced v w) (state c es).viewers } in
     state-own c es (Hear v piece) v was now refl (λ there. refl) h (viewer-hit c v es (Hear v piece) refl ∙ ap (λ o. (own_step c (Hear v piece) (one_of c v es) o).0.viewer) h)
     ∙ ap s (kept-items c items (record was { heard = was.heard ++ piece }))

@@ -21,10 +21,10 @@ use Rattle.screen.specs.declared.Config.{Config}
 use Rattle.screen.specs.declared.Event.{Event}
 use Rattle.screen.specs.declared.Event.TheVariants as event
 use Rattle.screen.specs.declared.ScreenError.TheVariants as refusals
-use Rattle.screen.specs.declared.notices.Notice.{Notice}
-use Rattle.screen.specs.declared.notices.Notice.TheVariants as notice
-use Rattle.screen.specs.Short.{IsShort}
-use Rattle.screen.specs.Viewer.{Viewer, is_open_viewer, with_notice, does_nothing}
+use Rattle.viewer.specs.declared.notices.Notice.{Notice}
+use Rattle.viewer.specs.declared.notices.Notice.TheVariants as notice
+use Rattle.viewer.specs.Short.{IsShort}
+use Rattle.viewer.specs.Viewer.{Viewer, is_open_viewer, with_notice, does_nothing}
 use Rattle.screen.specs.Alone.{owner_of, drawing_refusal, drawn, shown_drawing}
 use Rattle.screen.specs.Shown.{Watching}
 use Rattle.screen.specs.Pictures.{is_told}

@@ -23,9 +23,9 @@ use Rattle.screen.specs.declared.Config.{Config}
 use Rattle.screen.specs.declared.Event.{Event}
 use Rattle.screen.specs.declared.Event.TheVariants.{Write, Paint, Mark as MarkEvent, ScheduleCopy, DoCopy, Bell, CutText, Connect, Hear, Cut, Close}
 use Rattle.screen.specs.declared.ScreenError.TheVariants as refusals
-use Rattle.screen.specs.Short.{IsShort}
-use Rattle.screen.specs.Viewer.{Viewer, new_viewer, is_open_viewer}
-use Rattle.screen.specs.Sending.{notice_bytes, bytes_of, with_update, sending}
+use Rattle.viewer.specs.Short.{IsShort}
+use Rattle.viewer.specs.Viewer.{Viewer, new_viewer, is_open_viewer}
+use Rattle.viewer.specs.Sending.{notice_bytes, bytes_of, with_update, sending}
 use Rattle.screen.specs.Alone.{own_step, config_refusal, is_size, hearing}
 use Rattle.screen.specs.Shown.{Watching, at_first, or_nothing, after_messages, after_piece, watched_unless_refused}
 use Rattle.screen.proofs.Watched.{Follows, piece-read}

@@ -10,7 +10,7 @@ use Rattle.screen.specs.declared.ScreenError.TheVariants as refusals
 use Rattle.screen.specs.declared.Event.{Event}
 use Rattle.screen.specs.declared.Event.TheVariants.{Write, Paint, Mark, ScheduleCopy, DoCopy, Bell, CutText, Connect, Hear, Cut, Close}
 use Rattle.screen.specs.declared.Answer.{Answer}
-use Rattle.screen.specs.Viewer.{Viewer}
+use Rattle.viewer.specs.Viewer.{Viewer}
 use Rattle.screen.specs.Alone.{One, step, own_step, after, owner_of, drawing_refusal, refuses, nothing_to_say, empty_screen, Tells, settled}
 use Rattle.screen.specs.Answers.{own, is_drawing, answer_to, picture_of, viewer_of, live_from, entry_of, State, state}
 use Rattle.screen.proofs.Steps.{after-append, live-append, own-drawing, drawings-drawing, arrival-drawing}

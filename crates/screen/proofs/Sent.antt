@@ -5,13 +5,13 @@ use Rattle.messages.specs.Reading.{is_open_rest}
 use Rattle.screen.specs.declared.Config.{Config}
 use Rattle.screen.specs.declared.Event.{Event}
 use Rattle.screen.specs.declared.Event.TheVariants.{Cut}
-use Rattle.screen.specs.Viewer.{Viewer, is_open_viewer}
-use Rattle.screen.specs.Sending.{notice_bytes, with_update, sending, sending_kept}
+use Rattle.viewer.specs.Viewer.{Viewer, is_open_viewer, kept}
+use Rattle.viewer.specs.Sending.{notice_bytes, with_update, sending, sending_kept}
 use Rattle.std.specs.Prelude.{flat_map}
-use Rattle.screen.specs.declared.notices.Notice.{Notice}
-use Rattle.screen.specs.declared.notices.Notice.TheVariants as notice
+use Rattle.viewer.specs.declared.notices.Notice.{Notice}
+use Rattle.viewer.specs.declared.notices.Notice.TheVariants as notice
 use Rattle.screen.specs.Alone.{own_step, gives}
-use Rattle.screen.specs.Answers.{viewer_of, picture_of, kept, state, answer_to}
+use Rattle.screen.specs.Answers.{viewer_of, picture_of, state, answer_to}
 use Rattle.screen.proofs.Opened.{open-kept}
 use Rattle.screen.proofs.Owners.{one_of, replaced, viewer-hit, answer-hit, one-picture, state-own}
 

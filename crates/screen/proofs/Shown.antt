@@ -13,7 +13,7 @@ use Rattle.region.specs.Region.{on_screen}
 use Rattle.screen.specs.declared.Config.{Config}
 use Rattle.screen.specs.declared.Event.{Event}
 use Rattle.screen.specs.declared.ScreenError.{ScreenError}
-use Rattle.screen.specs.Viewer.{Viewer, is_open_viewer}
+use Rattle.viewer.specs.Viewer.{Viewer, is_open_viewer}
 use Rattle.screen.specs.Alone.{One, own_step, draw_step, after, owner_of, drawing_refusal, drawn, shown_drawing, empty_screen}
 use Rattle.screen.specs.Answers.{own, answer_to, answers_after, answers, picture_of, viewer_of, live_from, entry_of, state}
 use Rattle.screen.specs.Shown.{Watching, at_first, is_its, watched_unless_refused, watching, shown_to}

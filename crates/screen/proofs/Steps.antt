@@ -6,10 +6,10 @@ use Rattle.messages.specs.Reading.{Rest, is_open_rest}
 use Rattle.screen.specs.declared.Config.{Config}
 use Rattle.screen.specs.declared.Event.{Event}
 use Rattle.screen.specs.declared.Event.TheVariants.{Write, Paint, Mark, ScheduleCopy, DoCopy, Bell, CutText, Connect, Hear, Cut, Close}
-use Rattle.screen.specs.Viewer.{Viewer, is_open_viewer}
+use Rattle.viewer.specs.Viewer.{Viewer, is_open_viewer, kept}
 use Rattle.screen.specs.Alone.{One, step, after, owner_of, drawing_refusal, drawn, shown_drawing, empty_screen}
 use Rattle.screen.proofs.Opened.{open-kept}
-use Rattle.screen.specs.Answers.{own, is_owner, is_drawing, picture_of, viewer_of, live_from, after_arrival, kept, entry_of, State, state}
+use Rattle.screen.specs.Answers.{own, is_owner, is_drawing, picture_of, viewer_of, live_from, after_arrival, entry_of, State, state}
 
 -- one event more
 pub after-append : (c : Config) (es : List Event) (e : Event) (s : One) → after c (es ++ e ∷ []) s ≡ (step c e (after c es s)).0

@@ -21,10 +21,10 @@ use Rattle.viewer_picture.specs.Messages.{rectangles_at, messages_in}
 use Rattle.viewer_picture.specs.Claims.{RectanglesAreRead}
 use Rattle.viewer_picture.proofs.Messages.{IsReadAs, changed, list-read, Reads, bell-read, text-read, update-read}
 use Rattle.viewer_picture.proofs.Cuts.{copy_of, pixel_of, update_of}
-use Rattle.screen.specs.declared.notices.Notice.{Notice}
-use Rattle.screen.specs.declared.notices.Notice.TheVariants as notice
-use Rattle.screen.specs.Short.{IsShort}
-use Rattle.screen.specs.Sending.{notice_bytes, copy_bytes, pixel_rectangle, bytes_of}
+use Rattle.viewer.specs.declared.notices.Notice.{Notice}
+use Rattle.viewer.specs.declared.notices.Notice.TheVariants as notice
+use Rattle.viewer.specs.Short.{IsShort}
+use Rattle.viewer.specs.Sending.{notice_bytes, copy_bytes, pixel_rectangle, bytes_of}
 
 -- ---- notices
 

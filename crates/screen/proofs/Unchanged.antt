@@ -6,10 +6,10 @@ use Rattle.screen.specs.declared.Config.{Config}
 use Rattle.screen.specs.declared.ScreenError.{ScreenError}
 use Rattle.screen.specs.declared.Event.{Event}
 use Rattle.screen.specs.declared.Event.TheVariants.{Write, Paint, Mark, ScheduleCopy, DoCopy, Bell, CutText, Connect, Hear, Cut, Close}
-use Rattle.screen.specs.declared.notices.Notice.{Notice}
-use Rattle.screen.specs.declared.notices.Notice.TheVariants as notice
-use Rattle.screen.specs.Viewer.{Viewer, is_open_viewer}
-use Rattle.screen.specs.Sending.{notice_bytes, update_bytes, with_update, sending}
+use Rattle.viewer.specs.declared.notices.Notice.{Notice}
+use Rattle.viewer.specs.declared.notices.Notice.TheVariants as notice
+use Rattle.viewer.specs.Viewer.{Viewer, is_open_viewer}
+use Rattle.viewer.specs.Sending.{notice_bytes, update_bytes, with_update, sending}
 use Rattle.screen.specs.Alone.{One, step, own_step, draw_step, drawing_refusal, some_bytes}
 use Rattle.screen.specs.History.{has_happened}
 

@@ -23,8 +23,9 @@ use Rattle.viewer_picture.proofs.Messages.{bytes-read}
 use Rattle.viewer_picture.proofs.Marks.{Shows, uncopied-shows, asked-shows, forgotten-shows}
 use Rattle.viewer_picture.proofs.Comes.{Comes, Come, phase_after, Following, following}
 use Rattle.screen.specs.declared.Config.{Config}
-use Rattle.screen.specs.Viewer.{Viewer, area_places, after_item}
-use Rattle.screen.specs.Alone.{after_items, hearing}
+use Rattle.viewer.specs.Viewer.{Viewer, area_places, after_item}
+use Rattle.screen.specs.Alone.{hearing}
+use Rattle.viewer.specs.Hearing.{after_items}
 use Rattle.screen.specs.Shown.{Watching, forgotten, item_at, items_at, all_read, or_nothing, after_piece}
 
 -- a viewer reads pixels in its format, and shows its picture; before it is open its format is the server's
@@ -156,9 +157,9 @@ record Items-read (c : Config) (colour : ℤ → ℤ → ℕ) (p : Phase) (items
   next : Watching
   read : items_at p items s (answers (server_init c.width c.height c.name) p items) ≡ Some (next, [])
   said : next.said ≡ s.said
-  notices : (after_items c items v).notices ≡ v.notices
-  heard : (after_items c items v).heard ≡ v.heard
-  follows : Follows c colour (phase_after p items) (after_items c items v) next
+  notices : (after_items c.width c.height items v).notices ≡ v.notices
+  heard : (after_items c.width c.height items v).heard ≡ v.heard
+  follows : Follows c colour (phase_after p items) (after_items c.width c.height items v) next
 
 items-read : (c : Config) (colour : ℤ → ℤ → ℕ) → length c.name < 2 ^ 32 → (p : Phase) (items : List Item) → Come p items → (v : Viewer (List ℕ)) (s : Watching) → Follows c colour p v s → Items-read c colour p items v s
 items-read c colour small p [] come v s f = record { next = s; read = refl; said = refl; notices = refl; heard = refl; follows = f }
@@ -187,7 +188,7 @@ piece-read c colour small piece v s same f = record {
   said = ap (λ (t : Watching). t.said) result ∙ all.said ∙ ap (λ (l : List ℕ). l ++ piece) same ∙ sym all.heard;
   notices = all.notices;
   follows = subst (λ (t : Watching). Follows c colour (heard (hearing c piece v).0.heard).phase (hearing c piece v).0 t) (sym result)
-      (subst (λ (q : Phase). Follows c colour q (after_items c items later) all.next) (sym (ap (λ (l : List ℕ). (heard l).phase) all.heard ∙ now.phase)) all.follows);
+      (subst (λ (q : Phase). Follows c colour q (after_items c.width c.height items later) all.next) (sym (ap (λ (l : List ℕ). (heard l).phase) all.heard ∙ now.phase)) all.follows);
 }
   where
     items : List Item

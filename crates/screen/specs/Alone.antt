@@ -1,24 +1,22 @@
 -- The screen with one viewer, over a list of events.
 use Rattle.std.specs.Prelude.{◌≡◌, MatchOption, MatchResult, ℕ, ◌*◌, ◌^◌, nat_le, Bool, true, false, not, ◌&&◌, ◌==◌, nat_lt, if◌then◌else◌, List, [], ◌∷◌, ◌++◌, length, ℤ, pos, ◌-ℤ◌, int_le, nat_abs, Option, Some, None, option_map, Result, Ok, Err, alloc_error}
-use Rattle.std.specs.List.{filter_map}
 use Rattle.std.specs.declared.alloc.AllocError.{AllocError}
 use Rattle.region.specs.declared.Rect.{Rect}
 use Rattle.region.specs.Region.{in_rect}
-use Rattle.messages.specs.declared.Input.{Input}
-use Rattle.messages.specs.declared.Item.{Item}
-use Rattle.messages.specs.declared.Item.TheVariants as item
-use Rattle.messages.specs.Reading.{heard, new_items, fault_of}
-use Rattle.messages.specs.Server.{server_version, server_init, answers as greetings}
+use Rattle.messages.specs.Reading.{new_items}
+use Rattle.messages.specs.Server.{server_version}
 use Rattle.screen.specs.declared.Config.{Config}
 use Rattle.screen.specs.declared.ScreenError.{ScreenError}
 use Rattle.screen.specs.declared.ScreenError.TheVariants as refusals
 use Rattle.screen.specs.declared.Event.{Event}
 use Rattle.screen.specs.declared.Event.TheVariants.{Write, Paint, Mark, ScheduleCopy, DoCopy, Bell, CutText, Connect, Hear, Cut, Close}
 use Rattle.screen.specs.declared.Answer.{Answer}
-use Rattle.screen.specs.declared.notices.Notice.TheVariants as notice
+use Rattle.viewer.specs.declared.notices.Notice.TheVariants as notice
 use Rattle.framebuffer.specs.Picture.{blank, written, copied, union_of}
-use Rattle.screen.specs.Viewer.{Viewer, new_viewer, is_open_viewer, noticed, viewer_marked, viewer_copied, after_item}
-use Rattle.screen.specs.Sending.{sending}
+use Rattle.viewer.specs.Viewer.{Viewer, new_viewer, is_open_viewer, noticed, viewer_marked, viewer_copied}
+use Rattle.viewer.specs.declared.Reply.{Reply}
+use Rattle.viewer.specs.Hearing.{after_items, heard_reply}
+use Rattle.viewer.specs.Sending.{sending}
 
 abbrev pub nothing_to_say : Answer
 nothing_to_say = record { bytes = []; inputs = []; closed = None; refused = None }
@@ -103,27 +101,16 @@ shown_drawing c _ open_now v = v
 
 -- A viewer's own events.
 
-abbrev pub input_of : Item → Option Input
-input_of (item.Input input) = Some input
-input_of _ = None
-
-abbrev pub after_items : {B : Type 0} → Config → List Item → Viewer B → Viewer B
-after_items c [] v = v
-after_items c (i ∷ is) v = after_items c is (after_item c.width c.height i v)
+abbrev pub answer_of : Reply → Answer
+answer_of r = record { bytes = r.bytes; inputs = r.inputs; closed = r.closed; refused = None }
 
 -- 7.1 to 7.5: what a viewer is answered to a piece that comes behind its bytes so far
 abbrev pub heard_answer : Config → List ℕ → List ℕ → Answer
-heard_answer c before piece =
-    let items = new_items before piece in record {
-      bytes = greetings (server_init c.width c.height c.name) (heard before).phase items;
-      inputs = filter_map input_of items;
-      closed = fault_of (heard (before ++ piece)).end;
-      refused = None;
-    }
+heard_answer c before piece = answer_of (heard_reply c.width c.height c.name before piece)
 
 -- 7.1 to 7.5: the viewer after a piece of its bytes, and what it is answered
 abbrev pub hearing : Config → List ℕ → Viewer (List ℕ) → Viewer (List ℕ) × Answer
-hearing c piece v = (after_items c (new_items v.heard piece) (record v { heard = v.heard ++ piece }), heard_answer c v.heard piece)
+hearing c piece v = (after_items c.width c.height (new_items v.heard piece) (record v { heard = v.heard ++ piece }), heard_answer c v.heard piece)
 
 -- The machine.
 

@@ -1,7 +1,8 @@
 -- What a screen keeps true of itself.
 use Rattle.std.specs.Prelude.{◌≡◌, ℕ, ◌*◌, ◌^◌, ◌≤◌, List, length, All}
 use Rattle.screen.specs.declared.Config.{Config}
-use Rattle.screen.specs.declared.place.Seat.{Seat}
+use Rattle.framebuffer.specs.Frame.{Frame}
+use Rattle.viewer.specs.Viewer.{KeptViewer}
 
 -- a screen's configuration is within the limits
 pub record IsAccepted (c : Config) : Type 0 where
@@ -15,12 +16,13 @@ pub record IsAccepted (c : Config) : Type 0 where
   pub rectangles : c.rects_per_update ≤ 1000
 
 -- a viewer's marks are of a screen's size
-pub record IsSized (c : Config) (s : Seat) : Type 0 where
-  pub width : s.marks.width ≡ c.width
-  pub height : s.marks.height ≡ c.height
+pub record IsSized (c : Config) (v : KeptViewer) : Type 0 where
+  pub width : v.marks.width ≡ c.width
+  pub height : v.marks.height ≡ c.height
 
--- there is a colour for each place, and a mark
-pub record IsHeld (c : Config) (picture : List ℕ) (seats : List Seat) : Type 0 where
+-- there is a colour for each place, and a mark of each viewer
+pub record IsHeld (c : Config) (picture : Frame) (viewers : List KeptViewer) : Type 0 where
   pub accepted : IsAccepted c
-  pub size : length picture ≡ c.width * c.height
-  pub sized : All (IsSized c) seats
+  pub width : picture.width ≡ c.width
+  pub height : picture.height ≡ c.height
+  pub sized : All (IsSized c) viewers

@@ -1,8 +1,3 @@
-pub mod Short
-pub mod Updates
-pub mod Given
-pub mod Viewer
-pub mod Sending
 pub mod Alone
 pub mod Answers
 pub mod Claims

@@ -1,11 +1,12 @@
 //! What calls answered, as answers to events.
 
 ghost use Rattle.std.specs.Prelude.{◌≡◌, MatchResult};
-ghost use Rattle.screen.specs.Alone.{nothing_to_say, gives, refuses, settled};
+ghost use Rattle.screen.specs.Alone.{nothing_to_say, gives, refuses, settled, answer_of};
 
 use crate::{Answer, ScreenError};
 use listed::Listed;
 use std::alloc::{AllocError, Global};
+use viewer::Reply;
 
 /// Bytes for the viewer, and nothing else.
 pub fn with_bytes(
@@ -21,6 +22,18 @@ pub fn with_bytes(
         closed: None,
         refused: None,
     })
+}
+
+/// What a viewer's bytes gave.
+pub fn with_reply(reply: Reply) -> Answer
+    ensures { result ≡ answer_of reply }
+{
+    Answer {
+        bytes: reply.bytes,
+        inputs: reply.inputs,
+        closed: reply.closed,
+        refused: None,
+    }
 }
 
 /// Nothing to say.

@@ -10,39 +10,27 @@ ghost use Rattle.region.specs.Region.{covers, in_rect};
 ghost use Rattle.region.specs.Held.{in_range};
 ghost use Rattle.copy_schedule.specs.Marks.{same_offset, IsCutTo, IsOnScreen};
 ghost use Rattle.framebuffer.specs.Picture.{union_of};
-ghost use Rattle.screen.specs.declared.notices.Notice.{Notice};
-ghost use Rattle.screen.specs.Short.{IsShort};
+ghost use Rattle.viewer.specs.declared.notices.Notice.{Notice};
+ghost use Rattle.viewer.specs.Short.{IsShort};
 ghost use Rattle.screen.specs.Held.{IsSized};
-ghost use Rattle.screen.specs.Entries.{seat_noticed, marks_owed, marks_copied, with_marks_of};
+ghost use Rattle.screen.specs.Entries.{viewer_noticed, marks_owed, marks_copied, with_marks_of};
 
 use crate::Config;
-use crate::notices::Notice;
-use crate::place::Seat;
 use client_list::Clients;
-use copy_schedule::Prepared;
 use framebuffer::destinations;
 use listed::Listed;
 use region::{Rect, Region, RegionError};
 use std::alloc::{AllocError, Global};
-
-/// A viewer keeps a notice, where it is open.
-fn keep_notice(seat: &mut Seat, notice: Notice)
-    requires { IsShort notice }
-    ensures { seat.new ≡ seat_noticed notice seat.old }
-{
-    if seat.ear.is_open() {
-        seat.notices.keep(notice);
-    }
-}
+use viewer::{Notice, Prepared, Viewer};
 
 /// Each viewer keeps a Bell, where it is open.
-pub fn ring_all(clients: &mut Clients<Seat>)
-    ensures { clients.new.pairs ≡ changed (seat_noticed Notice.Bell) clients.old.pairs }
+pub fn ring_all(viewers: &mut Clients<Viewer>)
+    ensures { viewers.new.pairs ≡ changed (viewer_noticed Notice.Bell) viewers.old.pairs }
 {
-    let mut place = clients.first();
+    let mut place = viewers.first();
     while let Some(at) = place {
-        keep_notice(clients.at_mut(at), Notice::Bell);
-        place = clients.next(at);
+        viewers.at_mut(at).keep(Notice::Bell);
+        place = viewers.next(at);
     }
 }
 
@@ -59,18 +47,18 @@ pub fn texts(alloc: Global, text: &[u8], count: usize) -> Result<Vec<Notice>, Al
 }
 
 /// Each viewer keeps one of the texts, where it is open.
-pub fn tell_all(clients: &mut Clients<Seat>, text: &[u8], notices: Vec<Notice>)
+pub fn tell_all(viewers: &mut Clients<Viewer>, text: &[u8], notices: Vec<Notice>)
     requires short { length text.now ≤ 2 ^ 16 }
-    requires texts { notices.items ≡ replicate (length clients.old.pairs) (Notice.CutText text.now) }
-    ensures { clients.new.pairs ≡ changed (seat_noticed (Notice.CutText text.now)) clients.old.pairs }
+    requires texts { notices.items ≡ replicate (length viewers.old.pairs) (Notice.CutText text.now) }
+    ensures { viewers.new.pairs ≡ changed (viewer_noticed (Notice.CutText text.now)) viewers.old.pairs }
 {
     let mut notices = notices;
-    let mut place = clients.first();
+    let mut place = viewers.first();
     while let Some(at) = place {
         if let Some(notice) = notices.pop() {
-            keep_notice(clients.at_mut(at), notice);
+            viewers.at_mut(at).keep(notice);
         }
-        place = clients.next(at);
+        place = viewers.next(at);
     }
 }
 
@@ -109,17 +97,16 @@ fn region_of_rect(alloc: Global, rect: Rect) -> Result<Region, AllocError>
 /// The marks of each viewer once the region's places are owed.
 pub fn marks_with_region(
     alloc: Global,
-    clients: &Clients<Seat>,
+    viewers: &Clients<Viewer>,
     region: &Region,
 ) -> Result<Vec<Prepared>, AllocError>
-    ensures { IfOk result (λ all. all.items ≡ map (marks_owed (covers region.now.list)) (values_of clients.now.pairs)) }
+    ensures { IfOk result (λ all. all.items ≡ map (marks_owed (covers region.now.list)) (values_of viewers.now.pairs)) }
 {
-    let mut all = Vec::with_capacity(alloc, clients.len())?;
-    let mut place = clients.first();
+    let mut all = Vec::with_capacity(alloc, viewers.len())?;
+    let mut place = viewers.first();
     while let Some(at) = place {
-        let seat = clients.at(at);
-        all.push(seat.marks.prepare_mark(region)?)?;
-        place = clients.next(at);
+        all.push(viewers.at(at).prepare_mark(region)?)?;
+        place = viewers.next(at);
     }
     Ok(all)
 }
@@ -127,17 +114,17 @@ pub fn marks_with_region(
 /// The marks of each viewer once the places of a rectangle of the screen are owed.
 pub fn marks_with_rect(
     alloc: Global,
-    clients: &Clients<Seat>,
+    viewers: &Clients<Viewer>,
     rect: Rect,
 ) -> Result<Vec<Prepared>, AllocError>
     requires { in_range rect ≡ true }
-    ensures { IfOk result (λ all. all.items ≡ map (marks_owed (in_rect rect)) (values_of clients.now.pairs)) }
+    ensures { IfOk result (λ all. all.items ≡ map (marks_owed (in_rect rect)) (values_of viewers.now.pairs)) }
 {
-    if clients.is_empty() {
+    if viewers.is_empty() {
         return Ok(Vec::new(alloc));
     }
     let region = region_of_rect(alloc, rect)?;
-    marks_with_region(alloc, clients, &region)
+    marks_with_region(alloc, viewers, &region)
 }
 
 /// The marks of each viewer once the places of rectangles, as far as they are on the screen, are owed. Corners may stand in the
@@ -145,47 +132,38 @@ pub fn marks_with_rect(
 pub fn marks_with_rects(
     alloc: Global,
     config: &Config,
-    clients: &Clients<Seat>,
+    viewers: &Clients<Viewer>,
     rects: &[Rect],
 ) -> Result<Vec<Prepared>, AllocError>
     requires some_columns { 1 ≤ config.now.width }
     requires columns { config.now.width ≤ 8192 }
     requires rows { config.now.height ≤ 8192 }
-    requires sized { All (IsSized config.now) (values_of clients.now.pairs) }
-    ensures { IfOk result (λ all. all.items ≡ map (marks_owed (union_of rects.now)) (values_of clients.now.pairs)) }
+    requires sized { All (IsSized config.now) (values_of viewers.now.pairs) }
+    ensures { IfOk result (λ all. all.items ≡ map (marks_owed (union_of rects.now)) (values_of viewers.now.pairs)) }
 {
-    if clients.is_empty() {
+    if viewers.is_empty() {
         return Ok(Vec::new(alloc));
     }
     let pieces = destinations(alloc, rects, 0, 0, config.width, config.height)?;
     let region = region_of(alloc, &pieces)?;
-    marks_with_region(alloc, clients, &region)
-}
-
-/// A viewer's marks once a copy by (dx, dy) drew the region.
-fn copied_marks(seat: &Seat, region: &Region, offset: (i32, i32)) -> Result<Prepared, AllocError>
-    requires cut { IsCutTo seat.now.marks.width seat.now.marks.height offset region.now.list }
-    ensures { IfOk result (λ marks. marks ≡ marks_copied (covers region.now.list) offset seat.now) }
-{
-    seat.marks
-        .prepare_copy(region, offset.0, offset.1, seat.uses_copyrect)
+    marks_with_region(alloc, viewers, &region)
 }
 
 /// The marks of each viewer once a copy by (dx, dy) drew the region.
 fn marks_with_copied_region(
     alloc: Global,
-    clients: &Clients<Seat>,
+    viewers: &Clients<Viewer>,
     region: &Region,
     offset: (i32, i32),
 ) -> Result<Vec<Prepared>, AllocError>
-    requires cut { All (λ s. IsCutTo s.marks.width s.marks.height offset region.now.list) (values_of clients.now.pairs) }
-    ensures { IfOk result (λ all. all.items ≡ map (marks_copied (covers region.now.list) offset) (values_of clients.now.pairs)) }
+    requires cut { All (λ s. IsCutTo s.marks.width s.marks.height offset region.now.list) (values_of viewers.now.pairs) }
+    ensures { IfOk result (λ all. all.items ≡ map (marks_copied (covers region.now.list) offset) (values_of viewers.now.pairs)) }
 {
-    let mut all = Vec::with_capacity(alloc, clients.len())?;
-    let mut place = clients.first();
+    let mut all = Vec::with_capacity(alloc, viewers.len())?;
+    let mut place = viewers.first();
     while let Some(at) = place {
-        all.push(copied_marks(clients.at(at), region, offset)?)?;
-        place = clients.next(at);
+        all.push(viewers.at(at).prepare_copy(region, offset.0, offset.1)?)?;
+        place = viewers.next(at);
     }
     Ok(all)
 }
@@ -193,33 +171,32 @@ fn marks_with_copied_region(
 /// The marks of each viewer once a copy by (dx, dy) drew rectangles, which are on the screen with their sources.
 pub fn marks_with_copy(
     alloc: Global,
-    clients: &Clients<Seat>,
+    viewers: &Clients<Viewer>,
     rects: &[Rect],
     offset: (i32, i32),
 ) -> Result<Vec<Prepared>, AllocError>
     requires inside { All (IsOnScreen 8192 8192) rects.now }
-    requires cut { All (λ s. IsCutTo s.marks.width s.marks.height offset rects.now) (values_of clients.now.pairs) }
-    ensures { IfOk result (λ all. all.items ≡ map (marks_copied (covers rects.now) offset) (values_of clients.now.pairs)) }
+    requires cut { All (λ s. IsCutTo s.marks.width s.marks.height offset rects.now) (values_of viewers.now.pairs) }
+    ensures { IfOk result (λ all. all.items ≡ map (marks_copied (covers rects.now) offset) (values_of viewers.now.pairs)) }
 {
-    if clients.is_empty() {
+    if viewers.is_empty() {
         return Ok(Vec::new(alloc));
     }
     let region = region_of(alloc, rects)?;
-    marks_with_copied_region(alloc, clients, &region, offset)
+    marks_with_copied_region(alloc, viewers, &region, offset)
 }
 
 /// Each viewer's marks are the prepared ones from now on, the first viewer's the first. This takes no memory.
-pub fn commit_all(clients: &mut Clients<Seat>, mut all: Vec<Prepared>)
-    requires { length all.items ≡ length clients.old.pairs }
-    ensures { clients.new.pairs ≡ with_marks_of clients.old.pairs all.items }
+pub fn commit_all(viewers: &mut Clients<Viewer>, mut all: Vec<Prepared>)
+    requires { length all.items ≡ length viewers.old.pairs }
+    ensures { viewers.new.pairs ≡ with_marks_of viewers.old.pairs all.items }
 {
     all.reverse();
-    let mut place = clients.first();
+    let mut place = viewers.first();
     while let Some(at) = place {
         if let Some(prepared) = all.pop() {
-            let seat = clients.at_mut(at);
-            seat.marks.commit(prepared);
+            viewers.at_mut(at).commit(prepared);
         }
-        place = clients.next(at);
+        place = viewers.next(at);
     }
 }

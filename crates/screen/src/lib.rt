@@ -2,16 +2,11 @@
 #![tactic(auto)]
 
 mod answers;
-mod cutting;
+mod arriving;
 mod drawing;
 mod limits;
-mod notices;
-mod parts;
-mod place;
 mod runs;
 mod screen;
-mod seat;
-mod update;
 
 use listed::Listed;
 use messages::{Fault, Input};
@@ -19,7 +14,7 @@ use region::Rect;
 pub use runs::{pictures_are_shown, run, viewers_are_alone};
 pub use screen::Screen;
 use std::alloc::{AllocError, AllocFailed};
-pub use update::Update;
+pub use viewer::Update;
 
 /// What a screen is made with.
 #[derive(Debug, Drop)]

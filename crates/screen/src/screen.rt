@@ -1,52 +1,48 @@
 //! The screen: each call is one hold of it, and leaves it standing for the list of events so far.
 
-ghost use Rattle.std.specs.Prelude.{◌≡◌, ◌≢◌, ◌++◌, ◌∷◌, [], List, IfSome, replicate, IfOk, OnOk, OnErr, MatchOption, IsOkUnless};
+ghost use Rattle.std.specs.Prelude.{◌≡◌, ◌≢◌, ◌++◌, ◌∷◌, [], List, IfSome, IfOk, OnOk, OnErr, MatchOption, IsOkUnless};
 ghost use Rattle.screen.specs.declared.Config.{Config};
 ghost use Rattle.screen.specs.declared.Event.{Event};
 ghost use Rattle.screen.specs.Alone.{config_refusal, nothing_to_say, gives, something_to_send, told, Tells};
-ghost use Rattle.screen.specs.Given.{bytes_given};
+ghost use Rattle.viewer.specs.Given.{bytes_given};
 ghost use Rattle.screen.specs.Answers.{state, answer_to};
 
-use crate::answers::{settled, with_bytes, with_nothing};
-use crate::cutting::{cut_bytes_in, cut_in};
+use crate::answers::{settled, with_bytes, with_nothing, with_reply};
+use crate::arriving::let_in;
 use crate::drawing::{
     commit_all, marks_with_copy, marks_with_rect, marks_with_rects, marks_with_region,
     moves_nothing, ring_all, tell_all, texts,
 };
 use crate::limits::{checked, refusal_of};
-use crate::place::Seat;
-use crate::seat::{hear_in, is_pending, seat_viewer};
-use crate::update::Update;
 use crate::{Answer, Config, Event, ScreenError};
 use client_list::Clients;
-use framebuffer::{destinations, move_colours, replace};
+use framebuffer::{Framebuffer, destinations};
 use listed::Listed;
 use region::{Rect, Region};
 use std::alloc::{AllocError, Global};
 use std::marker::Model;
+use viewer::{Update, Viewer};
 
 /// A screen with its viewers: one framebuffer, drawn in by the application.
 #[derive(Drop)]
 pub struct Screen {
     alloc: Global,
     config: Config,
-    picture: Vec<u32>,
-    clients: Clients<Seat>,
+    picture: Framebuffer,
+    viewers: Clients<Viewer>,
 }
 
 impl Model for Screen {
-    ghost use Rattle.std.specs.Prelude.{map};
     ghost use Rattle.std.specs.Map.{values_of};
     ghost use Rattle.screen.specs.Answers.{State};
 
     ghost Value = { State };
 
-    ghost use Rattle.screen.specs.Entries.{entry};
     ghost use Rattle.screen.specs.Held.{IsHeld};
 
-    ghost view = { λ a. record { config = a.config; picture = a.picture.items; viewers = map entry a.clients.pairs } };
+    ghost view = { λ a. record { config = a.config; picture = a.picture.colours; viewers = a.viewers.pairs } };
 
-    ghost invariant = { λ a. IsHeld a.config a.picture.items (values_of a.clients.pairs) };
+    ghost invariant = { λ a. IsHeld a.config a.picture (values_of a.viewers.pairs) };
 }
 
 impl Screen {
@@ -59,12 +55,12 @@ impl Screen {
         if let Some(error) = refusal_of(&config) {
             return Err(error);
         }
-        let picture = blank(alloc, config.width as usize * config.height as usize)?;
+        let picture = Framebuffer::new(alloc, config.width, config.height)?;
         Ok(Screen {
             alloc,
             config,
             picture,
-            clients: Clients::new(alloc),
+            viewers: Clients::new(alloc),
         })
     }
 
@@ -79,15 +75,9 @@ impl Screen {
         ensures err { OnErr result (self.new ≡ self.old) }
     {
         let block = checked(&self.config, rect, colours)?;
-        let marks = marks_with_rect(self.alloc, &self.clients, rect)?;
-        replace(
-            &mut self.picture,
-            self.config.width,
-            self.config.height,
-            block,
-            colours,
-        );
-        commit_all(&mut self.clients, marks);
+        let marks = marks_with_rect(self.alloc, &self.viewers, rect)?;
+        self.picture.write(block, colours)?;
+        commit_all(&mut self.viewers, marks);
         Ok(())
     }
 
@@ -100,14 +90,8 @@ impl Screen {
             Tells (λ _. nothing_to_say) result (answer_to config list (Event.Write rect colours.now)) }
         ensures err { OnErr result (self.new ≡ self.old) }
     {
-        let written = checked(&self.config, rect, colours)?;
-        replace(
-            &mut self.picture,
-            self.config.width,
-            self.config.height,
-            written,
-            colours,
-        );
+        let block = checked(&self.config, rect, colours)?;
+        self.picture.write(block, colours)?;
         Ok(())
     }
 
@@ -119,8 +103,8 @@ impl Screen {
             Tells (λ _. nothing_to_say) result (answer_to config list (Event.Mark rects.now)) }
         ensures err { OnErr result (self.new ≡ self.old) }
     {
-        let marks = marks_with_rects(self.alloc, &self.config, &self.clients, rects)?;
-        commit_all(&mut self.clients, marks);
+        let marks = marks_with_rects(self.alloc, &self.config, &self.viewers, rects)?;
+        commit_all(&mut self.viewers, marks);
         Ok(())
     }
 
@@ -147,8 +131,8 @@ impl Screen {
         ensures err { OnErr result (self.new ≡ self.old) }
     {
         region.has_canonical_list();
-        let marks = marks_with_region(self.alloc, &self.clients, region)?;
-        commit_all(&mut self.clients, marks);
+        let marks = marks_with_region(self.alloc, &self.viewers, region)?;
+        commit_all(&mut self.viewers, marks);
         Ok(())
     }
 
@@ -172,8 +156,8 @@ impl Screen {
         if moves_nothing(&pieces, (dx, dy)) {
             return Ok(());
         }
-        let marks = marks_with_copy(self.alloc, &self.clients, &pieces, (dx, dy))?;
-        commit_all(&mut self.clients, marks);
+        let marks = marks_with_copy(self.alloc, &self.viewers, &pieces, (dx, dy))?;
+        commit_all(&mut self.viewers, marks);
         Ok(())
     }
 
@@ -230,17 +214,9 @@ impl Screen {
         if moves_nothing(&pieces, (dx, dy)) {
             return Ok(());
         }
-        let mut row = vec![in self.alloc; 0u32; width as usize]?;
-        let marks = marks_with_copy(self.alloc, &self.clients, &pieces, (dx, dy))?;
-        move_colours(
-            &mut self.picture,
-            width,
-            height,
-            &pieces,
-            (dx, dy),
-            &mut row,
-        );
-        commit_all(&mut self.clients, marks);
+        let marks = marks_with_copy(self.alloc, &self.viewers, &pieces, (dx, dy))?;
+        self.picture.move_colours(&pieces, (dx, dy))?;
+        commit_all(&mut self.viewers, marks);
         Ok(())
     }
 
@@ -288,7 +264,7 @@ impl Screen {
             Tells (λ _. nothing_to_say) result (answer_to config list (Event.Bell)) }
         ensures err { OnErr result (self.new ≡ self.old) }
     {
-        ring_all(&mut self.clients);
+        ring_all(&mut self.viewers);
         Ok(())
     }
 
@@ -304,8 +280,8 @@ impl Screen {
         if text.len() > 1 << 16 {
             return Err(ScreenError::TextTooLong);
         }
-        let notices = texts(self.alloc, text, self.clients.len())?;
-        tell_all(&mut self.clients, text, notices);
+        let notices = texts(self.alloc, text, self.viewers.len())?;
+        tell_all(&mut self.viewers, text, notices);
         Ok(())
     }
 
@@ -318,10 +294,15 @@ impl Screen {
             Tells gives result (answer_to config list (Event.Connect number)) }
         ensures err { OnErr result (self.new ≡ self.old) }
     {
-        if self.clients.place_of(number).is_some() {
+        if self.viewers.place_of(number).is_some() {
             return Err(ScreenError::NumberInUse);
         }
-        Ok(seat_viewer(self.alloc, &self.config, &mut self.clients, number)?)
+        Ok(let_in(
+            self.alloc,
+            &self.config,
+            &mut self.viewers,
+            number,
+        )?)
     }
 
     /// Closes a viewer's connection. Refused as `NoViewer` where there is none with the number.
@@ -332,7 +313,7 @@ impl Screen {
             told (λ _. nothing_to_say) result ≡ answer_to config list (Event.Close number) }
         ensures err { OnErr result (self.new ≡ self.old) }
     {
-        match self.clients.remove(number) {
+        match self.viewers.remove(number) {
             Ok(_) => Ok(()),
             Err(_) => Err(ScreenError::NoViewer),
         }
@@ -348,10 +329,11 @@ impl Screen {
             Tells (λ a. a) result (answer_to config list (Event.Hear number piece.now)) }
         ensures err { OnErr result (self.new ≡ self.old) }
     {
-        let Some(seat) = self.clients.get_mut(number) else {
+        let Some(viewer) = self.viewers.get_mut(number) else {
             return Err(ScreenError::NoViewer);
         };
-        Ok(hear_in(self.alloc, &self.config, seat, piece)?)
+        let reply = viewer.hear(self.config.name.as_slice(), piece)?;
+        Ok(with_reply(reply))
     }
 
     /// Whether a cut now would give something. Refused as `NoViewer` where there is no viewer with
@@ -360,10 +342,10 @@ impl Screen {
         ensures { (config : Config) (list : List Event) → self.now ≡ state config list →
             result ≡ something_to_send (answer_to config list (Event.Cut number)) }
     {
-        let Some(seat) = self.clients.get(number) else {
+        let Some(viewer) = self.viewers.get(number) else {
             return Err(ScreenError::NoViewer);
         };
-        Ok(is_pending(seat))
+        Ok(viewer.is_pending())
     }
 
     /// Cuts an update for a viewer: its rectangles, with copies of their colours; None where there is
@@ -376,10 +358,10 @@ impl Screen {
         ensures some { IfOk result (λ update. IfSome update (λ u. u ≢ [])) }
         ensures err { OnErr result (self.new ≡ self.old) }
     {
-        let Some(seat) = self.clients.get_mut(number) else {
+        let Some(viewer) = self.viewers.get_mut(number) else {
             return Err(ScreenError::NoViewer);
         };
-        Ok(cut_in(self.alloc, &self.config, &self.picture, seat)?)
+        Ok(viewer.cut(&self.picture, self.config.rects_per_update)?)
     }
 
     /// The same, encoded before the viewer changes.
@@ -390,10 +372,10 @@ impl Screen {
             Tells gives result (answer_to config list (Event.Cut number)) }
         ensures err { OnErr result (self.new ≡ self.old) }
     {
-        let Some(seat) = self.clients.get_mut(number) else {
+        let Some(viewer) = self.viewers.get_mut(number) else {
             return Err(ScreenError::NoViewer);
         };
-        let bytes = cut_bytes_in(self.alloc, &self.config, &self.picture, seat)?;
+        let bytes = viewer.cut_bytes(&self.picture, self.config.rects_per_update)?;
         Ok(Listed::from_vec(bytes))
     }
 
@@ -463,11 +445,4 @@ impl Screen {
         let given = self.step(event);
         settled(self.alloc, given)
     }
-}
-
-/// The picture of so many places, 0 everywhere.
-fn blank(alloc: Global, places: usize) -> Result<Vec<u32>, AllocError>
-    ensures { IfOk result (λ picture. picture.items ≡ replicate places 0) }
-{
-    vec![in alloc; 0u32; places]
 }

@@ -7,9 +7,9 @@ use Rattle.screen.proofs.drawing.commit_all.Given as goal
 -- the viewers that were passed have their marks, and those of the others are left, the last one's first
 abbrev pub invariant-loop-place : goal.invariant-loop-place
 invariant-loop-place l = record {
-  walk : IsWalk l.fn.clients (with_marks_of l.fn.clients.pairs l.fn.all.items) l.clients l.place;
-  left : l.all.items ≡ reverse (drop (passed l.clients l.place) l.fn.all.items);
+  walk : IsWalk l.fn.viewers (with_marks_of l.fn.viewers.pairs l.fn.all.items) l.viewers l.place;
+  left : l.all.items ≡ reverse (drop (passed l.viewers l.place) l.fn.all.items);
 }
 
 abbrev pub decreases-loop-place : goal.decreases-loop-place
-decreases-loop-place l = length l.clients.places - passed l.clients l.place
+decreases-loop-place l = length l.viewers.places - passed l.viewers l.place

@@ -9,9 +9,9 @@ use Rattle.screen.proofs.drawing.marks_with_region.Given as goal
 -- the marks of the viewers that were passed
 abbrev pub invariant-loop-place : goal.invariant-loop-place
 invariant-loop-place l = record {
-  place : IfSome l.place (IsPlace l.clients);
-  made : l.all.items ≡ take (passed l.clients l.place) (map (marks_owed (covers l.region.list)) (values_of l.clients.pairs));
+  place : IfSome l.place (IsPlace l.viewers);
+  made : l.all.items ≡ take (passed l.viewers l.place) (map (marks_owed (covers l.region.list)) (values_of l.viewers.pairs));
 }
 
 abbrev pub decreases-loop-place : goal.decreases-loop-place
-decreases-loop-place l = length l.clients.places - passed l.clients l.place
+decreases-loop-place l = length l.viewers.places - passed l.viewers l.place

@@ -1,14 +1,14 @@
 use Rattle.client_list.proofs.Walks.{change_step}
-use Rattle.screen.specs.declared.notices.Notice.TheVariants as notice
-use Rattle.screen.specs.Entries.{seat_noticed}
+use Rattle.viewer.specs.declared.notices.Notice.TheVariants as notice
+use Rattle.screen.specs.Entries.{viewer_noticed}
 use Rattle.screen.proofs.drawing.ring_all.Goals as goal
 
 pub loop-place-preserved : goal.loop-place-preserved
 loop-place-preserved c =
     change_step
-    (seat_noticed notice.Bell)
-    c.args.clients.now
-    c.loop-place.clients
+    (viewer_noticed notice.Bell)
+    c.args.viewers.now
+    c.loop-place.viewers
     c.loop-place.place
     c.next-place.result
     c.in-Some.at

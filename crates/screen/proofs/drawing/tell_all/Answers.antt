@@ -2,10 +2,10 @@ use Rattle.std.proofs.Common.{◌≡◌, ◌<◌, ℕ, ◌-◌, length, replicat
 use Rattle.client_list.specs.Connected.{Connected, IsPlace, index_of, passed}
 use Rattle.client_list.proofs.IndexLemmas.{index_within}
 use Rattle.client_list.proofs.Walks.{change_step, walk_place}
-use Rattle.screen.specs.declared.notices.Notice.{Notice}
-use Rattle.screen.specs.declared.notices.Notice.TheVariants as notice
-use Rattle.screen.specs.declared.place.Seat.{Seat}
-use Rattle.screen.specs.Entries.{seat_noticed}
+use Rattle.viewer.specs.declared.notices.Notice.{Notice}
+use Rattle.viewer.specs.declared.notices.Notice.TheVariants as notice
+use Rattle.viewer.specs.Viewer.{KeptViewer}
+use Rattle.screen.specs.Entries.{viewer_noticed}
 use Rattle.screen.proofs.LoopLemmas.{replicate-taken, replicate-some}
 use Rattle.screen.proofs.drawing.tell_all.Goals as goal
 use Rattle.screen.proofs.drawing.tell_all.Goals.{in-Some-pop, in_default-pop}
@@ -13,8 +13,8 @@ use Rattle.screen.proofs.drawing.tell_all.Goals.{in-Some-pop, in_default-pop}
 pub loop-place-preserved : goal.loop-place-preserved
 loop-place-preserved c =
     let text : Notice = notice.CutText c.args.text.now in
-    let start : Connected Seat = c.args.clients.now in
-    let now : Connected Seat = c.loop-place.clients in
+    let start : Connected KeptViewer = c.args.viewers.now in
+    let now : Connected KeptViewer = c.loop-place.viewers in
     let n : ℕ = index_of now.places c.in-Some.at in
     let there : IsPlace now c.in-Some.at = walk_place now c.loop-place.place c.in-Some.at c.in-Some.is c.loop-place.invariant.walk.place in
     let same : length now.places ≡ length start.places = ap length c.loop-place.invariant.walk.places in
@@ -23,11 +23,11 @@ loop-place-preserved c =
     elim c.match-pop.branch [
       | in-Some-pop w ↦
           let taken = replicate-taken (length start.places) n text w.in-Some-pop.notice c.loop-place.notices.items c.pop.new.self.items below left w.in-Some-pop.ensures.items in
-          let step = rw w.clients-is at c.next-place.ensures.passed in
-          rw w.clients-is (record {
+          let step = rw w.viewers-is at c.next-place.ensures.passed in
+          rw w.viewers-is (record {
             walk =
-                change_step (seat_noticed text) start now c.loop-place.place c.next-place.result c.in-Some.at w.at_mut.result.now w.keep_notice.new.seat c.loop-place.invariant.walk c.in-Some.is w.at_mut.ensures.value
-                (w.keep_notice.ensures ∙ ap (λ (t : Notice). seat_noticed t w.at_mut.result.now) taken.1) (rw w.clients-is at c.next-place.ensures.place) step;
+                change_step (viewer_noticed text) start now c.loop-place.place c.next-place.result c.in-Some.at w.at_mut.result.now w.keep_notice.new.seat c.loop-place.invariant.walk c.in-Some.is w.at_mut.ensures.value
+                (w.keep_notice.ensures ∙ ap (λ (t : Notice). viewer_noticed t w.at_mut.result.now) taken.1) (rw w.viewers-is at c.next-place.ensures.place) step;
             left = taken.0 ∙ sym (ap (λ (m : ℕ). replicate (length start.places - m) text) step);
           })
       | in_default-pop w ↦ absurd (replicate-some (length start.places) n text c.loop-place.notices.items below left (search rules))

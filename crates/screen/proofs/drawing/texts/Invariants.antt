@@ -1,5 +1,5 @@
 use Rattle.std.proofs.Common.{◌≡◌, ◌≤◌, ◌-◌, length, replicate}
-use Rattle.screen.specs.declared.notices.Notice.TheVariants as notice
+use Rattle.viewer.specs.declared.notices.Notice.TheVariants as notice
 use Rattle.screen.proofs.drawing.texts.Given as goal
 
 -- so many texts as there are

@@ -1,21 +1,22 @@
 use Rattle.std.proofs.Common.{ap, ◌∙◌, map, List, refl}
 use Rattle.screen.specs.declared.Event.TheVariants.{Bell}
-use Rattle.screen.specs.declared.notices.Notice.TheVariants as notice
+use Rattle.viewer.specs.declared.notices.Notice.TheVariants as notice
 use Rattle.screen.specs.Answers.{State}
-use Rattle.screen.specs.Entries.{entry, seat_noticed}
+use Rattle.screen.specs.Entries.{viewer_noticed}
 use Rattle.screen.proofs.Drawn.{state-drawn, sized-changed}
 use Rattle.screen.proofs.screen.Screen.bell.Goals as goal
 
 pub invariant_of-self : goal.invariant_of-self
 invariant_of-self c = record {
   accepted = c.self.invariant.accepted;
-  size = c.self.invariant.size;
-  sized = rw c.ring_all.ensures (sized-changed c.self.inside.config (seat_noticed notice.Bell) c.self.inside.clients.pairs (λ s was. record { width = was.width; height = was.height }) c.self.invariant.sized);
+  width = c.self.invariant.width;
+  height = c.self.invariant.height;
+  sized = rw c.ring_all.ensures (sized-changed c.self.inside.config (viewer_noticed notice.Bell) c.self.inside.viewers.pairs (λ s was. record { width = was.width; height = was.height }) c.self.invariant.sized);
 }
 
 pub returns-clause-step : goal.returns-clause-step
 returns-clause-step c = λ config list h.
     let here = c.self.inside in
-    let after : List _ → State = λ pairs. record { config = here.config; picture = here.picture.items; viewers = map entry pairs } in
+    let after : List _ → State = λ pairs. record { config = here.config; picture = here.picture.colours; viewers = pairs } in
     ap after c.ring_all.ensures
-    ∙ state-drawn config here.config here.picture.items here.picture.items here.clients.pairs (seat_noticed notice.Bell) Bell list refl refl refl (λ s. refl) (c.self.view_is ∙ h)
+    ∙ state-drawn config here.config here.picture.colours here.picture.colours here.viewers.pairs (viewer_noticed notice.Bell) Bell list refl refl refl (λ s. refl) (c.self.view_is ∙ h)

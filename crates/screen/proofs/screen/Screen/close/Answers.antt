@@ -3,7 +3,7 @@ use Rattle.std.specs.Prelude.{◌==◌, not}
 use Rattle.std.specs.Map.{values_of}
 use Rattle.client_list.specs.Connected.{Connected}
 use Rattle.screen.specs.declared.Event.TheVariants.{Close}
-use Rattle.screen.specs.declared.place.Seat.{Seat}
+use Rattle.viewer.specs.Viewer.{KeptViewer}
 use Rattle.screen.specs.Held.{IsHeld, IsSized}
 use Rattle.screen.specs.Answers.{state, answer_to}
 use Rattle.screen.specs.Alone.{nothing_to_say, told}
@@ -16,26 +16,27 @@ pub invariant_of-self : goal.invariant_of-self
 invariant_of-self c = elim c.match-remove.branch [
   | in-Ok w ↦ record {
     accepted = c.self.invariant.accepted;
-    size = c.self.invariant.size;
-    sized = rw w.in-Ok.ensures.others (all-some (IsSized c.self.inside.config) (λ pair. not (pair.0 == c.args.number)) c.self.inside.clients.pairs c.self.invariant.sized);
+    width = c.self.invariant.width;
+  height = c.self.invariant.height;
+    sized = rw w.in-Ok.ensures.others (all-some (IsSized c.self.inside.config) (λ pair. not (pair.0 == c.args.number)) c.self.inside.viewers.pairs c.self.invariant.sized);
   }
-  | in-Err w ↦ subst (λ (l : Connected Seat). IsHeld c.self.inside.config c.self.inside.picture.items (values_of l.pairs)) (sym w.in-Err.ensures.err) c.self.invariant
+  | in-Err w ↦ subst (λ (l : Connected KeptViewer). IsHeld c.self.inside.config c.self.inside.picture.colours (values_of l.pairs)) (sym w.in-Err.ensures.err) c.self.invariant
 ]
 
 pub returns-clause-step : goal.returns-clause-step
 returns-clause-step c = λ config list h.
     let here = c.self.inside in
-    at_config (λ k. seen here.config here.picture.items c.remove.new.self.pairs ≡ state k (list ++ Close c.args.number ∷ [])) here.config config here.picture.items here.clients.pairs list (c.self.view_is ∙ h) (λ k.
+    at_config (λ k. seen here.config here.picture.colours c.remove.new.self.pairs ≡ state k (list ++ Close c.args.number ∷ [])) here.config config here.picture.colours here.viewers.pairs list (c.self.view_is ∙ h) (λ k.
     elim c.match-remove.branch [
-      | in-Ok w ↦ ap (seen here.config here.picture.items) w.in-Ok.ensures.others ∙ close-there here.config list here.picture.items here.clients.pairs c.args.number k
-      | in-Err w ↦ ap (λ (l : Connected Seat). seen here.config here.picture.items l.pairs) w.in-Err.ensures.err ∙ k ∙ close-absent here.config list here.picture.items here.clients.pairs c.args.number k w.in-Err.ensures.value
+      | in-Ok w ↦ ap (seen here.config here.picture.colours) w.in-Ok.ensures.others ∙ close-there here.config list here.picture.colours here.viewers.pairs c.args.number k
+      | in-Err w ↦ ap (λ (l : Connected KeptViewer). seen here.config here.picture.colours l.pairs) w.in-Err.ensures.err ∙ k ∙ close-absent here.config list here.picture.colours here.viewers.pairs c.args.number k w.in-Err.ensures.value
     ])
 
 pub returns-clause-answer : goal.returns-clause-answer
 returns-clause-answer c = λ config list h.
     let here = c.self.inside in
-    at_config (λ k. told (λ _. nothing_to_say) c.match-remove.result ≡ answer_to k list (Close c.args.number)) here.config config here.picture.items here.clients.pairs list (c.self.view_is ∙ h) (λ k.
+    at_config (λ k. told (λ _. nothing_to_say) c.match-remove.result ≡ answer_to k list (Close c.args.number)) here.config config here.picture.colours here.viewers.pairs list (c.self.view_is ∙ h) (λ k.
     elim c.match-remove.branch [
-      | in-Ok w ↦ rw w.result-is (close-answer_there here.config list here.picture.items here.clients.pairs c.args.number _ k (sym w.in-Ok.ensures.value))
-      | in-Err w ↦ rw w.result-is (close-answer_absent here.config list here.picture.items here.clients.pairs c.args.number k w.in-Err.ensures.value)
+      | in-Ok w ↦ rw w.result-is (close-answer_there here.config list here.picture.colours here.viewers.pairs c.args.number _ k (sym w.in-Ok.ensures.value))
+      | in-Err w ↦ rw w.result-is (close-answer_absent here.config list here.picture.colours here.viewers.pairs c.args.number k w.in-Err.ensures.value)
     ])

@@ -6,38 +6,38 @@ use Rattle.screen.specs.declared.Answer.{Answer}
 use Rattle.screen.specs.declared.ScreenError.TheVariants as refusals
 use Rattle.screen.specs.Answers.{State, state, answer_to}
 use Rattle.screen.specs.Alone.{Tells, gives}
-use Rattle.screen.proofs.Seats.{seat_of}
+use Rattle.screen.proofs.Connected.{viewer_numbered}
 use Rattle.screen.proofs.Calls.{seen, at_config, connect-step, connect-answer, in_use-answer, tells-refused, tells-memory, tells-ok}
 use Rattle.screen.proofs.screen.Screen.connect.Goals as goal
 
 pub returns-then-is_some-clause-answer : goal.returns-then-is_some-clause-answer
 returns-then-is_some-clause-answer c = λ config list h.
     let here = c.self.inside in
-    let found = was_found here.clients c.args.number c.place_of.result (sym c.is_some.ensures ∙ c.if-is_some.true) c.place_of.ensures.found in
-    at_config (λ k. Tells gives (Err refusals.NumberInUse) (answer_to k list (Connect c.args.number))) here.config config here.picture.items here.clients.pairs list (c.self.view_is ∙ h) (λ k.
-    tells-refused gives _ _ refusals.NumberInUse refl (in_use-answer here.config list here.picture.items here.clients.pairs c.args.number found.0 k (sym found.1)))
+    let found = was_found here.viewers c.args.number c.place_of.result (sym c.is_some.ensures ∙ c.if-is_some.true) c.place_of.ensures.found in
+    at_config (λ k. Tells gives (Err refusals.NumberInUse) (answer_to k list (Connect c.args.number))) here.config config here.picture.colours here.viewers.pairs list (c.self.view_is ∙ h) (λ k.
+    tells-refused gives _ _ refusals.NumberInUse refl (in_use-answer here.config list here.picture.colours here.viewers.pairs c.args.number found.0 k (sym found.1)))
 
-pub returns-in_err-seat_viewer-clause-answer : goal.returns-in_err-seat_viewer-clause-answer
-returns-in_err-seat_viewer-clause-answer c = λ config list h.
+pub returns-in_err-let_in-clause-answer : goal.returns-in_err-let_in-clause-answer
+returns-in_err-let_in-clause-answer c = λ config list h.
     let here = c.self.inside in
     let error = err_from_is_err_and c.from_residual.result c.from_residual.ensures.1 in
-    let away : seat_of here.clients.pairs c.args.number ≡ None = not_found here.clients c.args.number c.place_of.result (sym c.is_some.ensures ∙ c.if-is_some.false) c.place_of.ensures.found in
-    at_config (λ k. Tells gives c.from_residual.result (answer_to k list (Connect c.args.number))) here.config config here.picture.items here.clients.pairs list (c.self.view_is ∙ h) (λ k.
-    let answer = connect-answer here.config list here.picture.items here.clients.pairs c.args.number k away in
+    let away : viewer_numbered here.viewers.pairs c.args.number ≡ None = not_found here.viewers c.args.number c.place_of.result (sym c.is_some.ensures ∙ c.if-is_some.false) c.place_of.ensures.found in
+    at_config (λ k. Tells gives c.from_residual.result (answer_to k list (Connect c.args.number))) here.config config here.picture.colours here.viewers.pairs list (c.self.view_is ∙ h) (λ k.
+    let answer = connect-answer here.config list here.picture.colours here.viewers.pairs c.args.number k away in
     tells-memory gives _ _ error.0 error.1 error.2 (ap (λ (a : Answer). a.refused) answer))
 
 pub returns-clause-step : goal.returns-clause-step
 returns-clause-step c = λ config list h.
     let here = c.self.inside in
-    let away : seat_of here.clients.pairs c.args.number ≡ None = not_found here.clients c.args.number c.place_of.result (sym c.is_some.ensures ∙ c.if-is_some.false) c.place_of.ensures.found in
-    let after : State = seen here.config here.picture.items c.seat_viewer.new.clients.pairs in
-    at_config (λ k. after ≡ state k (list ++ Connect c.args.number ∷ [])) here.config config here.picture.items here.clients.pairs list (c.self.view_is ∙ h) (λ k.
-    connect-step here.config list here.picture.items here.clients.pairs c.seat_viewer.new.clients.pairs c.args.number k away c.in_ok-seat_viewer.ensures.entries)
+    let away : viewer_numbered here.viewers.pairs c.args.number ≡ None = not_found here.viewers c.args.number c.place_of.result (sym c.is_some.ensures ∙ c.if-is_some.false) c.place_of.ensures.found in
+    let after : State = seen here.config here.picture.colours c.let_in.new.viewers.pairs in
+    at_config (λ k. after ≡ state k (list ++ Connect c.args.number ∷ [])) here.config config here.picture.colours here.viewers.pairs list (c.self.view_is ∙ h) (λ k.
+    connect-step here.config list here.picture.colours here.viewers.pairs c.let_in.new.viewers.pairs c.args.number k away c.in_ok-viewer_viewer.ensures.entries)
 
 pub returns-clause-answer : goal.returns-clause-answer
 returns-clause-answer c = λ config list h.
     let here = c.self.inside in
-    let away : seat_of here.clients.pairs c.args.number ≡ None = not_found here.clients c.args.number c.place_of.result (sym c.is_some.ensures ∙ c.if-is_some.false) c.place_of.ensures.found in
-    at_config (λ k. Tells gives (Ok c.in_ok-seat_viewer.field-0) (answer_to k list (Connect c.args.number))) here.config config here.picture.items here.clients.pairs list (c.self.view_is ∙ h) (λ k.
-    let answer = connect-answer here.config list here.picture.items here.clients.pairs c.args.number k away in
-    tells-ok gives _ _ c.in_ok-seat_viewer.field-0 refl (ap (λ (a : Answer). a.refused) answer) (ap gives c.in_ok-seat_viewer.ensures.version ∙ sym answer))
+    let away : viewer_numbered here.viewers.pairs c.args.number ≡ None = not_found here.viewers c.args.number c.place_of.result (sym c.is_some.ensures ∙ c.if-is_some.false) c.place_of.ensures.found in
+    at_config (λ k. Tells gives (Ok c.in_ok-viewer_viewer.field-0) (answer_to k list (Connect c.args.number))) here.config config here.picture.colours here.viewers.pairs list (c.self.view_is ∙ h) (λ k.
+    let answer = connect-answer here.config list here.picture.colours here.viewers.pairs c.args.number k away in
+    tells-ok gives _ _ c.in_ok-viewer_viewer.field-0 refl (ap (λ (a : Answer). a.refused) answer) (ap gives c.in_ok-viewer_viewer.ensures.version ∙ sym answer))

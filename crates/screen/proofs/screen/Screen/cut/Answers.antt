@@ -5,16 +5,15 @@ use Rattle.screen.specs.declared.Event.TheVariants.{Cut}
 use Rattle.screen.specs.declared.Answer.{Answer}
 use Rattle.screen.specs.declared.ScreenError.TheVariants as refusals
 use Rattle.client_list.specs.Connected.{index_of_number}
-use Rattle.screen.specs.declared.place.Seat.{Seat}
+use Rattle.viewer.specs.Viewer.{KeptViewer}
 use Rattle.screen.specs.Held.{IsSized}
 use Rattle.screen.specs.Answers.{State, state, answer_to}
-use Rattle.screen.proofs.Seats.{with_seat}
-use Rattle.screen.proofs.Kept.{all-at, all-set, seat-same}
+use Rattle.screen.proofs.Connected.{with_numbered}
+use Rattle.screen.proofs.Kept.{all-at, all-set, numbered-same}
 use Rattle.screen.specs.Alone.{Tells, gives}
-use Rattle.screen.specs.Given.{bytes_given}
-use Rattle.screen.specs.Sending.{sending_kept}
-use Rattle.screen.specs.Entries.{viewer_in}
-use Rattle.screen.proofs.Calls.{seen, none_seated, at_config, answer-absent_cut, cut-step, cut-answer, tells-refused, tells-memory, tells-ok}
+use Rattle.viewer.specs.Given.{bytes_given}
+use Rattle.viewer.specs.Sending.{sending_kept}
+use Rattle.screen.proofs.Calls.{seen, none_there, at_config, answer-absent_cut, cut-step, cut-answer, tells-refused, tells-memory, tells-ok}
 use Rattle.screen.proofs.screen.Screen.cut.Goals as goal
 
 abbrev view : Option (List ℕ) → Answer
@@ -22,60 +21,62 @@ view update = gives (bytes_given update)
 
 pub returns-in_default-clause-answer : goal.returns-in_default-clause-answer
 returns-in_default-clause-answer c = λ config list h.
-    at_config (λ k. Tells {X = Option (List ℕ)} view (Err refusals.NoViewer) (answer_to k list (Cut c.args.number))) c.self.inside.config config c.self.inside.picture.items c.self.inside.clients.pairs list (c.self.view_is ∙ h) (λ k.
-    let absent = none_seated c.self.inside.config list c.self.inside.picture.items c.self.inside.clients.pairs c.args.number k (sym c.in_default.ensures.value) in
+    at_config (λ k. Tells {X = Option (List ℕ)} view (Err refusals.NoViewer) (answer_to k list (Cut c.args.number))) c.self.inside.config config c.self.inside.picture.colours c.self.inside.viewers.pairs list (c.self.view_is ∙ h) (λ k.
+    let absent = none_there c.self.inside.config list c.self.inside.picture.colours c.self.inside.viewers.pairs c.args.number k (sym c.in_default.ensures.value) in
     tells-refused view _ _ refusals.NoViewer refl (answer-absent_cut c.self.inside.config list c.args.number absent))
 
-pub returns-in_err-cut_in-clause-answer : goal.returns-in_err-cut_in-clause-answer
-returns-in_err-cut_in-clause-answer c = λ config list h.
+pub returns-in_err-cut-clause-answer : goal.returns-in_err-cut-clause-answer
+returns-in_err-cut-clause-answer c = λ config list h.
     let error = err_from_is_err_and c.from_residual.result c.from_residual.ensures.1 in
     let P : Config → Type 0 = λ k. Tells view c.from_residual.result (answer_to k list (Cut c.args.number)) in
-    at_config P c.self.inside.config config c.self.inside.picture.items c.self.inside.clients.pairs list (c.self.view_is ∙ h) (λ k.
-    let answer = cut-answer c.self.inside.config list c.self.inside.picture.items c.self.inside.clients.pairs c.args.number c.in-Some.seat.now k c.in-Some.ensures.value in
+    at_config P c.self.inside.config config c.self.inside.picture.colours c.self.inside.viewers.pairs list (c.self.view_is ∙ h) (λ k.
+    let answer = cut-answer c.self.inside.config list c.self.inside.picture.colours c.self.inside.viewers.pairs c.args.number c.in-Some.viewer.now k c.in-Some.ensures.value in
     tells-memory view _ _ error.0 error.1 error.2 (ap (λ (a : Answer). a.refused) answer))
 
 pub returns-clause-step : goal.returns-clause-step
 returns-clause-step c = λ config list h.
-    let after : State = seen c.self.inside.config c.self.inside.picture.items (with_seat c.self.inside.clients.pairs c.args.number c.cut_in.new.seat) in
-    at_config (λ k. after ≡ state k (list ++ Cut c.args.number ∷ [])) c.self.inside.config config c.self.inside.picture.items c.self.inside.clients.pairs list (c.self.view_is ∙ h) (λ k.
-    cut-step c.self.inside.config list c.self.inside.picture.items c.self.inside.clients.pairs c.args.number c.in-Some.seat.now c.cut_in.new.seat k c.in-Some.ensures.value
-    (c.in_ok-cut_in.ensures.viewer ∙ ap (λ q. (sending_kept c.self.inside.config.width c.self.inside.config.height c.self.inside.config.rects_per_update q (viewer_in c.in-Some.seat.now)).1) c.deref.ensures.value))
+    let after : State = seen c.self.inside.config c.self.inside.picture.colours (with_numbered c.self.inside.viewers.pairs c.args.number c.cut.new.self) in
+    at_config (λ k. after ≡ state k (list ++ Cut c.args.number ∷ [])) c.self.inside.config config c.self.inside.picture.colours c.self.inside.viewers.pairs list (c.self.view_is ∙ h) (λ k.
+    cut-step c.self.inside.config list c.self.inside.picture.colours c.self.inside.viewers.pairs c.args.number c.in-Some.viewer.now c.cut.new.self k c.in-Some.ensures.value
+    (c.in_ok-cut.ensures.viewer ∙ ap (λ q. (sending_kept c.self.inside.config.width c.self.inside.config.height c.self.inside.config.rects_per_update q c.in-Some.viewer.now).1) c.deref.ensures.value))
 
 pub returns-clause-answer : goal.returns-clause-answer
 returns-clause-answer c = λ config list h.
-    let P : Config → Type 0 = λ k. Tells view (Ok c.in_ok-cut_in.field-0) (answer_to k list (Cut c.args.number)) in
-    at_config P c.self.inside.config config c.self.inside.picture.items c.self.inside.clients.pairs list (c.self.view_is ∙ h) (λ k.
-    let answer = cut-answer c.self.inside.config list c.self.inside.picture.items c.self.inside.clients.pairs c.args.number c.in-Some.seat.now k c.in-Some.ensures.value in
-    tells-ok view _ _ c.in_ok-cut_in.field-0 refl (ap (λ (a : Answer). a.refused) answer) (ap gives (c.in_ok-cut_in.ensures.bytes ∙ ap (λ q. (sending_kept c.self.inside.config.width c.self.inside.config.height c.self.inside.config.rects_per_update q (viewer_in c.in-Some.seat.now)).0) c.deref.ensures.value) ∙ sym answer))
+    let P : Config → Type 0 = λ k. Tells view (Ok c.in_ok-cut.field-0) (answer_to k list (Cut c.args.number)) in
+    at_config P c.self.inside.config config c.self.inside.picture.colours c.self.inside.viewers.pairs list (c.self.view_is ∙ h) (λ k.
+    let answer = cut-answer c.self.inside.config list c.self.inside.picture.colours c.self.inside.viewers.pairs c.args.number c.in-Some.viewer.now k c.in-Some.ensures.value in
+    tells-ok view _ _ c.in_ok-cut.field-0 refl (ap (λ (a : Answer). a.refused) answer) (ap gives (c.in_ok-cut.ensures.bytes ∙ ap (λ q. (sending_kept c.self.inside.config.width c.self.inside.config.height c.self.inside.config.rects_per_update q c.in-Some.viewer.now).0) c.deref.ensures.value) ∙ sym answer))
 
-pub cut_in-requires-clause-sized : goal.cut_in-requires-clause-sized
-cut_in-requires-clause-sized c = all-at (IsSized c.self.inside.config) c.self.inside.clients.pairs c.args.number c.in-Some.seat.now c.self.invariant.sized c.in-Some.ensures.value
+pub cut-requires-clause-sized : goal.cut-requires-clause-sized
+cut-requires-clause-sized c = all-at (IsSized c.self.inside.config) c.self.inside.viewers.pairs c.args.number c.in-Some.viewer.now c.self.invariant.sized c.in-Some.ensures.value
 
-pub invariant_of-self-in_err-cut_in : goal.invariant_of-self-in_err-cut_in
-invariant_of-self-in_err-cut_in c =
-    let was : IsSized c.self.inside.config c.in-Some.seat.now = all-at (IsSized c.self.inside.config) c.self.inside.clients.pairs c.args.number c.in-Some.seat.now c.self.invariant.sized c.in-Some.ensures.value in
+pub invariant_of-self-in_err-cut : goal.invariant_of-self-in_err-cut
+invariant_of-self-in_err-cut c =
+    let was : IsSized c.self.inside.config c.in-Some.viewer.now = all-at (IsSized c.self.inside.config) c.self.inside.viewers.pairs c.args.number c.in-Some.viewer.now c.self.invariant.sized c.in-Some.ensures.value in
     record {
       accepted = c.self.invariant.accepted;
-      size = c.self.invariant.size;
-      sized = all-set (IsSized c.self.inside.config) c.self.inside.clients.pairs (index_of_number c.self.inside.clients c.args.number) c.cut_in.new.seat c.self.invariant.sized (c.cut_in.ensures.sized);
+      width = c.self.invariant.width;
+  height = c.self.invariant.height;
+      sized = all-set (IsSized c.self.inside.config) c.self.inside.viewers.pairs (index_of_number c.self.inside.viewers c.args.number) c.cut.new.self c.self.invariant.sized (c.cut.ensures.sized);
     }
 
 pub invariant_of-self-2 : goal.invariant_of-self-2
 invariant_of-self-2 c =
-    let was : IsSized c.self.inside.config c.in-Some.seat.now = all-at (IsSized c.self.inside.config) c.self.inside.clients.pairs c.args.number c.in-Some.seat.now c.self.invariant.sized c.in-Some.ensures.value in
+    let was : IsSized c.self.inside.config c.in-Some.viewer.now = all-at (IsSized c.self.inside.config) c.self.inside.viewers.pairs c.args.number c.in-Some.viewer.now c.self.invariant.sized c.in-Some.ensures.value in
     record {
       accepted = c.self.invariant.accepted;
-      size = c.self.invariant.size;
-      sized = all-set (IsSized c.self.inside.config) c.self.inside.clients.pairs (index_of_number c.self.inside.clients c.args.number) c.cut_in.new.seat c.self.invariant.sized (c.cut_in.ensures.sized);
+      width = c.self.invariant.width;
+  height = c.self.invariant.height;
+      sized = all-set (IsSized c.self.inside.config) c.self.inside.viewers.pairs (index_of_number c.self.inside.viewers c.args.number) c.cut.new.self c.self.invariant.sized (c.cut.ensures.sized);
     }
 
-pub returns-in_err-cut_in-clause-err : goal.returns-in_err-cut_in-clause-err
-returns-in_err-cut_in-clause-err c =
+pub returns-in_err-cut-clause-err : goal.returns-in_err-cut-clause-err
+returns-in_err-cut-clause-err c =
     let here = c.self.inside in
     let error = err_from_is_err_and c.from_residual.result c.from_residual.ensures.1 in
     rw error.1
     (
-    ap (λ (s : Seat). seen here.config here.picture.items (with_seat here.clients.pairs c.args.number s)) c.in_err-cut_in.ensures.err
-    ∙ ap (seen here.config here.picture.items) (seat-same here.clients.pairs c.args.number c.in-Some.seat.now c.in-Some.ensures.value)
+    ap (λ (s : KeptViewer). seen here.config here.picture.colours (with_numbered here.viewers.pairs c.args.number s)) c.in_err-cut.ensures.err
+    ∙ ap (seen here.config here.picture.colours) (numbered-same here.viewers.pairs c.args.number c.in-Some.viewer.now c.in-Some.ensures.value)
     ∙ c.self.view_is
     )

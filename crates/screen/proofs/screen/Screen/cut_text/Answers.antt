@@ -3,9 +3,9 @@ use Rattle.std.specs.Prelude.{nat_lt, if◌then◌else◌}
 use Rattle.std.proofs.lemmas.Bool.Decides.{nat_tests}
 use Rattle.screen.specs.declared.ScreenError.TheVariants as refusals
 use Rattle.screen.specs.declared.Event.TheVariants.{CutText}
-use Rattle.screen.specs.declared.notices.Notice.TheVariants as notice
+use Rattle.viewer.specs.declared.notices.Notice.TheVariants as notice
 use Rattle.screen.specs.Answers.{State}
-use Rattle.screen.specs.Entries.{entry, seat_noticed}
+use Rattle.screen.specs.Entries.{viewer_noticed}
 use Rattle.screen.proofs.Drawn.{state-drawn, sized-changed}
 use Rattle.screen.proofs.screen.Screen.cut_text.Goals as goal
 
@@ -15,13 +15,14 @@ short n few = let e : nat_lt 65536 n ≡ false = grind (arith, nat_tests) in ap 
 pub invariant_of-self : goal.invariant_of-self
 invariant_of-self c = record {
   accepted = c.self.invariant.accepted;
-  size = c.self.invariant.size;
-  sized = rw c.tell_all.ensures (sized-changed c.self.inside.config (seat_noticed (notice.CutText c.args.text.now)) c.self.inside.clients.pairs (λ s was. record { width = was.width; height = was.height }) c.self.invariant.sized);
+  width = c.self.invariant.width;
+  height = c.self.invariant.height;
+  sized = rw c.tell_all.ensures (sized-changed c.self.inside.config (viewer_noticed (notice.CutText c.args.text.now)) c.self.inside.viewers.pairs (λ s was. record { width = was.width; height = was.height }) c.self.invariant.sized);
 }
 
 pub returns-clause-step : goal.returns-clause-step
 returns-clause-step c = λ config list h.
     let here = c.self.inside in
-    let after : List _ → State = λ pairs. record { config = here.config; picture = here.picture.items; viewers = map entry pairs } in
+    let after : List _ → State = λ pairs. record { config = here.config; picture = here.picture.colours; viewers = pairs } in
     ap after c.tell_all.ensures
-    ∙ state-drawn config here.config here.picture.items here.picture.items here.clients.pairs (seat_noticed (notice.CutText c.args.text.now)) (CutText c.args.text.now) list refl (short (length c.args.text.now) c.if-text.false) refl (λ s. refl) (c.self.view_is ∙ h)
+    ∙ state-drawn config here.config here.picture.colours here.picture.colours here.viewers.pairs (viewer_noticed (notice.CutText c.args.text.now)) (CutText c.args.text.now) list refl (short (length c.args.text.now) c.if-text.false) refl (λ s. refl) (c.self.view_is ∙ h)

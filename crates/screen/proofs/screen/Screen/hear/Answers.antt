@@ -5,67 +5,69 @@ use Rattle.screen.specs.declared.Event.TheVariants.{Hear}
 use Rattle.screen.specs.declared.Answer.{Answer}
 use Rattle.screen.specs.declared.ScreenError.TheVariants as refusals
 use Rattle.client_list.specs.Connected.{index_of_number}
-use Rattle.screen.specs.declared.place.Seat.{Seat}
+use Rattle.viewer.specs.Viewer.{KeptViewer}
 use Rattle.screen.specs.Held.{IsSized}
 use Rattle.screen.specs.Answers.{State, state, answer_to}
-use Rattle.screen.proofs.Seats.{with_seat}
-use Rattle.screen.proofs.Kept.{all-at, all-set, seat-same}
+use Rattle.screen.proofs.Connected.{with_numbered}
+use Rattle.screen.proofs.Kept.{all-at, all-set, numbered-same}
 use Rattle.screen.specs.Alone.{Tells}
-use Rattle.screen.proofs.Calls.{seen, none_seated, at_config, answer-absent_hear, hear-step, hear-answer, tells-refused, tells-memory, tells-ok}
+use Rattle.screen.proofs.Calls.{seen, none_there, at_config, answer-absent_hear, hear-step, hear-answer, tells-refused, tells-memory, tells-ok}
 use Rattle.screen.proofs.screen.Screen.hear.Goals as goal
 
 pub returns-in_default-clause-answer : goal.returns-in_default-clause-answer
 returns-in_default-clause-answer c = λ config list h.
-    at_config (λ k. Tells {X = Answer} (λ (a : Answer). a) (Err refusals.NoViewer) (answer_to k list (Hear c.args.number c.args.piece.now))) c.self.inside.config config c.self.inside.picture.items c.self.inside.clients.pairs list (c.self.view_is ∙ h) (λ k.
-    let absent = none_seated c.self.inside.config list c.self.inside.picture.items c.self.inside.clients.pairs c.args.number k (sym c.in_default.ensures.value) in
+    at_config (λ k. Tells {X = Answer} (λ (a : Answer). a) (Err refusals.NoViewer) (answer_to k list (Hear c.args.number c.args.piece.now))) c.self.inside.config config c.self.inside.picture.colours c.self.inside.viewers.pairs list (c.self.view_is ∙ h) (λ k.
+    let absent = none_there c.self.inside.config list c.self.inside.picture.colours c.self.inside.viewers.pairs c.args.number k (sym c.in_default.ensures.value) in
     tells-refused (λ (a : Answer). a) _ _ refusals.NoViewer refl (answer-absent_hear c.self.inside.config list c.args.number c.args.piece.now absent))
 
-pub returns-in_err-hear_in-clause-answer : goal.returns-in_err-hear_in-clause-answer
-returns-in_err-hear_in-clause-answer c = λ config list h.
+pub returns-in_err-hear-clause-answer : goal.returns-in_err-hear-clause-answer
+returns-in_err-hear-clause-answer c = λ config list h.
     let error = err_from_is_err_and c.from_residual.result c.from_residual.ensures.1 in
     let P : Config → Type 0 = λ k. Tells {X = Answer} (λ a. a) c.from_residual.result (answer_to k list (Hear c.args.number c.args.piece.now)) in
-    at_config P c.self.inside.config config c.self.inside.picture.items c.self.inside.clients.pairs list (c.self.view_is ∙ h) (λ k.
-    let answer = hear-answer c.self.inside.config list c.self.inside.picture.items c.self.inside.clients.pairs c.args.number c.in-Some.seat.now c.args.piece.now k c.in-Some.ensures.value in
+    at_config P c.self.inside.config config c.self.inside.picture.colours c.self.inside.viewers.pairs list (c.self.view_is ∙ h) (λ k.
+    let answer = hear-answer c.self.inside.config list c.self.inside.picture.colours c.self.inside.viewers.pairs c.args.number c.in-Some.viewer.now c.args.piece.now k c.in-Some.ensures.value in
     tells-memory (λ (a : Answer). a) _ _ error.0 error.1 error.2 (ap (λ (a : Answer). a.refused) answer.2))
 
 pub returns-clause-step : goal.returns-clause-step
 returns-clause-step c = λ config list h.
-    let after : State = seen c.self.inside.config c.self.inside.picture.items (with_seat c.self.inside.clients.pairs c.args.number c.hear_in.new.seat) in
-    at_config (λ k. after ≡ state k (list ++ Hear c.args.number c.args.piece.now ∷ [])) c.self.inside.config config c.self.inside.picture.items c.self.inside.clients.pairs list (c.self.view_is ∙ h) (λ k.
-    hear-step c.self.inside.config list c.self.inside.picture.items c.self.inside.clients.pairs c.args.number c.in-Some.seat.now c.hear_in.new.seat c.args.piece.now k c.in-Some.ensures.value c.in_ok-hear_in.ensures.viewer)
+    let after : State = seen c.self.inside.config c.self.inside.picture.colours (with_numbered c.self.inside.viewers.pairs c.args.number c.hear.new.self) in
+    at_config (λ k. after ≡ state k (list ++ Hear c.args.number c.args.piece.now ∷ [])) c.self.inside.config config c.self.inside.picture.colours c.self.inside.viewers.pairs list (c.self.view_is ∙ h) (λ k.
+    hear-step c.self.inside.config list c.self.inside.picture.colours c.self.inside.viewers.pairs c.args.number c.in-Some.viewer.now c.hear.new.self c.args.piece.now k c.in-Some.ensures.value c.in_ok-hear.ensures.viewer)
 
 pub returns-clause-answer : goal.returns-clause-answer
 returns-clause-answer c = λ config list h.
-    let P : Config → Type 0 = λ k. Tells {X = Answer} (λ a. a) (Ok c.in_ok-hear_in.field-0) (answer_to k list (Hear c.args.number c.args.piece.now)) in
-    at_config P c.self.inside.config config c.self.inside.picture.items c.self.inside.clients.pairs list (c.self.view_is ∙ h) (λ k.
-    let answer = hear-answer c.self.inside.config list c.self.inside.picture.items c.self.inside.clients.pairs c.args.number c.in-Some.seat.now c.args.piece.now k c.in-Some.ensures.value in
-    tells-ok (λ (a : Answer). a) _ _ c.in_ok-hear_in.field-0 refl (ap (λ (a : Answer). a.refused) answer.2) (c.in_ok-hear_in.ensures.answer answer.0 answer.1 ∙ sym answer.2))
+    let P : Config → Type 0 = λ k. Tells {X = Answer} (λ a. a) (Ok c.in_ok-hear.field-0) (answer_to k list (Hear c.args.number c.args.piece.now)) in
+    at_config P c.self.inside.config config c.self.inside.picture.colours c.self.inside.viewers.pairs list (c.self.view_is ∙ h) (λ k.
+    let answer = hear-answer c.self.inside.config list c.self.inside.picture.colours c.self.inside.viewers.pairs c.args.number c.in-Some.viewer.now c.args.piece.now k c.in-Some.ensures.value in
+    tells-ok (λ (a : Answer). a) _ _ c.in_ok-hear.field-0 refl (ap (λ (a : Answer). a.refused) answer.2) (c.in_ok-hear.ensures.answer answer.0 answer.1 ∙ sym answer.2))
 
-pub invariant_of-self-in_err-hear_in : goal.invariant_of-self-in_err-hear_in
-invariant_of-self-in_err-hear_in c =
-    let was : IsSized c.self.inside.config c.in-Some.seat.now = all-at (IsSized c.self.inside.config) c.self.inside.clients.pairs c.args.number c.in-Some.seat.now c.self.invariant.sized c.in-Some.ensures.value in
+pub invariant_of-self-in_err-hear : goal.invariant_of-self-in_err-hear
+invariant_of-self-in_err-hear c =
+    let was : IsSized c.self.inside.config c.in-Some.viewer.now = all-at (IsSized c.self.inside.config) c.self.inside.viewers.pairs c.args.number c.in-Some.viewer.now c.self.invariant.sized c.in-Some.ensures.value in
     record {
       accepted = c.self.invariant.accepted;
-      size = c.self.invariant.size;
-      sized = all-set (IsSized c.self.inside.config) c.self.inside.clients.pairs (index_of_number c.self.inside.clients c.args.number) c.hear_in.new.seat c.self.invariant.sized (record { width = c.hear_in.ensures.width ∙ was.width; height = c.hear_in.ensures.height ∙ was.height });
+      width = c.self.invariant.width;
+  height = c.self.invariant.height;
+      sized = all-set (IsSized c.self.inside.config) c.self.inside.viewers.pairs (index_of_number c.self.inside.viewers c.args.number) c.hear.new.self c.self.invariant.sized (record { width = c.hear.ensures.width ∙ was.width; height = c.hear.ensures.height ∙ was.height });
     }
 
 pub invariant_of-self-2 : goal.invariant_of-self-2
 invariant_of-self-2 c =
-    let was : IsSized c.self.inside.config c.in-Some.seat.now = all-at (IsSized c.self.inside.config) c.self.inside.clients.pairs c.args.number c.in-Some.seat.now c.self.invariant.sized c.in-Some.ensures.value in
+    let was : IsSized c.self.inside.config c.in-Some.viewer.now = all-at (IsSized c.self.inside.config) c.self.inside.viewers.pairs c.args.number c.in-Some.viewer.now c.self.invariant.sized c.in-Some.ensures.value in
     record {
       accepted = c.self.invariant.accepted;
-      size = c.self.invariant.size;
-      sized = all-set (IsSized c.self.inside.config) c.self.inside.clients.pairs (index_of_number c.self.inside.clients c.args.number) c.hear_in.new.seat c.self.invariant.sized (record { width = c.hear_in.ensures.width ∙ was.width; height = c.hear_in.ensures.height ∙ was.height });
+      width = c.self.invariant.width;
+  height = c.self.invariant.height;
+      sized = all-set (IsSized c.self.inside.config) c.self.inside.viewers.pairs (index_of_number c.self.inside.viewers c.args.number) c.hear.new.self c.self.invariant.sized (record { width = c.hear.ensures.width ∙ was.width; height = c.hear.ensures.height ∙ was.height });
     }
 
-pub returns-in_err-hear_in-clause-err : goal.returns-in_err-hear_in-clause-err
-returns-in_err-hear_in-clause-err c =
+pub returns-in_err-hear-clause-err : goal.returns-in_err-hear-clause-err
+returns-in_err-hear-clause-err c =
     let here = c.self.inside in
     let error = err_from_is_err_and c.from_residual.result c.from_residual.ensures.1 in
     rw error.1
     (
-    ap (λ (s : Seat). seen here.config here.picture.items (with_seat here.clients.pairs c.args.number s)) c.in_err-hear_in.ensures.err
-    ∙ ap (seen here.config here.picture.items) (seat-same here.clients.pairs c.args.number c.in-Some.seat.now c.in-Some.ensures.value)
+    ap (λ (s : KeptViewer). seen here.config here.picture.colours (with_numbered here.viewers.pairs c.args.number s)) c.in_err-hear.ensures.err
+    ∙ ap (seen here.config here.picture.colours) (numbered-same here.viewers.pairs c.args.number c.in-Some.viewer.now c.in-Some.ensures.value)
     ∙ c.self.view_is
     )

@@ -1,30 +1,30 @@
 use Rattle.std.proofs.Common.{ℕ, sym, ap, ◌∙◌, map, List, refl}
 use Rattle.screen.specs.declared.Event.TheVariants.{Paint}
-use Rattle.screen.specs.declared.place.Seat.{Seat}
+use Rattle.viewer.specs.Viewer.{KeptViewer}
 use Rattle.region.specs.Region.{in_rect}
 use Rattle.screen.specs.Answers.{State}
 use Rattle.framebuffer.specs.Picture.{written}
-use Rattle.screen.specs.Entries.{entry, seat_with, marks_owed}
+use Rattle.screen.specs.Entries.{viewer_with, marks_owed}
 use Rattle.screen.proofs.Committed.{with-made}
 use Rattle.screen.proofs.Drawn.{state-drawn, sized-changed}
 use Rattle.screen.proofs.screen.Screen.paint.Goals as goal
 
 pub invariant_of-self : goal.invariant_of-self
 invariant_of-self c =
-    let made = c.commit_all.ensures ∙ with-made (marks_owed (in_rect c.args.rect)) c.self.inside.clients.pairs c.in_ok-marks.marks.items c.in_ok-marks.ensures in
+    let made = c.commit_all.ensures ∙ with-made (marks_owed (in_rect c.args.rect)) c.self.inside.viewers.pairs c.in_ok-marks.marks.items c.in_ok-marks.ensures in
     record {
       accepted = c.self.invariant.accepted;
       size = c.replace.ensures.size;
-      sized = rw made (sized-changed c.self.inside.config (seat_with (marks_owed (in_rect c.args.rect))) c.self.inside.clients.pairs (λ s was. record { width = was.width; height = was.height }) c.self.invariant.sized);
+      sized = rw made (sized-changed c.self.inside.config (viewer_with (marks_owed (in_rect c.args.rect))) c.self.inside.viewers.pairs (λ s was. record { width = was.width; height = was.height }) c.self.invariant.sized);
     }
 
 pub returns-clause-step : goal.returns-clause-step
 returns-clause-step c = λ config list h.
     let here = c.self.inside in
     let marks_of = marks_owed (in_rect c.args.rect) in
-    let made = c.commit_all.ensures ∙ with-made marks_of here.clients.pairs c.in_ok-marks.marks.items c.in_ok-marks.ensures in
-    let after : List (ℕ × Seat) → State = λ pairs. record { config = here.config; picture = c.replace.new.picture.items; viewers = map entry pairs } in
+    let made = c.commit_all.ensures ∙ with-made marks_of here.viewers.pairs c.in_ok-marks.marks.items c.in_ok-marks.ensures in
+    let after : List (ℕ × KeptViewer) → State = λ pairs. record { config = here.config; picture = c.replace.new.picture.items; viewers = pairs } in
     ap after made
-    ∙ state-drawn config here.config here.picture.items c.replace.new.picture.items here.clients.pairs (seat_with marks_of) (Paint c.args.rect c.args.colours.now) list refl c.in_ok-block.ensures.refusal
-    (c.replace.ensures.picture ∙ ap (λ r. written here.config.width here.config.height r c.args.colours.now here.picture.items) (sym c.in_ok-block.ensures.is))
+    ∙ state-drawn config here.config here.picture.colours c.replace.new.picture.items here.viewers.pairs (viewer_with marks_of) (Paint c.args.rect c.args.colours.now) list refl c.in_ok-block.ensures.refusal
+    (c.replace.ensures.picture ∙ ap (λ r. written here.config.width here.config.height r c.args.colours.now here.picture.colours) (sym c.in_ok-block.ensures.is))
     (λ s. refl) (c.self.view_is ∙ h)

@@ -1,23 +1,22 @@
 use Rattle.std.proofs.Common.{sym, ap, ◌∙◌, Ok, Err, ◌≡◌}
 use Rattle.screen.specs.declared.Event.TheVariants.{Cut}
 use Rattle.screen.specs.declared.ScreenError.TheVariants as refusals
-use Rattle.screen.specs.declared.place.Seat.{Seat}
+use Rattle.viewer.specs.Viewer.{KeptViewer}
 use Rattle.screen.specs.Answers.{answer_to}
 use Rattle.screen.specs.Alone.{something_to_send}
-use Rattle.screen.specs.Entries.{viewer_in}
-use Rattle.screen.proofs.Calls.{at_config, none_seated, answer-absent_cut, cut-answer, some-sent}
+use Rattle.screen.proofs.Calls.{at_config, none_there, answer-absent_cut, cut-answer, some-sent}
 use Rattle.screen.proofs.screen.Screen.pending.Goals as goal
 
 pub returns-in_default : goal.returns-in_default
 returns-in_default c = λ config list h.
     let here = c.self.inside in
-    at_config (λ k. Err refusals.NoViewer ≡ something_to_send (answer_to k list (Cut c.args.number))) here.config config here.picture.items here.clients.pairs list (c.self.view_is ∙ h) (λ k.
-    sym (ap something_to_send (answer-absent_cut here.config list c.args.number (none_seated here.config list here.picture.items here.clients.pairs c.args.number k (sym c.in_default.ensures)))))
+    at_config (λ k. Err refusals.NoViewer ≡ something_to_send (answer_to k list (Cut c.args.number))) here.config config here.picture.colours here.viewers.pairs list (c.self.view_is ∙ h) (λ k.
+    sym (ap something_to_send (answer-absent_cut here.config list c.args.number (none_there here.config list here.picture.colours here.viewers.pairs c.args.number k (sym c.in_default.ensures)))))
 
 pub returns : goal.returns
 returns c = λ config list h.
     let here = c.self.inside in
-    let seat : Seat = c.in-Some.seat.now in
-    at_config (λ k. Ok c.is_pending.result ≡ something_to_send (answer_to k list (Cut c.args.number))) here.config config here.picture.items here.clients.pairs list (c.self.view_is ∙ h) (λ k.
-    ap (λ t. Ok t) (c.is_pending.ensures ∙ sym (some-sent here.config.width here.config.height here.config.rects_per_update here.picture.items (viewer_in seat)))
-    ∙ sym (ap something_to_send (cut-answer here.config list here.picture.items here.clients.pairs c.args.number seat k c.in-Some.ensures)))
+    let viewer : KeptViewer = c.in-Some.viewer.now in
+    at_config (λ k. Ok c.is_pending.result ≡ something_to_send (answer_to k list (Cut c.args.number))) here.config config here.picture.colours here.viewers.pairs list (c.self.view_is ∙ h) (λ k.
+    ap (λ t. Ok t) (c.is_pending.ensures ∙ sym (some-sent here.config.width here.config.height here.config.rects_per_update here.picture.colours viewer))
+    ∙ sym (ap something_to_send (cut-answer here.config list here.picture.colours here.viewers.pairs c.args.number seat k c.in-Some.ensures)))

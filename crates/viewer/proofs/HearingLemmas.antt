@@ -1,0 +1,69 @@
+-- What is done to a seat, and the inputs among items.
+use Rattle.std.proofs.Common.{◌≡◌, true, false, ℕ, ℤ, pos, negsuc, ◌+◌, List, [], ◌∷◌, ◌++◌, reverse, None, refl, sym, ap, ◌∙◌, arith, append_assoc}
+use Rattle.std.specs.Prelude.{min}
+use Rattle.std.specs.List.{filter_map, cons_option}
+use Rattle.std.proofs.lemmas.Bool.Decides.{nat_tests}
+use Rattle.std.proofs.lemmas.List.{reverse-append, append-nil}
+use Rattle.std.proofs.lemmas.List.Elements.{filter_map-append}
+use mathlib.Core.Path.{fun_ext}
+use Rattle.pixel_translate.specs.declared.Area.{Area}
+use Rattle.messages.specs.declared.Input.{Input}
+use Rattle.messages.specs.declared.Item.{Item}
+use Rattle.messages.specs.declared.Item.TheVariants as item
+use Rattle.region.specs.Region.{in_rect}
+use Rattle.viewer.specs.Hearing.{input_of, after_items}
+use Rattle.viewer.specs.Viewer.{Viewer, area_places, after_item}
+
+item-size : {B : Type 0} (w h : ℕ) (i : Item) (v : Viewer B) → ((after_item w h i v).marks.width ≡ v.marks.width) × ((after_item w h i v).marks.height ≡ v.marks.height)
+item-size w h (item.Encodings preferred true) v = (refl, refl)
+item-size w h (item.Encodings preferred false) v = (refl, refl)
+item-size w h (item.Request true area) v = (refl, refl)
+item-size w h (item.Request false area) v = (refl, refl)
+item-size w h (item.Version version) v = (refl, refl)
+item-size w h item.Choice v = (refl, refl)
+item-size w h (item.Init shared) v = (refl, refl)
+item-size w h (item.Format f) v = (refl, refl)
+item-size w h (item.Input input) v = (refl, refl)
+
+-- a viewer's messages leave the size of its marks
+pub items-size : {B : Type 0} (w h : ℕ) (is : List Item) (v : Viewer B) → ((after_items w h is v).marks.width ≡ v.marks.width) × ((after_items w h is v).marks.height ≡ v.marks.height)
+items-size w h [] v = (refl, refl)
+items-size w h (i ∷ is) v =
+    let first = item-size w h i v in
+    let rest = items-size w h is (after_item w h i v) in (rest.0 ∙ first.0, rest.1 ∙ first.1)
+
+-- an input at the end goes to the front of the inputs
+pub input-last : (items rest : List Item) (i : Input) (inputs all : List Input) → items ≡ rest ++ item.Input i ∷ [] → filter_map input_of items ++ reverse inputs ≡ all
+    → filter_map input_of rest ++ reverse (inputs ++ i ∷ []) ≡ all
+input-last items rest i inputs all e h =
+    ap (λ l. filter_map input_of rest ++ l) (reverse-append inputs (i ∷ []))
+    ∙ sym (append_assoc (filter_map input_of rest) (i ∷ []) (reverse inputs))
+    ∙ ap (λ l. l ++ reverse inputs) (sym (filter_map-append input_of rest (item.Input i ∷ [])) ∙ ap (filter_map input_of) (sym e))
+    ∙ h
+
+no-input : (x : Item) → ((i : Input) → x ≡ item.Input i → ⊥) → input_of x ≡ None
+no-input (item.Input i) other = absurd (other i refl)
+no-input (item.Version v) other = refl
+no-input item.Choice other = refl
+no-input (item.Init shared) other = refl
+no-input (item.Format f) other = refl
+no-input (item.Encodings preferred copyrect) other = refl
+no-input (item.Request incremental area) other = refl
+
+-- another item at the end leaves them
+pub other-last : (items rest : List Item) (x : Item) (inputs all : List Input) → items ≡ rest ++ x ∷ [] → ((i : Input) → x ≡ item.Input i → ⊥) → filter_map input_of items ++ reverse inputs ≡ all
+    → filter_map input_of rest ++ reverse inputs ≡ all
+other-last items rest x inputs all e other h =
+    ap (λ l. l ++ reverse inputs)
+    (sym (append-nil (filter_map input_of rest)) ∙ ap (λ o. filter_map input_of rest ++ cons_option o []) (sym (no-input x other))
+    ∙ sym (filter_map-append input_of rest (x ∷ [])) ∙ ap (filter_map input_of) (sym e))
+    ∙ h
+
+-- the rectangle of an area's places that are on a screen has just these places
+pub area_cut : (w h : ℕ) (a : Area) → in_rect (record { x1 = pos a.x; y1 = pos a.y; x2 = pos (min (a.x + a.w) w); y2 = pos (min (a.y + a.h) h) }) ≡ area_places w h a
+area_cut w h a = fun_ext (λ x. fun_ext (λ y. go x y))
+  where
+    go : (x y : ℤ) → in_rect (record { x1 = pos a.x; y1 = pos a.y; x2 = pos (min (a.x + a.w) w); y2 = pos (min (a.y + a.h) h) }) x y ≡ area_places w h a x y
+    go (negsuc x) y = refl
+    go (pos x) (negsuc y) = grind (arith, nat_tests)
+    go (pos x) (pos y) = grind (arith, nat_tests)

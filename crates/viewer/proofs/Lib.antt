@@ -1,0 +1,2 @@
+mod HearingLemmas
+mod SentLemmas

@@ -1,0 +1,14 @@
+use Rattle.std.proofs.Common.{◌≡◌, length, take}
+use Rattle.std.specs.List.{flat_map}
+use Rattle.pixel_translate.specs.declared.PixelFormat.{PixelFormat}
+use Rattle.messages.specs.declared.Encoding.{Encoding}
+use Rattle.viewer.specs.Sending.{pixel_rectangle}
+use Rattle.viewer.specs.Updates.{coloured_bytes}
+use Rattle.viewer.proofs.cutting.coloured_rectangles.Given as goal
+
+-- the rectangles so far
+abbrev pub invariant-loop-rect : goal.invariant-loop-rect
+invariant-loop-rect l = record {
+  bytes : (encoding : Encoding) (format : PixelFormat) → flat_map (coloured_bytes encoding format) l.parts.items ≡ flat_map (pixel_rectangle l.picture.width l.picture.height l.picture.colours encoding format) (take l.rect-index l.rects);
+  count : length l.parts.items ≡ l.rect-index;
+}

@@ -1,0 +1,57 @@
+-- What one sending step gives a viewer (RFC 6143, 7.6).
+use Rattle.std.specs.Prelude.{ℕ, ◌+◌, if◌then◌else◌, List, [], ◌++◌, length, flat_map, ℤ, ◌-ℤ◌, nat_abs, Option, Some, None}
+use Rattle.region.specs.declared.Rect.{Rect}
+use Rattle.copy_schedule.specs.Marks.{Sent, cut_of}
+use Rattle.pixel_translate.specs.declared.Area.{Area}
+use Rattle.pixel_translate.specs.declared.PixelFormat.{PixelFormat}
+use Rattle.encode_raw.specs.Raw.{raw, copyrect}
+use Rattle.encode_rre.specs.Rre.{rre}
+use Rattle.encode_hextile.specs.Hextile.{hextile}
+use Rattle.messages.specs.declared.Encoding.{Encoding}
+use Rattle.messages.specs.declared.Encoding.TheVariants as encoding
+use Rattle.messages.specs.Reading.{Rest, is_open_rest}
+use Rattle.messages.specs.Server.{bell, cut_text, update_head}
+use Rattle.framebuffer.specs.Picture.{area_of, colours_of}
+use Rattle.viewer.specs.declared.notices.Notice.{Notice}
+use Rattle.viewer.specs.declared.notices.Notice.TheVariants as notice
+use Rattle.viewer.specs.Viewer.{Viewer, is_open_viewer}
+
+-- 7.6.3 and 7.6.4
+abbrev pub notice_bytes : Notice → List ℕ
+notice_bytes notice.Bell = bell
+notice_bytes (notice.CutText text) = cut_text text
+
+-- 7.7.1, 7.7.3 and 7.7.4: a rectangle of colours, in the viewer's encoding and format
+abbrev pub encoded : Encoding → PixelFormat → Area → List ℕ → List ℕ
+encoded encoding.Raw f a colours = raw f a colours
+encoded encoding.Rre f a colours = rre f a colours
+encoded encoding.Hextile f a colours = hextile f a colours
+
+-- 7.7.2: a copy names its source
+abbrev pub copy_bytes : ℤ × ℤ → Rect → List ℕ
+copy_bytes by r = copyrect (area_of r) (nat_abs (r.x1 -ℤ by.0)) (nat_abs (r.y1 -ℤ by.1))
+
+-- the colours of a rectangle of the picture
+abbrev pub pixel_rectangle : ℕ → ℕ → List ℕ → Encoding → PixelFormat → Rect → List ℕ
+pixel_rectangle w h picture e f r = encoded e f (area_of r) (colours_of w h picture r)
+
+-- 7.6.1: the copies, then the pixels
+abbrev pub bytes_of : ℕ → ℕ → List ℕ → Encoding → PixelFormat → List Rect → ℤ × ℤ → List Rect → List ℕ
+bytes_of w h picture e f copies by pixels =
+    update_head (length copies + length pixels) ++ flat_map (copy_bytes by) copies ++ flat_map (pixel_rectangle w h picture e f) pixels
+
+abbrev pub update_bytes : {B : Type 0} → ℕ → ℕ → List ℕ → Viewer B → Sent → List ℕ
+update_bytes w h picture v s = bytes_of w h picture v.encoding v.format s.copies s.offset s.pixels
+
+-- the bytes of a sending step, and the viewer after it: the notices that wait come first
+abbrev pub with_update : {B : Type 0} → ℕ → ℕ → List ℕ → Viewer B → Option Sent → List ℕ × Viewer B
+with_update w h picture v None = (flat_map notice_bytes v.notices, record v { notices = [] })
+with_update w h picture v (Some s) = (flat_map notice_bytes v.notices ++ update_bytes w h picture v s, record v { notices = []; marks = s.after })
+
+-- only an open viewer is sent anything; of the copies and of the pixel rectangles, at most limit
+abbrev pub sending : ℕ → ℕ → ℕ → List ℕ → Viewer (List ℕ) → List ℕ × Viewer (List ℕ)
+sending w h limit picture v = if is_open_viewer v then with_update w h picture v (cut_of limit v.marks) else ([], v)
+
+-- the same, by what a screen keeps of the viewer
+abbrev pub sending_kept : ℕ → ℕ → ℕ → List ℕ → Viewer Rest → List ℕ × Viewer Rest
+sending_kept w h limit picture v = if is_open_rest v.heard then with_update w h picture v (cut_of limit v.marks) else ([], v)

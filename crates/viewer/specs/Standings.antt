@@ -1,0 +1,14 @@
+-- How what is kept of a viewer is seen.
+use Rattle.std.specs.Prelude.{ℕ}
+use Rattle.viewer.specs.declared.standing.Standing.{Standing}
+use Rattle.viewer.specs.declared.standing.Draft.{Draft}
+use Rattle.viewer.specs.Given.{marks_put}
+use Rattle.viewer.specs.Viewer.{KeptViewer}
+
+-- the viewer of a standing
+abbrev pub viewer_in : Standing → KeptViewer
+viewer_in s = record { heard = s.ear; format = s.format; encoding = s.encoding; uses_copyrect = s.uses_copyrect; marks = s.marks; notices = s.notices }
+
+-- the same with what a draft changes
+abbrev pub viewer_by : Standing → Draft → KeptViewer
+viewer_by s d = record { heard = d.ear; format = d.format; encoding = d.encoding; uses_copyrect = d.uses_copyrect; marks = marks_put s.marks d.marks; notices = s.notices }

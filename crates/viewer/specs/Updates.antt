@@ -1,0 +1,32 @@
+-- An update's bytes, by what it keeps.
+use Rattle.std.specs.Prelude.{ℕ, ◌+◌, List, [], ◌++◌, length, flat_map, Option, None, Some}
+use Rattle.pixel_translate.specs.declared.PixelFormat.{PixelFormat}
+use Rattle.encode_raw.specs.Raw.{copyrect}
+use Rattle.messages.specs.declared.Encoding.{Encoding}
+use Rattle.messages.specs.Server.{update_head}
+use Rattle.viewer.specs.declared.notices.Notice.{Notice}
+use Rattle.viewer.specs.declared.parts.Moved.{Moved}
+use Rattle.viewer.specs.declared.parts.Coloured.{Coloured}
+use Rattle.viewer.specs.declared.parts.Rectangles.{Rectangles}
+use Rattle.viewer.specs.Sending.{encoded, notice_bytes}
+
+abbrev pub moved_bytes : Moved → List ℕ
+moved_bytes m = copyrect m.area m.src_x m.src_y
+
+abbrev pub coloured_bytes : Encoding → PixelFormat → Coloured → List ℕ
+coloured_bytes e f c = encoded e f c.area c.colours.items
+
+-- 7.6.1: the copies, then the pixels
+abbrev pub kept_bytes : Encoding → PixelFormat → List Moved → List Coloured → List ℕ
+kept_bytes e f moves rectangles = update_head (length moves + length rectangles) ++ flat_map moved_bytes moves ++ flat_map (coloured_bytes e f) rectangles
+
+abbrev pub rectangles_bytes : Rectangles → List ℕ
+rectangles_bytes r = kept_bytes r.encoding r.format r.moves.items r.coloured.items
+
+abbrev pub maybe_bytes : Option Rectangles → List ℕ
+maybe_bytes None = []
+maybe_bytes (Some r) = rectangles_bytes r
+
+-- 7.6: the notices, then the rectangles
+abbrev pub all_bytes : List Notice → Option Rectangles → List ℕ
+all_bytes notices rectangles = flat_map notice_bytes notices ++ maybe_bytes rectangles

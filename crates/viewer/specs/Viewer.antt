@@ -1,0 +1,87 @@
+-- One viewer, and what drawing and its own messages do to it.
+use Rattle.std.specs.Prelude.{ℕ, ◌+◌, Bool, true, false, not, ◌&&◌, ◌||◌, if◌then◌else◌, nat_lt, List, [], ◌∷◌, ◌++◌, length, ℤ, pos}
+use Rattle.region.specs.Region.{in_rect, on_screen}
+use Rattle.copy_schedule.specs.Places.{some_place, cut_destination}
+use Rattle.copy_schedule.specs.Marks.{Marks, new_marks, marked, copied_by, requested, without_copyrect, same_offset}
+use Rattle.pixel_translate.specs.declared.Area.{Area}
+use Rattle.pixel_translate.specs.declared.PixelFormat.{PixelFormat}
+use Rattle.pixel_translate.specs.Pixel.{server_format}
+use Rattle.messages.specs.declared.Encoding.{Encoding}
+use Rattle.messages.specs.declared.Encoding.TheVariants as encoding
+use Rattle.messages.specs.declared.Item.{Item}
+use Rattle.messages.specs.declared.Item.TheVariants as item
+use Rattle.messages.specs.declared.Phase.{Phase}
+use Rattle.messages.specs.declared.Phase.TheVariants as phase
+use Rattle.messages.specs.Grammar.{End, waiting}
+use Rattle.messages.specs.Reading.{heard, Rest, rest}
+use Rattle.viewer.specs.declared.notices.Notice.{Notice}
+
+-- One viewer. Its bytes so far stand as a list, or as what a screen keeps of them.
+pub record Viewer (Bytes : Type 0) : Type 0 where
+  pub heard : Bytes
+  pub format : PixelFormat
+  pub encoding : Encoding
+  pub uses_copyrect : Bool
+  pub marks : Marks
+  pub notices : List Notice
+
+-- a viewer as a screen keeps it: of its bytes, where the conversation stands, and the unfinished message
+abbrev pub KeptViewer : Type 0
+KeptViewer = Viewer Rest
+
+abbrev pub kept : Viewer (List ℕ) → KeptViewer
+kept v = record { heard = rest v.heard; format = v.format; encoding = v.encoding; uses_copyrect = v.uses_copyrect; marks = v.marks; notices = v.notices }
+
+-- at connecting
+abbrev pub new_viewer : ℕ → ℕ → Viewer (List ℕ)
+new_viewer w h = record { heard = []; format = server_format; encoding = encoding.Raw; uses_copyrect = false; marks = new_marks w h; notices = [] }
+
+-- the ServerInit is sent, and there is no fault
+abbrev pub is_open : Phase → End → Bool
+is_open (phase.Open v) waiting = true
+is_open _ _ = false
+
+abbrev pub is_open_viewer : Viewer (List ℕ) → Bool
+is_open_viewer v = is_open (heard v.heard).phase (heard v.heard).end
+
+-- no notice waits
+abbrev pub none_wait : List Notice → Bool
+none_wait [] = true
+none_wait (n ∷ notices) = false
+
+-- a notice is kept where fewer than 64 wait
+abbrev pub with_notice : Notice → List Notice → List Notice
+with_notice notice waiting_ones = if nat_lt (length waiting_ones) 64 then waiting_ones ++ notice ∷ [] else waiting_ones
+
+-- an open viewer keeps a notice
+abbrev pub noticed : {B : Type 0} → Notice → Bool → Viewer B → Viewer B
+noticed notice open_now v = record v { notices = if open_now then with_notice notice v.notices else v.notices }
+
+abbrev pub viewer_marked : {B : Type 0} → (ℤ → ℤ → Bool) → Viewer B → Viewer B
+viewer_marked set v = record v { marks = marked set v.marks }
+
+-- a copy by (0, 0), or of no place that is on the screen with its source, does nothing
+abbrev pub does_nothing : ℕ → ℕ → (ℤ → ℤ → Bool) → ℤ × ℤ → Bool
+does_nothing w h set by = same_offset by (pos 0, pos 0) || not (some_place w h (cut_destination w h set by))
+
+abbrev pub viewer_copied : {B : Type 0} → ℕ → ℕ → (ℤ → ℤ → Bool) → ℤ × ℤ → Viewer B → Viewer B
+viewer_copied w h set by v =
+    record v { marks = if does_nothing w h set by then v.marks else copied_by (cut_destination w h set by) by v.uses_copyrect v.marks }
+
+-- the places of an area that are on the screen
+abbrev pub area_places : ℕ → ℕ → Area → ℤ → ℤ → Bool
+area_places w h a x y = in_rect (record { x1 = pos a.x; y1 = pos a.y; x2 = pos (a.x + a.w); y2 = pos (a.y + a.h) }) x y && on_screen w h x y
+
+-- RFC 6143, 7.5: what a viewer's message does
+abbrev pub after_item : {B : Type 0} → ℕ → ℕ → Item → Viewer B → Viewer B
+after_item w h (item.Format f) v = record v { format = f }
+after_item w h (item.Encodings preferred copyrect) v = record v {
+  encoding = preferred;
+  uses_copyrect = copyrect;
+  marks = if copyrect then v.marks else without_copyrect v.marks;
+}
+after_item w h (item.Request incremental area) v = record v { marks = requested (area_places w h area) incremental v.marks }
+after_item w h (item.Version version) v = v
+after_item w h item.Choice v = v
+after_item w h (item.Init shared) v = v
+after_item w h (item.Input input) v = v

@@ -1,0 +1,220 @@
+//! What an update copies out of the screen: the rectangles that the marks chose, with their colours.
+
+ghost use Rattle.std.specs.Prelude.{◌≡◌, ◌<◌, ◌≤◌, ◌+◌, ◌*◌, ◌^◌, All, length, flat_map, IfOk, ◌-ℤ◌, nat_abs, [], ◌≢◌, IfSome, OnOk, OnErr};
+ghost use Rattle.copy_schedule.specs.Marks.{IsOnScreen, IsInside, HasSourcesInside, source_rect};
+ghost use Rattle.pixel_translate.specs.declared.PixelFormat.{PixelFormat};
+ghost use Rattle.copy_schedule.specs.Marks.{cut_of};
+ghost use Rattle.messages.specs.declared.Encoding.{Encoding};
+ghost use Rattle.framebuffer.specs.Picture.{area_of, colours_of};
+ghost use Rattle.viewer.specs.Sending.{copy_bytes, pixel_rectangle, bytes_of, sending_kept};
+ghost use Rattle.viewer.specs.Standings.{viewer_in};
+ghost use Rattle.framebuffer.specs.Blocks.{rect_of, FitsIn};
+ghost use Rattle.viewer.specs.Updates.{moved_bytes, coloured_bytes, rectangles_bytes, maybe_bytes};
+ghost use Rattle.viewer.specs.Given.{bytes_given, marks_put, sent_bytes, sent_marks};
+
+use crate::parts::{Coloured, Moved, Rectangles};
+use crate::standing::{Planned, Standing, put_marks};
+use crate::update::{Update, encode_all};
+use copy_schedule::Cut;
+use framebuffer::{Block, Framebuffer, block_within};
+use messages::Encoding;
+use pixel_translate::{Area, PixelFormat};
+use region::Rect;
+use std::alloc::{AllocError, Global};
+
+/// The area of a rectangle of a screen.
+fn area_of(rect: Rect) -> Area
+    requires inside { IsOnScreen 8192 8192 rect }
+    ensures { result ≡ area_of rect }
+{
+    Area {
+        x: rect.x1 as u16,
+        y: rect.y1 as u16,
+        w: (rect.x2 - rect.x1) as u16,
+        h: (rect.y2 - rect.y1) as u16,
+    }
+}
+
+/// A copy, with its source.
+fn moved_of(rect: Rect, offset: (i32, i32)) -> Moved
+    requires inside { IsOnScreen 8192 8192 rect }
+    requires source { IsOnScreen 8192 8192 (source_rect offset rect) }
+    ensures area { result.area ≡ area_of rect }
+    ensures src_x { result.src_x ≡ nat_abs (rect.x1 -ℤ offset.0) }
+    ensures src_y { result.src_y ≡ nat_abs (rect.y1 -ℤ offset.1) }
+{
+    Moved {
+        area: area_of(rect),
+        src_x: (rect.x1 - offset.0) as u16,
+        src_y: (rect.y1 - offset.1) as u16,
+    }
+}
+
+/// The copies, with their sources.
+fn moves_of(alloc: Global, rects: &[Rect], offset: (i32, i32)) -> Result<Vec<Moved>, AllocError>
+    requires inside { All (IsOnScreen 8192 8192) rects.now }
+    requires sources { All (λ r. IsOnScreen 8192 8192 (source_rect offset r)) rects.now }
+    ensures bytes { IfOk result (λ moves. flat_map moved_bytes moves.items ≡ flat_map (copy_bytes offset) rects.now) }
+    ensures count { IfOk result (λ moves. length moves.items ≡ length rects.now) }
+{
+    let mut moves = Vec::with_capacity(alloc, rects.len())?;
+    for rect in rects {
+        moves.push(moved_of(*rect, offset))?;
+    }
+    Ok(moves)
+}
+
+/// A block of the screen, with its colours.
+fn coloured_of(picture: &Framebuffer, block: Block) -> Result<Coloured, AllocError>
+    requires fits { FitsIn picture.now.width picture.now.height block }
+    requires width { picture.now.width ≤ 8192 }
+    requires height { picture.now.height ≤ 8192 }
+    ensures area { IfOk result (λ c. c.area ≡ area_of (rect_of block)) }
+    ensures colours { IfOk result (λ c. c.colours.items ≡ colours_of picture.now.width picture.now.height picture.now.colours (rect_of block)) }
+{
+    let colours = picture.read(block)?;
+    let area = Area {
+        x: block.left as u16,
+        y: block.top as u16,
+        w: block.columns as u16,
+        h: block.rows as u16,
+    };
+    Ok(Coloured { area, colours })
+}
+
+/// The rectangles of pixels, with their colours.
+fn coloured_rectangles(
+    alloc: Global,
+    picture: &Framebuffer,
+    rects: &[Rect],
+) -> Result<Vec<Coloured>, AllocError>
+    requires inside { All (IsOnScreen picture.now.width picture.now.height) rects.now }
+    ensures bytes { IfOk result (λ parts. (encoding : Encoding) (format : PixelFormat) → flat_map (coloured_bytes encoding format) parts.items ≡ flat_map (pixel_rectangle picture.now.width picture.now.height picture.now.colours encoding format) rects.now) }
+    ensures count { IfOk result (λ parts. length parts.items ≡ length rects.now) }
+{
+    let (width, height) = (picture.width(), picture.height());
+    let mut parts = Vec::with_capacity(alloc, rects.len())?;
+    for rect in rects {
+        let block = block_within(*rect, width, height);
+        parts.push(coloured_of(picture, block)?)?;
+    }
+    Ok(parts)
+}
+
+/// The rectangles of a cut, for a viewer's encoding and format.
+fn rectangles_of(
+    alloc: Global,
+    picture: &Framebuffer,
+    encoding: Encoding,
+    format: PixelFormat,
+    cut: &Cut,
+) -> Result<Rectangles, AllocError>
+    requires width { picture.now.width ≤ 8192 }
+    requires height { picture.now.height ≤ 8192 }
+    requires inside { IsInside picture.now.width picture.now.height cut.now }
+    requires sources { HasSourcesInside picture.now.width picture.now.height cut.now }
+    requires count { length cut.now.copies + length cut.now.pixels < 2 ^ 16 }
+    ensures { IfOk result (λ rectangles. rectangles_bytes rectangles ≡ bytes_of picture.now.width picture.now.height picture.now.colours encoding format cut.now.copies cut.now.offset cut.now.pixels) }
+{
+    let moves = moves_of(alloc, cut.copies.as_slice(), cut.offset)?;
+    let coloured = coloured_rectangles(alloc, picture, cut.pixels.as_slice())?;
+    Ok(Rectangles {
+        encoding,
+        format,
+        moves,
+        coloured,
+    })
+}
+
+/// The rectangles that a viewer is sent next, and its marks once they are sent; none where no place is wanted.
+fn plan(
+    alloc: Global,
+    picture: &Framebuffer,
+    limit: u32,
+    standing: &Standing,
+) -> Result<Planned, AllocError>
+    requires limit { limit ≤ 1000 }
+    requires width { standing.now.marks.width ≡ picture.now.width }
+    requires height { standing.now.marks.height ≡ picture.now.height }
+    ensures bytes { IfOk result (λ planned. maybe_bytes planned.rectangles ≡ sent_bytes picture.now.width picture.now.height picture.now.colours (viewer_in standing.now) (cut_of limit standing.now.marks)) }
+    ensures marks { IfOk result (λ planned. marks_put standing.now.marks planned.marks ≡ sent_marks standing.now.marks (cut_of limit standing.now.marks)) }
+    ensures none { IfOk result (λ planned. planned.rectangles ≡ None → cut_of limit standing.now.marks ≡ None) }
+    ensures some { IfOk result (λ planned. IfSome planned.rectangles (λ r. rectangles_bytes r ≢ [])) }
+    ensures width { IfOk result (λ planned. IfSome planned.marks (λ m. m.width ≡ standing.now.marks.width)) }
+    ensures height { IfOk result (λ planned. IfSome planned.marks (λ m. m.height ≡ standing.now.marks.height)) }
+{
+    if !standing.marks.pending() {
+        return Ok(Planned {
+            rectangles: None,
+            marks: None,
+        });
+    }
+    let mut marks = standing.marks.try_clone()?;
+    let Some(cut) = marks.cut(limit)? else {
+        return Ok(Planned {
+            rectangles: None,
+            marks: None,
+        });
+    };
+    let rectangles = rectangles_of(alloc, picture, standing.encoding, standing.format, &cut)?;
+    Ok(Planned {
+        rectangles: Some(rectangles),
+        marks: Some(marks),
+    })
+}
+
+/// Cuts an update for a viewer, or None where there is nothing to send. All growths are made before
+/// the viewer changes.
+pub fn cut_in(
+    alloc: Global,
+    picture: &Framebuffer,
+    limit: u32,
+    standing: &mut Standing,
+) -> Result<Option<Update>, AllocError>
+    requires limit { limit ≤ 1000 }
+    requires width { standing.old.marks.width ≡ picture.now.width }
+    requires height { standing.old.marks.height ≡ picture.now.height }
+    ensures bytes { IfOk result (λ update. bytes_given update ≡ (sending_kept picture.now.width picture.now.height limit picture.now.colours (viewer_in standing.old)).0) }
+    ensures viewer { OnOk result (viewer_in standing.new ≡ (sending_kept picture.now.width picture.now.height limit picture.now.colours (viewer_in standing.old)).1) }
+    ensures some { IfOk result (λ update. IfSome update (λ u. u ≢ [])) }
+    ensures width { standing.new.marks.width ≡ standing.old.marks.width }
+    ensures height { standing.new.marks.height ≡ standing.old.marks.height }
+    ensures err { OnErr result (standing.new ≡ standing.old) }
+{
+    if !standing.ear.is_open() {
+        return Ok(None);
+    }
+    let Planned { rectangles, marks } = plan(alloc, picture, limit, standing)?;
+    if rectangles.is_none() && standing.notices.is_empty() {
+        return Ok(None);
+    }
+    let notices = standing.notices.take(alloc)?;
+    put_marks(standing, marks);
+    Ok(Some(Update::new(alloc, notices, rectangles)))
+}
+
+/// The same, encoded.
+pub fn cut_bytes_in(
+    alloc: Global,
+    picture: &Framebuffer,
+    limit: u32,
+    standing: &mut Standing,
+) -> Result<Vec<u8>, AllocError>
+    requires limit { limit ≤ 1000 }
+    requires width { standing.old.marks.width ≡ picture.now.width }
+    requires height { standing.old.marks.height ≡ picture.now.height }
+    ensures bytes { IfOk result (λ bytes. bytes.items ≡ (sending_kept picture.now.width picture.now.height limit picture.now.colours (viewer_in standing.old)).0) }
+    ensures viewer { OnOk result (viewer_in standing.new ≡ (sending_kept picture.now.width picture.now.height limit picture.now.colours (viewer_in standing.old)).1) }
+    ensures width { standing.new.marks.width ≡ standing.old.marks.width }
+    ensures height { standing.new.marks.height ≡ standing.old.marks.height }
+    ensures err { OnErr result (standing.new ≡ standing.old) }
+{
+    if !standing.ear.is_open() {
+        return Ok(Vec::new(alloc));
+    }
+    let Planned { rectangles, marks } = plan(alloc, picture, limit, standing)?;
+    let bytes = encode_all(alloc, standing.notices.as_slice(), &rectangles)?;
+    standing.notices.clear();
+    put_marks(standing, marks);
+    Ok(bytes)
+}

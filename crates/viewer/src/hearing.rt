@@ -1,0 +1,278 @@
+//! What a viewer's messages do to it, and what it is answered.
+
+ghost use Rattle.std.specs.Prelude.{◌≡◌, ◌&&◌, ◌||◌, ℕ, List, OnErr, ◌++◌, ◌<◌, ◌≤◌, ◌^◌, [], length, not, if◌then◌else◌, vec_len, vec_capacity, IfOk, OnOk};
+ghost use Rattle.std.specs.List.{filter_map};
+ghost use Rattle.messages.specs.Grammar.{after};
+ghost use Rattle.messages.specs.Reading.{rest, new_items, is_open_rest};
+ghost use Rattle.messages.specs.Server.{server_init, answer, answers};
+ghost use Rattle.region.specs.Region.{in_rect};
+ghost use Rattle.copy_schedule.specs.Marks.{pending, requested, without_copyrect};
+ghost use Rattle.viewer.specs.Hearing.{input_of, after_items, heard_reply};
+ghost use Rattle.viewer.specs.Viewer.{none_wait, area_places, after_item, new_viewer, kept};
+ghost use Rattle.viewer.specs.Standings.{viewer_in, viewer_by};
+ghost use Rattle.viewer.specs.Given.{marks_put};
+
+use crate::Reply;
+use crate::notices::Notices;
+use crate::standing::{Draft, Standing, put_marks};
+use copy_schedule::Marks;
+use listed::Listed;
+use messages::{
+    Ear, Encoding, Input, Item, Phase, Version, put_result, put_security, put_server_init,
+};
+use pixel_translate::{Area, PixelFormat};
+use region::Rect;
+use std::alloc::{AllocError, Global};
+
+/// What a viewer is told of the desktop by its ServerInit (RFC 6143, 7.3.2).
+#[derive(Clone, Copy)]
+struct Desktop<'a> {
+    width: u16,
+    height: u16,
+    name: &'a [u8],
+}
+
+/// Whether a viewer would be given something now.
+pub fn is_pending(standing: &Standing) -> bool
+    ensures { result ≡ (is_open_rest standing.now.ear && (not (none_wait standing.now.notices) || pending standing.now.marks)) }
+{
+    standing.ear.is_open() && (!standing.notices.is_empty() || standing.marks.pending())
+}
+
+/// The rectangle of an area's places that are on a screen.
+fn clipped(width: u32, height: u32, area: Area) -> Rect
+    ensures { in_rect result ≡ area_places width height area }
+{
+    let right = (u32::from(area.x) + u32::from(area.w)).min(width);
+    let bottom = (u32::from(area.y) + u32::from(area.h)).min(height);
+    Rect {
+        x1: i32::from(area.x),
+        y1: i32::from(area.y),
+        x2: right as i32,
+        y2: bottom as i32,
+    }
+}
+
+/// A viewer's draft, before its messages change it.
+fn draft_of(standing: &Standing, ear: Ear) -> Draft
+    ensures { viewer_by standing.now result ≡ record (viewer_in standing.now) { heard = ear } }
+{
+    Draft {
+        ear,
+        format: standing.format,
+        encoding: standing.encoding,
+        uses_copyrect: standing.uses_copyrect,
+        marks: None,
+    }
+}
+
+/// The marks that are changed already, or else a copy of the viewer's.
+fn marks_to_change(standing: &Standing, marks: Option<Marks>) -> Result<Marks, AllocError>
+    ensures { IfOk result (λ copy. copy ≡ marks_put standing.now.marks marks) }
+{
+    match marks {
+        Some(marks) => Ok(marks),
+        None => standing.marks.try_clone(),
+    }
+}
+
+/// The viewer's SetEncodings (RFC 6143, 7.5.2): its places that await a copy are owed where CopyRect isn't listed.
+fn take_encodings(
+    draft: &mut Draft,
+    standing: &Standing,
+    preferred: Encoding,
+    copyrect: bool,
+) -> Result<(), AllocError>
+    ensures { OnOk result (viewer_by standing.now draft.new ≡ record (viewer_by standing.now draft.old) { encoding = preferred; uses_copyrect = copyrect; marks = if copyrect then marks_put standing.now.marks draft.old.marks else without_copyrect (marks_put standing.now.marks draft.old.marks) }) }
+{
+    draft.encoding = preferred;
+    draft.uses_copyrect = copyrect;
+    if !copyrect {
+        let mut marks = marks_to_change(standing, draft.marks.take())?;
+        marks.no_copyrect()?;
+        draft.marks = Some(marks);
+    }
+    Ok(())
+}
+
+/// The viewer's FramebufferUpdateRequest (RFC 6143, 7.5.3).
+fn take_request(
+    draft: &mut Draft,
+    standing: &Standing,
+    rect: Rect,
+    incremental: bool,
+) -> Result<(), AllocError>
+    ensures { OnOk result (viewer_by standing.now draft.new ≡ record (viewer_by standing.now draft.old) { marks = requested (in_rect rect) incremental (marks_put standing.now.marks draft.old.marks) }) }
+{
+    let mut marks = marks_to_change(standing, draft.marks.take())?;
+    marks.request(rect, incremental)?;
+    draft.marks = Some(marks);
+    Ok(())
+}
+
+/// What a viewer's message does to it (RFC 6143, 7.5).
+fn take_item(draft: &mut Draft, standing: &Standing, item: &Item) -> Result<(), AllocError>
+    ensures { OnOk result (viewer_by standing.now draft.new ≡ after_item standing.now.marks.width standing.now.marks.height item.now (viewer_by standing.now draft.old)) }
+{
+    match item {
+        Item::Format(format) => {
+            draft.format = *format;
+            Ok(())
+        }
+        Item::Encodings {
+            preferred,
+            copyrect,
+        } => take_encodings(draft, standing, *preferred, *copyrect),
+        Item::Request { incremental, area } => {
+            let rect = clipped(standing.marks.width(), standing.marks.height(), *area);
+            take_request(draft, standing, rect, *incremental)
+        }
+        _ => Ok(()),
+    }
+}
+
+/// What a viewer is once it heard these items last, by this ear. Its marks are copied at the first item that changes them.
+fn draft_after(standing: &Standing, ear: Ear, items: &[Item]) -> Result<Draft, AllocError>
+    ensures { IfOk result (λ draft. viewer_by standing.now draft ≡ after_items standing.now.marks.width standing.now.marks.height items.now (record (viewer_in standing.now) { heard = ear })) }
+{
+    let mut draft = draft_of(standing, ear);
+    for item in items {
+        take_item(&mut draft, standing, item)?;
+    }
+    Ok(draft)
+}
+
+/// Where a conversation stands behind an item (RFC 6143, 7.1 to 7.3 and appendix A).
+fn phase_after(phase: Phase, item: &Item) -> Phase
+    ensures { result ≡ after phase item.now }
+{
+    match (item, phase) {
+        (Item::Version(Version::V33), _) => Phase::Init(Version::V33),
+        (Item::Version(version), _) => Phase::Choice(*version),
+        (Item::Choice, Phase::Choice(version)) => Phase::Init(version),
+        (Item::Init { .. }, Phase::Init(version)) => Phase::Open(version),
+        _ => phase,
+    }
+}
+
+/// Appends what an item is answered (RFC 6143, 7.1 to 7.3 and appendix A).
+fn put_greeting(
+    out: &mut Vec<u8>,
+    desktop: &Desktop,
+    phase: Phase,
+    item: &Item,
+) -> Result<(), AllocError>
+    requires { length desktop.now.name.now < 2 ^ 32 }
+    ensures { OnOk result (out.new.items ≡ out.old.items ++ answer (server_init desktop.now.width desktop.now.height desktop.now.name.now) phase item.now) }
+{
+    match (item, phase) {
+        (Item::Version(version), _) => put_security(out, *version),
+        (Item::Choice, Phase::Choice(Version::V38)) => put_result(out),
+        (Item::Init { .. }, _) => put_server_init(
+            out,
+            desktop.width,
+            desktop.height,
+            desktop.name,
+        ),
+        _ => Ok(()),
+    }
+}
+
+/// What items are answered, from a phase on.
+fn greetings(
+    alloc: Global,
+    desktop: &Desktop,
+    phase: Phase,
+    items: &[Item],
+) -> Result<Vec<u8>, AllocError>
+    requires { length desktop.now.name.now < 2 ^ 32 }
+    ensures { IfOk result (λ bytes. bytes.items ≡ answers (server_init desktop.now.width desktop.now.height desktop.now.name.now) phase items.now) }
+{
+    let mut bytes = Vec::new(alloc);
+    let mut phase = phase;
+    for item in items {
+        put_greeting(&mut bytes, desktop, phase, item)?;
+        phase = phase_after(phase, item);
+    }
+    Ok(bytes)
+}
+
+/// A viewer that has just connected.
+pub fn new_standing(alloc: Global, width: u32, height: u32) -> Result<Standing, AllocError>
+    requires some_columns { 1 ≤ width }
+    requires columns { width ≤ 8192 }
+    requires some_rows { 1 ≤ height }
+    requires rows { height ≤ 8192 }
+    ensures { IfOk result (λ standing. viewer_in standing ≡ kept (new_viewer width height)) }
+{
+    Ok(Standing {
+        ear: Ear::new(alloc),
+        format: PixelFormat::server(),
+        encoding: Encoding::Raw,
+        uses_copyrect: false,
+        marks: Marks::new(alloc, width, height)?,
+        notices: Notices::new(alloc)?,
+    })
+}
+
+/// The inputs among items, in room that was made for them.
+fn inputs_of(mut items: Vec<Item>, mut inputs: Vec<Input>) -> Vec<Input>
+    requires none { inputs.items ≡ [] }
+    requires room { vec_len items ≤ vec_capacity inputs }
+    ensures { result.items ≡ filter_map input_of items.items }
+{
+    while let Some(item) = items.pop() {
+        if let Item::Input(input) = item {
+            inputs.push_reserved(input);
+        }
+    }
+    inputs.reverse();
+    inputs
+}
+
+/// A viewer is as the draft says from now on. This takes no memory.
+fn put_draft(standing: &mut Standing, draft: Draft)
+    ensures { viewer_in standing.new ≡ viewer_by standing.old draft }
+{
+    standing.ear = draft.ear;
+    standing.format = draft.format;
+    standing.encoding = draft.encoding;
+    standing.uses_copyrect = draft.uses_copyrect;
+    put_marks(standing, draft.marks);
+}
+
+/// A viewer's piece is heard: what it is answered. All growths are made before the viewer changes.
+pub fn hear_in(
+    alloc: Global,
+    standing: &mut Standing,
+    name: &[u8],
+    piece: &[u8],
+) -> Result<Reply, AllocError>
+    requires { length name.now < 2 ^ 32 }
+    ensures reply { (before : List ℕ) → standing.old.ear ≡ rest before →
+        IfOk result (λ reply. reply ≡ heard_reply standing.old.marks.width standing.old.marks.height name.now before piece.now) }
+    ensures viewer { (before : List ℕ) → standing.old.ear ≡ rest before →
+        OnOk result (viewer_in standing.new ≡ after_items standing.old.marks.width standing.old.marks.height (new_items before piece.now) (record (viewer_in standing.old) { heard = rest (before ++ piece.now) })) }
+    ensures width { standing.new.marks.width ≡ standing.old.marks.width }
+    ensures height { standing.new.marks.height ≡ standing.old.marks.height }
+    ensures err { OnErr result (standing.new ≡ standing.old) }
+{
+    let mut ear = standing.ear.try_clone()?;
+    let phase = ear.phase();
+    let heard = ear.feed(piece)?;
+    let items = heard.items.into_vec();
+    let desktop = Desktop {
+        width: standing.marks.width() as u16,
+        height: standing.marks.height() as u16,
+        name,
+    };
+    let bytes = greetings(alloc, &desktop, phase, &items)?;
+    let room = Vec::with_capacity(alloc, items.len())?;
+    let draft = draft_after(standing, ear, &items)?;
+    put_draft(standing, draft);
+    Ok(Reply {
+        bytes: Listed::from_vec(bytes),
+        inputs: Listed::from_vec(inputs_of(items, room)),
+        closed: heard.fault,
+    })
+}

@@ -1,0 +1,32 @@
+//! One viewer of a screen: what is kept of its bytes, what it asked for, what it is owed, the notices that wait for it, and
+//! what it is sent.
+//!
+//! `standing` is what is kept of a viewer, `hearing` what its messages do to it, `cutting` and `update` one update, `notices`
+//! what goes before the rectangles of an update.
+#![tactic(auto)]
+
+mod cutting;
+mod hearing;
+mod notices;
+mod parts;
+mod standing;
+mod update;
+mod viewer;
+
+pub use copy_schedule::Prepared;
+use listed::Listed;
+use messages::{Fault, Input};
+pub use notices::Notice;
+pub use update::Update;
+pub use viewer::Viewer;
+
+/// What a viewer's bytes give (RFC 6143, 7.1 to 7.5).
+#[derive(Debug, Drop)]
+pub struct Reply {
+    /// For the viewer.
+    pub bytes: Listed<u8>,
+    /// For the application.
+    pub inputs: Listed<Input>,
+    /// Why the viewer is heard no further.
+    pub closed: Option<Fault>,
+}

@@ -1,0 +1,47 @@
+//! What is kept of a viewer, and what an event would make of it.
+
+ghost use Rattle.std.specs.Prelude.{◌≡◌};
+ghost use Rattle.viewer.specs.Given.{marks_put};
+
+use crate::notices::Notices;
+use crate::parts::Rectangles;
+use copy_schedule::Marks;
+use messages::{Ear, Encoding};
+use pixel_translate::PixelFormat;
+
+/// What is kept of a viewer: of its bytes, what it asked for, its marks, and the notices that wait for it.
+#[derive(Drop)]
+pub struct Standing {
+    pub ear: Ear,
+    pub format: PixelFormat,
+    pub encoding: Encoding,
+    pub uses_copyrect: bool,
+    pub marks: Marks,
+    pub notices: Notices,
+}
+
+/// The rectangles that are sent next, and the viewer's marks once they are; none where no place is wanted.
+#[derive(Drop)]
+pub struct Planned {
+    pub rectangles: Option<Rectangles>,
+    pub marks: Option<Marks>,
+}
+
+/// What changes of a viewer by its messages; its marks stand here only where they change.
+#[derive(Drop)]
+pub struct Draft {
+    pub ear: Ear,
+    pub format: PixelFormat,
+    pub encoding: Encoding,
+    pub uses_copyrect: bool,
+    pub marks: Option<Marks>,
+}
+
+/// The viewer's marks are these from now on, if there are any.
+pub fn put_marks(standing: &mut Standing, marks: Option<Marks>)
+    ensures { standing.new ≡ record standing.old { marks = marks_put standing.old.marks marks } }
+{
+    if let Some(marks) = marks {
+        standing.marks = marks;
+    }
+}

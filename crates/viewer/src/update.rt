@@ -1,0 +1,142 @@
+//! What one sending step sends: copied out of the screen under its lock, and encoded without it.
+
+ghost use Rattle.std.specs.Prelude.{◌≡◌, ◌+◌, ◌<◌, ◌++◌, All, flat_map, IfOk, OnOk};
+ghost use Rattle.viewer.specs.Short.{IsShort};
+ghost use Rattle.viewer.specs.Updates.{moved_bytes, coloured_bytes, rectangles_bytes, all_bytes};
+
+use crate::notices::{Notice, put_notices};
+use crate::parts::{Coloured, Moved, Rectangles};
+use encode_hextile::encode_hextile_with_table;
+use encode_raw::{encode_copy, encode_raw_with_table};
+use encode_rre::encode_rre_with_table;
+use messages::{Encoding, put_update_head};
+use pixel_translate::Table;
+use std::alloc::{AllocError, Global};
+use std::marker::Model;
+
+/// What one viewer is sent in one step: the notices that waited, and then, where places that it asked for are not clean, one
+/// FramebufferUpdate (RFC 6143, 7.6.1). Contracts see it as its bytes.
+#[derive(Drop)]
+pub struct Update {
+    alloc: Global,
+    notices: Vec<Notice>,
+    rectangles: Option<Rectangles>,
+}
+
+impl Model for Update {
+    ghost use Rattle.std.specs.Prelude.{ℕ, List, All};
+    ghost use Rattle.viewer.specs.Short.{IsShort};
+    ghost use Rattle.viewer.specs.Updates.{all_bytes};
+
+    ghost Value = { List ℕ };
+
+    ghost view = { λ a. all_bytes a.notices.items a.rectangles };
+
+    ghost invariant = { λ a. All IsShort a.notices.items };
+}
+
+/// Appends copies.
+fn put_moves(out: &mut Vec<u8>, moves: &[Moved]) -> Result<(), AllocError>
+    ensures { OnOk result (out.new.items ≡ out.old.items ++ flat_map moved_bytes moves.now) }
+{
+    for moved in moves {
+        encode_copy(out, moved.area, moved.src_x, moved.src_y)?;
+    }
+    Ok(())
+}
+
+/// Appends a rectangle of colours in the viewer's encoding and format.
+fn put_rectangle(
+    out: &mut Vec<u8>,
+    rectangle: &Coloured,
+    encoding: Encoding,
+    table: &Table,
+) -> Result<(), AllocError>
+    ensures { OnOk result (out.new.items ≡ out.old.items ++ coloured_bytes encoding table.now rectangle.now) }
+{
+    let (area, colours) = (rectangle.area, &rectangle.colours);
+    match encoding {
+        Encoding::Raw => encode_raw_with_table(out, area, colours, table),
+        Encoding::Rre => encode_rre_with_table(out, area, colours, table),
+        Encoding::Hextile => encode_hextile_with_table(out, area, colours, table),
+    }
+}
+
+/// Appends rectangles of colours in the viewer's encoding and format.
+fn put_coloured(
+    out: &mut Vec<u8>,
+    rectangles: &[Coloured],
+    encoding: Encoding,
+    table: &Table,
+) -> Result<(), AllocError>
+    ensures { OnOk result (out.new.items ≡ out.old.items ++ flat_map (coloured_bytes encoding table.now) rectangles.now) }
+{
+    for rectangle in rectangles {
+        put_rectangle(out, rectangle, encoding, table)?;
+    }
+    Ok(())
+}
+
+/// How many bytes rectangles have in Raw, or more.
+fn size_of(rectangles: &[Coloured]) -> usize {
+    let mut size = 0usize;
+    for rectangle in rectangles {
+        size = size
+            .saturating_add(12)
+            .saturating_add(rectangle.colours.len().saturating_mul(4));
+    }
+    size
+}
+
+/// Appends a FramebufferUpdate. The room for all of it in Raw is made at once.
+fn put_rectangles(out: &mut Vec<u8>, rectangles: &Rectangles) -> Result<(), AllocError>
+    ensures { OnOk result (out.new.items ≡ out.old.items ++ rectangles_bytes rectangles.now) }
+{
+    if rectangles.encoding == Encoding::Raw {
+        out.reserve(size_of(&rectangles.coloured).saturating_add(4 + 16 * rectangles.moves.len()))?;
+    }
+    let count = rectangles.moves.len() + rectangles.coloured.len();
+    put_update_head(out, count as u16)?;
+    put_moves(out, &rectangles.moves)?;
+    let table = Table::new(&rectangles.format);
+    put_coloured(out, &rectangles.coloured, rectangles.encoding, &table)
+}
+
+/// The bytes of notices, and then of a FramebufferUpdate if there is one.
+pub(crate) fn encode_all(
+    alloc: Global,
+    notices: &[Notice],
+    rectangles: &Option<Rectangles>,
+) -> Result<Vec<u8>, AllocError>
+    requires { All IsShort notices.now }
+    ensures { IfOk result (λ bytes. bytes.items ≡ all_bytes notices.now rectangles.now) }
+{
+    let mut out = Vec::new(alloc);
+    put_notices(&mut out, notices)?;
+    if let Some(rectangles) = rectangles {
+        put_rectangles(&mut out, rectangles)?;
+    }
+    Ok(out)
+}
+
+impl Update {
+    /// An update of notices, and of rectangles if there are any.
+    pub(crate) fn new(alloc: Global, notices: Vec<Notice>, rectangles: Option<Rectangles>) -> Update
+        requires { All IsShort notices.items }
+        ensures { result ≡ all_bytes notices.items rectangles }
+    {
+        Update {
+            alloc,
+            notices,
+            rectangles,
+        }
+    }
+
+    /// The bytes that the viewer is sent. This needs no screen and never waits; `AllocError` where
+    /// their room is refused.
+    pub fn encode(&self) -> Result<Vec<u8>, AllocError>
+        ensures { IfOk result (λ bytes. bytes.items ≡ self.now) }
+    {
+        encode_all(self.alloc, &self.notices, &self.rectangles)
+    }
+}

@@ -1,0 +1,146 @@
+//! A viewer, as the screen keeps it.
+
+ghost use Rattle.std.specs.Prelude.{◌≡◌, ◌≢◌, ◌&&◌, ◌||◌, not, ℕ, List, ◌++◌, ◌≤◌, ◌<◌, ◌^◌, [], length, IfOk, IfSome, OnOk, OnErr};
+ghost use Rattle.messages.specs.Reading.{rest, new_items, is_open_rest};
+ghost use Rattle.region.specs.Region.{covers};
+ghost use Rattle.copy_schedule.specs.Marks.{marked, copied_by, pending, IsCutTo};
+ghost use Rattle.viewer.specs.Viewer.{none_wait, noticed, new_viewer, kept};
+ghost use Rattle.viewer.specs.Hearing.{after_items, heard_reply};
+ghost use Rattle.viewer.specs.Sending.{sending_kept};
+ghost use Rattle.viewer.specs.Given.{bytes_given};
+ghost use Rattle.viewer.specs.Short.{IsShort};
+
+use crate::Reply;
+use crate::cutting::{cut_bytes_in, cut_in};
+use crate::hearing::{hear_in, is_pending, new_standing};
+use crate::notices::Notice;
+use crate::standing::Standing;
+use crate::update::Update;
+use copy_schedule::Prepared;
+use framebuffer::Framebuffer;
+use region::Region;
+use std::alloc::{AllocError, Global};
+use std::marker::Model;
+
+/// One viewer of a screen. Contracts see what the RFC's words speak of: where its conversation stands, its pixel format and
+/// encoding, its marks of each place, and the notices that wait.
+#[derive(Drop)]
+pub struct Viewer {
+    alloc: Global,
+    standing: Standing,
+}
+
+impl Model for Viewer {
+    ghost use Rattle.viewer.specs.Viewer.{KeptViewer};
+
+    ghost Value = { KeptViewer };
+
+    ghost use Rattle.viewer.specs.Standings.{viewer_in};
+
+    ghost view = { λ a. viewer_in a.standing };
+}
+
+impl Viewer {
+    /// A viewer that has just connected to a screen of so many columns and rows, 1 to 8192 each: every place is owed to it.
+    /// `AllocError` where memory is refused.
+    pub fn new(alloc: Global, width: u32, height: u32) -> Result<Viewer, AllocError>
+        requires some_columns { 1 ≤ width }
+        requires columns { width ≤ 8192 }
+        requires some_rows { 1 ≤ height }
+        requires rows { height ≤ 8192 }
+        ensures { IfOk result (λ viewer. viewer ≡ kept (new_viewer width height)) }
+    {
+        let standing = new_standing(alloc, width, height)?;
+        Ok(Viewer { alloc, standing })
+    }
+
+    /// A piece of the viewer's bytes is heard (RFC 6143, 7.1 to 7.5): what it is answered, what it tells the application, and
+    /// why it is heard no further. The desktop's name is what its ServerInit tells it (7.3.2). After an `AllocError` the viewer
+    /// is as it was.
+    pub fn hear(&mut self, name: &[u8], piece: &[u8]) -> Result<Reply, AllocError>
+        requires { length name.now < 2 ^ 32 }
+        ensures reply { (before : List ℕ) → self.old.heard ≡ rest before →
+            IfOk result (λ reply. reply ≡ heard_reply self.old.marks.width self.old.marks.height name.now before piece.now) }
+        ensures viewer { (before : List ℕ) → self.old.heard ≡ rest before →
+            OnOk result (self.new ≡ after_items self.old.marks.width self.old.marks.height (new_items before piece.now) (record self.old { heard = rest (before ++ piece.now) })) }
+        ensures width { self.new.marks.width ≡ self.old.marks.width }
+        ensures height { self.new.marks.height ≡ self.old.marks.height }
+        ensures err { OnErr result (self.new ≡ self.old) }
+    {
+        hear_in(self.alloc, &mut self.standing, name, piece)
+    }
+
+    /// Whether an update that is cut now would have something to send (`FB_UPDATE_PENDING` of `rfb.h`, and the notices).
+    pub fn is_pending(&self) -> bool
+        ensures { result ≡ (is_open_rest self.now.heard && (not (none_wait self.now.notices) || pending self.now.marks)) }
+    {
+        is_pending(&self.standing)
+    }
+
+    /// Cuts an update of the picture for the viewer, with at most so many copies and so many rectangles of colours; None where
+    /// there is nothing to send. After an `AllocError` the viewer is as it was.
+    pub fn cut(&mut self, picture: &Framebuffer, limit: u32) -> Result<Option<Update>, AllocError>
+        requires limit { limit ≤ 1000 }
+        requires width { self.old.marks.width ≡ picture.now.width }
+        requires height { self.old.marks.height ≡ picture.now.height }
+        ensures bytes { IfOk result (λ update. bytes_given update ≡ (sending_kept picture.now.width picture.now.height limit picture.now.colours self.old).0) }
+        ensures viewer { OnOk result (self.new ≡ (sending_kept picture.now.width picture.now.height limit picture.now.colours self.old).1) }
+        ensures some { IfOk result (λ update. IfSome update (λ u. u ≢ [])) }
+        ensures width { self.new.marks.width ≡ self.old.marks.width }
+        ensures height { self.new.marks.height ≡ self.old.marks.height }
+        ensures err { OnErr result (self.new ≡ self.old) }
+    {
+        cut_in(self.alloc, picture, limit, &mut self.standing)
+    }
+
+    /// The same, encoded before the viewer changes; no bytes where there is nothing to send.
+    pub fn cut_bytes(&mut self, picture: &Framebuffer, limit: u32) -> Result<Vec<u8>, AllocError>
+        requires limit { limit ≤ 1000 }
+        requires width { self.old.marks.width ≡ picture.now.width }
+        requires height { self.old.marks.height ≡ picture.now.height }
+        ensures bytes { IfOk result (λ bytes. bytes.items ≡ (sending_kept picture.now.width picture.now.height limit picture.now.colours self.old).0) }
+        ensures viewer { OnOk result (self.new ≡ (sending_kept picture.now.width picture.now.height limit picture.now.colours self.old).1) }
+        ensures width { self.new.marks.width ≡ self.old.marks.width }
+        ensures height { self.new.marks.height ≡ self.old.marks.height }
+        ensures err { OnErr result (self.new ≡ self.old) }
+    {
+        cut_bytes_in(self.alloc, picture, limit, &mut self.standing)
+    }
+
+    /// The viewer keeps a notice for its next update, where it is open and fewer than 64 wait. This takes no memory.
+    pub fn keep(&mut self, notice: Notice)
+        requires { IsShort notice }
+        ensures { self.new ≡ noticed notice (is_open_rest self.old.heard) self.old }
+    {
+        if self.standing.ear.is_open() {
+            self.standing.notices.keep(notice);
+        }
+    }
+
+    /// The marks as they are once the region's places are owed; `commit` puts them in place. `AllocError` where memory is
+    /// refused.
+    pub fn prepare_mark(&self, region: &Region) -> Result<Prepared, AllocError>
+        ensures { IfOk result (λ prepared. prepared ≡ marked (covers region.now.list) self.now.marks) }
+    {
+        self.standing.marks.prepare_mark(region)
+    }
+
+    /// The marks as they are once a copy by (dx, dy) drew the region, which is on the screen with its sources; `commit` puts
+    /// them in place. `AllocError` where memory is refused.
+    pub fn prepare_copy(&self, region: &Region, dx: i32, dy: i32) -> Result<Prepared, AllocError>
+        requires cut { IsCutTo self.now.marks.width self.now.marks.height (dx, dy) region.now.list }
+        ensures { IfOk result (λ prepared. prepared ≡ copied_by (covers region.now.list) (dx, dy) self.now.uses_copyrect self.now.marks) }
+    {
+        let standing = &self.standing;
+        standing
+            .marks
+            .prepare_copy(region, dx, dy, standing.uses_copyrect)
+    }
+
+    /// The viewer's marks are the prepared ones from now on. This takes no memory.
+    pub fn commit(&mut self, prepared: Prepared)
+        ensures { self.new ≡ record self.old { marks = prepared } }
+    {
+        self.standing.marks.commit(prepared);
+    }
+}
