@@ -1,3 +1,4 @@
+pub mod Frame
 pub mod Picture
 pub mod Blocks
 pub mod Moves

@@ -1,6 +1,8 @@
 //! That each call succeeds where there is memory, on worked rectangles and blocks; and moves in all eight directions,
 //! whatever overlaps, beside a picture whose colours are moved one place at a time.
 
+ghost use Rattle.std.specs.Prelude.{◌≡◌, ◌+◌, ◌≤◌, true};
+
 use super::*;
 use region::Rect;
 use std::alloc::{AllocError, Global};
@@ -105,31 +107,107 @@ fn blocks_of_rectangles(rt: HostRuntime) {
     );
 }
 
+/// The block of a whole picture.
+fn whole(width: usize, height: usize) -> Block {
+    Block {
+        left: 0,
+        top: 0,
+        columns: width,
+        rows: height,
+    }
+}
+
+/// Whether so many columns or rows, from one on, are among the first ones.
+fn fit(from: usize, count: usize, limit: u32) -> bool
+    ensures { result ≡ true → from + count ≤ limit }
+{
+    let limit = limit as usize;
+    from <= limit && count <= limit - from
+}
+
+/// Writes in a block that lies on the picture.
+fn write(
+    rt: &impl Abort,
+    picture: &mut Framebuffer,
+    block: Block,
+    colours: &[u32],
+) -> Result<(), AllocError> {
+    assert!(rt; fit(block.left, block.columns, picture.width()));
+    assert!(rt; fit(block.top, block.rows, picture.height()));
+    let Some(places) = block.rows.checked_mul(block.columns) else {
+        return Err(AllocError);
+    };
+    assert_eq!(rt; colours.len(), places);
+    picture.write(block, colours)
+}
+
+/// The colours of a block that lies on the picture.
+fn read(rt: &impl Abort, picture: &Framebuffer, block: Block) -> Result<Vec<u32>, AllocError> {
+    assert!(rt; fit(block.left, block.columns, picture.width()));
+    assert!(rt; fit(block.top, block.rows, picture.height()));
+    picture.read(block)
+}
+
 #[test]
-fn a_block_is_replaced_and_read(rt: HostRuntime) -> Result<(), Fail> {
-    let alloc = rt.alloc();
-    let mut picture = [1, 2, 3, 4, 5, 6, 7, 8, 9, 10, 11, 12].to_vec(alloc)?;
+fn a_block_is_written_and_read(rt: HostRuntime) -> Result<(), Fail> {
+    let mut picture = Framebuffer::new(rt.alloc(), 4, 3)?;
+    let all = whole(4, 3);
+    write(
+        &rt,
+        &mut picture,
+        all,
+        &[1, 2, 3, 4, 5, 6, 7, 8, 9, 10, 11, 12],
+    )?;
     let block = Block {
         left: 1,
         top: 1,
         columns: 2,
         rows: 2,
     };
-    let before = read_block(alloc, &picture, 4, block)?;
+    let before = read(&rt, &picture, block)?;
     assert_eq!(rt; before.as_slice(), [6, 7, 10, 11].as_slice());
-    replace(
+    write(
+        &rt,
         &mut picture,
-        4,
-        3,
         block,
         &[0x77_123456, 0x16, 0x17, 0xff_000000],
-    );
+    )?;
+    let after = read(&rt, &picture, block)?;
+    assert_eq!(rt; after.as_slice(), [0x123456, 0x16, 0x17, 0].as_slice());
+    let given = read(&rt, &picture, all)?;
     assert_eq!(rt;
-        picture.as_slice(),
+        given.as_slice(),
         [1, 2, 3, 4, 5, 0x123456, 0x16, 8, 9, 0x17, 0, 12].as_slice()
     );
-    let after = read_block(alloc, &picture, 4, block)?;
-    assert_eq!(rt; after.as_slice(), [0x123456, 0x16, 0x17, 0].as_slice());
+    Ok(())
+}
+
+#[test]
+fn a_new_framebuffer_is_black(rt: HostRuntime) -> Result<(), Fail> {
+    let picture = Framebuffer::new(rt.alloc(), 3, 2)?;
+    assert_eq!(rt; (picture.width(), picture.height()), (3, 2));
+    let given = read(&rt, &picture, whole(3, 2))?;
+    assert_eq!(rt; given.as_slice(), [0, 0, 0, 0, 0, 0].as_slice());
+    let nothing = read(&rt, &picture, whole(0, 2))?;
+    assert_eq!(rt; nothing.len(), 0);
+    Ok(())
+}
+
+#[test]
+fn the_colour_of_each_place(rt: HostRuntime) -> Result<(), Fail> {
+    let mut picture = Framebuffer::new(rt.alloc(), 3, 2)?;
+    write(&rt, &mut picture, whole(3, 2), &[1, 2, 3, 4, 5, 6])?;
+    for (x, y, want) in [
+        (0, 0, Some(1)),
+        (2, 0, Some(3)),
+        (0, 1, Some(4)),
+        (2, 1, Some(6)),
+        (3, 0, None),
+        (0, 2, None),
+        (u32::MAX, u32::MAX, None),
+    ] {
+        assert_eq!(rt; picture.colour(x, y), want, "{x} {y}");
+    }
     Ok(())
 }
 
@@ -186,7 +264,7 @@ fn moved_plainly(
     Ok(picture)
 }
 
-/// The same by rows.
+/// The same by a framebuffer.
 fn moved(
     rt: &impl Abort,
     alloc: Global,
@@ -194,16 +272,21 @@ fn moved(
     rects: &[Rect],
     offset: (i32, i32),
 ) -> Result<Vec<u32>, AllocError> {
-    assert!(rt; 0 < width && width <= 8192 && height <= 8192);
-    let Some(places) = width.checked_mul(height) else {
-        return Ok(Vec::new(alloc));
-    };
-    let mut picture = numbered(alloc, places)?;
-    assert_eq!(rt; picture.len(), places as usize);
-    let pieces = destinations(alloc, rects, offset.0, offset.1, width, height)?;
-    let mut row = vec![in alloc; 0u32; width as usize]?;
-    move_colours(&mut picture, width, height, &pieces, offset, &mut row);
-    Ok(picture)
+    assert!(rt; 0 < width && width <= 8192 && 0 < height && height <= 8192);
+    let all = whole(width as usize, height as usize);
+    let colours = numbered(alloc, width.saturating_mul(height))?;
+    let mut picture = Framebuffer::new(alloc, width, height)?;
+    write(rt, &mut picture, all, &colours)?;
+    let pieces = destinations(
+        alloc,
+        rects,
+        offset.0,
+        offset.1,
+        picture.width(),
+        picture.height(),
+    )?;
+    picture.move_colours(&pieces, offset)?;
+    read(rt, &picture, all)
 }
 
 /// An offset so many times as far.

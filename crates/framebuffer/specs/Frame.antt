@@ -1,0 +1,16 @@
+-- A picture with its size: what a framebuffer stands for.
+use Rattle.std.specs.Prelude.{◌≡◌, ℕ, ◌*◌, ◌≤◌, List, length}
+
+-- the colours of its places, row by row
+pub record Frame : Type 0 where
+  pub width : ℕ
+  pub height : ℕ
+  pub colours : List ℕ
+
+-- a picture of 1 to 8192 columns and rows has a colour for each of its places
+pub record IsPicture (f : Frame) : Type 0 where
+  pub some_columns : 1 ≤ f.width
+  pub columns : f.width ≤ 8192
+  pub some_rows : 1 ≤ f.height
+  pub rows : f.height ≤ 8192
+  pub places : length f.colours ≡ f.width * f.height
