@@ -19,3 +19,4 @@ mod Pictured
 mod Painted
 mod Shown
 mod Unchanged
+mod Framed

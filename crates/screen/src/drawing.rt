@@ -149,6 +149,18 @@ pub fn marks_with_rects(
     marks_with_region(alloc, viewers, &region)
 }
 
+/// A viewer's marks once a copy by (dx, dy) drew the region.
+fn copied_marks(
+    viewer: &Viewer,
+    region: &Region,
+    offset: (i32, i32),
+) -> Result<Prepared, AllocError>
+    requires cut { IsCutTo viewer.now.marks.width viewer.now.marks.height offset region.now.list }
+    ensures { IfOk result (λ marks. marks ≡ marks_copied (covers region.now.list) offset viewer.now) }
+{
+    viewer.prepare_copy(region, offset.0, offset.1)
+}
+
 /// The marks of each viewer once a copy by (dx, dy) drew the region.
 fn marks_with_copied_region(
     alloc: Global,
@@ -162,7 +174,7 @@ fn marks_with_copied_region(
     let mut all = Vec::with_capacity(alloc, viewers.len())?;
     let mut place = viewers.first();
     while let Some(at) = place {
-        all.push(viewers.at(at).prepare_copy(region, offset.0, offset.1)?)?;
+        all.push(copied_marks(viewers.at(at), region, offset)?)?;
         place = viewers.next(at);
     }
     Ok(all)

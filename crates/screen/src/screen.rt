@@ -209,7 +209,7 @@ impl Screen {
             Tells (λ _. nothing_to_say) result (answer_to config list (Event.DoCopy rects.now dx dy)) }
         ensures err { OnErr result (self.new ≡ self.old) }
     {
-        let (width, height) = (self.config.width, self.config.height);
+        let (width, height) = (self.picture.width(), self.picture.height());
         let pieces = destinations(self.alloc, rects, dx, dy, width, height)?;
         if moves_nothing(&pieces, (dx, dy)) {
             return Ok(());

@@ -9,7 +9,7 @@ pub returns-in-Ok-clause-sized : goal.returns-in-Ok-clause-sized
 returns-in-Ok-clause-sized c = λ sized.
     let new = c.in_ok-viewer.ensures in
     rw c.in-Ok.ensures.pairs
-    (all-last (IsSized c.args.config.now) c.args.viewers.now.pairs c.args.number c.in_ok-viewer.seat sized (record {
+    (all-last (IsSized c.args.config.now) c.args.viewers.now.pairs c.args.number c.in_ok-viewer.viewer sized (record {
       width = ap (λ (v : Viewer Rest). v.marks.width) new;
       height = ap (λ (v : Viewer Rest). v.marks.height) new;
     }))

@@ -29,16 +29,16 @@ loop-place-preserved c =
     let taken = taken_next all n made.0 c.loop-place.all.items c.pop.new.self.items c.pop.result left made.1 c.pop.ensures.items (λ some. c.pop.ensures.variant.1 (omega (arith, some))) in
     elim c.match-pop.branch [
       | in-Some-pop w ↦
-          let s : KeptViewer = w.at_mut-seat.result.now in
+          let s : KeptViewer = w.at_mut.result.now in
           let step = rw w.viewers-is at c.next-place.ensures.passed in
-          let marks : w.commit.new.self ≡ made.0 = w.commit.ensures ∙ same_Some w.in-Some-pop.prepared made.0 (sym w.in-Some-pop.is ∙ taken.0) in
+          let marks : w.commit.new.self ≡ record s { marks = made.0 } = w.commit.ensures ∙ ap (λ (m : Marks). record s { marks = m }) (same_Some w.in-Some-pop.prepared made.0 (sym w.in-Some-pop.is ∙ taken.0)) in
           let was : option_map (λ (pair : ℕ × KeptViewer). pair.1) (slice_get start.pairs n) ≡ Some s =
           ap (λ (l : List ℕ). option_map (λ (pair : ℕ × KeptViewer). pair.1) (slice_get start.pairs (index_of l c.in-Some.at))) c.loop-place.invariant.walk.places
-          ∙ sym (walk_value start target now c.loop-place.place c.in-Some.at keys c.loop-place.invariant.walk c.in-Some.is) ∙ w.at_mut-seat.ensures.value in
+          ∙ sym (walk_value start target now c.loop-place.place c.in-Some.at keys c.loop-place.invariant.walk c.in-Some.is) ∙ w.at_mut.ensures.value in
           rw w.viewers-is (record {
             walk =
-                walk_step start target now c.loop-place.place c.next-place.result c.in-Some.at (record s { marks = w.commit.new.self }) keys c.loop-place.invariant.walk c.in-Some.is
-                (with-value start.pairs all n s made.0 was made.1 ∙ ap (λ (m : Marks). Some (record s { marks = m })) (sym marks))
+                walk_step start target now c.loop-place.place c.next-place.result c.in-Some.at w.commit.new.self keys c.loop-place.invariant.walk c.in-Some.is
+                (with-value start.pairs all n s made.0 was made.1 ∙ ap (λ (v : KeptViewer). Some v) (sym marks))
                 (rw w.viewers-is at c.next-place.ensures.place) step;
             left = taken.1 ∙ ap (λ (m : ℕ). reverse (drop m all)) (let e : suc n ≡ n + 1 = omega arith in e) ∙ sym (ap (λ (m : ℕ). reverse (drop m all)) step);
           })

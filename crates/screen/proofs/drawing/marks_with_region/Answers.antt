@@ -11,5 +11,5 @@ loop-place-preserved c = record {
   made =
       c.in_ok-push.ensures.items
       ∙ ap (λ (m : Marks). c.loop-place.all.items ++ m ∷ []) c.in_ok-prepare_mark.ensures
-      ∙ read_step (marks_owed (covers c.args.region.now.list)) c.args.viewers.now c.loop-place.all.items c.loop-place.place c.next-place.result c.in-Some.at c.at-seat.result.now c.loop-place.invariant.made c.in-Some.is c.at-seat.ensures c.next-place.ensures.passed;
+      ∙ read_step (marks_owed (covers c.args.region.now.list)) c.args.viewers.now c.loop-place.all.items c.loop-place.place c.next-place.result c.in-Some.at c.at.result.now c.loop-place.invariant.made c.in-Some.is c.at.ensures c.next-place.ensures.passed;
 }

@@ -13,10 +13,10 @@ loop-place-preserved c =
     c.next-place.result
     c.in-Some.at
     c.at_mut.result.now
-    c.keep_notice.new.seat
+    c.keep.new.self
     c.loop-place.invariant
     c.in-Some.is
     c.at_mut.ensures.value
-    c.keep_notice.ensures
+    c.keep.ensures
     c.next-place.ensures.place
     c.next-place.ensures.passed

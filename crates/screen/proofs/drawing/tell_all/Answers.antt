@@ -26,8 +26,8 @@ loop-place-preserved c =
           let step = rw w.viewers-is at c.next-place.ensures.passed in
           rw w.viewers-is (record {
             walk =
-                change_step (viewer_noticed text) start now c.loop-place.place c.next-place.result c.in-Some.at w.at_mut.result.now w.keep_notice.new.seat c.loop-place.invariant.walk c.in-Some.is w.at_mut.ensures.value
-                (w.keep_notice.ensures ∙ ap (λ (t : Notice). viewer_noticed t w.at_mut.result.now) taken.1) (rw w.viewers-is at c.next-place.ensures.place) step;
+                change_step (viewer_noticed text) start now c.loop-place.place c.next-place.result c.in-Some.at w.at_mut.result.now w.keep.new.self c.loop-place.invariant.walk c.in-Some.is w.at_mut.ensures.value
+                (w.keep.ensures ∙ ap (λ (t : Notice). viewer_noticed t w.at_mut.result.now) taken.1) (rw w.viewers-is at c.next-place.ensures.place) step;
             left = taken.0 ∙ sym (ap (λ (m : ℕ). replicate (length start.places - m) text) step);
           })
       | in_default-pop w ↦ absurd (replicate-some (length start.places) n text c.loop-place.notices.items below left (search rules))

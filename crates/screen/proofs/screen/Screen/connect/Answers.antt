@@ -32,12 +32,12 @@ returns-clause-step c = λ config list h.
     let away : viewer_numbered here.viewers.pairs c.args.number ≡ None = not_found here.viewers c.args.number c.place_of.result (sym c.is_some.ensures ∙ c.if-is_some.false) c.place_of.ensures.found in
     let after : State = seen here.config here.picture.colours c.let_in.new.viewers.pairs in
     at_config (λ k. after ≡ state k (list ++ Connect c.args.number ∷ [])) here.config config here.picture.colours here.viewers.pairs list (c.self.view_is ∙ h) (λ k.
-    connect-step here.config list here.picture.colours here.viewers.pairs c.let_in.new.viewers.pairs c.args.number k away c.in_ok-viewer_viewer.ensures.entries)
+    connect-step here.config list here.picture.colours here.viewers.pairs c.let_in.new.viewers.pairs c.args.number k away c.in_ok-let_in.ensures.entries)
 
 pub returns-clause-answer : goal.returns-clause-answer
 returns-clause-answer c = λ config list h.
     let here = c.self.inside in
     let away : viewer_numbered here.viewers.pairs c.args.number ≡ None = not_found here.viewers c.args.number c.place_of.result (sym c.is_some.ensures ∙ c.if-is_some.false) c.place_of.ensures.found in
-    at_config (λ k. Tells gives (Ok c.in_ok-viewer_viewer.field-0) (answer_to k list (Connect c.args.number))) here.config config here.picture.colours here.viewers.pairs list (c.self.view_is ∙ h) (λ k.
+    at_config (λ k. Tells gives (Ok c.in_ok-let_in.field-0) (answer_to k list (Connect c.args.number))) here.config config here.picture.colours here.viewers.pairs list (c.self.view_is ∙ h) (λ k.
     let answer = connect-answer here.config list here.picture.colours here.viewers.pairs c.args.number k away in
-    tells-ok gives _ _ c.in_ok-viewer_viewer.field-0 refl (ap (λ (a : Answer). a.refused) answer) (ap gives c.in_ok-viewer_viewer.ensures.version ∙ sym answer))
+    tells-ok gives _ _ c.in_ok-let_in.field-0 refl (ap (λ (a : Answer). a.refused) answer) (ap gives c.in_ok-let_in.ensures.version ∙ sym answer))

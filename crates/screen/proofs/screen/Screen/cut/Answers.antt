@@ -12,7 +12,7 @@ use Rattle.screen.proofs.Connected.{with_numbered}
 use Rattle.screen.proofs.Kept.{all-at, all-set, numbered-same}
 use Rattle.screen.specs.Alone.{Tells, gives}
 use Rattle.viewer.specs.Given.{bytes_given}
-use Rattle.viewer.specs.Sending.{sending_kept}
+use Rattle.screen.proofs.Framed.{sent-on}
 use Rattle.screen.proofs.Calls.{seen, none_there, at_config, answer-absent_cut, cut-step, cut-answer, tells-refused, tells-memory, tells-ok}
 use Rattle.screen.proofs.screen.Screen.cut.Goals as goal
 
@@ -38,17 +38,20 @@ returns-clause-step c = λ config list h.
     let after : State = seen c.self.inside.config c.self.inside.picture.colours (with_numbered c.self.inside.viewers.pairs c.args.number c.cut.new.self) in
     at_config (λ k. after ≡ state k (list ++ Cut c.args.number ∷ [])) c.self.inside.config config c.self.inside.picture.colours c.self.inside.viewers.pairs list (c.self.view_is ∙ h) (λ k.
     cut-step c.self.inside.config list c.self.inside.picture.colours c.self.inside.viewers.pairs c.args.number c.in-Some.viewer.now c.cut.new.self k c.in-Some.ensures.value
-    (c.in_ok-cut.ensures.viewer ∙ ap (λ q. (sending_kept c.self.inside.config.width c.self.inside.config.height c.self.inside.config.rects_per_update q c.in-Some.viewer.now).1) c.deref.ensures.value))
+    (c.in_ok-cut.ensures.viewer ∙ ap (λ (p : List ℕ × KeptViewer). p.1) (sent-on c.self.inside.config c.self.inside.picture c.self.invariant.width c.self.invariant.height c.in-Some.viewer.now)))
 
 pub returns-clause-answer : goal.returns-clause-answer
 returns-clause-answer c = λ config list h.
     let P : Config → Type 0 = λ k. Tells view (Ok c.in_ok-cut.field-0) (answer_to k list (Cut c.args.number)) in
     at_config P c.self.inside.config config c.self.inside.picture.colours c.self.inside.viewers.pairs list (c.self.view_is ∙ h) (λ k.
     let answer = cut-answer c.self.inside.config list c.self.inside.picture.colours c.self.inside.viewers.pairs c.args.number c.in-Some.viewer.now k c.in-Some.ensures.value in
-    tells-ok view _ _ c.in_ok-cut.field-0 refl (ap (λ (a : Answer). a.refused) answer) (ap gives (c.in_ok-cut.ensures.bytes ∙ ap (λ q. (sending_kept c.self.inside.config.width c.self.inside.config.height c.self.inside.config.rects_per_update q c.in-Some.viewer.now).0) c.deref.ensures.value) ∙ sym answer))
+    tells-ok view _ _ c.in_ok-cut.field-0 refl (ap (λ (a : Answer). a.refused) answer) (ap gives (c.in_ok-cut.ensures.bytes ∙ ap (λ (p : List ℕ × KeptViewer). p.0) (sent-on c.self.inside.config c.self.inside.picture c.self.invariant.width c.self.invariant.height c.in-Some.viewer.now)) ∙ sym answer))
 
-pub cut-requires-clause-sized : goal.cut-requires-clause-sized
-cut-requires-clause-sized c = all-at (IsSized c.self.inside.config) c.self.inside.viewers.pairs c.args.number c.in-Some.viewer.now c.self.invariant.sized c.in-Some.ensures.value
+pub cut-requires-clause-width : goal.cut-requires-clause-width
+cut-requires-clause-width c = (all-at (IsSized c.self.inside.config) c.self.inside.viewers.pairs c.args.number c.in-Some.viewer.now c.self.invariant.sized c.in-Some.ensures.value).width ∙ sym c.self.invariant.width
+
+pub cut-requires-clause-height : goal.cut-requires-clause-height
+cut-requires-clause-height c = (all-at (IsSized c.self.inside.config) c.self.inside.viewers.pairs c.args.number c.in-Some.viewer.now c.self.invariant.sized c.in-Some.ensures.value).height ∙ sym c.self.invariant.height
 
 pub invariant_of-self-in_err-cut : goal.invariant_of-self-in_err-cut
 invariant_of-self-in_err-cut c =
@@ -57,7 +60,7 @@ invariant_of-self-in_err-cut c =
       accepted = c.self.invariant.accepted;
       width = c.self.invariant.width;
   height = c.self.invariant.height;
-      sized = all-set (IsSized c.self.inside.config) c.self.inside.viewers.pairs (index_of_number c.self.inside.viewers c.args.number) c.cut.new.self c.self.invariant.sized (c.cut.ensures.sized);
+      sized = all-set (IsSized c.self.inside.config) c.self.inside.viewers.pairs (index_of_number c.self.inside.viewers c.args.number) c.cut.new.self c.self.invariant.sized (record { width = c.cut.ensures.width ∙ was.width; height = c.cut.ensures.height ∙ was.height });
     }
 
 pub invariant_of-self-2 : goal.invariant_of-self-2
@@ -67,7 +70,7 @@ invariant_of-self-2 c =
       accepted = c.self.invariant.accepted;
       width = c.self.invariant.width;
   height = c.self.invariant.height;
-      sized = all-set (IsSized c.self.inside.config) c.self.inside.viewers.pairs (index_of_number c.self.inside.viewers c.args.number) c.cut.new.self c.self.invariant.sized (c.cut.ensures.sized);
+      sized = all-set (IsSized c.self.inside.config) c.self.inside.viewers.pairs (index_of_number c.self.inside.viewers c.args.number) c.cut.new.self c.self.invariant.sized (record { width = c.cut.ensures.width ∙ was.width; height = c.cut.ensures.height ∙ was.height });
     }
 
 pub returns-in_err-cut-clause-err : goal.returns-in_err-cut-clause-err

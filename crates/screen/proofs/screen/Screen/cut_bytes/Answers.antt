@@ -11,7 +11,7 @@ use Rattle.screen.specs.Answers.{State, state, answer_to}
 use Rattle.screen.proofs.Connected.{with_numbered}
 use Rattle.screen.proofs.Kept.{all-at, all-set, numbered-same}
 use Rattle.screen.specs.Alone.{Tells, gives}
-use Rattle.viewer.specs.Sending.{sending_kept}
+use Rattle.screen.proofs.Framed.{sent-on}
 use Rattle.screen.proofs.Calls.{seen, none_there, at_config, answer-absent_cut, cut-step, cut-answer, tells-refused, tells-memory, tells-ok}
 use Rattle.screen.proofs.screen.Screen.cut_bytes.Goals as goal
 
@@ -37,17 +37,20 @@ returns-clause-step c = λ config list h.
     let after : State = seen c.self.inside.config c.self.inside.picture.colours (with_numbered c.self.inside.viewers.pairs c.args.number c.cut_bytes.new.self) in
     at_config (λ k. after ≡ state k (list ++ Cut c.args.number ∷ [])) c.self.inside.config config c.self.inside.picture.colours c.self.inside.viewers.pairs list (c.self.view_is ∙ h) (λ k.
     cut-step c.self.inside.config list c.self.inside.picture.colours c.self.inside.viewers.pairs c.args.number c.in-Some.viewer.now c.cut_bytes.new.self k c.in-Some.ensures.value
-    (c.in_ok-bytes.ensures.viewer ∙ ap (λ q. (sending_kept c.self.inside.config.width c.self.inside.config.height c.self.inside.config.rects_per_update q c.in-Some.viewer.now).1) c.deref.ensures.value))
+    (c.in_ok-bytes.ensures.viewer ∙ ap (λ (p : List ℕ × KeptViewer). p.1) (sent-on c.self.inside.config c.self.inside.picture c.self.invariant.width c.self.invariant.height c.in-Some.viewer.now)))
 
 pub returns-clause-answer : goal.returns-clause-answer
 returns-clause-answer c = λ config list h.
     let P : Config → Type 0 = λ k. Tells view (Ok c.from_vec.result) (answer_to k list (Cut c.args.number)) in
     at_config P c.self.inside.config config c.self.inside.picture.colours c.self.inside.viewers.pairs list (c.self.view_is ∙ h) (λ k.
     let answer = cut-answer c.self.inside.config list c.self.inside.picture.colours c.self.inside.viewers.pairs c.args.number c.in-Some.viewer.now k c.in-Some.ensures.value in
-    tells-ok view _ _ c.from_vec.result refl (ap (λ (a : Answer). a.refused) answer) (ap gives (c.from_vec.ensures ∙ c.in_ok-bytes.ensures.bytes ∙ ap (λ q. (sending_kept c.self.inside.config.width c.self.inside.config.height c.self.inside.config.rects_per_update q c.in-Some.viewer.now).0) c.deref.ensures.value) ∙ sym answer))
+    tells-ok view _ _ c.from_vec.result refl (ap (λ (a : Answer). a.refused) answer) (ap gives (c.from_vec.ensures ∙ c.in_ok-bytes.ensures.bytes ∙ ap (λ (p : List ℕ × KeptViewer). p.0) (sent-on c.self.inside.config c.self.inside.picture c.self.invariant.width c.self.invariant.height c.in-Some.viewer.now)) ∙ sym answer))
 
-pub cut_bytes-requires-clause-sized : goal.cut_bytes-requires-clause-sized
-cut_bytes-requires-clause-sized c = all-at (IsSized c.self.inside.config) c.self.inside.viewers.pairs c.args.number c.in-Some.viewer.now c.self.invariant.sized c.in-Some.ensures.value
+pub cut_bytes-requires-clause-width : goal.cut_bytes-requires-clause-width
+cut_bytes-requires-clause-width c = (all-at (IsSized c.self.inside.config) c.self.inside.viewers.pairs c.args.number c.in-Some.viewer.now c.self.invariant.sized c.in-Some.ensures.value).width ∙ sym c.self.invariant.width
+
+pub cut_bytes-requires-clause-height : goal.cut_bytes-requires-clause-height
+cut_bytes-requires-clause-height c = (all-at (IsSized c.self.inside.config) c.self.inside.viewers.pairs c.args.number c.in-Some.viewer.now c.self.invariant.sized c.in-Some.ensures.value).height ∙ sym c.self.invariant.height
 
 pub invariant_of-self-in_err-bytes : goal.invariant_of-self-in_err-bytes
 invariant_of-self-in_err-bytes c =
@@ -56,7 +59,7 @@ invariant_of-self-in_err-bytes c =
       accepted = c.self.invariant.accepted;
       width = c.self.invariant.width;
   height = c.self.invariant.height;
-      sized = all-set (IsSized c.self.inside.config) c.self.inside.viewers.pairs (index_of_number c.self.inside.viewers c.args.number) c.cut_bytes.new.self c.self.invariant.sized (c.cut_bytes.ensures.sized);
+      sized = all-set (IsSized c.self.inside.config) c.self.inside.viewers.pairs (index_of_number c.self.inside.viewers c.args.number) c.cut_bytes.new.self c.self.invariant.sized (record { width = c.cut_bytes.ensures.width ∙ was.width; height = c.cut_bytes.ensures.height ∙ was.height });
     }
 
 pub invariant_of-self-2 : goal.invariant_of-self-2
@@ -66,7 +69,7 @@ invariant_of-self-2 c =
       accepted = c.self.invariant.accepted;
       width = c.self.invariant.width;
   height = c.self.invariant.height;
-      sized = all-set (IsSized c.self.inside.config) c.self.inside.viewers.pairs (index_of_number c.self.inside.viewers c.args.number) c.cut_bytes.new.self c.self.invariant.sized (c.cut_bytes.ensures.sized);
+      sized = all-set (IsSized c.self.inside.config) c.self.inside.viewers.pairs (index_of_number c.self.inside.viewers c.args.number) c.cut_bytes.new.self c.self.invariant.sized (record { width = c.cut_bytes.ensures.width ∙ was.width; height = c.cut_bytes.ensures.height ∙ was.height });
     }
 
 pub returns-in_err-bytes-clause-err : goal.returns-in_err-bytes-clause-err

@@ -13,6 +13,7 @@ use Rattle.viewer.specs.Viewer.{KeptViewer}
 use Rattle.std.specs.Map.{values_of}
 use Rattle.screen.specs.Answers.{State}
 use Rattle.screen.specs.Entries.{viewer_with, marks_copied}
+use Rattle.screen.proofs.Framed.{moved-on, wide-now, high-now, cut-on, inside-on, long-on}
 use Rattle.screen.proofs.Drawn.{state-drawn, state-unseen, sized-changed}
 use Rattle.screen.proofs.Committed.{with-made}
 use Rattle.screen.proofs.Copies.{nothing, something, viewer_still, viewer_moved, same_size, all-cut}
@@ -29,11 +30,12 @@ returns-then-moves_nothing-clause-step c = λ config list h.
     let dx : FitsSigned w32 c.args.dx = c.ranges.dx in
     let dy : FitsSigned w32 c.args.dy = c.ranges.dy in
     let pieces : List Rect = c.in_ok-pieces.pieces.items in
-    let places : covers pieces ≡ cut_destination here.config.width here.config.height (union_of c.args.rects.now) (c.args.dx, c.args.dy) = simp to_z-of_z at c.in_ok-pieces.ensures.places in
+    let places : covers pieces ≡ cut_destination here.config.width here.config.height (union_of c.args.rects.now) (c.args.dx, c.args.dy) =
+    (simp to_z-of_z at c.in_ok-pieces.ensures.places) ∙ cut-on here.config here.picture c.self.invariant.width c.self.invariant.height c.width-width.result c.height-height.result c.width-width.ensures.value c.height-height.ensures.value (union_of c.args.rects.now) (c.args.dx, c.args.dy) in
     let why : (same_offset (c.args.dx, c.args.dy) (pos 0, pos 0) ≡ true) ⊎ (c.deref.result.now ≡ []) = simp to_z-of_z at (c.moves_nothing.ensures.yes c.if-moves_nothing.true) in
     let quiet = nothing here.config.width here.config.height (union_of c.args.rects.now) (c.args.dx, c.args.dy) pieces places (subst (λ (l : List Rect). (same_offset (c.args.dx, c.args.dy) (pos 0, pos 0) ≡ true) ⊎ (l ≡ [])) c.deref.ensures.value why) in
     sym c.self.view_is ∙ state-unseen config here.config here.picture.colours here.picture.colours here.viewers.pairs (DoCopy c.args.rects.now c.args.dx c.args.dy) list refl refl
-    (sym (idle here.config.width here.config.height (cut_destination here.config.width here.config.height (union_of c.args.rects.now) (c.args.dx, c.args.dy)) (c.args.dx, c.args.dy) here.picture.colours (omega (arith, c.self.invariant.accepted.some_columns)) c.self.invariant.size (none_left here.config.width here.config.height c.args.rects.now (c.args.dx, c.args.dy) pieces places (subst (λ (l : List Rect). (same_offset (c.args.dx, c.args.dy) (pos 0, pos 0) ≡ true) ⊎ (l ≡ [])) c.deref.ensures.value why))))
+    (sym (idle here.config.width here.config.height (cut_destination here.config.width here.config.height (union_of c.args.rects.now) (c.args.dx, c.args.dy)) (c.args.dx, c.args.dy) here.picture.colours (omega (arith, c.self.invariant.accepted.some_columns)) (long-on here.config here.picture c.self.invariant.width c.self.invariant.height c.width-width.ensures.picture.places) (none_left here.config.width here.config.height c.args.rects.now (c.args.dx, c.args.dy) pieces places (subst (λ (l : List Rect). (same_offset (c.args.dx, c.args.dy) (pos 0, pos 0) ≡ true) ⊎ (l ≡ [])) c.deref.ensures.value why))))
     (λ s. viewer_still here.config.width here.config.height (union_of c.args.rects.now) (c.args.dx, c.args.dy) s quiet) (c.self.view_is ∙ h)
 
 pub marks_with_copy-requires : goal.marks_with_copy-requires
@@ -42,12 +44,13 @@ marks_with_copy-requires c =
     let dx : FitsSigned w32 c.args.dx = c.ranges.dx in
     let dy : FitsSigned w32 c.args.dy = c.ranges.dy in
     let pieces : List Rect = c.in_ok-pieces.pieces.items in
-    let places : covers pieces ≡ cut_destination here.config.width here.config.height (union_of c.args.rects.now) (c.args.dx, c.args.dy) = simp to_z-of_z at c.in_ok-pieces.ensures.places in
+    let places : covers pieces ≡ cut_destination here.config.width here.config.height (union_of c.args.rects.now) (c.args.dx, c.args.dy) =
+    (simp to_z-of_z at c.in_ok-pieces.ensures.places) ∙ cut-on here.config here.picture c.self.invariant.width c.self.invariant.height c.width-width.result c.height-height.result c.width-width.ensures.value c.height-height.ensures.value (union_of c.args.rects.now) (c.args.dx, c.args.dy) in
     let cut : All (λ (s : KeptViewer). IsCutTo s.marks.width s.marks.height (c.args.dx, c.args.dy) pieces) (values_of here.viewers.pairs) = all-cut here.config (union_of c.args.rects.now) (c.args.dx, c.args.dy) pieces (values_of here.viewers.pairs) places c.self.invariant.sized in
     record { inside = search rules; cut = simp to_z-of_z (subst (λ (l : List Rect). All (λ (s : KeptViewer). IsCutTo s.marks.width s.marks.height (c.args.dx, c.args.dy) l) (values_of here.viewers.pairs)) (sym c.deref-2.ensures.value) cut) }
 
-pub invariant_of-self : goal.invariant_of-self
-invariant_of-self c =
+pub invariant_of-self-2 : goal.invariant_of-self-2
+invariant_of-self-2 c =
     let here = c.self.inside in
     let dx : FitsSigned w32 c.args.dx = c.ranges.dx in
     let dy : FitsSigned w32 c.args.dy = c.ranges.dy in
@@ -57,7 +60,8 @@ invariant_of-self c =
     let made = c.commit_all.ensures ∙ with-made marks_of here.viewers.pairs c.in_ok-marks.marks.items (all ∙ ap (λ l. map (marks_copied (covers l) (c.args.dx, c.args.dy)) (values_of here.viewers.pairs)) c.deref-2.ensures.value) in
     record {
       accepted = c.self.invariant.accepted;
-      size = c.move_colours.ensures.size;
+      width = wide-now here.config here.picture c.self.invariant.width c.self.invariant.height c.move_colours.new.self _ c.in_ok-move_colours.ensures.ok;
+      height = high-now here.config here.picture c.self.invariant.width c.self.invariant.height c.move_colours.new.self _ c.in_ok-move_colours.ensures.ok;
       sized = rw made (sized-changed here.config (viewer_with marks_of) here.viewers.pairs (λ s was. let size = same_size (covers pieces) (c.args.dx, c.args.dy) s in record { width = size.0 ∙ was.width; height = size.1 ∙ was.height }) c.self.invariant.sized);
     }
 
@@ -67,15 +71,16 @@ returns-clause-step c = λ config list h.
     let dx : FitsSigned w32 c.args.dx = c.ranges.dx in
     let dy : FitsSigned w32 c.args.dy = c.ranges.dy in
     let pieces : List Rect = c.in_ok-pieces.pieces.items in
-    let places : covers pieces ≡ cut_destination here.config.width here.config.height (union_of c.args.rects.now) (c.args.dx, c.args.dy) = simp to_z-of_z at c.in_ok-pieces.ensures.places in
+    let places : covers pieces ≡ cut_destination here.config.width here.config.height (union_of c.args.rects.now) (c.args.dx, c.args.dy) =
+    (simp to_z-of_z at c.in_ok-pieces.ensures.places) ∙ cut-on here.config here.picture c.self.invariant.width c.self.invariant.height c.width-width.result c.height-height.result c.width-width.ensures.value c.height-height.ensures.value (union_of c.args.rects.now) (c.args.dx, c.args.dy) in
     let why : (same_offset (c.args.dx, c.args.dy) (pos 0, pos 0) ≡ false) × (c.deref.result.now ≢ []) = simp to_z-of_z at (c.moves_nothing.ensures.no c.if-moves_nothing.false) in
-    let busy = something here.config.width here.config.height (union_of c.args.rects.now) (c.args.dx, c.args.dy) pieces places c.in_ok-pieces.ensures.inside (subst (λ (l : List Rect). (same_offset (c.args.dx, c.args.dy) (pos 0, pos 0) ≡ false) × (l ≢ [])) c.deref.ensures.value why) in
+    let busy = something here.config.width here.config.height (union_of c.args.rects.now) (c.args.dx, c.args.dy) pieces places (inside-on here.config here.picture c.self.invariant.width c.self.invariant.height c.width-width.result c.height-height.result c.width-width.ensures.value c.height-height.ensures.value pieces c.in_ok-pieces.ensures.inside) (subst (λ (l : List Rect). (same_offset (c.args.dx, c.args.dy) (pos 0, pos 0) ≡ false) × (l ≢ [])) c.deref.ensures.value why) in
     let marks_of : KeptViewer → Marks = marks_copied (covers pieces) (c.args.dx, c.args.dy) in
     let all : c.in_ok-marks.marks.items ≡ map (marks_copied (covers c.deref-2.result.now) (c.args.dx, c.args.dy)) (values_of here.viewers.pairs) = simp to_z-of_z at c.in_ok-marks.ensures in
     let made = c.commit_all.ensures ∙ with-made marks_of here.viewers.pairs c.in_ok-marks.marks.items (all ∙ ap (λ l. map (marks_copied (covers l) (c.args.dx, c.args.dy)) (values_of here.viewers.pairs)) c.deref-2.ensures.value) in
-    let picture : c.move_colours.new.picture.items ≡ moved here.config.width here.config.height (cut_destination here.config.width here.config.height (union_of c.args.rects.now) (c.args.dx, c.args.dy)) (c.args.dx, c.args.dy) here.picture.colours =
-    (simp to_z-of_z at c.move_colours.ensures.colours) ∙ ap (λ (f : ℤ → ℤ → Bool). moved here.config.width here.config.height f (c.args.dx, c.args.dy) here.picture.colours) (ap covers c.deref-3.ensures.value ∙ places) in
-    let after : List (ℕ × KeptViewer) → State = λ l. record { config = here.config; picture = c.move_colours.new.picture.items; viewers = l } in
+    let picture : c.move_colours.new.self.colours ≡ moved here.config.width here.config.height (cut_destination here.config.width here.config.height (union_of c.args.rects.now) (c.args.dx, c.args.dy)) (c.args.dx, c.args.dy) here.picture.colours =
+    moved-on here.config here.picture c.self.invariant.width c.self.invariant.height c.move_colours.new.self (covers c.deref-3.result.now) (c.args.dx, c.args.dy) (simp to_z-of_z at c.in_ok-move_colours.ensures.ok) ∙ ap (λ (f : ℤ → ℤ → Bool). moved here.config.width here.config.height f (c.args.dx, c.args.dy) here.picture.colours) (ap covers c.deref-3.ensures.value ∙ places) in
+    let after : List (ℕ × KeptViewer) → State = λ l. record { config = here.config; picture = c.move_colours.new.self.colours; viewers = l } in
     ap after made
-    ∙ state-drawn config here.config here.picture.colours c.move_colours.new.picture.items here.viewers.pairs (viewer_with marks_of) (DoCopy c.args.rects.now c.args.dx c.args.dy) list refl refl picture
+    ∙ state-drawn config here.config here.picture.colours c.move_colours.new.self.colours here.viewers.pairs (viewer_with marks_of) (DoCopy c.args.rects.now c.args.dx c.args.dy) list refl refl picture
     (λ s. viewer_moved here.config.width here.config.height (union_of c.args.rects.now) (c.args.dx, c.args.dy) pieces s places busy) (c.self.view_is ∙ h)

@@ -10,7 +10,9 @@ use Rattle.screen.specs.Held.{IsSized}
 use Rattle.screen.specs.Answers.{State, state, answer_to}
 use Rattle.screen.proofs.Connected.{with_numbered}
 use Rattle.screen.proofs.Kept.{all-at, all-set, numbered-same}
-use Rattle.screen.specs.Alone.{Tells}
+use Rattle.messages.specs.Reading.{rest, new_items}
+use Rattle.screen.specs.Alone.{Tells, answer_of}
+use Rattle.screen.proofs.Framed.{items-on, reply-on}
 use Rattle.screen.proofs.Calls.{seen, none_there, at_config, answer-absent_hear, hear-step, hear-answer, tells-refused, tells-memory, tells-ok}
 use Rattle.screen.proofs.screen.Screen.hear.Goals as goal
 
@@ -20,8 +22,8 @@ returns-in_default-clause-answer c = λ config list h.
     let absent = none_there c.self.inside.config list c.self.inside.picture.colours c.self.inside.viewers.pairs c.args.number k (sym c.in_default.ensures.value) in
     tells-refused (λ (a : Answer). a) _ _ refusals.NoViewer refl (answer-absent_hear c.self.inside.config list c.args.number c.args.piece.now absent))
 
-pub returns-in_err-hear-clause-answer : goal.returns-in_err-hear-clause-answer
-returns-in_err-hear-clause-answer c = λ config list h.
+pub returns-in_err-reply-clause-answer : goal.returns-in_err-reply-clause-answer
+returns-in_err-reply-clause-answer c = λ config list h.
     let error = err_from_is_err_and c.from_residual.result c.from_residual.ensures.1 in
     let P : Config → Type 0 = λ k. Tells {X = Answer} (λ a. a) c.from_residual.result (answer_to k list (Hear c.args.number c.args.piece.now)) in
     at_config P c.self.inside.config config c.self.inside.picture.colours c.self.inside.viewers.pairs list (c.self.view_is ∙ h) (λ k.
@@ -32,17 +34,20 @@ pub returns-clause-step : goal.returns-clause-step
 returns-clause-step c = λ config list h.
     let after : State = seen c.self.inside.config c.self.inside.picture.colours (with_numbered c.self.inside.viewers.pairs c.args.number c.hear.new.self) in
     at_config (λ k. after ≡ state k (list ++ Hear c.args.number c.args.piece.now ∷ [])) c.self.inside.config config c.self.inside.picture.colours c.self.inside.viewers.pairs list (c.self.view_is ∙ h) (λ k.
-    hear-step c.self.inside.config list c.self.inside.picture.colours c.self.inside.viewers.pairs c.args.number c.in-Some.viewer.now c.hear.new.self c.args.piece.now k c.in-Some.ensures.value c.in_ok-hear.ensures.viewer)
+    hear-step c.self.inside.config list c.self.inside.picture.colours c.self.inside.viewers.pairs c.args.number c.in-Some.viewer.now c.hear.new.self c.args.piece.now k c.in-Some.ensures.value (λ before is. c.in_ok-reply.ensures.viewer before is ∙ items-on c.self.inside.config c.in-Some.viewer.now (all-at (IsSized c.self.inside.config) c.self.inside.viewers.pairs c.args.number c.in-Some.viewer.now c.self.invariant.sized c.in-Some.ensures.value) (new_items before c.args.piece.now) (record c.in-Some.viewer.now { heard = rest (before ++ c.args.piece.now) })))
 
 pub returns-clause-answer : goal.returns-clause-answer
 returns-clause-answer c = λ config list h.
-    let P : Config → Type 0 = λ k. Tells {X = Answer} (λ a. a) (Ok c.in_ok-hear.field-0) (answer_to k list (Hear c.args.number c.args.piece.now)) in
+    let P : Config → Type 0 = λ k. Tells {X = Answer} (λ a. a) (Ok c.with_reply.result) (answer_to k list (Hear c.args.number c.args.piece.now)) in
     at_config P c.self.inside.config config c.self.inside.picture.colours c.self.inside.viewers.pairs list (c.self.view_is ∙ h) (λ k.
     let answer = hear-answer c.self.inside.config list c.self.inside.picture.colours c.self.inside.viewers.pairs c.args.number c.in-Some.viewer.now c.args.piece.now k c.in-Some.ensures.value in
-    tells-ok (λ (a : Answer). a) _ _ c.in_ok-hear.field-0 refl (ap (λ (a : Answer). a.refused) answer.2) (c.in_ok-hear.ensures.answer answer.0 answer.1 ∙ sym answer.2))
+    tells-ok (λ (a : Answer). a) _ _ c.with_reply.result refl (ap (λ (a : Answer). a.refused) answer.2)
+    (c.with_reply.ensures ∙ ap answer_of (c.in_ok-reply.ensures.reply answer.0 answer.1
+    ∙ reply-on c.self.inside.config c.in-Some.viewer.now (all-at (IsSized c.self.inside.config) c.self.inside.viewers.pairs c.args.number c.in-Some.viewer.now c.self.invariant.sized c.in-Some.ensures.value) c.as_slice.result.now answer.0 c.args.piece.now c.as_slice.ensures)
+    ∙ sym answer.2))
 
-pub invariant_of-self-in_err-hear : goal.invariant_of-self-in_err-hear
-invariant_of-self-in_err-hear c =
+pub invariant_of-self-in_err-reply : goal.invariant_of-self-in_err-reply
+invariant_of-self-in_err-reply c =
     let was : IsSized c.self.inside.config c.in-Some.viewer.now = all-at (IsSized c.self.inside.config) c.self.inside.viewers.pairs c.args.number c.in-Some.viewer.now c.self.invariant.sized c.in-Some.ensures.value in
     record {
       accepted = c.self.invariant.accepted;
@@ -61,13 +66,13 @@ invariant_of-self-2 c =
       sized = all-set (IsSized c.self.inside.config) c.self.inside.viewers.pairs (index_of_number c.self.inside.viewers c.args.number) c.hear.new.self c.self.invariant.sized (record { width = c.hear.ensures.width ∙ was.width; height = c.hear.ensures.height ∙ was.height });
     }
 
-pub returns-in_err-hear-clause-err : goal.returns-in_err-hear-clause-err
-returns-in_err-hear-clause-err c =
+pub returns-in_err-reply-clause-err : goal.returns-in_err-reply-clause-err
+returns-in_err-reply-clause-err c =
     let here = c.self.inside in
     let error = err_from_is_err_and c.from_residual.result c.from_residual.ensures.1 in
     rw error.1
     (
-    ap (λ (s : KeptViewer). seen here.config here.picture.colours (with_numbered here.viewers.pairs c.args.number s)) c.in_err-hear.ensures.err
+    ap (λ (s : KeptViewer). seen here.config here.picture.colours (with_numbered here.viewers.pairs c.args.number s)) c.in_err-reply.ensures.err
     ∙ ap (seen here.config here.picture.colours) (numbered-same here.viewers.pairs c.args.number c.in-Some.viewer.now c.in-Some.ensures.value)
     ∙ c.self.view_is
     )

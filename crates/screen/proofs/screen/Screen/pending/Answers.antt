@@ -19,4 +19,4 @@ returns c = λ config list h.
     let viewer : KeptViewer = c.in-Some.viewer.now in
     at_config (λ k. Ok c.is_pending.result ≡ something_to_send (answer_to k list (Cut c.args.number))) here.config config here.picture.colours here.viewers.pairs list (c.self.view_is ∙ h) (λ k.
     ap (λ t. Ok t) (c.is_pending.ensures ∙ sym (some-sent here.config.width here.config.height here.config.rects_per_update here.picture.colours viewer))
-    ∙ sym (ap something_to_send (cut-answer here.config list here.picture.colours here.viewers.pairs c.args.number seat k c.in-Some.ensures)))
+    ∙ sym (ap something_to_send (cut-answer here.config list here.picture.colours here.viewers.pairs c.args.number viewer k c.in-Some.ensures)))
