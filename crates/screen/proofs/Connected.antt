@@ -36,7 +36,7 @@ numbers-distinct (n ∷ ns) h = IsDistinct-cons eqb n ns (go ns h.0) (numbers-di
     go (m ∷ ms) h = let parts = or_parts (m == n) (list_any (λ m. m == n) ms) h in (swap-eq m n parts.0, go ms parts.1)
 
 -- the viewer that is kept with a number
-found-viewer : (v : ℕ) (pairs : List (ℕ × KeptViewer)) → find (λ p. p.0 == v) pairs ≡ option_map {T = KeptViewer} {U = Pair} (λ w. (v, w)) (lookup (λ n. n == v) pairs)
+pub found-viewer : (v : ℕ) (pairs : List (ℕ × KeptViewer)) → find (λ p. p.0 == v) pairs ≡ option_map {T = KeptViewer} {U = Pair} (λ w. (v, w)) (lookup (λ n. n == v) pairs)
 found-viewer v pairs = find-lookup pairs v
 
 -- the viewer that a seat stands for

@@ -20,3 +20,4 @@ mod Painted
 mod Shown
 mod Unchanged
 mod Framed
+mod Due

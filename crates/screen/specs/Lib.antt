@@ -1,5 +1,6 @@
 pub mod Alone
 pub mod Answers
+pub mod Refusals
 pub mod Claims
 pub mod Shown
 pub mod Pictures

@@ -1,11 +1,12 @@
 //! The screen: each call is one hold of it, and leaves it standing for the list of events so far.
 
-ghost use Rattle.std.specs.Prelude.{◌≡◌, ◌≢◌, ◌++◌, ◌∷◌, [], List, IfSome, IfOk, OnOk, OnErr, MatchOption, IsOkUnless};
+ghost use Rattle.std.specs.Prelude.{◌≡◌, ◌≢◌, ◌++◌, ◌∷◌, [], List, IfSome, IfOk, OnOk, OnErr, MatchOption, MatchResult, IsOk, IsOkUnless, None};
 ghost use Rattle.screen.specs.declared.Config.{Config};
 ghost use Rattle.screen.specs.declared.Event.{Event};
 ghost use Rattle.screen.specs.Alone.{config_refusal, nothing_to_say, gives, something_to_send, told, Tells};
 ghost use Rattle.viewer.specs.Given.{bytes_given};
 ghost use Rattle.screen.specs.Answers.{state, answer_to};
+ghost use Rattle.screen.specs.Refusals.{viewer_at, absence, presence, refusal, Refuses};
 
 use crate::answers::{settled, with_bytes, with_nothing, with_reply};
 use crate::arriving::let_in;
@@ -72,6 +73,7 @@ impl Screen {
             OnOk result (self.new ≡ state config (list ++ Event.Paint rect colours.now ∷ [])) }
         ensures answer { (config : Config) (list : List Event) → self.old ≡ state config list →
             Tells (λ _. nothing_to_say) result (answer_to config list (Event.Paint rect colours.now)) }
+        ensures refused { Refuses result (refusal self.old (Event.Paint rect colours.now)) }
         ensures err { OnErr result (self.new ≡ self.old) }
     {
         let block = checked(&self.config, rect, colours)?;
@@ -88,6 +90,7 @@ impl Screen {
             OnOk result (self.new ≡ state config (list ++ Event.Write rect colours.now ∷ [])) }
         ensures answer { (config : Config) (list : List Event) → self.old ≡ state config list →
             Tells (λ _. nothing_to_say) result (answer_to config list (Event.Write rect colours.now)) }
+        ensures refused { Refuses result (refusal self.old (Event.Write rect colours.now)) }
         ensures err { OnErr result (self.new ≡ self.old) }
     {
         let block = checked(&self.config, rect, colours)?;
@@ -101,6 +104,7 @@ impl Screen {
             OnOk result (self.new ≡ state config (list ++ Event.Mark rects.now ∷ [])) }
         ensures answer { (config : Config) (list : List Event) → self.old ≡ state config list →
             Tells (λ _. nothing_to_say) result (answer_to config list (Event.Mark rects.now)) }
+        ensures refused { IsOkUnless result ScreenError.OutOfMemory }
         ensures err { OnErr result (self.new ≡ self.old) }
     {
         let marks = marks_with_rects(self.alloc, &self.config, &self.viewers, rects)?;
@@ -116,6 +120,7 @@ impl Screen {
             OnOk result (self.new ≡ state config (list ++ Event.Mark (record { x1 = x1; y1 = y1; x2 = x2; y2 = y2 } ∷ []) ∷ [])) }
         ensures answer { (config : Config) (list : List Event) → self.old ≡ state config list →
             Tells (λ _. nothing_to_say) result (answer_to config list (Event.Mark (record { x1 = x1; y1 = y1; x2 = x2; y2 = y2 } ∷ []))) }
+        ensures refused { IsOkUnless result ScreenError.OutOfMemory }
         ensures err { OnErr result (self.new ≡ self.old) }
     {
         self.mark_rects(&[Rect { x1, y1, x2, y2 }])
@@ -128,6 +133,7 @@ impl Screen {
             OnOk result (self.new ≡ state config (list ++ Event.Mark region.now.list ∷ [])) }
         ensures answer { (config : Config) (list : List Event) → self.old ≡ state config list →
             Tells (λ _. nothing_to_say) result (answer_to config list (Event.Mark region.now.list)) }
+        ensures refused { IsOkUnless result ScreenError.OutOfMemory }
         ensures err { OnErr result (self.new ≡ self.old) }
     {
         region.has_canonical_list();
@@ -143,6 +149,7 @@ impl Screen {
             OnOk result (self.new ≡ state config (list ++ Event.ScheduleCopy rects.now dx dy ∷ [])) }
         ensures answer { (config : Config) (list : List Event) → self.old ≡ state config list →
             Tells (λ _. nothing_to_say) result (answer_to config list (Event.ScheduleCopy rects.now dx dy)) }
+        ensures refused { IsOkUnless result ScreenError.OutOfMemory }
         ensures err { OnErr result (self.new ≡ self.old) }
     {
         let pieces = destinations(
@@ -179,6 +186,7 @@ impl Screen {
             OnOk result (self.new ≡ state config (list ++ Event.ScheduleCopy (record { x1 = x1; y1 = y1; x2 = x2; y2 = y2 } ∷ []) dx dy ∷ [])) }
         ensures answer { (config : Config) (list : List Event) → self.old ≡ state config list →
             Tells (λ _. nothing_to_say) result (answer_to config list (Event.ScheduleCopy (record { x1 = x1; y1 = y1; x2 = x2; y2 = y2 } ∷ []) dx dy)) }
+        ensures refused { IsOkUnless result ScreenError.OutOfMemory }
         ensures err { OnErr result (self.new ≡ self.old) }
     {
         self.schedule_copy(&[Rect { x1, y1, x2, y2 }], dx, dy)
@@ -195,6 +203,7 @@ impl Screen {
             OnOk result (self.new ≡ state config (list ++ Event.ScheduleCopy region.now.list dx dy ∷ [])) }
         ensures answer { (config : Config) (list : List Event) → self.old ≡ state config list →
             Tells (λ _. nothing_to_say) result (answer_to config list (Event.ScheduleCopy region.now.list dx dy)) }
+        ensures refused { IsOkUnless result ScreenError.OutOfMemory }
         ensures err { OnErr result (self.new ≡ self.old) }
     {
         let rects = region.rects(self.alloc, false, false)?;
@@ -207,6 +216,7 @@ impl Screen {
             OnOk result (self.new ≡ state config (list ++ Event.DoCopy rects.now dx dy ∷ [])) }
         ensures answer { (config : Config) (list : List Event) → self.old ≡ state config list →
             Tells (λ _. nothing_to_say) result (answer_to config list (Event.DoCopy rects.now dx dy)) }
+        ensures refused { IsOkUnless result ScreenError.OutOfMemory }
         ensures err { OnErr result (self.new ≡ self.old) }
     {
         let (width, height) = (self.picture.width(), self.picture.height());
@@ -238,6 +248,7 @@ impl Screen {
             OnOk result (self.new ≡ state config (list ++ Event.DoCopy (record { x1 = x1; y1 = y1; x2 = x2; y2 = y2 } ∷ []) dx dy ∷ [])) }
         ensures answer { (config : Config) (list : List Event) → self.old ≡ state config list →
             Tells (λ _. nothing_to_say) result (answer_to config list (Event.DoCopy (record { x1 = x1; y1 = y1; x2 = x2; y2 = y2 } ∷ []) dx dy)) }
+        ensures refused { IsOkUnless result ScreenError.OutOfMemory }
         ensures err { OnErr result (self.new ≡ self.old) }
     {
         self.do_copy(&[Rect { x1, y1, x2, y2 }], dx, dy)
@@ -249,6 +260,7 @@ impl Screen {
             OnOk result (self.new ≡ state config (list ++ Event.DoCopy region.now.list dx dy ∷ [])) }
         ensures answer { (config : Config) (list : List Event) → self.old ≡ state config list →
             Tells (λ _. nothing_to_say) result (answer_to config list (Event.DoCopy region.now.list dx dy)) }
+        ensures refused { IsOkUnless result ScreenError.OutOfMemory }
         ensures err { OnErr result (self.new ≡ self.old) }
     {
         let rects = region.rects(self.alloc, false, false)?;
@@ -262,6 +274,7 @@ impl Screen {
             OnOk result (self.new ≡ state config (list ++ Event.Bell ∷ [])) }
         ensures answer { (config : Config) (list : List Event) → self.old ≡ state config list →
             Tells (λ _. nothing_to_say) result (answer_to config list (Event.Bell)) }
+        ensures refused { IsOkUnless result ScreenError.OutOfMemory }
         ensures err { OnErr result (self.new ≡ self.old) }
     {
         ring_all(&mut self.viewers);
@@ -275,6 +288,7 @@ impl Screen {
             OnOk result (self.new ≡ state config (list ++ Event.CutText text.now ∷ [])) }
         ensures answer { (config : Config) (list : List Event) → self.old ≡ state config list →
             Tells (λ _. nothing_to_say) result (answer_to config list (Event.CutText text.now)) }
+        ensures refused { Refuses result (refusal self.old (Event.CutText text.now)) }
         ensures err { OnErr result (self.new ≡ self.old) }
     {
         if text.len() > 1 << 16 {
@@ -292,6 +306,7 @@ impl Screen {
             OnOk result (self.new ≡ state config (list ++ Event.Connect number ∷ [])) }
         ensures answer { (config : Config) (list : List Event) → self.old ≡ state config list →
             Tells gives result (answer_to config list (Event.Connect number)) }
+        ensures refused { Refuses result (presence (viewer_at self.old number)) }
         ensures err { OnErr result (self.new ≡ self.old) }
     {
         if self.viewers.place_of(number).is_some() {
@@ -311,6 +326,7 @@ impl Screen {
             self.new ≡ state config (list ++ Event.Close number ∷ []) }
         ensures answer { (config : Config) (list : List Event) → self.old ≡ state config list →
             told (λ _. nothing_to_say) result ≡ answer_to config list (Event.Close number) }
+        ensures refused { MatchOption (absence (viewer_at self.old number)) (IsOk result) (λ e. result ≡ Err e) }
         ensures err { OnErr result (self.new ≡ self.old) }
     {
         match self.viewers.remove(number) {
@@ -327,6 +343,8 @@ impl Screen {
             OnOk result (self.new ≡ state config (list ++ Event.Hear number piece.now ∷ [])) }
         ensures answer { (config : Config) (list : List Event) → self.old ≡ state config list →
             Tells (λ a. a) result (answer_to config list (Event.Hear number piece.now)) }
+        ensures refused { Refuses result (absence (viewer_at self.old number)) }
+        ensures accepted { IfOk result (λ answer. answer.refused ≡ None) }
         ensures err { OnErr result (self.new ≡ self.old) }
     {
         let Some(viewer) = self.viewers.get_mut(number) else {
@@ -339,8 +357,9 @@ impl Screen {
     /// Whether a cut now would give something. Refused as `NoViewer` where there is no viewer with
     /// the number.
     pub fn pending(&self, number: u64) -> Result<bool, ScreenError>
-        ensures { (config : Config) (list : List Event) → self.now ≡ state config list →
+        ensures answer { (config : Config) (list : List Event) → self.now ≡ state config list →
             result ≡ something_to_send (answer_to config list (Event.Cut number)) }
+        ensures refused { MatchOption (absence (viewer_at self.now number)) (IsOk result) (λ e. result ≡ Err e) }
     {
         let Some(viewer) = self.viewers.get(number) else {
             return Err(ScreenError::NoViewer);
@@ -356,6 +375,7 @@ impl Screen {
         ensures answer { (config : Config) (list : List Event) → self.old ≡ state config list →
             Tells (λ update. gives (bytes_given update)) result (answer_to config list (Event.Cut number)) }
         ensures some { IfOk result (λ update. IfSome update (λ u. u ≢ [])) }
+        ensures refused { Refuses result (absence (viewer_at self.old number)) }
         ensures err { OnErr result (self.new ≡ self.old) }
     {
         let Some(viewer) = self.viewers.get_mut(number) else {
@@ -370,6 +390,7 @@ impl Screen {
             OnOk result (self.new ≡ state config (list ++ Event.Cut number ∷ [])) }
         ensures answer { (config : Config) (list : List Event) → self.old ≡ state config list →
             Tells gives result (answer_to config list (Event.Cut number)) }
+        ensures refused { Refuses result (absence (viewer_at self.old number)) }
         ensures err { OnErr result (self.new ≡ self.old) }
     {
         let Some(viewer) = self.viewers.get_mut(number) else {
@@ -385,6 +406,8 @@ impl Screen {
             OnOk result (self.new ≡ state config (list ++ event.now ∷ [])) }
         ensures answer { (config : Config) (list : List Event) → self.old ≡ state config list →
             Tells (λ a. a) result (answer_to config list event.now) }
+        ensures refused { Refuses result (refusal self.old event.now) }
+        ensures accepted { IfOk result (λ answer. answer.refused ≡ None) }
         ensures err { OnErr result (self.new ≡ self.old) }
     {
         let alloc = self.alloc;
@@ -439,7 +462,9 @@ impl Screen {
         ensures step { (config : Config) (list : List Event) → self.old ≡ state config list →
             OnOk result (self.new ≡ state config (list ++ event.now ∷ [])) }
         ensures answer { (config : Config) (list : List Event) → self.old ≡ state config list →
-            IfOk result (λ answer. answer ≡ answer_to config list event.now) }
+            MatchResult result (λ answer. answer ≡ answer_to config list event.now) (λ _. (answer_to config list event.now).refused ≡ None) }
+        ensures refused { MatchResult result (λ answer. answer.refused ≡ refusal self.old event.now) (λ _. refusal self.old event.now ≡ None) }
+        ensures unchanged { IfOk result (λ answer. answer.refused ≢ None → self.new ≡ self.old) }
         ensures err { OnErr result (self.new ≡ self.old) }
     {
         let given = self.step(event);

@@ -1,5 +1,7 @@
-use Rattle.std.proofs.Common.{sym, ◌∙◌}
-use Rattle.screen.specs.Answers.{answer_to}
+use Rattle.std.proofs.Common.{sym, ap, ◌∙◌}
+use Rattle.screen.specs.Answers.{answer_to, State}
+use Rattle.screen.specs.Refusals.{refusal}
+use Rattle.screen.proofs.Due.{settled-refused, settled-unchanged, with-due, not-memory, refused-as-due}
 use Rattle.screen.proofs.Refused.{state-refused, refusal-alone, settled-answer, settled-step}
 use Rattle.screen.proofs.screen.Screen.apply.Goals as goal
 
@@ -8,6 +10,16 @@ returns-clause-step c = λ config list h.
     settled-step c.step-given.result c.settled.result (answer_to config list c.args.event.now) c.settled.ensures (c.step-given.ensures.answer config list h) (c.step-given.ensures.step config list h) c.step-given.ensures.err
     (λ e refused same. same ∙ h ∙ sym (state-refused config list c.args.event.now e refused))
 
+pub returns-clause-refused : goal.returns-clause-refused
+returns-clause-refused c =
+    settled-refused c.step-given.result c.settled.result (refusal c.args.self.now c.args.event.now) c.settled.ensures c.step-given.ensures.refused c.step-given.ensures.accepted (not-memory c.args.self.now c.args.event.now)
+
+pub returns-clause-unchanged : goal.returns-clause-unchanged
+returns-clause-unchanged c = settled-unchanged _ c.step-given.result c.settled.result c.settled.ensures c.step-given.ensures.accepted c.step-given.ensures.err
+
 pub returns-clause-answer : goal.returns-clause-answer
 returns-clause-answer c = λ config list h.
-    settled-answer c.step-given.result c.settled.result (answer_to config list c.args.event.now) c.settled.ensures (c.step-given.ensures.answer config list h) (refusal-alone config list c.args.event.now)
+    with-due _ _ _ _ c.settled.result
+    (settled-answer c.step-given.result c.settled.result (answer_to config list c.args.event.now) c.settled.ensures (c.step-given.ensures.answer config list h) (refusal-alone config list c.args.event.now))
+    (settled-refused c.step-given.result c.settled.result (refusal c.args.self.now c.args.event.now) c.settled.ensures c.step-given.ensures.refused c.step-given.ensures.accepted (not-memory c.args.self.now c.args.event.now))
+    (λ none. refused-as-due config list c.args.event.now ∙ ap (λ (s : State). refusal s c.args.event.now) (sym h) ∙ none)

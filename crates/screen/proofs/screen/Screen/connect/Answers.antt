@@ -41,3 +41,9 @@ returns-clause-answer c = λ config list h.
     at_config (λ k. Tells gives (Ok c.in_ok-let_in.field-0) (answer_to k list (Connect c.args.number))) here.config config here.picture.colours here.viewers.pairs list (c.self.view_is ∙ h) (λ k.
     let answer = connect-answer here.config list here.picture.colours here.viewers.pairs c.args.number k away in
     tells-ok gives _ _ c.in_ok-let_in.field-0 refl (ap (λ (a : Answer). a.refused) answer) (ap gives c.in_ok-let_in.ensures.version ∙ sym answer))
+
+pub returns-then-is_some-clause-refused : goal.returns-then-is_some-clause-refused
+returns-then-is_some-clause-refused c =
+    let here = c.self.inside in
+    let found = was_found here.viewers c.args.number c.place_of.result (sym c.is_some.ensures ∙ c.if-is_some.true) c.place_of.ensures.found in
+    rw (← c.self.view_is, found.1) refl

@@ -7,14 +7,14 @@ use Rattle.screen.specs.Alone.{something_to_send}
 use Rattle.screen.proofs.Calls.{at_config, none_there, answer-absent_cut, cut-answer, some-sent}
 use Rattle.screen.proofs.screen.Screen.pending.Goals as goal
 
-pub returns-in_default : goal.returns-in_default
-returns-in_default c = λ config list h.
+pub returns-in_default-clause-answer : goal.returns-in_default-clause-answer
+returns-in_default-clause-answer c = λ config list h.
     let here = c.self.inside in
     at_config (λ k. Err refusals.NoViewer ≡ something_to_send (answer_to k list (Cut c.args.number))) here.config config here.picture.colours here.viewers.pairs list (c.self.view_is ∙ h) (λ k.
     sym (ap something_to_send (answer-absent_cut here.config list c.args.number (none_there here.config list here.picture.colours here.viewers.pairs c.args.number k (sym c.in_default.ensures)))))
 
-pub returns : goal.returns
-returns c = λ config list h.
+pub returns-clause-answer : goal.returns-clause-answer
+returns-clause-answer c = λ config list h.
     let here = c.self.inside in
     let viewer : KeptViewer = c.in-Some.viewer.now in
     at_config (λ k. Ok c.is_pending.result ≡ something_to_send (answer_to k list (Cut c.args.number))) here.config config here.picture.colours here.viewers.pairs list (c.self.view_is ∙ h) (λ k.

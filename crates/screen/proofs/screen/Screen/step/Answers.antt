@@ -5,7 +5,9 @@ use Rattle.screen.specs.declared.Event.TheVariants.{Write, Paint, Mark, Schedule
 use Rattle.screen.specs.declared.Answer.{Answer}
 use Rattle.screen.specs.Answers.{answer_to}
 use Rattle.screen.specs.Alone.{Tells, gives, nothing_to_say}
+use Rattle.screen.specs.Refusals.{refusal, Refuses}
 use Rattle.screen.proofs.Calls.{tells-answer}
+use Rattle.screen.proofs.Due.{refuses-as, refuses-surely}
 use Rattle.screen.proofs.screen.Screen.step.Goals as goal
 
 abbrev nothing_told : Unit {0} → Answer
@@ -61,3 +63,30 @@ pub returns-in-Cut-clause-answer : goal.returns-in-Cut-clause-answer
 returns-in-Cut-clause-answer c = λ config list h.
     let P : Event → Type 0 = λ e. Tells {X = Answer} (λ a. a) c.with_bytes-in-Cut.result (answer_to config list e) in
     subst P (sym c.in-Cut.is) (tells-answer gives c.cut_bytes-bytes.result c.with_bytes-in-Cut.result _ c.with_bytes-in-Cut.ensures (c.cut_bytes-bytes.ensures.answer config list h))
+
+pub returns-in-Write-clause-refused : goal.returns-in-Write-clause-refused
+returns-in-Write-clause-refused c =
+    let P : Event → Type 0 = λ e. Refuses c.with_nothing.result (refusal c.args.self.now e) in
+    let Q : List ℕ → Type 0 = λ l. Refuses c.write_pixels-written.result (refusal c.args.self.now (Write c.in-Write.rect l)) in
+    subst P (sym c.in-Write.is) (refuses-as c.write_pixels-written.result c.with_nothing.result nothing_told _ c.with_nothing.ensures (subst Q c.as_slice.ensures c.write_pixels-written.ensures.refused))
+
+pub returns-in-Paint-clause-refused : goal.returns-in-Paint-clause-refused
+returns-in-Paint-clause-refused c =
+    let P : Event → Type 0 = λ e. Refuses c.with_nothing-in-Paint.result (refusal c.args.self.now e) in
+    let Q : List ℕ → Type 0 = λ l. Refuses c.paint-painted.result (refusal c.args.self.now (Paint c.in-Paint.rect l)) in
+    subst P (sym c.in-Paint.is) (refuses-as c.paint-painted.result c.with_nothing-in-Paint.result nothing_told _ c.with_nothing-in-Paint.ensures (subst Q c.as_slice-in-Paint.ensures c.paint-painted.ensures.refused))
+
+pub returns-in-Connect-clause-refused : goal.returns-in-Connect-clause-refused
+returns-in-Connect-clause-refused c =
+    let P : Event → Type 0 = λ e. Refuses c.with_bytes.result (refusal c.args.self.now e) in
+    subst P (sym c.in-Connect.is) (refuses-as c.connect-version.result c.with_bytes.result gives _ c.with_bytes.ensures c.connect-version.ensures.refused)
+
+pub returns-in-Cut-clause-refused : goal.returns-in-Cut-clause-refused
+returns-in-Cut-clause-refused c =
+    let P : Event → Type 0 = λ e. Refuses c.with_bytes-in-Cut.result (refusal c.args.self.now e) in
+    subst P (sym c.in-Cut.is) (refuses-as c.cut_bytes-bytes.result c.with_bytes-in-Cut.result gives _ c.with_bytes-in-Cut.ensures c.cut_bytes-bytes.ensures.refused)
+
+pub returns-in-Close-clause-refused : goal.returns-in-Close-clause-refused
+returns-in-Close-clause-refused c =
+    let P : Event → Type 0 = λ e. Refuses c.with_nothing-in-Close.result (refusal c.args.self.now e) in
+    subst P (sym c.in-Close.is) (refuses-as c.close-closed.result c.with_nothing-in-Close.result nothing_told _ c.with_nothing-in-Close.ensures (refuses-surely c.close-closed.result _ c.close-closed.ensures.refused))
