@@ -21,3 +21,4 @@ mod Shown
 mod Unchanged
 mod Framed
 mod Due
+mod OnlyOne

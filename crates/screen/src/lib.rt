@@ -11,7 +11,7 @@ mod screen;
 use listed::Listed;
 use messages::{Fault, Input};
 use region::Rect;
-pub use runs::{pictures_are_shown, run, viewers_are_alone};
+pub use runs::{one_viewer_is_alone, pictures_are_shown, run, viewers_are_alone};
 pub use screen::Screen;
 use std::alloc::{AllocError, AllocFailed};
 pub use viewer::Update;

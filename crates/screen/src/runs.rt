@@ -4,7 +4,7 @@ ghost use Rattle.std.specs.List.{list_all};
 ghost use Rattle.std.specs.Prelude.{◌≡◌, true, IfOk, MatchResult, MatchOption};
 ghost use Rattle.screen.specs.Alone.{config_refusal};
 ghost use Rattle.screen.specs.Answers.{answers};
-ghost use Rattle.screen.specs.Claims.{told_alike};
+ghost use Rattle.screen.specs.Claims.{told_alike, one_viewer_is_alone};
 ghost use Rattle.screen.specs.Pictures.{is_told, ShowPictures, pictures_are_shown};
 
 use crate::{Answer, Config, Event, Screen, ScreenError};
@@ -31,6 +31,11 @@ pub fn run(alloc: Global, config: Config, events: &[Event]) -> Result<Vec<Answer
 /// Two runs that agree in the drawing calls and in a viewer's own events tell that viewer the same.
 pub fn viewers_are_alone()
     ensures { told_alike }
+{}
+
+/// A run with one viewer is the machine with one viewer.
+pub fn one_viewer_is_alone()
+    ensures { one_viewer_is_alone }
 {}
 
 /// What each viewer shows that is there is what is drawn, where the viewers are told of all that is drawn.
