@@ -276,7 +276,7 @@ impl Marks {
     pub fn modified(&self) -> &Region
         ensures { result.now.list ≡ rects_of self.now.width self.now.height (λ x y. is_owed (mark_at self.now x y)) }
     {
-        self.kept.owed.has_canonical_list();
+        self.kept.owed.list_is_canonical();
         &self.kept.owed
     }
 
@@ -284,7 +284,7 @@ impl Marks {
     pub fn copied(&self) -> &Region
         ensures { result.now.list ≡ rects_of self.now.width self.now.height (λ x y. is_copied (mark_at self.now x y)) }
     {
-        self.kept.copied.has_canonical_list();
+        self.kept.copied.list_is_canonical();
         &self.kept.copied
     }
 
@@ -292,7 +292,7 @@ impl Marks {
     pub fn requested(&self) -> &Region
         ensures { result.now.list ≡ rects_of self.now.width self.now.height (asked_at self.now) }
     {
-        self.asked.has_canonical_list();
+        self.asked.list_is_canonical();
         &self.asked
     }
 

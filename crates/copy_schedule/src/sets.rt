@@ -48,7 +48,7 @@ pub fn moved_by(alloc: Global, region: &Region, offset: (i32, i32)) -> Result<Re
         return Ok(Region::new(alloc));
     }
     let mut moved = region.try_clone(alloc)?;
-    moved.has_canonical_list();
+    moved.list_is_canonical();
     let _ = moved.offset(offset.0, offset.1);
     Ok(moved)
 }

@@ -146,7 +146,7 @@ impl Screen {
             Tells (λ _. nothing_to_say) result (answer_to config list (Event.Mark region.now.list)) }
         ensures err { OnErr result (self.new ≡ self.old) }
     {
-        region.has_canonical_list();
+        region.list_is_canonical();
         let marks = marks_with_region(self.alloc, &self.clients, region)?;
         commit_all(&mut self.clients, marks);
         Ok(())
@@ -213,7 +213,7 @@ impl Screen {
             Tells (λ _. nothing_to_say) result (answer_to config list (Event.ScheduleCopy region.now.list dx dy)) }
         ensures err { OnErr result (self.new ≡ self.old) }
     {
-        let rects = region.rects(self.alloc, false, false)?;
+        let rects = region.rects(false, false)?;
         self.schedule_copy(rects.as_slice(), dx, dy)
     }
 
@@ -275,7 +275,7 @@ impl Screen {
             Tells (λ _. nothing_to_say) result (answer_to config list (Event.DoCopy region.now.list dx dy)) }
         ensures err { OnErr result (self.new ≡ self.old) }
     {
-        let rects = region.rects(self.alloc, false, false)?;
+        let rects = region.rects(false, false)?;
         self.do_copy(rects.as_slice(), dx, dy)
     }
 

@@ -28,4 +28,4 @@ returns-clause-step c = λ config list h.
     let after : List (ℕ × Seat) → State = λ pairs. record { config = here.config; picture = here.picture.items; viewers = map entry pairs } in
     ap after made
     ∙ state-drawn config here.config here.picture.items here.picture.items here.clients.pairs (seat_with marks_of) (Mark c.args.region.now.list) list refl refl refl
-    (λ s. ap (λ set. viewer_marked set (viewer_in s)) (sym (region-straight c.args.region.now.list c.has_canonical_list.ensures))) (c.self.view_is ∙ h)
+    (λ s. ap (λ set. viewer_marked set (viewer_in s)) (sym (region-straight c.args.region.now.list c.list_is_canonical.ensures))) (c.self.view_is ∙ h)
