@@ -27,9 +27,7 @@ pub record IsKept (w h : ℕ) (k : Kept) : Type 0 where
 
 -- a screen's size, and its places that are not clean or asked for
 pub record IsScreen (w h : ℕ) (k : Kept) (asked : List Rect) : Type 0 where
-  pub some_columns : 1 ≤ w
   pub columns : w ≤ 8192
-  pub some_rows : 1 ≤ h
   pub rows : h ≤ 8192
   pub kept : IsKept w h k
   pub asked_on : LiesOn w h asked

@@ -12,7 +12,7 @@ use region::{Rect, Region, RegionError};
 use std::alloc::{AllocError, Global};
 
 /// The most columns, and rows, that a screen has.
-const LIMIT: i32 = 8192;
+const LARGEST_SIDE: i32 = 8192;
 
 /// The places of some rectangles of a screen.
 pub fn union_of(alloc: Global, rects: &[Rect]) -> Result<Region, AllocError>
@@ -29,7 +29,7 @@ pub fn union_of(alloc: Global, rects: &[Rect]) -> Result<Region, AllocError>
 fn is_far(by: i32) -> bool
     ensures { result ≡ is_far_by by }
 {
-    by <= -LIMIT || LIMIT <= by
+    by <= -LARGEST_SIDE || LARGEST_SIDE <= by
 }
 
 /// Whether (dx, dy) leads from every place of a screen off it.

@@ -1,6 +1,5 @@
 pub mod Messages
 pub mod Opening
-pub mod Copies
 pub mod Pictures
 pub mod Claims
 pub mod Examples

@@ -17,9 +17,7 @@ invariant_of-self c =
     let m : Marks = record { width = f.width; height = f.height; marks = by_place f.width f.height (kept_mark f.kept); offset = (f.offset_x, f.offset_y); asked = by_place f.width f.height (covers f.asked.list) } in
     let shows : Shows m f.kept f.asked.list = record { screen = c.self.invariant; marks = refl; places = refl } in
     record {
-      some_columns = c.self.invariant.some_columns;
       columns = c.self.invariant.columns;
-      some_rows = c.self.invariant.some_rows;
       rows = c.self.invariant.rows;
       kept = c.self.invariant.kept;
       asked_on = lies_either m.width m.height f.asked.list c.in_ok-part.part.list c.in_ok-asked.asked.list c.self.invariant.asked_on (lies_on_part m.width m.height c.in_ok-part.part.list (λ x y. in_rect c.args.rect (x -ℤ pos 0) (y -ℤ pos 0)) c.in_ok-part.ensures) c.in_ok-asked.ensures;
@@ -40,9 +38,7 @@ invariant_of-self-2 c =
     let shows : Shows m f.kept f.asked.list = record { screen = c.self.invariant; marks = refl; places = refl } in
     let on_part = lies_on_part m.width m.height c.in_ok-part.part.list (λ x y. in_rect c.args.rect (x -ℤ pos 0) (y -ℤ pos 0)) c.in_ok-part.ensures in
     record {
-      some_columns = c.self.invariant.some_columns;
       columns = c.self.invariant.columns;
-      some_rows = c.self.invariant.some_rows;
       rows = c.self.invariant.rows;
       kept = c.in_ok-kept.ensures.kept m.width m.height shows.screen.kept on_part;
       asked_on = lies_either m.width m.height f.asked.list c.in_ok-part.part.list c.in_ok-asked.asked.list c.self.invariant.asked_on on_part c.in_ok-asked.ensures;
