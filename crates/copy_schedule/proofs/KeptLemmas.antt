@@ -16,47 +16,12 @@ use Rattle.region.proofs.CanonicalLemmas.{one_list_a_set-holds, rects_of_is_cano
 use Rattle.copy_schedule.specs.declared.Mark.{Mark}
 use Rattle.copy_schedule.specs.declared.Mark.TheVariants.{Clean, Copied, Owed}
 use Rattle.copy_schedule.specs.declared.kept.Kept.{Kept}
-use Rattle.copy_schedule.specs.Places.{by_place, at_place}
-use Rattle.copy_schedule.specs.Marks.{Marks, is_clean, is_owed, is_copied, mark_at, asked_at, with_marks, marked, same_offset, lost_to, moved_mark, moved, asked_for, forgotten, without_copyrect, wanted, copyable, pending, after_sending, IsOnScreen}
+use Rattle.region.specs.Places.{by_place, at_place, same_offset, IsOnScreen}
+use Rattle.copy_schedule.specs.Marks.{Marks, is_clean, is_owed, is_copied, mark_at, asked_at, with_marks, marked, lost_to, moved_mark, moved, asked_for, forgotten, without_copyrect, wanted, copyable, pending, after_sending}
 use Rattle.copy_schedule.specs.Kept.{kept_mark, LiesOn, IsKept, IsScreen, with_kept}
-use Rattle.copy_schedule.proofs.PlaceLemmas.{on_screen-number, by_place-numbers}
-use Rattle.copy_schedule.proofs.CutLemmas.{is_place}
+use Rattle.region.proofs.Places.{on_screen-number, by_place-numbers, is_place}
 use Rattle.copy_schedule.proofs.SetLemmas.{lies_either, lies_part, lies_wider}
-
--- Values by place.
-
-some_column : (w h k : ℕ) → k < w * h → 0 < w
-some_column zero h k below = absurd (omega arith)
-some_column (suc w) h k below = omega arith
-
-pub same_by_place : {X : Type 0} (w h : ℕ) (f g : ℤ → ℤ → X) → ((x y : ℤ) → on_screen w h x y ≡ true → f x y ≡ g x y) → by_place w h f ≡ by_place w h g
-same_by_place w h f g each = by_place-numbers (g (pos 0) (pos 0)) w h g (by_place w h f) (length-map-range_with_len (λ i. f (pos (i % w)) (pos (i / w))) 0 (w * h)) (λ k below.
-    get_or-map-range_with_len (λ i. f (pos (i % w)) (pos (i / w))) 0 (w * h) k k (g (pos 0) (pos 0)) below (zero-add k) ∙ each (pos (k % w)) (pos (k / w)) (on_screen-number w h k (some_column w h k below) below))
-
--- the number of a place
-number : (x : ℤ) → pos 0 ≤ℤ x → pos (nat_abs x) ≡ x
-number x low = omega (arith, ints, low)
-
-below : (w : ℕ) (x : ℤ) → pos 0 ≤ℤ x → x <ℤ pos w → nat_abs x < w
-below w x low high = omega (arith, ints, low, high)
-
-pub value_on : {X : Type 0} (d : X) (w h : ℕ) (f : ℤ → ℤ → X) (x y : ℤ) → on_screen w h x y ≡ true → at_place d w h (by_place w h f) x y ≡ f x y
-value_on d w h f x y on =
-    let place = is_place w h x y on in
-    let column = below w x place.left place.right in
-    let row = below h y place.top place.bottom in
-    ap (λ b. cond b (get_or (by_place w h f) (nat_abs y * w + nat_abs x) d) d) on
-    ∙ get_or-map-range_with_len (λ i. f (pos (i % w)) (pos (i / w))) 0 (w * h) (nat_abs y * w + nat_abs x) (nat_abs y * w + nat_abs x) d (mul-add-lt (nat_abs y) w (nat_abs x) h row column) (zero-add (nat_abs y * w + nat_abs x))
-    ∙ ap (λ n. f (pos n) (pos ((nat_abs y * w + nat_abs x) / w))) (mod-mul-add (nat_abs y) w (nat_abs x) column) ∙ ap (λ n. f (pos (nat_abs x)) (pos n)) (div-mul-add (nat_abs y) w (nat_abs x) column)
-    ∙ ap (λ a. f a (pos (nat_abs y))) (number x place.left) ∙ ap (f x) (number y place.top)
-
--- a value that is d off the screen
-pub value_at : {X : Type 0} (d : X) (w h : ℕ) (f : ℤ → ℤ → X) → ((x y : ℤ) → on_screen w h x y ≡ false → f x y ≡ d) → (x y : ℤ) → at_place d w h (by_place w h f) x y ≡ f x y
-value_at d w h f off x y = go (on_screen w h x y) refl
-  where
-    go : (t : Bool) → on_screen w h x y ≡ t → at_place d w h (by_place w h f) x y ≡ f x y
-    go true on = value_on d w h f x y on
-    go false is_off = ap (λ b. cond b (get_or (by_place w h f) (nat_abs y * w + nat_abs x) d) d) is_off ∙ sym (off x y is_off)
+use Rattle.region.proofs.Places.{same_by_place, below, value_on, value_at}
 
 -- Marks that two sets stand for.
 

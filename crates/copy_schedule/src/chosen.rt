@@ -2,7 +2,7 @@
 
 ghost use Rattle.std.specs.Prelude.{◌≡◌, ◌&&◌, ◌||◌, not, ℤ, ◌-ℤ◌, IfOk, take, All};
 ghost use Rattle.region.specs.Region.{covers, order, IsCanonical};
-ghost use Rattle.copy_schedule.specs.Marks.{IsOnScreen};
+ghost use Rattle.region.specs.Places.{IsOnScreen};
 ghost use Rattle.copy_schedule.specs.Kept.{LiesOn, IsKept};
 
 use crate::kept::Kept;

@@ -4,7 +4,8 @@ ghost use Rattle.std.specs.Prelude.{◌≡◌, ◌≤◌, ◌*◌, ◌&&◌, ◌
 ghost use Rattle.copy_schedule.specs.declared.Mark.TheVariants.{Clean, Owed};
 ghost use Rattle.region.specs.Region.{covers, in_rect, rects_of};
 ghost use Rattle.region.specs.Copies.{InOrder};
-ghost use Rattle.copy_schedule.specs.Marks.{is_clean, is_owed, is_copied, mark_at, asked_at, with_marks, new_marks, marked, copied_by, same_offset, without_copyrect, requested, pending, cut_of, cut_of_sent, marks_after, copies_of, pixels_of, IsInside, HasSourcesInside, IsWithin, IsCutTo};
+ghost use Rattle.region.specs.Places.{same_offset};
+ghost use Rattle.copy_schedule.specs.Marks.{is_clean, is_owed, is_copied, mark_at, asked_at, with_marks, new_marks, marked, copied_by, without_copyrect, requested, pending, cut_of, cut_of_sent, marks_after, copies_of, pixels_of, IsInside, HasSourcesInside, IsWithin, IsCutTo};
 ghost use Rattle.copy_schedule.specs.Kept.{IsKept, LiesOn, with_kept};
 
 use crate::Cut;
@@ -32,7 +33,7 @@ pub struct Marks {
 impl Model for Marks {
     ghost use Rattle.copy_schedule.specs.Marks.{Marks};
     ghost use Rattle.copy_schedule.specs.Kept.{kept_mark, IsScreen};
-    ghost use Rattle.copy_schedule.specs.Places.{by_place};
+    ghost use Rattle.region.specs.Places.{by_place};
     ghost use Rattle.region.specs.Region.{covers};
 
     ghost Value = { Marks };

@@ -3,7 +3,7 @@
 ghost use Rattle.std.specs.Prelude.{◌≡◌, ◌≤◌, ◌||◌, ◌&&◌, true, ℤ, ◌-ℤ◌, IfOk, All};
 ghost use Rattle.region.specs.Region.{covers, in_rect, on_screen};
 ghost use Rattle.region.specs.Held.{in_range};
-ghost use Rattle.copy_schedule.specs.Marks.{IsOnScreen};
+ghost use Rattle.region.specs.Places.{IsOnScreen};
 ghost use Rattle.copy_schedule.specs.Kept.{LiesOn};
 ghost use Rattle.copy_schedule.specs.Sets.{is_far_by, lies_between, rect_of};
 

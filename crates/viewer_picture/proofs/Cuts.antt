@@ -19,14 +19,15 @@ use Rattle.encode_raw.specs.Reading.{Dot, Shown, patched, copied}
 use Rattle.encode_raw.specs.Claims.{pixels_of as colour_pixels}
 use Rattle.copy_schedule.specs.declared.Mark.{Mark}
 use Rattle.copy_schedule.specs.declared.Mark.TheVariants.{Clean, Copied, Owed}
-use Rattle.copy_schedule.specs.Places.{by_place}
-use Rattle.copy_schedule.specs.Marks.{Marks, is_clean, is_copied, mark_at, asked_at, copyable, copies_of, pixels_of, after_sending, IsOnScreen}
-use Rattle.copy_schedule.proofs.KeptLemmas.{value_on}
-use Rattle.copy_schedule.proofs.CutLemmas.{is_place, copies_on_screen, pixels_on_screen}
+use Rattle.region.specs.Places.{by_place, IsOnScreen}
+use Rattle.copy_schedule.specs.Marks.{Marks, is_clean, is_copied, mark_at, asked_at, copyable, copies_of, pixels_of, after_sending}
+use Rattle.region.proofs.Places.{value_on, is_place}
+use Rattle.copy_schedule.proofs.CutLemmas.{copies_on_screen, pixels_on_screen}
 use Rattle.framebuffer.specs.declared.blocks.Block.{Block}
 use Rattle.framebuffer.specs.Blocks.{rect_of}
-use Rattle.framebuffer.specs.Picture.{colour_at, area_of, colours_of}
-use Rattle.framebuffer.proofs.PictureLemmas.{area_is}
+use Rattle.viewer_picture.specs.Areas.{area_of}
+use Rattle.framebuffer.specs.Picture.{colour_at, colours_of}
+use Rattle.viewer_picture.proofs.Areas.{area_is}
 use Rattle.viewer_picture.specs.Pictures.{dot_at, ShowsColour}
 use Rattle.viewer_picture.proofs.Messages.{changed}
 use Rattle.viewer_picture.proofs.Marks.{Shows, tells, mark-is}

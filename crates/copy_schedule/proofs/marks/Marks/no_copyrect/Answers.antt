@@ -1,6 +1,6 @@
 use Rattle.std.proofs.Common.{◌∙◌, ap, refl}
 use Rattle.region.specs.Region.{covers}
-use Rattle.copy_schedule.specs.Places.{by_place}
+use Rattle.region.specs.Places.{by_place}
 use Rattle.copy_schedule.specs.Marks.{Marks, without_copyrect}
 use Rattle.copy_schedule.specs.Kept.{kept_mark}
 use Rattle.copy_schedule.proofs.KeptLemmas.{Shows, uncopied_are}

@@ -3,11 +3,10 @@ use Rattle.std.specs.Prelude.{FitsSigned, ℤ, pos, ◌-ℤ◌}
 use Rattle.std.specs.Int.{w32}
 use Rattle.std.proofs.lemmas.Int.{to_z-of_z}
 use Rattle.region.specs.Region.{covers, in_rect, on_screen}
-use Rattle.copy_schedule.specs.Places.{by_place}
+use Rattle.region.specs.Places.{by_place}
 use Rattle.copy_schedule.specs.Marks.{Marks, asked_for, forgotten, requested}
 use Rattle.copy_schedule.specs.Kept.{kept_mark}
-use Rattle.copy_schedule.proofs.SetLemmas.{lies_on_part, lies_either}
-use Rattle.copy_schedule.proofs.SetLemmas.{unmoved}
+use Rattle.copy_schedule.proofs.SetLemmas.{lies_on_part, lies_either, unmoved}
 use Rattle.copy_schedule.proofs.KeptLemmas.{Shows, forgotten_are, asked_are}
 use Rattle.copy_schedule.proofs.marks.Marks.request.Goals as goal
 

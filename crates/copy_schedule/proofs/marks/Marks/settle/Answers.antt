@@ -2,7 +2,7 @@ use Rattle.std.proofs.Common.{◌∙◌, ap, refl, replicate, ◌*◌, cond, fal
 use Rattle.std.specs.Prelude.{pos}
 use Rattle.region.specs.Region.{covers}
 use Rattle.copy_schedule.specs.declared.Mark.TheVariants.{Owed, Clean}
-use Rattle.copy_schedule.specs.Places.{by_place}
+use Rattle.region.specs.Places.{by_place}
 use Rattle.copy_schedule.specs.Marks.{Marks, with_marks}
 use Rattle.copy_schedule.specs.Kept.{kept_mark}
 use Rattle.copy_schedule.proofs.KeptLemmas.{Shows, none_asked, only_owed}
