@@ -1,17 +1,16 @@
 -- Rows of chosen places, and the bands and intervals of a canonical list.
 use Rattle.std.proofs.Common.{◌≡◌, ◌≢◌, ℕ, suc, ◌+◌, ◌-◌, ◌*◌, ◌<◌, ◌≤◌, Bool, true, false, not, cond, List, [], ◌∷◌, ◌++◌, length, map, get_or, take, drop, sym, refl, ◌∙◌, ap, arith, mul_comm, ◌⊎◌, inl, inr}
-use Rattle.std.specs.Prelude.{ℤ, pos}
-use Rattle.std.proofs.lemmas.List.{places, append_assoc, ext_get_or}
+use Rattle.std.specs.Prelude.{ℤ, pos, IsTrue}
+use Rattle.std.proofs.lemmas.List.{places, append_assoc, ext_get_or, get_or_past}
 use Rattle.std.specs.List.{list_any}
-use Rattle.std.proofs.lemmas.List.{get_or_past}
 use Rattle.std.proofs.lemmas.List.Folds.{list_any_at}
 use Rattle.std.proofs.lemmas.Bool.{false≢true}
-use Rattle.std.specs.Prelude.{IsTrue}
 use Rattle.std.proofs.lemmas.Int.{ints}
 use Rattle.region.specs.declared.Rect.{Rect}
 use Rattle.region.specs.Region.{on_screen, in_order, rects_of}
 use Rattle.region.proofs.RectLemmas.{band_rect, rects_in_row, rects_in_rows, rects_in_row-stretch, rects_in_rows-stretch, intervals_of-ext, rects_of-ext, rects_of-none}
-use Rattle.copy_schedule.specs.Places.{at_place, row_at, row_test}
+use Rattle.region.specs.Places.{at_place}
+use Rattle.copy_schedule.specs.Plain.{row_at, row_test}
 use Rattle.copy_schedule.proofs.PlaceLemmas.{by_lt}
 use Rattle.copy_schedule.proofs.WindowLemmas.{row_within}
 

@@ -7,9 +7,10 @@ use Rattle.region.specs.declared.Rect.{Rect}
 use Rattle.region.specs.Region.{in_rect, covers}
 use Rattle.copy_schedule.specs.declared.Mark.{Mark}
 use Rattle.copy_schedule.specs.declared.Mark.TheVariants.{Clean, Copied, Owed}
-use Rattle.copy_schedule.specs.Places.{at_place}
-use Rattle.copy_schedule.specs.Marks.{Marks, is_copied, uncopied, mark_at, same_offset, lost_to, moved_mark, moved, without_copyrect}
-use Rattle.copy_schedule.proofs.PlaceLemmas.{at_place-number, with_marks-numbers}
+use Rattle.region.specs.Places.{at_place, same_offset}
+use Rattle.copy_schedule.specs.Marks.{Marks, is_copied, uncopied, mark_at, lost_to, moved_mark, moved, without_copyrect}
+use Rattle.region.proofs.Places.{at_place-number}
+use Rattle.copy_schedule.proofs.PlaceLemmas.{with_marks-numbers}
 
 -- one rectangle more that takes pixels
 pub sources_more : (rects : List Rect) (i : ℕ) (r : Rect) (x y : ℤ) (z now new : Mark) (hit : Bool) → i < length rects → hit ≡ in_rect (get_or rects i r) x y

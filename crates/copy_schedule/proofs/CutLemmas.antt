@@ -13,9 +13,11 @@ use Rattle.region.proofs.RectLemmas.{rects_of-ext}
 use Rattle.region.proofs.ScreenLemmas.{IsOfTest, All-rects_of, All-in_order}
 use Rattle.copy_schedule.specs.declared.Mark.{Mark}
 use Rattle.copy_schedule.specs.declared.Mark.TheVariants.{Clean, Owed}
-use Rattle.copy_schedule.specs.Places.{at_place}
-use Rattle.copy_schedule.specs.Marks.{Marks, is_clean, is_copied, mark_at, asked_at, is_wanted, wanted, copyable, copies_of, pixels_of, after_sending, IsOnScreen, source_rect}
-use Rattle.copy_schedule.proofs.PlaceLemmas.{at_place-number, with_marks-numbers}
+use Rattle.region.specs.Places.{at_place, IsOnScreen, source_rect}
+use Rattle.copy_schedule.specs.Marks.{Marks, is_clean, is_copied, mark_at, asked_at, is_wanted, wanted, copyable, copies_of, pixels_of, after_sending}
+use Rattle.region.proofs.Places.{at_place-number}
+use Rattle.copy_schedule.proofs.PlaceLemmas.{with_marks-numbers}
+use Rattle.region.proofs.Places.{IsPlace, is_place}
 
 -- the canonical list of a set, from its places by their numbers
 pub rects_of-numbers : (w h : ℕ) (set : ℤ → ℤ → Bool) (chosen : List Bool) → 0 < w → ((k : ℕ) → k < w * h → get_or chosen k false ≡ set (pos (k % w)) (pos (k / w))) → rects_of w h (at_place false w h chosen) ≡ rects_of w h set
@@ -80,28 +82,6 @@ module _ (m : Marks) (some : 0 < m.width) where
       none k d below ∙ sym (get_or-replicate (m.width * m.height) k false d (omega (arith, size_asked, below)))))
       ∙ ap {A = Marks} {B = Marks} (λ n. record n { offset = (pos 0, pos 0); asked = replicate (m.width * m.height) false }) (with_marks-numbers m (λ x y. cond (covers copies x y || covers pixels x y || is_clean (mark_at m x y)) Clean Owed) marks size (λ k below.
       each k below ∙ ap (λ z. cond (covers copies (pos (k % m.width)) (pos (k / m.width)) || covers pixels (pos (k % m.width)) (pos (k / m.width)) || is_clean z) Clean Owed) (sym (at_place-number Clean m.width m.height m.marks k some below))))
-
--- the places of a screen
-pub record IsPlace (w h : ℕ) (x y : ℤ) : Type 0 where
-  pub left : pos 0 ≤ℤ x
-  pub right : x <ℤ pos w
-  pub top : pos 0 ≤ℤ y
-  pub bottom : y <ℤ pos h
-
-pub is_place : (w h : ℕ) (x y : ℤ) → on_screen w h x y ≡ true → IsPlace w h x y
-is_place w h x y on = record { left = left w h x y on; right = right w h x y on; top = top w h x y on; bottom = bottom w h x y on }
-  where
-    left : (w h : ℕ) (x y : ℤ) → on_screen w h x y ≡ true → pos 0 ≤ℤ x
-    left w h x y on = grind (arith, ints)
-
-    right : (w h : ℕ) (x y : ℤ) → on_screen w h x y ≡ true → x <ℤ pos w
-    right w h x y on = grind (arith, ints)
-
-    top : (w h : ℕ) (x y : ℤ) → on_screen w h x y ≡ true → pos 0 ≤ℤ y
-    top w h x y on = grind (arith, ints)
-
-    bottom : (w h : ℕ) (x y : ℤ) → on_screen w h x y ≡ true → y <ℤ pos h
-    bottom w h x y on = grind (arith, ints)
 
 from_places : (w h : ℕ) (r : Rect) → r.x1 <ℤ r.x2 → r.y1 <ℤ r.y2 → IsPlace w h r.x1 r.y1 → IsPlace w h (r.x2 -ℤ pos 1) (r.y2 -ℤ pos 1) → IsOnScreen w h r
 from_places w h r columns rows first last = record {

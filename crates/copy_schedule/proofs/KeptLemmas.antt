@@ -1,5 +1,5 @@
 -- The owed and the copied places, as the marks that they stand for.
-use Rattle.std.proofs.Common.{◌≡◌, ℕ, ◌+◌, ◌*◌, ◌/◌, ◌%◌, ◌<◌, ◌≤◌, zero-add, Bool, true, false, cond, not, ◌&&◌, ◌||◌, List, [], get_or, replicate, true≢false, refl, sym, ◌∙◌, ap, arith}
+use Rattle.std.proofs.Common.{◌≡◌, ℕ, zero, suc, ◌+◌, ◌*◌, ◌/◌, ◌%◌, ◌<◌, ◌≤◌, zero-add, Bool, true, false, cond, not, ◌&&◌, ◌||◌, List, [], get_or, replicate, true≢false, refl, sym, ◌∙◌, ap, arith}
 use Rattle.std.specs.Prelude.{ℤ, pos, ◌+ℤ◌, ◌-ℤ◌, ◌≤ℤ◌, ◌<ℤ◌, nat_abs}
 use Rattle.std.proofs.lemmas.Bool.{and_parts}
 use Rattle.std.proofs.lemmas.Int.{ints}
@@ -16,43 +16,12 @@ use Rattle.region.proofs.CanonicalLemmas.{one_list_a_set-holds, rects_of_is_cano
 use Rattle.copy_schedule.specs.declared.Mark.{Mark}
 use Rattle.copy_schedule.specs.declared.Mark.TheVariants.{Clean, Copied, Owed}
 use Rattle.copy_schedule.specs.declared.kept.Kept.{Kept}
-use Rattle.copy_schedule.specs.Places.{by_place, at_place}
-use Rattle.copy_schedule.specs.Marks.{Marks, is_clean, is_owed, is_copied, mark_at, asked_at, with_marks, marked, same_offset, lost_to, moved_mark, moved, asked_for, forgotten, without_copyrect, wanted, copyable, pending, after_sending, IsOnScreen}
+use Rattle.region.specs.Places.{by_place, at_place, same_offset, IsOnScreen}
+use Rattle.copy_schedule.specs.Marks.{Marks, is_clean, is_owed, is_copied, mark_at, asked_at, with_marks, marked, lost_to, moved_mark, moved, asked_for, forgotten, without_copyrect, wanted, copyable, pending, after_sending}
 use Rattle.copy_schedule.specs.Kept.{kept_mark, LiesOn, IsKept, IsScreen, with_kept}
-use Rattle.copy_schedule.proofs.PlaceLemmas.{on_screen-number, by_place-numbers}
-use Rattle.copy_schedule.proofs.CutLemmas.{is_place}
+use Rattle.region.proofs.Places.{on_screen-number, by_place-numbers, is_place}
 use Rattle.copy_schedule.proofs.SetLemmas.{lies_either, lies_part, lies_wider}
-
--- Values by place.
-
-pub same_by_place : {X : Type 0} (w h : ℕ) (f g : ℤ → ℤ → X) → 0 < w → ((x y : ℤ) → on_screen w h x y ≡ true → f x y ≡ g x y) → by_place w h f ≡ by_place w h g
-same_by_place w h f g some each = by_place-numbers (g (pos 0) (pos 0)) w h g (by_place w h f) (length-map-range_with_len (λ i. f (pos (i % w)) (pos (i / w))) 0 (w * h)) (λ k below.
-    get_or-map-range_with_len (λ i. f (pos (i % w)) (pos (i / w))) 0 (w * h) k k (g (pos 0) (pos 0)) below (zero-add k) ∙ each (pos (k % w)) (pos (k / w)) (on_screen-number w h k some below))
-
--- the number of a place
-number : (x : ℤ) → pos 0 ≤ℤ x → pos (nat_abs x) ≡ x
-number x low = omega (arith, ints, low)
-
-below : (w : ℕ) (x : ℤ) → pos 0 ≤ℤ x → x <ℤ pos w → nat_abs x < w
-below w x low high = omega (arith, ints, low, high)
-
-pub value_on : {X : Type 0} (d : X) (w h : ℕ) (f : ℤ → ℤ → X) (x y : ℤ) → on_screen w h x y ≡ true → at_place d w h (by_place w h f) x y ≡ f x y
-value_on d w h f x y on =
-    let place = is_place w h x y on in
-    let column = below w x place.left place.right in
-    let row = below h y place.top place.bottom in
-    ap (λ b. cond b (get_or (by_place w h f) (nat_abs y * w + nat_abs x) d) d) on
-    ∙ get_or-map-range_with_len (λ i. f (pos (i % w)) (pos (i / w))) 0 (w * h) (nat_abs y * w + nat_abs x) (nat_abs y * w + nat_abs x) d (mul-add-lt (nat_abs y) w (nat_abs x) h row column) (zero-add (nat_abs y * w + nat_abs x))
-    ∙ ap (λ n. f (pos n) (pos ((nat_abs y * w + nat_abs x) / w))) (mod-mul-add (nat_abs y) w (nat_abs x) column) ∙ ap (λ n. f (pos (nat_abs x)) (pos n)) (div-mul-add (nat_abs y) w (nat_abs x) column)
-    ∙ ap (λ a. f a (pos (nat_abs y))) (number x place.left) ∙ ap (f x) (number y place.top)
-
--- a value that is d off the screen
-pub value_at : {X : Type 0} (d : X) (w h : ℕ) (f : ℤ → ℤ → X) → ((x y : ℤ) → on_screen w h x y ≡ false → f x y ≡ d) → (x y : ℤ) → at_place d w h (by_place w h f) x y ≡ f x y
-value_at d w h f off x y = go (on_screen w h x y) refl
-  where
-    go : (t : Bool) → on_screen w h x y ≡ t → at_place d w h (by_place w h f) x y ≡ f x y
-    go true on = value_on d w h f x y on
-    go false is_off = ap (λ b. cond b (get_or (by_place w h f) (nat_abs y * w + nat_abs x) d) d) is_off ∙ sym (off x y is_off)
+use Rattle.region.proofs.Places.{same_by_place, below, value_on, value_at}
 
 -- Marks that two sets stand for.
 
@@ -127,9 +96,6 @@ lost_marks k new lost test apart is_lost each x y =
     either false false e = refl
 
 module _ (m : Marks) (k : Kept) (asked : List Rect) (shows : Shows m k asked) where
-  some : 0 < m.width
-  some = omega (arith, shows.screen.some_columns)
-
   pub mark_is : (x y : ℤ) → mark_at m x y ≡ kept_mark k x y
   mark_is x y = ap (λ marks. at_place Clean m.width m.height marks x y) shows.marks ∙ value_at Clean m.width m.height (kept_mark k) (clean_off m.width m.height k shows.screen.kept) x y
 
@@ -138,11 +104,11 @@ module _ (m : Marks) (k : Kept) (asked : List Rect) (shows : Shows m k asked) wh
 
   -- other sets, and so other marks
   pub marks_are : (new : Kept) (mark : ℤ → ℤ → Mark) → ((x y : ℤ) → on_screen m.width m.height x y ≡ true → kept_mark new x y ≡ mark x y) → with_kept new m ≡ with_marks m mark
-  marks_are new mark each = ap (λ marks. record m { marks = marks }) (same_by_place m.width m.height (kept_mark new) mark some each)
+  marks_are new mark each = ap (λ marks. record m { marks = marks }) (same_by_place m.width m.height (kept_mark new) mark each)
 
   pub shows_new : (new : Kept) → IsKept m.width m.height new → Shows (with_kept new m) new asked
   shows_new new is = record {
-    screen = record { some_columns = shows.screen.some_columns; columns = shows.screen.columns; some_rows = shows.screen.some_rows; rows = shows.screen.rows; kept = is; asked_on = shows.screen.asked_on };
+    screen = record { columns = shows.screen.columns; rows = shows.screen.rows; kept = is; asked_on = shows.screen.asked_on };
     marks = refl;
     places = shows.places;
   }
@@ -202,7 +168,7 @@ module _ (m : Marks) (k : Kept) (asked : List Rect) (shows : Shows m k asked) wh
   -- one more set is asked for
   pub asked_are : (set : ℤ → ℤ → Bool) (part new : List Rect) → ((x y : ℤ) → covers part x y ≡ (set x y && on_screen m.width m.height x y)) → ((x y : ℤ) → covers new x y ≡ (covers asked x y || covers part x y))
       → record m { asked = by_place m.width m.height (covers new) } ≡ asked_for set m
-  asked_are set part new is_part each = ap (λ places. record m { asked = places }) (same_by_place m.width m.height (covers new) (λ x y. asked_at m x y || set x y) some (λ x y on.
+  asked_are set part new is_part each = ap (λ places. record m { asked = places }) (same_by_place m.width m.height (covers new) (λ x y. asked_at m x y || set x y) (λ x y on.
       each x y ∙ ap (λ t. covers asked x y || t) (is_part x y ∙ ap (λ t. set x y && t) on ∙ and_true (set x y)) ∙ ap (λ t. t || set x y) (sym (asked_is x y))))
     where
       and_true : (t : Bool) → (t && true) ≡ t
@@ -360,8 +326,8 @@ none_asked w h rs none = same_lists (by_place w h (covers rs)) (replicate (w * h
     f i = covers rs (pos (i % w)) (pos (i / w))
 
 -- the owed places alone are left
-pub only_owed : (w h : ℕ) (owed copied : Held) → 0 < w → copied.list ≡ [] → by_place w h (kept_mark (record { owed = owed; copied = copied })) ≡ by_place w h (λ x y. cond (covers owed.list x y) Owed Clean)
-only_owed w h owed copied some none = same_by_place w h (kept_mark (record { owed = owed; copied = copied })) (λ x y. cond (covers owed.list x y) Owed Clean) some (λ x y on.
+pub only_owed : (w h : ℕ) (owed copied : Held) → copied.list ≡ [] → by_place w h (kept_mark (record { owed = owed; copied = copied })) ≡ by_place w h (λ x y. cond (covers owed.list x y) Owed Clean)
+only_owed w h owed copied none = same_by_place w h (kept_mark (record { owed = owed; copied = copied })) (λ x y. cond (covers owed.list x y) Owed Clean) (λ x y on.
     ap (λ l. cond (covers owed.list x y) Owed (cond (covers l x y) Copied Clean)) none)
 
 -- all that is sent is on the largest screen
@@ -372,10 +338,10 @@ screen_wider w h rs columns rows each = All-weaker (IsOnScreen w h) (IsOnScreen 
     farther x n a b = omega (arith, ints, a, b)
 
 -- what is left to owe after an update
-pub settled_are : (m : Marks) (copies pixels owed : List Rect) → 0 < m.width → ((x y : ℤ) → covers owed x y ≡ (not (is_clean (mark_at m x y)) && not (covers copies x y || covers pixels x y)))
+pub settled_are : (m : Marks) (copies pixels owed : List Rect) → ((x y : ℤ) → covers owed x y ≡ (not (is_clean (mark_at m x y)) && not (covers copies x y || covers pixels x y)))
     → record (with_marks m (λ x y. cond (covers owed x y) Owed Clean)) { offset = (pos 0, pos 0); asked = replicate (m.width * m.height) false } ≡ after_sending copies pixels m
-settled_are m copies pixels owed some each = ap {A = List Mark} {B = Marks} (λ marks. record m { marks = marks; offset = (pos 0, pos 0); asked = replicate (m.width * m.height) false })
-    (same_by_place m.width m.height (λ x y. cond (covers owed x y) Owed Clean) (λ x y. cond (covers copies x y || covers pixels x y || is_clean (mark_at m x y)) Clean Owed) some (λ x y on.
+settled_are m copies pixels owed each = ap {A = List Mark} {B = Marks} (λ marks. record m { marks = marks; offset = (pos 0, pos 0); asked = replicate (m.width * m.height) false })
+    (same_by_place m.width m.height (λ x y. cond (covers owed x y) Owed Clean) (λ x y. cond (covers copies x y || covers pixels x y || is_clean (mark_at m x y)) Clean Owed) (λ x y on.
     ap (λ t. cond t Owed Clean) (each x y) ∙ either (covers copies x y) (covers pixels x y) (is_clean (mark_at m x y))))
   where
     either : (c p z : Bool) → cond (not z && not (c || p)) Owed Clean ≡ cond (c || p || z) Clean Owed
@@ -395,8 +361,8 @@ left_lies m copies pixels owed each x y at = go (on_screen m.width m.height x y)
     go false z e = absurd (true≢false (sym e))
 
 -- every place of the screen is owed
-pub all_owed : (w h : ℕ) (owed copied : Held) → 0 < w → ((x y : ℤ) → covers owed.list x y ≡ on_screen w h x y) → by_place w h (kept_mark (record { owed = owed; copied = copied })) ≡ replicate (w * h) Owed
-all_owed w h owed copied some each = same_by_place w h (kept_mark (record { owed = owed; copied = copied })) (λ x y. Owed) some (λ x y on.
+pub all_owed : (w h : ℕ) (owed copied : Held) → ((x y : ℤ) → covers owed.list x y ≡ on_screen w h x y) → by_place w h (kept_mark (record { owed = owed; copied = copied })) ≡ replicate (w * h) Owed
+all_owed w h owed copied each = same_by_place w h (kept_mark (record { owed = owed; copied = copied })) (λ x y. Owed) (λ x y on.
     ap (λ t. cond t Owed (cond (covers copied.list x y) Copied Clean)) (each x y ∙ on)) ∙ constant
   where
     constant : by_place w h (λ x y. Owed) ≡ replicate (w * h) Owed

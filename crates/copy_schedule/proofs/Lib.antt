@@ -7,4 +7,3 @@ mod SetLemmas
 pub mod KeptLemmas
 mod CopyLemmas
 mod RangeLemmas
-pub mod ScreenRects

@@ -10,9 +10,8 @@ use Rattle.std.specs.List.{list_any, range_with_len}
 use Rattle.std.proofs.lemmas.Int.{ints}
 use Rattle.std.proofs.lemmas.List.Folds.{list_any_more, list_any_at}
 use Rattle.std.proofs.lemmas.List.Recursion.{or_from_places}
-use Rattle.std.proofs.lemmas.List.FromFn.{get_or-range_with_len, length-range_with_len}
+use Rattle.std.proofs.lemmas.List.FromFn.{get_or-range_with_len, length-range_with_len, fill_by_all}
 use Rattle.std.proofs.Math.Nat.{mod-add-div, mod-lt, div-lt_iff_lt-mul}
-use Rattle.std.proofs.lemmas.List.FromFn.{fill_by_all}
 use Rattle.region.specs.declared.Rect.{Rect}
 use Rattle.region.specs.Region.{on_screen, in_rect, covers}
 use Rattle.copy_schedule.specs.declared.places.Window.{Window}
@@ -20,25 +19,8 @@ use Rattle.copy_schedule.specs.Windows.{in_window}
 use Rattle.copy_schedule.specs.declared.Mark.{Mark}
 use Rattle.copy_schedule.specs.declared.Mark.TheVariants.{Clean, Copied, Owed}
 use Rattle.copy_schedule.specs.Marks.{Marks, is_clean, is_copied, uncopied, with_marks, marked, mark_at, asked_for, forgotten, is_wanted, wanted, pending}
-use Rattle.copy_schedule.specs.Places.{by_place, at_place}
-
--- a place with a number is in a row of the screen
-pub row_below : (w h k : ℕ) → 0 < w → k < w * h → k / w < h
-row_below w h k some below = (div-lt_iff_lt-mul {k = w} {x = k} {y = h} some).1 (let e = mul_comm w h in omega (arith, e))
-
--- a place with a number is on the screen
-pub on_screen-number : (w h k : ℕ) → 0 < w → k < w * h → on_screen w h (pos (k % w)) (pos (k / w)) ≡ true
-on_screen-number w h k some below = grind (arith, mod-lt k some, (div-lt_iff_lt-mul {k = w} {x = k} {y = h} some).1 (let e = mul_comm w h in omega (arith, e)))
-
--- and has the value at that number
-pub at_place-number : {X : Type 0} (d : X) (w h : ℕ) (values : List X) (k : ℕ) → 0 < w → k < w * h → at_place d w h values (pos (k % w)) (pos (k / w)) ≡ get_or values k d
-at_place-number d w h values k some below =
-    ap (λ b. cond b (get_or values (k / w * w + k % w) d) d) (on_screen-number w h k some below)
-    ∙ ap (λ n. get_or values n d) (let e = mod-add-div k w in omega (arith, e))
-
--- a list that has each place's value by its number is the values by place
-pub by_place-numbers : {X : Type 0} (d : X) (w h : ℕ) (value : ℤ → ℤ → X) (values : List X) → length values ≡ w * h → ((k : ℕ) → k < w * h → get_or values k d ≡ value (pos (k % w)) (pos (k / w))) → values ≡ by_place w h value
-by_place-numbers d w h value values all each = fill_by_all (λ k. value (pos (k % w)) (pos (k / w))) values (w * h) d all each
+use Rattle.region.specs.Places.{by_place, at_place}
+use Rattle.region.proofs.Places.{on_screen-number, row_below, at_place-number, by_place-numbers}
 
 pub by_lt : {P : Type 0} (a b : ℕ) → (a < b → P) → (b ≤ a → P) → P
 by_lt a b less not_less = elim (leb_tells b a) [ inl h ↦ not_less h.1 | inr h ↦ less h.1 ]

@@ -14,7 +14,7 @@ use Rattle.copy_schedule.specs.Kept.{LiesOn}
 use Rattle.copy_schedule.specs.Sets.{is_far_by, lies_between, rect_of}
 use Rattle.copy_schedule.specs.declared.places.Window.{Window}
 use Rattle.copy_schedule.specs.Windows.{in_window}
-use Rattle.copy_schedule.proofs.CutLemmas.{is_place}
+use Rattle.region.proofs.Places.{is_place}
 
 -- a rectangle within a screen
 within_screen : (w h : ℕ) (r : Rect) → lies_between w r.x1 r.x2 ≡ true → lies_between h r.y1 r.y2 ≡ true → (x y : ℤ) → in_rect r x y ≡ true → on_screen w h x y ≡ true

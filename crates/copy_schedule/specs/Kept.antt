@@ -5,7 +5,7 @@ use Rattle.region.specs.Region.{covers, on_screen}
 use Rattle.copy_schedule.specs.declared.Mark.{Mark}
 use Rattle.copy_schedule.specs.declared.Mark.TheVariants.{Clean, Copied, Owed}
 use Rattle.copy_schedule.specs.declared.kept.Kept.{Kept}
-use Rattle.copy_schedule.specs.Places.{by_place}
+use Rattle.region.specs.Places.{by_place}
 use Rattle.copy_schedule.specs.Marks.{Marks}
 
 -- the mark of a place, by the owed and the copied places
@@ -27,9 +27,7 @@ pub record IsKept (w h : ℕ) (k : Kept) : Type 0 where
 
 -- a screen's size, and its places that are not clean or asked for
 pub record IsScreen (w h : ℕ) (k : Kept) (asked : List Rect) : Type 0 where
-  pub some_columns : 1 ≤ w
   pub columns : w ≤ 8192
-  pub some_rows : 1 ≤ h
   pub rows : h ≤ 8192
   pub kept : IsKept w h k
   pub asked_on : LiesOn w h asked

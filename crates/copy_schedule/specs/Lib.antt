@@ -1,4 +1,4 @@
-pub mod Places
+pub mod Plain
 pub mod Windows
 pub mod Marks
 pub mod Kept

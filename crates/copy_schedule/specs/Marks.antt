@@ -7,7 +7,8 @@ use Rattle.region.specs.Region.{covers, on_screen, rects_of, order}
 use Rattle.copy_schedule.specs.declared.Cut.{Cut}
 use Rattle.copy_schedule.specs.declared.Mark.{Mark}
 use Rattle.copy_schedule.specs.declared.Mark.TheVariants.{Clean, Copied, Owed}
-use Rattle.copy_schedule.specs.Places.{by_place, at_place, some_place}
+use Rattle.region.specs.Places.{by_place, at_place, some_place}
+use Rattle.region.specs.Places.{same_offset, IsOnScreen, source_rect}
 
 -- the marks of a screen's places, the offset of the copies, and the places that were asked for
 pub record Marks : Type 0 where
@@ -63,9 +64,6 @@ new_marks w h = record { width = w; height = h; marks = replicate (w * h) Owed; 
 -- the places of the set become owed
 abbrev pub marked : (ℤ → ℤ → Bool) → Marks → Marks
 marked set m = with_marks m (λ x y. if set x y then Owed else mark_at m x y)
-
-abbrev pub same_offset : ℤ × ℤ → ℤ × ℤ → Bool
-same_offset d e = int_eq d.0 e.0 && int_eq d.1 e.1
 
 -- Before a copy of a set by an offset: a place that awaits pixels by another offset, or from which the copy takes pixels that it still awaits, becomes owed.
 abbrev pub lost_to : (ℤ → ℤ → Bool) → ℤ × ℤ → Marks → Marks
@@ -161,19 +159,6 @@ cut_of_sent s = record { copies = s.copies; offset = s.offset; pixels = s.pixels
 -- the marks after that, unchanged where nothing is wanted
 abbrev pub marks_after : ℕ → Marks → Marks
 marks_after limit m = if pending m then after_sending (copies_of limit m) (pixels_of limit m) m else m
-
--- a rectangle of a w by h screen, not empty
-pub record IsOnScreen (w h : ℕ) (r : Rect) : Type 0 where
-  pub left : pos 0 ≤ℤ r.x1
-  pub columns : r.x1 <ℤ r.x2
-  pub right : r.x2 ≤ℤ pos w
-  pub top : pos 0 ≤ℤ r.y1
-  pub rows : r.y1 <ℤ r.y2
-  pub bottom : r.y2 ≤ℤ pos h
-
--- the rectangle that a rectangle's pixels are copied from, by an offset
-abbrev pub source_rect : ℤ × ℤ → Rect → Rect
-source_rect by r = record { x1 = r.x1 -ℤ by.0; y1 = r.y1 -ℤ by.1; x2 = r.x2 -ℤ by.0; y2 = r.y2 -ℤ by.1 }
 
 -- all of a cut is on the screen
 pub record IsInside (w h : ℕ) (cut : Cut) : Type 0 where

@@ -2,7 +2,7 @@
 
 ghost use Rattle.std.specs.Prelude.{◌≡◌, ◌&&◌, ◌||◌, not, ℤ, ◌-ℤ◌, IfOk, take, All};
 ghost use Rattle.region.specs.Region.{covers, order, IsCanonical};
-ghost use Rattle.copy_schedule.specs.Marks.{IsOnScreen};
+ghost use Rattle.region.specs.Places.{IsOnScreen};
 ghost use Rattle.copy_schedule.specs.Kept.{LiesOn, IsKept};
 
 use crate::kept::Kept;
@@ -70,7 +70,7 @@ pub fn first_rects(
     ensures rects { IfOk result (λ rects. rects.items ≡ take limit (order offset.0 offset.1 region.now.list)) }
     ensures canonical { IsCanonical region.now.list }
 {
-    let mut rects = region.rects(alloc, 0 < offset.0, 0 < offset.1)?.into_vec();
+    let mut rects = region.rects(0 < offset.0, 0 < offset.1)?.into_vec();
     rects.truncate(limit as usize);
     Ok(rects)
 }

@@ -3,7 +3,7 @@
 ghost use Rattle.std.specs.Prelude.{◌≡◌, ℕ, ◌*◌, ◌/◌, ◌%◌, ◌^◌, ◌<◌, ◌≤◌, length, pos, false, ◌-ℤ◌, ◌+ℤ◌, ◌||◌, ◌&&◌, not, slice_index_or, if◌then◌else◌};
 ghost use Rattle.copy_schedule.specs.declared.Mark.{Mark};
 ghost use Rattle.copy_schedule.specs.Marks.{is_clean, is_owed, is_copied, uncopied, moved_mark};
-ghost use Rattle.copy_schedule.specs.Places.{at_place};
+ghost use Rattle.region.specs.Places.{at_place};
 ghost use Rattle.region.specs.Region.{covers};
 
 use crate::{Mark, places};

@@ -12,6 +12,8 @@
 //! over windows of a screen, `copies` over what a copy does to such marks, `rects` finds their canonical lists.
 #![tactic(auto)]
 
+ghost use Rattle.region.specs.Copies.{copies_are_in_order};
+
 mod chosen;
 mod copies;
 mod kept;
@@ -24,6 +26,11 @@ mod sets;
 use listed::Listed;
 pub use marks::{Marks, Prepared};
 use region::Rect;
+
+/// A law: in the order in which an update sends copies, none is drawn over what a later one is copied from.
+pub fn copies_are_in_order()
+    ensures { copies_are_in_order }
+{}
 
 /// What a viewer has of a place.
 #[derive(Clone, Copy, Debug, PartialEq, Eq)]

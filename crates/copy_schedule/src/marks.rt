@@ -3,7 +3,9 @@
 ghost use Rattle.std.specs.Prelude.{◌≡◌, ◌≤◌, ◌*◌, ◌&&◌, ◌||◌, not, false, pos, ℤ, replicate, if◌then◌else◌, IfOk, IfSome, OnOk, OnErr, option_map};
 ghost use Rattle.copy_schedule.specs.declared.Mark.TheVariants.{Clean, Owed};
 ghost use Rattle.region.specs.Region.{covers, in_rect, rects_of};
-ghost use Rattle.copy_schedule.specs.Marks.{is_clean, is_owed, is_copied, mark_at, asked_at, with_marks, new_marks, marked, copied_by, same_offset, without_copyrect, requested, pending, cut_of, cut_of_sent, marks_after, copies_of, pixels_of, IsInside, HasSourcesInside, IsWithin, IsCutTo};
+ghost use Rattle.region.specs.Copies.{InOrder};
+ghost use Rattle.region.specs.Places.{same_offset};
+ghost use Rattle.copy_schedule.specs.Marks.{is_clean, is_owed, is_copied, mark_at, asked_at, with_marks, new_marks, marked, copied_by, without_copyrect, requested, pending, cut_of, cut_of_sent, marks_after, copies_of, pixels_of, IsInside, HasSourcesInside, IsWithin, IsCutTo};
 ghost use Rattle.copy_schedule.specs.Kept.{IsKept, LiesOn, with_kept};
 
 use crate::Cut;
@@ -31,7 +33,7 @@ pub struct Marks {
 impl Model for Marks {
     ghost use Rattle.copy_schedule.specs.Marks.{Marks};
     ghost use Rattle.copy_schedule.specs.Kept.{kept_mark, IsScreen};
-    ghost use Rattle.copy_schedule.specs.Places.{by_place};
+    ghost use Rattle.region.specs.Places.{by_place};
     ghost use Rattle.region.specs.Region.{covers};
 
     ghost Value = { Marks };
@@ -67,9 +69,7 @@ impl Marks {
     /// At connecting every place is owed, and none is asked for. The width and the height are in places, at most 8192 each.
     /// `AllocError` where memory for a rectangle is refused.
     pub fn new(alloc: Global, width: u32, height: u32) -> Result<Marks, AllocError>
-        requires some_columns { 1 ≤ width }
         requires columns { width ≤ 8192 }
-        requires some_rows { 1 ≤ height }
         requires rows { height ≤ 8192 }
         ensures { IfOk result (λ marks. marks ≡ new_marks width height) }
     {
@@ -228,6 +228,7 @@ impl Marks {
         ensures inside { IfOk result (λ cut. IfSome cut (IsInside self.old.width self.old.height)) }
         ensures sources { IfOk result (λ cut. IfSome cut (HasSourcesInside self.old.width self.old.height)) }
         ensures count { IfOk result (λ cut. IfSome cut (IsWithin limit)) }
+        ensures ordered { IfOk result (λ cut. IfSome cut (λ c. InOrder c.offset c.copies)) }
         ensures err { OnErr result (self.new ≡ self.old) }
     {
         if !self.pending() {
@@ -247,19 +248,17 @@ impl Marks {
         }))
     }
 
-    /// The columns of the screen, 1 to 8192.
+    /// The columns of the screen, at most 8192.
     pub fn width(&self) -> u32
         ensures same { result ≡ self.now.width }
-        ensures some { 1 ≤ result }
         ensures limit { result ≤ 8192 }
     {
         self.width
     }
 
-    /// The rows of the screen, 1 to 8192.
+    /// The rows of the screen, at most 8192.
     pub fn height(&self) -> u32
         ensures same { result ≡ self.now.height }
-        ensures some { 1 ≤ result }
         ensures limit { result ≤ 8192 }
     {
         self.height
@@ -276,7 +275,7 @@ impl Marks {
     pub fn modified(&self) -> &Region
         ensures { result.now.list ≡ rects_of self.now.width self.now.height (λ x y. is_owed (mark_at self.now x y)) }
     {
-        self.kept.owed.has_canonical_list();
+        self.kept.owed.list_is_canonical();
         &self.kept.owed
     }
 
@@ -284,7 +283,7 @@ impl Marks {
     pub fn copied(&self) -> &Region
         ensures { result.now.list ≡ rects_of self.now.width self.now.height (λ x y. is_copied (mark_at self.now x y)) }
     {
-        self.kept.copied.has_canonical_list();
+        self.kept.copied.list_is_canonical();
         &self.kept.copied
     }
 
@@ -292,7 +291,7 @@ impl Marks {
     pub fn requested(&self) -> &Region
         ensures { result.now.list ≡ rects_of self.now.width self.now.height (asked_at self.now) }
     {
-        self.asked.has_canonical_list();
+        self.asked.list_is_canonical();
         &self.asked
     }
 
@@ -317,7 +316,6 @@ impl Marks {
 
     // What the next update sends, and what is owed after it.
     fn sending(&self, limit: u32) -> Result<Sending, AllocError>
-        ensures some { 1 ≤ self.now.width }
         ensures copies { IfOk result (λ s. s.copies.items ≡ copies_of limit self.now) }
         ensures pixels { IfOk result (λ s. s.pixels.items ≡ pixels_of limit self.now) }
         ensures owed { IfOk result (λ s. (x y : ℤ) → covers s.owed.list x y ≡ (not (is_clean (mark_at self.now x y)) && not (covers s.copies.items x y || covers s.pixels.items x y))) }

@@ -3,7 +3,8 @@
 ghost use Rattle.std.specs.Prelude.{◌≡◌, ℕ, map, ◌+◌, ◌*◌, ◌/◌, ◌%◌, ◌^◌, ◌<◌, ◌≤◌, length, pos, false, ◌-ℤ◌, ◌+ℤ◌, ◌||◌, not, IfOk, MatchOption, ◌&&◌, int_le, int_lt, nat_le, nat_lt, slice_index_or, if◌then◌else◌};
 ghost use Rattle.copy_schedule.specs.declared.Mark.{Mark};
 ghost use Rattle.copy_schedule.specs.Marks.{is_clean, is_copied, is_mark, uncopied, is_wanted};
-ghost use Rattle.copy_schedule.specs.Places.{at_place, IsPlaceNumber};
+ghost use Rattle.region.specs.Places.{at_place};
+ghost use Rattle.copy_schedule.specs.Plain.{IsPlaceNumber};
 ghost use Rattle.copy_schedule.specs.Windows.{in_window};
 ghost use Rattle.region.specs.Region.{in_rect, covers, on_screen};
 ghost use Rattle.std.specs.List.{list_any, range_with_len};

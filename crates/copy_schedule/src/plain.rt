@@ -4,7 +4,8 @@
 //! went as a copy or as pixels, so it may take the two lists in either order.
 
 ghost use Rattle.std.specs.Prelude.{◌≡◌, false, ◌*◌, ◌^◌, ◌≤◌, IfOk, IfSome, OnOk, OnErr, option_map};
-ghost use Rattle.copy_schedule.specs.Marks.{is_clean, is_owed, is_copied, is_mark, mark_at, asked_at, new_marks, marked, copied_by, same_offset, without_copyrect, requested, pending, cut_of, cut_of_sent, marks_after, copies_of, pixels_of, after_sending, IsInside, HasSourcesInside, IsWithin};
+ghost use Rattle.region.specs.Places.{same_offset};
+ghost use Rattle.copy_schedule.specs.Marks.{is_clean, is_owed, is_copied, is_mark, mark_at, asked_at, new_marks, marked, copied_by, without_copyrect, requested, pending, cut_of, cut_of_sent, marks_after, copies_of, pixels_of, after_sending, IsInside, HasSourcesInside, IsWithin};
 ghost use Rattle.region.specs.Region.{covers, in_rect, rects_of};
 
 use crate::{Cut, Mark, copies, places, rects};

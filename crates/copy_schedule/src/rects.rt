@@ -2,7 +2,8 @@
 
 ghost use Rattle.std.specs.Prelude.{◌≡◌, ◌≢◌, ◌↔◌, IsTrue, ℕ, ◌+◌, ◌*◌, ◌^◌, ◌<◌, ◌≤◌, ◌++◌, false, reverse, take, flat_map, length, OnOk, IfOk, slice_index_or};
 ghost use Rattle.std.specs.List.{list_any};
-ghost use Rattle.copy_schedule.specs.Places.{at_place, row_at, row_test};
+ghost use Rattle.region.specs.Places.{at_place};
+ghost use Rattle.copy_schedule.specs.Plain.{row_at, row_test};
 ghost use Rattle.region.specs.Region.{intervals_of, rects_of_band, rects_of, by_band, in_order, order};
 ghost use Rattle.region.specs.declared.Rect.{Rect};
 

@@ -3,7 +3,7 @@
 ghost use Rattle.std.specs.Prelude.{◌≡◌, ◌≤◌, ◌||◌, ◌&&◌, true, ℤ, ◌-ℤ◌, IfOk, All};
 ghost use Rattle.region.specs.Region.{covers, in_rect, on_screen};
 ghost use Rattle.region.specs.Held.{in_range};
-ghost use Rattle.copy_schedule.specs.Marks.{IsOnScreen};
+ghost use Rattle.region.specs.Places.{IsOnScreen};
 ghost use Rattle.copy_schedule.specs.Kept.{LiesOn};
 ghost use Rattle.copy_schedule.specs.Sets.{is_far_by, lies_between, rect_of};
 
@@ -12,7 +12,7 @@ use region::{Rect, Region, RegionError};
 use std::alloc::{AllocError, Global};
 
 /// The most columns, and rows, that a screen has.
-const LIMIT: i32 = 8192;
+const LARGEST_SIDE: i32 = 8192;
 
 /// The places of some rectangles of a screen.
 pub fn union_of(alloc: Global, rects: &[Rect]) -> Result<Region, AllocError>
@@ -29,7 +29,7 @@ pub fn union_of(alloc: Global, rects: &[Rect]) -> Result<Region, AllocError>
 fn is_far(by: i32) -> bool
     ensures { result ≡ is_far_by by }
 {
-    by <= -LIMIT || LIMIT <= by
+    by <= -LARGEST_SIDE || LARGEST_SIDE <= by
 }
 
 /// Whether (dx, dy) leads from every place of a screen off it.
@@ -48,7 +48,7 @@ pub fn moved_by(alloc: Global, region: &Region, offset: (i32, i32)) -> Result<Re
         return Ok(Region::new(alloc));
     }
     let mut moved = region.try_clone(alloc)?;
-    moved.has_canonical_list();
+    moved.list_is_canonical();
     let _ = moved.offset(offset.0, offset.1);
     Ok(moved)
 }

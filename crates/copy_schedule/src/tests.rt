@@ -82,7 +82,7 @@ fn all_clean(alloc: Global, width: u32, height: u32) -> Result<Marks, AllocError
 }
 
 fn has_rects(region: &Region, alloc: Global, rects: &[Rect]) -> Result<bool, AllocError> {
-    let listed = region.rects(alloc, false, false)?;
+    let listed = region.rects(false, false)?;
     Ok(listed.as_slice() == rects)
 }
 

@@ -10,7 +10,7 @@ use Rattle.std.proofs.lemmas.List.Folds.{list_any_more, Any-from_list_any}
 use borrow.Rule.Slice.PartMut.{put_mid}
 use Rattle.region.specs.declared.Rect.{Rect}
 use Rattle.region.specs.Region.{in_rect, covers, on_screen}
-use Rattle.copy_schedule.specs.Marks.{IsOnScreen, source_rect}
+use Rattle.region.specs.Places.{IsOnScreen, source_rect}
 use Rattle.framebuffer.specs.Picture.{colour_at}
 use Rattle.framebuffer.specs.Moves.{between, HasColumns, part_moved, row_moved, colour_moved, is_among}
 

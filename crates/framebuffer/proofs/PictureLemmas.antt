@@ -10,18 +10,17 @@ use Rattle.region.specs.Region.{in_rect, covers, on_screen}
 use Rattle.framebuffer.specs.Moves.{colour_moved}
 use Rattle.std.specs.Ordering.{int_eq}
 use Rattle.std.proofs.lemmas.Int.{ints}
-use Rattle.copy_schedule.specs.Places.{by_place}
-use Rattle.copy_schedule.specs.Marks.{same_offset}
+use Rattle.region.specs.Places.{by_place, same_offset}
 use Rattle.framebuffer.specs.declared.blocks.Block.{Block}
 use Rattle.framebuffer.specs.Blocks.{rect_of, is_in_block, block_colours}
-use Rattle.framebuffer.specs.Picture.{colour_at, colour_in, written, moved}
-use Rattle.framebuffer.specs.Picture.{area_of, colours_of}
+use Rattle.framebuffer.specs.Picture.{colour_at, colour_in, written, moved, colours_of}
 use Rattle.framebuffer.proofs.BlockLemmas.{IsWritten}
 
 in_rect_of : (b : Block) (x y : ℕ) → in_rect (rect_of b) (pos x) (pos y) ≡ is_in_block b y x
 in_rect_of b x y = refl
 
-distance : (a b : ℕ) → a ≤ b → nat_abs (pos b -ℤ pos a) ≡ b - a
+-- how far one number is from another
+pub distance : (a b : ℕ) → a ≤ b → nat_abs (pos b -ℤ pos a) ≡ b - a
 distance a b h =
     let parts : b ≡ b - a + a = omega arith in
     ap (λ n. nat_abs (pos n -ℤ pos a)) parts ∙ ap nat_abs (+ℤ-neg_ℤ_cancel (pos (b - a)) (pos a))
@@ -99,12 +98,6 @@ idle w h set by picture some size why =
         ap (λ z. cond (set x y) (colour_at w h picture z (y -ℤ by.1)) (colour_at w h picture x y)) (no_way by.0 x parts.0)
         ∙ ap (λ z. cond (set x y) (colour_at w h picture x z) (colour_at w h picture x y)) (no_way by.1 y parts.1)
         ∙ same (set x y) (colour_at w h picture x y)
-
-pub area_is : (b : Block) → area_of (rect_of b) ≡ record { x = b.left; y = b.top; w = b.columns; h = b.rows }
-area_is b =
-    let wide : nat_abs (pos (b.left + b.columns) -ℤ pos b.left) ≡ b.columns = distance b.left (b.left + b.columns) (omega arith) ∙ omega arith in
-    let high : nat_abs (pos (b.top + b.rows) -ℤ pos b.top) ≡ b.rows = distance b.top (b.top + b.rows) (omega arith) ∙ omega arith in
-    rw (wide, high) refl
 
 has_some : (rows columns k : ℕ) → k < rows * columns → 0 < columns
 has_some rows zero k below = absurd (omega arith)

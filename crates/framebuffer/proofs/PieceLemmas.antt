@@ -8,8 +8,7 @@ use Rattle.std.proofs.lemmas.List.Elements.{All-append, All-nil}
 use Rattle.region.specs.declared.Rect.{Rect}
 use Rattle.region.specs.Held.{one_if}
 use Rattle.region.specs.Region.{in_rect, covers, on_screen}
-use Rattle.copy_schedule.specs.Places.{cut_destination}
-use Rattle.copy_schedule.specs.Marks.{IsOnScreen, source_rect}
+use Rattle.region.specs.Places.{cut_destination, IsOnScreen, source_rect}
 use Rattle.framebuffer.specs.Picture.{straight, union_of}
 
 pub record ArePieces (w h : ℕ) (by : ℤ × ℤ) (rects pieces : List Rect) : Type 0 where

@@ -1,10 +1,9 @@
 -- A screen's picture: the colours of its places, row by row.
 use Rattle.std.specs.Prelude.{ℕ, ◌+◌, ◌*◌, ◌%◌, ◌^◌, Bool, if◌then◌else◌, List, map, get_or, replicate, ℤ, ◌+ℤ◌, ◌-ℤ◌, nat_abs}
 use Rattle.std.specs.Int.{int_min, int_max}
-use Rattle.pixel_translate.specs.declared.Area.{Area}
 use Rattle.region.specs.declared.Rect.{Rect}
 use Rattle.region.specs.Region.{in_rect, covers}
-use Rattle.copy_schedule.specs.Places.{by_place, at_place, cut_destination}
+use Rattle.region.specs.Places.{by_place, at_place, cut_destination}
 
 abbrev pub blank : ℕ → ℕ → List ℕ
 blank w h = replicate (w * h) 0
@@ -36,9 +35,6 @@ straight r = record { x1 = int_min r.x1 r.x2; y1 = int_min r.y1 r.y2; x2 = int_m
 abbrev pub union_of : List Rect → ℤ → ℤ → Bool
 union_of rects x y = covers (map straight rects) x y
 
-abbrev pub area_of : Rect → Area
-area_of r = record { x = nat_abs r.x1; y = nat_abs r.y1; w = nat_abs (r.x2 -ℤ r.x1); h = nat_abs (r.y2 -ℤ r.y1) }
-
 -- a rectangle's colours, row by row
 abbrev pub colours_of : ℕ → ℕ → List ℕ → Rect → List ℕ
-colours_of w h picture r = by_place (area_of r).w (area_of r).h (λ x y. colour_at w h picture (x +ℤ r.x1) (y +ℤ r.y1))
+colours_of w h picture r = by_place (nat_abs (r.x2 -ℤ r.x1)) (nat_abs (r.y2 -ℤ r.y1)) (λ x y. colour_at w h picture (x +ℤ r.x1) (y +ℤ r.y1))

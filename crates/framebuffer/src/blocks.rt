@@ -1,7 +1,7 @@
 //! The screen's picture: the colours of its places, row by row, taken and replaced by blocks of rows.
 
 ghost use Rattle.std.specs.Prelude.{◌≡◌, ℕ, ◌+◌, ◌*◌, ◌%◌, ◌^◌, ◌<◌, ◌≤◌, ◌++◌, length, map, slice_index, IfOk, pos, ◌≤ℤ◌};
-ghost use Rattle.copy_schedule.specs.Marks.{IsOnScreen};
+ghost use Rattle.region.specs.Places.{IsOnScreen};
 ghost use Rattle.framebuffer.specs.Picture.{written};
 ghost use Rattle.framebuffer.specs.Blocks.{rect_of, FitsIn, colour_written, block_colours};
 

@@ -2,7 +2,7 @@
 
 ghost use Rattle.std.specs.Prelude.{◌≡◌, ◌+◌, ◌*◌, ◌<◌, ◌≤◌, ◌↔◌, All, length, slice_index, IfOk, IfSome, IsSome, OnOk, OnErr};
 ghost use Rattle.region.specs.Region.{covers};
-ghost use Rattle.copy_schedule.specs.Marks.{IsOnScreen, source_rect};
+ghost use Rattle.region.specs.Places.{IsOnScreen, source_rect};
 ghost use Rattle.framebuffer.specs.Frame.{IsPicture};
 ghost use Rattle.framebuffer.specs.Picture.{blank, written, moved};
 ghost use Rattle.framebuffer.specs.Blocks.{rect_of, block_colours};

@@ -3,7 +3,7 @@
 ghost use Rattle.std.specs.Prelude.{◌≡◌, ℕ, ℤ, ◌+◌, ◌-◌, ◌*◌, ◌<◌, ◌≤◌, ◌≤ℤ◌, ◌<ℤ◌, ◌-ℤ◌, ◌==◌, All, length, pos, slice_index, false, true, MatchOption, int_lt, nat_lt, ◌&&◌, ◌||◌, int_le};
 ghost use Rattle.std.specs.List.{list_any};
 ghost use Rattle.region.specs.Region.{covers};
-ghost use Rattle.copy_schedule.specs.Marks.{IsOnScreen, source_rect};
+ghost use Rattle.region.specs.Places.{IsOnScreen, source_rect};
 ghost use Rattle.framebuffer.specs.Picture.{moved};
 ghost use Rattle.framebuffer.specs.Moves.{between, HasColumns, part_moved, row_moved, colour_moved, is_among};
 

@@ -3,8 +3,7 @@
 ghost use Rattle.std.specs.Prelude.{◌≡◌, ℤ, ◌≤◌, ◌≤ℤ◌, ◌<ℤ◌, ◌+ℤ◌, ◌-ℤ◌, ◌&&◌, All, pos, ◌++◌, int_le, int_lt, IfOk, OnOk};
 ghost use Rattle.region.specs.Region.{in_rect, covers, on_screen};
 ghost use Rattle.region.specs.Held.{one_if};
-ghost use Rattle.copy_schedule.specs.Places.{cut_destination};
-ghost use Rattle.copy_schedule.specs.Marks.{IsOnScreen, source_rect};
+ghost use Rattle.region.specs.Places.{cut_destination, IsOnScreen, source_rect};
 ghost use Rattle.framebuffer.specs.Picture.{straight, union_of};
 ghost use Rattle.framebuffer.specs.Moves.{between};
 

@@ -86,8 +86,8 @@ pub(crate) fn stays_in_range(rect: Rect, dx: i32, dy: i32) -> bool
     place_stays(rect.x1, rect.y1, dx, dy) && place_stays(rect.x2, rect.y2, dx, dy)
 }
 
-/// Whether each rectangle, moved, is in range.
-pub(crate) fn leave_range(list: &[Rect], dx: i32, dy: i32) -> bool
+/// Whether some rectangle, moved, is not in range.
+pub(crate) fn some_leave_range(list: &[Rect], dx: i32, dy: i32) -> bool
     ensures { result ≡ leaves_range dx dy list.now }
 {
     list.iter().any(|rect| !stays_in_range(*rect, dx, dy))
@@ -250,22 +250,6 @@ pub(crate) fn copied(list: &Vec<Rect>) -> Result<Vec<Rect>, AllocError>
     list.clone()
 }
 
-fn least(a: i32, b: i32) -> i32
-    ensures left { result ≤ℤ a }
-    ensures right { result ≤ℤ b }
-    ensures greatest { (n : ℤ) → n ≤ℤ a → n ≤ℤ b → n ≤ℤ result }
-{
-    if a < b { a } else { b }
-}
-
-fn greatest(a: i32, b: i32) -> i32
-    ensures left { a ≤ℤ result }
-    ensures right { b ≤ℤ result }
-    ensures least { (n : ℤ) → a ≤ℤ n → b ≤ℤ n → result ≤ℤ n }
-{
-    if a < b { b } else { a }
-}
-
 /// The least rectangle in which both lie.
 fn hull(first: Rect, second: Rect) -> Rect
     ensures first { LiesIn first result }
@@ -273,10 +257,10 @@ fn hull(first: Rect, second: Rect) -> Rect
     ensures least { (q : Rect) → LiesIn first q → LiesIn second q → LiesIn result q }
 {
     Rect {
-        x1: least(first.x1, second.x1),
-        y1: least(first.y1, second.y1),
-        x2: greatest(first.x2, second.x2),
-        y2: greatest(first.y2, second.y2),
+        x1: first.x1.min(second.x1),
+        y1: first.y1.min(second.y1),
+        x2: first.x2.max(second.x2),
+        y2: first.y2.max(second.y2),
     }
 }
 

@@ -37,9 +37,7 @@ fn remove_front(rects: &mut Vec<Rect>, count: usize)
     requires { count ≤ length rects.old.items }
     ensures { rects.new.items ≡ drop count rects.old.items }
 {
-    let left = rects.len() - count;
-    rects.copy_within(count.., 0);
-    rects.truncate(left);
+    rects.drain(..count);
 }
 
 /// The rectangle with another top.

@@ -14,7 +14,7 @@ fn region_of(alloc: Global, rect: Rect) -> Result<Region, AllocError> {
 }
 
 fn is_list(region: &Region, alloc: Global, list: &[Rect]) -> Result<bool, AllocError> {
-    let rects = region.rects(alloc, false, false)?;
+    let rects = region.rects(false, false)?;
     Ok(rects.as_slice() == list)
 }
 
@@ -66,7 +66,7 @@ fn a_frame(rt: HostRuntime) -> Result<(), Fail> {
             ]
         )?
     );
-    let reversed = frame.rects(alloc, true, true)?;
+    let reversed = frame.rects(true, true)?;
     assert!(rt;
         reversed.as_slice()
             == [
@@ -379,7 +379,7 @@ fn rectangles_in_any_order(rt: HostRuntime) -> Result<(), Fail> {
             paint(&mut board, *rect, true, true);
         }
         assert!(rt; is_board(&region, &board));
-        let list = one_by_one(alloc, &rects)?.rects(alloc, false, false)?;
+        let list = one_by_one(alloc, &rects)?.rects(false, false)?;
         assert!(rt; is_list(&region, alloc, list.as_slice())?);
     }
     Ok(())

@@ -9,8 +9,8 @@ use Rattle.std.proofs.lemmas.List.FromFn.{get_or-map-range_with_len, length-map-
 use Rattle.std.proofs.lemmas.List.Folds.{list_any_at}
 use Rattle.region.specs.declared.Rect.{Rect}
 use Rattle.region.specs.Region.{in_rect, covers, on_screen}
-use Rattle.copy_schedule.specs.Places.{some_place, cut_destination}
-use Rattle.copy_schedule.specs.Marks.{IsOnScreen, IsCutTo, same_offset, copied_by}
+use Rattle.region.specs.Places.{some_place, cut_destination, IsOnScreen, same_offset}
+use Rattle.copy_schedule.specs.Marks.{IsCutTo, copied_by}
 use Rattle.screen.specs.declared.Config.{Config}
 use Rattle.viewer.specs.Viewer.{KeptViewer, does_nothing, viewer_copied}
 use Rattle.screen.specs.Held.{IsSized}

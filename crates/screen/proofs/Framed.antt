@@ -1,7 +1,6 @@
 -- What a framebuffer and a viewer of a screen's size do is what they do on the screen.
 use Rattle.std.proofs.Common.{◌≡◌, ℕ, ◌*◌, ℤ, Bool, List, length, All, subst, ap, ◌∙◌}
-use Rattle.copy_schedule.specs.Places.{cut_destination}
-use Rattle.copy_schedule.specs.Marks.{IsOnScreen}
+use Rattle.region.specs.Places.{cut_destination, IsOnScreen}
 use Rattle.region.specs.declared.Rect.{Rect}
 use Rattle.framebuffer.specs.Frame.{Frame}
 use Rattle.framebuffer.specs.Picture.{written, moved}

@@ -12,7 +12,7 @@ use Rattle.region.specs.Region.{covers, on_screen, IsCanonical}
 use Rattle.region.proofs.ScreenLemmas.{HasPlaces, rects_some}
 use Rattle.copy_schedule.specs.declared.Mark.{Mark}
 use Rattle.copy_schedule.specs.declared.Mark.TheVariants.{Clean, Owed}
-use Rattle.copy_schedule.specs.Places.{cut_destination}
+use Rattle.region.specs.Places.{cut_destination}
 use Rattle.copy_schedule.specs.Marks.{Marks, mark_at, marked}
 use Rattle.framebuffer.specs.Picture.{straight, union_of}
 use Rattle.screen.specs.declared.Config.{Config}

@@ -11,10 +11,9 @@ use Rattle.std.proofs.lemmas.List.FromFn.{length-map-range_with_len}
 use Rattle.std.proofs.lemmas.List.Folds.{list_any_at}
 use Rattle.region.specs.declared.Rect.{Rect}
 use Rattle.region.specs.Region.{in_rect, on_screen}
-use Rattle.copy_schedule.specs.Places.{by_place, some_place, cut_destination}
-use Rattle.copy_schedule.specs.Marks.{Marks, copied_by, same_offset}
-use Rattle.copy_schedule.proofs.KeptLemmas.{value_on}
-use Rattle.copy_schedule.proofs.CutLemmas.{is_place}
+use Rattle.region.specs.Places.{by_place, some_place, cut_destination, same_offset}
+use Rattle.copy_schedule.specs.Marks.{Marks, copied_by}
+use Rattle.region.proofs.Places.{value_on, is_place}
 use Rattle.framebuffer.specs.Picture.{colour_at, written, copied, union_of, colour_in}
 use Rattle.viewer_picture.proofs.Marks.{Shows, recoloured, marked-shows, moved-shows}
 use Rattle.screen.specs.declared.Config.{Config}

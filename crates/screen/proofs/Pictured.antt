@@ -12,7 +12,7 @@ use Rattle.encode_raw.specs.Reading.{Shown}
 use Rattle.messages.specs.Reading.{heard}
 use Rattle.copy_schedule.specs.declared.Mark.TheVariants.{Clean, Copied, Owed}
 use Rattle.copy_schedule.specs.Marks.{Marks, mark_at, new_marks, copies_of, pixels_of, after_sending, pending, cut_of}
-use Rattle.copy_schedule.proofs.CutLemmas.{is_place}
+use Rattle.region.proofs.Places.{is_place}
 use Rattle.framebuffer.specs.Picture.{colour_at}
 use Rattle.viewer_picture.specs.Messages.{messages_in}
 use Rattle.viewer_picture.specs.Claims.{RectanglesAreRead}

@@ -14,9 +14,11 @@ use Rattle.encode_raw.specs.Reading.{Shown}
 use Rattle.messages.specs.declared.Encoding.{Encoding}
 use Rattle.messages.specs.declared.Encoding.TheVariants as encoding
 use Rattle.messages.specs.Server.{cut_text, update_head}
-use Rattle.copy_schedule.specs.Marks.{Marks, IsOnScreen, source_rect, copies_of, pixels_of}
+use Rattle.region.specs.Places.{IsOnScreen, source_rect}
+use Rattle.copy_schedule.specs.Marks.{Marks, copies_of, pixels_of}
 use Rattle.copy_schedule.proofs.CutLemmas.{copies_on_screen, sources_inside, pixels_on_screen}
-use Rattle.framebuffer.specs.Picture.{area_of, colours_of}
+use Rattle.viewer_picture.specs.Areas.{area_of}
+use Rattle.framebuffer.specs.Picture.{colours_of}
 use Rattle.viewer_picture.specs.Messages.{rectangles_at, messages_in}
 use Rattle.viewer_picture.specs.Claims.{RectanglesAreRead}
 use Rattle.viewer_picture.proofs.Messages.{IsReadAs, changed, list-read, Reads, bell-read, text-read, update-read}

@@ -136,7 +136,7 @@ impl Screen {
         ensures refused { IsOkUnless result ScreenError.OutOfMemory }
         ensures err { OnErr result (self.new ≡ self.old) }
     {
-        region.has_canonical_list();
+        region.list_is_canonical();
         let marks = marks_with_region(self.alloc, &self.viewers, region)?;
         commit_all(&mut self.viewers, marks);
         Ok(())
@@ -206,7 +206,7 @@ impl Screen {
         ensures refused { IsOkUnless result ScreenError.OutOfMemory }
         ensures err { OnErr result (self.new ≡ self.old) }
     {
-        let rects = region.rects(self.alloc, false, false)?;
+        let rects = region.rects(false, false)?;
         self.schedule_copy(rects.as_slice(), dx, dy)
     }
 
@@ -263,7 +263,7 @@ impl Screen {
         ensures refused { IsOkUnless result ScreenError.OutOfMemory }
         ensures err { OnErr result (self.new ≡ self.old) }
     {
-        let rects = region.rects(self.alloc, false, false)?;
+        let rects = region.rects(false, false)?;
         self.do_copy(rects.as_slice(), dx, dy)
     }
 

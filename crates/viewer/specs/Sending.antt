@@ -11,7 +11,8 @@ use Rattle.messages.specs.declared.Encoding.{Encoding}
 use Rattle.messages.specs.declared.Encoding.TheVariants as encoding
 use Rattle.messages.specs.Reading.{Rest, is_open_rest}
 use Rattle.messages.specs.Server.{bell, cut_text, update_head}
-use Rattle.framebuffer.specs.Picture.{area_of, colours_of}
+use Rattle.viewer_picture.specs.Areas.{area_of}
+use Rattle.framebuffer.specs.Picture.{colours_of}
 use Rattle.viewer.specs.declared.notices.Notice.{Notice}
 use Rattle.viewer.specs.declared.notices.Notice.TheVariants as notice
 use Rattle.viewer.specs.Viewer.{Viewer, is_open_viewer}

@@ -1,8 +1,8 @@
 -- One viewer, and what drawing and its own messages do to it.
 use Rattle.std.specs.Prelude.{ℕ, ◌+◌, Bool, true, false, not, ◌&&◌, ◌||◌, if◌then◌else◌, nat_lt, List, [], ◌∷◌, ◌++◌, length, ℤ, pos}
 use Rattle.region.specs.Region.{in_rect, on_screen}
-use Rattle.copy_schedule.specs.Places.{some_place, cut_destination}
-use Rattle.copy_schedule.specs.Marks.{Marks, new_marks, marked, copied_by, requested, without_copyrect, same_offset}
+use Rattle.region.specs.Places.{some_place, cut_destination, same_offset}
+use Rattle.copy_schedule.specs.Marks.{Marks, new_marks, marked, copied_by, requested, without_copyrect}
 use Rattle.pixel_translate.specs.declared.Area.{Area}
 use Rattle.pixel_translate.specs.declared.PixelFormat.{PixelFormat}
 use Rattle.pixel_translate.specs.Pixel.{server_format}

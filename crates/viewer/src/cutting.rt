@@ -1,11 +1,12 @@
 //! What an update copies out of the screen: the rectangles that the marks chose, with their colours.
 
 ghost use Rattle.std.specs.Prelude.{◌≡◌, ◌<◌, ◌≤◌, ◌+◌, ◌*◌, ◌^◌, All, length, flat_map, IfOk, ◌-ℤ◌, nat_abs, [], ◌≢◌, IfSome, OnOk, OnErr};
-ghost use Rattle.copy_schedule.specs.Marks.{IsOnScreen, IsInside, HasSourcesInside, source_rect};
+ghost use Rattle.region.specs.Places.{IsOnScreen, source_rect};
+ghost use Rattle.copy_schedule.specs.Marks.{IsInside, HasSourcesInside, cut_of};
 ghost use Rattle.pixel_translate.specs.declared.PixelFormat.{PixelFormat};
-ghost use Rattle.copy_schedule.specs.Marks.{cut_of};
 ghost use Rattle.messages.specs.declared.Encoding.{Encoding};
-ghost use Rattle.framebuffer.specs.Picture.{area_of, colours_of};
+ghost use Rattle.viewer_picture.specs.Areas.{area_of};
+ghost use Rattle.framebuffer.specs.Picture.{colours_of};
 ghost use Rattle.viewer.specs.Sending.{copy_bytes, pixel_rectangle, bytes_of, sending_kept};
 ghost use Rattle.viewer.specs.Standings.{viewer_in};
 ghost use Rattle.framebuffer.specs.Blocks.{rect_of, FitsIn};

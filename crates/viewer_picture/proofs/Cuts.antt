@@ -12,23 +12,24 @@ use Rattle.pixel_translate.specs.Pixel.{pixel}
 use Rattle.region.specs.declared.Rect.{Rect}
 use Rattle.region.specs.Region.{in_rect, covers, on_screen, rects_of, order}
 use Rattle.region.proofs.CanonicalLemmas.{rects_of_covers-holds}
+use Rattle.region.specs.Copies.{InOrder}
 use Rattle.region.proofs.ScreenLemmas.{All-in_order}
+use Rattle.region.proofs.CopyOrder.{copies-in-order, covers-take, in-order-take}
 use Rattle.encode_raw.specs.Reading.{Dot, Shown, patched, copied}
 use Rattle.encode_raw.specs.Claims.{pixels_of as colour_pixels}
 use Rattle.copy_schedule.specs.declared.Mark.{Mark}
 use Rattle.copy_schedule.specs.declared.Mark.TheVariants.{Clean, Copied, Owed}
-use Rattle.copy_schedule.specs.Places.{by_place}
-use Rattle.copy_schedule.specs.Marks.{Marks, is_clean, is_copied, mark_at, asked_at, copyable, copies_of, pixels_of, after_sending, IsOnScreen}
-use Rattle.copy_schedule.proofs.KeptLemmas.{value_on}
-use Rattle.copy_schedule.proofs.CutLemmas.{is_place, copies_on_screen, pixels_on_screen}
+use Rattle.region.specs.Places.{by_place, IsOnScreen}
+use Rattle.copy_schedule.specs.Marks.{Marks, is_clean, is_copied, mark_at, asked_at, copyable, copies_of, pixels_of, after_sending}
+use Rattle.region.proofs.Places.{value_on, is_place}
+use Rattle.copy_schedule.proofs.CutLemmas.{copies_on_screen, pixels_on_screen}
 use Rattle.framebuffer.specs.declared.blocks.Block.{Block}
 use Rattle.framebuffer.specs.Blocks.{rect_of}
-use Rattle.framebuffer.specs.Picture.{colour_at, area_of, colours_of}
-use Rattle.framebuffer.proofs.PictureLemmas.{area_is}
-use Rattle.viewer_picture.specs.Copies.{InOrder}
+use Rattle.viewer_picture.specs.Areas.{area_of}
+use Rattle.framebuffer.specs.Picture.{colour_at, colours_of}
+use Rattle.viewer_picture.proofs.Areas.{area_is}
 use Rattle.viewer_picture.specs.Pictures.{dot_at, ShowsColour}
 use Rattle.viewer_picture.proofs.Messages.{changed}
-use Rattle.viewer_picture.proofs.Order.{copies-in-order}
 use Rattle.viewer_picture.proofs.Marks.{Shows, tells, mark-is}
 
 -- ---- rectangles of the screen are blocks
@@ -213,20 +214,6 @@ pixels-at w h picture f (r ∷ rs) on shown x y there =
     either false false = refl
 
 -- ---- one update
-
-covers-take : (n : ℕ) (rs : List Rect) (x y : ℤ) → covers (take n rs) x y ≡ true → covers rs x y ≡ true
-covers-take zero rs x y e = absurd cc
-covers-take (suc n) [] x y e = e
-covers-take (suc n) (r ∷ rs) x y e = one (in_rect r x y) (covers (take n rs) x y) (covers rs x y) (covers-take n rs x y) e
-  where
-    one : (a b c : Bool) → (b ≡ true → c ≡ true) → (a || b) ≡ true → (a || c) ≡ true
-    one true b c f e = refl
-    one false b c f e = f e
-
-in-order-take : (n : ℕ) (by : ℤ × ℤ) (rs : List Rect) → InOrder by rs → InOrder by (take n rs)
-in-order-take zero by rs h = tt
-in-order-take (suc n) by [] h = tt
-in-order-take (suc n) by (r ∷ rs) h = ((λ x y e. h.0 x y (covers-take n rs x y e)), in-order-take n by rs h.1)
 
 -- a rectangle's places are among those of a list
 AreOf : List Rect → Rect → Type 0

@@ -1,6 +1,6 @@
 pub mod Read
 pub mod Messages
-pub mod Order
+pub mod Areas
 pub mod Marks
 pub mod Cuts
 pub mod Comes

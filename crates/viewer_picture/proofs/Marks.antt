@@ -10,8 +10,9 @@ use Rattle.pixel_translate.specs.Pixel.{pixel}
 use Rattle.encode_raw.specs.Reading.{Dot, Shown}
 use Rattle.copy_schedule.specs.declared.Mark.{Mark}
 use Rattle.copy_schedule.specs.declared.Mark.TheVariants.{Clean, Copied, Owed}
-use Rattle.copy_schedule.specs.Marks.{Marks, is_copied, mark_at, with_marks, marked, same_offset, lost_to, moved_mark, moved, asked_for, forgotten, without_copyrect}
-use Rattle.copy_schedule.proofs.KeptLemmas.{value_on}
+use Rattle.region.specs.Places.{same_offset}
+use Rattle.copy_schedule.specs.Marks.{Marks, is_copied, mark_at, with_marks, marked, lost_to, moved_mark, moved, asked_for, forgotten, without_copyrect}
+use Rattle.region.proofs.Places.{value_on}
 use Rattle.viewer_picture.specs.Pictures.{dot_at, ShowsColour}
 
 -- each clean place of the marks' screen shows its colour, and so does a copied place's source, which is on the screen

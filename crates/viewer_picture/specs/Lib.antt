@@ -1,6 +1,6 @@
 pub mod Messages
 pub mod Opening
-pub mod Copies
+pub mod Areas
 pub mod Pictures
 pub mod Claims
 pub mod Examples

@@ -1,7 +1,7 @@
 //! What a viewer shows that reads what the server sends, by RFC 6143 alone.
 #![tactic(auto)]
 
-ghost use Rattle.viewer_picture.specs.Claims.{RectanglesAreRead, copies_are_in_order};
+ghost use Rattle.viewer_picture.specs.Claims.{RectanglesAreRead};
 
 use encode_hextile::hextile_is_read_back;
 use encode_raw::raw_is_read_back;
@@ -16,8 +16,3 @@ pub fn rectangles_are_read()
     rre_is_read_back();
     hextile_is_read_back();
 }
-
-/// In the order in which an update sends copies, none is drawn over what a later one is copied from.
-pub fn copies_are_in_order()
-    ensures { copies_are_in_order }
-{}

@@ -68,7 +68,7 @@ fn copy_both(
     uses_copyrect: bool,
 ) -> Result<(), AllocError> {
     let (width, height) = (both.marks.width(), both.marks.height());
-    let rects = cut_region(alloc, &[drawn], offset, width, height)?.rects(alloc, false, false)?;
+    let rects = cut_region(alloc, &[drawn], offset, width, height)?.rects(false, false)?;
     let (dx, dy) = offset;
     copy(
         &mut both.marks,

@@ -6,7 +6,7 @@ use Rattle.std.proofs.Math.Nat.{mod-lt}
 use Rattle.std.proofs.lemmas.List.{take_all}
 use Rattle.region.specs.Region.{covers}
 use Rattle.copy_schedule.specs.Marks.{uncopied}
-use Rattle.copy_schedule.proofs.PlaceLemmas.{row_below}
+use Rattle.region.proofs.Places.{row_below}
 use Rattle.copy_schedule.proofs.CopyLemmas.{sources_more}
 use Rattle.copy_schedule.proofs.copies.owe_sources.Goals as goal
 

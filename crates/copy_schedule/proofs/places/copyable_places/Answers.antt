@@ -4,7 +4,7 @@ use Rattle.std.specs.Int.{w32}
 use Rattle.std.proofs.lemmas.Int.{to_z-of_z}
 use Rattle.std.proofs.lemmas.List.Edits.{fill_by_more}
 use Rattle.copy_schedule.specs.declared.Mark.TheVariants.{Clean}
-use Rattle.copy_schedule.specs.Places.{at_place}
+use Rattle.region.specs.Places.{at_place}
 use Rattle.copy_schedule.specs.Marks.{is_copied}
 use Rattle.copy_schedule.proofs.places.copyable_places.Goals as goal
 

@@ -1,7 +1,7 @@
 use Rattle.std.proofs.Common.{◌≡◌, ℕ, ◌/◌, ◌%◌, ◌<◌, false, ◌&&◌, length, pos, slice_index_or}
 use Rattle.std.specs.Prelude.{◌-ℤ◌}
 use Rattle.copy_schedule.specs.declared.Mark.TheVariants.{Clean}
-use Rattle.copy_schedule.specs.Places.{at_place}
+use Rattle.region.specs.Places.{at_place}
 use Rattle.copy_schedule.specs.Marks.{is_copied}
 use Rattle.copy_schedule.proofs.places.copyable_places.Given as goal
 

@@ -1,6 +1,7 @@
 use Rattle.std.proofs.Common.{◌/◌, ◌%◌, get_or, cond, pos, ap, ◌∙◌, arith}
 use Rattle.std.proofs.Math.Nat.{mod-lt}
-use Rattle.copy_schedule.proofs.PlaceLemmas.{row_below, in_rect-unmoved, covers_more}
+use Rattle.region.proofs.Places.{row_below}
+use Rattle.copy_schedule.proofs.PlaceLemmas.{in_rect-unmoved, covers_more}
 use Rattle.copy_schedule.proofs.places.fill_rects.Goals as goal
 
 pub loop-rect-preserved : goal.loop-rect-preserved

@@ -4,7 +4,7 @@ use Rattle.std.proofs.lemmas.List.{take_all}
 use Rattle.region.specs.declared.Rect.{Rect}
 use Rattle.region.specs.Region.{rects_of}
 use Rattle.region.proofs.RectLemmas.{length-rects_of}
-use Rattle.copy_schedule.specs.Places.{at_place}
+use Rattle.region.specs.Places.{at_place}
 use Rattle.copy_schedule.proofs.rects.all_rects.Goals as goal
 
 pub returns : goal.returns

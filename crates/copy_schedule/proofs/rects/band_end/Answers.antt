@@ -1,6 +1,6 @@
 use Rattle.std.proofs.Common.{◌≡◌, ap, sym, ◌∙◌, arith}
 use Rattle.std.proofs.lemmas.Bool.{both_ways}
-use Rattle.copy_schedule.specs.Places.{row_at}
+use Rattle.copy_schedule.specs.Plain.{row_at}
 use Rattle.copy_schedule.proofs.PlaceLemmas.{by_lt}
 use Rattle.copy_schedule.proofs.rects.band_end.Goals as goal
 

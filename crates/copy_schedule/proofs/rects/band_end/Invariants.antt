@@ -1,5 +1,5 @@
 use Rattle.std.proofs.Common.{◌≡◌, ℕ, ◌<◌, ◌≤◌}
-use Rattle.copy_schedule.specs.Places.{row_at}
+use Rattle.copy_schedule.specs.Plain.{row_at}
 use Rattle.copy_schedule.proofs.rects.band_end.Given as goal
 
 -- the rows before y equal the first

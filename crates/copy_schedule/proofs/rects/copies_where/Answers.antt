@@ -5,7 +5,7 @@ use Rattle.std.proofs.lemmas.Int.{to_z-of_z}
 use Rattle.std.proofs.lemmas.List.{take_all}
 use Rattle.region.specs.Region.{in_order, rects_of}
 use Rattle.region.proofs.RectLemmas.{length-rects_of}
-use Rattle.copy_schedule.specs.Places.{at_place}
+use Rattle.region.specs.Places.{at_place}
 use Rattle.copy_schedule.proofs.BandLemmas.{rects_of-unchosen, in_order-none}
 use Rattle.copy_schedule.proofs.PlaceLemmas.{written}
 use Rattle.copy_schedule.proofs.rects.copies_where.Goals as goal

@@ -1,6 +1,6 @@
 use Rattle.std.proofs.Common.{◌≡◌, ◌-◌, ◌≤◌, ◌++◌, length}
 use Rattle.region.proofs.RectLemmas.{rects_in_row}
-use Rattle.copy_schedule.specs.Places.{row_test}
+use Rattle.copy_schedule.specs.Plain.{row_test}
 use Rattle.copy_schedule.proofs.rects.push_band.Given as goal
 
 -- the rectangles so far, with those from x on, are all

@@ -1,7 +1,7 @@
 use Rattle.std.proofs.Common.{◌≡◌, ◌-◌, ◌≤◌, ◌++◌, false}
 use Rattle.region.specs.Region.{rects_of}
 use Rattle.region.proofs.RectLemmas.{rects_in_rows}
-use Rattle.copy_schedule.specs.Places.{at_place}
+use Rattle.region.specs.Places.{at_place}
 use Rattle.copy_schedule.proofs.rects.rects_where.Given as goal
 
 -- the rectangles so far, with those of the rows from top on, are all

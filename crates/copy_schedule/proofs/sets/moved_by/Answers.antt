@@ -20,4 +20,4 @@ returns c = λ x y on.
     let on_moved = let P : List Rect → Type 0 = LiesOn 8192 8192 in subst P (sym same) c.requires in
     let near = sym c.leads_off.ensures ∙ c.if-leads_off.false in
     moved_places moved rs c.offset.new.self.list c.args.offset.0 c.args.offset.1 _ _ same is_dx is_dy
-    (ok_holds c.offset.result _ (c.offset.ensures.accepted (near_stays moved _ _ c.has_canonical_list.ensures on_moved (ap (λ a. is_far_by a || is_far_by (to_z w32 (of_z w32 c.args.offset.1))) is_dx ∙ ap (λ b. is_far_by c.args.offset.0 || is_far_by b) is_dy ∙ near))) c.offset.ensures.ok) x y
+    (ok_holds c.offset.result _ (c.offset.ensures.accepted (near_stays moved _ _ c.list_is_canonical.ensures on_moved (ap (λ a. is_far_by a || is_far_by (to_z w32 (of_z w32 c.args.offset.1))) is_dx ∙ ap (λ b. is_far_by c.args.offset.0 || is_far_by b) is_dy ∙ near))) c.offset.ensures.ok) x y

@@ -6,7 +6,7 @@ use Rattle.std.proofs.lemmas.List.{take_all}
 use mathlib.Core.Path.{fun_ext}
 use Rattle.region.specs.declared.Rect.{Rect}
 use Rattle.region.specs.Region.{in_rect, on_screen}
-use Rattle.copy_schedule.specs.Places.{cut_destination}
+use Rattle.region.specs.Places.{cut_destination}
 use Rattle.framebuffer.specs.Picture.{union_of}
 use Rattle.framebuffer.proofs.PieceLemmas.{ArePieces, no_pieces, more_pieces}
 use Rattle.framebuffer.proofs.spans.destinations.Goals as goal

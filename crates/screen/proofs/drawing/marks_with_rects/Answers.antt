@@ -3,7 +3,7 @@ use Rattle.std.specs.Prelude.{IfOk}
 use Rattle.std.specs.Map.{values_of}
 use Rattle.region.specs.Region.{covers}
 use Rattle.copy_schedule.specs.Marks.{Marks}
-use Rattle.copy_schedule.specs.Places.{cut_destination}
+use Rattle.region.specs.Places.{cut_destination}
 use Rattle.framebuffer.specs.Picture.{union_of}
 use Rattle.screen.proofs.Owing.{owed-cut}
 use Rattle.screen.proofs.drawing.marks_with_rects.Goals as goal

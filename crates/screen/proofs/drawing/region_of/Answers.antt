@@ -1,5 +1,5 @@
 use Rattle.std.proofs.Common.{ap, ◌∙◌, Err}
-use Rattle.copy_schedule.proofs.ScreenRects.{all-in_range}
+use Rattle.region.proofs.Places.{all-in_range}
 use Rattle.screen.proofs.drawing.region_of.Goals as goal
 
 pub unreachable-requires : goal.unreachable-requires

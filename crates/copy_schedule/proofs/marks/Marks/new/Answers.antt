@@ -1,8 +1,8 @@
-use Rattle.std.proofs.Common.{◌∙◌, ap, replicate, ◌*◌, ◌<◌, arith}
+use Rattle.std.proofs.Common.{◌∙◌, ap, replicate, ◌*◌}
 use Rattle.std.specs.Prelude.{pos}
 use Rattle.region.specs.Region.{covers}
 use Rattle.copy_schedule.specs.declared.Mark.TheVariants.{Owed}
-use Rattle.copy_schedule.specs.Places.{by_place}
+use Rattle.region.specs.Places.{by_place}
 use Rattle.copy_schedule.specs.Marks.{Marks}
 use Rattle.copy_schedule.proofs.KeptLemmas.{all_owed, none_asked}
 use Rattle.copy_schedule.proofs.marks.Marks.new.Goals as goal
@@ -11,6 +11,5 @@ pub returns : goal.returns
 returns c =
     let w = c.args.width in
     let h = c.args.height in
-    let some : 0 < w = omega (arith, c.requires.some_columns) in
-    ap {B = Marks} (λ marks. record { width = w; height = h; marks = marks; offset = (pos 0, pos 0); asked = by_place w h (covers c.new-2.result.list) }) (all_owed w h c.in_ok-owed.owed c.new.result some c.in_ok-owed.ensures)
+    ap {B = Marks} (λ marks. record { width = w; height = h; marks = marks; offset = (pos 0, pos 0); asked = by_place w h (covers c.new-2.result.list) }) (all_owed w h c.in_ok-owed.owed c.new.result c.in_ok-owed.ensures)
     ∙ ap {B = Marks} (λ asked. record { width = w; height = h; marks = replicate (w * h) Owed; offset = (pos 0, pos 0); asked = asked }) (none_asked w h c.new-2.result.list c.new-2.ensures)

@@ -1,6 +1,6 @@
 use Rattle.std.proofs.Common.{◌∙◌, ap, refl}
 use Rattle.region.specs.Region.{covers}
-use Rattle.copy_schedule.specs.Places.{by_place}
+use Rattle.region.specs.Places.{by_place}
 use Rattle.copy_schedule.specs.Marks.{Marks, without_copyrect}
 use Rattle.copy_schedule.specs.Kept.{kept_mark}
 use Rattle.copy_schedule.proofs.KeptLemmas.{Shows, uncopied_are}
@@ -11,7 +11,7 @@ invariant_of-self c =
     let f = c.self.inside in
     let m : Marks = record { width = f.width; height = f.height; marks = by_place f.width f.height (kept_mark f.kept); offset = (f.offset_x, f.offset_y); asked = by_place f.width f.height (covers f.asked.list) } in
     let shows : Shows m f.kept f.asked.list = record { screen = c.self.invariant; marks = refl; places = refl } in
-    record { some_columns = c.self.invariant.some_columns; columns = c.self.invariant.columns; some_rows = c.self.invariant.some_rows; rows = c.self.invariant.rows; kept = c.in_ok-kept.ensures.kept m.width m.height shows.screen.kept; asked_on = c.self.invariant.asked_on }
+    record { columns = c.self.invariant.columns; rows = c.self.invariant.rows; kept = c.in_ok-kept.ensures.kept m.width m.height shows.screen.kept; asked_on = c.self.invariant.asked_on }
 
 pub returns-clause-ok : goal.returns-clause-ok
 returns-clause-ok c =

@@ -4,7 +4,7 @@ use Rattle.region.specs.declared.Rect.{Rect}
 use Rattle.region.specs.Held.{SharePlace}
 use Rattle.region.specs.Region.{covers}
 use Rattle.copy_schedule.specs.declared.kept.Kept.{Kept}
-use Rattle.copy_schedule.specs.Places.{by_place}
+use Rattle.region.specs.Places.{by_place}
 use Rattle.copy_schedule.specs.Marks.{Marks, pending}
 use Rattle.copy_schedule.specs.Kept.{kept_mark}
 use Rattle.copy_schedule.proofs.KeptLemmas.{Shows, pending_there, pending_nowhere, not_shared}

@@ -4,8 +4,8 @@ use Rattle.std.specs.Int.{w32}
 use Rattle.std.proofs.lemmas.Int.{to_z-of_z}
 use Rattle.region.specs.Region.{covers, on_screen}
 use Rattle.copy_schedule.specs.declared.Mark.TheVariants.{Owed}
-use Rattle.copy_schedule.specs.Places.{by_place}
-use Rattle.copy_schedule.specs.Marks.{Marks, copied_by, same_offset, lost_to, moved, IsCutTo, is_copied}
+use Rattle.region.specs.Places.{by_place, same_offset}
+use Rattle.copy_schedule.specs.Marks.{Marks, copied_by, lost_to, moved, IsCutTo, is_copied}
 use Rattle.copy_schedule.specs.Kept.{kept_mark, IsKept, with_kept}
 use Rattle.copy_schedule.proofs.SetLemmas.{cut_lies, cut_wider, wider}
 use Rattle.copy_schedule.proofs.KeptLemmas.{Shows, kept_wider, shows_new, lost_are, moved_are}

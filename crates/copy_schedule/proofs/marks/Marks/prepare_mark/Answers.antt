@@ -3,7 +3,7 @@ use Rattle.std.specs.Prelude.{FitsSigned}
 use Rattle.std.specs.Int.{w32}
 use Rattle.std.proofs.lemmas.Int.{to_z-of_z}
 use Rattle.region.specs.Region.{covers}
-use Rattle.copy_schedule.specs.Places.{by_place}
+use Rattle.region.specs.Places.{by_place}
 use Rattle.copy_schedule.specs.Marks.{Marks, marked}
 use Rattle.copy_schedule.specs.Kept.{kept_mark, IsKept, with_kept}
 use Rattle.copy_schedule.proofs.SetLemmas.{lies_on_part}

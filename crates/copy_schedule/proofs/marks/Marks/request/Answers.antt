@@ -3,11 +3,10 @@ use Rattle.std.specs.Prelude.{FitsSigned, ℤ, pos, ◌-ℤ◌}
 use Rattle.std.specs.Int.{w32}
 use Rattle.std.proofs.lemmas.Int.{to_z-of_z}
 use Rattle.region.specs.Region.{covers, in_rect, on_screen}
-use Rattle.copy_schedule.specs.Places.{by_place}
+use Rattle.region.specs.Places.{by_place}
 use Rattle.copy_schedule.specs.Marks.{Marks, asked_for, forgotten, requested}
 use Rattle.copy_schedule.specs.Kept.{kept_mark}
-use Rattle.copy_schedule.proofs.SetLemmas.{lies_on_part, lies_either}
-use Rattle.copy_schedule.proofs.SetLemmas.{unmoved}
+use Rattle.copy_schedule.proofs.SetLemmas.{lies_on_part, lies_either, unmoved}
 use Rattle.copy_schedule.proofs.KeptLemmas.{Shows, forgotten_are, asked_are}
 use Rattle.copy_schedule.proofs.marks.Marks.request.Goals as goal
 
@@ -17,9 +16,7 @@ invariant_of-self c =
     let m : Marks = record { width = f.width; height = f.height; marks = by_place f.width f.height (kept_mark f.kept); offset = (f.offset_x, f.offset_y); asked = by_place f.width f.height (covers f.asked.list) } in
     let shows : Shows m f.kept f.asked.list = record { screen = c.self.invariant; marks = refl; places = refl } in
     record {
-      some_columns = c.self.invariant.some_columns;
       columns = c.self.invariant.columns;
-      some_rows = c.self.invariant.some_rows;
       rows = c.self.invariant.rows;
       kept = c.self.invariant.kept;
       asked_on = lies_either m.width m.height f.asked.list c.in_ok-part.part.list c.in_ok-asked.asked.list c.self.invariant.asked_on (lies_on_part m.width m.height c.in_ok-part.part.list (λ x y. in_rect c.args.rect (x -ℤ pos 0) (y -ℤ pos 0)) c.in_ok-part.ensures) c.in_ok-asked.ensures;
@@ -40,9 +37,7 @@ invariant_of-self-2 c =
     let shows : Shows m f.kept f.asked.list = record { screen = c.self.invariant; marks = refl; places = refl } in
     let on_part = lies_on_part m.width m.height c.in_ok-part.part.list (λ x y. in_rect c.args.rect (x -ℤ pos 0) (y -ℤ pos 0)) c.in_ok-part.ensures in
     record {
-      some_columns = c.self.invariant.some_columns;
       columns = c.self.invariant.columns;
-      some_rows = c.self.invariant.some_rows;
       rows = c.self.invariant.rows;
       kept = c.in_ok-kept.ensures.kept m.width m.height shows.screen.kept on_part;
       asked_on = lies_either m.width m.height f.asked.list c.in_ok-part.part.list c.in_ok-asked.asked.list c.self.invariant.asked_on on_part c.in_ok-asked.ensures;

@@ -7,4 +7,4 @@ pub returns : goal.returns
 returns c =
     let f = c.self.inside in
     let shows : Shows c.args.self.now f.kept f.asked.list = subst (λ (m : Marks). Shows m f.kept f.asked.list) c.self.view_is (record { screen = c.self.invariant; marks = refl; places = refl }) in
-    asked_listed c.args.self.now f.kept f.asked.list shows c.has_canonical_list.ensures
+    asked_listed c.args.self.now f.kept f.asked.list shows c.list_is_canonical.ensures

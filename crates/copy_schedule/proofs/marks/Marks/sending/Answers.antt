@@ -4,8 +4,8 @@ use Rattle.std.specs.Int.{w32}
 use Rattle.std.specs.List.{All}
 use Rattle.std.proofs.lemmas.Int.{to_z-of_z}
 use Rattle.region.specs.Region.{covers, order}
-use Rattle.copy_schedule.specs.Places.{by_place}
-use Rattle.copy_schedule.specs.Marks.{Marks, copies_of, pixels_of, IsOnScreen, mark_at, is_clean}
+use Rattle.region.specs.Places.{by_place, IsOnScreen}
+use Rattle.copy_schedule.specs.Marks.{Marks, copies_of, pixels_of, mark_at, is_clean}
 use Rattle.copy_schedule.specs.Kept.{kept_mark}
 use Rattle.copy_schedule.proofs.CutLemmas.{copies_on_screen, pixels_on_screen}
 use Rattle.region.proofs.OrderLemmas.{in_order-plain}

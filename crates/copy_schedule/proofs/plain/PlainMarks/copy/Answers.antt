@@ -2,7 +2,8 @@ use Rattle.std.proofs.Common.{◌≡◌, false, to_z, of_z, replicate, ◌*◌, 
 use Rattle.std.specs.Int.{w32}
 use Rattle.std.proofs.lemmas.Int.{to_z-of_z}
 use Rattle.region.specs.Region.{covers}
-use Rattle.copy_schedule.specs.Marks.{Marks, same_offset, lost_to, moved, copied_by}
+use Rattle.region.specs.Places.{same_offset}
+use Rattle.copy_schedule.specs.Marks.{Marks, lost_to, moved, copied_by}
 use Rattle.copy_schedule.proofs.PlaceLemmas.{written}
 use Rattle.copy_schedule.proofs.CopyLemmas.{copied-steps}
 use Rattle.copy_schedule.proofs.plain.PlainMarks.copy.Goals as goal

@@ -1,7 +1,7 @@
 use Rattle.std.proofs.Common.{List, ◌∙◌, sym, subst, ℤ}
 use Rattle.std.specs.List.{All}
 use Rattle.region.specs.declared.Rect.{Rect}
-use Rattle.copy_schedule.specs.Marks.{IsOnScreen, source_rect}
+use Rattle.region.specs.Places.{IsOnScreen, source_rect}
 use Rattle.copy_schedule.proofs.CutLemmas.{copies_on_screen, sources_inside, pixels_on_screen}
 use Rattle.copy_schedule.proofs.plain.PlainMarks.cut.Goals as goal
 

@@ -3,7 +3,7 @@ use Rattle.std.specs.Prelude.{FitsSigned}
 use Rattle.std.specs.Int.{w32}
 use Rattle.std.proofs.lemmas.Int.{to_z-of_z}
 use Rattle.region.specs.Region.{order, rects_of}
-use Rattle.copy_schedule.specs.Places.{at_place}
+use Rattle.region.specs.Places.{at_place}
 use Rattle.copy_schedule.specs.Marks.{Marks, copies_of, pixels_of}
 use Rattle.copy_schedule.proofs.PlaceLemmas.{written}
 use Rattle.copy_schedule.proofs.CutLemmas.{IsCopyable, copyable_from, others_from, copies_are, pixels_are}

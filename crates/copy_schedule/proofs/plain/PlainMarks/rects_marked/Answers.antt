@@ -4,7 +4,7 @@ use Rattle.region.specs.declared.Rect.{Rect}
 use Rattle.region.specs.Region.{rects_of}
 use Rattle.copy_schedule.specs.declared.Mark.{Mark}
 use Rattle.copy_schedule.specs.declared.Mark.TheVariants.{Clean, Copied, Owed}
-use Rattle.copy_schedule.specs.Places.{at_place}
+use Rattle.region.specs.Places.{at_place}
 use Rattle.copy_schedule.specs.Marks.{Marks, is_clean, is_mark, mark_at}
 use Rattle.copy_schedule.proofs.PlaceLemmas.{mapped_at}
 use Rattle.copy_schedule.proofs.plain.PlainMarks.rects_marked.Goals as goal

@@ -1,6 +1,6 @@
 use Rattle.std.proofs.Common.{false, ap, ◌∙◌}
 use Rattle.region.specs.Region.{rects_of}
-use Rattle.copy_schedule.specs.Places.{at_place}
+use Rattle.region.specs.Places.{at_place}
 use Rattle.copy_schedule.specs.Marks.{Marks, asked_at}
 use Rattle.copy_schedule.proofs.plain.PlainMarks.requested.Goals as goal
 

@@ -4,8 +4,8 @@ use Rattle.std.specs.Int.{w32}
 use Rattle.std.proofs.lemmas.Int.{to_z-of_z}
 use Rattle.region.specs.declared.Rect.{Rect}
 use Rattle.region.specs.Region.{covers}
-use Rattle.copy_schedule.specs.Places.{cut_destination}
-use Rattle.copy_schedule.specs.Marks.{Marks, IsCutTo, same_offset}
+use Rattle.region.specs.Places.{cut_destination, same_offset}
+use Rattle.copy_schedule.specs.Marks.{Marks, IsCutTo}
 use Rattle.framebuffer.specs.Picture.{union_of, moved}
 use Rattle.framebuffer.proofs.PictureLemmas.{idle}
 use Rattle.screen.specs.declared.Event.TheVariants.{DoCopy}

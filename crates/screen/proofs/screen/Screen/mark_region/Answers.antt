@@ -28,4 +28,4 @@ returns-clause-step c = λ config list h.
     let after : List (ℕ × KeptViewer) → State = λ pairs. record { config = here.config; picture = here.picture.colours; viewers = pairs } in
     ap after made
     ∙ state-drawn config here.config here.picture.colours here.picture.colours here.viewers.pairs (viewer_with marks_of) (Mark c.args.region.now.list) list refl refl refl
-    (λ s. ap (λ set. viewer_marked set s) (sym (region-straight c.args.region.now.list c.has_canonical_list.ensures))) (c.self.view_is ∙ h)
+    (λ s. ap (λ set. viewer_marked set s) (sym (region-straight c.args.region.now.list c.list_is_canonical.ensures))) (c.self.view_is ∙ h)

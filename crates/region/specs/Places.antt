@@ -1,6 +1,8 @@
--- Values by place, as a list of a screen's rows from the top, each from left to right.
-use Rattle.std.specs.Prelude.{◌≡◌, ℕ, ◌+◌, ◌<◌, ◌*◌, ◌/◌, ◌%◌, List, get_or, take, drop, map, false, ℤ, pos, nat_abs, Bool, ◌&&◌, ◌-ℤ◌, if◌then◌else◌}
+-- Values by place, as a list of a screen's rows from the top, each from left to right; and rectangles of a screen.
+use Rattle.std.specs.Prelude.{ℕ, ◌+◌, ◌*◌, ◌/◌, ◌%◌, List, get_or, map, ℤ, pos, nat_abs, Bool, ◌&&◌, ◌-ℤ◌, ◌≤ℤ◌, ◌<ℤ◌, if◌then◌else◌}
 use Rattle.std.specs.List.{range_with_len, list_any}
+use Rattle.std.specs.Ordering.{int_eq}
+use Rattle.region.specs.declared.Rect.{Rect}
 use Rattle.region.specs.Region.{on_screen}
 
 -- the value of each place of a w by h screen
@@ -19,19 +21,18 @@ some_place w h set = list_any (λ is_in. is_in) (by_place w h set)
 abbrev pub cut_destination : ℕ → ℕ → (ℤ → ℤ → Bool) → ℤ × ℤ → ℤ → ℤ → Bool
 cut_destination w h set by x y = set x y && on_screen w h x y && on_screen w h (x -ℤ by.0) (y -ℤ by.1)
 
--- the row y of so many places a row
-abbrev pub row_at : {X : Type 0} → ℕ → List X → ℕ → List X
-row_at w values y = take w (drop (y * w) values)
+abbrev pub same_offset : ℤ × ℤ → ℤ × ℤ → Bool
+same_offset d e = int_eq d.0 e.0 && int_eq d.1 e.1
 
--- a row as a test, false outside
-abbrev pub row_test : List Bool → ℤ → Bool
-row_test row x = get_or row (nat_abs x) false
+-- a rectangle of a w by h screen, not empty
+pub record IsOnScreen (w h : ℕ) (r : Rect) : Type 0 where
+  pub left : pos 0 ≤ℤ r.x1
+  pub columns : r.x1 <ℤ r.x2
+  pub right : r.x2 ≤ℤ pos w
+  pub top : pos 0 ≤ℤ r.y1
+  pub rows : r.y1 <ℤ r.y2
+  pub bottom : r.y2 ≤ℤ pos h
 
--- the number of a place of the screen
-pub record IsPlaceNumber (w h : ℕ) (x y : ℤ) (k : ℕ) : Type 0 where
-  pub within : k < w * h
-  pub column : nat_abs x < w
-  pub row : nat_abs y < h
-  pub on_columns : x ≡ pos (nat_abs x)
-  pub on_rows : y ≡ pos (nat_abs y)
-  pub number : k ≡ nat_abs y * w + nat_abs x
+-- the rectangle that a rectangle's pixels are copied from, by an offset
+abbrev pub source_rect : ℤ × ℤ → Rect → Rect
+source_rect by r = record { x1 = r.x1 -ℤ by.0; y1 = r.y1 -ℤ by.1; x2 = r.x2 -ℤ by.0; y2 = r.y2 -ℤ by.1 }

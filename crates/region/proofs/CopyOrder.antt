@@ -1,5 +1,5 @@
 -- In the order for copies no rectangle is drawn over a later one's source.
-use Rattle.std.proofs.Common.{◌≡◌, ◌≢◌, Bool, true, false, ◌||◌, ◌⊎◌, inl, inr, List, [], ◌∷◌, ◌++◌, map, reverse, refl, sym, ap, subst, ◌∙◌, arith}
+use Rattle.std.proofs.Common.{◌≡◌, ◌≢◌, ℕ, zero, suc, Bool, true, false, ◌||◌, ◌⊎◌, inl, inr, List, [], ◌∷◌, ◌++◌, map, take, reverse, refl, sym, ap, subst, ◌∙◌, arith}
 use Rattle.std.specs.Prelude.{ℤ, pos, ◌-ℤ◌, ◌<ℤ◌, ◌≤ℤ◌, int_lt, flat_map}
 use Rattle.std.specs.List.{AllByRecursion}
 use Rattle.std.proofs.lemmas.Int.{ints}
@@ -11,8 +11,7 @@ use Rattle.region.proofs.RunLemmas.{first_some, rest_runs}
 use Rattle.region.proofs.CanonicalLemmas.{rects_of_is_canonical-holds}
 use Rattle.region.proofs.RectLemmas.{band_rect}
 use Rattle.region.proofs.OrderLemmas.{BeginIn, BeginsElsewhere, by_band-band, in_order-plain, in_order-both, in_order-bands}
-use Rattle.viewer_picture.specs.Copies.{InOrder}
-use Rattle.viewer_picture.specs.Claims.{copies_are_in_order}
+use Rattle.region.specs.Copies.{InOrder, copies_are_in_order}
 
 -- ---- each earlier one with each later one
 
@@ -250,3 +249,18 @@ pub copies-in-order : copies_are_in_order
 copies-in-order w h set by =
     let c = rects_of_is_canonical-holds w h set in
     subst (λ (rs : List Rect). InOrder by (order by.0 by.1 rs)) (sym c.2) (in-order c.0 c.1.0 c.1.1 by _ _ refl refl)
+
+-- the first ones of a list
+pub covers-take : (n : ℕ) (rs : List Rect) (x y : ℤ) → covers (take n rs) x y ≡ true → covers rs x y ≡ true
+covers-take zero rs x y e = absurd cc
+covers-take (suc n) [] x y e = e
+covers-take (suc n) (r ∷ rs) x y e = one (in_rect r x y) (covers (take n rs) x y) (covers rs x y) (covers-take n rs x y) e
+  where
+    one : (a b c : Bool) → (b ≡ true → c ≡ true) → (a || b) ≡ true → (a || c) ≡ true
+    one true b c f e = refl
+    one false b c f e = f e
+
+pub in-order-take : (n : ℕ) (by : ℤ × ℤ) (rs : List Rect) → InOrder by rs → InOrder by (take n rs)
+in-order-take zero by rs h = tt
+in-order-take (suc n) by [] h = tt
+in-order-take (suc n) by (r ∷ rs) h = ((λ x y e. h.0 x y (covers-take n rs x y e)), in-order-take n by rs h.1)
