@@ -1,5 +1,5 @@
 use Rattle.pixel_translate.proofs.Server.{server_pixel, same_components}
-use Rattle.pixel_translate.proofs.server_pixels.Goals as goal
+use Rattle.pixel_translate.proofs.server_pixels_are_colours.Goals as goal
 
 pub returns-clause-itself : goal.returns-clause-itself
 returns-clause-itself c = server_pixel
