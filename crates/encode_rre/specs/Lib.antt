@@ -1,5 +1,7 @@
 pub mod Rre
+pub mod Begins
 pub mod Subrectangles
+pub mod Rows
 pub mod Starts
 pub mod Breaks
 pub mod Counted
