@@ -8,3 +8,9 @@ pub mod Counted
 pub mod Reading
 pub mod Examples
 pub mod Claims
+pub mod Runs
+pub mod Scans
+pub mod Listed
+pub mod Paint
+pub mod MostFrequent
+pub mod Counts

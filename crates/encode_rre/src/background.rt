@@ -50,7 +50,7 @@ fn likely(pixels: &[u32], beside: Option<u32>) -> u32 {
 
 /// How often a pixel stands there. This has no branch in its loop, so that many places are looked
 /// at in one step.
-fn times(pixels: &[u32], pixel: u32) -> usize
+pub fn times(pixels: &[u32], pixel: u32) -> usize
     requires { length pixels.now < 2 ^ 32 }
     ensures { result ≡ times pixel pixels.now }
 {
@@ -160,10 +160,7 @@ fn rows_like(pixels: &Rows, top: usize) -> usize
 
 /// The most frequent pixel, of several the smallest, counted row by row; rows that are alike are
 /// counted at once.
-fn counted_background(
-    alloc: Global,
-    pixels: &Rows,
-) -> Result<u32, AllocError>
+fn counted_background(alloc: Global, pixels: &Rows) -> Result<u32, AllocError>
     ensures { IfOk result (λ b. b ≡ background_of pixels.now.values.now) }
 {
     let mut counter = Counter {
@@ -183,10 +180,7 @@ fn counted_background(
 /// The most frequent pixel, of several the smallest. Where a pixel that seems likely has more than
 /// half of the places, it is the one, and where two have enough of them, it is one of these; else
 /// all pixels are counted.
-pub(crate) fn background_of(
-    alloc: Global,
-    pixels: &Rows,
-) -> Result<u32, AllocError>
+pub(crate) fn background_of(alloc: Global, pixels: &Rows) -> Result<u32, AllocError>
     ensures { IfOk result (λ b. b ≡ background_of pixels.now.values.now) }
 {
     let guess = likely(pixels.values, None);

@@ -75,8 +75,7 @@ fn has_too_many_kinds(pixels: &Rows, limit: usize) -> bool
 
 /// Whether there may be enough such places to be too many: there are few rows, or in one row of 16
 /// there are more than half as many as would be too many there. It is only a guess.
-fn may_have_too_many(pixels: &Rows, limit: usize) -> bool
-{
+fn may_have_too_many(pixels: &Rows, limit: usize) -> bool {
     if pixels.height < 64 {
         return true;
     }

@@ -35,7 +35,7 @@ use crate::breaks::has_too_many;
 use crate::bytes::put_rre;
 use crate::rows::Rows;
 use crate::scan::subrectangles_within;
-pub use background::is_better;
+pub use background::{is_better, times};
 use encode_raw::{encode_raw_with_table, raw_is_read_back};
 use pixel_translate::{Table, server_pixels_are_colours};
 pub use pixel_translate::{Area, PixelFormat};

@@ -1,6 +1,6 @@
 //! The subrectangles of a rectangle, found row by row.
 
-ghost use Rattle.std.specs.Prelude.{◌≡◌, ℕ, ◌+◌, ◌*◌, ◌<◌, ◌≤◌, ◌^◌, ◌++◌, true, false, length, drop, slice_index, IfOk, MatchOption, OnOk};
+ghost use Rattle.std.specs.Prelude.{◌≡◌, ℕ, ◌+◌, ◌*◌, ◌<◌, ◌≤◌, ◌^◌, ◌++◌, true, false, length, drop, slice_index, IfOk, IfSome, MatchOption, OnOk};
 ghost use Rattle.std.specs.List.{prefix_len};
 ghost use Rattle.encode_rre.specs.Starts.{AreRuns};
 ghost use Rattle.encode_rre.specs.Rows.{rows_in};
@@ -123,12 +123,7 @@ fn rows_with(pixels: &Rows, top: usize, run: Run) -> usize
 }
 
 /// Whether a subrectangle begins with a run of the row at `y`.
-fn begins_with(
-    pixels: &Rows,
-    background: u32,
-    y: usize,
-    run: Run,
-) -> bool
+fn begins_with(pixels: &Rows, background: u32, y: usize, run: Run) -> bool
     requires inside { y < pixels.now.height }
     requires some { 0 < run.w }
     requires within { run.x + run.w ≤ pixels.now.width }
@@ -153,7 +148,8 @@ pub fn subrectangle_at(
     requires run { w ≡ stretch (row_at (rows_in pixels.now) y) x }
     requires some { 0 < w }
     requires within { x + w ≤ pixels.now.width }
-    ensures { MatchOption result (begins_subrectangle background (rows_in pixels.now) y x ≡ false) (λ sub. (begins_subrectangle background (rows_in pixels.now) y x ≡ true) × (sub ≡ subrectangle_from (rows_in pixels.now) y x)) }
+    ensures found { MatchOption result (begins_subrectangle background (rows_in pixels.now) y x ≡ false) (λ sub. (begins_subrectangle background (rows_in pixels.now) y x ≡ true) × (sub ≡ subrectangle_from (rows_in pixels.now) y x)) }
+    ensures within { IfSome result (λ sub. y + sub.h ≤ pixels.now.height) }
 {
     let run = Run {
         x,

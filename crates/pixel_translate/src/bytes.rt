@@ -54,12 +54,7 @@ pub fn put_bytes(out: &mut Vec<u8>, format: &PixelFormat, pixel: u32) -> Result<
 }
 
 /// Writes the pixel of each value in a format of 8 bits.
-fn write_8<F: Fn(u32) -> u32>(
-    places: &mut [u8],
-    values: &[u32],
-    format: &PixelFormat,
-    pixel_of: F,
-)
+fn write_8<F: Fn(u32) -> u32>(places: &mut [u8], values: &[u32], format: &PixelFormat, pixel_of: F)
     requires callable { F.IsAlwaysCallable pixel_of }
     requires bits { format.now.bits ≡ BitsPerPixel.Eight }
     requires room { length places.old ≡ 1 * length values.now }
@@ -71,12 +66,7 @@ fn write_8<F: Fn(u32) -> u32>(
 }
 
 /// Writes the pixel of each value in a format of 16 bits.
-fn write_16<F: Fn(u32) -> u32>(
-    places: &mut [u8],
-    values: &[u32],
-    format: &PixelFormat,
-    pixel_of: F,
-)
+fn write_16<F: Fn(u32) -> u32>(places: &mut [u8], values: &[u32], format: &PixelFormat, pixel_of: F)
     requires callable { F.IsAlwaysCallable pixel_of }
     requires bits { format.now.bits ≡ BitsPerPixel.Sixteen }
     requires room { length places.old ≡ 2 * length values.now }
@@ -88,12 +78,7 @@ fn write_16<F: Fn(u32) -> u32>(
 }
 
 /// Writes the pixel of each value in a format of 32 bits.
-fn write_32<F: Fn(u32) -> u32>(
-    places: &mut [u8],
-    values: &[u32],
-    format: &PixelFormat,
-    pixel_of: F,
-)
+fn write_32<F: Fn(u32) -> u32>(places: &mut [u8], values: &[u32], format: &PixelFormat, pixel_of: F)
     requires callable { F.IsAlwaysCallable pixel_of }
     requires bits { format.now.bits ≡ BitsPerPixel.ThirtyTwo }
     requires room { length places.old ≡ 4 * length values.now }

@@ -1,6 +1,6 @@
 use Rattle.std.proofs.Common.{arith}
 use Rattle.encode_rre.specs.Rows.{some_values}
-use Rattle.encode_rre.proofs.Counts.{majority}
+use Rattle.encode_rre.specs.Counts.{majority}
 use Rattle.encode_rre.proofs.background.background_of.Goals as goal
 
 pub returns-then-half-count : goal.returns-then-half-count

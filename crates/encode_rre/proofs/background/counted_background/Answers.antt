@@ -4,7 +4,7 @@ use Rattle.std.proofs.Math.Seq.{take-length}
 use Rattle.encode_rre.specs.Counted.{count_in}
 use Rattle.encode_rre.specs.Subrectangles.{times}
 use Rattle.encode_rre.specs.Rows.{some_values}
-use Rattle.encode_rre.proofs.Counts.{best_is, rows_alike}
+use Rattle.encode_rre.specs.Counts.{best_is, rows_alike}
 use Rattle.encode_rre.proofs.background.counted_background.Goals as goal
 
 pub loop-y-preserved : goal.loop-y-preserved

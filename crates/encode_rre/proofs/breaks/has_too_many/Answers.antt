@@ -5,7 +5,7 @@ use Rattle.encode_rre.specs.Rows.{rows_in}
 use Rattle.encode_rre.specs.Breaks.{breaks}
 use Rattle.encode_rre.specs.Subrectangles.{row_at, subrectangles_in}
 use Rattle.encode_rre.proofs.Early.{breaks_small, rows_breaks, enough}
-use Rattle.encode_rre.proofs.Scans.{rows_count, fewer_rows}
+use Rattle.encode_rre.specs.Scans.{rows_count, fewer_rows}
 use Rattle.encode_rre.proofs.breaks.has_too_many.Goals as goal
 
 pub overflow_add-count : goal.overflow_add-count

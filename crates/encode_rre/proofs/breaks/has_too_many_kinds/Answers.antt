@@ -7,7 +7,7 @@ use Rattle.encode_rre.specs.Rows.{rows_in}
 use Rattle.encode_rre.specs.Breaks.{breaks, breaks_like}
 use Rattle.encode_rre.specs.Subrectangles.{row_at, subrectangles_in}
 use Rattle.encode_rre.proofs.Early.{breaks_small, like_small, rows_kinds}
-use Rattle.encode_rre.proofs.Scans.{rows_count, fewer_rows}
+use Rattle.encode_rre.specs.Scans.{rows_count, fewer_rows}
 use Rattle.encode_rre.proofs.breaks.has_too_many_kinds.Goals as goal
 
 zeroes : (k m : ℕ) → k < 251 → get_or {A = ℕ} (replicate {A = ℕ} 251 0) k 0 ≤ m

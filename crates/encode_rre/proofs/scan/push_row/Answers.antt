@@ -3,7 +3,7 @@ use Rattle.encode_rre.specs.Rows.{rows_in}
 use Rattle.encode_rre.specs.Starts.{AreRuns}
 use Rattle.encode_rre.specs.Subrectangles.{row_at, stretch, begins_run}
 use Rattle.encode_rre.specs.declared.Subrectangle.{Subrectangle}
-use Rattle.encode_rre.proofs.Scans.{Step, found_before, scan_step, found_yes, found_no, sub_is}
+use Rattle.encode_rre.specs.Scans.{Step, found_before, scan_step, found_yes, found_no, sub_is}
 use Rattle.encode_rre.proofs.scan.push_row.Goals as goal
 use Rattle.encode_rre.proofs.scan.push_row.Goals.{in-Some+in_ok-push, in_default}
 
@@ -27,12 +27,12 @@ loop-k-preserved c =
     c.loop-k.invariant.found ∙ ap (λ (k : ℕ). c.args.subs.now.items ++ found_before c.args.background rows c.args.y k) here in
     let after : c.match-subrectangle_at.subs.items ≡ c.args.subs.now.items ++ found_before c.args.background rows c.args.y (x + n) = elim c.match-subrectangle_at.branch [
       | in-Some+in_ok-push w ↦
-          let is = rw w.in-Some.is at c.subrectangle_at.ensures in
+          let is = rw w.in-Some.is at c.subrectangle_at.ensures.found in
           ap (λ (v : Vec Subrectangle Global). v.items) w.subs-is ∙ w.in_ok-push.ensures.items
           ∙ found_yes c.args.subs.now.items c.loop-k.subs.items c.args.background rows c.args.y x n _ step before is.0 is.1
       | in_default w ↦
           ap (λ (v : Vec Subrectangle Global). v.items) w.subs-is
-          ∙ found_no c.args.subs.now.items c.loop-k.subs.items c.args.background rows c.args.y x n step before (rw w.in_default.is at c.subrectangle_at.ensures)
+          ∙ found_no c.args.subs.now.items c.loop-k.subs.items c.args.background rows c.args.y x n step before (rw w.in_default.is at c.subrectangle_at.ensures.found)
     ] in
     record {
       begins = λ lt. ap (begins_run (row_at rows c.args.y)) (sym more) ∙ step.begins (omega (arith, more, runs.inside (c.loop-k.k + 1) lt, runs.within (c.loop-k.k + 1 + 1) (omega (arith, lt))));

@@ -1,7 +1,7 @@
 use Rattle.std.proofs.Common.{◌≡◌, ◌<◌, ◌++◌, true, get_or}
 use Rattle.encode_rre.specs.Rows.{rows_in}
 use Rattle.encode_rre.specs.Subrectangles.{row_at, begins_run}
-use Rattle.encode_rre.proofs.Scans.{found_before}
+use Rattle.encode_rre.specs.Scans.{found_before}
 use Rattle.encode_rre.proofs.scan.push_row.Given as goal
 
 -- a run begins at the next start, and the subrectangles that begin before it are there

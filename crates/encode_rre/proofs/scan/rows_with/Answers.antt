@@ -1,7 +1,7 @@
 use Rattle.std.proofs.Common.{◌+◌, ◌-◌, ◌≡◌, ℕ, List, length, arith, ap, ◌∙◌, sym}
 use Rattle.encode_rre.specs.Rows.{rows_in}
 use Rattle.encode_rre.specs.Subrectangles.{row_at, has_run}
-use Rattle.encode_rre.proofs.Scans.{height_is, rows_count}
+use Rattle.encode_rre.specs.Scans.{height_is, rows_count}
 use Rattle.encode_rre.proofs.scan.rows_with.Goals as goal
 
 pub returns-then-not-has_run-clause-rows : goal.returns-then-not-has_run-clause-rows

@@ -3,7 +3,7 @@ use Rattle.std.specs.List.{flat_map, range_with_len}
 use Rattle.encode_rre.specs.Rows.{rows_in}
 use Rattle.encode_rre.specs.Subrectangles.{subrectangles_in}
 use Rattle.encode_rre.specs.declared.Subrectangle.{Subrectangle}
-use Rattle.encode_rre.proofs.Scans.{row_more, fewer_rows, rows_count}
+use Rattle.encode_rre.specs.Scans.{row_more, fewer_rows, rows_count}
 use Rattle.encode_rre.proofs.scan.subrectangles_within.Goals as goal
 
 pub returns-then-limit-len : goal.returns-then-limit-len

@@ -1,6 +1,6 @@
 use Rattle.std.proofs.Common.{◌≡◌, ℕ, List, sym, ◌∙◌, rules}
 use Rattle.encode_rre.specs.Rows.{rows_in}
-use Rattle.encode_rre.proofs.Scans.{none_in_repeated}
+use Rattle.encode_rre.specs.Scans.{none_in_repeated}
 use Rattle.encode_rre.proofs.rows.Rows.repeats.Goals as goal
 
 pub returns-then-y-gt0 : goal.returns-then-y-gt0

@@ -1,5 +1,5 @@
 use Rattle.std.proofs.Common.{◌+◌, ◌-◌, ◌*◌, ◌≡◌, ℕ, take, drop, arith, sym, ap, ◌∙◌}
-use Rattle.encode_rre.proofs.Scans.{row_is}
+use Rattle.encode_rre.specs.Scans.{row_is}
 use Rattle.encode_rre.proofs.rows.Rows.row.Goals as goal
 
 pub returns-clause-row : goal.returns-clause-row

@@ -10,7 +10,7 @@ use Rattle.std.proofs.lemmas.Bool.Decides.{eqb_tells}
 use Rattle.encode_rre.specs.declared.Subrectangle.{Subrectangle}
 use Rattle.encode_rre.specs.declared.scan.Run.{Run}
 use Rattle.encode_rre.specs.Subrectangles.{rows_of, row_at, begins_run, stretch, has_run, run_at, begins_subrectangle, subrectangle_from, subrectangles_in}
-use Rattle.encode_rre.proofs.Runs.{Front, Front-one, prefix_is}
+use Rattle.encode_rre.specs.Runs.{Front, Front-one, prefix_is}
 
 -- ---- the rows of a rectangle
 

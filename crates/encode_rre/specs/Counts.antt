@@ -7,8 +7,8 @@ use Rattle.std.proofs.Math.Nat.{suc-mul, zero-mul, mul-add}
 use Rattle.std.proofs.Math.Seq.{take-add}
 use Rattle.encode_rre.specs.Counted.{IsBestOf}
 use Rattle.encode_rre.specs.Subrectangles.{times, background_of, stretch, IsBackground, rows_of, row_at}
-use Rattle.encode_rre.proofs.MostFrequent.{finds_the_background}
-use Rattle.encode_rre.proofs.Scans.{run_same, row_is}
+use Rattle.encode_rre.specs.MostFrequent.{finds_the_background}
+use Rattle.encode_rre.specs.Scans.{run_same, row_is}
 
 -- n more of one pixel
 pub record CountsRun (before after : ℕ → ℕ) (p n : ℕ) : Type 0 where

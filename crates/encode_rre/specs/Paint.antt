@@ -8,9 +8,9 @@ use Rattle.encode_rre.specs.declared.Subrectangle.{Subrectangle}
 use Rattle.encode_rre.specs.declared.scan.Run.{Run}
 use Rattle.encode_rre.specs.Reading.{painted}
 use Rattle.encode_rre.specs.Subrectangles.{IsSubrectangle, row_at, pixel_in, begins_run, stretch, has_run, run_at, is_above, begins_subrectangle, subrectangle_from, subrectangles}
-use Rattle.encode_rre.proofs.Runs.{Front, prefix_is, subrectangle_from_is}
-use Rattle.encode_rre.proofs.Listed.{lists_the_subrectangles, head_of, tail_of, cases_of, not_in_none}
-use Rattle.encode_rre.proofs.Scans.{some_run, unequal}
+use Rattle.encode_rre.specs.Runs.{Front, prefix_is, subrectangle_from_is}
+use Rattle.encode_rre.specs.Listed.{lists_the_subrectangles, head_of, tail_of, cases_of, not_in_none}
+use Rattle.encode_rre.specs.Scans.{some_run, unequal}
 
 abbrev pub covers : Subrectangle → ℕ → ℕ → Bool
 covers s x y = is_inside (record { x = s.x; y = s.y; w = s.w; h = s.h }) x y
