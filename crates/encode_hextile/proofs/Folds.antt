@@ -5,10 +5,10 @@ use Rattle.std.proofs.lemmas.List.{map-append}
 use Rattle.std.proofs.Math.Seq.{take-append_seam}
 use Rattle.std.proofs.lemmas.List.{take-take}
 use Rattle.pixel_translate.specs.declared.PixelFormat.{PixelFormat}
-use Rattle.encode_rre.proofs.Scans.{row_more}
+use Rattle.encode_rre.specs.Scans.{row_more}
 use Rattle.encode_hextile.specs.declared.Carried.{Carried}
 use Rattle.encode_hextile.specs.Tiles.{Tile, tiles_in, tile_rows}
-use Rattle.encode_hextile.specs.Hextile.{Coded, tile, tiles, carried_after, BeginsWith}
+use Rattle.encode_hextile.specs.Hextile.{Coded, tile, tiles, carried_after}
 
 pub tiles_append : (f : PixelFormat) (rows : List (List ℕ)) (carried : Carried) (ts us : List Tile) → tiles f rows carried (ts ++ us) ≡ tiles f rows carried ts ++ tiles f rows (carried_after f rows carried ts) us
 tiles_append f rows carried [] us = refl
@@ -88,18 +88,3 @@ pub carried_rows : (f : PixelFormat) (rows : List (List ℕ)) (before carried ne
 carried_rows f rows before carried next w n k h =
     h ∙ ap (λ (t : Carried). carried_after f rows t (tiles_in w n)) k
     ∙ sym (ap (carried_after f rows before) (row_more (tiles_in w) n) ∙ carried_append f rows before (first_rows w n) (tiles_in w n))
-
--- ---- what was there stays in front
-
-pub begins_more : (old now new : List ℕ) (more : List ℕ) → now ≡ old ++ more → BeginsWith now new → BeginsWith old new
-begins_more old now new more e h =
-    sym (take-take (length old) (length now) new (omega (arith, ap (length {A = ℕ}) e, length-append old more))) ∙ ap (take (length old)) h
-    ∙ ap (take (length old)) e ∙ take-append_seam old more
-
-pub on_err : {A E : Type 0} (r : Result A E) (P : Type 0) → P → OnErr r P
-on_err (Ok x) P p = tt
-on_err (Err e) P p = p
-
-pub on_err_map : {A E : Type 0} (r : Result A E) (P Q : Type 0) → (P → Q) → OnErr r P → OnErr r Q
-on_err_map (Ok x) P Q f p = tt
-on_err_map (Err e) P Q f p = f p

@@ -14,11 +14,11 @@ use Rattle.pixel_translate.specs.declared.BitsPerPixel.TheVariants.{Eight, Sixte
 use Rattle.pixel_translate.specs.Pixel.{bit_count, bytes_per_pixel, pixel_bytes}
 use Rattle.encode_rre.specs.declared.Subrectangle.{Subrectangle}
 use Rattle.encode_rre.specs.Subrectangles.{rows_of, row_at, times, background_of, begins_run, has_run, run_at, is_above, stretch, subrectangles_in, subrectangles, begins_subrectangle, subrectangle_from}
-use Rattle.encode_rre.proofs.Lengths.{pixel_length}
-use Rattle.encode_rre.proofs.Scans.{Step, found_before, one_more, some_run, stretch_is, run_same, row_is, row_more, fewer_rows, rows_count}
-use Rattle.encode_rre.proofs.MostFrequent.{finds_the_background}
-use Rattle.encode_rre.proofs.Runs.{Front, prefix_is}
-use Rattle.encode_rre.proofs.Paint.{and_true}
+use Rattle.pixel_translate.specs.Bounds.{pixel_length}
+use Rattle.encode_rre.specs.Scans.{Step, found_before, one_more, some_run, stretch_is, run_same, row_is, row_more, fewer_rows, rows_count}
+use Rattle.encode_rre.specs.MostFrequent.{finds_the_background}
+use Rattle.encode_rre.specs.Runs.{Front, prefix_is}
+use Rattle.encode_rre.specs.Paint.{and_true}
 use Rattle.encode_hextile.specs.Hextile.{subrectangle_bytes}
 
 abbrev pub unit : PixelFormat → Bool → ℕ

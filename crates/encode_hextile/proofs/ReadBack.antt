@@ -10,15 +10,15 @@ use Rattle.std.proofs.lemmas.List.Elements.{Contains-append_left, Contains-appen
 use Rattle.std.proofs.lemmas.Nat.{mul-add-lt}
 use Rattle.pixel_translate.specs.declared.PixelFormat.{PixelFormat}
 use Rattle.pixel_translate.specs.Pixel.{bit_count, pixel}
-use Rattle.pixel_translate.proofs.Bounds.{pixel_below}
+use Rattle.pixel_translate.specs.Bounds.{pixel_below}
 use Rattle.encode_raw.specs.Raw.{head}
 use Rattle.encode_raw.specs.Reading.{◌>>=◌, head_at, Patch}
 use Rattle.encode_raw.specs.Claims.{pixels_of}
-use Rattle.encode_raw.proofs.Back.{head_back, same_patched}
+use Rattle.encode_raw.specs.Back.{head_back, same_patched}
 use Rattle.encode_rre.specs.Subrectangles.{rows_of, pixel_in}
-use Rattle.encode_rre.proofs.Listed.{head_of, tail_of, cases_of, not_in_none, flat_cases, range_cases}
-use Rattle.encode_rre.proofs.Scans.{rows_count}
-use Rattle.encode_rre.proofs.Paint.{and_true}
+use Rattle.encode_rre.specs.Listed.{head_of, tail_of, cases_of, not_in_none, flat_cases, range_cases}
+use Rattle.encode_rre.specs.Scans.{rows_count}
+use Rattle.encode_rre.specs.Paint.{and_true}
 use Rattle.encode_hextile.specs.declared.Carried.{Carried}
 use Rattle.encode_hextile.specs.Tiles.{Tile, tiles_in, tiles_of, tile_rows}
 use Rattle.encode_hextile.specs.Hextile.{nothing, tile, tiles, hextile_of}

@@ -10,14 +10,14 @@ use Rattle.std.proofs.lemmas.List.{get_or-take, get_or-drop, length-take-le, len
 use Rattle.pixel_translate.specs.declared.PixelFormat.{PixelFormat}
 use Rattle.pixel_translate.specs.Pixel.{bit_count, bytes_per_pixel, pixel_bytes}
 use Rattle.encode_raw.specs.Reading.{◌>>=◌, number_at, pixels_at, raw_at, row_by_row, Patch}
-use Rattle.encode_raw.proofs.Back.{pixel_back}
+use Rattle.encode_raw.specs.Back.{pixel_back}
 use Rattle.encode_rre.specs.declared.Subrectangle.{Subrectangle}
 use Rattle.encode_rre.specs.Reading.{painted}
 use Rattle.encode_rre.specs.Subrectangles.{IsSubrectangle, HasRun, run_of, rows_of, row_at, pixel_in, background_of, subrectangles}
-use Rattle.encode_rre.proofs.MostFrequent.{finds_the_background}
-use Rattle.encode_rre.proofs.Listed.{lists_the_subrectangles, head_of, tail_of}
-use Rattle.encode_rre.proofs.Scans.{row_is, rows_count}
-use Rattle.encode_rre.proofs.Paint.{paint, paint_is, covers, Covering, covered, and_true}
+use Rattle.encode_rre.specs.MostFrequent.{finds_the_background}
+use Rattle.encode_rre.specs.Listed.{lists_the_subrectangles, head_of, tail_of}
+use Rattle.encode_rre.specs.Scans.{row_is, rows_count}
+use Rattle.encode_rre.specs.Paint.{paint, paint_is, covers, Covering, covered, and_true}
 use Rattle.encode_hextile.specs.declared.Carried.{Carried}
 use Rattle.encode_hextile.specs.declared.TilePixels.{TilePixels}
 use Rattle.encode_hextile.specs.declared.TilePixels.TheVariants.{Alone, OneOther, Several}

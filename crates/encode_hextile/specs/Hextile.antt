@@ -115,7 +115,3 @@ hextile_of f w h pixels = tiles f (rows_of w h pixels) nothing (tiles_of w h)
 -- 7.7.4: a rectangle in Hextile
 abbrev pub hextile : PixelFormat → Area → List ℕ → List ℕ
 hextile f a colours = head a (pos 5) ++ hextile_of f a.w a.h (map (pixel f) colours)
-
--- what was written stays in front
-abbrev pub BeginsWith : List ℕ → List ℕ → Type 0
-BeginsWith old new = take (length old) new ≡ old

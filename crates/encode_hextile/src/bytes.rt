@@ -3,8 +3,10 @@
 ghost use Rattle.std.specs.Prelude.{◌≡◌, ◌+◌, ◌*◌, ◌<◌, ◌≤◌, ◌++◌, ◌∷◌, [], true, false, length, flat_map, IfOk, OnOk, OnErr};
 ghost use Rattle.pixel_translate.specs.Pixel.{pixel_bytes, bytes_per_pixel};
 ghost use Rattle.arrayvec.specs.ArrayVec.{array_vec_len};
-ghost use Rattle.encode_rre.specs.Subrectangles.{rows_of, subrectangles, background_of};
-ghost use Rattle.encode_hextile.specs.Hextile.{BeginsWith, is_carried, bytes_unless, bits_of, said_bytes, list_bytes, next_of, tile};
+ghost use Rattle.encode_rre.specs.Subrectangles.{subrectangles, background_of};
+ghost use Rattle.encode_rre.specs.Rows.{rows_in};
+ghost use Rattle.encode_rre.specs.Begins.{BeginsWith};
+ghost use Rattle.encode_hextile.specs.Hextile.{is_carried, bytes_unless, bits_of, said_bytes, list_bytes, next_of, tile};
 ghost use Rattle.encode_hextile.specs.Palettes.{IsPaletteOf};
 
 use crate::palette::{Palette, palette_of};
@@ -12,7 +14,8 @@ use crate::raw::put_raw;
 use crate::scan::{ROOM, list_subrectangles, put_number};
 use crate::{Carried, TilePixels};
 use arrayvec::ArrayVec;
-use pixel_translate::{BitsPerPixel, PixelFormat};
+use encode_rre::rows::Rows;
+use pixel_translate::PixelFormat;
 use std::alloc::AllocError;
 
 /// Room for the byte of bits, two pixels, and the number of subrectangles.
@@ -110,21 +113,17 @@ fn put_front(
 fn put_list(
     front: &mut ArrayVec<u8, FRONT>,
     list: &mut ArrayVec<u8, ROOM>,
-    pixels: &[u32],
-    width: usize,
-    height: usize,
+    pixels: &Rows,
     format: &PixelFormat,
     palette: Palette,
 ) -> bool
     requires room { array_vec_len front.old ≤ 9 }
     requires empty { list.old.items ≡ [] }
-    requires whole { length pixels.now ≡ width * height }
-    requires some { 0 < length pixels.now }
-    requires columns { width ≤ 16 }
-    requires rows { height ≤ 16 }
-    requires stands { palette.background ≡ background_of pixels.now }
-    ensures yes { result ≡ true → front.new.items ++ list.new.items ≡ front.old.items ++ list_bytes format.now (subrectangles palette.background (rows_of width height pixels.now)) palette.others }
-    ensures no { result ≡ false → length pixels.now * bytes_per_pixel format.now ≤ length (list_bytes format.now (subrectangles palette.background (rows_of width height pixels.now)) palette.others) }
+    requires columns { pixels.now.width ≤ 16 }
+    requires rows { pixels.now.height ≤ 16 }
+    requires stands { palette.background ≡ background_of pixels.now.values.now }
+    ensures yes { result ≡ true → front.new.items ++ list.new.items ≡ front.old.items ++ list_bytes format.now (subrectangles palette.background (rows_in pixels.now)) palette.others }
+    ensures no { result ≡ false → length pixels.now.values.now * bytes_per_pixel format.now ≤ length (list_bytes format.now (subrectangles palette.background (rows_in pixels.now)) palette.others) }
 {
     let coloured = match palette.others {
         TilePixels::Alone => return true,
@@ -132,7 +131,7 @@ fn put_list(
         TilePixels::Several => true,
     };
     let background = palette.background;
-    match list_subrectangles(list, pixels, width, height, background, format, coloured) {
+    match list_subrectangles(list, pixels, background, format, coloured) {
         Some(count) => {
             front.push(count as u8);
             true
@@ -145,58 +144,49 @@ fn put_list(
 /// leaves to the next.
 fn put_coded(
     out: &mut Vec<u8>,
-    pixels: &[u32],
-    width: usize,
-    height: usize,
+    pixels: &Rows,
     format: &PixelFormat,
     carried: Carried,
     palette: Palette,
 ) -> Result<Carried, AllocError>
-    requires whole { length pixels.now ≡ width * height }
-    requires some { 0 < length pixels.now }
-    requires columns { width ≤ 16 }
-    requires rows { height ≤ 16 }
-    requires stands { IsPaletteOf pixels.now palette }
-    ensures next { IfOk result (λ next. next ≡ (tile format.now carried (rows_of width height pixels.now)).next) }
-    ensures ok { OnOk result (out.new.items ≡ out.old.items ++ (tile format.now carried (rows_of width height pixels.now)).bits ∷ (tile format.now carried (rows_of width height pixels.now)).bytes) }
+    requires columns { pixels.now.width ≤ 16 }
+    requires rows { pixels.now.height ≤ 16 }
+    requires stands { IsPaletteOf pixels.now.values.now palette }
+    ensures next { IfOk result (λ next. next ≡ (tile format.now carried (rows_in pixels.now)).next) }
+    ensures ok { OnOk result (out.new.items ≡ out.old.items ++ (tile format.now carried (rows_in pixels.now)).bits ∷ (tile format.now carried (rows_in pixels.now)).bytes) }
     ensures err { OnErr result (BeginsWith out.old.items out.new.items) }
 {
     let mut front = ArrayVec::new();
     let mut list = ArrayVec::new();
     put_front(&mut front, format, carried, palette);
-    let raw_len = pixels.len() * format.bytes_per_pixel();
-    if put_list(
-        &mut front, &mut list, pixels, width, height, format, palette,
-    ) && front.len() + list.len() <= raw_len
+    let raw_len = pixels.values.len() * format.bytes_per_pixel();
+    if put_list(&mut front, &mut list, pixels, format, palette)
+        && front.len() + list.len() <= raw_len
     {
         out.extend_from_slice(&front)?;
         out.extend_from_slice(&list)?;
         return Ok(next_of(carried, palette));
     }
-    put_raw(out, pixels, format)?;
+    put_raw(out, pixels.values, format)?;
     Ok(NOTHING)
 }
 
 /// Appends a tile, coded where that is shorter, and else raw. Gives what it leaves to the next.
 pub(crate) fn put_tile(
     out: &mut Vec<u8>,
-    pixels: &[u32],
-    width: usize,
-    height: usize,
+    pixels: &Rows,
     format: &PixelFormat,
     carried: Carried,
 ) -> Result<Carried, AllocError>
-    requires whole { length pixels.now ≡ width * height }
-    requires some { 0 < length pixels.now }
-    requires columns { width ≤ 16 }
-    requires rows { height ≤ 16 }
-    ensures next { IfOk result (λ next. next ≡ (tile format.now carried (rows_of width height pixels.now)).next) }
-    ensures ok { OnOk result (out.new.items ≡ out.old.items ++ (tile format.now carried (rows_of width height pixels.now)).bits ∷ (tile format.now carried (rows_of width height pixels.now)).bytes) }
+    requires columns { pixels.now.width ≤ 16 }
+    requires rows { pixels.now.height ≤ 16 }
+    ensures next { IfOk result (λ next. next ≡ (tile format.now carried (rows_in pixels.now)).next) }
+    ensures ok { OnOk result (out.new.items ≡ out.old.items ++ (tile format.now carried (rows_in pixels.now)).bits ∷ (tile format.now carried (rows_in pixels.now)).bytes) }
     ensures err { OnErr result (BeginsWith out.old.items out.new.items) }
 {
-    let Some(palette) = palette_of(pixels, width, height, format) else {
-        put_raw(out, pixels, format)?;
+    let Some(palette) = palette_of(pixels, format) else {
+        put_raw(out, pixels.values, format)?;
         return Ok(NOTHING);
     };
-    put_coded(out, pixels, width, height, format, carried, palette)
+    put_coded(out, pixels, format, carried, palette)
 }

@@ -3,11 +3,10 @@
 ghost use Rattle.std.specs.Prelude.{◌≡◌, true, ◌-◌, ◌*◌, ◌+◌, ◌<◌, ◌≤◌, length, map, min};
 ghost use Rattle.std.specs.List.{concat};
 ghost use Rattle.pixel_translate.specs.Pixel.{pixel, server_format};
-ghost use Rattle.encode_rre.specs.Subrectangles.{rows_of};
-ghost use Rattle.encode_hextile.specs.Tiles.{tile_rows};
+ghost use Rattle.encode_hextile.specs.Tiles.{pixel_rows, tile_rows};
 
-use crate::scan::row_of;
-use pixel_translate::Table;
+use encode_rre::rows::Rows;
+use pixel_translate::{Table, server_pixel};
 
 /// The pixel of a colour. Where it is the last colour again, its pixel is known.
 fn pixel_after(table: &Table, last: u32, known: u32, colour: u32) -> u32
@@ -33,14 +32,6 @@ fn write_row(places: &mut [u32], colours: &[u32], table: &Table)
         last = colours[x];
         places[x] = known;
     }
-}
-
-/// The pixel of a colour in the server's format, which is the colour.
-#[tactic(auto, using(pixel_translate::proofs::Server::server_pixel))]
-fn server_pixel(colour: u32) -> u32
-    ensures { result ≡ pixel server_format colour }
-{
-    colour % (1 << 24)
 }
 
 /// Writes the pixels of a row of colours in the server's format.
@@ -80,25 +71,22 @@ pub(crate) fn side_of(side: usize, tile: usize) -> usize
 /// Writes the pixels of a tile row by row, in places of just its size.
 pub(crate) fn cut_tile(
     places: &mut [u32],
-    colours: &[u32],
-    width: usize,
-    height: usize,
+    colours: &Rows,
     column: usize,
     row: usize,
     table: &Table,
     is_server: bool,
 )
-    requires whole { length colours.now ≡ width * height }
-    requires left { 16 * column < width }
-    requires top { 16 * row < height }
-    requires size { length places.old ≡ min 16 (width - 16 * column) * min 16 (height - 16 * row) }
+    requires left { 16 * column < colours.now.width }
+    requires top { 16 * row < colours.now.height }
+    requires size { length places.old ≡ min 16 (colours.now.width - 16 * column) * min 16 (colours.now.height - 16 * row) }
     requires known { is_server ≡ true → table.now ≡ server_format }
-    ensures { places.new ≡ concat (tile_rows (rows_of width height (map (pixel table.now) colours.now)) (record { column = column; row = row })) }
+    ensures { places.new ≡ concat (tile_rows (pixel_rows table.now colours.now) (record { column = column; row = row })) }
 {
-    let across = side_of(width, column);
-    let down = side_of(height, row);
+    let across = side_of(colours.width, column);
+    let down = side_of(colours.height, row);
     for y in 0..down {
-        let source = row_of(colours, width, height, 16 * row + y);
+        let source = colours.row(16 * row + y);
         let start = 16 * column;
         write_either(
             &mut places[y * across..y * across + across],

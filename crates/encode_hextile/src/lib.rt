@@ -11,10 +11,10 @@
 
 ghost use Rattle.std.specs.Prelude.{◌≡◌, ◌*◌, ◌<◌, ◌≤◌, ◌++◌, length, map, IfOk, OnOk, OnErr};
 ghost use Rattle.pixel_translate.specs.Pixel.{pixel};
-ghost use Rattle.encode_rre.specs.Subrectangles.{rows_of};
-ghost use Rattle.encode_hextile.specs.Tiles.{tiles_in};
+ghost use Rattle.encode_rre.specs.Begins.{BeginsWith};
+ghost use Rattle.encode_hextile.specs.Tiles.{pixel_rows, tiles_in};
 ghost use Rattle.encode_hextile.specs.Claims.{hextile_reads_back};
-ghost use Rattle.encode_hextile.specs.Hextile.{BeginsWith, tiles, carried_after, hextile, hextile_of};
+ghost use Rattle.encode_hextile.specs.Hextile.{tiles, carried_after, hextile, hextile_of};
 
 mod bytes;
 mod cut;
@@ -25,6 +25,7 @@ mod scan;
 use crate::bytes::{NOTHING, put_tile};
 use crate::cut::{cut_tile, side_of};
 use encode_raw::rect_header;
+use encode_rre::rows::Rows;
 use pixel_translate::Table;
 pub use pixel_translate::{Area, PixelFormat};
 use std::alloc::AllocError;
@@ -47,57 +48,43 @@ pub(crate) enum TilePixels {
 /// Appends a row of tiles. Gives what the last of them leaves.
 fn put_row_of_tiles(
     out: &mut Vec<u8>,
-    colours: &[u32],
-    width: usize,
-    height: usize,
+    colours: &Rows,
     row: usize,
     table: &Table,
     before: Carried,
 ) -> Result<Carried, AllocError>
-    requires whole { length colours.now ≡ width * height }
-    requires top { 16 * row < height }
-    ensures next { IfOk result (λ next. next ≡ carried_after table.now (rows_of width height (map (pixel table.now) colours.now)) before (tiles_in width row)) }
-    ensures ok { OnOk result (out.new.items ≡ out.old.items ++ tiles table.now (rows_of width height (map (pixel table.now) colours.now)) before (tiles_in width row)) }
+    requires top { 16 * row < colours.now.height }
+    ensures next { IfOk result (λ next. next ≡ carried_after table.now (pixel_rows table.now colours.now) before (tiles_in colours.now.width row)) }
+    ensures ok { OnOk result (out.new.items ≡ out.old.items ++ tiles table.now (pixel_rows table.now colours.now) before (tiles_in colours.now.width row)) }
     ensures err { OnErr result (BeginsWith out.old.items out.new.items) }
 {
     let format = table.format();
     let is_server = format == PixelFormat::server();
-    let down = side_of(height, row);
+    let down = side_of(colours.height, row);
     let mut places = [0; 256];
     let mut carried = before;
-    for column in 0..width.div_ceil(16) {
-        let across = side_of(width, column);
+    for column in 0..colours.width.div_ceil(16) {
+        let across = side_of(colours.width, column);
         let size = across * down;
-        cut_tile(
-            &mut places[..size],
-            colours,
-            width,
-            height,
-            column,
-            row,
-            table,
-            is_server,
-        );
-        carried = put_tile(out, &places[..size], across, down, &format, carried)?;
+        cut_tile(&mut places[..size], colours, column, row, table, is_server);
+        let pixels = Rows {
+            values: &places[..size],
+            width: across,
+            height: down,
+        };
+        carried = put_tile(out, &pixels, &format, carried)?;
     }
     Ok(carried)
 }
 
 /// Appends the tiles, row by row.
-fn put_tiles(
-    out: &mut Vec<u8>,
-    colours: &[u32],
-    width: usize,
-    height: usize,
-    table: &Table,
-) -> Result<(), AllocError>
-    requires whole { length colours.now ≡ width * height }
-    ensures ok { OnOk result (out.new.items ≡ out.old.items ++ hextile_of table.now width height (map (pixel table.now) colours.now)) }
+fn put_tiles(out: &mut Vec<u8>, colours: &Rows, table: &Table) -> Result<(), AllocError>
+    ensures ok { OnOk result (out.new.items ≡ out.old.items ++ hextile_of table.now colours.now.width colours.now.height (map (pixel table.now) colours.now.values.now)) }
     ensures err { OnErr result (BeginsWith out.old.items out.new.items) }
 {
     let mut carried = NOTHING;
-    for row in 0..height.div_ceil(16) {
-        carried = put_row_of_tiles(out, colours, width, height, row, table, carried)?;
+    for row in 0..colours.height.div_ceil(16) {
+        carried = put_row_of_tiles(out, colours, row, table, carried)?;
     }
     Ok(())
 }
@@ -109,13 +96,19 @@ fn put_rectangle(
     colours: &[u32],
     table: &Table,
 ) -> Result<(), AllocError>
+    requires wide { 1 ≤ area.w }
+    requires high { 1 ≤ area.h }
     requires whole { length colours.now ≡ area.w * area.h }
     ensures ok { OnOk result (out.new.items ≡ out.old.items ++ hextile table.now area colours.now) }
     ensures err { OnErr result (BeginsWith out.old.items out.new.items) }
 {
     rect_header(out, area, 5)?;
-    let (width, height) = (usize::from(area.w), usize::from(area.h));
-    put_tiles(out, colours, width, height, table)
+    let rows = Rows {
+        values: colours,
+        width: usize::from(area.w),
+        height: usize::from(area.h),
+    };
+    put_tiles(out, &rows, table)
 }
 
 /// Appends a rectangle in Hextile (RFC 6143, 7.7.4): the colours `0x00RRGGBB` stand row by row from

@@ -1,11 +1,13 @@
 //! The background of a tile, and which pixels it has beside it.
 
-ghost use Rattle.std.specs.Prelude.{◌≡◌, ◌+◌, ◌-◌, ◌*◌, ◌<◌, ◌≤◌, ◌⊎◌, ℕ, ◌%◌, true, false, List, length, slice_index, MatchOption};
-ghost use Rattle.encode_rre.specs.Subrectangles.{times, background_of, rows_of, row_at, subrectangles_in, subrectangles};
+ghost use Rattle.std.specs.Prelude.{◌≡◌, ◌+◌, ◌-◌, ◌*◌, ◌<◌, ◌≤◌, ℕ, ◌%◌, true, List, length, slice_index, MatchOption};
+ghost use Rattle.encode_rre.specs.Subrectangles.{times, background_of, row_at, subrectangles_in, subrectangles};
+ghost use Rattle.encode_rre.specs.Rows.{rows_in};
 ghost use Rattle.encode_hextile.specs.Palettes.{IsPaletteOf, HasSeveral, AreLong};
 
 use crate::TilePixels;
-use crate::scan::{row_of, stretch_from};
+use encode_rre::rows::Rows;
+use encode_rre::{is_better, stretch_from, times};
 use pixel_translate::PixelFormat;
 
 /// The background of a tile, and which pixels it has beside it.
@@ -15,32 +17,6 @@ pub(crate) struct Palette {
     pub(crate) others: TilePixels,
 }
 
-/// How often a pixel stands there. The count is as wide as a pixel, so that several are counted at once.
-fn count_of(pixels: &[u32], pixel: u32) -> usize
-    requires { length pixels.now ≤ 256 }
-    ensures { result ≡ times pixel pixels.now }
-{
-    let mut count = 0u32;
-    for p in pixels {
-        if *p == pixel {
-            count += 1;
-        }
-    }
-    count as usize
-}
-
-/// Whether a pixel that stands there `count` times is a better background than the best before it.
-fn is_better(pixel: u32, count: usize, best: u32, most: usize) -> bool
-    ensures yes { result ≡ true → (most < count) ⊎ ((most ≡ count) × (pixel < best)) }
-    ensures no { result ≡ false → (count ≤ most) × (most ≡ count → best ≤ pixel) }
-{
-    if most == count {
-        pixel < best
-    } else {
-        most < count
-    }
-}
-
 /// The background, and which pixel there is beside it, where there are at most two.
 fn few_pixels(pixels: &[u32]) -> Option<Palette>
     requires some { 0 < length pixels.now }
@@ -48,7 +24,7 @@ fn few_pixels(pixels: &[u32]) -> Option<Palette>
     ensures { MatchOption result (HasSeveral pixels.now) (IsPaletteOf pixels.now) }
 {
     let first = pixels[0];
-    let first_count = count_of(pixels, first);
+    let first_count = times(pixels, first);
     if first_count == pixels.len() {
         return Some(Palette {
             background: first,
@@ -56,7 +32,7 @@ fn few_pixels(pixels: &[u32]) -> Option<Palette>
         });
     }
     let second = pixels[stretch_from(pixels, 0)];
-    let second_count = count_of(pixels, second);
+    let second_count = times(pixels, second);
     if first_count + second_count < pixels.len() {
         return None;
     }
@@ -113,11 +89,11 @@ fn most_frequent(pixels: &[u32], buckets: &[u16; 251]) -> u32
     ensures { result ≡ background_of pixels.now }
 {
     let mut best = pixels[0];
-    let mut most = count_of(pixels, best);
+    let mut most = times(pixels, best);
     for p in pixels {
         let pixel = *p;
         if is_better(pixel, usize::from(buckets[bucket_of(pixel)]), best, most) {
-            let count = count_of(pixels, pixel);
+            let count = times(pixels, pixel);
             if is_better(pixel, count, best, most) {
                 best = pixel;
                 most = count;
@@ -154,64 +130,49 @@ fn starts_in(row: &[u32], above: &[u32]) -> usize
 }
 
 /// A number of places at which subrectangles begin, but for those of the background.
-fn starts_of(pixels: &[u32], width: usize, height: usize) -> usize
-    requires whole { length pixels.now ≡ width * height }
-    requires columns { width ≤ 16 }
-    requires rows { height ≤ 16 }
+fn starts_of(pixels: &Rows) -> usize
+    requires columns { pixels.now.width ≤ 16 }
+    requires rows { pixels.now.height ≤ 16 }
     ensures few { result ≤ 256 }
-    ensures begin { (b : ℕ) → result ≤ length (subrectangles b (rows_of width height pixels.now)) + times b pixels.now }
+    ensures begin { (b : ℕ) → result ≤ length (subrectangles b (rows_in pixels.now)) + times b pixels.now.values.now }
 {
     let mut starts = 0;
-    for y in 1..height {
-        let above = row_of(pixels, width, height, y - 1);
-        starts += starts_in(row_of(pixels, width, height, y), above);
+    for y in 1..pixels.height {
+        let above = pixels.row(y - 1);
+        starts += starts_in(pixels.row(y), above);
     }
     starts
 }
 
 /// Whether the subrectangles are surely as long as the pixels, whatever the background.
-fn is_noise(
-    pixels: &[u32],
-    width: usize,
-    height: usize,
-    format: &PixelFormat,
-    buckets: &[u16; 251],
-) -> bool
-    requires whole { length pixels.now ≡ width * height }
-    requires columns { width ≤ 16 }
-    requires rows { height ≤ 16 }
-    requires counted { (pixel : ℕ) → times pixel pixels.now ≤ slice_index buckets.now (pixel % 251) }
-    ensures { result ≡ true → (b : ℕ) → AreLong format.now width height pixels.now b }
+fn is_noise(pixels: &Rows, format: &PixelFormat, buckets: &[u16; 251]) -> bool
+    requires columns { pixels.now.width ≤ 16 }
+    requires rows { pixels.now.height ≤ 16 }
+    requires counted { (pixel : ℕ) → times pixel pixels.now.values.now ≤ slice_index buckets.now (pixel % 251) }
+    ensures { result ≡ true → (b : ℕ) → AreLong format.now pixels.now.width pixels.now.height pixels.now.values.now b }
 {
     let pixel_len = format.bytes_per_pixel();
-    let starts = starts_of(pixels, width, height);
+    let starts = starts_of(pixels);
     let others = starts.saturating_sub(usize::from(fullest(buckets)));
-    pixels.len() * pixel_len <= others * (pixel_len + 2)
+    pixels.values.len() * pixel_len <= others * (pixel_len + 2)
 }
 
 /// The background, and which pixels there are beside it; or nothing, where these are several and
 /// their subrectangles are surely as long as the pixels.
-pub(crate) fn palette_of(
-    pixels: &[u32],
-    width: usize,
-    height: usize,
-    format: &PixelFormat,
-) -> Option<Palette>
-    requires some { 0 < length pixels.now }
-    requires whole { length pixels.now ≡ width * height }
-    requires columns { width ≤ 16 }
-    requires rows { height ≤ 16 }
-    ensures { MatchOption result (HasSeveral pixels.now × AreLong format.now width height pixels.now (background_of pixels.now)) (IsPaletteOf pixels.now) }
+pub(crate) fn palette_of(pixels: &Rows, format: &PixelFormat) -> Option<Palette>
+    requires columns { pixels.now.width ≤ 16 }
+    requires rows { pixels.now.height ≤ 16 }
+    ensures { MatchOption result (HasSeveral pixels.now.values.now × AreLong format.now pixels.now.width pixels.now.height pixels.now.values.now (background_of pixels.now.values.now)) (IsPaletteOf pixels.now.values.now) }
 {
-    if let Some(palette) = few_pixels(pixels) {
+    if let Some(palette) = few_pixels(pixels.values) {
         return Some(palette);
     }
-    let buckets = buckets_of(pixels);
-    if is_noise(pixels, width, height, format, &buckets) {
+    let buckets = buckets_of(pixels.values);
+    if is_noise(pixels, format, &buckets) {
         return None;
     }
     Some(Palette {
-        background: most_frequent(pixels, &buckets),
+        background: most_frequent(pixels.values, &buckets),
         others: TilePixels::Several,
     })
 }

@@ -5,11 +5,11 @@ use Rattle.std.specs.Int.{w32}
 use Rattle.std.proofs.lemmas.Nat.{mul-add-lt}
 use Rattle.std.proofs.lemmas.List.{get_or-map}
 use Rattle.pixel_translate.specs.Pixel.{pixel, colour_bytes}
-use Rattle.pixel_translate.proofs.Bounds.{pixel_below}
+use Rattle.pixel_translate.specs.Bounds.{pixel_below}
 use Rattle.encode_raw.specs.Raw.{head}
 use Rattle.encode_raw.specs.Reading.{◌>>=◌, head_at, raw_at, pixels_at, row_by_row}
 use Rattle.encode_raw.specs.Claims.{pixels_of, raw_reads_back}
-use Rattle.encode_raw.proofs.Back.{pixels_back, head_back, same_patched}
+use Rattle.encode_raw.specs.Back.{pixels_back, head_back, same_patched}
 
 pub reads_back : raw_reads_back
 reads_back f a colours more fits whole =

@@ -5,7 +5,7 @@ use Rattle.std.proofs.lemmas.Bool.{eq-eqb, eqb-false, ltb-true, cases_eq}
 use Rattle.encode_rre.specs.declared.Subrectangle.{Subrectangle}
 use Rattle.encode_rre.specs.Breaks.{is_break, breaks, is_like, breaks_like}
 use Rattle.encode_rre.specs.Subrectangles.{row_at, pixel_in, begins_subrectangle, subrectangle_from, subrectangles_in}
-use Rattle.encode_rre.proofs.Scans.{found_before, one_more, some_run, unequal, row_more}
+use Rattle.encode_rre.specs.Scans.{found_before, one_more, some_run, unequal, row_more}
 
 and_true : (a b : Bool) → (a && b) ≡ true → (a ≡ true) × (b ≡ true)
 and_true true b e = (refl, e)

@@ -10,24 +10,11 @@ use Rattle.pixel_translate.specs.declared.BitsPerPixel.TheVariants.{Eight, Sixte
 use Rattle.pixel_translate.specs.declared.Component.{Component}
 use Rattle.pixel_translate.specs.declared.PixelFormat.{PixelFormat}
 use Rattle.pixel_translate.specs.Pixel.{bytes_per_pixel, pixel, pixel_bytes}
+use Rattle.pixel_translate.specs.Bounds.{pixel_length}
 use Rattle.encode_raw.specs.Raw.{head, raw}
 use Rattle.encode_rre.specs.declared.Subrectangle.{Subrectangle}
 use Rattle.encode_rre.specs.Rre.{subrectangle_bytes, rre_data, rre_of, rre}
 use Rattle.encode_rre.specs.Subrectangles.{rows_of, background_of, subrectangles}
-
-abbrev format : BitsPerPixel → ℕ → Bool → Component → Component → Component → PixelFormat
-format b d e r g bl = record { bits = b; depth = d; big_endian = e; red = r; green = g; blue = bl }
-
-length_of : (b : BitsPerPixel) (d : ℕ) (e : Bool) (r g bl : Component) (n : ℕ) → length (pixel_bytes (format b d e r g bl) n) ≡ bytes_per_pixel (format b d e r g bl)
-length_of Eight d true r g bl n = refl
-length_of Eight d false r g bl n = refl
-length_of Sixteen d true r g bl n = refl
-length_of Sixteen d false r g bl n = refl
-length_of ThirtyTwo d true r g bl n = refl
-length_of ThirtyTwo d false r g bl n = refl
-
-pub pixel_length : (f : PixelFormat) (n : ℕ) → length (pixel_bytes f n) ≡ bytes_per_pixel f
-pixel_length f n = length_of f.bits f.depth f.big_endian f.red f.green f.blue n
 
 pub sub_length : (f : PixelFormat) (s : Subrectangle) → length (subrectangle_bytes f s) ≡ bytes_per_pixel f + 8
 sub_length f s = simp length-append (omega (arith, pixel_length f s.pixel))

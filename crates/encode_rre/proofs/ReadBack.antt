@@ -10,21 +10,21 @@ use Rattle.std.proofs.lemmas.Bool.Decides.{eqb_tells}
 use Rattle.std.proofs.lemmas.List.Sums.{sum_by-cons}
 use Rattle.pixel_translate.specs.declared.PixelFormat.{PixelFormat}
 use Rattle.pixel_translate.specs.Pixel.{bit_count, bytes_per_pixel, be16, pixel, pixel_bytes}
-use Rattle.pixel_translate.proofs.Bounds.{pixel_below}
+use Rattle.pixel_translate.specs.Bounds.{pixel_below}
 use Rattle.encode_raw.specs.Raw.{head, raw}
 use Rattle.encode_raw.specs.Reading.{◌>>=◌, number_at, pixel_at, head_at, Patch}
 use Rattle.encode_raw.specs.Claims.{pixels_of, raw_reads_back}
-use Rattle.encode_raw.proofs.Back.{pixel_back, head_back, same_patched}
+use Rattle.encode_raw.specs.Back.{pixel_back, head_back, same_patched}
 use Rattle.encode_rre.specs.declared.Subrectangle.{Subrectangle}
 use Rattle.encode_rre.specs.Claims.{ReadsBack, rre_reads_back}
 use Rattle.encode_rre.specs.Reading.{subrectangle_at, subrectangles_at, painted, rre_at}
 use Rattle.encode_rre.specs.Rre.{subrectangle_bytes, rre_data, rre_of}
 use Rattle.encode_rre.specs.Subrectangles.{IsSubrectangle, HasRun, run_of, times, rows_of, row_at, pixel_in, background_of, subrectangles}
-use Rattle.encode_rre.proofs.MostFrequent.{finds_the_background}
-use Rattle.encode_rre.proofs.Listed.{lists_the_subrectangles, head_of, tail_of}
-use Rattle.encode_rre.proofs.Scans.{row_is, rows_count}
+use Rattle.encode_rre.specs.MostFrequent.{finds_the_background}
+use Rattle.encode_rre.specs.Listed.{lists_the_subrectangles, head_of, tail_of}
+use Rattle.encode_rre.specs.Scans.{row_is, rows_count}
 use Rattle.encode_rre.proofs.Lengths.{data_length, few, pick_no, pick_yes}
-use Rattle.encode_rre.proofs.Paint.{paint, paint_is, covers, Covering, covered, and_true}
+use Rattle.encode_rre.specs.Paint.{paint, paint_is, covers, Covering, covered, and_true}
 
 -- a subrectangle whose numbers have room on the wire
 pub record Fitting (f : PixelFormat) (s : Subrectangle) : Type 0 where

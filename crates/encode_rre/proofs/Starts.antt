@@ -5,7 +5,7 @@ use Rattle.std.proofs.lemmas.Bool.Decides.{eqb_tells}
 use Rattle.std.proofs.lemmas.List.{get_or-set_same, get_or-set_other}
 use Rattle.encode_rre.specs.Subrectangles.{stretch}
 use Rattle.encode_rre.specs.Starts.{AreRuns}
-use Rattle.encode_rre.proofs.Scans.{stretch_is}
+use Rattle.encode_rre.specs.Scans.{stretch_is}
 
 -- the runs that begin before x are found: all but the last of them end, and the pixels from where that one begins are one
 pub record Found (row starts : List ℕ) (count x : ℕ) : Type 0 where

@@ -1,8 +1,16 @@
 pub mod Rre
+pub mod Begins
 pub mod Subrectangles
+pub mod Rows
 pub mod Starts
 pub mod Breaks
 pub mod Counted
 pub mod Reading
 pub mod Examples
 pub mod Claims
+pub mod Runs
+pub mod Scans
+pub mod Listed
+pub mod Paint
+pub mod MostFrequent
+pub mod Counts

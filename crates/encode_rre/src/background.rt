@@ -5,14 +5,17 @@ ghost use Rattle.std.specs.Prelude.{◌≡◌, ◌≢◌, ℕ, ◌+◌, ◌*◌,
 ghost use Rattle.std.specs.HashMap as hash;
 ghost use Rattle.std.specs.Option.{unwrap_or};
 ghost use Rattle.encode_rre.specs.Counted.{count_in, IsBestOf};
-ghost use Rattle.encode_rre.specs.Subrectangles.{background_of, times, rows_of, row_at};
+ghost use Rattle.encode_rre.specs.Subrectangles.{background_of, times, row_at};
+ghost use Rattle.encode_rre.specs.Rows.{rows_in};
 
-use crate::scan::{row_of, stretch_from};
+use crate::rows::Rows;
+use crate::scan::stretch_from;
 use std::alloc::{AllocError, Global};
 use std::collections::HashMap;
 
-/// Whether a pixel that stands there `count` times is a better background than the best before it.
-fn is_better(pixel: u32, count: usize, best: u32, most: usize) -> bool
+/// Whether a pixel that stands there `count` times is a better background than the best before it: more frequent, or
+/// as frequent and smaller.
+pub fn is_better(pixel: u32, count: usize, best: u32, most: usize) -> bool
     ensures yes { result ≡ true → (most < count) ⊎ ((most ≡ count) × (pixel < best)) }
     ensures no { result ≡ false → (count ≤ most) × (most ≡ count → best ≤ pixel) }
 {
@@ -47,7 +50,7 @@ fn likely(pixels: &[u32], beside: Option<u32>) -> u32 {
 
 /// How often a pixel stands there. This has no branch in its loop, so that many places are looked
 /// at in one step.
-fn times(pixels: &[u32], pixel: u32) -> usize
+pub fn times(pixels: &[u32], pixel: u32) -> usize
     requires { length pixels.now < 2 ^ 32 }
     ensures { result ≡ times pixel pixels.now }
 {
@@ -140,45 +143,35 @@ fn count_row(counter: &mut Counter, row: &[u32], rows: usize) -> Result<(), Allo
 }
 
 /// How many rows from `top` on are like the one there.
-fn rows_like(pixels: &[u32], width: usize, height: usize, top: usize) -> usize
-    requires whole { length pixels.now ≡ width * height }
-    requires inside { top < height }
+fn rows_like(pixels: &Rows, top: usize) -> usize
+    requires inside { top < pixels.now.height }
     ensures some { 0 < result }
-    ensures within { top + result ≤ height }
-    ensures same { (k : ℕ) → k < result → row_at (rows_of width height pixels.now) (top + k) ≡ row_at (rows_of width height pixels.now) top }
+    ensures within { top + result ≤ pixels.now.height }
+    ensures same { (k : ℕ) → k < result → row_at (rows_in pixels.now) (top + k) ≡ row_at (rows_in pixels.now) top }
 {
-    let row = row_of(pixels, width, height, top);
-    for y in top + 1..height {
-        if row_of(pixels, width, height, y) != row {
+    let row = pixels.row(top);
+    for y in top + 1..pixels.height {
+        if pixels.row(y) != row {
             return y - top;
         }
     }
-    height - top
+    pixels.height - top
 }
 
 /// The most frequent pixel, of several the smallest, counted row by row; rows that are alike are
 /// counted at once.
-fn counted_background(
-    alloc: Global,
-    pixels: &[u32],
-    width: usize,
-    height: usize,
-) -> Result<u32, AllocError>
-    requires some { 0 < length pixels.now }
-    requires whole { length pixels.now ≡ width * height }
-    requires columns { width < 2 ^ 16 }
-    requires rows { height < 2 ^ 16 }
-    ensures { IfOk result (λ b. b ≡ background_of pixels.now) }
+fn counted_background(alloc: Global, pixels: &Rows) -> Result<u32, AllocError>
+    ensures { IfOk result (λ b. b ≡ background_of pixels.now.values.now) }
 {
     let mut counter = Counter {
         counts: HashMap::new(alloc),
-        best: pixels[0],
+        best: pixels.values[0],
         most: 0,
     };
     let mut y = 0;
-    while y < height {
-        let rows = rows_like(pixels, width, height, y);
-        count_row(&mut counter, row_of(pixels, width, height, y), rows)?;
+    while y < pixels.height {
+        let rows = rows_like(pixels, y);
+        count_row(&mut counter, pixels.row(y), rows)?;
         y += rows;
     }
     Ok(counter.best)
@@ -187,28 +180,18 @@ fn counted_background(
 /// The most frequent pixel, of several the smallest. Where a pixel that seems likely has more than
 /// half of the places, it is the one, and where two have enough of them, it is one of these; else
 /// all pixels are counted.
-pub(crate) fn background_of(
-    alloc: Global,
-    pixels: &[u32],
-    width: usize,
-    height: usize,
-) -> Result<u32, AllocError>
-    requires some { 0 < length pixels.now }
-    requires few { length pixels.now < 2 ^ 32 }
-    requires whole { length pixels.now ≡ width * height }
-    requires columns { width < 2 ^ 16 }
-    requires rows { height < 2 ^ 16 }
-    ensures { IfOk result (λ b. b ≡ background_of pixels.now) }
+pub(crate) fn background_of(alloc: Global, pixels: &Rows) -> Result<u32, AllocError>
+    ensures { IfOk result (λ b. b ≡ background_of pixels.now.values.now) }
 {
-    let guess = likely(pixels, None);
-    let half = pixels.len() / 2;
-    let count = times_until(pixels, guess, half);
+    let guess = likely(pixels.values, None);
+    let half = pixels.values.len() / 2;
+    let count = times_until(pixels.values, guess, half);
     if half < count {
         return Ok(guess);
     }
-    let other = likely(pixels, Some(guess));
-    match best_of_two(pixels, guess, count, other) {
+    let other = likely(pixels.values, Some(guess));
+    match best_of_two(pixels.values, guess, count, other) {
         Some(best) => Ok(best),
-        None => counted_background(alloc, pixels, width, height),
+        None => counted_background(alloc, pixels),
     }
 }

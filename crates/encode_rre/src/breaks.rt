@@ -7,9 +7,10 @@
 
 ghost use Rattle.std.specs.Prelude.{◌≡◌, ℕ, ◌+◌, ◌*◌, ◌^◌, ◌<◌, ◌≤◌, true, length, slice_index};
 ghost use Rattle.encode_rre.specs.Breaks.{breaks, breaks_like};
-ghost use Rattle.encode_rre.specs.Subrectangles.{rows_of, subrectangles};
+ghost use Rattle.encode_rre.specs.Subrectangles.{subrectangles};
+ghost use Rattle.encode_rre.specs.Rows.{rows_in};
 
-use crate::scan::row_of;
+use crate::rows::Rows;
 
 /// How many places of a row differ from the one before them and from the one above them. This has
 /// no branch in its loop, so that many places are looked at in one step.
@@ -59,18 +60,14 @@ fn most_of(buckets: &[usize; 251]) -> usize
 
 /// Whether more than `limit` such places are left when those with the background's pixel are left
 /// out, of which there are at most as many as in the fullest bucket.
-fn has_too_many_kinds(pixels: &[u32], width: usize, height: usize, limit: usize) -> bool
-    requires whole { length pixels.now ≡ width * height }
-    requires columns { width < 2 ^ 16 }
-    requires rows { height < 2 ^ 16 }
-    requires some { 0 < height }
-    ensures { result ≡ true → (b : ℕ) → limit < length (subrectangles b (rows_of width height pixels.now)) }
+fn has_too_many_kinds(pixels: &Rows, limit: usize) -> bool
+    ensures { result ≡ true → (b : ℕ) → limit < length (subrectangles b (rows_in pixels.now)) }
 {
     let mut buckets = [0usize; 251];
     let mut count = 0;
-    for y in 1..height {
-        let row = row_of(pixels, width, height, y);
-        let above = row_of(pixels, width, height, y - 1);
+    for y in 1..pixels.height {
+        let row = pixels.row(y);
+        let above = pixels.row(y - 1);
         count += add_breaks(&mut buckets, row, above);
     }
     limit < count.saturating_sub(most_of(&buckets))
@@ -78,19 +75,15 @@ fn has_too_many_kinds(pixels: &[u32], width: usize, height: usize, limit: usize)
 
 /// Whether there may be enough such places to be too many: there are few rows, or in one row of 16
 /// there are more than half as many as would be too many there. It is only a guess.
-fn may_have_too_many(pixels: &[u32], width: usize, height: usize, limit: usize) -> bool
-    requires whole { length pixels.now ≡ width * height }
-    requires columns { width < 2 ^ 16 }
-    requires rows { height < 2 ^ 16 }
-{
-    if height < 64 {
+fn may_have_too_many(pixels: &Rows, limit: usize) -> bool {
+    if pixels.height < 64 {
         return true;
     }
     let mut count = 0usize;
-    for k in 0..height / 16 {
+    for k in 0..pixels.height / 16 {
         let y = 16 * k + 1 + k % 15;
-        let row = row_of(pixels, width, height, y);
-        count = count.saturating_add(breaks_in(row, row_of(pixels, width, height, y - 1)));
+        let row = pixels.row(y);
+        count = count.saturating_add(breaks_in(row, pixels.row(y - 1)));
     }
     limit / 32 < count
 }
@@ -98,24 +91,20 @@ fn may_have_too_many(pixels: &[u32], width: usize, height: usize, limit: usize) 
 /// Whether there are more than `limit` subrectangles for certain: where a part of the rows has many
 /// such places, first with the half of each row left out, and then, where such places are enough, by
 /// their pixels.
-pub(crate) fn has_too_many(pixels: &[u32], width: usize, height: usize, limit: usize) -> bool
-    requires whole { length pixels.now ≡ width * height }
-    requires columns { width < 2 ^ 16 }
-    requires rows { height < 2 ^ 16 }
-    requires some { 0 < height }
+pub(crate) fn has_too_many(pixels: &Rows, limit: usize) -> bool
     requires limited { limit < 2 ^ 32 }
-    ensures { result ≡ true → (b : ℕ) → limit < length (subrectangles b (rows_of width height pixels.now)) }
+    ensures { result ≡ true → (b : ℕ) → limit < length (subrectangles b (rows_in pixels.now)) }
 {
-    if !may_have_too_many(pixels, width, height, limit) {
+    if !may_have_too_many(pixels, limit) {
         return false;
     }
     let mut count = 0;
-    for y in 1..height {
-        let row = row_of(pixels, width, height, y);
-        count += breaks_in(row, row_of(pixels, width, height, y - 1));
-        if limit + (y + 1) * width / 2 < count {
+    for y in 1..pixels.height {
+        let row = pixels.row(y);
+        count += breaks_in(row, pixels.row(y - 1));
+        if limit + (y + 1) * pixels.width / 2 < count {
             return true;
         }
     }
-    limit < count && has_too_many_kinds(pixels, width, height, limit)
+    limit < count && has_too_many_kinds(pixels, limit)
 }

@@ -1,6 +1,7 @@
 //! A rectangle in RRE as bytes.
 
-ghost use Rattle.std.specs.Prelude.{◌≡◌, ◌<◌, ◌^◌, ◌++◌, length, pos, IfOk, OnOk};
+ghost use Rattle.std.specs.Prelude.{◌≡◌, ◌<◌, ◌^◌, ◌++◌, length, flat_map, pos, OnOk, OnErr};
+ghost use Rattle.encode_rre.specs.Begins.{BeginsWith};
 ghost use Rattle.std.specs.Int.{w32, to_le_bytes};
 ghost use Rattle.pixel_translate.specs.Pixel.{be16, pixel_bytes};
 ghost use Rattle.encode_raw.specs.Raw.{head};
@@ -8,36 +9,14 @@ ghost use Rattle.encode_rre.specs.Rre.{subrectangle_bytes, rre_data};
 
 use crate::Subrectangle;
 use encode_raw::rect_header;
+use pixel_translate::bytes::put_bytes;
 use pixel_translate::{Area, BitsPerPixel, PixelFormat};
-use std::alloc::{AllocError, Global};
-
-/// Appends a pixel, in the format's byte order.
-fn put_number(out: &mut Vec<u8>, format: &PixelFormat, number: u32) -> Result<(), AllocError>
-    ensures { OnOk result (out.new.items ≡ out.old.items ++ pixel_bytes format.now number) }
-{
-    let [b3, b2, b1, b0] = number.to_be_bytes();
-    match format.bits {
-        BitsPerPixel::Eight => out.extend_from_slice(&[b0]),
-        BitsPerPixel::Sixteen => {
-            if format.big_endian {
-                out.extend_from_slice(&[b1, b0])
-            } else {
-                out.extend_from_slice(&[b0, b1])
-            }
-        }
-        BitsPerPixel::ThirtyTwo => {
-            if format.big_endian {
-                out.extend_from_slice(&[b3, b2, b1, b0])
-            } else {
-                out.extend_from_slice(&[b0, b1, b2, b3])
-            }
-        }
-    }
-}
+use std::alloc::AllocError;
 
 /// Appends a number of four bytes, the lowest first, and a subrectangle's place and size, at once.
 fn put_twelve(out: &mut Vec<u8>, number: u32, sub: Subrectangle) -> Result<(), AllocError>
-    ensures { OnOk result (out.new.items ≡ out.old.items ++ (to_le_bytes w32 number ++ be16 sub.x ++ be16 sub.y ++ be16 sub.w ++ be16 sub.h)) }
+    ensures ok { OnOk result (out.new.items ≡ out.old.items ++ (to_le_bytes w32 number ++ be16 sub.x ++ be16 sub.y ++ be16 sub.w ++ be16 sub.h)) }
+    ensures err { OnErr result (out.new.items ≡ out.old.items) }
 {
     let [b0, b1, b2, b3] = number.to_le_bytes();
     let [x1, x0] = sub.x.to_be_bytes();
@@ -53,7 +32,8 @@ fn put_subrectangle(
     format: &PixelFormat,
     sub: Subrectangle,
 ) -> Result<(), AllocError>
-    ensures { OnOk result (out.new.items ≡ out.old.items ++ subrectangle_bytes format.now sub) }
+    ensures ok { OnOk result (out.new.items ≡ out.old.items ++ subrectangle_bytes format.now sub) }
+    ensures err { OnErr result (BeginsWith out.old.items out.new.items) }
 {
     if format.bits == BitsPerPixel::ThirtyTwo && !format.big_endian {
         return put_twelve(out, sub.pixel, sub);
@@ -62,29 +42,43 @@ fn put_subrectangle(
     let [y_high, y_low] = sub.y.to_be_bytes();
     let [w_high, w_low] = sub.w.to_be_bytes();
     let [h_high, h_low] = sub.h.to_be_bytes();
-    put_number(out, format, sub.pixel)?;
+    put_bytes(out, format, sub.pixel)?;
     out.extend_from_slice(&[x_high, x_low, y_high, y_low, w_high, w_low, h_high, h_low])
 }
 
-/// A rectangle in RRE: its head, how many subrectangles there are, the background, and each of
-/// them. The room is made at once.
-pub(crate) fn rre_bytes(
-    alloc: Global,
+/// Appends the background and each subrectangle.
+fn put_pixels(
+    out: &mut Vec<u8>,
+    format: &PixelFormat,
+    background: u32,
+    subs: &[Subrectangle],
+) -> Result<(), AllocError>
+    ensures ok { OnOk result (out.new.items ≡ out.old.items ++ (pixel_bytes format.now background ++ flat_map (subrectangle_bytes format.now) subs.now)) }
+    ensures err { OnErr result (BeginsWith out.old.items out.new.items) }
+{
+    put_bytes(out, format, background)?;
+    for sub in subs {
+        put_subrectangle(out, format, *sub)?;
+    }
+    Ok(())
+}
+
+/// Appends a rectangle in RRE: its head, how many subrectangles there are, the background, and each of them. The room
+/// is made at once. Where memory is refused, what was there stays in front.
+pub(crate) fn put_rre(
+    out: &mut Vec<u8>,
     area: Area,
     format: &PixelFormat,
     background: u32,
     subs: &[Subrectangle],
-) -> Result<Vec<u8>, AllocError>
+) -> Result<(), AllocError>
     requires { length subs.now < 2 ^ 32 }
-    ensures { IfOk result (λ rect. rect.items ≡ head area (pos 2) ++ rre_data format.now background subs.now) }
+    ensures ok { OnOk result (out.new.items ≡ out.old.items ++ (head area (pos 2) ++ rre_data format.now background subs.now)) }
+    ensures err { OnErr result (BeginsWith out.old.items out.new.items) }
 {
     let pixel_len = format.bytes_per_pixel();
-    let mut rect = Vec::with_capacity(alloc, 16 + pixel_len + subs.len() * (pixel_len + 8))?;
-    rect_header(&mut rect, area, 2)?;
-    rect.extend_from_slice(&(subs.len() as u32).to_be_bytes())?;
-    put_number(&mut rect, format, background)?;
-    for sub in subs {
-        put_subrectangle(&mut rect, format, *sub)?;
-    }
-    Ok(rect)
+    out.reserve(16 + pixel_len + subs.len() * (pixel_len + 8))?;
+    rect_header(out, area, 2)?;
+    out.extend_from_slice(&(subs.len() as u32).to_be_bytes())?;
+    put_pixels(out, format, background, subs)
 }

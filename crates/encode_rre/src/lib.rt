@@ -20,21 +20,26 @@ ghost use Rattle.std.specs.Prelude.{◌≡◌, ℕ, ◌*◌, ◌<◌, ◌≤◌,
 ghost use Rattle.pixel_translate.specs.Pixel.{pixel};
 ghost use Rattle.encode_raw.specs.Raw.{raw};
 ghost use Rattle.encode_rre.specs.Claims.{rre_reads_back};
-ghost use Rattle.encode_rre.specs.Rre.{rre};
+ghost use Rattle.encode_rre.specs.Rre.{rre, IsCodingOf};
+ghost use Rattle.encode_rre.specs.Begins.{BeginsWith};
 ghost use Rattle.encode_rre.specs.Subrectangles.{ListsTheSubrectangles, ListsInOrder, FindsTheBackground};
 
 mod background;
 mod breaks;
 mod bytes;
+pub mod rows;
 mod scan;
 
 use crate::background::background_of;
 use crate::breaks::has_too_many;
-use crate::bytes::rre_bytes;
+use crate::bytes::put_rre;
+use crate::rows::Rows;
 use crate::scan::subrectangles_within;
+pub use background::{is_better, times};
 use encode_raw::{encode_raw_with_table, raw_is_read_back};
-use pixel_translate::Table;
+use pixel_translate::{Table, server_pixels_are_colours};
 pub use pixel_translate::{Area, PixelFormat};
+pub use scan::{stretch_from, subrectangle_at};
 use std::alloc::{AllocError, Global};
 
 /// A subrectangle of one pixel: its place relative to the rectangle that it belongs to, and its
@@ -64,6 +69,7 @@ fn greatest(colours: &[u32]) -> u32
 fn are_pixels(colours: &[u32], format: &PixelFormat) -> bool
     ensures { result ≡ true → colours.now ≡ map (pixel format.now) colours.now }
 {
+    server_pixels_are_colours();
     format.has_server_components() && greatest(colours) < 1 << 24
 }
 
@@ -84,57 +90,89 @@ fn pixels_of(alloc: Global, colours: &[u32], table: &Table) -> Result<Vec<u32>, 
     Ok(pixels)
 }
 
-/// A rectangle in RRE, from the pixels of its colours, where its data is shorter than in Raw.
-fn rect_of(
+/// The background and the subrectangles of a rectangle whose data in RRE is shorter than in Raw.
+#[derive(Drop)]
+pub(crate) struct Coding {
+    pub(crate) background: u32,
+    pub(crate) subs: Vec<Subrectangle>,
+}
+
+/// How a rectangle is coded, from the pixels of its colours; nothing where RRE's data is no shorter than Raw's.
+fn coding_of(
     alloc: Global,
     area: Area,
     colours: &[u32],
     pixels: &[u32],
     format: &PixelFormat,
-) -> Result<Option<Vec<u8>>, AllocError>
+) -> Result<Option<Coding>, AllocError>
     requires wide { 1 ≤ area.w }
     requires high { 1 ≤ area.h }
     requires whole { length colours.now ≡ area.w * area.h }
     requires translated { pixels.now ≡ map (pixel format.now) colours.now }
-    ensures { IfOk result (λ rect. MatchOption rect (rre format.now area colours.now ≡ raw format.now area colours.now) (λ bytes. bytes.items ≡ rre format.now area colours.now)) }
+    ensures { IfOk result (λ found. MatchOption found (rre format.now area colours.now ≡ raw format.now area colours.now) (λ coding. IsCodingOf format.now area colours.now coding.background coding.subs.items)) }
 {
     let pixel_len = format.bytes_per_pixel();
     let raw_len = colours.len() * pixel_len;
     let limit = raw_len / (pixel_len + 8);
-    let width = usize::from(area.w);
-    let height = usize::from(area.h);
-    if has_too_many(pixels, width, height, limit) {
+    let rows = Rows {
+        values: pixels,
+        width: usize::from(area.w),
+        height: usize::from(area.h),
+    };
+    if has_too_many(&rows, limit) {
         return Ok(None);
     }
-    let background = background_of(alloc, pixels, width, height)?;
-    let Some(subs) = subrectangles_within(alloc, pixels, width, height, background, limit)? else {
+    let background = background_of(alloc, &rows)?;
+    let Some(subs) = subrectangles_within(alloc, &rows, background, limit)? else {
         return Ok(None);
     };
     if 4 + pixel_len + subs.len() * (pixel_len + 8) >= raw_len {
         return Ok(None);
     }
-    let rect = rre_bytes(alloc, area, format, background, &subs)?;
-    Ok(Some(rect))
+    Ok(Some(Coding { background, subs }))
 }
 
-/// A rectangle in RRE, where its data is shorter than in Raw.
-fn shorter_rect(
-    alloc: Global,
+/// Appends a rectangle, from the pixels of its colours, in RRE where its data is shorter, and else in Raw.
+fn put_shorter(
+    out: &mut Vec<u8>,
     area: Area,
     colours: &[u32],
+    pixels: &[u32],
     table: &Table,
-) -> Result<Option<Vec<u8>>, AllocError>
+) -> Result<(), AllocError>
     requires wide { 1 ≤ area.w }
     requires high { 1 ≤ area.h }
     requires whole { length colours.now ≡ area.w * area.h }
-    ensures { IfOk result (λ rect. MatchOption rect (rre table.now area colours.now ≡ raw table.now area colours.now) (λ bytes. bytes.items ≡ rre table.now area colours.now)) }
+    requires translated { pixels.now ≡ map (pixel table.now) colours.now }
+    ensures ok { OnOk result (out.new.items ≡ out.old.items ++ rre table.now area colours.now) }
+    ensures err { OnErr result (BeginsWith out.old.items out.new.items) }
 {
     let format = table.format();
-    if are_pixels(colours, &format) {
-        return rect_of(alloc, area, colours, colours, &format);
+    let alloc = *out.allocator();
+    match coding_of(alloc, area, colours, pixels, &format)? {
+        Some(coding) => put_rre(out, area, &format, coding.background, &coding.subs),
+        None => encode_raw_with_table(out, area, colours, table),
     }
-    let pixels = pixels_of(alloc, colours, table)?;
-    rect_of(alloc, area, colours, &pixels, &format)
+}
+
+/// Appends a rectangle. Where memory is refused, what was there stays in front.
+fn put_rectangle(
+    out: &mut Vec<u8>,
+    area: Area,
+    colours: &[u32],
+    table: &Table,
+) -> Result<(), AllocError>
+    requires wide { 1 ≤ area.w }
+    requires high { 1 ≤ area.h }
+    requires whole { length colours.now ≡ area.w * area.h }
+    ensures ok { OnOk result (out.new.items ≡ out.old.items ++ rre table.now area colours.now) }
+    ensures err { OnErr result (BeginsWith out.old.items out.new.items) }
+{
+    if are_pixels(colours, &table.format()) {
+        return put_shorter(out, area, colours, colours, table);
+    }
+    let pixels = pixels_of(*out.allocator(), colours, table)?;
+    put_shorter(out, area, colours, &pixels, table)
 }
 
 /// Appends a rectangle in RRE (RFC 6143, 7.7.3), or in Raw where RRE's data is no shorter: the
@@ -169,11 +207,12 @@ pub fn encode_rre_with_table(
     ensures ok { OnOk result (out.new.items ≡ out.old.items ++ rre table.now area colours.now) }
     ensures err { OnErr result (out.new.items ≡ out.old.items) }
 {
-    let alloc = *out.allocator();
-    match shorter_rect(alloc, area, colours, table)? {
-        Some(rect) => out.extend_from_slice(&rect),
-        None => encode_raw_with_table(out, area, colours, table),
+    let before = out.len();
+    let done = put_rectangle(out, area, colours, table);
+    if done.is_err() {
+        out.truncate(before);
     }
+    done
 }
 
 /// The subrectangles listed for a rectangle are exactly the runs that the row above and the row

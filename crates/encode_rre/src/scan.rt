@@ -1,11 +1,13 @@
 //! The subrectangles of a rectangle, found row by row.
 
-ghost use Rattle.std.specs.Prelude.{◌≡◌, ℕ, ◌+◌, ◌*◌, ◌<◌, ◌≤◌, ◌^◌, [], ◌++◌, true, length, drop, slice_index, IfOk, MatchOption, OnOk};
+ghost use Rattle.std.specs.Prelude.{◌≡◌, ℕ, ◌+◌, ◌*◌, ◌<◌, ◌≤◌, ◌^◌, ◌++◌, true, false, length, drop, slice_index, IfOk, IfSome, MatchOption, OnOk};
 ghost use Rattle.std.specs.List.{prefix_len};
 ghost use Rattle.encode_rre.specs.Starts.{AreRuns};
-ghost use Rattle.encode_rre.specs.Subrectangles.{rows_of, row_at, stretch, has_run, begins_run, begins_subrectangle, run_at, subrectangles_in, subrectangles};
+ghost use Rattle.encode_rre.specs.Rows.{rows_in};
+ghost use Rattle.encode_rre.specs.Subrectangles.{row_at, stretch, has_run, begins_run, begins_subrectangle, subrectangle_from, run_at, subrectangles_in, subrectangles};
 
 use crate::Subrectangle;
+use crate::rows::Rows;
 use std::alloc::{AllocError, Global};
 
 /// A maximal stretch of one row with one pixel.
@@ -69,7 +71,7 @@ fn far_stretch(row: &[u32], start: usize, near: usize) -> usize
 
 /// How many pixels are the same from `start` on: the first eight are looked at one by one, and then
 /// a block at a time.
-pub(crate) fn stretch_from(row: &[u32], start: usize) -> usize
+pub fn stretch_from(row: &[u32], start: usize) -> usize
     requires { start < length row.now }
     ensures same { result ≡ stretch row.now start }
     ensures some { 0 < result }
@@ -103,64 +105,68 @@ fn has_run(row: &[u32], run: Run) -> bool
     first + last + left + right == 0 && are_all(&row[run.x..end], run.pixel)
 }
 
-/// The row at `y`.
-pub(crate) fn row_of(pixels: &[u32], width: usize, height: usize, y: usize) -> &[u32]
-    requires whole { length pixels.now ≡ width * height }
-    requires inside { y < height }
-    ensures row { result.now ≡ row_at (rows_of width height pixels.now) y }
-    ensures len { length result.now ≡ width }
-{
-    let start = y * width;
-    &pixels[start..start + width]
-}
-
 /// How many rows from `top` on have the run, which the one there has.
-fn rows_with(pixels: &[u32], width: usize, height: usize, top: usize, run: Run) -> usize
-    requires whole { length pixels.now ≡ width * height }
-    requires columns { width < 2 ^ 16 }
-    requires inside { top < height }
+fn rows_with(pixels: &Rows, top: usize, run: Run) -> usize
+    requires inside { top < pixels.now.height }
     requires some { 0 < run.w }
-    requires within { run.x + run.w ≤ width }
-    requires has { has_run run (row_at (rows_of width height pixels.now) top) ≡ true }
-    ensures rows { result ≡ prefix_len (has_run run) (drop top (rows_of width height pixels.now)) }
-    ensures within { top + result ≤ height }
+    requires within { run.x + run.w ≤ pixels.now.width }
+    requires has { has_run run (row_at (rows_in pixels.now) top) ≡ true }
+    ensures rows { result ≡ prefix_len (has_run run) (drop top (rows_in pixels.now)) }
+    ensures within { top + result ≤ pixels.now.height }
 {
-    for y in top + 1..height {
-        if !has_run(row_of(pixels, width, height, y), run) {
+    for y in top + 1..pixels.height {
+        if !has_run(pixels.row(y), run) {
             return y - top;
         }
     }
-    height - top
+    pixels.height - top
 }
 
 /// Whether a subrectangle begins with a run of the row at `y`.
-fn begins_with(
-    pixels: &[u32],
-    width: usize,
-    height: usize,
-    background: u32,
-    y: usize,
-    run: Run,
-) -> bool
-    requires whole { length pixels.now ≡ width * height }
-    requires columns { width < 2 ^ 16 }
-    requires inside { y < height }
+fn begins_with(pixels: &Rows, background: u32, y: usize, run: Run) -> bool
+    requires inside { y < pixels.now.height }
     requires some { 0 < run.w }
-    requires within { run.x + run.w ≤ width }
-    requires begins { begins_run (row_at (rows_of width height pixels.now) y) run.x ≡ true }
-    requires is { run ≡ run_at (row_at (rows_of width height pixels.now) y) run.x }
-    ensures { result ≡ begins_subrectangle background (rows_of width height pixels.now) y run.x }
+    requires within { run.x + run.w ≤ pixels.now.width }
+    requires begins { begins_run (row_at (rows_in pixels.now) y) run.x ≡ true }
+    requires is { run ≡ run_at (row_at (rows_in pixels.now) y) run.x }
+    ensures { result ≡ begins_subrectangle background (rows_in pixels.now) y run.x }
 {
-    run.pixel != background && !(0 < y && has_run(row_of(pixels, width, height, y - 1), run))
+    run.pixel != background && !(0 < y && has_run(pixels.row(y - 1), run))
 }
 
-/// Whether the row at `y` is the one above it, so that none begins in it.
-fn repeats(pixels: &[u32], width: usize, height: usize, y: usize) -> bool
-    requires whole { length pixels.now ≡ width * height }
-    requires inside { y < height }
-    ensures { result ≡ true → (b : ℕ) → subrectangles_in b (rows_of width height pixels.now) y ≡ [] }
+/// The subrectangle that begins with the run of `w` pixels at `x` of the row at `y`, as high as it goes; nothing where
+/// none does, since the run is of the background or is in the row above too.
+pub fn subrectangle_at(
+    pixels: &Rows,
+    background: u32,
+    y: usize,
+    x: usize,
+    w: usize,
+) -> Option<Subrectangle>
+    requires inside { y < pixels.now.height }
+    requires begins { begins_run (row_at (rows_in pixels.now) y) x ≡ true }
+    requires run { w ≡ stretch (row_at (rows_in pixels.now) y) x }
+    requires some { 0 < w }
+    requires within { x + w ≤ pixels.now.width }
+    ensures found { MatchOption result (begins_subrectangle background (rows_in pixels.now) y x ≡ false) (λ sub. (begins_subrectangle background (rows_in pixels.now) y x ≡ true) × (sub ≡ subrectangle_from (rows_in pixels.now) y x)) }
+    ensures within { IfSome result (λ sub. y + sub.h ≤ pixels.now.height) }
 {
-    0 < y && row_of(pixels, width, height, y) == row_of(pixels, width, height, y - 1)
+    let run = Run {
+        x,
+        w,
+        pixel: pixels.row(y)[x],
+    };
+    if !begins_with(pixels, background, y, run) {
+        return None;
+    }
+    let rows = rows_with(pixels, y, run);
+    Some(Subrectangle {
+        x: x as u16,
+        y: y as u16,
+        w: w as u16,
+        h: rows as u16,
+        pixel: run.pixel,
+    })
 }
 
 /// Writes where the runs of a row begin, and where the last one ends, and tells how many there are.
@@ -190,42 +196,25 @@ fn find_runs(starts: &mut [u16], row: &[u32]) -> usize
 fn push_row(
     subs: &mut Vec<Subrectangle>,
     starts: &mut [u16],
-    pixels: &[u32],
-    width: usize,
-    height: usize,
+    pixels: &Rows,
     background: u32,
     y: usize,
 ) -> Result<(), AllocError>
-    requires whole { length pixels.now ≡ width * height }
-    requires inside { y < height }
-    requires some { 0 < width }
-    requires columns { width < 2 ^ 16 }
-    requires rows { height < 2 ^ 16 }
-    requires room { width < length starts.old }
-    ensures found { OnOk result (subs.new.items ≡ subs.old.items ++ subrectangles_in background (rows_of width height pixels.now) y) }
+    requires inside { y < pixels.now.height }
+    requires room { pixels.now.width < length starts.old }
+    ensures found { OnOk result (subs.new.items ≡ subs.old.items ++ subrectangles_in background (rows_in pixels.now) y) }
     ensures len { length starts.new ≡ length starts.old }
 {
-    if repeats(pixels, width, height, y) {
+    if pixels.repeats(y) {
         return Ok(());
     }
-    let row = row_of(pixels, width, height, y);
+    let row = pixels.row(y);
     let count = find_runs(starts, row);
     for k in 0..count {
         let x = usize::from(starts[k]);
-        let run = Run {
-            x,
-            w: usize::from(starts[k + 1]) - x,
-            pixel: row[x],
-        };
-        if begins_with(pixels, width, height, background, y, run) {
-            let rows = rows_with(pixels, width, height, y, run);
-            subs.push(Subrectangle {
-                x: run.x as u16,
-                y: y as u16,
-                w: run.w as u16,
-                h: rows as u16,
-                pixel: run.pixel,
-            })?;
+        let w = usize::from(starts[k + 1]) - x;
+        if let Some(sub) = subrectangle_at(pixels, background, y, x, w) {
+            subs.push(sub)?;
         }
     }
     Ok(())
@@ -234,22 +223,16 @@ fn push_row(
 /// The subrectangles by y and then by x, or nothing where there are more than `limit`.
 pub(crate) fn subrectangles_within(
     alloc: Global,
-    pixels: &[u32],
-    width: usize,
-    height: usize,
+    pixels: &Rows,
     background: u32,
     limit: usize,
 ) -> Result<Option<Vec<Subrectangle>>, AllocError>
-    requires whole { length pixels.now ≡ width * height }
-    requires some { 0 < width }
-    requires columns { width < 2 ^ 16 }
-    requires rows { height < 2 ^ 16 }
-    ensures { IfOk result (λ found. MatchOption found (limit < length (subrectangles background (rows_of width height pixels.now))) (λ subs. subs.items ≡ subrectangles background (rows_of width height pixels.now))) }
+    ensures { IfOk result (λ found. MatchOption found (limit < length (subrectangles background (rows_in pixels.now))) (λ subs. subs.items ≡ subrectangles background (rows_in pixels.now))) }
 {
-    let mut starts = vec![in alloc; 0u16; width + 1]?;
+    let mut starts = vec![in alloc; 0u16; pixels.width + 1]?;
     let mut subs = Vec::new(alloc);
-    for y in 0..height {
-        push_row(&mut subs, &mut starts, pixels, width, height, background, y)?;
+    for y in 0..pixels.height {
+        push_row(&mut subs, &mut starts, pixels, background, y)?;
         if limit < subs.len() {
             return Ok(None);
         }

@@ -58,7 +58,7 @@ impl Table {
     }
 
     /// The pixel of a colour `0x00RRGGBB`.
-    #[tactic(auto, using(crate::proofs::Bounds::pixel_below))]
+    #[tactic(auto, using(crate::specs::Bounds::pixel_below))]
     pub fn translate(&self, colour: u32) -> u32
         ensures pixel { result ≡ pixel self.now colour }
         ensures below { result < 2 ^ bit_count self.now.bits }

@@ -4,4 +4,4 @@ use Rattle.encode_rre.proofs.are_pixels.Goals as goal
 
 pub returns-then-has_server_components : goal.returns-then-has_server_components
 returns-then-has_server_components c small =
-    themselves c.args.format.now c.args.colours.now c.greatest.result (c.has_server_components.ensures.0 c.if-has_server_components.true) (ltb-true _ _ small) c.greatest.ensures
+    themselves c.server_pixels_are_colours.ensures.components c.args.format.now c.args.colours.now c.greatest.result (c.has_server_components.ensures.0 c.if-has_server_components.true) (ltb-true _ _ small) c.greatest.ensures

@@ -1,4 +1,4 @@
-use Rattle.encode_rre.proofs.MostFrequent.{finds_the_background}
+use Rattle.encode_rre.specs.MostFrequent.{finds_the_background}
 use Rattle.encode_rre.proofs.background_is_most_frequent.Goals as goal
 
 pub returns : goal.returns

@@ -1,4 +1,4 @@
-use Rattle.encode_rre.proofs.Listed.{lists_the_subrectangles}
+use Rattle.encode_rre.specs.Listed.{lists_the_subrectangles}
 use Rattle.encode_rre.proofs.subrectangles_are_all_listed.Goals as goal
 
 pub returns : goal.returns

@@ -11,8 +11,8 @@ use Rattle.encode_hextile.proofs.bytes.put_coded.Goals.{else-put_list-via-then-p
 pub returns-then-len-raw_len-clause-next : goal.returns-then-len-raw_len-clause-next
 returns-then-len-raw_len-clause-next c =
     let f = c.args.format.now in
-    let ps : List ℕ = c.args.pixels.now in
-    let rows : List (List ℕ) = rows_of c.args.width c.args.height ps in
+    let ps : List ℕ = c.args.pixels.now.values.now in
+    let rows : List (List ℕ) = rows_of c.args.pixels.now.width c.args.pixels.now.height ps in
     let b : ℕ = c.args.palette.background in
     let others : TilePixels = c.args.palette.others in
     let said : List ℕ = said_bytes f c.args.carried b others in
@@ -22,15 +22,15 @@ returns-then-len-raw_len-clause-next c =
     let len : c.len.result + c.len-then-put_list.result ≡ 1 + length (said ++ list) =
     omega (arith, c.len.ensures.value, c.len-then-put_list.ensures.value, length-append c.put_list.new.front.items c.put_list.new.list.items, ap (length {A = ℕ}) joined) in
     let is : tile f c.args.carried rows ≡ coded f c.args.carried b (subrectangles b rows) others =
-    tile_short f c.args.carried rows ps b others (concat_rows c.args.width c.args.height ps c.requires.whole) c.requires.stands.0 c.requires.stands.1
+    tile_short f c.args.carried rows ps b others (concat_rows c.args.pixels.now.width c.args.pixels.now.height ps c.args.pixels.now.whole) c.requires.stands.0 c.requires.stands.1
     (omega (arith, len, c.if-len-raw_len.true, ap (λ (p : ℕ). length ps * p) c.bytes_per_pixel.ensures)) in
     c.next_of.ensures ∙ sym (ap (λ (t : Coded). t.next) is)
 
 pub returns-then-len-raw_len-clause-ok : goal.returns-then-len-raw_len-clause-ok
 returns-then-len-raw_len-clause-ok c =
     let f = c.args.format.now in
-    let ps : List ℕ = c.args.pixels.now in
-    let rows : List (List ℕ) = rows_of c.args.width c.args.height ps in
+    let ps : List ℕ = c.args.pixels.now.values.now in
+    let rows : List (List ℕ) = rows_of c.args.pixels.now.width c.args.pixels.now.height ps in
     let b : ℕ = c.args.palette.background in
     let others : TilePixels = c.args.palette.others in
     let said : List ℕ = said_bytes f c.args.carried b others in
@@ -40,7 +40,7 @@ returns-then-len-raw_len-clause-ok c =
     let len : c.len.result + c.len-then-put_list.result ≡ 1 + length (said ++ list) =
     omega (arith, c.len.ensures.value, c.len-then-put_list.ensures.value, length-append c.put_list.new.front.items c.put_list.new.list.items, ap (length {A = ℕ}) joined) in
     let is : tile f c.args.carried rows ≡ coded f c.args.carried b (subrectangles b rows) others =
-    tile_short f c.args.carried rows ps b others (concat_rows c.args.width c.args.height ps c.requires.whole) c.requires.stands.0 c.requires.stands.1
+    tile_short f c.args.carried rows ps b others (concat_rows c.args.pixels.now.width c.args.pixels.now.height ps c.args.pixels.now.whole) c.requires.stands.0 c.requires.stands.1
     (omega (arith, len, c.if-len-raw_len.true, ap (λ (p : ℕ). length ps * p) c.bytes_per_pixel.ensures)) in
     c.in_ok-extend_from_slice-2.ensures.items
     ∙ ap (λ (t : List ℕ). c.extend_from_slice.new.self.items ++ t) c.deref-then-len-raw_len.ensures.0
@@ -52,15 +52,15 @@ returns-then-len-raw_len-clause-ok c =
 pub returns-clause-next : goal.returns-clause-next
 returns-clause-next c =
     let f = c.args.format.now in
-    let ps : List ℕ = c.args.pixels.now in
-    let rows : List (List ℕ) = rows_of c.args.width c.args.height ps in
+    let ps : List ℕ = c.args.pixels.now.values.now in
+    let rows : List (List ℕ) = rows_of c.args.pixels.now.width c.args.pixels.now.height ps in
     let b : ℕ = c.args.palette.background in
     let others : TilePixels = c.args.palette.others in
     let said : List ℕ = said_bytes f c.args.carried b others in
     let list : List ℕ = list_bytes f (subrectangles b rows) others in
     let raw : length ps * c.bytes_per_pixel.result ≡ length ps * bytes_per_pixel f = ap (λ (p : ℕ). length ps * p) c.bytes_per_pixel.ensures in
     let is : tile f c.args.carried rows ≡ raw_tile f ps =
-    tile_long f c.args.carried rows ps b others (concat_rows c.args.width c.args.height ps c.requires.whole) c.requires.stands.0 c.requires.stands.1
+    tile_long f c.args.carried rows ps b others (concat_rows c.args.pixels.now.width c.args.pixels.now.height ps c.args.pixels.now.whole) c.requires.stands.0 c.requires.stands.1
     (elim c.else-put_list.branch [
       | else-put_list-via-then-put_list+else-len-raw_len w ↦
           let joined : c.put_list.new.front.items ++ c.put_list.new.list.items ≡ (bits_of c.args.carried b others ∷ said) ++ list =
@@ -73,15 +73,15 @@ returns-clause-next c =
 pub returns-clause-ok : goal.returns-clause-ok
 returns-clause-ok c =
     let f = c.args.format.now in
-    let ps : List ℕ = c.args.pixels.now in
-    let rows : List (List ℕ) = rows_of c.args.width c.args.height ps in
+    let ps : List ℕ = c.args.pixels.now.values.now in
+    let rows : List (List ℕ) = rows_of c.args.pixels.now.width c.args.pixels.now.height ps in
     let b : ℕ = c.args.palette.background in
     let others : TilePixels = c.args.palette.others in
     let said : List ℕ = said_bytes f c.args.carried b others in
     let list : List ℕ = list_bytes f (subrectangles b rows) others in
     let raw : length ps * c.bytes_per_pixel.result ≡ length ps * bytes_per_pixel f = ap (λ (p : ℕ). length ps * p) c.bytes_per_pixel.ensures in
     let is : tile f c.args.carried rows ≡ raw_tile f ps =
-    tile_long f c.args.carried rows ps b others (concat_rows c.args.width c.args.height ps c.requires.whole) c.requires.stands.0 c.requires.stands.1
+    tile_long f c.args.carried rows ps b others (concat_rows c.args.pixels.now.width c.args.pixels.now.height ps c.args.pixels.now.whole) c.requires.stands.0 c.requires.stands.1
     (elim c.else-put_list.branch [
       | else-put_list-via-then-put_list+else-len-raw_len w ↦
           let joined : c.put_list.new.front.items ++ c.put_list.new.list.items ≡ (bits_of c.args.carried b others ∷ said) ++ list =

@@ -6,8 +6,8 @@ use Rattle.encode_hextile.proofs.palette.most_frequent.Goals.{then-is_better+the
 
 pub loop-p-init : goal.loop-p-init
 loop-p-init c = record {
-  count = c.count_of-most.ensures;
-  some = omega (arith, c.count_of-most.ensures, times_at c.args.pixels.now 0 c.requires.some);
+  count = c.times-most.ensures;
+  some = omega (arith, c.times-most.ensures, times_at c.args.pixels.now 0 c.requires.some);
   loses = λ k lt. absurd (omega (arith, lt));
 }
 
@@ -23,12 +23,12 @@ loop-p-preserved c =
       | then-is_better+then-is_better-2 w ↦
           let wins = w.is_better-then-is_better.ensures.yes w.if-is_better-2.true in
           record {
-            count = w.most-is ∙ w.count_of-count.ensures ∙ ap (λ (t : ℕ). times t ps) (sym w.best-is);
-            some = omega (arith, w.most-is, w.count_of-count.ensures, times_at ps i c.loop-p-test.true);
+            count = w.most-is ∙ w.times-count.ensures ∙ ap (λ (t : ℕ). times t ps) (sym w.best-is);
+            some = omega (arith, w.most-is, w.times-count.ensures, times_at ps i c.loop-p-test.true);
             loses = subst (λ (b : ℕ). (k : ℕ) → k < i + 1 → Loses ps b c.if-is_better.most (get_or ps k 0)) (sym w.best-is)
                 (subst (λ (m : ℕ). (k : ℕ) → k < i + 1 → Loses ps p m (get_or ps k 0)) (sym w.most-is)
-                (loses_so_far ps p w.count_of-count.result i (λ k lt. loses_more ps c.loop-p.best c.loop-p.most p w.count_of-count.result (get_or ps k 0) (before.loses k lt) wins)
-                (loses_itself ps p w.count_of-count.result w.count_of-count.ensures)));
+                (loses_so_far ps p w.times-count.result i (λ k lt. loses_more ps c.loop-p.best c.loop-p.most p w.times-count.result (get_or ps k 0) (before.loses k lt) wins)
+                (loses_itself ps p w.times-count.result w.times-count.ensures)));
           }
       | then-is_better+else-is_better-2 w ↦
           let lost = w.is_better-then-is_better.ensures.no w.if-is_better-2.false in
@@ -37,7 +37,7 @@ loop-p-preserved c =
             some = omega (arith, w.most-is, before.some);
             loses = subst (λ (b : ℕ). (k : ℕ) → k < i + 1 → Loses ps b c.if-is_better.most (get_or ps k 0)) (sym w.best-is)
                 (subst (λ (m : ℕ). (k : ℕ) → k < i + 1 → Loses ps c.loop-p.best m (get_or ps k 0)) (sym w.most-is)
-                (loses_so_far ps c.loop-p.best c.loop-p.most i before.loses (loses_bound ps c.loop-p.best c.loop-p.most p w.count_of-count.result (omega (arith, w.count_of-count.ensures)) lost)));
+                (loses_so_far ps c.loop-p.best c.loop-p.most i before.loses (loses_bound ps c.loop-p.best c.loop-p.most p w.times-count.result (omega (arith, w.times-count.ensures)) lost)));
           }
       | else-is_better w ↦
           let lost = c.is_better.ensures.no w.if-is_better.false in

@@ -1,6 +1,6 @@
 use Rattle.std.proofs.Common.{◌≡◌, ◌+◌, ◌<◌, ◌⊎◌, max, length, ℕ, List, inl, inr, arith}
 use Rattle.encode_rre.specs.Subrectangles.{times}
-use Rattle.encode_rre.proofs.Counts.{first_of_two, second_of_two}
+use Rattle.encode_rre.specs.Counts.{first_of_two, second_of_two}
 use Rattle.encode_rre.proofs.background.best_of_two.Goals as goal
 
 pub returns-then-is_better : goal.returns-then-is_better

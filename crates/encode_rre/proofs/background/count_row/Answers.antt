@@ -4,7 +4,7 @@ use Rattle.std.specs.HashMap as hash
 use Rattle.std.proofs.Math.Nat.{mul-le-mul}
 use Rattle.encode_rre.specs.declared.background.Counter.{Counter}
 use Rattle.encode_rre.specs.Counted.{count_in, IsBestOf}
-use Rattle.encode_rre.proofs.Counts.{CountsRun, better_best, same_best, more_of_row}
+use Rattle.encode_rre.specs.Counts.{CountsRun, better_best, same_best, more_of_row}
 use Rattle.encode_rre.proofs.background.count_row.Goals as goal
 use Rattle.encode_rre.proofs.background.count_row.Goals.{then-is_better, else-is_better}
 

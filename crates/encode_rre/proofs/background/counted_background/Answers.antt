@@ -3,26 +3,27 @@ use Rattle.std.proofs.Math.Nat.{mul_comm}
 use Rattle.std.proofs.Math.Seq.{take-length}
 use Rattle.encode_rre.specs.Counted.{count_in}
 use Rattle.encode_rre.specs.Subrectangles.{times}
-use Rattle.encode_rre.proofs.Counts.{best_is, rows_alike}
+use Rattle.encode_rre.specs.Rows.{some_values}
+use Rattle.encode_rre.specs.Counts.{best_is, rows_alike}
 use Rattle.encode_rre.proofs.background.counted_background.Goals as goal
 
 pub loop-y-preserved : goal.loop-y-preserved
 loop-y-preserved c =
-    let ps : List ℕ = c.args.pixels.now in
+    let ps : List ℕ = c.args.pixels.now.values.now in
     let n : ℕ = c.rows_like-rows.result in
     record {
       within = c.rows_like-rows.ensures.within;
       counted = λ q.
-          c.in_ok-count_row.ensures.counted q ∙ ap (λ (t : ℕ). t + n * times q c.row_of.result.now) (c.loop-y.invariant.counted q)
-          ∙ ap (λ (r : List ℕ). times q (take (c.loop-y.y * c.args.width) ps) + n * times q r) c.row_of.ensures.row
-          ∙ sym (rows_alike c.args.width c.args.height ps c.loop-y.y n q c.rows_like-rows.ensures.within c.rows_like-rows.ensures.same);
+          c.in_ok-count_row.ensures.counted q ∙ ap (λ (t : ℕ). t + n * times q c.row.result.now) (c.loop-y.invariant.counted q)
+          ∙ ap (λ (r : List ℕ). times q (take (c.loop-y.y * c.args.pixels.now.width) ps) + n * times q r) c.row.ensures.row
+          ∙ sym (rows_alike c.args.pixels.now.width c.args.pixels.now.height ps c.loop-y.y n q c.rows_like-rows.ensures.within c.rows_like-rows.ensures.same);
       best = c.in_ok-count_row.ensures.best;
     }
 
 pub returns : goal.returns
 returns c =
-    let ps : List ℕ = c.args.pixels.now in
-    let last : c.loop-y.y ≡ c.args.height = omega (arith, c.loop-y.invariant.within) in
-    let whole : c.loop-y.y * c.args.width ≡ length ps = ap (λ (k : ℕ). k * c.args.width) last ∙ mul_comm c.args.height c.args.width ∙ sym c.requires.whole in
+    let ps : List ℕ = c.args.pixels.now.values.now in
+    let last : c.loop-y.y ≡ c.args.pixels.now.height = omega (arith, c.loop-y.invariant.within) in
+    let whole : c.loop-y.y * c.args.pixels.now.width ≡ length ps = ap (λ (k : ℕ). k * c.args.pixels.now.width) last ∙ mul_comm c.args.pixels.now.height c.args.pixels.now.width ∙ sym c.args.pixels.now.whole in
     best_is ps (count_in c.loop-y.counter) c.loop-y.counter.best c.loop-y.counter.most
-    (λ q. c.loop-y.invariant.counted q ∙ ap (times q) (ap (λ (k : ℕ). take k ps) whole ∙ take-length ps)) c.requires.some c.loop-y.invariant.best
+    (λ q. c.loop-y.invariant.counted q ∙ ap (times q) (ap (λ (k : ℕ). take k ps) whole ∙ take-length ps)) (some_values c.args.pixels.now) c.loop-y.invariant.best

@@ -6,10 +6,10 @@ use Rattle.encode_rre.proofs.background.counted_background.Given as goal
 -- the rows passed are counted, and best is the best of their pixels
 abbrev pub invariant-loop-y : goal.invariant-loop-y
 invariant-loop-y l = record {
-  within : l.y ≤ l.height;
-  counted : (q : ℕ) → count_in l.counter q ≡ times q (take (l.y * l.width) l.pixels);
+  within : l.y ≤ l.pixels.height;
+  counted : (q : ℕ) → count_in l.counter q ≡ times q (take (l.y * l.pixels.width) l.pixels.values.now);
   best : IsBestOf (count_in l.counter) l.counter.best l.counter.most;
 }
 
 abbrev pub decreases-loop-y : goal.decreases-loop-y
-decreases-loop-y l = l.height - l.y
+decreases-loop-y l = l.pixels.height - l.y

@@ -1,7 +1,7 @@
 use Rattle.std.proofs.Common.{◌≡◌, ℕ, ◌+◌, ◌-◌, List, take, drop, arith, ap}
 use Rattle.std.proofs.lemmas.List.{length-drop, length-take-le}
 use Rattle.encode_rre.specs.Subrectangles.{times}
-use Rattle.encode_rre.proofs.Counts.{times_more, times_few}
+use Rattle.encode_rre.specs.Counts.{times_more, times_few}
 use Rattle.encode_rre.proofs.background.times_until.Goals as goal
 
 pub loop-seen-preserved : goal.loop-seen-preserved

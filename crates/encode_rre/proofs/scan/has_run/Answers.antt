@@ -1,7 +1,7 @@
 use Rattle.std.proofs.Common.{◌≡◌, ◌∙◌, true, arith, sym}
 use Rattle.encode_rre.specs.Subrectangles.{has_run}
 use Rattle.encode_rre.proofs.Ends.{Beside, Misfits, part, whole, has_where, has_of, none_where, false_unless, same_tests}
-use Rattle.encode_rre.proofs.Scans.{unequal}
+use Rattle.encode_rre.specs.Scans.{unequal}
 use Rattle.encode_rre.proofs.scan.has_run.Goals as goal
 use Rattle.encode_rre.proofs.scan.has_run.Goals.{After-from-right}
 

@@ -1,15 +1,16 @@
 use Rattle.std.proofs.Common.{◌≡◌, ◌≤◌, ◌<◌, ◌++◌, ℕ, ◌+◌, ◌-◌, List, length, arith, sym, ap, ◌∙◌, get_or, subst, Vec, Global}
+use Rattle.encode_rre.specs.Rows.{rows_in}
 use Rattle.encode_rre.specs.Starts.{AreRuns}
-use Rattle.encode_rre.specs.Subrectangles.{rows_of, row_at, stretch, begins_run}
+use Rattle.encode_rre.specs.Subrectangles.{row_at, stretch, begins_run}
 use Rattle.encode_rre.specs.declared.Subrectangle.{Subrectangle}
-use Rattle.encode_rre.proofs.Scans.{Step, found_before, scan_step, found_yes, found_no, sub_is}
+use Rattle.encode_rre.specs.Scans.{Step, found_before, scan_step, found_yes, found_no, sub_is}
 use Rattle.encode_rre.proofs.scan.push_row.Goals as goal
-use Rattle.encode_rre.proofs.scan.push_row.Goals.{then-begins_with+in_ok-push, else-begins_with}
+use Rattle.encode_rre.proofs.scan.push_row.Goals.{in-Some+in_ok-push, in_default}
 
 pub loop-k-preserved : goal.loop-k-preserved
 loop-k-preserved c =
-    let rows : List (List ℕ) = rows_of c.args.width c.args.height c.args.pixels.now in
-    let row : c.row_of-row.result.now ≡ row_at rows c.args.y = c.row_of-row.ensures.row in
+    let rows : List (List ℕ) = rows_in c.args.pixels.now in
+    let row : c.row-row.result.now ≡ row_at rows c.args.y = c.row-row.ensures.row in
     let starts : List ℕ = c.find_runs-count.new.starts in
     let runs : AreRuns (row_at rows c.args.y) starts c.find_runs-count.result = subst (λ (r : List ℕ). AreRuns r starts c.find_runs-count.result) row c.find_runs-count.ensures.runs in
     let x : ℕ = c.from-x.result in
@@ -24,15 +25,14 @@ loop-k-preserved c =
     let step : Step c.args.background rows c.args.y x n = scan_step c.args.background rows c.args.y x n inside run in
     let before : c.loop-k.subs.items ≡ c.args.subs.now.items ++ found_before c.args.background rows c.args.y x =
     c.loop-k.invariant.found ∙ ap (λ (k : ℕ). c.args.subs.now.items ++ found_before c.args.background rows c.args.y k) here in
-    let after : c.if-begins_with.subs.items ≡ c.args.subs.now.items ++ found_before c.args.background rows c.args.y (x + n) = elim c.if-begins_with.branch [
-      | then-begins_with+in_ok-push w ↦
+    let after : c.match-subrectangle_at.subs.items ≡ c.args.subs.now.items ++ found_before c.args.background rows c.args.y (x + n) = elim c.match-subrectangle_at.branch [
+      | in-Some+in_ok-push w ↦
+          let is = rw w.in-Some.is at c.subrectangle_at.ensures.found in
           ap (λ (v : Vec Subrectangle Global). v.items) w.subs-is ∙ w.in_ok-push.ensures.items
-          ∙ found_yes c.args.subs.now.items c.loop-k.subs.items c.args.background rows c.args.y x n _ step before
-          (sym c.begins_with.ensures ∙ w.if-begins_with.true)
-          (sub_is rows c.args.y x n w.rows_with-rows.result (get_or c.row_of-row.result.now x 0) run (ap (λ (r : List ℕ). get_or r x 0) row) w.rows_with-rows.ensures.rows)
-      | else-begins_with w ↦
+          ∙ found_yes c.args.subs.now.items c.loop-k.subs.items c.args.background rows c.args.y x n _ step before is.0 is.1
+      | in_default w ↦
           ap (λ (v : Vec Subrectangle Global). v.items) w.subs-is
-          ∙ found_no c.args.subs.now.items c.loop-k.subs.items c.args.background rows c.args.y x n step before (sym c.begins_with.ensures ∙ w.if-begins_with.false)
+          ∙ found_no c.args.subs.now.items c.loop-k.subs.items c.args.background rows c.args.y x n step before (rw w.in_default.is at c.subrectangle_at.ensures.found)
     ] in
     record {
       begins = λ lt. ap (begins_run (row_at rows c.args.y)) (sym more) ∙ step.begins (omega (arith, more, runs.inside (c.loop-k.k + 1) lt, runs.within (c.loop-k.k + 1 + 1) (omega (arith, lt))));

@@ -1,0 +1,41 @@
+//! The rows of a rectangle whose colours or pixels stand one row behind another.
+
+ghost use Rattle.std.specs.Prelude.{◌≡◌, ◌*◌, ◌<◌, ◌≤◌, ◌^◌, length};
+
+/// The values of a rectangle, row by row from the top, with its size: at least one row of one place, and fewer than
+/// 2^16 of each.
+#[derive(Clone, Copy)]
+pub struct Rows<'a> {
+    pub values: &'a [u32],
+    pub width: usize,
+    pub height: usize,
+    pub ghost whole: { length values.now ≡ width * height },
+    pub ghost wide: { 1 ≤ width },
+    pub ghost high: { 1 ≤ height },
+    pub ghost columns: { width < 2 ^ 16 },
+    pub ghost lines: { height < 2 ^ 16 },
+}
+
+impl<'a> Rows<'a> {
+    ghost use Rattle.std.specs.Prelude.{◌≡◌, ◌<◌, ℕ, [], true, length};
+    ghost use Rattle.encode_rre.specs.Rows.{rows_in};
+    ghost use Rattle.encode_rre.specs.Subrectangles.{row_at, subrectangles_in};
+
+    /// The row at `y`.
+    pub fn row(&self, y: usize) -> &'a [u32]
+        requires { y < self.now.height }
+        ensures row { result.now ≡ row_at (rows_in self.now) y }
+        ensures len { length result.now ≡ self.now.width }
+    {
+        let start = y * self.width;
+        &self.values[start..start + self.width]
+    }
+
+    /// Whether the row at `y` is the one above it, so that no subrectangle begins in it.
+    pub fn repeats(&self, y: usize) -> bool
+        requires { y < self.now.height }
+        ensures { result ≡ true → (b : ℕ) → subrectangles_in b (rows_in self.now) y ≡ [] }
+    {
+        0 < y && self.row(y) == self.row(y - 1)
+    }
+}
