@@ -9,9 +9,10 @@ mod numbers;
 mod reading;
 #[cfg(test)]
 mod tests;
+mod text;
 mod writers;
 
-pub use ear::Ear;
+pub use ear::{Change, Ear, Prepared};
 pub use laws::{keeps_enough, keeps_the_fault, reads_in_pieces, reads_the_stream};
 use listed::Listed;
 use pixel_translate::{Area, PixelFormat};
