@@ -22,8 +22,9 @@ pub struct Reading {
     pub items: Vec<Item>,
 }
 
-/// Where the conversation stands behind an item.
-fn after(phase: Phase, item: &Item) -> Phase
+/// Where a conversation stands behind an item (RFC 6143 sections 7.1 to 7.3 and appendix A): version 3.3 has no choice, and
+/// an item that the phase doesn't expect changes nothing.
+pub fn phase_after(phase: Phase, item: &Item) -> Phase
     ensures { result ≡ after phase item.now }
 {
     match (phase, item) {
@@ -123,7 +124,7 @@ impl Reading {
         ensures rest { OnOk result (rest_held self.new.phase self.new.held ≡ fresh (after self.old.phase item)) }
         ensures short { OnOk result (IsShort self.new.phase (unfinished_held self.new.held)) }
     {
-        self.phase = after(self.phase, &item);
+        self.phase = phase_after(self.phase, &item);
         self.held = Held::Plain(ArrayVec::new());
         self.items.push(item)?;
         Ok(())

@@ -308,6 +308,40 @@ fn prepared_and_put_in_place(rt: HostRuntime) -> Result<(), Fail> {
 }
 
 #[test]
+fn answers_in_the_opening(rt: HostRuntime) -> Result<(), Fail> {
+    let desktop = Desktop {
+        width: 4,
+        height: 3,
+        name: b"demo",
+    };
+    let init =
+        b"\x00\x04\x00\x03\x20\x18\x00\x01\x00\xff\x00\xff\x00\xff\x10\x08\x00\x00\x00\x00\x00\x00\x00\x04demo";
+    let table: [(&[u8], &[u8]); 3] = [
+        (b"RFB 003.003\n\x01\x07", b"\x00\x00\x00\x01"),
+        (b"RFB 003.007\n\x01\x01", b"\x01\x01"),
+        (b"RFB 003.008\n\x01\x01", b"\x01\x01\x00\x00\x00\x00"),
+    ];
+    for (bytes, security) in table {
+        let heard = Ear::new(rt.alloc()).feed(bytes)?;
+        let items = heard.items.as_slice();
+        let mut expected = Vec::from_slice(rt.alloc(), security)?;
+        expected.extend_from_slice(init)?;
+        let said = greetings(rt.alloc(), &desktop, Phase::Version, items)?;
+        assert_eq!(rt; said, expected, "{bytes:?}");
+        let mut out = Vec::new(rt.alloc());
+        put_greeting(&mut out, &desktop, Phase::Version, &Item::Choice)?;
+        assert_eq!(rt; out.len(), 0, "no choice comes first");
+    }
+    let choice = Phase::Choice(Version::V37);
+    assert_eq!(rt;
+        phase_after(choice, &Item::Choice),
+        Phase::Init(Version::V37)
+    );
+    assert_eq!(rt; phase_after(Phase::Version, &Item::Choice), Phase::Version);
+    Ok(())
+}
+
+#[test]
 fn server_messages(rt: HostRuntime) -> Result<(), Fail> {
     let mut out = Vec::new(rt.alloc());
     put_version(&mut out)?;
