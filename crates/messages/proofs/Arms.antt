@@ -2,7 +2,6 @@
 use Rattle.std.proofs.Common.{◌≡◌, ℕ, ◌+◌, ◌-◌, ◌<◌, ◌≤◌, inl, inr, ltb, List, [], ◌∷◌, ◌++◌, length, take, drop, slice_index, min, unwrap_or, refl, sym, ap, subst, ◌∙◌, arith, append_assoc, append-nil}
 use Rattle.std.proofs.lemmas.Bool.Decides.{eqb_tells}
 use Rattle.std.proofs.lemmas.List.{length-drop, length-take, take_all}
-use Rattle.std.proofs.Math.Seq.{take-append_seam}
 use Rattle.messages.specs.declared.Encoding.TheVariants.{Raw}
 use Rattle.messages.specs.declared.Input.TheVariants as input
 use Rattle.messages.specs.declared.Item.{Item}
@@ -11,14 +10,12 @@ use Rattle.messages.specs.declared.Phase.{Phase}
 use Rattle.messages.specs.declared.Fault.{Fault}
 use Rattle.messages.specs.declared.heads.Head.{Head}
 use Rattle.messages.specs.declared.held.Held.{Held}
-use Rattle.messages.specs.declared.held.Held.TheVariants as held
 use Rattle.messages.specs.declared.held.Numbers.{Numbers}
-use Rattle.messages.specs.declared.held.Text.{Text}
+use Rattle.messages.specs.declared.text.Text.{Text}
 use Rattle.messages.specs.Grammar.{text_limit, after}
 use Rattle.messages.specs.Reading.{Given, Unfinished, plain, encodings, cut_text, faulted, Rest}
 use Rattle.messages.specs.Steps.{head_length, IsHead, Told, keeps, says, fresh, head_tells, number_in, with_number, numbers_tell, adds, then_tells, tells}
 use Rattle.messages.specs.Kept.{kept, given_by, unfinished_numbers, unfinished_text, unfinished_held, rest_held, reads}
-use Rattle.messages.proofs.ListLemmas.{take-append_room}
 use Rattle.messages.proofs.Bulk.{text_item, head_ends, head_waits, number_ends, number_waits, text_ends, text_waits, fault_stays}
 
 -- what is left of a piece
@@ -130,6 +127,10 @@ come_is t t' piece used le f = omega (arith, same_number f, length-take used pie
 pub text_short : (t t' : Text) (piece : List ℕ) (used : ℕ) → Takes t t' piece used → length t'.kept.items ≤ text_limit
 text_short t t' piece used f = omega (arith, ap length (same_kept f), length-take text_limit (t.kept.items ++ take used piece))
 
+pub text_lacks : (t t' : Text) (bytes : List ℕ) → unfinished_text t' ≡ cut_text t.length (take text_limit (t.kept.items ++ bytes)) (t.come + length bytes) → t.come + length bytes < t.length
+    → (t'.come < t'.length) × (length t'.kept.items ≤ text_limit)
+text_lacks t t' bytes f lt = (omega (arith, same_number f, same_length f, lt), omega (arith, ap length (same_kept f), length-take text_limit (t.kept.items ++ bytes)))
+
 pub text_goes_on : (items : List Item) (p : Phase) (held held' : Held) (t t' : Text) (piece : List ℕ) (missing used : ℕ) → unfinished_held held ≡ unfinished_text t → unfinished_held held' ≡ unfinished_text t'
     → t.come + missing ≡ t.length → used ≡ min missing (length piece) → length t.kept.items ≤ text_limit → Takes t t' piece used → t'.come < t'.length
     → reads items p held' [] ≡ reads items p held piece
@@ -159,30 +160,3 @@ text_end items items' p p' held held' t t' piece missing used said e whole least
 
 pub fault_goes_on : (items : List Item) (p : Phase) (held : Held) (k : Fault) (piece : List ℕ) → unfinished_held held ≡ faulted k → reads items p held [] ≡ reads items p held piece
 fault_goes_on items p held k piece e = all_taken items p (faulted k) (faulted k) (rest_held p held) (rest_held p held) piece (ap (kept p) e) (fault_stays p k piece) (ap (kept p) e)
-
--- ---- a piece behind a part of a text
-
-pub part_told : (p : Phase) (t t' : Text) (piece : List ℕ) (missing used : ℕ) (none : List Item) → t.come + missing ≡ t.length → used ≡ min missing (length piece) → length t.kept.items ≤ text_limit
-    → Takes t t' piece used → t'.come < t'.length → none ≡ [] → (let told : Told = record { items = none; rest = kept p (unfinished_text t') } in told) ≡ tells (kept p (unfinished_text t)) piece
-part_told p t t' piece missing used none whole least short f lt e =
-    ap (λ (is : List Item). let told : Told = record { items = is; rest = kept p (unfinished_text t') } in told) e
-    ∙ text_goes_on [] p (held.Text t) (held.Text t') t t' piece missing used refl refl whole least short f lt
-
-pub whole_told : (p : Phase) (t t' : Text) (piece : List ℕ) (missing used : ℕ) (said : Item) (behind : Told) (items : List Item) → t.come + missing ≡ t.length → used ≡ min missing (length piece)
-    → t.come < t.length → Takes t t' piece used → t'.length ≤ t'.come → said ≡ item.Input (input.Text t'.kept.items (ltb text_limit t'.length))
-    → behind ≡ tells (fresh p) (take (length piece - used) (drop used piece)) → items ≡ said ∷ behind.items
-    → (let told : Told = record { items = items; rest = behind.rest } in told) ≡ tells (kept p (unfinished_text t)) piece
-whole_told p t t' piece missing used said behind items whole least lt f ge g e h =
-    let last : Item = text_item t.length (t.kept.items ++ take used piece) in
-    let said_is : said ≡ last =
-    g ∙ ap (λ (n : ℕ). item.Input (input.Text t'.kept.items (ltb text_limit n))) (same_length f) ∙ ap (λ (b : List ℕ). item.Input (input.Text b (ltb text_limit t.length))) (same_kept f) in
-    ap (λ (is : List Item). let told : Told = record { items = is; rest = behind.rest } in told) (h ∙ ap (λ (i : Item). i ∷ behind.items) said_is)
-    ∙ ap (λ (s : Told). adds (last ∷ []) s) (e ∙ ap (tells (fresh p)) (left_of used piece))
-    ∙ sym (text_ends p t.length piece t.kept.items t.come used (omega (arith, come_is t t' piece used (omega (arith, least)) f, same_length f, ge, least, whole)) (omega (arith, come_is t t' piece used (omega (arith, least)) f, same_length f, ge, lt)) (omega (arith, least)))
-
-pub cut_is : (t t' : Text) (piece : List ℕ) (used : ℕ) → length t.kept.items ≤ text_limit → Takes t t' piece used
-    → cut_text t'.length (take (length t.kept.items) t'.kept.items) t.come ≡ unfinished_text t
-cut_is t t' piece used short f =
-    ap (λ (n : ℕ). cut_text n (take (length t.kept.items) t'.kept.items) t.come) (same_length f)
-    ∙ ap (λ (b : List ℕ). cut_text t.length b t.come)
-    (ap (λ (b : List ℕ). take (length t.kept.items) b) (same_kept f ∙ take-append_room text_limit _ t.kept.items (take used piece) short refl) ∙ take-append_seam t.kept.items _)

@@ -1,13 +1,21 @@
 -- What an ear gives for a piece.
-use Rattle.std.proofs.Common.{◌≡◌, ℕ, Bool, true, false, cond, ◌&&◌, List, ◌++◌, length, drop, None, refl, sym, ap, ◌∙◌}
-use Rattle.std.specs.Prelude.{slice_index, nat_le, ◌==◌}
+use Rattle.std.proofs.Common.{◌≡◌, ℕ, Bool, true, false, cond, ◌&&◌, List, [], ◌+◌, ◌<◌, ◌≤◌, ◌++◌, length, drop, None, Some, refl, sym, ap, subst, ◌∙◌}
+use Rattle.std.proofs.lemmas.Result.{IfOk-weaker}
+use Rattle.std.specs.Prelude.{IfSome, IfOk, Result, slice_index, nat_le, ◌==◌}
 use Rattle.std.proofs.Math.Seq.{drop-append_seam}
+use Rattle.messages.specs.declared.Fault.{Fault}
 use Rattle.messages.specs.declared.Item.{Item}
 use Rattle.messages.specs.declared.Phase.{Phase}
 use Rattle.messages.specs.declared.Phase.TheVariants as phase
 use Rattle.messages.specs.Grammar.{End, waiting, faulty}
-use Rattle.messages.specs.Reading.{heard, Unfinished, Rest, rest, unfinished_of, fault_in, fault_kept, fault_of, new_items, KeepsEnough, KeepsTheFault}
-use Rattle.messages.specs.Steps.{Told, tells}
+use Rattle.messages.specs.Reading.{heard, Unfinished, plain, encodings, cut_text, faulted, Rest, rest, unfinished_of, fault_in, fault_kept, fault_of, new_items, KeepsEnough, KeepsTheFault}
+use Rattle.messages.specs.Steps.{Told, keeps, tells}
+use Rattle.messages.specs.declared.ear.Prepared.{Prepared}
+use Rattle.messages.specs.declared.text.Text.{Text}
+use Rattle.messages.specs.Grammar.{text_limit}
+use Rattle.messages.specs.Kept.{kept, unfinished_text}
+use Rattle.messages.specs.Progress.{Progress, becomes, text_goes_on, advanced, CanAdvance}
+use Rattle.messages.proofs.Bulk.{text_waits, fault_stays}
 use Rattle.messages.proofs.Telling.{heard_tells}
 
 pub fed_items : (s piece : List ℕ) (r : Rest) (t : Told) → r ≡ rest s → t ≡ tells r piece → t.items ≡ new_items s piece
@@ -50,3 +58,70 @@ keeps_enough s r t e =
           (heard_tells r t).items
           ∙ ap (λ (is : List Item). (heard r).items ++ is) (sym (ap (λ (u : Told). u.items) told) ∙ same_behind (heard s).items (tells (rest s) t).items added (sym (heard_tells s t).items ∙ f)),
     )
+
+-- ---- what is prepared
+
+-- what was prepared is what a piece tells behind what is kept
+pub record Foretells (r : Rest) (piece : List ℕ) (p : Prepared) : Type 0 where
+  pub items : p.heard.items ≡ (tells r piece).items
+  pub fault : p.heard.fault ≡ fault_kept (tells r piece).rest
+  pub rest : advanced r p.change ≡ (tells r piece).rest
+
+-- a text that goes on
+pub keeping_foretells : (r : Rest) (p : Phase) (t : Text) (piece : List ℕ) → r ≡ kept p (unfinished_text t) → t.come + length piece < t.length → length t.kept.items ≤ text_limit
+    → (q : Prepared) → q ≡ record { heard = record { items = []; fault = None }; change = text_goes_on piece } → Foretells r piece q
+keeping_foretells r p t piece e more short q f =
+    let told : tells r piece ≡ keeps p _ = ap (λ (s : Rest). tells s piece) e ∙ text_waits p t.length piece t.kept.items t.come more short in
+    record {
+      items = ap (λ (x : Prepared). x.heard.items) f ∙ sym (ap (λ (u : Told). u.items) told);
+      fault = ap (λ (x : Prepared). x.heard.fault) f ∙ sym (ap (λ (u : Told). fault_kept u.rest) told);
+      rest = ap (λ (x : Prepared). advanced r x.change) f ∙ ap (λ (s : Rest). advanced s (text_goes_on piece)) e ∙ sym (ap (λ (u : Told). u.rest) told);
+    }
+
+-- what was read
+pub reading_foretells : (r s : Rest) (piece : List ℕ) → r ≡ s
+    → (q : Prepared) → q ≡ record { heard = record { items = (tells s piece).items; fault = fault_kept (tells s piece).rest }; change = becomes (tells s piece).rest } → Foretells r piece q
+reading_foretells r s piece e q f =
+    record {
+      items = ap (λ (x : Prepared). x.heard.items) f ∙ sym (ap (λ (u : Rest). (tells u piece).items) e);
+      fault = ap (λ (x : Prepared). x.heard.fault) f ∙ sym (ap (λ (u : Rest). fault_kept (tells u piece).rest) e);
+      rest = ap (λ (x : Prepared). advanced r x.change) f ∙ sym (ap (λ (u : Rest). (tells u piece).rest) e);
+    }
+
+pub foretold_items : (s piece : List ℕ) (r : Rest) → r ≡ rest s → (p : Prepared) → Foretells r piece p → p.heard.items ≡ new_items s piece
+foretold_items s piece r e p f = f.items ∙ fed_items s piece r (tells r piece) e refl
+
+pub foretold_fault : (s piece : List ℕ) (r : Rest) → r ≡ rest s → (p : Prepared) → Foretells r piece p → p.heard.fault ≡ fault_of (heard (s ++ piece)).end
+foretold_fault s piece r e p f = f.fault ∙ fed_fault s piece r (tells r piece) e refl
+
+pub foretold_rest : (s piece : List ℕ) (r : Rest) → r ≡ rest s → (p : Prepared) → Foretells r piece p → advanced r p.change ≡ rest (s ++ piece)
+foretold_rest s piece r e p f = f.rest ∙ fed_rest s piece r (tells r piece) e refl
+
+-- behind a fault
+abbrev pub SameFault : Rest → Fault → Prepared → Type 0
+SameFault r k p = (p.heard.items ≡ []) × (p.heard.fault ≡ Some k) × (advanced r p.change ≡ r)
+
+pub foretold_faulted : (w : Phase) (k : Fault) (piece : List ℕ) (p : Prepared) → Foretells (kept w (faulted k)) piece p → SameFault (kept w (faulted k)) k p
+foretold_faulted w k piece p f =
+    let stays : tells (kept w (faulted k)) piece ≡ keeps w (faulted k) = fault_stays w k piece in (
+      f.items ∙ ap (λ (u : Told). u.items) stays,
+      f.fault ∙ ap (λ (u : Told). fault_kept u.rest) stays,
+      f.rest ∙ ap (λ (u : Told). u.rest) stays,
+    )
+
+pub faulted_then : {E : Type 0} (piece : List ℕ) (r : Rest) (prepared : Result Prepared E) → IfOk prepared (Foretells r piece) → IfSome (fault_kept r) (λ k. IfOk prepared (SameFault r k))
+faulted_then piece r prepared f = by_kept r.phase r.unfinished f
+  where
+    by_kept : (w : Phase) (u : Unfinished) → IfOk prepared (Foretells (kept w u) piece) → IfSome (fault_in u) (λ k. IfOk prepared (SameFault (kept w u) k))
+    by_kept w (plain bytes) f = tt
+    by_kept w (encodings count come given bytes) f = tt
+    by_kept w (cut_text long text come) f = tt
+    by_kept w (faulted k) f = IfOk-weaker prepared _ _ (foretold_faulted w k piece) f
+
+-- ---- what is put in place
+
+pub can_take : (r : Rest) (g : Progress) (p : Phase) (t : Text) (bytes : List ℕ) → r ≡ kept p (unfinished_text t) → g ≡ text_goes_on bytes → CanAdvance r g → t.come + length bytes < t.length
+can_take r g p t bytes e f h =
+    let Along : Rest → Type 0 = λ s. CanAdvance s (text_goes_on bytes) in
+    let Behind : Progress → Type 0 = λ q. CanAdvance r q in
+    subst Along e (subst Behind f h)

@@ -7,10 +7,13 @@ use Rattle.messages.specs.declared.Phase.TheVariants as phase
 use Rattle.messages.specs.declared.held.Held.{Held}
 use Rattle.messages.specs.declared.held.Held.TheVariants as held
 use Rattle.messages.specs.declared.held.Numbers.{Numbers}
-use Rattle.messages.specs.declared.held.Text.{Text}
+use Rattle.messages.specs.declared.text.Text.{Text}
 use Rattle.messages.specs.declared.reading.Reading.{Reading}
 use Rattle.messages.specs.Reading.{Given, Unfinished, plain, encodings, cut_text, faulted, Rest}
-use Rattle.messages.specs.Steps.{Told, fresh, tells, adds}
+use Rattle.messages.specs.declared.ear.Kind.{Kind}
+use Rattle.messages.specs.declared.ear.Kind.TheVariants as kind
+use Rattle.messages.specs.Progress.{Progress, becomes, text_goes_on}
+use Rattle.messages.specs.Steps.{IsShort, Told, fresh, tells, adds}
 
 abbrev pub given_by : Numbers → Given
 given_by n = record { first = n.first; copyrect = n.copyrect }
@@ -45,3 +48,13 @@ reads items p h bytes = adds items (tells (rest_held p h) bytes)
 -- bytes tell
 abbrev pub TellSame : List Item → List ℕ → List Item → List ℕ → Type 0
 TellSame items bytes others more = (v : Version) → adds others (tells (fresh (phase.Open v)) more) ≡ adds items (tells (fresh (phase.Open v)) bytes)
+
+-- how an ear goes on
+abbrev pub progress_of : Kind → Progress
+progress_of (kind.Becomes p h) = becomes (rest_held p h)
+progress_of (kind.TextGoesOn bytes) = text_goes_on bytes.items
+
+-- what the ear becomes leaves room for a byte more
+abbrev pub IsShortBehind : Kind → Type 0
+IsShortBehind (kind.Becomes p h) = IsShort p (unfinished_held h)
+IsShortBehind (kind.TextGoesOn bytes) = Unit {0}

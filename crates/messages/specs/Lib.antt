@@ -3,4 +3,5 @@ pub mod Reading
 pub mod Server
 pub mod Steps
 pub mod Kept
+pub mod Progress
 pub mod Examples

@@ -1,6 +1,9 @@
 //! The reader of a viewer's bytes.
-ghost use Rattle.std.specs.Prelude.{◌≡◌, ℕ, List, [], ◌++◌, IfOk, OnOk, OnErr};
+ghost use Rattle.std.specs.Prelude.{◌≡◌, ℕ, List, [], ◌++◌, IfOk, IfSome, OnOk, OnErr};
 ghost use Rattle.messages.specs.Reading.{rest, fault_kept, is_open_rest, fault_of, new_items, heard};
+ghost use Rattle.messages.specs.Steps.{IsShort, tells};
+ghost use Rattle.messages.specs.Progress.{becomes, text_goes_on, advanced, CanAdvance};
+ghost use Rattle.messages.specs.Kept.{unfinished_held, rest_held};
 
 use crate::held::Held;
 use crate::reading::{Reading, hear};
@@ -9,7 +12,6 @@ use arrayvec::ArrayVec;
 use listed::Listed;
 use std::alloc::{AllocError, Global};
 use std::marker::Model;
-use std::mem;
 
 /// What hears a viewer: where its conversation stands, and what is kept of a message that hasn't ended.
 ///
@@ -33,6 +35,76 @@ impl Model for Ear {
     ghost view = { λ a. rest_held a.phase a.held };
 
     ghost invariant = { λ a. IsShort a.phase (unfinished_held a.held) };
+}
+
+/// What an ear becomes by a piece that it was prepared for.
+#[derive(Debug, Drop)]
+pub struct Change {
+    kind: Kind,
+}
+
+/// How an ear goes on.
+#[derive(Debug, Drop)]
+enum Kind {
+    /// It keeps this.
+    Becomes(Phase, Held),
+    /// It keeps more bytes of its text, which they don't end.
+    TextGoesOn(Vec<u8>),
+}
+
+impl Model for Change {
+    ghost use Rattle.messages.specs.Progress.{Progress};
+
+    ghost Value = { Progress };
+
+    ghost use Rattle.messages.specs.Kept.{progress_of, IsShortBehind};
+
+    ghost view = { λ a. progress_of a.kind };
+
+    ghost invariant = { λ a. IsShortBehind a.kind };
+}
+
+/// What a piece would tell, and what the ear would become.
+#[derive(Debug, Drop)]
+pub struct Prepared {
+    /// What the piece adds.
+    pub heard: Heard,
+    /// What `Ear::commit` puts in place.
+    pub change: Change,
+}
+
+/// A text goes on by a piece that doesn't end it.
+fn keep_on(alloc: Global, piece: &[u8]) -> Result<Prepared, AllocError>
+    ensures { IfOk result (λ p. p ≡ record { heard = record { items = []; fault = None }; change = text_goes_on piece.now }) }
+{
+    Ok(Prepared {
+        heard: Heard {
+            items: Listed::new(alloc),
+            fault: None,
+        },
+        change: Change {
+            kind: Kind::TextGoesOn(piece.to_vec(alloc)?),
+        },
+    })
+}
+
+/// A piece is read behind what is kept.
+fn read_on(alloc: Global, phase: Phase, held: &Held, piece: &[u8]) -> Result<Prepared, AllocError>
+    requires { IsShort phase (unfinished_held held.now) }
+    ensures { let told = tells (rest_held phase held.now) piece.now in
+        IfOk result (λ p. p ≡ record { heard = record { items = told.items; fault = fault_kept told.rest }; change = becomes told.rest }) }
+{
+    let Reading { phase, held, items } = hear(alloc, phase, held, piece)?;
+    let fault = held.fault();
+    Ok(Prepared {
+        heard: Heard {
+            items: Listed::from_vec(items),
+            fault,
+        },
+        change: Change {
+            kind: Kind::Becomes(phase, held),
+        },
+    })
 }
 
 impl Ear {
@@ -79,31 +151,57 @@ impl Ear {
         self.held.fault().is_none() && matches!(self.phase, Phase::Open(_))
     }
 
-    /// Hears a piece of the viewer's bytes: the items that end in it, and the fault that the viewer has then. Behind a fault
-    /// nothing is read, and each further piece gives that fault again. It doesn't matter how the bytes are cut into pieces.
+    /// What a piece of the viewer's bytes would tell, and what the ear would become: the items that end in the piece, and
+    /// the fault that the viewer has then. Behind a fault nothing is read, and each further piece gives that fault again. It
+    /// doesn't matter how the bytes are cut into pieces.
+    ///
+    /// An error is want of memory. What is kept of a text that the piece doesn't end is not copied.
+    pub fn prepare(&self, piece: &[u8]) -> Result<Prepared, AllocError>
+        ensures items { (s : List ℕ) → self.now ≡ rest s → IfOk result (λ p. p.heard.items ≡ new_items s piece.now) }
+        ensures fault { (s : List ℕ) → self.now ≡ rest s → IfOk result (λ p. p.heard.fault ≡ fault_of (heard (s ++ piece.now)).end) }
+        ensures rest { (s : List ℕ) → self.now ≡ rest s → IfOk result (λ p. advanced self.now p.change ≡ rest (s ++ piece.now)) }
+        ensures faulted { IfSome (fault_kept self.now) (λ fault. IfOk result (λ p.
+            (p.heard.items ≡ []) × (p.heard.fault ≡ Some fault) × (advanced self.now p.change ≡ self.now))) }
+        ensures fits { IfOk result (λ p. CanAdvance self.now p.change) }
+    {
+        match &self.held {
+            Held::Text(text) if piece.len() < text.missing() => keep_on(self.alloc, piece),
+            held => read_on(self.alloc, self.phase, held, piece),
+        }
+    }
+
+    /// Becomes what was prepared. Right after `prepare` of this ear it may: no more is asked than that a text that goes on
+    /// still lacks more bytes than the change has. This takes no memory.
+    pub fn commit(&mut self, change: Change)
+        requires { CanAdvance self.old change }
+        ensures { self.new ≡ advanced self.old change }
+    {
+        match change.kind {
+            Kind::Becomes(phase, held) => {
+                self.phase = phase;
+                self.held = held;
+            }
+            Kind::TextGoesOn(bytes) => {
+                if let Held::Text(text) = &mut self.held {
+                    text.take(&bytes);
+                }
+            }
+        }
+    }
+
+    /// Hears a piece of the viewer's bytes: prepares what it would become, and becomes it.
     ///
     /// An error is want of memory, and leaves the ear as it was: the piece wasn't heard.
     pub fn feed(&mut self, piece: &[u8]) -> Result<Heard, AllocError>
         ensures items { (s : List ℕ) → self.old ≡ rest s → IfOk result (λ h. h.items ≡ new_items s piece.now) }
         ensures fault { (s : List ℕ) → self.old ≡ rest s → IfOk result (λ h. h.fault ≡ fault_of (heard (s ++ piece.now)).end) }
         ensures rest { (s : List ℕ) → self.old ≡ rest s → OnOk result (self.new ≡ rest (s ++ piece.now)) }
+        ensures faulted { IfSome (fault_kept self.old) (λ fault. IfOk result (λ h.
+            (h.items ≡ []) × (h.fault ≡ Some fault) × (self.new ≡ self.old))) }
         ensures err { OnErr result (self.new ≡ self.old) }
     {
-        let held = mem::replace(&mut self.held, Held::Plain(ArrayVec::new()));
-        match hear(self.alloc, self.phase, held, piece) {
-            Ok(Reading { phase, held, items }) => {
-                let fault = held.fault();
-                self.phase = phase;
-                self.held = held;
-                Ok(Heard {
-                    items: Listed::from_vec(items),
-                    fault,
-                })
-            }
-            Err(held) => {
-                self.held = held;
-                Err(AllocError)
-            }
-        }
+        let Prepared { heard, change } = self.prepare(piece)?;
+        self.commit(change);
+        Ok(heard)
     }
 }

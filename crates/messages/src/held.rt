@@ -1,22 +1,17 @@
 //! What is kept of a message that hasn't ended.
-ghost use Rattle.std.specs.Prelude.{◌≡◌, ◌+◌, ◌<◌, ◌≤◌, ◌++◌, [], length, take, nat_lt, unwrap_or, IfOk, OnOk, OnErr, IfSome, IfNone};
-ghost use Rattle.messages.specs.Grammar.{text_limit, encoding_of};
+ghost use Rattle.std.specs.Prelude.{◌≡◌, ◌+◌, ◌<◌, ◌≤◌, ◌++◌, [], length, take, unwrap_or, IfOk, IfSome, IfNone};
+ghost use Rattle.messages.specs.Grammar.{encoding_of};
 ghost use Rattle.messages.specs.declared.Encoding.TheVariants.{Raw};
 ghost use Rattle.messages.specs.declared.Item.TheVariants as item;
-ghost use Rattle.messages.specs.declared.Input.TheVariants as input;
-ghost use Rattle.messages.specs.Reading.{encodings, cut_text, fault_in};
+ghost use Rattle.messages.specs.Reading.{encodings, fault_in};
 ghost use Rattle.messages.specs.Steps.{number_in, nothing_given, with_number};
-ghost use Rattle.messages.specs.Kept.{given_by, unfinished_numbers, unfinished_text, unfinished_held};
+ghost use Rattle.messages.specs.Kept.{given_by, unfinished_numbers, unfinished_held};
 
 use crate::numbers::number_in;
-use crate::{Encoding, Fault, Input, Item};
+use crate::text::Text;
+use crate::{Encoding, Fault, Item};
 use arrayvec::ArrayVec;
-use listed::Listed;
 use std::alloc::{AllocError, Global};
-use std::mem;
-
-/// How many bytes of a text are kept.
-const TEXT_LIMIT: usize = 262_144;
 
 /// A list of encodings whose count has come.
 #[derive(Debug, Drop)]
@@ -31,17 +26,6 @@ pub struct Numbers {
     pub copyrect: bool,
     /// The bytes of the next one.
     pub next: ArrayVec<u8, 4>,
-}
-
-/// A text whose length has come.
-#[derive(Debug, Drop)]
-pub struct Text {
-    /// How many bytes the text has.
-    pub length: u32,
-    /// How many have come.
-    pub come: u32,
-    /// The first of them.
-    pub kept: Vec<u8>,
 }
 
 /// What is kept of a message that hasn't ended, or the fault behind which nothing is read.
@@ -120,73 +104,6 @@ impl Numbers {
             preferred: self.first.unwrap_or(Encoding::Raw),
             copyrect: self.copyrect,
         }
-    }
-}
-
-impl Text {
-    /// A text of so many bytes, of which none has come. Takes memory for what is kept of it.
-    pub fn new(alloc: Global, length: u32) -> Result<Text, AllocError>
-        ensures { IfOk result (λ t. unfinished_text t ≡ cut_text length [] 0) }
-    {
-        let room = (length as usize).min(TEXT_LIMIT);
-        Ok(Text {
-            length,
-            come: 0,
-            kept: Vec::with_capacity(alloc, room)?,
-        })
-    }
-
-    /// Takes bytes of the text. An error leaves it as it was.
-    pub fn take(&mut self, bytes: &[u8]) -> Result<(), AllocError>
-        requires fits { self.old.come + length bytes.now ≤ self.old.length }
-        requires kept { length self.old.kept.items ≤ text_limit }
-        ensures ok { OnOk result (unfinished_text self.new
-            ≡ cut_text self.old.length (take text_limit (self.old.kept.items ++ bytes.now)) (self.old.come + length bytes.now)) }
-        ensures err { OnErr result (unfinished_text self.new ≡ unfinished_text self.old) }
-    {
-        let room = TEXT_LIMIT - self.kept.len();
-        self.kept
-            .extend_from_slice(&bytes[..room.min(bytes.len())])?;
-        self.come += bytes.len() as u32;
-        Ok(())
-    }
-
-    /// How many bytes are still to come.
-    pub fn missing(&self) -> usize
-        requires { self.now.come ≤ self.now.length }
-        ensures { self.now.come + result ≡ self.now.length }
-    {
-        (self.length - self.come) as usize
-    }
-
-    /// What the text says, whose bytes are taken out of it.
-    pub fn finish(&mut self, alloc: Global) -> Item
-        ensures said { result ≡ item.Input (input.Text self.old.kept.items (nat_lt text_limit self.old.length)) }
-        ensures left { unfinished_text self.new ≡ cut_text self.old.length [] self.old.come }
-    {
-        let kept = mem::replace(&mut self.kept, Vec::new(alloc));
-        Item::Input(Input::Text {
-            text: Listed::from_vec(kept),
-            shortened: self.length as usize > TEXT_LIMIT,
-        })
-    }
-
-    /// The text with as many bytes as it had before.
-    pub fn cut_back(&mut self, kept: usize, come: u32)
-        ensures { unfinished_text self.new ≡ cut_text self.old.length (take kept self.old.kept.items) come }
-    {
-        self.kept.truncate(kept);
-        self.come = come;
-    }
-
-    /// The same text.
-    fn try_clone(&self, alloc: Global) -> Result<Text, AllocError>
-        ensures { IfOk result (λ t. unfinished_text t ≡ unfinished_text self.now) }
-    {
-        let mut text = Text::new(alloc, self.length)?;
-        text.kept.extend_from_slice(&self.kept)?;
-        text.come = self.come;
-        Ok(text)
     }
 }
 

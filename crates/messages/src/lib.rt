@@ -6,15 +6,19 @@ mod heads;
 mod held;
 mod laws;
 mod numbers;
+mod opening;
 mod reading;
 #[cfg(test)]
 mod tests;
+mod text;
 mod writers;
 
-pub use ear::Ear;
+pub use ear::{Change, Ear, Prepared};
 pub use laws::{keeps_enough, keeps_the_fault, reads_in_pieces, reads_the_stream};
 use listed::Listed;
+pub use opening::{Desktop, greetings, put_greeting};
 use pixel_translate::{Area, PixelFormat};
+pub use reading::phase_after;
 pub use writers::{
     put_bell, put_cut_text, put_result, put_security, put_server_init, put_update_head, put_version,
 };

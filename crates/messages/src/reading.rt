@@ -1,11 +1,12 @@
 //! The reading of a piece: by the fronts of messages, by numbers and by texts.
-ghost use Rattle.std.specs.Prelude.{◌≡◌, ◌+◌, ◌<◌, ◌≤◌, [], ◌∷◌, ◌++◌, length, drop, slice_index, IfOk, IfErr, vec_len, vec_capacity, OnOk, IfSome, IfNone};
+ghost use Rattle.std.specs.Prelude.{◌≡◌, ◌+◌, ◌<◌, ◌≤◌, [], ◌∷◌, ◌++◌, length, drop, slice_index, IfOk, OnOk, IfSome, IfNone};
 ghost use Rattle.messages.specs.Grammar.{after};
 ghost use Rattle.messages.specs.Steps.{fresh, head_length, head_tells, IsHead, tells, IsBegun, IsShort};
-ghost use Rattle.messages.specs.Kept.{unfinished_text, unfinished_held, kept, rest_held, reads, told_of, TellSame};
+ghost use Rattle.messages.specs.Kept.{unfinished_held, rest_held, reads, told_of, TellSame};
 
 use crate::heads::{Head, head_length, head_of, key, pointer, request};
-use crate::held::{Held, Numbers, Text};
+use crate::held::{Held, Numbers};
+use crate::text::Text;
 use crate::{Item, Phase, Version};
 use arrayvec::ArrayVec;
 use std::alloc::{AllocError, Global};
@@ -21,8 +22,9 @@ pub struct Reading {
     pub items: Vec<Item>,
 }
 
-/// Where the conversation stands behind an item.
-fn after(phase: Phase, item: &Item) -> Phase
+/// Where a conversation stands behind an item (RFC 6143 sections 7.1 to 7.3 and appendix A): version 3.3 has no choice, and
+/// an item that the phase doesn't expect changes nothing.
+pub fn phase_after(phase: Phase, item: &Item) -> Phase
     ensures { result ≡ after phase item.now }
 {
     match (phase, item) {
@@ -122,7 +124,7 @@ impl Reading {
         ensures rest { OnOk result (rest_held self.new.phase self.new.held ≡ fresh (after self.old.phase item)) }
         ensures short { OnOk result (IsShort self.new.phase (unfinished_held self.new.held)) }
     {
-        self.phase = after(self.phase, &item);
+        self.phase = phase_after(self.phase, &item);
         self.held = Held::Plain(ArrayVec::new());
         self.items.push(item)?;
         Ok(())
@@ -174,7 +176,7 @@ impl Reading {
             },
             Held::Text(text) => {
                 let used = text.missing().min(piece.len());
-                text.take(&piece[..used])?;
+                text.take(&piece[..used]);
                 if text.come < text.length {
                     return Ok(&[]);
                 }
@@ -217,77 +219,17 @@ impl Reading {
     }
 }
 
-/// What a piece tells behind what was kept. An error gives back what was kept.
-pub fn hear(alloc: Global, phase: Phase, held: Held, piece: &[u8]) -> Result<Reading, Held>
-    requires { IsShort phase (unfinished_held held) }
-    ensures told { IfOk result (λ reading. told_of reading ≡ tells (rest_held phase held) piece.now) }
+/// What a piece tells behind what is kept, which stays.
+pub fn hear(alloc: Global, phase: Phase, held: &Held, piece: &[u8]) -> Result<Reading, AllocError>
+    requires { IsShort phase (unfinished_held held.now) }
+    ensures told { IfOk result (λ reading. told_of reading ≡ tells (rest_held phase held.now) piece.now) }
     ensures short { IfOk result (λ reading. IsShort reading.phase (unfinished_held reading.held)) }
-    ensures err { IfErr result (λ given. unfinished_held given ≡ unfinished_held held) }
-{
-    match held {
-        Held::Text(text) => hear_text(alloc, phase, text, piece),
-        small => {
-            let Ok(copy) = small.try_clone(alloc) else {
-                return Err(small);
-            };
-            let mut reading = Reading {
-                phase,
-                held: small,
-                items: Vec::new(alloc),
-            };
-            match reading.read(alloc, piece) {
-                Ok(()) => Ok(reading),
-                Err(_) => Err(copy),
-            }
-        }
-    }
-}
-
-/// What a piece tells behind a message's end, with room for an item more.
-fn hear_behind(alloc: Global, phase: Phase, piece: &[u8]) -> Result<Reading, AllocError>
-    ensures told { IfOk result (λ reading. told_of reading ≡ tells (fresh phase) piece.now) }
-    ensures short { IfOk result (λ reading. IsShort reading.phase (unfinished_held reading.held)) }
-    ensures room { IfOk result (λ reading. vec_len reading.items < vec_capacity reading.items) }
 {
     let mut reading = Reading {
         phase,
-        held: Held::Plain(ArrayVec::new()),
+        held: held.try_clone(alloc)?,
         items: Vec::new(alloc),
     };
     reading.read(alloc, piece)?;
-    reading.items.reserve(1)?;
     Ok(reading)
-}
-
-/// What a piece tells behind a part of a text. An error gives back that part.
-fn hear_text(alloc: Global, phase: Phase, text: Text, piece: &[u8]) -> Result<Reading, Held>
-    requires { IsShort phase (unfinished_text text) }
-    ensures told { IfOk result (λ reading. told_of reading ≡ tells (kept phase (unfinished_text text)) piece.now) }
-    ensures short { IfOk result (λ reading. IsShort reading.phase (unfinished_held reading.held)) }
-    ensures err { IfErr result (λ given. unfinished_held given ≡ unfinished_text text) }
-{
-    let mut text = text;
-    let come = text.come;
-    let kept = text.kept.len();
-    let used = text.missing().min(piece.len());
-    let Ok(()) = text.take(&piece[..used]) else {
-        return Err(Held::Text(text));
-    };
-    if text.come < text.length {
-        return Ok(Reading {
-            phase,
-            held: Held::Text(text),
-            items: Vec::new(alloc),
-        });
-    }
-    match hear_behind(alloc, phase, &piece[used..]) {
-        Ok(mut reading) => {
-            reading.items.insert(0, text.finish(alloc)).unwrap();
-            Ok(reading)
-        }
-        Err(_) => {
-            text.cut_back(kept, come);
-            Err(Held::Text(text))
-        }
-    }
 }

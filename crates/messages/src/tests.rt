@@ -269,6 +269,79 @@ fn clones_and_getters(rt: HostRuntime) -> Result<(), Fail> {
 }
 
 #[test]
+fn prepared_and_put_in_place(rt: HostRuntime) -> Result<(), Fail> {
+    // In the midst of a request and of a text, at a text's end, and behind a fault: what a piece says, and its fault.
+    let table: [(&[u8], &[u8], &str, Option<Fault>); 4] = [
+        (b"\x03\x01\x00\x01\x00", b"\x02\x00\x04", "", None),
+        (b"\x06\x00\x00\x00\x00\x00\x00\x03a", b"b", "", None),
+        (
+            b"\x06\x00\x00\x00\x00\x00\x00\x03ab",
+            b"c\x07",
+            "Input(Text { text: Listed { elements: [97, 98, 99] }, shortened: false });",
+            Some(Fault::UnknownMessage(7)),
+        ),
+        (b"\x07", b"\x04", "", Some(Fault::UnknownMessage(7))),
+    ];
+    for (front, piece, said, fault) in table {
+        let mut ear = Ear::new(rt.alloc());
+        let bytes = opened(rt.alloc(), front)?;
+        listen(&mut ear, &bytes, &mut String::new(rt.alloc()))?;
+        let mut same = ear.try_clone()?;
+        let Prepared { heard, change } = ear.prepare(piece)?;
+        let mut items = String::new(rt.alloc());
+        for item in heard.items.as_slice() {
+            write!(items, "{item:?};")?;
+        }
+        assert_eq!(rt; items.as_str(), said, "{front:?}");
+        assert_eq!(rt; heard.fault, fault, "{front:?}");
+        // Nothing was heard yet, and what is put in place goes on as what was fed.
+        listen(&mut same, piece, &mut String::new(rt.alloc()))?;
+        ear.commit(change);
+        let behind = b"\x00\x03c\x05\x01\x00\x02\x00\x01";
+        let mut items = String::new(rt.alloc());
+        let mut again = String::new(rt.alloc());
+        let fault = listen(&mut ear, behind, &mut items)?;
+        assert_eq!(rt; listen(&mut same, behind, &mut again)?, fault, "{front:?}");
+        assert_eq!(rt; again, items, "{front:?}");
+    }
+    Ok(())
+}
+
+#[test]
+fn answers_in_the_opening(rt: HostRuntime) -> Result<(), Fail> {
+    let desktop = Desktop {
+        width: 4,
+        height: 3,
+        name: b"demo",
+    };
+    let init =
+        b"\x00\x04\x00\x03\x20\x18\x00\x01\x00\xff\x00\xff\x00\xff\x10\x08\x00\x00\x00\x00\x00\x00\x00\x04demo";
+    let table: [(&[u8], &[u8]); 3] = [
+        (b"RFB 003.003\n\x01\x07", b"\x00\x00\x00\x01"),
+        (b"RFB 003.007\n\x01\x01", b"\x01\x01"),
+        (b"RFB 003.008\n\x01\x01", b"\x01\x01\x00\x00\x00\x00"),
+    ];
+    for (bytes, security) in table {
+        let heard = Ear::new(rt.alloc()).feed(bytes)?;
+        let items = heard.items.as_slice();
+        let mut expected = Vec::from_slice(rt.alloc(), security)?;
+        expected.extend_from_slice(init)?;
+        let said = greetings(rt.alloc(), &desktop, Phase::Version, items)?;
+        assert_eq!(rt; said, expected, "{bytes:?}");
+        let mut out = Vec::new(rt.alloc());
+        put_greeting(&mut out, &desktop, Phase::Version, &Item::Choice)?;
+        assert_eq!(rt; out.len(), 0, "no choice comes first");
+    }
+    let choice = Phase::Choice(Version::V37);
+    assert_eq!(rt;
+        phase_after(choice, &Item::Choice),
+        Phase::Init(Version::V37)
+    );
+    assert_eq!(rt; phase_after(Phase::Version, &Item::Choice), Phase::Version);
+    Ok(())
+}
+
+#[test]
 fn server_messages(rt: HostRuntime) -> Result<(), Fail> {
     let mut out = Vec::new(rt.alloc());
     put_version(&mut out)?;

@@ -1,7 +1,7 @@
 //! The writers of the server's messages. Each appends to a vector, and takes memory at most once.
 //!
 //! An error is want of memory, and leaves the vector's elements as they were.
-ghost use Rattle.std.specs.Prelude.{◌≡◌, ◌+◌, ◌<◌, ◌≤◌, ◌^◌, ◌++◌, length, vec_len, vec_capacity, OnOk, OnErr};
+ghost use Rattle.std.specs.Prelude.{◌≡◌, ◌+◌, ◌≤◌, ◌++◌, length, vec_len, vec_capacity, OnOk, OnErr};
 ghost use Rattle.pixel_translate.specs.Pixel.{be32};
 ghost use Rattle.messages.specs.Server.{server_version, security, server_init, update_head, bell, cut_text};
 
@@ -48,15 +48,15 @@ fn append(out: &mut Vec<u8>, bytes: &[u8])
     out.extend_from_slice(bytes).unwrap();
 }
 
-/// Appends ServerInit: the width and height of the framebuffer in pixels, the server's pixel format and the name,
-/// which has fewer than 2^32 bytes (RFC 6143 section 7.3.2).
+/// Appends ServerInit: the width and height of the framebuffer in pixels, the server's pixel format and the name. The name
+/// has at most `u32::MAX` bytes, since its length is sent as a u32 (RFC 6143 section 7.3.2).
 pub fn put_server_init(
     out: &mut Vec<u8>,
     width: u16,
     height: u16,
     name: &[u8],
 ) -> Result<(), AllocError>
-    requires { length name.now < 2 ^ 32 }
+    requires { length name.now ≤ u32.MAX }
     ensures ok { OnOk result (out.new.items ≡ out.old.items ++ server_init width height name.now) }
     ensures err { OnErr result (out.new.items ≡ out.old.items) }
 {
@@ -87,9 +87,10 @@ pub fn put_bell(out: &mut Vec<u8>) -> Result<(), AllocError>
     out.extend_from_slice(&[2])
 }
 
-/// Appends a ServerCutText, of a text of fewer than 2^32 bytes (RFC 6143 section 7.6.4; LibVNCServer's `rfbSendServerCutText`).
+/// Appends a ServerCutText. The text has at most `u32::MAX` bytes, since its length is sent as a u32
+/// (RFC 6143 section 7.6.4; LibVNCServer's `rfbSendServerCutText`).
 pub fn put_cut_text(out: &mut Vec<u8>, text: &[u8]) -> Result<(), AllocError>
-    requires { length text.now < 2 ^ 32 }
+    requires { length text.now ≤ u32.MAX }
     ensures ok { OnOk result (out.new.items ≡ out.old.items ++ cut_text text.now) }
     ensures err { OnErr result (out.new.items ≡ out.old.items) }
 {

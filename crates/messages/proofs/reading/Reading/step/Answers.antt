@@ -18,10 +18,10 @@ pub returns-then-text-clause-reads : goal.returns-then-text-clause-reads
 returns-then-text-clause-reads c =
     let short = rw c.in-Text.is at c.requires.short in
     text_goes_on c.args.self.now.items.items c.args.self.now.phase c.args.self.now.held (held.Text c.take-in-Text.new.self) c.in-Text.text c.take-in-Text.new.self c.args.piece.now c.missing.result c.min-used.result
-    (ap unfinished_held c.in-Text.is) refl c.missing.ensures c.min-used.ensures short.1 c.in_ok-take-in-Text.ensures.ok c.if-text.true
+    (ap unfinished_held c.in-Text.is) refl c.missing.ensures c.min-used.ensures short.1 c.take-in-Text.ensures c.if-text.true
 
 pub returns-then-text-clause-short : goal.returns-then-text-clause-short
-returns-then-text-clause-short c = (c.if-text.true, text_short c.in-Text.text c.take-in-Text.new.self c.args.piece.now c.min-used.result c.in_ok-take-in-Text.ensures.ok)
+returns-then-text-clause-short c = (c.if-text.true, text_short c.in-Text.text c.take-in-Text.new.self c.args.piece.now c.min-used.result c.take-in-Text.ensures)
 
 pub returns-in-None-clause-reads : goal.returns-in-None-clause-reads
 returns-in-None-clause-reads c =
@@ -50,8 +50,8 @@ pub returns-in_ok-say-in-Text-clause-reads : goal.returns-in_ok-say-in-Text-clau
 returns-in_ok-say-in-Text-clause-reads c =
     let short = rw c.in-Text.is at c.requires.short in
     text_end c.args.self.now.items.items c.say-in-Text.new.self.items.items c.args.self.now.phase c.say-in-Text.new.self.phase c.args.self.now.held c.say-in-Text.new.self.held c.in-Text.text c.take-in-Text.new.self
-    c.args.piece.now c.missing.result c.min-used.result c.finish-item.result (ap unfinished_held c.in-Text.is) c.missing.ensures c.min-used.ensures short.0 c.requires.more c.in_ok-take-in-Text.ensures.ok
-    c.if-text.false c.finish-item.ensures.said c.in_ok-say-in-Text.ensures.items c.in_ok-say-in-Text.ensures.rest
+    c.args.piece.now c.missing.result c.min-used.result c.finish-item.result (ap unfinished_held c.in-Text.is) c.missing.ensures c.min-used.ensures short.0 c.requires.more c.take-in-Text.ensures
+    c.if-text.false c.finish-item.ensures c.in_ok-say-in-Text.ensures.items c.in_ok-say-in-Text.ensures.rest
 
 pub returns-in-Faulted-clause-reads : goal.returns-in-Faulted-clause-reads
 returns-in-Faulted-clause-reads c =

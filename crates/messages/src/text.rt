@@ -1,0 +1,89 @@
+//! What is kept of a text that hasn't ended.
+ghost use Rattle.std.specs.Prelude.{◌≡◌, ◌+◌, ◌<◌, ◌≤◌, ◌++◌, [], length, take, min, nat_lt, vec_len, vec_capacity, IfOk};
+ghost use Rattle.messages.specs.Grammar.{text_limit};
+
+use crate::{Input, Item};
+use listed::Listed;
+use std::alloc::{AllocError, Global};
+use std::mem;
+
+/// How many bytes of a text are kept.
+const TEXT_LIMIT: usize = 262_144;
+
+/// A text whose length has come.
+#[derive(Debug, Drop)]
+pub struct Text {
+    /// How many bytes the text has.
+    pub length: u32,
+    /// How many have come.
+    pub come: u32,
+    /// The first of them.
+    pub kept: Vec<u8>,
+    // While bytes are to come, there is room for those that will be kept.
+    ghost room: { come < length → min length text_limit ≤ vec_capacity kept },
+    ghost within: { vec_len kept ≤ come },
+}
+
+impl Text {
+    ghost use Rattle.messages.specs.declared.Item.TheVariants as item;
+    ghost use Rattle.messages.specs.declared.Input.TheVariants as input;
+    ghost use Rattle.messages.specs.Reading.{cut_text};
+    ghost use Rattle.messages.specs.Kept.{unfinished_text};
+
+    /// A text of so many bytes, of which none has come. Takes memory for what is kept of it.
+    pub fn new(alloc: Global, length: u32) -> Result<Text, AllocError>
+        ensures { IfOk result (λ t. unfinished_text t ≡ cut_text length [] 0) }
+    {
+        let room = (length as usize).min(TEXT_LIMIT);
+        Ok(Text {
+            length,
+            come: 0,
+            kept: Vec::with_capacity(alloc, room)?,
+        })
+    }
+
+    /// Takes bytes of the text. There is room for what is kept of them.
+    pub fn take(&mut self, bytes: &[u8])
+        requires more { self.old.come < self.old.length }
+        requires fits { self.old.come + length bytes.now ≤ self.old.length }
+        requires kept { length self.old.kept.items ≤ text_limit }
+        ensures { unfinished_text self.new
+            ≡ cut_text self.old.length (take text_limit (self.old.kept.items ++ bytes.now)) (self.old.come + length bytes.now) }
+    {
+        let room = TEXT_LIMIT - self.kept.len();
+        self.kept
+            .extend_from_slice(&bytes[..room.min(bytes.len())])
+            .unwrap();
+        self.come += bytes.len() as u32;
+    }
+
+    /// How many bytes are still to come.
+    pub fn missing(&self) -> usize
+        requires { self.now.come ≤ self.now.length }
+        ensures { self.now.come + result ≡ self.now.length }
+    {
+        (self.length - self.come) as usize
+    }
+
+    /// What the text says, whose bytes are taken out of it.
+    pub fn finish(&mut self, alloc: Global) -> Item
+        requires { self.old.length ≤ self.old.come }
+        ensures { result ≡ item.Input (input.Text self.old.kept.items (nat_lt text_limit self.old.length)) }
+    {
+        let kept = mem::replace(&mut self.kept, Vec::new(alloc));
+        Item::Input(Input::Text {
+            text: Listed::from_vec(kept),
+            shortened: self.length as usize > TEXT_LIMIT,
+        })
+    }
+
+    /// The same text.
+    pub fn try_clone(&self, alloc: Global) -> Result<Text, AllocError>
+        ensures { IfOk result (λ t. unfinished_text t ≡ unfinished_text self.now) }
+    {
+        let mut text = Text::new(alloc, self.length)?;
+        text.come = self.come;
+        text.kept.extend_from_slice(&self.kept)?;
+        Ok(text)
+    }
+}
