@@ -1,5 +1,5 @@
 -- What is done to a seat, and the inputs among items.
-use Rattle.std.proofs.Common.{◌≡◌, true, false, ℕ, ℤ, pos, negsuc, ◌+◌, List, [], ◌∷◌, ◌++◌, reverse, None, refl, sym, ap, ◌∙◌, arith, append_assoc}
+use Rattle.std.proofs.Common.{◌≡◌, true, false, ℕ, ℤ, pos, negsuc, ◌+◌, List, [], ◌∷◌, ◌++◌, reverse, Option, None, refl, sym, ap, ◌∙◌, arith, append_assoc}
 use Rattle.std.specs.Prelude.{min}
 use Rattle.std.specs.List.{filter_map, cons_option}
 use Rattle.std.proofs.lemmas.Bool.Decides.{nat_tests}
@@ -10,9 +10,14 @@ use Rattle.pixel_translate.specs.declared.Area.{Area}
 use Rattle.messages.specs.declared.Input.{Input}
 use Rattle.messages.specs.declared.Item.{Item}
 use Rattle.messages.specs.declared.Item.TheVariants as item
+use Rattle.messages.specs.declared.Phase.{Phase}
+use Rattle.messages.specs.declared.Fault.{Fault}
+use Rattle.messages.specs.Reading.{Rest, heard, new_items, fault_of}
+use Rattle.messages.specs.Server.{server_init, answers as greetings}
+use Rattle.viewer.specs.declared.Reply.{Reply}
 use Rattle.region.specs.Region.{in_rect}
-use Rattle.viewer.specs.Hearing.{input_of, after_items}
-use Rattle.viewer.specs.Viewer.{Viewer, area_places, after_item}
+use Rattle.viewer.specs.Hearing.{input_of, after_items, heard_reply}
+use Rattle.viewer.specs.Viewer.{Viewer, KeptViewer, area_places, after_item}
 
 item-size : {B : Type 0} (w h : ℕ) (i : Item) (v : Viewer B) → ((after_item w h i v).marks.width ≡ v.marks.width) × ((after_item w h i v).marks.height ≡ v.marks.height)
 item-size w h (item.Encodings preferred true) v = (refl, refl)
@@ -31,6 +36,20 @@ items-size w h [] v = (refl, refl)
 items-size w h (i ∷ is) v =
     let first = item-size w h i v in
     let rest = items-size w h is (after_item w h i v) in (rest.0 ∙ first.0, rest.1 ∙ first.1)
+
+-- what messages make of a viewer doesn't look at what is kept of its bytes
+pub items-heard : (w h : ℕ) (is : List Item) (v : KeptViewer) (r : Rest) → after_items w h is (record v { heard = r }) ≡ record (after_items w h is v) { heard = r }
+items-heard w h [] v r = refl
+items-heard w h (i ∷ is) v r = ap (after_items w h is) (item-heard i v r) ∙ items-heard w h is (after_item w h i v) r
+  where
+    item-heard : (i : Item) (v : KeptViewer) (r : Rest) → after_item w h i (record v { heard = r }) ≡ record (after_item w h i v) { heard = r }
+    item-heard (item.Encodings preferred copyrect) v r = refl
+    item-heard (item.Request incremental area) v r = refl
+    item-heard (item.Version version) v r = refl
+    item-heard item.Choice v r = refl
+    item-heard (item.Init shared) v r = refl
+    item-heard (item.Format f) v r = refl
+    item-heard (item.Input input) v r = refl
 
 -- an input at the end goes to the front of the inputs
 pub input-last : (items rest : List Item) (i : Input) (inputs all : List Input) → items ≡ rest ++ item.Input i ∷ [] → filter_map input_of items ++ reverse inputs ≡ all
@@ -67,3 +86,15 @@ area_cut w h a = fun_ext (λ x. fun_ext (λ y. go x y))
     go (negsuc x) y = refl
     go (pos x) (negsuc y) = grind (arith, nat_tests)
     go (pos x) (pos y) = grind (arith, nat_tests)
+
+-- a reply, by its parts
+pub reply-so : (w h w' h' : ℕ) (name before piece : List ℕ) (p : Phase) (items : List Item) (bytes : List ℕ) (inputs : List Input) (fault : Option Fault) → w ≡ w' → h ≡ h' → p ≡ (heard before).phase → items ≡ new_items before piece
+    → bytes ≡ greetings (server_init w h name) p items → inputs ≡ filter_map input_of items → fault ≡ fault_of (heard (before ++ piece)).end
+    → record { bytes = bytes; inputs = inputs; closed = fault } ≡ heard_reply w' h' name before piece
+reply-so w h w' h' name before piece p items bytes inputs fault wide high phase same said told fails =
+    let reply : List ℕ → List Input → Option Fault → Reply = λ b i f. record { bytes = b; inputs = i; closed = f } in
+    ap (λ b. reply b inputs fault)
+    (said ∙ ap (λ n. greetings (server_init n h name) p items) wide ∙ ap (λ n. greetings (server_init w' n name) p items) high
+    ∙ ap (λ (q : Phase). greetings (server_init w' h' name) q items) phase ∙ ap (λ (is : List Item). greetings (server_init w' h' name) (heard before).phase is) same)
+    ∙ ap (λ i. reply (greetings (server_init w' h' name) (heard before).phase (new_items before piece)) i fault) (told ∙ ap (λ (is : List Item). filter_map input_of is) same)
+    ∙ ap (λ f. reply (greetings (server_init w' h' name) (heard before).phase (new_items before piece)) (filter_map input_of (new_items before piece)) f) fails

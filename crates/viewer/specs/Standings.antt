@@ -11,4 +11,4 @@ viewer_in s = record { heard = s.ear; format = s.format; encoding = s.encoding; 
 
 -- the same with what a draft changes
 abbrev pub viewer_by : Standing → Draft → KeptViewer
-viewer_by s d = record { heard = d.ear; format = d.format; encoding = d.encoding; uses_copyrect = d.uses_copyrect; marks = marks_put s.marks d.marks; notices = s.notices }
+viewer_by s d = record { heard = s.ear; format = d.format; encoding = d.encoding; uses_copyrect = d.uses_copyrect; marks = marks_put s.marks d.marks; notices = s.notices }

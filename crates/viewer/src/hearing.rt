@@ -2,9 +2,7 @@
 
 ghost use Rattle.std.specs.Prelude.{◌≡◌, ◌&&◌, ◌||◌, ℕ, List, OnErr, ◌++◌, ◌<◌, ◌≤◌, ◌^◌, [], length, not, if◌then◌else◌, vec_len, vec_capacity, IfOk, OnOk};
 ghost use Rattle.std.specs.List.{filter_map};
-ghost use Rattle.messages.specs.Grammar.{after};
 ghost use Rattle.messages.specs.Reading.{rest, new_items, is_open_rest};
-ghost use Rattle.messages.specs.Server.{server_init, answer, answers};
 ghost use Rattle.region.specs.Region.{in_rect};
 ghost use Rattle.copy_schedule.specs.Marks.{pending, requested, without_copyrect};
 ghost use Rattle.viewer.specs.Hearing.{input_of, after_items, heard_reply};
@@ -17,20 +15,10 @@ use crate::notices::Notices;
 use crate::standing::{Draft, Standing, put_marks};
 use copy_schedule::Marks;
 use listed::Listed;
-use messages::{
-    Ear, Encoding, Input, Item, Phase, Version, put_result, put_security, put_server_init,
-};
+use messages::{Desktop, Ear, Encoding, Input, Item, Prepared, greetings};
 use pixel_translate::{Area, PixelFormat};
 use region::Rect;
 use std::alloc::{AllocError, Global};
-
-/// What a viewer is told of the desktop by its ServerInit (RFC 6143, 7.3.2).
-#[derive(Clone, Copy)]
-struct Desktop<'a> {
-    width: u16,
-    height: u16,
-    name: &'a [u8],
-}
 
 /// Whether a viewer would be given something now.
 pub fn is_pending(standing: &Standing) -> bool
@@ -54,11 +42,10 @@ fn clipped(width: u32, height: u32, area: Area) -> Rect
 }
 
 /// A viewer's draft, before its messages change it.
-fn draft_of(standing: &Standing, ear: Ear) -> Draft
-    ensures { viewer_by standing.now result ≡ record (viewer_in standing.now) { heard = ear } }
+fn draft_of(standing: &Standing) -> Draft
+    ensures { viewer_by standing.now result ≡ viewer_in standing.now }
 {
     Draft {
-        ear,
         format: standing.format,
         encoding: standing.encoding,
         uses_copyrect: standing.uses_copyrect,
@@ -131,70 +118,15 @@ fn take_item(draft: &mut Draft, standing: &Standing, item: &Item) -> Result<(), 
     }
 }
 
-/// What a viewer is once it heard these items last, by this ear. Its marks are copied at the first item that changes them.
-fn draft_after(standing: &Standing, ear: Ear, items: &[Item]) -> Result<Draft, AllocError>
-    ensures { IfOk result (λ draft. viewer_by standing.now draft ≡ after_items standing.now.marks.width standing.now.marks.height items.now (record (viewer_in standing.now) { heard = ear })) }
+/// What messages make of a viewer. Its marks are copied at the first message that changes them.
+fn draft_after(standing: &Standing, items: &[Item]) -> Result<Draft, AllocError>
+    ensures { IfOk result (λ draft. viewer_by standing.now draft ≡ after_items standing.now.marks.width standing.now.marks.height items.now (viewer_in standing.now)) }
 {
-    let mut draft = draft_of(standing, ear);
+    let mut draft = draft_of(standing);
     for item in items {
         take_item(&mut draft, standing, item)?;
     }
     Ok(draft)
-}
-
-/// Where a conversation stands behind an item (RFC 6143, 7.1 to 7.3 and appendix A).
-fn phase_after(phase: Phase, item: &Item) -> Phase
-    ensures { result ≡ after phase item.now }
-{
-    match (item, phase) {
-        (Item::Version(Version::V33), _) => Phase::Init(Version::V33),
-        (Item::Version(version), _) => Phase::Choice(*version),
-        (Item::Choice, Phase::Choice(version)) => Phase::Init(version),
-        (Item::Init { .. }, Phase::Init(version)) => Phase::Open(version),
-        _ => phase,
-    }
-}
-
-/// Appends what an item is answered (RFC 6143, 7.1 to 7.3 and appendix A).
-fn put_greeting(
-    out: &mut Vec<u8>,
-    desktop: &Desktop,
-    phase: Phase,
-    item: &Item,
-) -> Result<(), AllocError>
-    requires { length desktop.now.name.now < 2 ^ 32 }
-    ensures { OnOk result (out.new.items ≡ out.old.items ++ answer (server_init desktop.now.width desktop.now.height desktop.now.name.now) phase item.now) }
-{
-    match (item, phase) {
-        (Item::Version(version), _) => put_security(out, *version),
-        (Item::Choice, Phase::Choice(Version::V38)) => put_result(out),
-        (Item::Init { .. }, _) => put_server_init(
-            out,
-            desktop.width,
-            desktop.height,
-            desktop.name,
-        ),
-        _ => Ok(()),
-    }
-}
-
-/// What items are answered, from a phase on.
-fn greetings(
-    alloc: Global,
-    desktop: &Desktop,
-    phase: Phase,
-    items: &[Item],
-) -> Result<Vec<u8>, AllocError>
-    requires { length desktop.now.name.now < 2 ^ 32 }
-    ensures { IfOk result (λ bytes. bytes.items ≡ answers (server_init desktop.now.width desktop.now.height desktop.now.name.now) phase items.now) }
-{
-    let mut bytes = Vec::new(alloc);
-    let mut phase = phase;
-    for item in items {
-        put_greeting(&mut bytes, desktop, phase, item)?;
-        phase = phase_after(phase, item);
-    }
-    Ok(bytes)
 }
 
 /// A viewer that has just connected.
@@ -234,7 +166,6 @@ fn inputs_of(mut items: Vec<Item>, mut inputs: Vec<Input>) -> Vec<Input>
 fn put_draft(standing: &mut Standing, draft: Draft)
     ensures { viewer_in standing.new ≡ viewer_by standing.old draft }
 {
-    standing.ear = draft.ear;
     standing.format = draft.format;
     standing.encoding = draft.encoding;
     standing.uses_copyrect = draft.uses_copyrect;
@@ -248,7 +179,7 @@ pub fn hear_in(
     name: &[u8],
     piece: &[u8],
 ) -> Result<Reply, AllocError>
-    requires { length name.now < 2 ^ 32 }
+    requires { length name.now ≤ u32.MAX }
     ensures reply { (before : List ℕ) → standing.old.ear ≡ rest before →
         IfOk result (λ reply. reply ≡ heard_reply standing.old.marks.width standing.old.marks.height name.now before piece.now) }
     ensures viewer { (before : List ℕ) → standing.old.ear ≡ rest before →
@@ -257,19 +188,18 @@ pub fn hear_in(
     ensures height { standing.new.marks.height ≡ standing.old.marks.height }
     ensures err { OnErr result (standing.new ≡ standing.old) }
 {
-    let mut ear = standing.ear.try_clone()?;
-    let phase = ear.phase();
-    let heard = ear.feed(piece)?;
+    let Prepared { heard, change } = standing.ear.prepare(piece)?;
     let items = heard.items.into_vec();
     let desktop = Desktop {
         width: standing.marks.width() as u16,
         height: standing.marks.height() as u16,
         name,
     };
-    let bytes = greetings(alloc, &desktop, phase, &items)?;
+    let bytes = greetings(alloc, &desktop, standing.ear.phase(), &items)?;
     let room = Vec::with_capacity(alloc, items.len())?;
-    let draft = draft_after(standing, ear, &items)?;
+    let draft = draft_after(standing, &items)?;
     put_draft(standing, draft);
+    standing.ear.commit(change);
     Ok(Reply {
         bytes: Listed::from_vec(bytes),
         inputs: Listed::from_vec(inputs_of(items, room)),

@@ -30,7 +30,6 @@ pub struct Planned {
 /// What changes of a viewer by its messages; its marks stand here only where they change.
 #[derive(Drop)]
 pub struct Draft {
-    pub ear: Ear,
     pub format: PixelFormat,
     pub encoding: Encoding,
     pub uses_copyrect: bool,

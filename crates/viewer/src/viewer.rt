@@ -58,7 +58,7 @@ impl Viewer {
     /// why it is heard no further. The desktop's name is what its ServerInit tells it (7.3.2). After an `AllocError` the viewer
     /// is as it was.
     pub fn hear(&mut self, name: &[u8], piece: &[u8]) -> Result<Reply, AllocError>
-        requires { length name.now < 2 ^ 32 }
+        requires { length name.now ≤ u32.MAX }
         ensures reply { (before : List ℕ) → self.old.heard ≡ rest before →
             IfOk result (λ reply. reply ≡ heard_reply self.old.marks.width self.old.marks.height name.now before piece.now) }
         ensures viewer { (before : List ℕ) → self.old.heard ≡ rest before →

@@ -9,7 +9,7 @@ use Rattle.pixel_translate.specs.Pixel.{IsArea, be16}
 use Rattle.encode_raw.specs.Raw.{head, copyrect}
 use Rattle.encode_raw.specs.Reading.{◌>>=◌, Head, Shown, Patch, patched, copied}
 use Rattle.encode_raw.specs.Claims.{pixels_of, raw_reads_back}
-use Rattle.encode_raw.proofs.Back.{head_back}
+use Rattle.encode_raw.specs.Back.{head_back}
 use Rattle.encode_rre.specs.Claims.{IsReadAs, rre_reads_back}
 use Rattle.encode_hextile.specs.Claims.{hextile_reads_back}
 use Rattle.viewer_picture.specs.Messages.{written, data_at, rectangle_at}

@@ -5,4 +5,4 @@ use Rattle.viewer.proofs.hearing.draft_after.Given as goal
 
 -- what is left makes of the viewer now what all make of the viewer before
 abbrev pub invariant-loop-item : goal.invariant-loop-item
-invariant-loop-item l = after_items l.standing.marks.width l.standing.marks.height (drop l.item-index l.items) (viewer_by l.standing l.draft) ≡ after_items l.standing.marks.width l.standing.marks.height l.items (record (viewer_in l.standing) { heard = l.fn.ear })
+invariant-loop-item l = after_items l.standing.marks.width l.standing.marks.height (drop l.item-index l.items) (viewer_by l.standing l.draft) ≡ after_items l.standing.marks.width l.standing.marks.height l.items (viewer_in l.standing)

@@ -1,16 +1,38 @@
-use Rattle.std.proofs.lemmas.Grind.{common_steps}
-use Rattle.std.proofs.Common.{◌∙◌, ap, arith}
-use Rattle.messages.specs.Reading.{Rest}
-use Rattle.viewer.specs.Viewer.{Viewer}
+use Rattle.std.proofs.Common.{◌≡◌, ℕ, List, ◌++◌, sym, ap, ◌∙◌}
+use Rattle.messages.specs.declared.Item.{Item}
+use Rattle.messages.specs.Reading.{Rest, rest, new_items}
+use Rattle.viewer.specs.Viewer.{KeptViewer}
+use Rattle.std.specs.List.{filter_map}
+use Rattle.viewer.specs.Hearing.{input_of, after_items}
 use Rattle.viewer.specs.Standings.{viewer_in}
-use Rattle.viewer.proofs.HearingLemmas.{items-size}
+use Rattle.viewer.proofs.HearingLemmas.{items-size, items-heard, reply-so}
 use Rattle.viewer.proofs.hearing.hear_in.Goals as goal
 
+pub returns-clause-viewer : goal.returns-clause-viewer
+returns-clause-viewer c = λ before h.
+    let v : KeptViewer = viewer_in c.args.standing.now in
+    let items : List Item = c.deref-2.result.now in
+    let heard_items : items ≡ new_items before c.args.piece.now = c.deref-2.ensures.value ∙ c.into_vec-items.ensures ∙ c.in_ok-heard.ensures.items before h in
+    let ear : c.put_draft.new.standing.ear ≡ c.args.standing.now.ear = ap (λ (x : KeptViewer). x.heard) c.put_draft.ensures in
+    let becomes : c.commit.new.self ≡ rest (before ++ c.args.piece.now) = rw ear at c.commit.ensures ∙ c.in_ok-heard.ensures.rest before h in
+    ap (λ (x : KeptViewer). record x { heard = c.commit.new.self }) (c.put_draft.ensures ∙ c.in_ok-draft.ensures)
+    ∙ sym (items-heard v.marks.width v.marks.height items v c.commit.new.self)
+    ∙ ap (λ (r : Rest). after_items v.marks.width v.marks.height items (record v { heard = r })) becomes
+    ∙ ap (λ (is : List Item). after_items v.marks.width v.marks.height is (record v { heard = rest (before ++ c.args.piece.now) })) heard_items
+
 pub returns-clause-width : goal.returns-clause-width
-returns-clause-width c = ap (λ (v : Viewer Rest). v.marks.width) (c.put_draft.ensures ∙ c.in_ok-draft.ensures) ∙ (items-size {B = Rest} c.args.standing.now.marks.width c.args.standing.now.marks.height c.deref-2.result.now (record (viewer_in c.args.standing.now) { heard = c.feed.new.self })).0
+returns-clause-width c =
+    let v : KeptViewer = viewer_in c.args.standing.now in
+    ap (λ (x : KeptViewer). x.marks.width) (c.put_draft.ensures ∙ c.in_ok-draft.ensures) ∙ (items-size {B = Rest} v.marks.width v.marks.height c.deref-2.result.now v).0
 
 pub returns-clause-height : goal.returns-clause-height
-returns-clause-height c = ap (λ (v : Viewer Rest). v.marks.height) (c.put_draft.ensures ∙ c.in_ok-draft.ensures) ∙ (items-size {B = Rest} c.args.standing.now.marks.width c.args.standing.now.marks.height c.deref-2.result.now (record (viewer_in c.args.standing.now) { heard = c.feed.new.self })).1
+returns-clause-height c =
+    let v : KeptViewer = viewer_in c.args.standing.now in
+    ap (λ (x : KeptViewer). x.marks.height) (c.put_draft.ensures ∙ c.in_ok-draft.ensures) ∙ (items-size {B = Rest} v.marks.width v.marks.height c.deref-2.result.now v).1
 
 pub returns-clause-reply : goal.returns-clause-reply
-returns-clause-reply c = λ before h. let greeted = rw (c.width.ensures.same, c.height.ensures.same) at c.in_ok-bytes.ensures in grind (arith, common_steps, greeted)
+returns-clause-reply c = λ before h.
+    let heard_items : c.deref.result.now ≡ new_items before c.args.piece.now = c.deref.ensures.value ∙ c.into_vec-items.ensures ∙ c.in_ok-heard.ensures.items before h in
+    reply-so c.width.result c.height.result _ _ c.args.name.now before c.args.piece.now c.phase.result c.deref.result.now c.from_vec.result c.from_vec-2.result _ c.width.ensures.same c.height.ensures.same
+    (c.phase.ensures ∙ ap (λ (r : Rest). r.phase) h) heard_items (c.from_vec.ensures ∙ c.in_ok-bytes.ensures)
+    (c.from_vec-2.ensures ∙ c.inputs_of.ensures ∙ ap (λ (is : List Item). filter_map input_of is) (sym c.deref.ensures.value)) (c.in_ok-heard.ensures.fault before h)
