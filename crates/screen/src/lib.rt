@@ -8,12 +8,13 @@ mod limits;
 mod runs;
 mod screen;
 
-use listed::Listed;
-use messages::{Fault, Input};
-use region::Rect;
+pub use listed::Listed;
+pub use messages::{Fault, Input};
+pub use region::{Rect, Region, RegionError};
 pub use runs::{one_viewer_is_alone, pictures_are_shown, run, viewers_are_alone};
 pub use screen::Screen;
 use std::alloc::{AllocError, AllocFailed};
+use thiserror::Error;
 pub use viewer::Update;
 
 /// What a screen is made with.
@@ -29,26 +30,35 @@ pub struct Config {
     pub rects_per_update: u32,
 }
 
-/// Why a call is refused.
-#[derive(Clone, Copy, Debug, PartialEq, Eq)]
+/// Why a call is refused. Nothing has changed then. Its text is the variant's name.
+#[derive(Clone, Copy, Debug, PartialEq, Eq, Error)]
 pub enum ScreenError {
-    /// The width or the height is not from 1 to 8192, or there are more than 2^24 places.
+    /// The width or the height is not from 1 to 8192, or there are more than 2^24 places: make a smaller screen.
+    #[error("BadSize")]
     BadSize,
-    /// The name has more than 255 bytes.
+    /// The name has more than 255 bytes: shorten it.
+    #[error("BadName")]
     BadName,
-    /// The limit of rectangles is not from 1 to 1000.
+    /// The limit of rectangles is not from 1 to 1000: 50 serves where nothing is known of the viewers.
+    #[error("BadRectLimit")]
     BadRectLimit,
-    /// The rectangle is not on the screen, or its corners are in the wrong order.
+    /// The rectangle is not on the screen, or its corners are in the wrong order: clip it first.
+    #[error("BadRect")]
     BadRect,
-    /// There are not as many colours as places.
+    /// There are not as many colours as places: give one for each, row by row.
+    #[error("BadPixelCount")]
     BadPixelCount,
-    /// The text has more than 65,536 bytes.
+    /// The text has more than 65,536 bytes: shorten it.
+    #[error("TextTooLong")]
     TextTooLong,
-    /// No live viewer has the number.
+    /// No live viewer has the number: it never connected, or was closed.
+    #[error("NoViewer")]
     NoViewer,
-    /// A live viewer has the number already.
+    /// A live viewer has the number already: close it first, or take another number.
+    #[error("NumberInUse")]
     NumberInUse,
-    /// A growth was refused.
+    /// A growth was refused: make the call again once there is memory.
+    #[error("OutOfMemory")]
     OutOfMemory,
 }
 
@@ -74,7 +84,7 @@ impl<T: Drop> From<AllocFailed<T>> for ScreenError {
     }
 }
 
-/// One hold of the screen: a drawing call, or an event of one viewer.
+/// One event of the screen: a drawing call, or an event of one viewer.
 #[derive(Debug, Drop)]
 pub enum Event {
     /// The rectangle's colours `0x00RRGGBB`, row by row, replace those of the picture; no viewer is told.

@@ -1,6 +1,7 @@
-//! The screen: each call is one hold of it, and leaves it standing for the list of events so far.
+//! The screen: each call is one event, and leaves it standing for the list of events so far with its own behind it.
 
-ghost use Rattle.std.specs.Prelude.{◌≡◌, ◌≢◌, ◌++◌, ◌∷◌, [], List, IfSome, IfOk, OnOk, OnErr, MatchOption, MatchResult, IsOk, IsOkUnless, None};
+ghost use Rattle.std.specs.Prelude.{◌≡◌, ◌≢◌, ◌++◌, ◌∷◌, [], List, IfSome, IfOk, OnOk, OnErr, MatchOption, MatchResult, IsOk, IsOkUnless, IsSome, None, length, slice_index, is_some, ◌↔◌, ◌<◌, ◌+◌, ◌*◌};
+ghost use Rattle.messages.specs.Reading.{fault_kept};
 ghost use Rattle.screen.specs.declared.Config.{Config};
 ghost use Rattle.screen.specs.declared.Event.{Event};
 ghost use Rattle.screen.specs.Alone.{config_refusal, nothing_to_say, gives, something_to_send, told, Tells};
@@ -19,6 +20,7 @@ use crate::{Answer, Config, Event, ScreenError};
 use client_list::Clients;
 use framebuffer::{Framebuffer, destinations};
 use listed::Listed;
+use messages::Fault;
 use region::{Rect, Region};
 use std::alloc::{AllocError, Global};
 use std::marker::Model;
@@ -63,6 +65,52 @@ impl Screen {
             picture,
             viewers: Clients::new(alloc),
         })
+    }
+
+    /// The screen's columns, 1 to 8192.
+    pub fn width(&self) -> u32
+        ensures { result ≡ self.now.config.width }
+    {
+        self.config.width
+    }
+
+    /// The screen's rows, 1 to 8192.
+    pub fn height(&self) -> u32
+        ensures { result ≡ self.now.config.height }
+    {
+        self.config.height
+    }
+
+    /// The colour `0x00RRGGBB` of the place in column x of row y; None off the screen.
+    pub fn colour(&self, x: u32, y: u32) -> Option<u32>
+        ensures inside { IsSome result ↔ ((x < self.now.config.width) × (y < self.now.config.height)) }
+        ensures colour { IfSome result (λ colour. colour ≡ slice_index self.now.picture (y * self.now.config.width + x)) }
+    {
+        self.picture.colour(x, y)
+    }
+
+    /// How many viewers are live: connected, and not closed. A viewer that met a fault is live until it is closed.
+    pub fn viewer_count(&self) -> usize
+        ensures { result ≡ length self.now.viewers }
+    {
+        self.viewers.len()
+    }
+
+    /// Whether a live viewer has the number.
+    pub fn is_live(&self, number: u64) -> bool
+        ensures { result ≡ is_some (viewer_at self.now number) }
+    {
+        self.viewers.get(number).is_some()
+    }
+
+    /// Why a viewer is heard no further, if it met a fault. Refused as `NoViewer` where there is none with the number.
+    pub fn fault(&self, number: u64) -> Result<Option<Fault>, ScreenError>
+        ensures { MatchOption (viewer_at self.now number) (result ≡ Err ScreenError.NoViewer) (λ viewer. result ≡ Ok (fault_kept viewer.heard)) }
+    {
+        match self.viewers.get(number) {
+            Some(viewer) => Ok(viewer.fault()),
+            None => Err(ScreenError::NoViewer),
+        }
     }
 
     /// Replaces the colours of a rectangle by others, `0x00RRGGBB` row by row, whose top bytes are

@@ -1,7 +1,7 @@
 //! A viewer, as the screen keeps it.
 
 ghost use Rattle.std.specs.Prelude.{◌≡◌, ◌≢◌, ◌&&◌, ◌||◌, not, ℕ, List, ◌++◌, ◌≤◌, ◌<◌, ◌^◌, [], length, IfOk, IfSome, OnOk, OnErr};
-ghost use Rattle.messages.specs.Reading.{rest, new_items, is_open_rest};
+ghost use Rattle.messages.specs.Reading.{rest, new_items, is_open_rest, fault_kept};
 ghost use Rattle.region.specs.Region.{covers};
 ghost use Rattle.copy_schedule.specs.Marks.{marked, copied_by, pending, IsCutTo};
 ghost use Rattle.viewer.specs.Viewer.{none_wait, noticed, new_viewer, kept};
@@ -18,6 +18,7 @@ use crate::standing::Standing;
 use crate::update::Update;
 use copy_schedule::Prepared;
 use framebuffer::Framebuffer;
+use messages::Fault;
 use region::Region;
 use std::alloc::{AllocError, Global};
 use std::marker::Model;
@@ -75,6 +76,13 @@ impl Viewer {
         ensures { result ≡ (is_open_rest self.now.heard && (not (none_wait self.now.notices) || pending self.now.marks)) }
     {
         is_pending(&self.standing)
+    }
+
+    /// Why the viewer is heard no further, if a fault was met.
+    pub fn fault(&self) -> Option<Fault>
+        ensures { result ≡ fault_kept self.now.heard }
+    {
+        self.standing.ear.fault()
     }
 
     /// Cuts an update of the picture for the viewer, with at most so many copies and so many rectangles of colours; None where
