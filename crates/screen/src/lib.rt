@@ -151,6 +151,3 @@ pub struct Answer {
     /// Why nothing happened.
     pub refused: Option<ScreenError>,
 }
-
-#[cfg(test)]
-mod tests;

@@ -10,7 +10,7 @@ mod marks;
 mod plain;
 mod steps;
 
-use crate::{Answer, Config, Event, Screen, ScreenError, run};
+use screen::{Answer, Config, Event, Screen, ScreenError, run};
 use listed::Listed;
 use messages::Fault;
 use region::{Rect, Region, RegionError};

@@ -6,7 +6,7 @@ ghost use Rattle.std.specs.Prelude.{◌<◌};
 use super::copies::{COPYING, Copying, copy};
 use super::plain::{Picture, Viewer, is_in};
 use super::{OPENING, WITH_COPYRECT, config, rect, request};
-use crate::{Screen, ScreenError};
+use screen::{Screen, ScreenError};
 use region::Rect;
 use std::alloc::{AllocError, Global};
 use std::test::Fail;

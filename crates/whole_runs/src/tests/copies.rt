@@ -1,7 +1,7 @@
 //! The calls that copy, for viewers with and without CopyRect: each update byte for byte.
 
 use super::{expect_sent, rect, region, request, seat, shown};
-use crate::{Screen, ScreenError};
+use screen::{Screen, ScreenError};
 use region::Rect;
 use std::alloc::Global;
 use std::test::Fail;

@@ -1,7 +1,7 @@
 //! Writing and marking, and the encoding in which marked places are sent: each update byte for byte.
 
 use super::{OPENING, config, expect_sent, rect, region, request, seat, shown};
-use crate::Screen;
+use screen::Screen;
 use std::test::Fail;
 
 /// The place (0, 0), in the colour 0000ff.

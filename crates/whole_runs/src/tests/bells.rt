@@ -1,7 +1,7 @@
 //! Bells and cut texts, and what a viewer tells the application.
 
 use super::{OPENING, demo, expect_sent, request, seat};
-use crate::{Screen, ScreenError};
+use screen::{Screen, ScreenError};
 use messages::{Fault, Input};
 use std::test::Fail;
 

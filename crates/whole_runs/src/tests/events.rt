@@ -2,7 +2,7 @@
 //! and then every answer is the same: a call that was refused left the screen as it was.
 
 use super::{OPENING, WITH_COPYRECT, config, hear, paint, rect, region, request, shown};
-use crate::{Config, Event, Screen, ScreenError, run};
+use screen::{Config, Event, Screen, ScreenError, run};
 use listed::Listed;
 use region::{Rect, Region};
 use std::alloc::{AllocError, Global};

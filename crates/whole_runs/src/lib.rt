@@ -1,0 +1,6 @@
+//! Whole runs of a screen: worked examples written out from RFC 6143, calls that are made again where memory was refused, and
+//! long runs beside plain viewers. There are tests here, and nothing else.
+#![tactic(auto)]
+
+#[cfg(test)]
+mod tests;
