@@ -1,9 +1,9 @@
 -- The owed and the copied places, as the marks that they stand for.
-use Rattle.std.proofs.Common.{◌≡◌, ℕ, zero, suc, ◌+◌, ◌*◌, ◌/◌, ◌%◌, ◌<◌, ◌≤◌, zero-add, Bool, true, false, cond, not, ◌&&◌, ◌||◌, List, [], get_or, replicate, true≢false, refl, sym, ◌∙◌, ap, arith}
-use Rattle.std.specs.Prelude.{ℤ, pos, ◌+ℤ◌, ◌-ℤ◌, ◌≤ℤ◌, ◌<ℤ◌, nat_abs}
+use Rattle.std.proofs.Common.{◌≡◌, ℕ, ◌+◌, ◌*◌, ◌/◌, ◌%◌, ◌<◌, ◌≤◌, zero-add, Bool, true, false, cond, not, ◌&&◌, ◌||◌, List, [], get_or, replicate, true≢false, refl, sym, ◌∙◌, ap, arith}
+use Rattle.std.specs.Prelude.{ℤ, pos, ◌+ℤ◌, ◌-ℤ◌, ◌≤ℤ◌, nat_abs}
 use Rattle.std.proofs.lemmas.Bool.{and_parts}
 use Rattle.std.proofs.lemmas.Int.{ints}
-use Rattle.std.proofs.lemmas.Nat.{div-mul-add, mod-mul-add, mul-add-lt}
+use Rattle.std.proofs.lemmas.Nat.{mul-add-lt}
 use Rattle.std.proofs.lemmas.List.FromFn.{get_or-map-range_with_len, length-map-range_with_len}
 use Rattle.std.proofs.lemmas.List.Folds.{list_any_at, list_any_none}
 use Rattle.std.proofs.lemmas.List.{same_lists, length-replicate, get_or-replicate}
@@ -19,7 +19,7 @@ use Rattle.copy_schedule.specs.declared.kept.Kept.{Kept}
 use Rattle.region.specs.Places.{by_place, at_place, same_offset, IsOnScreen}
 use Rattle.copy_schedule.specs.Marks.{Marks, is_clean, is_owed, is_copied, mark_at, asked_at, with_marks, marked, lost_to, moved_mark, moved, asked_for, forgotten, without_copyrect, wanted, copyable, pending, after_sending}
 use Rattle.copy_schedule.specs.Kept.{kept_mark, LiesOn, IsKept, IsScreen, with_kept}
-use Rattle.region.proofs.Places.{on_screen-number, by_place-numbers, is_place}
+use Rattle.region.proofs.Places.{is_place}
 use Rattle.copy_schedule.proofs.SetLemmas.{lies_either, lies_part, lies_wider}
 use Rattle.region.proofs.Places.{same_by_place, below, value_on, value_at}
 

@@ -12,7 +12,7 @@ use Rattle.region.proofs.ScreenLemmas.{HasPlaces, rects_some}
 use Rattle.copy_schedule.specs.Marks.{IsCutTo}
 use Rattle.copy_schedule.specs.Kept.{LiesOn}
 use Rattle.copy_schedule.specs.Sets.{is_far_by, lies_between, rect_of}
-use Rattle.copy_schedule.specs.declared.places.Window.{Window}
+use Rattle.copy_schedule.specs.declared.windows.Window.{Window}
 use Rattle.copy_schedule.specs.Windows.{in_window}
 use Rattle.region.proofs.Places.{is_place}
 

@@ -1,4 +1,3 @@
-pub mod Plain
 pub mod Windows
 pub mod Marks
 pub mod Kept

@@ -1,7 +1,6 @@
 -- What a viewer's screen lacks, place by place, and what one update sends of it.
-use Rattle.std.specs.Prelude.{◌≡◌, ◌≤ℤ◌, ◌<ℤ◌, length, ◌≤◌, ℕ, ◌*◌, get_or, Bool, true, false, not, ◌&&◌, ◌||◌, if◌then◌else◌, List, take, replicate, ℤ, pos, ◌+ℤ◌, ◌-ℤ◌, Option, Some, None}
+use Rattle.std.specs.Prelude.{◌≡◌, length, ◌≤◌, ℕ, ◌*◌, Bool, true, false, not, ◌&&◌, ◌||◌, if◌then◌else◌, List, take, replicate, ℤ, pos, ◌+ℤ◌, ◌-ℤ◌, Option, Some, None}
 use Rattle.std.specs.List.{All}
-use Rattle.std.specs.Ordering.{int_eq}
 use Rattle.region.specs.declared.Rect.{Rect}
 use Rattle.region.specs.Region.{covers, on_screen, rects_of, order}
 use Rattle.copy_schedule.specs.declared.Cut.{Cut}
@@ -32,17 +31,6 @@ abbrev pub is_owed : Mark → Bool
 is_owed Clean = false
 is_owed Copied = false
 is_owed Owed = true
-
-abbrev pub is_mark : Mark → Mark → Bool
-is_mark Clean m = is_clean m
-is_mark Copied m = is_copied m
-is_mark Owed m = is_owed m
-
--- the mark, but Owed in place of Copied
-abbrev pub uncopied : Mark → Mark
-uncopied Clean = Clean
-uncopied Copied = Owed
-uncopied Owed = Owed
 
 -- the mark of a place, Clean off the screen
 abbrev pub mark_at : Marks → ℤ → ℤ → Mark
@@ -109,10 +97,6 @@ without_copyrect m = with_marks m (λ x y. if is_copied (mark_at m x y) then Owe
 -- the places that are asked for and not clean
 abbrev pub wanted : Marks → ℤ → ℤ → Bool
 wanted m x y = asked_at m x y && not (is_clean (mark_at m x y))
-
--- the same of the place with a number
-abbrev pub is_wanted : List Mark → List Bool → ℕ → Bool
-is_wanted marks asked k = get_or asked k false && not (is_clean (get_or marks k Clean))
 
 -- those of them whose pixels the viewer has at places that are asked for too
 abbrev pub copyable : Marks → ℤ → ℤ → Bool

@@ -1,7 +1,7 @@
 -- Places that move, as far as a screen goes.
 use Rattle.std.specs.Prelude.{ℕ, Bool, ◌||◌, ◌&&◌, ℤ, pos, negsuc, int_le}
 use Rattle.region.specs.declared.Rect.{Rect}
-use Rattle.copy_schedule.specs.declared.places.Window.{Window}
+use Rattle.copy_schedule.specs.declared.windows.Window.{Window}
 
 -- a move by so many columns, or rows, leads from each place of a screen off it
 abbrev pub is_far_by : ℤ → Bool

@@ -4,24 +4,18 @@
 //! Each call is one equation with a definition of `specs/Marks.antt`. The rectangles that an update sends are the first ones of
 //! the canonical list of a set of places: its rows in maximal bands of equal contents, each band in maximal intervals.
 //!
-//! `marks` holds three regions: the owed, the copied and the asked places. `sets` has set operations, `kept` what drawing and
-//! requests do to the owed and the copied places, `chosen` what an update sends. Every call makes its new regions first and then
-//! puts them in place, so a refused one changes nothing.
-//!
-//! `plain` has the same calls on a mark for each place: the definition as a program, with which the tests compare. `places` goes
-//! over windows of a screen, `copies` over what a copy does to such marks, `rects` finds their canonical lists.
+//! `marks` holds three regions: the owed, the copied and the asked places. `sets` has set operations, of which `windows` finds
+//! a rectangle's part of a screen; `kept` has what drawing and requests do to the owed and the copied places, and `chosen` what
+//! an update sends. Every call makes its new regions first and then puts them in place, so a refused one changes nothing.
 #![tactic(auto)]
 
 ghost use Rattle.region.specs.Copies.{copies_are_in_order};
 
 mod chosen;
-mod copies;
 mod kept;
 mod marks;
-mod places;
-mod plain;
-mod rects;
 mod sets;
+mod windows;
 
 use listed::Listed;
 pub use marks::{Marks, Prepared};

@@ -7,7 +7,7 @@ ghost use Rattle.region.specs.Places.{IsOnScreen};
 ghost use Rattle.copy_schedule.specs.Kept.{LiesOn};
 ghost use Rattle.copy_schedule.specs.Sets.{is_far_by, lies_between, rect_of};
 
-use crate::places::{Window, window_of};
+use crate::windows::{Window, window_of};
 use region::{Rect, Region, RegionError};
 use std::alloc::{AllocError, Global};
 

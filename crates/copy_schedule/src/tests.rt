@@ -5,7 +5,7 @@ ghost use Rattle.std.specs.Prelude.{◌≤◌, ◌≤ℤ◌, pos, IfOk};
 ghost use Rattle.copy_schedule.specs.Marks.{IsCutTo};
 
 use super::*;
-use plain::PlainMarks;
+use plain::{PlainMarks, is_chosen, plain_rects};
 use region::Region;
 use sets::{moved_by, screen_places};
 use std::alloc::{AllocError, Global};
@@ -13,6 +13,7 @@ use std::test::Fail;
 
 mod again;
 mod beside;
+mod plain;
 
 const ALL: Rect = Rect {
     x1: 0,
@@ -70,9 +71,7 @@ fn copy(
 
 /// Marks of a screen that the viewer has whole.
 fn all_clean(alloc: Global, width: u32, height: u32) -> Result<Marks, AllocError>
-    requires some_columns { 1 ≤ width }
     requires columns { width ≤ 8192 }
-    requires some_rows { 1 ≤ height }
     requires rows { height ≤ 8192 }
 {
     let mut marks = Marks::new(alloc, width, height)?;
@@ -290,45 +289,18 @@ fn a_copy_of_what_is_owed_is_owed(rt: HostRuntime) -> Result<(), Fail> {
     Ok(())
 }
 
-fn number(at: i32) -> usize {
-    usize::try_from(at).unwrap_or(usize::MAX)
-}
-
-/// Whether a place is chosen; none is off the screen.
-fn is_chosen(chosen: &[bool], width: usize, x: usize, y: usize) -> bool {
-    x < width
-        && chosen
-            .get(y.wrapping_mul(width).wrapping_add(x))
-            .copied()
-            .unwrap_or(false)
-}
-
-/// Whether two rows have the same places.
-fn same_rows(chosen: &[bool], width: usize, y: usize, other: usize) -> bool {
-    (0..width).all(|x| is_chosen(chosen, width, x, y) == is_chosen(chosen, width, x, other))
-}
-
-/// The canonical list as it is defined: of each row that begins a band, each maximal interval, down to the band's end.
-fn plain_rects(
+/// Each chosen place as a rectangle of its own.
+fn unit_rects(
     alloc: Global,
-    width: usize,
-    height: usize,
+    width: i32,
+    height: i32,
     chosen: &[bool],
-) -> Result<Vec<(usize, usize, usize, usize)>, AllocError> {
+) -> Result<Vec<Rect>, AllocError> {
     let mut rects = Vec::new(alloc);
     for y in 0..height {
-        if y > 0 && same_rows(chosen, width, y, y - 1) {
-            continue;
-        }
-        let bottom = (y..height)
-            .find(|&below| !same_rows(chosen, width, below, y))
-            .unwrap_or(height);
         for x in 0..width {
-            if is_chosen(chosen, width, x, y) && (x == 0 || !is_chosen(chosen, width, x - 1, y)) {
-                let end = (x..width)
-                    .find(|&behind| !is_chosen(chosen, width, behind, y))
-                    .unwrap_or(width);
-                rects.push((x, y, end, bottom))?;
+            if is_chosen(chosen, width, x, y) {
+                rects.push(rect(x, y, x.saturating_add(1), y.saturating_add(1)))?;
             }
         }
     }
@@ -340,23 +312,17 @@ fn canonical_lists_are_those_of_a_plain_program(rt: HostRuntime) -> Result<(), F
     let alloc = rt.alloc();
     let mut state: u32 = 1;
     for case in 0..300u32 {
-        let width = 1 + case as usize % 9;
-        let height = 1 + case as usize / 9 % 7;
-        let mut chosen = vec![in alloc; false; width * height]?;
-        for place in 0..chosen.len() {
+        let width = 1 + case % 9;
+        let height = 1 + case / 9 % 7;
+        let mut chosen = vec![in alloc; false; (width * height) as usize]?;
+        for place in chosen.iter_mut() {
             state = state.wrapping_mul(1_103_515_245).wrapping_add(12345);
-            chosen[place] = (state >> 16) % 4 < 1 + case / 63 % 4;
+            *place = (state >> 16) % 4 < 1 + case / 63 % 4;
         }
-        assert_eq!(rt; chosen.len(), width * height);
-        let rects = rects::rects_where(alloc, width, height, &chosen, usize::MAX)?;
+        let (width, height) = (width as i32, height as i32);
+        let region = region_of(alloc, &unit_rects(alloc, width, height, &chosen)?)?;
         let plain = plain_rects(alloc, width, height, &chosen)?;
-        assert_eq!(rt; rects.len(), plain.len(), "in case {case}");
-        for (rect, (x1, y1, x2, y2)) in rects.iter().zip(plain.iter()) {
-            assert_eq!(rt; number(rect.x1), *x1, "in case {case}");
-            assert_eq!(rt; number(rect.y1), *y1, "in case {case}");
-            assert_eq!(rt; number(rect.x2), *x2, "in case {case}");
-            assert_eq!(rt; number(rect.y2), *y2, "in case {case}");
-        }
+        assert!(rt; has_rects(&region, alloc, &plain)?, "in case {case}");
     }
     Ok(())
 }

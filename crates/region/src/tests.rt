@@ -5,6 +5,8 @@ ghost use Rattle.std.specs.Prelude.{◌<◌};
 use super::*;
 use std::test::Fail;
 
+mod again;
+
 fn rect(x1: i32, y1: i32, x2: i32, y2: i32) -> Rect {
     Rect { x1, y1, x2, y2 }
 }

@@ -41,15 +41,19 @@ struct Both {
     plain: PlainMarks,
 }
 
-fn is_listed(region: &Region, alloc: Global, rects: Listed<Rect>) -> Result<bool, AllocError> {
-    has_rects(region, alloc, rects.as_slice())
-}
-
 /// Whether both have the same marks, offset and asked places.
 fn are_alike(both: &Both, alloc: Global) -> Result<bool, AllocError> {
-    let owed = is_listed(both.marks.modified(), alloc, both.plain.modified(alloc)?)?;
-    let copied = is_listed(both.marks.copied(), alloc, both.plain.copied(alloc)?)?;
-    let asked = is_listed(both.marks.requested(), alloc, both.plain.requested(alloc)?)?;
+    let owed = has_rects(
+        both.marks.modified(),
+        alloc,
+        &both.plain.with_mark(alloc, Mark::Owed)?,
+    )?;
+    let copied = has_rects(
+        both.marks.copied(),
+        alloc,
+        &both.plain.with_mark(alloc, Mark::Copied)?,
+    )?;
+    let asked = has_rects(both.marks.requested(), alloc, &both.plain.asked(alloc)?)?;
     let offset = both.marks.offset() == both.plain.offset();
     Ok(owed && copied && asked && offset && both.marks.pending() == both.plain.pending())
 }
@@ -78,8 +82,7 @@ fn copy_both(
         dy,
         uses_copyrect,
     )?;
-    both.plain
-        .copy(alloc, rects.as_slice(), dx, dy, uses_copyrect)
+    both.plain.copy(rects.as_slice(), offset, uses_copyrect)
 }
 
 fn request_both(both: &mut Both, asked: Rect, incremental: bool) -> Result<(), AllocError> {
@@ -101,12 +104,7 @@ fn cut_both(both: &mut Both, alloc: Global, limit: u32) -> Result<bool, AllocErr
     let cut = both.marks.cut(limit)?;
     let plain = both.plain.cut(alloc, limit)?;
     Ok(match plain {
-        Some(plain) => is_cut(
-            &cut,
-            plain.copies.as_slice(),
-            plain.offset,
-            plain.pixels.as_slice(),
-        ),
+        Some(plain) => is_cut(&cut, &plain.copies, plain.offset, &plain.pixels),
         None => cut.is_none(),
     })
 }
