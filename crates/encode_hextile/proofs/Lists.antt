@@ -13,10 +13,9 @@ use Rattle.pixel_translate.specs.declared.BitsPerPixel.{BitsPerPixel}
 use Rattle.pixel_translate.specs.declared.BitsPerPixel.TheVariants.{Eight, Sixteen, ThirtyTwo}
 use Rattle.pixel_translate.specs.Pixel.{bit_count, bytes_per_pixel, pixel_bytes}
 use Rattle.encode_rre.specs.declared.Subrectangle.{Subrectangle}
-use Rattle.encode_rre.specs.Subrectangles.{rows_of, row_at, times, background_of, run_at, is_above, stretch, subrectangles_in, subrectangles, begins_subrectangle, subrectangle_from}
+use Rattle.encode_rre.specs.Subrectangles.{FindsTheBackground, rows_of, row_at, times, background_of, run_at, is_above, stretch, subrectangles_in, subrectangles, begins_subrectangle, subrectangle_from}
 use Rattle.pixel_translate.specs.Bounds.{pixel_length}
 use Rattle.encode_rre.specs.Scans.{Step, found_before, one_more, some_run, stretch_is, run_same, row_is, row_more, fewer_rows, rows_count}
-use Rattle.encode_rre.specs.MostFrequent.{finds_the_background}
 use Rattle.encode_rre.specs.Runs.{Front, prefix_is}
 use Rattle.encode_rre.specs.Paint.{and_true}
 use Rattle.encode_hextile.specs.Hextile.{subrectangle_bytes}
@@ -149,10 +148,10 @@ few_subrectangles b w h ps whole =
     omega (arith, all, turned, ap (λ (k : ℕ). times b (take k ps)) turned, ap (times b) (take-length ps), ap (λ (k : ℕ). length (flat_map (subrectangles_in b (rows_of w h ps)) (range_with_len 0 k))) (rows_count w h ps))
 
 -- their number has a byte
-pub count_fits : (w h : ℕ) (ps : List ℕ) (b : ℕ) → length ps ≡ w * h → 0 < length ps → w ≤ 16 → h ≤ 16 → b ≡ background_of ps → length (subrectangles b (rows_of w h ps)) < 256
-count_fits w h ps b whole some narrow low e =
+pub count_fits : FindsTheBackground → (w h : ℕ) (ps : List ℕ) (b : ℕ) → length ps ≡ w * h → 0 < length ps → w ≤ 16 → h ≤ 16 → b ≡ background_of ps → length (subrectangles b (rows_of w h ps)) < 256
+count_fits finds w h ps b whole some narrow low e =
     let places : w * h ≤ 16 * 16 = mul-le-mul narrow low in
-    let stands : 0 < times (background_of ps) ps = (finds_the_background ps some).stands_there in
+    let stands : 0 < times (background_of ps) ps = (finds ps some).stands_there in
     omega (arith, places, stands, ap (λ (t : ℕ). times t ps) e, few_subrectangles b w h ps whole)
 
 pub unit_some : (f : PixelFormat) (coloured : Bool) → 0 < unit f coloured
