@@ -1,10 +1,10 @@
 -- How long the bytes of subrectangles are.
-use Rattle.std.proofs.Common.{◌≡◌, ℕ, zero, suc, inl, inr, ◌+◌, ◌-◌, ◌*◌, ◌/◌, ◌<◌, ◌≤◌, ◌++◌, ◌&&◌, Bool, true, false, not, cond, eqb, map, filter, List, [], ◌∷◌, length, take, drop, get_or, slice_index, ◌⊎◌, subst, refl, sym, ap, ◌∙◌, arith, length-append, append_assoc, append-nil}
+use Rattle.std.proofs.Common.{◌≡◌, ℕ, zero, suc, inl, inr, ◌+◌, ◌-◌, ◌*◌, ◌/◌, ◌<◌, ◌≤◌, ◌++◌, ◌&&◌, Bool, true, false, not, cond, eqb, List, [], ◌∷◌, length, take, drop, get_or, slice_index, ◌⊎◌, subst, refl, sym, ap, ◌∙◌, arith, length-append, append_assoc, append-nil}
 use Rattle.std.specs.List.{flat_map, range_with_len}
 use Rattle.std.proofs.lemmas.Grind.{flat_map-append}
 use Rattle.std.proofs.Math.Nat.{suc-mul, zero-mul, mul-le-mul, mul-le-mul_right}
 use Rattle.std.proofs.Math.Seq.{take-length, take-add}
-use Rattle.std.proofs.lemmas.Bool.{eqb-true, eqb-false, eq-eqb, lt-ltb, cases_eq, cases_lt}
+use Rattle.std.proofs.lemmas.Bool.{eqb-true, eqb-false, cases_eq, cases_lt}
 use Rattle.std.proofs.lemmas.Bool.Decides.{eqb_tells}
 use Rattle.std.proofs.lemmas.List.{length-take-le, length-drop, get_or-drop}
 use Rattle.std.proofs.lemmas.List.Sums.{count_by_more_yes, count_by_more_no, sum_by-append}
@@ -13,10 +13,9 @@ use Rattle.pixel_translate.specs.declared.BitsPerPixel.{BitsPerPixel}
 use Rattle.pixel_translate.specs.declared.BitsPerPixel.TheVariants.{Eight, Sixteen, ThirtyTwo}
 use Rattle.pixel_translate.specs.Pixel.{bit_count, bytes_per_pixel, pixel_bytes}
 use Rattle.encode_rre.specs.declared.Subrectangle.{Subrectangle}
-use Rattle.encode_rre.specs.Subrectangles.{rows_of, row_at, times, background_of, begins_run, has_run, run_at, is_above, stretch, subrectangles_in, subrectangles, begins_subrectangle, subrectangle_from}
+use Rattle.encode_rre.specs.Subrectangles.{FindsTheBackground, rows_of, row_at, times, background_of, run_at, is_above, stretch, subrectangles_in, subrectangles, begins_subrectangle, subrectangle_from}
 use Rattle.pixel_translate.specs.Bounds.{pixel_length}
 use Rattle.encode_rre.specs.Scans.{Step, found_before, one_more, some_run, stretch_is, run_same, row_is, row_more, fewer_rows, rows_count}
-use Rattle.encode_rre.specs.MostFrequent.{finds_the_background}
 use Rattle.encode_rre.specs.Runs.{Front, prefix_is}
 use Rattle.encode_rre.specs.Paint.{and_true}
 use Rattle.encode_hextile.specs.Hextile.{subrectangle_bytes}
@@ -149,10 +148,10 @@ few_subrectangles b w h ps whole =
     omega (arith, all, turned, ap (λ (k : ℕ). times b (take k ps)) turned, ap (times b) (take-length ps), ap (λ (k : ℕ). length (flat_map (subrectangles_in b (rows_of w h ps)) (range_with_len 0 k))) (rows_count w h ps))
 
 -- their number has a byte
-pub count_fits : (w h : ℕ) (ps : List ℕ) (b : ℕ) → length ps ≡ w * h → 0 < length ps → w ≤ 16 → h ≤ 16 → b ≡ background_of ps → length (subrectangles b (rows_of w h ps)) < 256
-count_fits w h ps b whole some narrow low e =
+pub count_fits : FindsTheBackground → (w h : ℕ) (ps : List ℕ) (b : ℕ) → length ps ≡ w * h → 0 < length ps → w ≤ 16 → h ≤ 16 → b ≡ background_of ps → length (subrectangles b (rows_of w h ps)) < 256
+count_fits finds w h ps b whole some narrow low e =
     let places : w * h ≤ 16 * 16 = mul-le-mul narrow low in
-    let stands : 0 < times (background_of ps) ps = (finds_the_background ps some).stands_there in
+    let stands : 0 < times (background_of ps) ps = (finds ps some).stands_there in
     omega (arith, places, stands, ap (λ (t : ℕ). times t ps) e, few_subrectangles b w h ps whole)
 
 pub unit_some : (f : PixelFormat) (coloured : Bool) → 0 < unit f coloured
@@ -256,39 +255,6 @@ pub noise_long : (f : PixelFormat) (subs : List Subrectangle) (raw starts most t
 noise_long f subs raw starts most times_b others unit_len e o le bound long =
     let few : others * unit_len ≤ length subs * unit_len = mul-le-mul_right unit_len (let q : others ≤ length subs = omega (arith, o, le, bound) in q) in
     omega (arith, few, long, list_length f true subs, ap (λ (u : ℕ). length subs * u) e)
-
--- ---- a row that is as the one above
-
-none_pass : {X : Type 0} (p : ℕ → Bool) (g : ℕ → X) (ks : List ℕ) → ((k : ℕ) → p k ≡ false) → map g (filter p ks) ≡ []
-none_pass p g [] each = refl
-none_pass {X} p g (k ∷ ks) each = ap (λ (t : Bool). map g (cond {A = List ℕ} t (k ∷ filter p ks) (filter p ks))) (each k) ∙ none_pass p g ks each
-
-none_in_same : (b : ℕ) (rows : List (List ℕ)) (y x : ℕ) → 0 < y → row_at rows (y - 1) ≡ row_at rows y → begins_subrectangle b rows y x ≡ false
-none_in_same b rows y x lt e = go (begins_run (row_at rows y) x) refl
-  where
-    r : List ℕ
-    r = row_at rows y
-
-    rest : Bool
-    rest = not (eqb (get_or r x 0) b)
-
-    above : begins_run r x ≡ true → is_above rows y (run_at r x) ≡ true
-    above t = both _ _ (lt-ltb 0 y lt) (ap (has_run (run_at r x)) e ∙ both _ _ (both _ _ t (eq-eqb _ _ refl)) (eq-eqb _ _ refl))
-
-    go : (t : Bool) → begins_run r x ≡ t → begins_subrectangle b rows y x ≡ false
-    go true t = unless_true _ (λ q. not_both (is_above rows y (run_at r x)) (above t) (is_not _ (and_true _ _ q).1))
-      where
-        not_both : (t : Bool) → t ≡ true → t ≡ false → ⊥
-        not_both t e f = cc
-    go false t = unless_true _ (λ q. not_both (begins_run r x) (and_true _ _ (and_true _ _ q).0).0 t)
-      where
-        not_both : (t : Bool) → t ≡ true → t ≡ false → ⊥
-        not_both t e f = cc
-
-pub same_row : (b : ℕ) (rows : List (List ℕ)) (y : ℕ) (sb : Subrectangle → List ℕ) (old : List ℕ) → 0 < y → row_at rows (y - 1) ≡ row_at rows y → old ≡ old ++ flat_map sb (subrectangles_in b rows y)
-same_row b rows y sb old lt e =
-    sym (ap (λ (t : List Subrectangle). old ++ flat_map sb t)
-    (none_pass (begins_subrectangle b rows y) (subrectangle_from rows y) (range_with_len 0 (length (row_at rows y))) (λ x. none_in_same b rows y x lt e)) ∙ append-nil old)
 
 -- ---- stretches, from the right
 

@@ -15,7 +15,7 @@ use Rattle.encode_raw.specs.Raw.{head}
 use Rattle.encode_raw.specs.Reading.{◌>>=◌, head_at, Patch}
 use Rattle.encode_raw.specs.Claims.{pixels_of}
 use Rattle.encode_raw.specs.Back.{head_back, same_patched}
-use Rattle.encode_rre.specs.Subrectangles.{rows_of, pixel_in}
+use Rattle.encode_rre.specs.Subrectangles.{FindsTheBackground, ListsTheSubrectangles, rows_of, pixel_in}
 use Rattle.encode_rre.specs.Listed.{head_of, tail_of, cases_of, not_in_none, flat_cases, range_cases}
 use Rattle.encode_rre.specs.Scans.{rows_count}
 use Rattle.encode_rre.specs.Paint.{and_true}
@@ -50,7 +50,7 @@ place_in all t i j left top inside =
     ∙ ap (piece t.column) (get_or-take 16 (drop (16 * t.row) all) j [] top ∙ get_or-drop (16 * t.row) all j []))
     ∙ get_or-take 16 (drop (16 * t.column) (get_or all (16 * t.row + j) [])) i 0 left ∙ get_or-drop (16 * t.column) (get_or all (16 * t.row + j) []) i 0
 
-module _ (f : PixelFormat) (w h : ℕ) (colours : List ℕ) (whole : length colours ≡ w * h) where
+module _ (finds : FindsTheBackground) (lists : ListsTheSubrectangles) (f : PixelFormat) (w h : ℕ) (colours : List ℕ) (whole : length colours ≡ w * h) where
   abbrev all : List (List ℕ)
   all = rows_of w h (map (pixel f) colours)
 
@@ -58,7 +58,7 @@ module _ (f : PixelFormat) (w h : ℕ) (colours : List ℕ) (whole : length colo
       → TileBack f (min 16 (w - 16 * t.column)) (min 16 (h - 16 * t.row)) carried (tile_rows all t) more
   one_back t carried more left top =
       subst (λ (rows : List (List ℕ)). TileBack f across down carried rows more) (tile_again (pixel f) w h colours t.column t.row across down (concat (tile_rows all t)) whole left refl refl refl)
-      (tile_back f across down (concat (tile_rows all t)) carried more (omega (arith, some, size)) size (omega arith) (omega arith) (below_concat f (tile_rows all t) each))
+      (tile_back finds lists f across down (concat (tile_rows all t)) carried more (omega (arith, some, size)) size (omega arith) (omega arith) (below_concat f (tile_rows all t) each))
     where
       across : ℕ
       across = min 16 (w - 16 * t.column)
@@ -186,8 +186,8 @@ all_there w h x y left top =
     flat_has (tiles_in w) (range_with_len 0 (div_ceil h 16)) (y / 16) (record { column = x / 16; row = y / 16 }) (range_has 0 (div_ceil h 16) (y / 16) (omega arith) (omega (arith, top)))
     (map_has (λ (i : ℕ). record { column = i; row = y / 16 }) (range_with_len 0 (div_ceil w 16)) (x / 16) (range_has 0 (div_ceil w 16) (x / 16) (omega arith) (omega (arith, left))))
 
-pub reads_back : hextile_reads_back
-reads_back f a colours more fits some whole = record {
+pub reads_back : FindsTheBackground → ListsTheSubrectangles → hextile_reads_back
+reads_back finds lists f a colours more fits some whole = record {
   body = hextile_of f a.w a.h ps ++ more;
   patch = back.final;
   head = ap head_at (append_assoc (head a (pos 5)) (hextile_of f a.w a.h ps) more) ∙ head_back a (pos 5) (hextile_of f a.w a.h ps ++ more) fits small;
@@ -200,8 +200,8 @@ reads_back f a colours more fits some whole = record {
     ps : List ℕ
     ps = map (pixel f) colours
 
-    back : TilesBack f a.w a.h colours whole (tiles_of a.w a.h) nothing (λ x y. 0) more
-    back = tiles_back f a.w a.h colours whole (tiles_of a.w a.h) nothing (λ x y. 0) more (each_within a.w a.h)
+    back : TilesBack finds lists f a.w a.h colours whole (tiles_of a.w a.h) nothing (λ x y. 0) more
+    back = tiles_back finds lists f a.w a.h colours whole (tiles_of a.w a.h) nothing (λ x y. 0) more (each_within a.w a.h)
 
     small : FitsSigned w32 (pos 5)
     small = record { sfits = omega arith }

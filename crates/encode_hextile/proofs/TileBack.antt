@@ -13,9 +13,8 @@ use Rattle.encode_raw.specs.Reading.{◌>>=◌, number_at, pixels_at, raw_at, ro
 use Rattle.encode_raw.specs.Back.{pixel_back}
 use Rattle.encode_rre.specs.declared.Subrectangle.{Subrectangle}
 use Rattle.encode_rre.specs.Reading.{painted}
-use Rattle.encode_rre.specs.Subrectangles.{IsSubrectangle, HasRun, run_of, rows_of, row_at, pixel_in, background_of, subrectangles}
-use Rattle.encode_rre.specs.MostFrequent.{finds_the_background}
-use Rattle.encode_rre.specs.Listed.{lists_the_subrectangles, head_of, tail_of}
+use Rattle.encode_rre.specs.Subrectangles.{FindsTheBackground, ListsTheSubrectangles, IsSubrectangle, HasRun, run_of, rows_of, row_at, pixel_in, background_of, subrectangles}
+use Rattle.encode_rre.specs.Listed.{head_of, tail_of}
 use Rattle.encode_rre.specs.Scans.{row_is, rows_count}
 use Rattle.encode_rre.specs.Paint.{paint, paint_is, covers, Covering, covered, and_true}
 use Rattle.encode_hextile.specs.declared.Carried.{Carried}
@@ -184,8 +183,8 @@ abbrev pub plain : ℕ → Patch
 plain b x y = b
 
 -- what is painted is the pixel at each place
-shows : (w h : ℕ) (ps : List ℕ) (b i j : ℕ) → length ps ≡ w * h → i < w → j < h → paint (subrectangles b (rows_of w h ps)) (plain b) i j ≡ pixel_in (rows_of w h ps) i j
-shows w h ps b i j whole left top = paint_is (subrectangles b rows) (plain b) i j v each there
+shows : ListsTheSubrectangles → (w h : ℕ) (ps : List ℕ) (b i j : ℕ) → length ps ≡ w * h → i < w → j < h → paint (subrectangles b (rows_of w h ps)) (plain b) i j ≡ pixel_in (rows_of w h ps) i j
+shows lists w h ps b i j whole left top = paint_is (subrectangles b rows) (plain b) i j v each there
   where
     rows : List (List ℕ)
     rows = rows_of w h ps
@@ -195,7 +194,7 @@ shows w h ps b i j whole left top = paint_is (subrectangles b rows) (plain b) i 
 
     each : (s : Subrectangle) → Contains (subrectangles b rows) s → covers s i j ≡ true → s.pixel ≡ v
     each s c e =
-        let is = (lists_the_subrectangles rows b s).0 c in
+        let is = (lists rows b s).0 c in
         let low = and_true _ _ e in
         let down = and_true _ _ low.0 in
         let across = and_true _ _ down.0 in
@@ -395,9 +394,9 @@ as_tile f w h carried rows c more e k =
 not_raw_back : (f : PixelFormat) (w h : ℕ) (carried : Carried) (bits : ℕ) (bytes : List ℕ) → has_bit bits 0 ≡ false → tile_at f w h carried (bits ∷ bytes) ≡ coded_tile_at f carried bits bytes
 not_raw_back f w h carried bits bytes e = ap (λ (t : Bool). cond t (raw_tile_at f w h bytes) (coded_tile_at f carried bits bytes)) e
 
-coded_back : (f : PixelFormat) (w h : ℕ) (ps : List ℕ) (carried : Carried) (others : TilePixels) (more : List ℕ) → others ≡ others_of (background_of ps) ps → 0 < length ps → length ps ≡ w * h → w ≤ 16 → h ≤ 16 → Below f ps
+coded_back : FindsTheBackground → ListsTheSubrectangles → (f : PixelFormat) (w h : ℕ) (ps : List ℕ) (carried : Carried) (others : TilePixels) (more : List ℕ) → others ≡ others_of (background_of ps) ps → 0 < length ps → length ps ≡ w * h → w ≤ 16 → h ≤ 16 → Below f ps
     → CodedBack f w h carried (rows_of w h ps) (coded f carried (background_of ps) (subrectangles (background_of ps) (rows_of w h ps)) others) more
-coded_back f w h ps carried others more is some whole narrow low below = go others is
+coded_back finds lists f w h ps carried others more is some whole narrow low below = go others is
   where
     b : ℕ
     b = background_of ps
@@ -409,13 +408,13 @@ coded_back f w h ps carried others more is some whole narrow low below = go othe
     subs = subrectangles b rows
 
     stands : StandsAt ps b
-    stands = stands_at ps b (finds_the_background ps some).stands_there
+    stands = stands_at ps b (finds ps some).stands_there
 
     small : b < 2 ^ bit_count f.bits
     small = subst (λ (p : ℕ). p < 2 ^ bit_count f.bits) stands.there (below stands.at stands.within)
 
     each : (s : Subrectangle) → Contains subs s → Fitting f s
-    each s c = fitting f w h ps b s narrow low whole below ((lists_the_subrectangles rows b s).0 c)
+    each s c = fitting f w h ps b s narrow low whole below ((lists rows b s).0 c)
 
     inside : (i j : ℕ) → i < w → j < h → j * w + i < length ps
     inside i j left top = omega (arith, row_within w h j top, left, whole)
@@ -426,7 +425,7 @@ coded_back f w h ps carried others more is some whole narrow low below = go othe
       read = not_raw_back f w h carried (bits_of carried b (OneOther o)) ((said_bytes f carried b (OneOther o) ++ list_bytes f subs (OneOther o)) ++ more)
           (other_bits (is_carried carried.background b) (is_carried carried.foreground o)).not_raw
           ∙ other_back f carried b o subs more small (other_small f b o ps below (sym e)) each one;
-      shown = λ i j left top. shows w h ps b i j whole left top;
+      shown = λ i j left top. shows lists w h ps b i j whole left top;
     }
 
     go : (others : TilePixels) → others ≡ others_of b ps → CodedBack f w h carried rows (coded f carried b subs others) more
@@ -437,21 +436,21 @@ coded_back f w h ps carried others more is some whole narrow low below = go othe
       shown = λ i j left top. sym (place_is w h ps i j left top ∙ all_background b ps (sym e) (j * w + i) (inside i j left top));
     }
     go (OneOther o) e = other o e (λ s c.
-        let is = (lists_the_subrectangles rows b s).0 c in
+        let is = (lists rows b s).0 c in
         let t = stands_in w h ps b s whole is in
         sym t.there ∙ all_other b o ps (sym e) t.at t.within (λ q. is.other (sym t.there ∙ q)))
     go Several e = record {
       patch = paint subs (plain b);
       read = not_raw_back f w h carried (bits_of carried b Several) ((said_bytes f carried b Several ++ list_bytes f subs Several) ++ more) (several_bits (is_carried carried.background b)).not_raw
           ∙ several_back f carried b subs more small each;
-      shown = λ i j left top. shows w h ps b i j whole left top;
+      shown = λ i j left top. shows lists w h ps b i j whole left top;
     }
 
-pub tile_back : (f : PixelFormat) (w h : ℕ) (ps : List ℕ) (carried : Carried) (more : List ℕ) → 0 < length ps → length ps ≡ w * h → w ≤ 16 → h ≤ 16 → Below f ps → TileBack f w h carried (rows_of w h ps) more
-tile_back f w h ps carried more some whole narrow low below =
+pub tile_back : FindsTheBackground → ListsTheSubrectangles → (f : PixelFormat) (w h : ℕ) (ps : List ℕ) (carried : Carried) (more : List ℕ) → 0 < length ps → length ps ≡ w * h → w ≤ 16 → h ≤ 16 → Below f ps → TileBack f w h carried (rows_of w h ps) more
+tile_back finds lists f w h ps carried more some whole narrow low below =
     elim (cases_lt (length (said_bytes f carried b others ++ list_bytes f (subrectangles b rows) others)) (length ps * bytes_per_pixel f)) [
       | inl lt ↦ as_tile f w h carried rows (coded f carried b (subrectangles b rows) others) more (tile_short f carried rows ps b others (concat_rows w h ps whole) refl refl lt)
-          (coded_back f w h ps carried others more refl some whole narrow low below)
+          (coded_back finds lists f w h ps carried others more refl some whole narrow low below)
       | inr le ↦ as_tile f w h carried rows (raw_tile f ps) more (tile_long f carried rows ps b others (concat_rows w h ps whole) refl refl le) (record {
         patch = row_by_row w ps;
         read = ap (λ (o : Option (Patch × List ℕ)). o >>= λ patch. Some (record { patch = patch.0; next = nothing }, patch.1)) (raw_back f w h ps more whole below);

@@ -14,6 +14,7 @@ use crate::raw::put_raw;
 use crate::scan::{ROOM, list_subrectangles, put_number};
 use crate::{Carried, TilePixels};
 use arrayvec::ArrayVec;
+use encode_rre::background_is_most_frequent;
 use encode_rre::rows::Rows;
 use pixel_translate::PixelFormat;
 use std::alloc::AllocError;
@@ -130,6 +131,7 @@ fn put_list(
         TilePixels::OneOther(_) => false,
         TilePixels::Several => true,
     };
+    background_is_most_frequent();
     let background = palette.background;
     match list_subrectangles(list, pixels, background, format, coloured) {
         Some(count) => {

@@ -26,6 +26,7 @@ use crate::bytes::{NOTHING, put_tile};
 use crate::cut::{cut_tile, side_of};
 use encode_raw::rect_header;
 use encode_rre::rows::Rows;
+use encode_rre::{background_is_most_frequent, subrectangles_are_all_listed};
 use pixel_translate::Table;
 pub use pixel_translate::{Area, PixelFormat};
 use std::alloc::AllocError;
@@ -155,7 +156,10 @@ pub fn encode_hextile_with_table(
 /// and every other place as before.
 pub fn hextile_is_read_back()
     ensures { hextile_reads_back }
-{}
+{
+    background_is_most_frequent();
+    subrectangles_are_all_listed();
+}
 
 #[cfg(test)]
 mod tests;

@@ -28,7 +28,7 @@ const LOWEST: PixelFormat = PixelFormat {
     blue: Component { max: 255, shift: 0 },
 };
 
-/// Whether a rectangle at (1, 2) is appended with these data. Where memory is refused, nothing is.
+/// Whether a rectangle at (1, 2) is appended with these data.
 fn is_coded(
     alloc: Global,
     size: (u16, u16),
@@ -48,11 +48,7 @@ fn is_coded(
     };
     let mut out = Vec::new(alloc);
     out.push(7)?;
-    let done = encode_hextile(&mut out, area, colours, format);
-    if done.is_err() && out.as_slice() != [7].as_slice() {
-        return Ok(false);
-    }
-    done?;
+    encode_hextile(&mut out, area, colours, format)?;
     let [_, w_low] = size.0.to_be_bytes();
     let [_, h_low] = size.1.to_be_bytes();
     let head = [7, 0, 1, 0, 2, 0, w_low, 0, h_low, 0, 0, 0, 5];

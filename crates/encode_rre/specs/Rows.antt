@@ -1,5 +1,5 @@
 -- The rows of a rectangle, as a list.
-use Rattle.std.proofs.Common.{ℕ, ◌<◌, ◌≤◌, ◌*◌, ◌^◌, List, length, arith}
+use Rattle.std.proofs.Common.{ℕ, ◌<◌, ◌≤◌, ◌*◌, List, length, arith}
 use Rattle.std.proofs.Math.Nat.{mul-le-mul}
 use Rattle.encode_rre.specs.declared.rows.Rows.{Rows}
 use Rattle.encode_rre.specs.Subrectangles.{rows_of}
@@ -8,11 +8,6 @@ use Rattle.encode_rre.specs.Subrectangles.{rows_of}
 abbrev pub rows_in : Rows → List (List ℕ)
 rows_in r = rows_of r.width r.height r.values.now
 
--- there are some places, and fewer than 2^32
+-- there are some places
 pub some_values : (r : Rows) → 0 < length r.values.now
 some_values r = let one : 1 * 1 ≤ r.width * r.height = mul-le-mul r.wide r.high in omega (arith, one, r.whole)
-
-pub few_values : (r : Rows) → length r.values.now < 2 ^ 32
-few_values r =
-    let all : r.width * r.height ≤ 65535 * 65535 = mul-le-mul (let a : r.width ≤ 65535 = omega (arith, r.columns) in a) (let a : r.height ≤ 65535 = omega (arith, r.lines) in a) in
-    omega (arith, all, r.whole)

@@ -13,7 +13,8 @@
 //! differ, so in at most n steps and entries. The scan skips a row that is the one above. Of another
 //! it first writes where the runs begin, two bytes each, in room for one row; it goes over each place
 //! a bounded number of times, and ends with the row in which there are too many subrectangles to be
-//! shorter than Raw; their list has at most one row of them more than that.
+//! shorter than Raw; their list has at most one row of them more than that, twelve bytes each. The
+//! rectangle is written to the output itself, whose room is made at once.
 #![tactic(auto)]
 
 ghost use Rattle.std.specs.Prelude.{◌≡◌, ℕ, ◌*◌, ◌<◌, ◌≤◌, ◌++◌, true, length, map, slice_index, IfOk, MatchOption, OnOk, OnErr};

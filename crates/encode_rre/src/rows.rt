@@ -22,6 +22,7 @@ impl<'a> Rows<'a> {
     ghost use Rattle.encode_rre.specs.Subrectangles.{row_at, subrectangles_in};
 
     /// The row at `y`.
+    #[inline(always)]
     pub fn row(&self, y: usize) -> &'a [u32]
         requires { y < self.now.height }
         ensures row { result.now ≡ row_at (rows_in self.now) y }
@@ -32,6 +33,7 @@ impl<'a> Rows<'a> {
     }
 
     /// Whether the row at `y` is the one above it, so that no subrectangle begins in it.
+    #[inline(always)]
     pub fn repeats(&self, y: usize) -> bool
         requires { y < self.now.height }
         ensures { result ≡ true → (b : ℕ) → subrectangles_in b (rows_in self.now) y ≡ [] }

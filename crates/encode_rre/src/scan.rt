@@ -89,6 +89,7 @@ pub fn stretch_from(row: &[u32], start: usize) -> usize
 
 /// Whether the row has the run. What stands at its ends and beside them is counted where it doesn't
 /// fit, with one branch for all four, and what lies between them is looked at only where it fits.
+#[inline]
 fn has_run(row: &[u32], run: Run) -> bool
     requires some { 0 < run.w }
     requires inside { run.x + run.w ≤ length row.now }
@@ -106,6 +107,7 @@ fn has_run(row: &[u32], run: Run) -> bool
 }
 
 /// How many rows from `top` on have the run, which the one there has.
+#[inline]
 fn rows_with(pixels: &Rows, top: usize, run: Run) -> usize
     requires inside { top < pixels.now.height }
     requires some { 0 < run.w }
@@ -123,6 +125,7 @@ fn rows_with(pixels: &Rows, top: usize, run: Run) -> usize
 }
 
 /// Whether a subrectangle begins with a run of the row at `y`.
+#[inline(always)]
 fn begins_with(pixels: &Rows, background: u32, y: usize, run: Run) -> bool
     requires inside { y < pixels.now.height }
     requires some { 0 < run.w }
@@ -136,6 +139,7 @@ fn begins_with(pixels: &Rows, background: u32, y: usize, run: Run) -> bool
 
 /// The subrectangle that begins with the run of `w` pixels at `x` of the row at `y`, as high as it goes; nothing where
 /// none does, since the run is of the background or is in the row above too.
+#[inline(always)]
 pub fn subrectangle_at(
     pixels: &Rows,
     background: u32,

@@ -1,5 +1,5 @@
 //! Worked rectangles, each byte written out from RFC 6143, and pictures that a slow encoder, straight
-//! from the definition, codes too. Each test also passes where one allocation, whichever, fails.
+//! from the definition, codes too.
 
 ghost use Rattle.std.specs.Prelude.{◌≡◌, ◌*◌, ◌≤◌, length};
 
@@ -21,8 +21,7 @@ const RGB565: PixelFormat = PixelFormat {
     blue: pixel_translate::Component { max: 31, shift: 0 },
 };
 
-/// Whether a rectangle at (1, 2) is appended as its size, its encoding and its data; where memory
-/// was refused, whether nothing was appended. Where it is refused before the call, nothing is asked.
+/// Whether a rectangle at (1, 2) is appended as its size, its encoding and its data.
 fn is_coded(
     alloc: Global,
     size: (u16, u16),
@@ -41,13 +40,8 @@ fn is_coded(
         h: size.1,
     };
     let mut out = Vec::new(alloc);
-    if out.push(7).is_err() {
-        return Ok(true);
-    }
-    let done = encode_rre(&mut out, area, colours, format);
-    if done.is_err() {
-        return Ok(out.as_slice() == [7].as_slice());
-    }
+    out.push(7)?;
+    encode_rre(&mut out, area, colours, format)?;
     Ok(out.len() >= 5 && &out[..5] == [7, 0, 1, 0, 2].as_slice() && &out[5..] == tail)
 }
 
@@ -141,8 +135,7 @@ fn ragged_runs_stand_apart_by_row_and_place(rt: HostRuntime) -> Result<(), Fail>
     Ok(())
 }
 
-/// Whether a picture of the sequence is appended as the slow encoder has it, and in RRE; where memory
-/// was refused, whether nothing was appended.
+/// Whether a picture of the sequence is appended as the slow encoder has it, and in RRE.
 fn is_coded_alike(
     alloc: Global,
     numbers: &mut Numbers,
@@ -160,50 +153,49 @@ fn is_coded_alike(
     let area = Area { x: 3, y: 700, w, h };
     let slow = slow_rre(alloc, area, &colours, &format)?;
     let mut out = Vec::new(alloc);
-    let done = encode_rre(&mut out, area, &colours, &format);
-    if done.is_err() {
-        return Ok((out.is_empty(), false));
-    }
+    encode_rre(&mut out, area, &colours, &format)?;
     let in_rre = slow.get(11).copied() == Some(2);
     Ok((out.as_slice() == slow.as_slice(), in_rre))
 }
 
 /// How many of so many pictures are in RRE. Each is coded as by the slow encoder. They have up to
 /// `columns` columns, and `rows` rows or up to 35 more.
-fn count_in_rre(rt: &impl Abort, alloc: Global, count: u32, columns: u32, rows: u32) -> u32
+fn count_in_rre(
+    rt: &impl Abort,
+    alloc: Global,
+    count: u32,
+    columns: u32,
+    rows: u32,
+) -> Result<u32, AllocError>
     requires some { 1 ≤ columns }
     requires columns { columns ≤ 100 }
     requires high { 1 ≤ rows }
     requires rows { rows ≤ 100 }
 {
     let mut numbers = Numbers(1);
-    let mut refused = 0u32;
     let mut in_rre = 0u32;
     for _ in 0..count {
         let w = 1 + next(&mut numbers, columns) as u16;
         let h = (rows + next(&mut numbers, 36)) as u16;
-        match is_coded_alike(alloc, &mut numbers, w, h) {
-            Ok((alike, shorter)) => {
-                assert!(rt; alike);
-                in_rre = in_rre.saturating_add(u32::from(shorter));
-            }
-            Err(_) => refused = refused.saturating_add(1),
-        }
+        let (alike, shorter) = is_coded_alike(alloc, &mut numbers, w, h)?;
+        assert!(rt; alike);
+        in_rre = in_rre.saturating_add(u32::from(shorter));
     }
-    assert!(rt; refused <= 1, "memory is refused at most once");
-    in_rre
+    Ok(in_rre)
 }
 
 #[test]
-fn pictures_are_coded_as_by_the_definition(rt: HostRuntime) {
-    let in_rre = count_in_rre(&rt, rt.alloc(), 500, 40, 1);
+fn pictures_are_coded_as_by_the_definition(rt: HostRuntime) -> Result<(), Fail> {
+    let in_rre = count_in_rre(&rt, rt.alloc(), 500, 40, 1)?;
     assert!(rt; in_rre > 100 && in_rre < 400, "{in_rre} of 500 are in RRE");
+    Ok(())
 }
 
 #[test]
-fn tall_pictures_are_coded_as_by_the_definition(rt: HostRuntime) {
-    let in_rre = count_in_rre(&rt, rt.alloc(), 100, 24, 64);
+fn tall_pictures_are_coded_as_by_the_definition(rt: HostRuntime) -> Result<(), Fail> {
+    let in_rre = count_in_rre(&rt, rt.alloc(), 100, 24, 64)?;
     assert!(rt; in_rre > 20 && in_rre < 80, "{in_rre} of 100 are in RRE");
+    Ok(())
 }
 
 #[test]

@@ -1,5 +1,4 @@
-use Rattle.std.proofs.Common.{◌≡◌, ◌++◌, map}
-use Rattle.pixel_translate.specs.Pixel.{pixel}
+use Rattle.std.proofs.Common.{◌≡◌, ◌++◌}
 use Rattle.encode_hextile.specs.Tiles.{pixel_rows}
 use Rattle.encode_hextile.specs.Hextile.{nothing, tiles, carried_after}
 use Rattle.encode_hextile.proofs.Folds.{first_rows}

@@ -36,7 +36,7 @@ returns-then-pixel_len-len c =
     let same : subrectangles b (rows_of c.from.result c.from-2.result ps) ≡ subs =
     same_subs b c.from.result c.args.area.w c.from-2.result c.args.area.h ps ps c.from.ensures c.from-2.ensures refl in
     let count : c.len.result ≡ length subs = omega (arith, c.len.ensures, ap (length {A = Subrectangle}) (found ∙ same)) in
-    let there = subst (λ (n : ℕ). length c.args.colours.now * pl ≤ 4 + pl + n * (pl + 8)) count c.if-pixel_len-len.true in
+    let there : length c.args.colours.now * pl ≤ 4 + pl + length subs * (pl + 8) = omega (arith, c.if-pixel_len-len.true, ap (λ (n : ℕ). n * (pl + 8)) count) in
     let here = subst (λ (k : ℕ). k * pl ≤ 4 + pl + length subs * (pl + 8)) c.requires.whole there in
     let last = subst (λ (p : ℕ). c.args.area.w * c.args.area.h * p ≤ 4 + p + length subs * (p + 8)) c.bytes_per_pixel-pixel_len.ensures here in
     raw_where c.args.format.now c.args.area c.args.colours.now ps b c.requires.translated g last
@@ -52,7 +52,7 @@ returns c =
     let same : subrectangles b (rows_of c.from.result c.from-2.result ps) ≡ subs =
     same_subs b c.from.result c.args.area.w c.from-2.result c.args.area.h ps ps c.from.ensures c.from-2.ensures refl in
     let count : c.len.result ≡ length subs = omega (arith, c.len.ensures, ap (length {A = Subrectangle}) (found ∙ same)) in
-    let there = subst (λ (n : ℕ). 4 + pl + n * (pl + 8) < length c.args.colours.now * pl) count c.if-pixel_len-len.false in
+    let there : 4 + pl + length subs * (pl + 8) < length c.args.colours.now * pl = omega (arith, c.if-pixel_len-len.false, ap (λ (n : ℕ). n * (pl + 8)) count) in
     let here = subst (λ (k : ℕ). 4 + pl + length subs * (pl + 8) < k * pl) c.requires.whole there in
     let last = subst (λ (p : ℕ). 4 + p + length subs * (p + 8) < c.args.area.w * c.args.area.h * p) c.bytes_per_pixel-pixel_len.ensures here in
     let coded : rre_data c.args.format.now b c.in-Some.subs.items ≡ rre_data c.args.format.now b subs = ap (rre_data c.args.format.now b) (found ∙ same) in (

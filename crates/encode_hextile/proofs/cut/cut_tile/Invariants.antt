@@ -1,6 +1,5 @@
-use Rattle.std.proofs.Common.{◌≡◌, ◌*◌, ◌++◌, take, drop, map}
+use Rattle.std.proofs.Common.{◌≡◌, ◌*◌, ◌++◌, take, drop}
 use Rattle.std.specs.List.{concat}
-use Rattle.pixel_translate.specs.Pixel.{pixel}
 use Rattle.encode_hextile.specs.Tiles.{pixel_rows}
 use Rattle.encode_hextile.specs.Tiles.{tile_rows}
 use Rattle.encode_hextile.proofs.Cuts.{tile_at}
