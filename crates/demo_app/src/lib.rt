@@ -6,6 +6,7 @@
 #![tactic(auto)]
 
 mod command_line;
+mod counted;
 mod play;
 mod reading;
 mod steps;
