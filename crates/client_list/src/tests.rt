@@ -66,6 +66,23 @@ fn the_order_stays_after_removals(rt: HostRuntime) -> Result<(), Fail> {
 }
 
 #[test]
+fn who_connects_again_comes_last(rt: HostRuntime) -> Result<(), Fail> {
+    let mut clients = Clients::new(rt.alloc());
+    let mut plain = Plain::new(rt.alloc());
+    for number in [5, 3, 9] {
+        assert!(rt; connect_both(&mut clients, &mut plain, number, 0)?);
+    }
+    assert!(rt; is_same(&clients, &[(5, 0), (3, 0), (9, 0)]));
+    assert_eq!(rt; clients.connect(3, 1), Err(ConnectError::NumberInUse));
+    assert!(rt; remove_both(&mut clients, &mut plain, 3));
+    assert!(rt; connect_both(&mut clients, &mut plain, 3, 2)?);
+    assert!(rt; is_same(&clients, &[(5, 0), (9, 0), (3, 2)]));
+    assert_eq!(rt; clients.remove(4), Err(NoViewer));
+    assert!(rt; is_same(&clients, &[(5, 0), (9, 0), (3, 2)]));
+    Ok(())
+}
+
+#[test]
 fn a_number_in_use_is_refused(rt: HostRuntime) -> Result<(), Fail> {
     let mut clients = Clients::new(rt.alloc());
     let mut plain = Plain::new(rt.alloc());

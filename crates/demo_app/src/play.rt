@@ -6,6 +6,7 @@ ghost use Rattle.play_script.specs.Transcript.{Played, step_of, transcript, stat
 ghost use Rattle.play_script.specs.declared.lines.Line.TheVariants as line;
 ghost use Rattle.demo_app.specs.Playing.{StandsFor, Says};
 
+use crate::counted::CountedReader;
 use crate::reading::{Trouble, read_script};
 use crate::steps::Steps;
 use play_script::{Line, answer_text, bad_line_text, cut_line, ok_text, parse_line, refusal_text};
@@ -149,17 +150,17 @@ fn play_text<W: Write>(alloc: Global, script: &[u8], writer: &mut W) -> Result<u
 
 fn play_whole<R: Read, W: Write, L: Ledger>(
     alloc: Global,
-    reader: &mut R,
+    reader: &mut CountedReader<'_, R, L>,
     writer: &mut W,
-    steps: &mut Steps<L>,
 ) -> Result<u8, Trouble>
-    ensures transcript { OnOk result (IfSome (R.remaining reader.old) (λ script.
+    ensures transcript { OnOk result (IfSome (R.remaining reader.old.reader.now) (λ script.
         Appends (W.contents writer.old) (W.contents writer.new) (transcript script))) }
-    ensures status { IfOk result (λ status. IfSome (R.remaining reader.old) (λ script. status ≡ status_of script)) }
+    ensures status { IfOk result (λ status. IfSome (R.remaining reader.old.reader.now) (λ script. status ≡ status_of script)) }
     ensures small { IfOk result (λ status. status ≤ 1) }
-    ensures reads { steps.new ≤ steps.old + (2 ^ 24 + 1) }
+    ensures reads { reader.new.steps.now ≤ reader.old.steps.now + (2 ^ 24 + 1) }
+    ensures same_count { reader.new.steps.ghost_name ≡ reader.old.steps.ghost_name }
 {
-    let script = read_script(alloc, reader, steps)?;
+    let script = read_script(alloc, reader)?;
     let status = play_text(alloc, &script, writer)?;
     flush(writer)?;
     Ok(status)
@@ -181,6 +182,24 @@ fn report<W: Write>(writer: &mut W, trouble: Trouble) -> u8
     status
 }
 
+// `play_over` on a reader whose every read is counted.
+fn play_counted<R: Read, W: Write, L: Ledger>(
+    alloc: Global,
+    reader: &mut CountedReader<'_, R, L>,
+    writer: &mut W,
+) -> u8
+    ensures transcript { (result ≡ 0) ⊎ (result ≡ 1) → IfSome (R.remaining reader.old.reader.now) (λ script.
+        Appends (W.contents writer.old) (W.contents writer.new) (transcript script) × (result ≡ status_of script)) }
+    ensures status { (result ≡ 0) ⊎ (result ≡ 1) ⊎ (result ≡ 3) ⊎ (result ≡ 5) }
+    ensures reads { reader.new.steps.now ≤ reader.old.steps.now + (2 ^ 24 + 1) }
+    ensures same_count { reader.new.steps.ghost_name ≡ reader.old.steps.ghost_name }
+{
+    match play_whole(alloc, reader, writer) {
+        Ok(status) => status,
+        Err(trouble) => report(writer, trouble),
+    }
+}
+
 /// Reads a script whole and prints the answer to each line. The status is 0; 1 where the script ended
 /// with a bad line or a refused screen; 3 after `out of memory`; 5 after `read fault`, after `too long`,
 /// which is a script of more than 2^24 bytes, and after a write that failed. Each read of the reader is one step.
@@ -196,8 +215,5 @@ pub fn play_over<R: Read, W: Write, L: Ledger>(
     ensures status { (result ≡ 0) ⊎ (result ≡ 1) ⊎ (result ≡ 3) ⊎ (result ≡ 5) }
     ensures reads { steps.new ≤ steps.old + (2 ^ 24 + 1) }
 {
-    match play_whole(alloc, reader, writer, steps) {
-        Ok(status) => status,
-        Err(trouble) => report(writer, trouble),
-    }
+    play_counted(alloc, &mut CountedReader::new(reader, steps), writer)
 }

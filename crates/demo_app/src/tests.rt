@@ -1,4 +1,5 @@
 mod drawing;
+mod help;
 mod rows;
 mod troubles;
 
@@ -68,9 +69,11 @@ fn command_lines(rt: HostRuntime) -> Result<(), Fail> {
     let alloc = rt.alloc();
     let play = words(alloc, &["vncdemo", "play"])?;
     assert!(rt; matches!(line_of(alloc, &play), Ok(Chosen::Play)));
-    let refused: [&[&str]; 5] = [
+    let refused: [&[&str]; 7] = [
         &["vncdemo"],
         &["vncdemo", "--help"],
+        &["vncdemo", "--version"],
+        &["vncdemo", "play", "--version"],
         &["vncdemo", "draw"],
         &["vncdemo", "play", "script"],
         &["vncdemo", "play", "--loud"],

@@ -1,6 +1,6 @@
 use super::{play, play_bytes};
 use std::io;
-use std::io::{Read, Write};
+use std::io::{BufWriter, Read, Write};
 use std::test::Fail;
 
 // A viewer is sent a screen, and a place that was painted.
@@ -143,6 +143,24 @@ fn a_writer_that_is_not_flushed(rt: HostRuntime) {
     let status = play(alloc, &mut reader, &mut writer);
     assert_eq!(rt; status, 5);
     assert!(rt; writer.taken.is_empty());
+}
+
+// Through a buffer, as the program writes: a script that ends early has flushed all its answers.
+#[test]
+fn a_bad_line_through_a_buffer(rt: HostRuntime) -> Result<(), Fail> {
+    let alloc = rt.alloc();
+    let mut reader = b"screen 4 3 demo\nconnect 1\npant 1\nbell\n".as_slice();
+    let mut writer = BufWriter::new(alloc, Vec::new(alloc))?;
+    let status = play(alloc, &mut reader, &mut writer);
+    let (out, unwritten) = writer.into_parts();
+    assert_eq!(rt; status, 1);
+    assert!(rt; unwritten.is_empty());
+    let text = str::from_utf8(&out).unwrap_or("no text");
+    assert_eq!(rt;
+        text,
+        "ok\nconnect 1 524642203030332e3030380a\nbad line 3\n"
+    );
+    Ok(())
 }
 
 // Where a growth was refused, whole lines are printed and then `out of memory`.

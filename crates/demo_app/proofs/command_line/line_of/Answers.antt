@@ -14,7 +14,7 @@ abbrev plain : App
 plain = new_app (codes "vncdemo")
 
 abbrev top : App
-top = record plain { top = record plain.top { subcommand_required = true; arg_required_else_help = true } }
+top = record plain { top = record plain.top { has_version = true; subcommand_required = true; arg_required_else_help = true } }
 
 abbrev vncdemo : App
 vncdemo = with_subcommand top play.top
@@ -25,9 +25,9 @@ is_taken program = refl
 
 pub returns-in_err-_matches : goal.returns-in_err-_matches
 returns-in_err-_matches c =
-    let play_is : app_of c.about-play.result ≡ play = rw c.about-play.ensures c.new.ensures.app in
-    let settings : App → App = λ a. record a { top = record a.top { subcommand_required = true; arg_required_else_help = true } } in
-    let top_is : app_of c.arg_required_else_help.result ≡ top = rw (c.arg_required_else_help.ensures, c.subcommand_required.ensures, c.about.ensures) (ap settings c.new-2.ensures.app) in
+    let play_is : app_of c.after_help-play.result ≡ play = rw (c.after_help-play.ensures, c.about.ensures) c.new.ensures.app in
+    let settings : App → App = λ a. record a { top = record a.top { has_version = true; subcommand_required = true; arg_required_else_help = true } } in
+    let top_is : app_of c.arg_required_else_help.result ≡ top = rw (c.arg_required_else_help.ensures, c.subcommand_required.ensures, c.version.ensures, c.about-2.ensures) (ap settings c.new-2.ensures.app) in
     let command_is : app_of c.in_ok-command.command ≡ vncdemo = c.in_ok-command.ensures.shape (search rules) ∙ ap₂ with_subcommand top_is (ap (λ (a : App). a.top) play_is) in
     let passes = c.in_err-_matches.ensures.passes in
     let from = c.from_residual-in_err-_matches.ensures in
@@ -47,9 +47,9 @@ fault_alone program e = cc
 
 pub returns : goal.returns
 returns c =
-    let play_is : app_of c.about-play.result ≡ play = rw c.about-play.ensures c.new.ensures.app in
-    let settings : App → App = λ a. record a { top = record a.top { subcommand_required = true; arg_required_else_help = true } } in
-    let top_is : app_of c.arg_required_else_help.result ≡ top = rw (c.arg_required_else_help.ensures, c.subcommand_required.ensures, c.about.ensures) (ap settings c.new-2.ensures.app) in
+    let play_is : app_of c.after_help-play.result ≡ play = rw (c.after_help-play.ensures, c.about.ensures) c.new.ensures.app in
+    let settings : App → App = λ a. record a { top = record a.top { has_version = true; subcommand_required = true; arg_required_else_help = true } } in
+    let top_is : app_of c.arg_required_else_help.result ≡ top = rw (c.arg_required_else_help.ensures, c.subcommand_required.ensures, c.version.ensures, c.about-2.ensures) (ap settings c.new-2.ensures.app) in
     let command_is : app_of c.in_ok-command.command ≡ vncdemo = c.in_ok-command.ensures.shape (search rules) ∙ ap₂ with_subcommand top_is (ap (λ (a : App). a.top) play_is) in
     let none = c.in_ok-_matches.ensures.kinds (ap is_simple_and_free command_is ∙ is_free) in
     record {

@@ -1,0 +1,38 @@
+//! A reader whose reads are counted. No other function of the crate but `play_over` has the reader itself.
+ghost use Rattle.std.specs.Prelude.{◌≡◌, ◌+◌};
+ghost use Rattle.std.specs.Io.{ReadsAtMost};
+ghost use Rattle.std.specs.Io.KnownBytes.{ReadConsumes};
+
+use crate::steps::Steps;
+use std::io;
+use std::io::Read;
+use std::sync::ledger::Ledger;
+
+/// A reader and the count of its reads. Both are private: `read` alone reaches the reader, and it counts.
+#[derive(Drop)]
+pub struct CountedReader<'a, R, L: Ledger> {
+    reader: &'a mut R,
+    steps: &'a mut Steps<L>,
+}
+
+impl<'a, R: Read, L: Ledger> CountedReader<'a, R, L> {
+    /// A reader, and the count to which each read of it adds one.
+    pub fn new(reader: &'a mut R, steps: &'a mut Steps<L>) -> CountedReader<'a, R, L>
+        ensures reader { result.reader.now ≡ reader.old }
+        ensures count { result.steps.now ≡ steps.old }
+        ensures same_count { result.steps.ghost_name ≡ steps.entry.ghost_name }
+    {
+        CountedReader { reader, steps }
+    }
+
+    /// One read, which is counted.
+    pub fn read(&mut self, piece: &mut [u8]) -> io::Result<usize>
+        ensures count { self.new.steps.now ≡ self.old.steps.now + 1 }
+        ensures same_count { self.new.steps.ghost_name ≡ self.old.steps.ghost_name }
+        ensures bound { ReadsAtMost result piece.new }
+        ensures bytes { ReadConsumes (R.remaining self.old.reader.now) (R.remaining self.new.reader.now) result piece.new }
+    {
+        self.steps.tick();
+        self.reader.read(piece)
+    }
+}
