@@ -1,4 +1,4 @@
-//! What one sending step sends: copied out of the screen under its lock, and encoded without it.
+//! What one sending step sends: copied out of the picture, and encoded without it.
 
 ghost use Rattle.std.specs.Prelude.{◌≡◌, ◌+◌, ◌<◌, ◌++◌, All, flat_map, IfOk, OnOk};
 ghost use Rattle.viewer.specs.Short.{IsShort};

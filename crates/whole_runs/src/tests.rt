@@ -1,11 +1,12 @@
 //! What no clause says of a screen: that each call succeeds where there is memory, and the bytes of worked
-//! examples, written out from RFC 6143. `copies` has the calls that copy, `marks` the other drawing calls, `bells`
-//! the notices, and `events` whole lists of events, also where an allocation fails. `steps` compares long runs with
-//! the plain picture and the plain viewers of `plain`.
+//! examples, written out from RFC 6143. `many` has many viewers and long pieces, `copies` the calls that copy,
+//! `marks` the other drawing calls, `bells` the notices, and `events` whole lists of events, also where an allocation
+//! fails. `steps` compares long runs with the plain picture and the plain viewers of `plain`.
 
 mod bells;
 mod copies;
 mod events;
+mod many;
 mod marks;
 mod plain;
 mod steps;
@@ -84,7 +85,7 @@ fn request(incremental: bool, x: u16, y: u16, w: u16, h: u16) -> [u8; 10] {
 }
 
 /// A viewer opens, sends more, and is sent the whole screen.
-fn seat(
+fn open_and_show(
     screen: &mut Screen,
     viewer: u64,
     (w, h): (u16, u16),
@@ -103,7 +104,7 @@ fn shown(alloc: Global, (w, h): (u16, u16), colours: &[u32]) -> Result<Screen, S
     let size = config(alloc, u32::from(w), u32::from(h), b"", 50)?;
     let mut screen = Screen::new(alloc, size)?;
     screen.paint(rect(0, 0, i32::from(w), i32::from(h)), colours)?;
-    seat(&mut screen, 1, (w, h), WITH_COPYRECT)?;
+    open_and_show(&mut screen, 1, (w, h), WITH_COPYRECT)?;
     Ok(screen)
 }
 
@@ -296,7 +297,7 @@ fn two_places(first: u8, second: u8) -> [u8; 36] {
 fn a_limit_owes_the_rest(rt: HostRuntime) -> Result<(), Fail> {
     let alloc = rt.alloc();
     let mut screen = Screen::new(alloc, config(alloc, 9, 1, b"", 2)?)?;
-    seat(&mut screen, 7, (9, 1), &[])?;
+    open_and_show(&mut screen, 7, (9, 1), &[])?;
     for x in [0, 2, 4, 6, 8] {
         screen.paint(rect(x, 0, x + 1, 1), &[0xa])?;
     }

@@ -1,6 +1,6 @@
 //! Bells and cut texts, and what a viewer tells the application.
 
-use super::{OPENING, demo, expect_sent, request, seat};
+use super::{OPENING, demo, expect_sent, request, open_and_show};
 use screen::{Screen, ScreenError};
 use messages::{Fault, Input};
 use std::test::Fail;
@@ -44,7 +44,7 @@ fn a_sixty_fifth_notice_is_not_kept(rt: HostRuntime) -> Result<(), Fail> {
 fn notices_come_before_the_update(rt: HostRuntime) -> Result<(), Fail> {
     let alloc = rt.alloc();
     let mut screen = Screen::new(alloc, demo(alloc)?)?;
-    seat(&mut screen, 1, (4, 3), &[])?;
+    open_and_show(&mut screen, 1, (4, 3), &[])?;
     screen.mark_rect(3, 2, 4, 3)?;
     screen.bell()?;
     screen.hear(1, &request(true, 0, 0, 4, 3))?;

@@ -1,6 +1,6 @@
 //! The calls that copy, for viewers with and without CopyRect: each update byte for byte.
 
-use super::{expect_sent, rect, region, request, seat, shown};
+use super::{expect_sent, rect, region, request, open_and_show, shown};
 use screen::{Screen, ScreenError};
 use region::Rect;
 use std::alloc::Global;
@@ -41,7 +41,7 @@ pub(crate) fn copy(
 #[test]
 fn a_copy_is_copyrect_for_one_viewer_and_pixels_for_another(rt: HostRuntime) -> Result<(), Fail> {
     let mut screen = shown(rt.alloc(), (4, 1), &[1, 2, 3, 4])?;
-    seat(&mut screen, 2, (4, 1), &[])?;
+    open_and_show(&mut screen, 2, (4, 1), &[])?;
     screen.do_copy_rect(1, 0, 4, 1, 1, 0)?;
     for viewer in [1, 2] {
         screen.hear(viewer, &request(true, 0, 0, 4, 1))?;

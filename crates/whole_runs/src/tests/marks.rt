@@ -1,6 +1,6 @@
 //! Writing and marking, and the encoding in which marked places are sent: each update byte for byte.
 
-use super::{OPENING, config, expect_sent, rect, region, request, seat, shown};
+use super::{OPENING, config, expect_sent, rect, region, request, open_and_show, shown};
 use screen::Screen;
 use std::test::Fail;
 
@@ -45,7 +45,7 @@ fn marks_are_cut_to_the_screen(rt: HostRuntime) -> Result<(), Fail> {
 #[test]
 fn many_marks_are_one_rectangle_for_each_viewer(rt: HostRuntime) -> Result<(), Fail> {
     let mut screen = shown(rt.alloc(), (9, 1), &[0; 9])?;
-    seat(&mut screen, 2, (9, 1), &[])?;
+    open_and_show(&mut screen, 2, (9, 1), &[])?;
     for number in 0..300 {
         let x = number % 5;
         screen.mark_rect(x, 0, x + 1, 1)?;
