@@ -114,9 +114,9 @@ module _ (m : Marks) (k : Kept) (asked : List Rect) (shows : Shows m k asked) wh
   }
 
   -- a set becomes owed
-  pub marked_are : (set : ℤ → ℤ → Bool) (drawn : List Rect) (new : Kept) → ((x y : ℤ) → covers drawn x y ≡ (set x y && on_screen m.width m.height x y)) → ((x y : ℤ) → kept_mark new x y ≡ cond (covers drawn x y) Owed (kept_mark k x y)) → with_kept new m ≡ marked set m
-  marked_are set drawn new part each = marks_are new (λ x y. cond (set x y) Owed (mark_at m x y)) (λ x y on.
-      each x y ∙ ap (λ t. cond t Owed (kept_mark k x y)) (part x y ∙ ap (λ t. set x y && t) on ∙ and_true (set x y)) ∙ ap (cond (set x y) Owed) (sym (mark_is x y)))
+  pub marked_are : (set : ℤ → ℤ → Bool) (new : Kept) → ((x y : ℤ) → kept_mark new x y ≡ cond (set x y && on_screen m.width m.height x y) Owed (kept_mark k x y)) → with_kept new m ≡ marked set m
+  marked_are set new each = marks_are new (λ x y. cond (set x y) Owed (mark_at m x y)) (λ x y on.
+      each x y ∙ ap (λ t. cond t Owed (kept_mark k x y)) (ap (λ t. set x y && t) on ∙ and_true (set x y)) ∙ ap (cond (set x y) Owed) (sym (mark_is x y)))
     where
       and_true : (t : Bool) → (t && true) ≡ t
       and_true true = refl

@@ -1,13 +1,13 @@
 //! The places of a screen that are not clean, as two regions, and what drawing and requests do to them.
 
-ghost use Rattle.std.specs.Prelude.{◌≡◌, ◌&&◌, ◌||◌, not, true, if◌then◌else◌, ℕ, ℤ, pos, false, ◌+ℤ◌, ◌-ℤ◌, IfOk};
+ghost use Rattle.std.specs.Prelude.{◌≡◌, ◌&&◌, ◌||◌, not, true, if◌then◌else◌, ℕ, ℤ, pos, false, ◌≤◌, ◌+ℤ◌, ◌-ℤ◌, IfOk};
 ghost use Rattle.region.specs.Region.{covers, on_screen};
 ghost use Rattle.copy_schedule.specs.declared.Mark.TheVariants.{Owed};
 ghost use Rattle.copy_schedule.specs.Marks.{is_copied, moved_mark, IsCutTo};
 ghost use Rattle.copy_schedule.specs.Kept.{kept_mark, LiesOn, IsKept};
 ghost use Rattle.copy_schedule.specs.Sets.{is_far_by};
 
-use crate::sets::{leads_off, moved_by};
+use crate::sets::{fits, leads_off, moved_by, part_on_screen};
 use region::Region;
 use std::alloc::{AllocError, Global};
 
@@ -36,6 +36,27 @@ pub fn owing(kept: &Kept, set: &Region) -> Result<Kept, AllocError>
     let owed = kept.owed.union(set)?;
     let copied = kept.copied.difference(set)?;
     Ok(Kept { owed, copied })
+}
+
+/// The set's places that are on a screen become owed. A set that lies on it is borrowed as it is.
+pub fn owing_on_screen(
+    alloc: Global,
+    kept: &Kept,
+    set: &Region,
+    width: u32,
+    height: u32,
+) -> Result<Kept, AllocError>
+    requires width { width ≤ 8192 }
+    requires height { height ≤ 8192 }
+    ensures marks { IfOk result (λ k. (x y : ℤ) → kept_mark k x y ≡ (if covers set.now.list x y && on_screen width height x y then Owed else kept_mark kept.now x y)) }
+    ensures kept { IfOk result (λ k. IsKept width height kept.now → IsKept width height k) }
+{
+    if fits(set, width, height) {
+        return owing(kept, set);
+    }
+    let part = part_on_screen(alloc, set, width, height)?;
+    let left = owing(kept, &part)?;
+    Ok(left)
 }
 
 /// The copied places become owed.

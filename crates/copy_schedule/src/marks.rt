@@ -10,8 +10,8 @@ ghost use Rattle.copy_schedule.specs.Kept.{IsKept, LiesOn, with_kept};
 
 use crate::Cut;
 use crate::chosen::{choose, first_rects, left_after};
-use crate::kept::{Kept, clone_of, forgetting, losing, moving, owing, owing_copies};
-use crate::sets::{on_screen, part_of, screen_places};
+use crate::kept::{Kept, clone_of, forgetting, losing, moving, owing_copies, owing_on_screen};
+use crate::sets::{part_of, screen_places};
 use listed::Listed;
 use region::{Rect, Region};
 use std::alloc::{AllocError, Global};
@@ -109,8 +109,7 @@ impl Marks {
     pub fn prepare_mark(&self, region: &Region) -> Result<Prepared, AllocError>
         ensures { IfOk result (λ prepared. prepared ≡ marked (covers region.now.list) self.now) }
     {
-        let drawn = on_screen(self.alloc, region, self.width, self.height)?;
-        let kept = owing(&self.kept, &drawn)?;
+        let kept = owing_on_screen(self.alloc, &self.kept, region, self.width, self.height)?;
         let prepared = self.prepared(kept, (self.offset_x, self.offset_y))?;
         Ok(prepared)
     }

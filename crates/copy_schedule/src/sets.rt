@@ -128,7 +128,7 @@ fn is_within(rect: Rect, width: u32, height: u32) -> bool
 }
 
 /// Whether a region's box is on the screen.
-fn fits(region: &Region, width: u32, height: u32) -> bool
+pub fn fits(region: &Region, width: u32, height: u32) -> bool
     ensures { result ≡ true → LiesOn width height region.now.list }
 {
     match region.bbox() {
@@ -137,8 +137,8 @@ fn fits(region: &Region, width: u32, height: u32) -> bool
     }
 }
 
-/// The region's places that are on a screen.
-pub fn on_screen(
+/// The region's places that are on a screen, as a region of its own.
+pub fn part_on_screen(
     alloc: Global,
     region: &Region,
     width: u32,
@@ -148,9 +148,6 @@ pub fn on_screen(
     requires height { height ≤ 8192 }
     ensures { IfOk result (λ part. (x y : ℤ) → covers part.list x y ≡ (covers region.now.list x y && on_screen width height x y)) }
 {
-    if fits(region, width, height) {
-        return region.try_clone(alloc);
-    }
     let screen = screen_places(alloc, width, height)?;
     let part = region.intersection(&screen)?;
     Ok(part)

@@ -6,7 +6,6 @@ use Rattle.region.specs.Region.{covers}
 use Rattle.region.specs.Places.{by_place}
 use Rattle.copy_schedule.specs.Marks.{Marks, marked}
 use Rattle.copy_schedule.specs.Kept.{kept_mark, IsKept, with_kept}
-use Rattle.copy_schedule.proofs.SetLemmas.{lies_on_part}
 use Rattle.copy_schedule.proofs.KeptLemmas.{Shows, marked_are}
 use Rattle.copy_schedule.proofs.marks.Marks.prepare_mark.Goals as goal
 
@@ -15,7 +14,7 @@ prepared-requires c =
     let f = c.self.inside in
     let m : Marks = record { width = f.width; height = f.height; marks = by_place f.width f.height (kept_mark f.kept); offset = (f.offset_x, f.offset_y); asked = by_place f.width f.height (covers f.asked.list) } in
     let shows : Shows m f.kept f.asked.list = record { screen = c.self.invariant; marks = refl; places = refl } in
-    subst (λ (n : Marks). IsKept n.width n.height c.in_ok-kept.kept) c.self.view_is (c.in_ok-kept.ensures.kept m.width m.height shows.screen.kept (lies_on_part m.width m.height c.in_ok-drawn.drawn.list (covers c.args.region.now.list) c.in_ok-drawn.ensures))
+    subst (λ (n : Marks). IsKept n.width n.height c.in_ok-kept.kept) c.self.view_is (c.in_ok-kept.ensures.kept shows.screen.kept)
 
 pub returns : goal.returns
 returns c =
@@ -28,5 +27,5 @@ returns c =
     let y : FitsSigned w32 f.offset_y = search rules in
     (simp to_z-of_z at c.in_ok-prepared.ensures)
     ∙ ap {B = Marks} (λ (n : Marks). record (with_kept kept n) { offset = (f.offset_x, f.offset_y) }) (sym c.self.view_is)
-    ∙ marked_are m f.kept f.asked.list shows set c.in_ok-drawn.drawn.list kept c.in_ok-drawn.ensures c.in_ok-kept.ensures.marks
+    ∙ marked_are m f.kept f.asked.list shows set kept c.in_ok-kept.ensures.marks
     ∙ ap (marked set) c.self.view_is
