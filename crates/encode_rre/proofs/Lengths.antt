@@ -5,9 +5,6 @@ use Rattle.std.specs.List.{flat_map}
 use Rattle.std.proofs.lemmas.Bool.{lt-ltb, cases_lt}
 use Rattle.std.proofs.lemmas.Bool.Decides.{leb_tells}
 use Rattle.pixel_translate.specs.declared.Area.{Area}
-use Rattle.pixel_translate.specs.declared.BitsPerPixel.{BitsPerPixel}
-use Rattle.pixel_translate.specs.declared.BitsPerPixel.TheVariants.{Eight, Sixteen, ThirtyTwo}
-use Rattle.pixel_translate.specs.declared.Component.{Component}
 use Rattle.pixel_translate.specs.declared.PixelFormat.{PixelFormat}
 use Rattle.pixel_translate.specs.Pixel.{bytes_per_pixel, pixel, pixel_bytes}
 use Rattle.pixel_translate.specs.Bounds.{pixel_length}

@@ -3,7 +3,7 @@ use Rattle.encode_rre.specs.Rows.{rows_in}
 use Rattle.encode_rre.specs.Starts.{AreRuns}
 use Rattle.encode_rre.specs.Subrectangles.{row_at, stretch, begins_run}
 use Rattle.encode_rre.specs.declared.Subrectangle.{Subrectangle}
-use Rattle.encode_rre.specs.Scans.{Step, found_before, scan_step, found_yes, found_no, sub_is}
+use Rattle.encode_rre.specs.Scans.{Step, found_before, scan_step, found_yes, found_no}
 use Rattle.encode_rre.proofs.scan.push_row.Goals as goal
 use Rattle.encode_rre.proofs.scan.push_row.Goals.{in-Some+in_ok-push, in_default}
 
