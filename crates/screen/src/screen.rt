@@ -360,12 +360,7 @@ impl Screen {
         if self.viewers.place_of(number).is_some() {
             return Err(ScreenError::NumberInUse);
         }
-        Ok(let_in(
-            self.alloc,
-            &self.config,
-            &mut self.viewers,
-            number,
-        )?)
+        Ok(let_in(self.alloc, &self.config, &mut self.viewers, number)?)
     }
 
     /// Closes a viewer's connection. Refused as `NoViewer` where there is none with the number.

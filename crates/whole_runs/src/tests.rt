@@ -11,10 +11,10 @@ mod marks;
 mod plain;
 mod steps;
 
-use screen::{Answer, Config, Event, Screen, ScreenError, run};
 use listed::Listed;
 use messages::Fault;
 use region::{Rect, Region, RegionError};
+use screen::{Answer, Config, Event, Screen, ScreenError, run};
 use std::alloc::{AllocError, Global};
 use std::process::Abort;
 use std::test::Fail;

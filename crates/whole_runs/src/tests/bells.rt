@@ -1,8 +1,8 @@
 //! Bells and cut texts, and what a viewer tells the application.
 
-use super::{OPENING, demo, expect_sent, request, open_and_show};
-use screen::{Screen, ScreenError};
+use super::{OPENING, demo, expect_sent, open_and_show, request};
 use messages::{Fault, Input};
+use screen::{Screen, ScreenError};
 use std::test::Fail;
 
 #[test]

@@ -1,8 +1,8 @@
 //! The calls that copy, for viewers with and without CopyRect: each update byte for byte.
 
-use super::{expect_sent, rect, region, request, open_and_show, shown};
-use screen::{Screen, ScreenError};
+use super::{expect_sent, open_and_show, rect, region, request, shown};
 use region::Rect;
+use screen::{Screen, ScreenError};
 use std::alloc::Global;
 use std::test::Fail;
 

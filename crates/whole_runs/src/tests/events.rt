@@ -2,9 +2,9 @@
 //! and then every answer is the same: a call that was refused left the screen as it was.
 
 use super::{OPENING, WITH_COPYRECT, config, hear, paint, rect, region, request, shown};
-use screen::{Config, Event, Screen, ScreenError, run};
 use listed::Listed;
 use region::{Rect, Region};
+use screen::{Config, Event, Screen, ScreenError, run};
 use std::alloc::{AllocError, Global};
 use std::process::Abort;
 use std::test::Fail;

@@ -87,6 +87,9 @@ fn what_a_screen_holds_can_be_read(rt: HostRuntime) -> Result<(), Fail> {
     assert_eq!(rt; screen.colour(2, 1), Some(0xff8000));
     assert_eq!(rt; screen.colour(4, 0), None);
     assert_eq!(rt; screen.fault(5)?, Some(screen::Fault::BadVersion));
-    assert_eq!(rt; format!(in rt.alloc(); "{}", ScreenError::NoViewer)?.as_str(), "NoViewer");
+    assert_eq!(rt;
+        format!(in rt.alloc(); "{}", ScreenError::NoViewer)?.as_str(),
+        "NoViewer"
+    );
     Ok(())
 }

@@ -1,6 +1,6 @@
 //! Writing and marking, and the encoding in which marked places are sent: each update byte for byte.
 
-use super::{OPENING, config, expect_sent, rect, region, request, open_and_show, shown};
+use super::{OPENING, config, expect_sent, open_and_show, rect, region, request, shown};
 use screen::Screen;
 use std::test::Fail;
 

@@ -6,8 +6,8 @@ ghost use Rattle.std.specs.Prelude.{◌<◌};
 use super::copies::{COPYING, Copying, copy};
 use super::plain::{Picture, Viewer, is_in};
 use super::{OPENING, WITH_COPYRECT, config, rect, request};
-use screen::{Screen, ScreenError};
 use region::Rect;
+use screen::{Screen, ScreenError};
 use std::alloc::{AllocError, Global};
 use std::test::Fail;
 

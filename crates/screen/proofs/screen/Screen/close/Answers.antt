@@ -17,7 +17,7 @@ invariant_of-self c = elim c.match-remove.branch [
   | in-Ok w ↦ record {
     accepted = c.self.invariant.accepted;
     width = c.self.invariant.width;
-  height = c.self.invariant.height;
+    height = c.self.invariant.height;
     sized = rw w.in-Ok.ensures.others (all-some (IsSized c.self.inside.config) (λ pair. not (pair.0 == c.args.number)) c.self.inside.viewers.pairs c.self.invariant.sized);
   }
   | in-Err w ↦ subst (λ (l : Connected KeptViewer). IsHeld c.self.inside.config c.self.inside.picture (values_of l.pairs)) (sym w.in-Err.ensures.err) c.self.invariant

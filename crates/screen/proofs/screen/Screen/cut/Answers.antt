@@ -59,7 +59,7 @@ invariant_of-self-in_err-cut c =
     record {
       accepted = c.self.invariant.accepted;
       width = c.self.invariant.width;
-  height = c.self.invariant.height;
+      height = c.self.invariant.height;
       sized = all-set (IsSized c.self.inside.config) c.self.inside.viewers.pairs (index_of_number c.self.inside.viewers c.args.number) c.cut.new.self c.self.invariant.sized (record { width = c.cut.ensures.width ∙ was.width; height = c.cut.ensures.height ∙ was.height });
     }
 
@@ -69,7 +69,7 @@ invariant_of-self-2 c =
     record {
       accepted = c.self.invariant.accepted;
       width = c.self.invariant.width;
-  height = c.self.invariant.height;
+      height = c.self.invariant.height;
       sized = all-set (IsSized c.self.inside.config) c.self.inside.viewers.pairs (index_of_number c.self.inside.viewers c.args.number) c.cut.new.self c.self.invariant.sized (record { width = c.cut.ensures.width ∙ was.width; height = c.cut.ensures.height ∙ was.height });
     }
 

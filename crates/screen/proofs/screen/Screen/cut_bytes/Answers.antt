@@ -58,7 +58,7 @@ invariant_of-self-in_err-bytes c =
     record {
       accepted = c.self.invariant.accepted;
       width = c.self.invariant.width;
-  height = c.self.invariant.height;
+      height = c.self.invariant.height;
       sized = all-set (IsSized c.self.inside.config) c.self.inside.viewers.pairs (index_of_number c.self.inside.viewers c.args.number) c.cut_bytes.new.self c.self.invariant.sized (record { width = c.cut_bytes.ensures.width ∙ was.width; height = c.cut_bytes.ensures.height ∙ was.height });
     }
 
@@ -68,7 +68,7 @@ invariant_of-self-2 c =
     record {
       accepted = c.self.invariant.accepted;
       width = c.self.invariant.width;
-  height = c.self.invariant.height;
+      height = c.self.invariant.height;
       sized = all-set (IsSized c.self.inside.config) c.self.inside.viewers.pairs (index_of_number c.self.inside.viewers c.args.number) c.cut_bytes.new.self c.self.invariant.sized (record { width = c.cut_bytes.ensures.width ∙ was.width; height = c.cut_bytes.ensures.height ∙ was.height });
     }
 

@@ -52,7 +52,7 @@ invariant_of-self-in_err-reply c =
     record {
       accepted = c.self.invariant.accepted;
       width = c.self.invariant.width;
-  height = c.self.invariant.height;
+      height = c.self.invariant.height;
       sized = all-set (IsSized c.self.inside.config) c.self.inside.viewers.pairs (index_of_number c.self.inside.viewers c.args.number) c.hear.new.self c.self.invariant.sized (record { width = c.hear.ensures.width ∙ was.width; height = c.hear.ensures.height ∙ was.height });
     }
 
@@ -62,7 +62,7 @@ invariant_of-self-2 c =
     record {
       accepted = c.self.invariant.accepted;
       width = c.self.invariant.width;
-  height = c.self.invariant.height;
+      height = c.self.invariant.height;
       sized = all-set (IsSized c.self.inside.config) c.self.inside.viewers.pairs (index_of_number c.self.inside.viewers c.args.number) c.hear.new.self c.self.invariant.sized (record { width = c.hear.ensures.width ∙ was.width; height = c.hear.ensures.height ∙ was.height });
     }
 

@@ -16,7 +16,7 @@ invariant_of-self c =
     record {
       accepted = c.self.invariant.accepted;
       width = c.self.invariant.width;
-  height = c.self.invariant.height;
+      height = c.self.invariant.height;
       sized = rw made (sized-changed c.self.inside.config (viewer_with marks_of) c.self.inside.viewers.pairs (λ s was. record { width = was.width; height = was.height }) c.self.invariant.sized);
     }
 

@@ -51,7 +51,7 @@ invariant_of-self c =
     record {
       accepted = c.self.invariant.accepted;
       width = c.self.invariant.width;
-  height = c.self.invariant.height;
+      height = c.self.invariant.height;
       sized = rw made (sized-changed here.config (viewer_with marks_of) here.viewers.pairs (λ s was. let size = same_size (covers pieces) (c.args.dx, c.args.dy) s in record { width = size.0 ∙ was.width; height = size.1 ∙ was.height }) c.self.invariant.sized);
     }
 
