@@ -1,153 +1,17 @@
-//! One screen, many viewers: drawing, the viewers' bytes, and what is sent to each.
+//! One screen, many viewers, and the events that led to what stands there, where they are kept.
 #![tactic(auto)]
 
-mod answers;
-mod arriving;
-mod drawing;
-mod limits;
+mod kept_events;
 mod runs;
 mod screen;
 
 pub use listed::Listed;
 pub use messages::{Fault, Input};
 pub use region::{Rect, Region, RegionError};
-pub use runs::{one_viewer_is_alone, pictures_are_shown, run, viewers_are_alone};
+pub use runs::{kept_is_enough, kept_is_kept, run};
+pub use scene::{
+    Answer, Config, Event, History, ScreenError, one_viewer_is_alone, pictures_are_shown,
+    viewers_are_alone,
+};
 pub use screen::Screen;
-use std::alloc::{AllocError, AllocFailed};
-use thiserror::Error;
 pub use viewer::Update;
-
-/// What a screen is made with.
-#[derive(Debug, Drop)]
-pub struct Config {
-    /// Columns, 1 to 8192; at most 2^24 places in all.
-    pub width: u32,
-    /// Rows, 1 to 8192.
-    pub height: u32,
-    /// The desktop's name (RFC 6143, 7.3.2), at most 255 bytes.
-    pub name: Listed<u8>,
-    /// How many copies, and how many pixel rectangles, one update has at most: 1 to 1000.
-    pub rects_per_update: u32,
-}
-
-/// Why a call is refused. Nothing has changed then. Its text is the variant's name.
-#[derive(Clone, Copy, Debug, PartialEq, Eq, Error)]
-pub enum ScreenError {
-    /// The width or the height is not from 1 to 8192, or there are more than 2^24 places: make a smaller screen.
-    #[error("BadSize")]
-    BadSize,
-    /// The name has more than 255 bytes: shorten it.
-    #[error("BadName")]
-    BadName,
-    /// The limit of rectangles is not from 1 to 1000: 50 serves where nothing is known of the viewers.
-    #[error("BadRectLimit")]
-    BadRectLimit,
-    /// The rectangle is not on the screen, or its corners are in the wrong order: clip it first.
-    #[error("BadRect")]
-    BadRect,
-    /// There are not as many colours as places: give one for each, row by row.
-    #[error("BadPixelCount")]
-    BadPixelCount,
-    /// The text has more than 65,536 bytes: shorten it.
-    #[error("TextTooLong")]
-    TextTooLong,
-    /// No live viewer has the number: it never connected, or was closed.
-    #[error("NoViewer")]
-    NoViewer,
-    /// A live viewer has the number already: close it first, or take another number.
-    #[error("NumberInUse")]
-    NumberInUse,
-    /// A growth was refused: make the call again once there is memory.
-    #[error("OutOfMemory")]
-    OutOfMemory,
-}
-
-impl From<AllocError> for ScreenError {
-    ghost use Rattle.std.specs.Prelude.{◌≡◌};
-    ghost use Rattle.screen.specs.declared.ScreenError.TheVariants.{OutOfMemory};
-
-    ghost from_gives = { λ _ e. e ≡ OutOfMemory };
-
-    fn from(_error: AllocError) -> ScreenError {
-        ScreenError::OutOfMemory
-    }
-}
-
-impl<T: Drop> From<AllocFailed<T>> for ScreenError {
-    ghost use Rattle.std.specs.Prelude.{◌≡◌};
-    ghost use Rattle.screen.specs.declared.ScreenError.TheVariants.{OutOfMemory};
-
-    ghost from_gives = { λ _ e. e ≡ OutOfMemory };
-
-    fn from(_error: AllocFailed<T>) -> ScreenError {
-        ScreenError::OutOfMemory
-    }
-}
-
-/// One event of the screen: a drawing call, or an event of one viewer.
-#[derive(Debug, Drop)]
-pub enum Event {
-    /// The rectangle's colours `0x00RRGGBB`, row by row, replace those of the picture; no viewer is told.
-    Write {
-        rect: Rect,
-        colours: Listed<u32>,
-    },
-    /// The same, and the rectangle is owed to every viewer.
-    Paint {
-        rect: Rect,
-        colours: Listed<u32>,
-    },
-    /// The places of the rectangles are owed to every viewer. Here, and in copies, a list of rectangles stands for the places
-    /// of all of them, each with its corners in order.
-    Mark {
-        rects: Listed<Rect>,
-    },
-    /// Every viewer is told of a copy to the rectangles' places from the places (dx, dy) before them; the picture stays.
-    ScheduleCopy {
-        rects: Listed<Rect>,
-        dx: i32,
-        dy: i32,
-    },
-    /// The copy is made in the picture, and every viewer is told.
-    DoCopy {
-        rects: Listed<Rect>,
-        dx: i32,
-        dy: i32,
-    },
-    /// A bell for every open viewer.
-    Bell,
-    /// A text for every open viewer.
-    CutText {
-        text: Listed<u8>,
-    },
-    /// A viewer connects.
-    Connect {
-        viewer: u64,
-    },
-    /// A piece of a viewer's bytes is heard.
-    Hear {
-        viewer: u64,
-        piece: Listed<u8>,
-    },
-    /// An update is cut for a viewer.
-    Cut {
-        viewer: u64,
-    },
-    /// A viewer's connection is closed.
-    Close {
-        viewer: u64,
-    },
-}
-
-/// What an event gave.
-#[derive(Debug, Drop)]
-pub struct Answer {
-    /// For the viewer.
-    pub bytes: Listed<u8>,
-    /// For the application.
-    pub inputs: Listed<Input>,
-    /// Why the viewer is heard no further.
-    pub closed: Option<Fault>,
-    /// Why nothing happened.
-    pub refused: Option<ScreenError>,
-}

@@ -1,15 +1,15 @@
-//! Whole runs: the answers to a list of events, and what they do not depend on.
+//! Whole runs: the answers to a list of events, and what a kept history stands for.
 
 ghost use Rattle.std.specs.List.{list_all};
 ghost use Rattle.std.specs.Prelude.{◌≡◌, true, IfOk, MatchResult, MatchOption};
-ghost use Rattle.screen.specs.Alone.{config_refusal};
-ghost use Rattle.screen.specs.Answers.{answers};
-ghost use Rattle.screen.specs.Claims.{told_alike, one_viewer_is_alone};
-ghost use Rattle.screen.specs.Pictures.{is_told, ShowPictures, pictures_are_shown};
+ghost use Rattle.scene.specs.Alone.{config_refusal};
+ghost use Rattle.scene.specs.Answers.{answers};
+ghost use Rattle.scene.specs.Pictures.{is_told, ShowPictures};
+ghost use Rattle.screen.specs.State.{kept_is_enough, kept_is_kept};
 
-use crate::{Answer, Config, Event, Screen, ScreenError};
+use crate::Screen;
+use scene::{Answer, Config, Event, ScreenError, pictures_are_shown};
 use std::alloc::Global;
-use viewer_picture::rectangles_are_read;
 
 /// The answers to events, each as if its viewer were alone. Where the viewers are told of all that is drawn, each that is
 /// there shows what is drawn, by RFC 6143 and what it said and was answered: at each clean place the place's colour, and at
@@ -28,19 +28,12 @@ pub fn run(alloc: Global, config: Config, events: &[Event]) -> Result<Vec<Answer
     Ok(given)
 }
 
-/// Two runs that agree in the drawing calls and in a viewer's own events tell that viewer the same.
-pub fn viewers_are_alone()
-    ensures { told_alike }
+/// A screen stands for the events that it keeps: those that are left out changed nothing.
+pub fn kept_is_enough()
+    ensures { kept_is_enough }
 {}
 
-/// A run with one viewer is the machine with one viewer.
-pub fn one_viewer_is_alone()
-    ensures { one_viewer_is_alone }
+/// A screen that is given the events that another one kept keeps them all.
+pub fn kept_is_kept()
+    ensures { kept_is_kept }
 {}
-
-/// What each viewer shows that is there is what is drawn, where the viewers are told of all that is drawn.
-pub fn pictures_are_shown()
-    ensures { pictures_are_shown }
-{
-    rectangles_are_read();
-}

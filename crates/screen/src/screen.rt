@@ -1,51 +1,40 @@
-//! The screen: each call is one event, and leaves it standing for the list of events so far with its own behind it.
+//! The screen: each call is one event, and leaves it standing for the list of events so far with its own behind it. What stands
+//! now is a scene; here each call keeps its event beside it, where events are kept, in room that is made before anything
+//! changes.
 
-ghost use Rattle.std.specs.Prelude.{◌≡◌, ◌≢◌, ◌++◌, ◌∷◌, [], List, IfSome, IfOk, OnOk, OnErr, MatchOption, MatchResult, IsOk, IsOkUnless, IsSome, None, length, slice_index, is_some, ◌↔◌, ◌<◌, ◌+◌, ◌*◌};
+ghost use Rattle.std.specs.Prelude.{◌≡◌, ◌≢◌, ◌++◌, ◌∷◌, [], List, IfSome, IfOk, OnOk, OnErr, MatchOption, MatchResult, IsOk, IsOkUnless, IsSome, None, length, slice_index, is_some, option_map, ◌↔◌, ◌<◌, ◌+◌, ◌*◌};
 ghost use Rattle.messages.specs.Reading.{fault_kept};
-ghost use Rattle.screen.specs.declared.Config.{Config};
-ghost use Rattle.screen.specs.declared.Event.{Event};
-ghost use Rattle.screen.specs.Alone.{config_refusal, nothing_to_say, gives, something_to_send, told, Tells};
+ghost use Rattle.scene.specs.declared.Config.{Config};
+ghost use Rattle.scene.specs.declared.Event.{Event};
+ghost use Rattle.scene.specs.Alone.{config_refusal, nothing_to_say, gives, something_to_send, Tells};
+ghost use Rattle.scene.specs.Answers.{answer_to};
+ghost use Rattle.scene.specs.Refusals.{absence, presence, Refuses};
 ghost use Rattle.viewer.specs.Given.{bytes_given};
-ghost use Rattle.screen.specs.Answers.{state, answer_to};
-ghost use Rattle.screen.specs.Refusals.{viewer_at, absence, presence, refusal, Refuses};
+ghost use Rattle.screen.specs.State.{state, viewer_at, refusal};
 
-use crate::answers::{settled, with_bytes, with_nothing, with_reply};
-use crate::arriving::let_in;
-use crate::drawing::{
-    commit_all, marks_with_copy, marks_with_rect, marks_with_rects, marks_with_region,
-    moves_nothing, ring_all, tell_all, texts,
-};
-use crate::limits::{checked, refusal_of};
-use crate::{Answer, Config, Event, ScreenError};
-use client_list::Clients;
-use framebuffer::{Framebuffer, destinations};
+use crate::kept_events::{KeptEvents, has_happened};
 use listed::Listed;
 use messages::Fault;
 use region::{Rect, Region};
+use scene::{Answer, Config, Event, Scene, ScreenError};
 use std::alloc::{AllocError, Global};
 use std::marker::Model;
-use viewer::{Update, Viewer};
+use viewer::Update;
 
 /// A screen with its viewers: one framebuffer, drawn in by the application.
 #[derive(Drop)]
 pub struct Screen {
-    alloc: Global,
-    config: Config,
-    picture: Framebuffer,
-    viewers: Clients<Viewer>,
+    scene: Scene,
+    events: KeptEvents,
 }
 
 impl Model for Screen {
-    ghost use Rattle.std.specs.Map.{values_of};
-    ghost use Rattle.screen.specs.Answers.{State};
+    ghost use Rattle.screen.specs.State.{State, with_history};
+    ghost use Rattle.screen.specs.Kept.{items_of};
 
     ghost Value = { State };
 
-    ghost use Rattle.screen.specs.Held.{IsHeld};
-
-    ghost view = { λ a. record { config = a.config; picture = a.picture.colours; viewers = a.viewers.pairs } };
-
-    ghost invariant = { λ a. IsHeld a.config a.picture (values_of a.viewers.pairs) };
+    ghost view = { λ a. with_history a.scene (items_of a.events.events) };
 }
 
 impl Screen {
@@ -55,30 +44,32 @@ impl Screen {
         ensures made { IfOk result (λ screen. screen ≡ state config []) }
         ensures refused { MatchOption (config_refusal config) (IsOkUnless result ScreenError.OutOfMemory) (λ e. result ≡ Err e) }
     {
-        if let Some(error) = refusal_of(&config) {
-            return Err(error);
-        }
-        let picture = Framebuffer::new(alloc, config.width, config.height)?;
-        Ok(Screen {
-            alloc,
-            config,
-            picture,
-            viewers: Clients::new(alloc),
-        })
+        let scene = Scene::new(alloc, config)?;
+        let events = KeptEvents::new(alloc, scene.history());
+        Ok(Screen { scene, events })
+    }
+
+    /// The events that were accepted, in order, where they are kept: a call for one rectangle with the rectangle as it was given,
+    /// one for a region with the region's canonical list, and no cut that gave nothing. They are all that the screen stands for.
+    pub fn history(&self) -> Option<&[Event]>
+        ensures kept { option_map (λ events. events.now) result ≡ self.now.history }
+        ensures enough { (config : Config) (list : List Event) → self.now ≡ state config list → IfSome result (λ events. self.now ≡ state config events.now) }
+    {
+        self.events.as_slice()
     }
 
     /// The screen's columns, 1 to 8192.
     pub fn width(&self) -> u32
         ensures { result ≡ self.now.config.width }
     {
-        self.config.width
+        self.scene.width()
     }
 
     /// The screen's rows, 1 to 8192.
     pub fn height(&self) -> u32
         ensures { result ≡ self.now.config.height }
     {
-        self.config.height
+        self.scene.height()
     }
 
     /// The colour `0x00RRGGBB` of the place in column x of row y; None off the screen.
@@ -86,31 +77,28 @@ impl Screen {
         ensures inside { IsSome result ↔ ((x < self.now.config.width) × (y < self.now.config.height)) }
         ensures colour { IfSome result (λ colour. colour ≡ slice_index self.now.picture (y * self.now.config.width + x)) }
     {
-        self.picture.colour(x, y)
+        self.scene.colour(x, y)
     }
 
     /// How many viewers are live: connected, and not closed. A viewer that met a fault is live until it is closed.
     pub fn viewer_count(&self) -> usize
         ensures { result ≡ length self.now.viewers }
     {
-        self.viewers.len()
+        self.scene.viewer_count()
     }
 
     /// Whether a live viewer has the number.
     pub fn is_live(&self, number: u64) -> bool
         ensures { result ≡ is_some (viewer_at self.now number) }
     {
-        self.viewers.get(number).is_some()
+        self.scene.is_live(number)
     }
 
     /// Why a viewer is heard no further, if it met a fault. Refused as `NoViewer` where there is none with the number.
     pub fn fault(&self, number: u64) -> Result<Option<Fault>, ScreenError>
         ensures { MatchOption (viewer_at self.now number) (result ≡ Err ScreenError.NoViewer) (λ viewer. result ≡ Ok (fault_kept viewer.heard)) }
     {
-        match self.viewers.get(number) {
-            Some(viewer) => Ok(viewer.fault()),
-            None => Err(ScreenError::NoViewer),
-        }
+        self.scene.fault(number)
     }
 
     /// Replaces the colours of a rectangle by others, `0x00RRGGBB` row by row, whose top bytes are
@@ -124,10 +112,14 @@ impl Screen {
         ensures refused { Refuses result (refusal self.old (Event.Paint rect colours.now)) }
         ensures err { OnErr result (self.new ≡ self.old) }
     {
-        let block = checked(&self.config, rect, colours)?;
-        let marks = marks_with_rect(self.alloc, &self.viewers, rect)?;
-        self.picture.write(block, colours)?;
-        commit_all(&mut self.viewers, marks);
+        self.scene.check_pixels(rect, colours)?;
+        let copy = self.events.copied(colours)?;
+        self.events.make_room()?;
+        self.scene.paint(rect, colours)?;
+        self.events.push(Event::Paint {
+            rect,
+            colours: copy,
+        });
         Ok(())
     }
 
@@ -141,8 +133,14 @@ impl Screen {
         ensures refused { Refuses result (refusal self.old (Event.Write rect colours.now)) }
         ensures err { OnErr result (self.new ≡ self.old) }
     {
-        let block = checked(&self.config, rect, colours)?;
-        self.picture.write(block, colours)?;
+        self.scene.check_pixels(rect, colours)?;
+        let copy = self.events.copied(colours)?;
+        self.events.make_room()?;
+        self.scene.write_pixels(rect, colours)?;
+        self.events.push(Event::Write {
+            rect,
+            colours: copy,
+        });
         Ok(())
     }
 
@@ -155,8 +153,10 @@ impl Screen {
         ensures refused { IsOkUnless result ScreenError.OutOfMemory }
         ensures err { OnErr result (self.new ≡ self.old) }
     {
-        let marks = marks_with_rects(self.alloc, &self.config, &self.viewers, rects)?;
-        commit_all(&mut self.viewers, marks);
+        let copy = self.events.copied(rects)?;
+        self.events.make_room()?;
+        self.scene.mark_rects(rects)?;
+        self.events.push(Event::Mark { rects: copy });
         Ok(())
     }
 
@@ -184,9 +184,10 @@ impl Screen {
         ensures refused { IsOkUnless result ScreenError.OutOfMemory }
         ensures err { OnErr result (self.new ≡ self.old) }
     {
-        region.list_is_canonical();
-        let marks = marks_with_region(self.alloc, &self.viewers, region)?;
-        commit_all(&mut self.viewers, marks);
+        let copy = self.events.rects_of(region)?;
+        self.events.make_room()?;
+        self.scene.mark_region(region)?;
+        self.events.push(Event::Mark { rects: copy });
         Ok(())
     }
 
@@ -200,19 +201,14 @@ impl Screen {
         ensures refused { IsOkUnless result ScreenError.OutOfMemory }
         ensures err { OnErr result (self.new ≡ self.old) }
     {
-        let pieces = destinations(
-            self.alloc,
-            rects,
+        let copy = self.events.copied(rects)?;
+        self.events.make_room()?;
+        self.scene.schedule_copy(rects, dx, dy)?;
+        self.events.push(Event::ScheduleCopy {
+            rects: copy,
             dx,
             dy,
-            self.config.width,
-            self.config.height,
-        )?;
-        if moves_nothing(&pieces, (dx, dy)) {
-            return Ok(());
-        }
-        let marks = marks_with_copy(self.alloc, &self.viewers, &pieces, (dx, dy))?;
-        commit_all(&mut self.viewers, marks);
+        });
         Ok(())
     }
 
@@ -267,14 +263,14 @@ impl Screen {
         ensures refused { IsOkUnless result ScreenError.OutOfMemory }
         ensures err { OnErr result (self.new ≡ self.old) }
     {
-        let (width, height) = (self.picture.width(), self.picture.height());
-        let pieces = destinations(self.alloc, rects, dx, dy, width, height)?;
-        if moves_nothing(&pieces, (dx, dy)) {
-            return Ok(());
-        }
-        let marks = marks_with_copy(self.alloc, &self.viewers, &pieces, (dx, dy))?;
-        self.picture.move_colours(&pieces, (dx, dy))?;
-        commit_all(&mut self.viewers, marks);
+        let copy = self.events.copied(rects)?;
+        self.events.make_room()?;
+        self.scene.do_copy(rects, dx, dy)?;
+        self.events.push(Event::DoCopy {
+            rects: copy,
+            dx,
+            dy,
+        });
         Ok(())
     }
 
@@ -325,7 +321,9 @@ impl Screen {
         ensures refused { IsOkUnless result ScreenError.OutOfMemory }
         ensures err { OnErr result (self.new ≡ self.old) }
     {
-        ring_all(&mut self.viewers);
+        self.events.make_room()?;
+        self.scene.bell()?;
+        self.events.push(Event::Bell);
         Ok(())
     }
 
@@ -339,11 +337,11 @@ impl Screen {
         ensures refused { Refuses result (refusal self.old (Event.CutText text.now)) }
         ensures err { OnErr result (self.new ≡ self.old) }
     {
-        if text.len() > 1 << 16 {
-            return Err(ScreenError::TextTooLong);
-        }
-        let notices = texts(self.alloc, text, self.viewers.len())?;
-        tell_all(&mut self.viewers, text, notices);
+        self.scene.check_text(text)?;
+        let copy = self.events.copied(text)?;
+        self.events.make_room()?;
+        self.scene.cut_text(text)?;
+        self.events.push(Event::CutText { text: copy });
         Ok(())
     }
 
@@ -357,25 +355,27 @@ impl Screen {
         ensures refused { Refuses result (presence (viewer_at self.old number)) }
         ensures err { OnErr result (self.new ≡ self.old) }
     {
-        if self.viewers.place_of(number).is_some() {
-            return Err(ScreenError::NumberInUse);
-        }
-        Ok(let_in(self.alloc, &self.config, &mut self.viewers, number)?)
+        self.scene.check_free(number)?;
+        self.events.make_room()?;
+        let version = self.scene.connect(number)?;
+        self.events.push(Event::Connect { viewer: number });
+        Ok(version)
     }
 
     /// Closes a viewer's connection. Refused as `NoViewer` where there is none with the number.
     pub fn close(&mut self, number: u64) -> Result<(), ScreenError>
         ensures step { (config : Config) (list : List Event) → self.old ≡ state config list →
-            self.new ≡ state config (list ++ Event.Close number ∷ []) }
+            OnOk result (self.new ≡ state config (list ++ Event.Close number ∷ [])) }
         ensures answer { (config : Config) (list : List Event) → self.old ≡ state config list →
-            told (λ _. nothing_to_say) result ≡ answer_to config list (Event.Close number) }
-        ensures refused { MatchOption (absence (viewer_at self.old number)) (IsOk result) (λ e. result ≡ Err e) }
+            Tells (λ _. nothing_to_say) result (answer_to config list (Event.Close number)) }
+        ensures refused { Refuses result (absence (viewer_at self.old number)) }
         ensures err { OnErr result (self.new ≡ self.old) }
     {
-        match self.viewers.remove(number) {
-            Ok(_) => Ok(()),
-            Err(_) => Err(ScreenError::NoViewer),
-        }
+        self.scene.check_live(number)?;
+        self.events.make_room()?;
+        self.scene.close(number)?;
+        self.events.push(Event::Close { viewer: number });
+        Ok(())
     }
 
     /// A piece of a viewer's bytes is heard (RFC 6143, 7.1 to 7.5): what it is answered, what it
@@ -390,11 +390,15 @@ impl Screen {
         ensures accepted { IfOk result (λ answer. answer.refused ≡ None) }
         ensures err { OnErr result (self.new ≡ self.old) }
     {
-        let Some(viewer) = self.viewers.get_mut(number) else {
-            return Err(ScreenError::NoViewer);
-        };
-        let reply = viewer.hear(self.config.name.as_slice(), piece)?;
-        Ok(with_reply(reply))
+        self.scene.check_live(number)?;
+        let copy = self.events.copied(piece)?;
+        self.events.make_room()?;
+        let answer = self.scene.hear(number, piece)?;
+        self.events.push(Event::Hear {
+            viewer: number,
+            piece: copy,
+        });
+        Ok(answer)
     }
 
     /// Whether a cut now would give something. Refused as `NoViewer` where there is no viewer with
@@ -404,10 +408,7 @@ impl Screen {
             result ≡ something_to_send (answer_to config list (Event.Cut number)) }
         ensures refused { MatchOption (absence (viewer_at self.now number)) (IsOk result) (λ e. result ≡ Err e) }
     {
-        let Some(viewer) = self.viewers.get(number) else {
-            return Err(ScreenError::NoViewer);
-        };
-        Ok(viewer.is_pending())
+        self.scene.pending(number)
     }
 
     /// Cuts an update for a viewer: its rectangles, with copies of their colours; None where there is
@@ -421,82 +422,13 @@ impl Screen {
         ensures refused { Refuses result (absence (viewer_at self.old number)) }
         ensures err { OnErr result (self.new ≡ self.old) }
     {
-        let Some(viewer) = self.viewers.get_mut(number) else {
-            return Err(ScreenError::NoViewer);
-        };
-        Ok(viewer.cut(&self.picture, self.config.rects_per_update)?)
-    }
-
-    /// The same, encoded before the viewer changes.
-    fn cut_bytes(&mut self, number: u64) -> Result<Listed<u8>, ScreenError>
-        ensures step { (config : Config) (list : List Event) → self.old ≡ state config list →
-            OnOk result (self.new ≡ state config (list ++ Event.Cut number ∷ [])) }
-        ensures answer { (config : Config) (list : List Event) → self.old ≡ state config list →
-            Tells gives result (answer_to config list (Event.Cut number)) }
-        ensures refused { Refuses result (absence (viewer_at self.old number)) }
-        ensures err { OnErr result (self.new ≡ self.old) }
-    {
-        let Some(viewer) = self.viewers.get_mut(number) else {
-            return Err(ScreenError::NoViewer);
-        };
-        let bytes = viewer.cut_bytes(&self.picture, self.config.rects_per_update)?;
-        Ok(Listed::from_vec(bytes))
-    }
-
-    /// One event, or why it is refused.
-    fn step(&mut self, event: &Event) -> Result<Answer, ScreenError>
-        ensures step { (config : Config) (list : List Event) → self.old ≡ state config list →
-            OnOk result (self.new ≡ state config (list ++ event.now ∷ [])) }
-        ensures answer { (config : Config) (list : List Event) → self.old ≡ state config list →
-            Tells (λ a. a) result (answer_to config list event.now) }
-        ensures refused { Refuses result (refusal self.old event.now) }
-        ensures accepted { IfOk result (λ answer. answer.refused ≡ None) }
-        ensures err { OnErr result (self.new ≡ self.old) }
-    {
-        let alloc = self.alloc;
-        match event {
-            Event::Write { rect, colours } => {
-                let written = self.write_pixels(*rect, colours.as_slice());
-                with_nothing(alloc, written)
-            }
-            Event::Paint { rect, colours } => {
-                let painted = self.paint(*rect, colours.as_slice());
-                with_nothing(alloc, painted)
-            }
-            Event::Mark { rects } => {
-                let marked = self.mark_rects(rects.as_slice());
-                with_nothing(alloc, marked)
-            }
-            Event::ScheduleCopy { rects, dx, dy } => {
-                let scheduled = self.schedule_copy(rects.as_slice(), *dx, *dy);
-                with_nothing(alloc, scheduled)
-            }
-            Event::DoCopy { rects, dx, dy } => {
-                let copied = self.do_copy(rects.as_slice(), *dx, *dy);
-                with_nothing(alloc, copied)
-            }
-            Event::Bell => {
-                let rung = self.bell();
-                with_nothing(alloc, rung)
-            }
-            Event::CutText { text } => {
-                let told = self.cut_text(text.as_slice());
-                with_nothing(alloc, told)
-            }
-            Event::Connect { viewer } => {
-                let version = self.connect(*viewer);
-                with_bytes(alloc, version)
-            }
-            Event::Hear { viewer, piece } => self.hear(*viewer, piece.as_slice()),
-            Event::Cut { viewer } => {
-                let bytes = self.cut_bytes(*viewer);
-                with_bytes(alloc, bytes)
-            }
-            Event::Close { viewer } => {
-                let closed = self.close(*viewer);
-                with_nothing(alloc, closed)
-            }
+        self.scene.check_live(number)?;
+        self.events.make_room()?;
+        let update = self.scene.cut(number)?;
+        if update.is_some() {
+            self.events.push(Event::Cut { viewer: number });
         }
+        Ok(update)
     }
 
     /// One event. A refusal of another kind than want of memory stands in the answer, and then
@@ -510,7 +442,15 @@ impl Screen {
         ensures unchanged { IfOk result (λ answer. answer.refused ≢ None → self.new ≡ self.old) }
         ensures err { OnErr result (self.new ≡ self.old) }
     {
-        let given = self.step(event);
-        settled(self.alloc, given)
+        if self.scene.check(event).is_err() {
+            return self.scene.apply(event);
+        }
+        let copy = self.events.copied_event(event)?;
+        self.events.make_room()?;
+        let answer = self.scene.apply(event)?;
+        if has_happened(event, &answer) {
+            self.events.push(copy);
+        }
+        Ok(answer)
     }
 }

@@ -1,9 +1,9 @@
 use Rattle.std.proofs.Common.{◌≡◌, List, Option, None, Some, Result, Ok, Err, MatchOption, refl, sym, subst, arith}
 use Rattle.std.proofs.lemmas.Grind.{common_steps}
-use Rattle.screen.specs.declared.Answer.{Answer}
-use Rattle.screen.specs.declared.ScreenError.{ScreenError}
-use Rattle.screen.specs.Answers.{answers}
-use Rattle.screen.specs.Pictures.{ShowPictures}
+use Rattle.scene.specs.declared.Answer.{Answer}
+use Rattle.scene.specs.declared.ScreenError.{ScreenError}
+use Rattle.scene.specs.Answers.{answers}
+use Rattle.scene.specs.Pictures.{ShowPictures}
 use Rattle.screen.proofs.runs.run.Goals as goal
 
 -- a screen is made where no refusal stands

@@ -1,0 +1,56 @@
+-- What drawing calls do to a screen, by its viewers' seats.
+use Rattle.std.proofs.Common.{◌≡◌, ℕ, List, [], ◌∷◌, ◌++◌, map, All, None, refl, sym, ◌∙◌, ap, subst}
+use Rattle.std.specs.Map.{values_of}
+use Rattle.std.proofs.lemmas.List.Elements.{All-map}
+use Rattle.messages.specs.Reading.{Rest, is_open_rest}
+use Rattle.client_list.specs.Connected.{changed}
+use Rattle.scene.specs.declared.Config.{Config}
+use Rattle.scene.specs.declared.Event.{Event}
+use Rattle.viewer.specs.Viewer.{KeptViewer, Viewer}
+use Rattle.scene.specs.Alone.{drawing_refusal, drawn, shown_drawing, owner_of}
+use Rattle.scene.specs.Answers.{SceneState, scene_after}
+use Rattle.scene.specs.Held.{IsSized}
+use Rattle.scene.proofs.Steps.{redrawn, state-drawing}
+
+-- a seat changes as the drawing call's viewer does
+abbrev pub IsShown : Config → Event → (KeptViewer → KeptViewer) → Type 0
+IsShown c e g = (s : KeptViewer) → g s ≡ shown_drawing c e (is_open_rest s.heard) s
+
+entries-changed : (c : Config) (e : Event) (g : KeptViewer → KeptViewer) (pairs : List (ℕ × KeptViewer)) → IsShown c e g → changed g pairs ≡ map (redrawn c e) pairs
+entries-changed c e g [] each = refl
+entries-changed c e g (pair ∷ pairs) each = ap (λ v. (pair.0, v) ∷ changed g pairs) (each pair.1) ∙ ap (λ l. redrawn c e pair ∷ l) (entries-changed c e g pairs each)
+
+-- the screen after a drawing call changed the picture and each seat
+pub state-drawn : (config kept_config : Config) (picture new_picture : List ℕ) (pairs : List (ℕ × KeptViewer)) (g : KeptViewer → KeptViewer) (e : Event) (es : List Event) → owner_of e ≡ None → drawing_refusal kept_config e ≡ None
+    → new_picture ≡ drawn kept_config e picture → IsShown kept_config e g
+    → record { config = kept_config; picture = picture; viewers = pairs } ≡ scene_after config es
+    → record { config = kept_config; picture = new_picture; viewers = changed g pairs } ≡ scene_after config (es ++ e ∷ [])
+state-drawn config kept_config picture new_picture pairs g e es everyone accepted painted each h =
+    let same : kept_config ≡ config = ap (λ (s : SceneState). s.config) h in
+    let s : List ℕ → List (ℕ × Viewer Rest) → SceneState = λ p vs. record { config = kept_config; picture = p; viewers = vs } in
+    ap (λ p. s p (changed g pairs)) painted
+    ∙ ap (s (drawn kept_config e picture)) (entries-changed kept_config e g pairs each)
+    ∙ ap (λ c. record { config = kept_config; picture = drawn c e picture; viewers = map (redrawn c e) pairs }) same
+    ∙ ap (λ (was : SceneState). record { config = was.config; picture = drawn config e was.picture; viewers = map (redrawn config e) was.viewers }) h
+    ∙ sym (state-drawing config es e (everyone, ap (λ c. drawing_refusal c e) (sym same) ∙ accepted))
+
+-- the same where no seat changes
+pub state-unseen : (config kept_config : Config) (picture new_picture : List ℕ) (pairs : List (ℕ × KeptViewer)) (e : Event) (es : List Event) → owner_of e ≡ None → drawing_refusal kept_config e ≡ None
+    → new_picture ≡ drawn kept_config e picture → IsShown kept_config e (λ s. s)
+    → record { config = kept_config; picture = picture; viewers = pairs } ≡ scene_after config es
+    → record { config = kept_config; picture = new_picture; viewers = pairs } ≡ scene_after config (es ++ e ∷ [])
+state-unseen config kept_config picture new_picture pairs e es everyone accepted painted each h =
+    ap (λ (l : List (ℕ × KeptViewer)). record { config = kept_config; picture = new_picture; viewers = l }) (sym (all_same pairs))
+    ∙ state-drawn config kept_config picture new_picture pairs (λ s. s) e es everyone accepted painted each h
+  where
+    all_same : (pairs : List (ℕ × KeptViewer)) → changed (λ s. s) pairs ≡ pairs
+    all_same [] = refl
+    all_same (pair ∷ pairs) = ap (λ (l : List (ℕ × KeptViewer)). pair ∷ l) (all_same pairs)
+
+pub values-changed : (g : KeptViewer → KeptViewer) (pairs : List (ℕ × KeptViewer)) → values_of (changed g pairs) ≡ map g (values_of pairs)
+values-changed g [] = refl
+values-changed g (pair ∷ pairs) = ap (λ l. g pair.1 ∷ l) (values-changed g pairs)
+
+-- seats whose marks keep their size
+pub sized-changed : (c : Config) (g : KeptViewer → KeptViewer) (pairs : List (ℕ × KeptViewer)) → ((s : KeptViewer) → IsSized c s → IsSized c (g s)) → All (IsSized c) (values_of pairs) → All (IsSized c) (values_of (changed g pairs))
+sized-changed c g pairs keeps all = subst (All (IsSized c)) (sym (values-changed g pairs)) (All-map (IsSized c) g (values_of pairs) (λ k d below. keeps _ (all k d below)))

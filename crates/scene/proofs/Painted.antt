@@ -1,0 +1,169 @@
+-- What a viewer shows behind a drawing call.
+use Rattle.std.proofs.Common.{◌≡◌, ℕ, ◌*◌, ◌/◌, ◌%◌, ◌^◌, ◌+◌, ◌<◌, ◌≤◌, Bool, true, false, cond, not, ◌&&◌, ◌||◌, List, [], ◌∷◌, ◌++◌, length, get_or, Some, None, refl, sym, ap, ◌∙◌, arith}
+use Rattle.std.specs.Prelude.{ℤ, pos, ◌-ℤ◌, nat_abs, nat_lt}
+use Rattle.std.specs.List.{AllByRecursion}
+use Rattle.std.specs.Ordering.{int_eq}
+use Rattle.std.proofs.lemmas.Int.{ints}
+use Rattle.std.proofs.lemmas.Bool.{and_parts}
+use Rattle.std.proofs.lemmas.Bool.Decides.{nat_tests, Decides-int_eq}
+use Rattle.std.proofs.lemmas.Nat.{mul-add-lt}
+use Rattle.std.proofs.lemmas.List.FromFn.{length-map-range_with_len}
+use Rattle.std.proofs.lemmas.List.Folds.{list_any_at}
+use Rattle.region.specs.declared.Rect.{Rect}
+use Rattle.region.specs.Region.{in_rect, on_screen}
+use Rattle.region.specs.Places.{by_place, some_place, cut_destination, same_offset}
+use Rattle.copy_schedule.specs.Marks.{Marks, copied_by}
+use Rattle.region.proofs.Places.{value_on, is_place}
+use Rattle.framebuffer.specs.Picture.{colour_at, written, copied, union_of, colour_in}
+use Rattle.viewer_picture.proofs.Marks.{Shows, recoloured, marked-shows, moved-shows}
+use Rattle.scene.specs.declared.Config.{Config}
+use Rattle.scene.specs.declared.Event.{Event}
+use Rattle.scene.specs.declared.Event.TheVariants as event
+use Rattle.scene.specs.declared.ScreenError.TheVariants as refusals
+use Rattle.viewer.specs.declared.notices.Notice.{Notice}
+use Rattle.viewer.specs.declared.notices.Notice.TheVariants as notice
+use Rattle.viewer.specs.Short.{IsShort}
+use Rattle.viewer.specs.Viewer.{Viewer, is_open_viewer, with_notice, does_nothing}
+use Rattle.scene.specs.Alone.{owner_of, drawing_refusal, drawn, shown_drawing}
+use Rattle.scene.specs.Shown.{Watching}
+use Rattle.scene.specs.Pictures.{is_told}
+use Rattle.scene.proofs.Pictured.{Watches, on-it}
+
+-- ---- colours
+
+-- outside a rectangle that is written
+written-out : (w h : ℕ) (r : Rect) (colours picture : List ℕ) (x y : ℤ) → on_screen w h x y ≡ true → in_rect r x y ≡ false → colour_at w h (written w h r colours picture) x y ≡ colour_at w h picture x y
+written-out w h r colours picture x y on out =
+    value_on 0 w h (λ x y. cond (in_rect r x y) (colour_in r colours x y % 2 ^ 24) (colour_at w h picture x y)) x y on
+    ∙ ap (λ b. cond b (colour_in r colours x y % 2 ^ 24) (colour_at w h picture x y)) out
+
+copied-is : (w h : ℕ) (set : ℤ → ℤ → Bool) (by : ℤ × ℤ) (picture : List ℕ) (x y : ℤ) → on_screen w h x y ≡ true
+    → colour_at w h (copied w h set by picture) x y ≡ cond (cut_destination w h set by x y) (colour_at w h picture (x -ℤ by.0) (y -ℤ by.1)) (colour_at w h picture x y)
+copied-is w h set by picture x y on =
+    value_on 0 w h (λ x y. cond (cut_destination w h set by x y) (colour_at w h picture (x -ℤ by.0) (y -ℤ by.1)) (colour_at w h picture x y)) x y on
+
+-- a copy that does nothing leaves the colours
+no-place : (w h : ℕ) (test : ℤ → ℤ → Bool) → some_place w h test ≡ false → (x y : ℤ) → on_screen w h x y ≡ true → test x y ≡ false
+no-place w h test none x y on = go (test x y) refl
+  where
+    numbers : (w h : ℕ) (x y : ℤ) → on_screen w h x y ≡ true → (nat_abs x < w) × (nat_abs y < h)
+    numbers w h x y on = let p = is_place w h x y on in let a = p.left in let b = p.right in let d = p.top in let e = p.bottom in (omega (arith, ints, a, b), omega (arith, ints, d, e))
+
+    some : test x y ≡ true → some_place w h test ≡ true
+    some e =
+        let n = numbers w h x y on in
+        let k : ℕ = nat_abs y * w + nat_abs x in
+        let fits : k < w * h = mul-add-lt (nat_abs y) w (nat_abs x) h n.1 n.0 in
+        list_any_at (λ b. b) (by_place w h test) k false (let size = length-map-range_with_len (λ i. test (pos (i % w)) (pos (i / w))) 0 (w * h) in omega (arith, size, fits))
+        (sym (ap (λ b. cond b (get_or (by_place w h test) k false) false) on) ∙ value_on false w h test x y on ∙ e)
+
+    go : (b : Bool) → test x y ≡ b → test x y ≡ false
+    go false e = e
+    go true e = absurd (never (sym (some e) ∙ none))
+      where
+        never : true ≡ false → ⊥
+        never e = cc
+
+still : (w h : ℕ) (set : ℤ → ℤ → Bool) (by : ℤ × ℤ) (picture : List ℕ) → does_nothing w h set by ≡ true → (x y : ℤ) → on_screen w h x y ≡ true → colour_at w h (copied w h set by picture) x y ≡ colour_at w h picture x y
+still w h set by picture idle x y on = copied-is w h set by picture x y on ∙ why (same_offset by (pos 0, pos 0)) (some_place w h (cut_destination w h set by)) refl refl idle
+  where
+    same : {A : Type 0} (b : Bool) (z : A) → cond b z z ≡ z
+    same true z = refl
+    same false z = refl
+
+    unmoved : (a d : ℤ) → d ≡ pos 0 → a -ℤ d ≡ a
+    unmoved a d e = omega (arith, ints)
+
+    why : (near some : Bool) → same_offset by (pos 0, pos 0) ≡ near → some_place w h (cut_destination w h set by) ≡ some → (near || not some) ≡ true
+        → cond (cut_destination w h set by x y) (colour_at w h picture (x -ℤ by.0) (y -ℤ by.1)) (colour_at w h picture x y) ≡ colour_at w h picture x y
+    why true some e f idle =
+        let parts = and_parts (int_eq by.0 (pos 0)) (int_eq by.1 (pos 0)) e in
+        ap (λ z. cond (cut_destination w h set by x y) (colour_at w h picture z (y -ℤ by.1)) (colour_at w h picture x y)) (unmoved x by.0 ((Decides-int_eq by.0 (pos 0)).0 parts.0))
+        ∙ ap (λ z. cond (cut_destination w h set by x y) (colour_at w h picture x z) (colour_at w h picture x y)) (unmoved y by.1 ((Decides-int_eq by.1 (pos 0)).0 parts.1))
+        ∙ same (cut_destination w h set by x y) (colour_at w h picture x y)
+    why false true e f idle = absurd cc
+    why false false e f idle = ap (λ b. cond b (colour_at w h picture (x -ℤ by.0) (y -ℤ by.1)) (colour_at w h picture x y)) (no-place w h (cut_destination w h set by) f x y on)
+
+-- ---- notices
+
+all-join : (P : Notice → Type 0) (xs : List Notice) (n : Notice) → AllByRecursion P xs → P n → AllByRecursion P (xs ++ n ∷ [])
+all-join P [] n h k = (k, tt)
+all-join P (x ∷ xs) n h k = (h.0, all-join P xs n h.1 k)
+
+noticed-short : (n : Notice) (open_now : Bool) (notices : List Notice) → IsShort n → AllByRecursion IsShort notices → AllByRecursion IsShort (cond open_now (with_notice n notices) notices)
+noticed-short n false notices short h = h
+noticed-short n true notices short h = go (nat_lt (length notices) 64)
+  where
+    go : (b : Bool) → AllByRecursion IsShort (cond b (notices ++ n ∷ []) notices)
+    go true = all-join IsShort notices n h short
+    go false = h
+
+text-short : (n : ℕ) (b : Bool) → nat_lt 65536 n ≡ b → cond b (Some refusals.TextTooLong) None ≡ None → n ≤ 2 ^ 16
+text-short n true e f = absurd cc
+text-short n false e f = grind (arith, nat_tests)
+
+-- ---- drawing calls
+
+module _ (c : Config) (picture : List ℕ) (v : Viewer (List ℕ)) (s : Watching) (h : Watches c picture v s) where
+  colour : ℤ → ℤ → ℕ
+  colour = colour_at c.width c.height picture
+
+  -- other marks of the same size, which show the colours
+  remarked : (now : List ℕ) (marks : Marks) → marks.width ≡ v.marks.width → marks.height ≡ v.marks.height → Shows (colour_at c.width c.height now) marks s.shown → Watches c now (record v { marks = marks }) s
+  remarked now marks wide high shows = record {
+    said = h.said;
+    short = h.short;
+    follows = record { format = h.follows.format; early = h.follows.early; width = wide ∙ h.follows.width; height = high ∙ h.follows.height; shows = shows };
+  }
+
+  noticed-watched : (n : Notice) (open_now : Bool) → IsShort n → Watches c picture (record v { notices = cond open_now (with_notice n v.notices) v.notices }) s
+  noticed-watched n open_now short = record {
+    said = h.said;
+    short = noticed-short n open_now v.notices short h.short;
+    follows = record { format = h.follows.format; early = h.follows.early; width = h.follows.width; height = h.follows.height; shows = h.follows.shows };
+  }
+
+  on : (x y : ℤ) → on_screen v.marks.width v.marks.height x y ≡ true → on_screen c.width c.height x y ≡ true
+  on = on-it c v.marks h.follows.width h.follows.height
+
+  off : (x y : ℤ) → on_screen c.width c.height x y ≡ true → on_screen v.marks.width v.marks.height x y ≡ true
+  off x y e = ap (λ n. on_screen n v.marks.height x y) h.follows.width ∙ ap (λ n. on_screen c.width n x y) h.follows.height ∙ e
+
+  -- a copy
+  copy-watched : (set : ℤ → ℤ → Bool) (by : ℤ × ℤ) (b : Bool) → does_nothing c.width c.height set by ≡ b
+      → Watches c (copied c.width c.height set by picture) (record v { marks = cond b v.marks (copied_by (cut_destination c.width c.height set by) by v.uses_copyrect v.marks) }) s
+  unfolding colour
+  copy-watched set by true e = remarked _ v.marks refl refl (recoloured colour _ v.marks s.shown (λ x y there. still c.width c.height set by picture e x y (on x y there)) h.follows.shows)
+  copy-watched set by false e = by-copyrect v.uses_copyrect
+    where
+      cut : ℤ → ℤ → Bool
+      cut = cut_destination c.width c.height set by
+
+      unset : (x y : ℤ) → on_screen v.marks.width v.marks.height x y ≡ true → colour_at c.width c.height (copied c.width c.height set by picture) x y ≡ cond (cut x y) (colour (x -ℤ by.0) (y -ℤ by.1)) (colour x y)
+      unset x y there = copied-is c.width c.height set by picture x y (on x y there)
+
+      source : (a b d : Bool) → (a && b && d) ≡ true → d ≡ true
+      source true true d e = e
+      source true false d e = absurd cc
+      source false b d e = absurd cc
+
+      by-copyrect : (uses : Bool) → Watches c (copied c.width c.height set by picture) (record v { marks = copied_by cut by uses v.marks }) s
+      by-copyrect true = remarked _ _ refl refl (moved-shows colour _ cut by v.marks s.shown
+          (λ x y hit. off (x -ℤ by.0) (y -ℤ by.1) (source (set x y) (on_screen c.width c.height x y) (on_screen c.width c.height (x -ℤ by.0) (y -ℤ by.1)) hit)) unset h.follows.shows)
+      by-copyrect false = remarked _ _ refl refl (marked-shows colour _ cut v.marks s.shown
+          (λ x y there out. unset x y there ∙ ap (λ b. cond b (colour (x -ℤ by.0) (y -ℤ by.1)) (colour x y)) out) h.follows.shows)
+
+  -- each drawing call of which the viewers are told
+  pub drawing-watched : (e : Event) → owner_of e ≡ None → is_told e ≡ true → drawing_refusal c e ≡ None → Watches c (drawn c e picture) (shown_drawing c e (is_open_viewer v) v) s
+  unfolding colour
+  drawing-watched (event.Paint r colours) mine told accepted = remarked _ _ refl refl (marked-shows colour _ (in_rect r) v.marks s.shown (λ x y there out. written-out c.width c.height r colours picture x y (on x y there) out) h.follows.shows)
+  drawing-watched (event.Mark rects) mine told accepted = remarked _ _ refl refl (marked-shows colour colour (union_of rects) v.marks s.shown (λ x y there out. refl) h.follows.shows)
+  drawing-watched (event.DoCopy rects dx dy) mine told accepted = copy-watched (union_of rects) (dx, dy) (does_nothing c.width c.height (union_of rects) (dx, dy)) refl
+  drawing-watched event.Bell mine told accepted = noticed-watched notice.Bell (is_open_viewer v) tt
+  drawing-watched (event.CutText text) mine told accepted = noticed-watched (notice.CutText text) (is_open_viewer v) (text-short (length text) (nat_lt 65536 (length text)) refl accepted)
+  drawing-watched (event.Write r colours) mine told accepted = absurd cc
+  drawing-watched (event.ScheduleCopy rects dx dy) mine told accepted = absurd cc
+  drawing-watched (event.Connect n) mine told accepted = absurd cc
+  drawing-watched (event.Hear n piece) mine told accepted = absurd cc
+  drawing-watched (event.Cut n) mine told accepted = absurd cc
+  drawing-watched (event.Close n) mine told accepted = absurd cc

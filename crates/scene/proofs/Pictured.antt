@@ -1,0 +1,203 @@
+-- What a viewer shows as events come: the steps of the one viewer's machine.
+use Rattle.std.proofs.Common.{◌≡◌, ℕ, ◌+◌, ◌*◌, ◌<◌, ◌≤◌, ◌^◌, Bool, true, false, cond, not, ◌&&◌, List, [], ◌++◌, length, get_or, Option, Some, None, refl, sym, ap, subst, ◌∙◌, arith}
+use Rattle.std.specs.Prelude.{ℤ, nat_abs, nat_le, nat_lt, flat_map, option_map, replicate}
+use Rattle.std.specs.List.{AllByRecursion}
+use Rattle.std.proofs.lemmas.Int.{ints}
+use Rattle.std.proofs.lemmas.Bool.Decides.{nat_tests}
+use Rattle.std.proofs.lemmas.Nat.{mul-add-lt}
+use Rattle.std.proofs.lemmas.List.{append-nil, get_or-replicate}
+use Rattle.pixel_translate.specs.declared.PixelFormat.{PixelFormat}
+use Rattle.region.specs.Region.{on_screen}
+use Rattle.encode_raw.specs.Reading.{Shown}
+use Rattle.messages.specs.Reading.{heard}
+use Rattle.copy_schedule.specs.declared.Mark.TheVariants.{Clean, Copied, Owed}
+use Rattle.copy_schedule.specs.Marks.{Marks, mark_at, new_marks, copies_of, pixels_of, after_sending, pending, cut_of}
+use Rattle.region.proofs.Places.{is_place}
+use Rattle.framebuffer.specs.Picture.{colour_at}
+use Rattle.viewer_picture.specs.Messages.{messages_in}
+use Rattle.viewer_picture.specs.Claims.{RectanglesAreRead}
+use Rattle.viewer_picture.proofs.Messages.{Reads}
+use Rattle.viewer_picture.proofs.Marks.{Shows}
+use Rattle.viewer_picture.proofs.Cuts.{update_of, cut-shows}
+use Rattle.scene.specs.declared.Config.{Config}
+use Rattle.scene.specs.declared.Event.{Event}
+use Rattle.scene.specs.declared.Event.TheVariants.{Write, Paint, Mark as MarkEvent, ScheduleCopy, DoCopy, Bell, CutText, Connect, Hear, Cut, Close}
+use Rattle.scene.specs.declared.ScreenError.TheVariants as refusals
+use Rattle.viewer.specs.Short.{IsShort}
+use Rattle.viewer.specs.Viewer.{Viewer, new_viewer, is_open_viewer}
+use Rattle.viewer.specs.Sending.{notice_bytes, bytes_of, with_update, sending}
+use Rattle.scene.specs.Alone.{own_step, config_refusal, is_size, hearing}
+use Rattle.scene.specs.Shown.{Watching, at_first, or_nothing, after_messages, after_piece, watched_unless_refused}
+use Rattle.scene.proofs.Watched.{Follows, piece-read}
+use Rattle.scene.proofs.Told.{notices-read, whole-read}
+
+-- ---- the limits
+
+pub record Limits (c : Config) : Type 0 where
+  pub width : c.width ≤ 8192
+  pub height : c.height ≤ 8192
+  pub name : length c.name < 2 ^ 32
+  pub limit : c.rects_per_update ≤ 1000
+
+pub limits : (c : Config) → config_refusal c ≡ None → Limits c
+limits c e = let parts = accepted (is_size c.width c.height) (nat_lt 255 (length c.name)) (nat_le 1 c.rects_per_update && nat_le c.rects_per_update 1000) e in record {
+  width = wide c.width c.height parts.0;
+  height = high c.width c.height parts.0;
+  name = short (length c.name) parts.1;
+  limit = few c.rects_per_update parts.2;
+}
+  where
+    accepted : (a b d : Bool) → cond (not a) (Some refusals.BadSize) (cond b (Some refusals.BadName) (cond (not d) (Some refusals.BadRectLimit) None)) ≡ None → (a ≡ true) × (b ≡ false) × (d ≡ true)
+    accepted true false true e = (refl, refl, refl)
+    accepted true false false e = absurd cc
+    accepted true true d e = absurd cc
+    accepted false b d e = absurd cc
+
+    wide : (w h : ℕ) → is_size w h ≡ true → w ≤ 8192
+    wide w h e = grind (arith, nat_tests)
+
+    high : (w h : ℕ) → is_size w h ≡ true → h ≤ 8192
+    high w h e = grind (arith, nat_tests)
+
+    short : (n : ℕ) → nat_lt 255 n ≡ false → n < 2 ^ 32
+    short n e = let h : n ≤ 255 = grind (arith, nat_tests) in omega arith
+
+    few : (n : ℕ) → (nat_le 1 n && nat_le n 1000) ≡ true → n ≤ 1000
+    few n e = grind (arith, nat_tests)
+
+-- ---- a viewer that is watched
+
+pub record Watches (c : Config) (picture : List ℕ) (v : Viewer (List ℕ)) (s : Watching) : Type 0 where
+  pub said : s.said ≡ v.heard
+  pub short : AllByRecursion IsShort v.notices
+  pub follows : Follows c (colour_at c.width c.height picture) (heard v.heard).phase v s
+
+abbrev pub WatchesIf : Config → List ℕ → Option (Viewer (List ℕ)) → Watching → Type 0
+WatchesIf c picture None s = Unit {0}
+WatchesIf c picture (Some v) s = Watches c picture v s
+
+-- the screen of the marks is the screen
+pub on-it : (c : Config) (m : Marks) → m.width ≡ c.width → m.height ≡ c.height → (x y : ℤ) → on_screen m.width m.height x y ≡ true → on_screen c.width c.height x y ≡ true
+on-it c m wide high x y on = sym (ap (λ n. on_screen n m.height x y) wide ∙ ap (λ n. on_screen c.width n x y) high) ∙ on
+
+-- ---- at connecting
+
+connected : (c : Config) (picture : List ℕ) → Watches c picture (new_viewer c.width c.height) at_first
+connected c picture = record {
+  said = refl;
+  short = tt;
+  follows = record {
+    format = refl;
+    early = λ e. refl;
+    width = refl;
+    height = refl;
+    shows = record {
+      clean = λ x y on e. absurd (owed-clean (sym (all-owed x y on) ∙ e));
+      copied = λ x y on e. absurd (owed-copied (sym (all-owed x y on) ∙ e));
+    };
+  };
+}
+  where
+    owed-clean : Owed ≡ Clean → ⊥
+    owed-clean e = cc
+
+    owed-copied : Owed ≡ Copied → ⊥
+    owed-copied e = cc
+
+    numbers : (w h : ℕ) (x y : ℤ) → on_screen w h x y ≡ true → (nat_abs x < w) × (nat_abs y < h)
+    numbers w h x y on = let p = is_place w h x y on in let a = p.left in let b = p.right in let d = p.top in let e = p.bottom in (omega (arith, ints, a, b), omega (arith, ints, d, e))
+
+    all-owed : (x y : ℤ) → on_screen c.width c.height x y ≡ true → mark_at (new_marks c.width c.height) x y ≡ Owed
+    all-owed x y on =
+        let n = numbers c.width c.height x y on in
+        ap (λ b. cond b (get_or (replicate (c.width * c.height) Owed) (nat_abs y * c.width + nat_abs x) Clean) Clean) on
+        ∙ get_or-replicate (c.width * c.height) (nat_abs y * c.width + nat_abs x) Owed Clean (mul-add-lt (nat_abs y) c.width (nat_abs x) c.height n.1 n.0)
+
+-- ---- a piece of its bytes
+
+heard-watched : (c : Config) → Limits c → (picture : List ℕ) (piece : List ℕ) (v : Viewer (List ℕ)) (s : Watching) → Watches c picture v s
+    → Watches c picture (hearing c piece v).0 (after_piece piece (hearing c piece v).1.bytes s)
+heard-watched c ok picture piece v s h =
+    let r = piece-read c (colour_at c.width c.height picture) ok.name piece v s h.said h.follows in
+    record { said = r.said; short = subst (AllByRecursion IsShort) (sym r.notices) h.short; follows = r.follows }
+
+-- ---- a sending step
+
+-- messages that were read to their end
+told : (s : Watching) (bytes : List ℕ) (after : Shown) → Reads s.format (length bytes) s.shown bytes after [] → after_messages bytes s ≡ record s { shown = after }
+unfolding messages_in
+told s bytes after r =
+    ap (λ (o : Option Shown). or_nothing s (option_map (λ shown. record s { shown = shown }) o)) r.is ∙ ap (λ (o : Option Shown). or_nothing s (option_map (λ shown. record s { shown = shown }) o)) (done r.left)
+  where
+    done : (n : ℕ) → messages_in s.format n after [] ≡ Some after
+    done n = refl
+
+same-colour : (c : Config) (picture : List ℕ) (m : Marks) → m.width ≡ c.width → m.height ≡ c.height → colour_at m.width m.height picture ≡ colour_at c.width c.height picture
+same-colour c picture m wide high = ap (λ w. colour_at w m.height picture) wide ∙ ap (λ h. colour_at c.width h picture) high
+
+module _ (reads : RectanglesAreRead) (c : Config) (ok : Limits c) (picture : List ℕ) where
+  -- the bytes of a step, by whether something is wanted
+  sent-watched : (v : Viewer (List ℕ)) (s : Watching) → Watches c picture v s → (b : Bool) →
+      let step = with_update c.width c.height picture v (cond b (Some (record { copies = copies_of c.rects_per_update v.marks; offset = v.marks.offset; pixels = pixels_of c.rects_per_update v.marks; after = after_sending (copies_of c.rects_per_update v.marks) (pixels_of c.rects_per_update v.marks) v.marks })) None) in
+      Watches c picture step.1 (after_messages step.0 s)
+  sent-watched v s h false =
+      let f = h.follows in
+      let bytes : List ℕ = flat_map notice_bytes v.notices in
+      let read : Reads s.format (length bytes) s.shown bytes s.shown [] = subst (λ (l : List ℕ). Reads s.format (length l) s.shown l s.shown []) (append-nil bytes) (notices-read s.format v.notices h.short (length (bytes ++ [])) s.shown [] (omega arith)) in
+      subst (Watches c picture (record v { notices = [] })) (sym (told s bytes s.shown read))
+      (record { said = h.said; short = tt; follows = record { format = f.format; early = f.early; width = f.width; height = f.height; shows = f.shows } })
+  sent-watched v s h true =
+      let f = h.follows in
+      let m : Marks = v.marks in
+      let limit : ℕ = c.rects_per_update in
+      let notices : List ℕ = flat_map notice_bytes v.notices in
+      let rest : List ℕ = bytes_of m.width m.height picture v.encoding s.format (copies_of limit m) m.offset (pixels_of limit m) in
+      let after : Shown = update_of limit s.format picture m s.shown in
+      let first : Reads s.format (length (notices ++ rest)) s.shown (notices ++ rest) s.shown rest = notices-read s.format v.notices h.short (length (notices ++ rest)) s.shown rest (omega arith) in
+      let second : Reads s.format first.left s.shown rest after [] =
+      whole-read reads s.format v.encoding picture limit m (let e = f.width in let k = ok.width in omega arith) (let e = f.height in let k = ok.height in omega arith) ok.limit first.left s.shown first.room in
+      let read : Reads s.format (length (notices ++ rest)) s.shown (notices ++ rest) after [] = record { left = second.left; room = second.room; is = first.is ∙ second.is } in
+      let bytes-are : notices ++ bytes_of c.width c.height picture v.encoding v.format (copies_of limit m) m.offset (pixels_of limit m) ≡ notices ++ rest =
+      sym (ap (λ (w : ℕ). notices ++ bytes_of w m.height picture v.encoding s.format (copies_of limit m) m.offset (pixels_of limit m)) f.width
+      ∙ ap (λ (k : ℕ). notices ++ bytes_of c.width k picture v.encoding s.format (copies_of limit m) m.offset (pixels_of limit m)) f.height
+      ∙ ap (λ (g : PixelFormat). notices ++ bytes_of c.width c.height picture v.encoding g (copies_of limit m) m.offset (pixels_of limit m)) f.format) in
+      let sent : Marks = after_sending (copies_of limit m) (pixels_of limit m) m in
+      let same = same-colour c picture m f.width f.height in
+      let now : Shows (colour_at c.width c.height picture) sent after =
+      subst (λ (colour : ℤ → ℤ → ℕ). Shows colour sent after) same (cut-shows limit s.format picture m s.shown (subst (λ (colour : ℤ → ℤ → ℕ). Shows colour m s.shown) (sym same) f.shows)) in
+      subst (Watches c picture (record v { notices = []; marks = sent })) (sym (ap (λ (l : List ℕ). after_messages l s) bytes-are ∙ told s (notices ++ rest) after read))
+      (record { said = h.said; short = tt; follows = record { format = f.format; early = f.early; width = f.width; height = f.height; shows = now } })
+
+  cut-watched : (v : Viewer (List ℕ)) (s : Watching) → Watches c picture v s → Watches c picture (sending c.width c.height c.rects_per_update picture v).1 (after_messages (sending c.width c.height c.rects_per_update picture v).0 s)
+  cut-watched v s h = by-open (is_open_viewer v)
+    where
+      by-open : (b : Bool) → let step = cond b (with_update c.width c.height picture v (cut_of c.rects_per_update v.marks)) ([], v) in Watches c picture step.1 (after_messages step.0 s)
+      by-open true = sent-watched v s h (pending v.marks)
+      by-open false = subst (Watches c picture v) (sym (told s [] s.shown (record { left = 0; room = omega arith; is = refl }))) h
+
+  -- ---- the viewer's own events
+
+  pub own-watched : (e : Event) (o : Option (Viewer (List ℕ))) (s : Watching) → WatchesIf c picture o s
+      → let step = own_step c e (record { picture = picture; viewer = o }) o in WatchesIf c picture step.0.viewer (watched_unless_refused e step.1 s)
+  own-watched (Connect n) None s h = connected c picture
+  own-watched (Connect n) (Some v) s h = h
+  own-watched (Hear n piece) (Some v) s h = heard-watched c ok picture piece v s h
+  own-watched (Hear n piece) None s h = tt
+  own-watched (Cut n) (Some v) s h = cut-watched v s h
+  own-watched (Cut n) None s h = tt
+  own-watched (Close n) (Some v) s h = tt
+  own-watched (Close n) None s h = tt
+  own-watched (Paint r colours) (Some v) s h = h
+  own-watched (Paint r colours) None s h = tt
+  own-watched (Write r colours) (Some v) s h = h
+  own-watched (Write r colours) None s h = tt
+  own-watched (MarkEvent rects) (Some v) s h = h
+  own-watched (MarkEvent rects) None s h = tt
+  own-watched (ScheduleCopy rects dx dy) (Some v) s h = h
+  own-watched (ScheduleCopy rects dx dy) None s h = tt
+  own-watched (DoCopy rects dx dy) (Some v) s h = h
+  own-watched (DoCopy rects dx dy) None s h = tt
+  own-watched Bell (Some v) s h = h
+  own-watched Bell None s h = tt
+  own-watched (CutText text) (Some v) s h = h
+  own-watched (CutText text) None s h = tt

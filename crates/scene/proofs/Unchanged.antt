@@ -1,0 +1,65 @@
+-- An event after which nothing has happened leaves the machine as it was.
+use Rattle.std.proofs.Common.{◌≡◌, ℕ, Bool, true, false, true≢false, List, [], ◌∷◌, ◌++◌, Option, Some, None, refl, sym, ◌∙◌, ap}
+use Rattle.std.specs.Prelude.{flat_map, is_none, if◌then◌else◌}
+use Rattle.copy_schedule.specs.Marks.{Sent, cut_of}
+use Rattle.scene.specs.declared.Config.{Config}
+use Rattle.scene.specs.declared.ScreenError.{ScreenError}
+use Rattle.scene.specs.declared.Event.{Event}
+use Rattle.scene.specs.declared.Event.TheVariants.{Write, Paint, Mark, ScheduleCopy, DoCopy, Bell, CutText, Connect, Hear, Cut, Close}
+use Rattle.viewer.specs.declared.notices.Notice.{Notice}
+use Rattle.viewer.specs.declared.notices.Notice.TheVariants as notice
+use Rattle.viewer.specs.Viewer.{Viewer, is_open_viewer}
+use Rattle.viewer.specs.Sending.{notice_bytes, update_bytes, with_update, sending}
+use Rattle.scene.specs.Alone.{One, step, own_step, draw_step, drawing_refusal, some_bytes}
+use Rattle.scene.specs.History.{has_happened}
+
+no_notices : (ns : List Notice) → some_bytes (flat_map notice_bytes ns) ≡ false → ns ≡ []
+no_notices [] h = refl
+no_notices (notice.Bell ∷ ns) h = absurd (true≢false h)
+no_notices (notice.CutText t ∷ ns) h = absurd (true≢false h)
+
+some_update : (w h : ℕ) (picture : List ℕ) (v : Viewer (List ℕ)) (s : Sent) (ns : List Notice) → some_bytes (flat_map notice_bytes ns ++ update_bytes w h picture v s) ≡ true
+some_update w h picture v s [] = refl
+some_update w h picture v s (notice.Bell ∷ ns) = refl
+some_update w h picture v s (notice.CutText t ∷ ns) = refl
+
+sent_nothing : (w h : ℕ) (picture : List ℕ) (v : Viewer (List ℕ)) (b : Bool) (o : Option Sent) → some_bytes (if b then with_update w h picture v o else ([], v)).0 ≡ false → (if b then with_update w h picture v o else ([], v)).1 ≡ v
+sent_nothing w h picture v true None none = ap (λ (ns : List Notice). record v { notices = ns }) (sym (no_notices v.notices none))
+sent_nothing w h picture v true (Some s) none = absurd (true≢false (sym (some_update w h picture v s v.notices) ∙ none))
+sent_nothing w h picture v false o none = refl
+
+drawn_nothing : (c : Config) (e : Event) (s : One) (o : Option ScreenError) → is_none (draw_step c e s o).1.refused ≡ false → (draw_step c e s o).0 ≡ s
+drawn_nothing c e s None h = absurd (true≢false h)
+drawn_nothing c e s (Some r) h = refl
+
+own_nothing : (c : Config) (e : Event) (s : One) (o : Option (Viewer (List ℕ))) → s.viewer ≡ o → has_happened e (own_step c e s o).1 ≡ false → (own_step c e s o).0 ≡ s
+own_nothing c (Connect n) s None is h = absurd (true≢false h)
+own_nothing c (Connect n) s (Some v) is h = refl
+own_nothing c (Hear n piece) s None is h = refl
+own_nothing c (Hear n piece) s (Some v) is h = absurd (true≢false h)
+own_nothing c (Cut n) s None is h = refl
+own_nothing c (Cut n) s (Some v) is h =
+    ap (λ (u : Viewer (List ℕ)). record s { viewer = Some u }) (sent_nothing c.width c.height s.picture v (is_open_viewer v) (cut_of c.rects_per_update v.marks) h)
+    ∙ ap (λ (u : Option (Viewer (List ℕ))). record s { viewer = u }) (sym is)
+own_nothing c (Close n) s None is h = refl
+own_nothing c (Close n) s (Some v) is h = absurd (true≢false h)
+own_nothing c (Write r l) s o is h = refl
+own_nothing c (Paint r l) s o is h = refl
+own_nothing c (Mark r) s o is h = refl
+own_nothing c (ScheduleCopy r x y) s o is h = refl
+own_nothing c (DoCopy r x y) s o is h = refl
+own_nothing c Bell s o is h = refl
+own_nothing c (CutText t) s o is h = refl
+
+pub step_nothing : (c : Config) (e : Event) (s : One) → has_happened e (step c e s).1 ≡ false → (step c e s).0 ≡ s
+step_nothing c (Write r l) s h = drawn_nothing c (Write r l) s (drawing_refusal c (Write r l)) h
+step_nothing c (Paint r l) s h = drawn_nothing c (Paint r l) s (drawing_refusal c (Paint r l)) h
+step_nothing c (Mark r) s h = drawn_nothing c (Mark r) s None h
+step_nothing c (ScheduleCopy r x y) s h = drawn_nothing c (ScheduleCopy r x y) s None h
+step_nothing c (DoCopy r x y) s h = drawn_nothing c (DoCopy r x y) s None h
+step_nothing c Bell s h = drawn_nothing c Bell s None h
+step_nothing c (CutText t) s h = drawn_nothing c (CutText t) s (drawing_refusal c (CutText t)) h
+step_nothing c (Connect n) s h = own_nothing c (Connect n) s s.viewer refl h
+step_nothing c (Hear n p) s h = own_nothing c (Hear n p) s s.viewer refl h
+step_nothing c (Cut n) s h = own_nothing c (Cut n) s s.viewer refl h
+step_nothing c (Close n) s h = own_nothing c (Close n) s s.viewer refl h

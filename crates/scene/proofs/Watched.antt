@@ -1,0 +1,217 @@
+-- What a viewer shows behind a piece of its bytes.
+use Rattle.std.proofs.Common.{◌≡◌, ℕ, ◌+◌, ◌<◌, ◌^◌, Bool, true, false, cond, ◌&&◌, List, [], ◌∷◌, ◌++◌, length, Option, Some, None, refl, sym, ap, subst, ◌∙◌, arith}
+use Rattle.std.specs.Prelude.{ℤ, pos, nat_abs, nat_lt, ◌≤ℤ◌}
+use Rattle.std.specs.Int.{w16, to_be_bytes, from_be_bytes}
+use Rattle.std.proofs.lemmas.Int.{ints}
+use Rattle.std.proofs.lemmas.Nat.{from_be_bytes-to_be_bytes_4}
+use Rattle.pixel_translate.specs.declared.Area.{Area}
+use Rattle.pixel_translate.specs.Pixel.{server_format}
+use Rattle.region.specs.declared.Rect.{Rect}
+use Rattle.region.specs.Region.{in_rect, on_screen}
+use Rattle.encode_raw.specs.Reading.{◌>>=◌, bytes_at, Shown, is_inside}
+use Rattle.messages.specs.declared.Version.TheVariants.{V33, V37, V38}
+use Rattle.messages.specs.declared.Item.{Item}
+use Rattle.messages.specs.declared.Item.TheVariants as item
+use Rattle.messages.specs.declared.Phase.{Phase}
+use Rattle.messages.specs.declared.Phase.TheVariants as phase
+use Rattle.messages.specs.Grammar.{after}
+use Rattle.messages.specs.Reading.{heard, new_items, is_open_phase}
+use Rattle.messages.specs.Server.{server_init, answer, answers}
+use Rattle.viewer_picture.specs.Opening.{Init, init_at}
+use Rattle.viewer_picture.specs.Pictures.{dot_at}
+use Rattle.viewer_picture.proofs.Messages.{bytes-read}
+use Rattle.viewer_picture.proofs.Marks.{Shows, uncopied-shows, asked-shows, forgotten-shows}
+use Rattle.viewer_picture.proofs.Comes.{Comes, Come, phase_after, Following, following}
+use Rattle.scene.specs.declared.Config.{Config}
+use Rattle.viewer.specs.Viewer.{Viewer, area_places, after_item}
+use Rattle.scene.specs.Alone.{hearing}
+use Rattle.viewer.specs.Hearing.{after_items}
+use Rattle.scene.specs.Shown.{Watching, forgotten, item_at, items_at, all_read, or_nothing, after_piece}
+
+-- a viewer reads pixels in its format, and shows its picture; before it is open its format is the server's
+pub record Follows (c : Config) (colour : ℤ → ℤ → ℕ) (p : Phase) (v : Viewer (List ℕ)) (s : Watching) : Type 0 where
+  pub format : s.format ≡ v.format
+  pub early : is_open_phase p ≡ false → v.format ≡ server_format
+  pub width : v.marks.width ≡ c.width
+  pub height : v.marks.height ≡ c.height
+  pub shows : Shows colour v.marks s.shown
+
+-- ---- the ServerInit
+
+init-read : (w h : ℕ) (name more : List ℕ) → length name < 2 ^ 32
+    → init_at (server_init w h name ++ more) ≡ Some (record { width = from_be_bytes w16 (to_be_bytes w16 w); height = from_be_bytes w16 (to_be_bytes w16 h); format = server_format }, more)
+init-read w h name more small =
+    let init : Init = record { width = from_be_bytes w16 (to_be_bytes w16 w); height = from_be_bytes w16 (to_be_bytes w16 h); format = server_format } in
+    ap (λ (n : ℕ). bytes_at n (name ++ more) >>= λ (t : List ℕ × List ℕ). Some (init, t.1)) (from_be_bytes-to_be_bytes_4 (length name) small)
+    ∙ ap (λ (o : Option (List ℕ × List ℕ)). o >>= λ t. Some (init, t.1)) (bytes-read name more)
+
+-- ---- what is asked for anew
+
+not-inside : (a : Area) (w h width height : ℕ) (shown : Shown) (x y : ℤ) → on_screen w h x y ≡ true → area_places w h a x y ≡ false
+    → cond (is_inside a (nat_abs x) (nat_abs y) && nat_lt (nat_abs x) width && nat_lt (nat_abs y) height) None (dot_at shown x y) ≡ dot_at shown x y
+not-inside a w h width height shown x y on out =
+    ap (λ b. cond (b && nat_lt (nat_abs x) width && nat_lt (nat_abs y) height) None (dot_at shown x y)) here
+  where
+    number : (w h : ℕ) (x y : ℤ) → on_screen w h x y ≡ true → (x ≡ pos (nat_abs x)) × (y ≡ pos (nat_abs y))
+    number w h x y on = let low = left w h x y on in let high = top w h x y on in (omega (arith, ints, low), omega (arith, ints, high))
+      where
+        left : (w h : ℕ) (x y : ℤ) → on_screen w h x y ≡ true → pos 0 ≤ℤ x
+        left w h x y on = grind (arith, ints)
+
+        top : (w h : ℕ) (x y : ℤ) → on_screen w h x y ≡ true → pos 0 ≤ℤ y
+        top w h x y on = grind (arith, ints)
+
+    and-true : (b : Bool) → b ≡ (b && true)
+    and-true true = refl
+    and-true false = refl
+
+    here : is_inside a (nat_abs x) (nat_abs y) ≡ false
+    here =
+        let at = number w h x y on in
+        let rect : Rect = record { x1 = pos a.x; y1 = pos a.y; x2 = pos (a.x + a.w); y2 = pos (a.y + a.h) } in
+        ap (λ z. in_rect rect z (pos (nat_abs y))) (sym at.0) ∙ ap (in_rect rect x) (sym at.1) ∙ and-true (in_rect rect x y) ∙ ap (λ b. in_rect rect x y && b) (sym on) ∙ out
+
+-- ---- one item
+
+-- what it does to the viewer, and to the one who watches
+record Item-read (c : Config) (colour : ℤ → ℤ → ℕ) (p : Phase) (i : Item) (v : Viewer (List ℕ)) (s : Watching) (more : List ℕ) : Type 0 where
+  next : Watching
+  read : item_at p i s (answer (server_init c.width c.height c.name) p i ++ more) ≡ Some (next, more)
+  said : next.said ≡ s.said
+  notices : (after_item c.width c.height i v).notices ≡ v.notices
+  heard : (after_item c.width c.height i v).heard ≡ v.heard
+  follows : Follows c colour (after p i) (after_item c.width c.height i v) next
+
+same-phase : (c : Config) (colour : ℤ → ℤ → ℕ) (p q : Phase) (v : Viewer (List ℕ)) (s : Watching) → is_open_phase p ≡ false → Follows c colour p v s → Follows c colour q v s
+same-phase c colour p q v s shut f = record { format = f.format; early = λ e. f.early shut; width = f.width; height = f.height; shows = f.shows }
+
+item-read : (c : Config) (colour : ℤ → ℤ → ℕ) → length c.name < 2 ^ 32 → (p : Phase) (i : Item) → Comes p i → (v : Viewer (List ℕ)) (s : Watching) (more : List ℕ) → Follows c colour p v s → Item-read c colour p i v s more
+item-read c colour small phase.Version (item.Version V33) comes v s more f = record { next = s; read = refl; said = refl; notices = refl; heard = refl; follows = same-phase c colour phase.Version _ v s refl f }
+item-read c colour small phase.Version (item.Version V37) comes v s more f = record { next = s; read = refl; said = refl; notices = refl; heard = refl; follows = same-phase c colour phase.Version _ v s refl f }
+item-read c colour small phase.Version (item.Version V38) comes v s more f = record { next = s; read = refl; said = refl; notices = refl; heard = refl; follows = same-phase c colour phase.Version _ v s refl f }
+item-read c colour small (phase.Choice V33) item.Choice comes v s more f = record { next = s; read = refl; said = refl; notices = refl; heard = refl; follows = same-phase c colour (phase.Choice V33) _ v s refl f }
+item-read c colour small (phase.Choice V37) item.Choice comes v s more f = record { next = s; read = refl; said = refl; notices = refl; heard = refl; follows = same-phase c colour (phase.Choice V37) _ v s refl f }
+item-read c colour small (phase.Choice V38) item.Choice comes v s more f = record { next = s; read = refl; said = refl; notices = refl; heard = refl; follows = same-phase c colour (phase.Choice V38) _ v s refl f }
+item-read c colour small (phase.Init w) (item.Init shared) comes v s more f = record {
+  next = record s { width = from_be_bytes w16 (to_be_bytes w16 c.width); height = from_be_bytes w16 (to_be_bytes w16 c.height); format = server_format };
+  read = ap (λ (o : Option (Init × List ℕ)). o >>= λ init. Some (record s { width = init.0.width; height = init.0.height; format = init.0.format }, init.1)) (init-read c.width c.height c.name more small);
+  said = refl;
+  notices = refl;
+  heard = refl;
+  follows = record { format = sym (f.early refl); early = λ e. f.early refl; width = f.width; height = f.height; shows = f.shows };
+}
+item-read c colour small (phase.Open w) (item.Format g) comes v s more f = record {
+  next = record s { format = g };
+  read = refl;
+  said = refl;
+  notices = refl;
+  heard = refl;
+  follows = record { format = refl; early = λ e. absurd cc; width = f.width; height = f.height; shows = f.shows };
+}
+item-read c colour small (phase.Open w) (item.Encodings preferred true) comes v s more f = record {
+  next = s;
+  read = refl;
+  said = refl;
+  notices = refl;
+  heard = refl;
+  follows = record { format = f.format; early = λ e. absurd cc; width = f.width; height = f.height; shows = f.shows };
+}
+item-read c colour small (phase.Open w) (item.Encodings preferred false) comes v s more f = record {
+  next = s;
+  read = refl;
+  said = refl;
+  notices = refl;
+  heard = refl;
+  follows = record { format = f.format; early = λ e. absurd cc; width = f.width; height = f.height; shows = uncopied-shows colour v.marks s.shown f.shows };
+}
+item-read c colour small (phase.Open w) (item.Request true area) comes v s more f = record {
+  next = s;
+  read = refl;
+  said = refl;
+  notices = refl;
+  heard = refl;
+  follows = record { format = f.format; early = λ e. absurd cc; width = f.width; height = f.height; shows = asked-shows colour (area_places c.width c.height area) v.marks s.shown f.shows };
+}
+item-read c colour small (phase.Open w) (item.Request false area) comes v s more f = record {
+  next = forgotten area s;
+  read = refl;
+  said = refl;
+  notices = refl;
+  heard = refl;
+  follows = record {
+    format = f.format;
+    early = λ e. absurd cc;
+    width = f.width;
+    height = f.height;
+    shows = forgotten-shows colour (area_places c.width c.height area) _ s.shown (forgotten area s).shown
+        (λ x y on out. not-inside area c.width c.height s.width s.height s.shown x y (sym (ap (λ n. on_screen n v.marks.height x y) f.width ∙ ap (λ n. on_screen c.width n x y) f.height) ∙ on) out)
+        (asked-shows colour (area_places c.width c.height area) v.marks s.shown f.shows);
+  };
+}
+item-read c colour small (phase.Open w) (item.Input input) comes v s more f = record { next = s; read = refl; said = refl; notices = refl; heard = refl; follows = record { format = f.format; early = λ e. absurd cc; width = f.width; height = f.height; shows = f.shows } }
+item-read c colour small p i comes v s more f = absurd comes
+
+-- ---- the items of a piece
+
+record Items-read (c : Config) (colour : ℤ → ℤ → ℕ) (p : Phase) (items : List Item) (v : Viewer (List ℕ)) (s : Watching) : Type 0 where
+  next : Watching
+  read : items_at p items s (answers (server_init c.width c.height c.name) p items) ≡ Some (next, [])
+  said : next.said ≡ s.said
+  notices : (after_items c.width c.height items v).notices ≡ v.notices
+  heard : (after_items c.width c.height items v).heard ≡ v.heard
+  follows : Follows c colour (phase_after p items) (after_items c.width c.height items v) next
+
+items-read : (c : Config) (colour : ℤ → ℤ → ℕ) → length c.name < 2 ^ 32 → (p : Phase) (items : List Item) → Come p items → (v : Viewer (List ℕ)) (s : Watching) → Follows c colour p v s → Items-read c colour p items v s
+items-read c colour small p [] come v s f = record { next = s; read = refl; said = refl; notices = refl; heard = refl; follows = f }
+items-read c colour small p (i ∷ items) come v s f =
+    let init : List ℕ = server_init c.width c.height c.name in
+    let one = item-read c colour small p i come.0 v s (answers init (after p i) items) f in
+    let rest = items-read c colour small (after p i) items come.1 (after_item c.width c.height i v) one.next one.follows in
+    record {
+      next = rest.next;
+      read = ap (λ (o : Option (Watching × List ℕ)). o >>= λ first. items_at (after p i) items first.0 first.1) one.read ∙ rest.read;
+      said = rest.said ∙ one.said;
+      notices = rest.notices ∙ one.notices;
+      heard = rest.heard ∙ one.heard;
+      follows = rest.follows;
+    }
+
+-- ---- a piece
+
+pub record Piece-read (c : Config) (colour : ℤ → ℤ → ℕ) (piece : List ℕ) (v : Viewer (List ℕ)) (s : Watching) : Type 0 where
+  pub said : (after_piece piece (hearing c piece v).1.bytes s).said ≡ (hearing c piece v).0.heard
+  pub notices : (hearing c piece v).0.notices ≡ v.notices
+  pub follows : Follows c colour (heard (hearing c piece v).0.heard).phase (hearing c piece v).0 (after_piece piece (hearing c piece v).1.bytes s)
+
+pub piece-read : (c : Config) (colour : ℤ → ℤ → ℕ) → length c.name < 2 ^ 32 → (piece : List ℕ) (v : Viewer (List ℕ)) (s : Watching) → s.said ≡ v.heard → Follows c colour (heard v.heard).phase v s → Piece-read c colour piece v s
+piece-read c colour small piece v s same f = record {
+  said = ap (λ (t : Watching). t.said) result ∙ all.said ∙ ap (λ (l : List ℕ). l ++ piece) same ∙ sym all.heard;
+  notices = all.notices;
+  follows = subst (λ (t : Watching). Follows c colour (heard (hearing c piece v).0.heard).phase (hearing c piece v).0 t) (sym result)
+      (subst (λ (q : Phase). Follows c colour q (after_items c.width c.height items later) all.next) (sym (ap (λ (l : List ℕ). (heard l).phase) all.heard ∙ now.phase)) all.follows);
+}
+  where
+    items : List Item
+    items = new_items v.heard piece
+
+    later : Viewer (List ℕ)
+    later = record v { heard = v.heard ++ piece }
+
+    begun : Watching
+    begun = record s { said = s.said ++ piece }
+
+    now : Following v.heard piece
+    now = following v.heard piece
+
+    start : Follows c colour (heard v.heard).phase later begun
+    start = record { format = f.format; early = f.early; width = f.width; height = f.height; shows = f.shows }
+
+    all : Items-read c colour (heard v.heard).phase items later begun
+    all = items-read c colour small (heard v.heard).phase items now.come later begun start
+
+    bytes : List ℕ
+    bytes = answers (server_init c.width c.height c.name) (heard v.heard).phase items
+
+    result : after_piece piece bytes s ≡ all.next
+    result = ap (λ (l : List ℕ). or_nothing begun (items_at (heard l).phase (new_items l piece) begun bytes >>= all_read)) same
+        ∙ ap (λ (o : Option (Watching × List ℕ)). or_nothing begun (o >>= all_read)) all.read

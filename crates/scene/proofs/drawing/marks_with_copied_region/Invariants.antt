@@ -1,0 +1,17 @@
+use Rattle.std.proofs.Common.{◌≡◌, ◌-◌, map, take, length}
+use Rattle.std.specs.Prelude.{IfSome}
+use Rattle.std.specs.Map.{values_of}
+use Rattle.client_list.specs.Connected.{IsPlace, passed}
+use Rattle.region.specs.Region.{covers}
+use Rattle.scene.specs.Entries.{marks_copied}
+use Rattle.scene.proofs.drawing.marks_with_copied_region.Given as goal
+
+-- the marks of the viewers that were passed
+abbrev pub invariant-loop-place : goal.invariant-loop-place
+invariant-loop-place l = record {
+  place : IfSome l.place (IsPlace l.viewers);
+  made : l.all.items ≡ take (passed l.viewers l.place) (map (marks_copied (covers l.region.list) l.offset) (values_of l.viewers.pairs));
+}
+
+abbrev pub decreases-loop-place : goal.decreases-loop-place
+decreases-loop-place l = length l.viewers.places - passed l.viewers l.place

@@ -1,0 +1,25 @@
+use Rattle.std.proofs.Common.{◌≡◌, ℕ, ◌≤◌, false, cond, ap, ◌∙◌, map, length, List, Some, None, refl, arith}
+use Rattle.std.specs.Prelude.{nat_lt, if◌then◌else◌}
+use Rattle.std.proofs.lemmas.Bool.Decides.{nat_tests}
+use Rattle.scene.specs.declared.ScreenError.TheVariants as refusals
+use Rattle.scene.specs.declared.Event.TheVariants.{CutText}
+use Rattle.viewer.specs.declared.notices.Notice.TheVariants as notice
+use Rattle.scene.specs.Answers.{SceneState}
+use Rattle.scene.specs.Entries.{viewer_noticed}
+use Rattle.scene.proofs.Drawn.{state-drawn, sized-changed}
+use Rattle.scene.proofs.scene.Scene.cut_text.Goals as goal
+
+pub invariant_of-self : goal.invariant_of-self
+invariant_of-self c = record {
+  accepted = c.self.invariant.accepted;
+  width = c.self.invariant.width;
+  height = c.self.invariant.height;
+  sized = rw c.tell_all.ensures (sized-changed c.self.inside.config (viewer_noticed (notice.CutText c.args.text.now)) c.self.inside.viewers.pairs (λ s was. record { width = was.width; height = was.height }) c.self.invariant.sized);
+}
+
+pub returns-clause-step : goal.returns-clause-step
+returns-clause-step c = λ config list h.
+    let here = c.self.inside in
+    let after : List _ → SceneState = λ pairs. record { config = here.config; picture = here.picture.colours; viewers = pairs } in
+    ap after c.tell_all.ensures
+    ∙ state-drawn config here.config here.picture.colours here.picture.colours here.viewers.pairs (viewer_noticed (notice.CutText c.args.text.now)) (CutText c.args.text.now) list refl c.in_ok-checked_text.ensures refl (λ s. refl) (c.self.view_is ∙ h)

@@ -1,0 +1,28 @@
+-- What a screen keeps true of itself.
+use Rattle.std.specs.Prelude.{◌≡◌, ℕ, ◌*◌, ◌^◌, ◌≤◌, List, length, All}
+use Rattle.scene.specs.declared.Config.{Config}
+use Rattle.framebuffer.specs.Frame.{Frame}
+use Rattle.viewer.specs.Viewer.{KeptViewer}
+
+-- a screen's configuration is within the limits
+pub record IsAccepted (c : Config) : Type 0 where
+  pub some_columns : 1 ≤ c.width
+  pub columns : c.width ≤ 8192
+  pub some_rows : 1 ≤ c.height
+  pub rows : c.height ≤ 8192
+  pub places : c.width * c.height ≤ 2 ^ 24
+  pub name : length c.name ≤ 255
+  pub some_rectangles : 1 ≤ c.rects_per_update
+  pub rectangles : c.rects_per_update ≤ 1000
+
+-- a viewer's marks are of a screen's size
+pub record IsSized (c : Config) (v : KeptViewer) : Type 0 where
+  pub width : v.marks.width ≡ c.width
+  pub height : v.marks.height ≡ c.height
+
+-- there is a colour for each place, and a mark of each viewer
+pub record IsHeld (c : Config) (picture : Frame) (viewers : List KeptViewer) : Type 0 where
+  pub accepted : IsAccepted c
+  pub width : picture.width ≡ c.width
+  pub height : picture.height ≡ c.height
+  pub sized : All (IsSized c) viewers

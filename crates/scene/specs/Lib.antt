@@ -1,0 +1,14 @@
+pub mod Alone
+pub mod Answers
+pub mod Refusals
+pub mod Claims
+pub mod Shown
+pub mod Pictures
+pub mod Checked
+pub mod Entries
+pub mod Held
+pub mod Examples
+pub mod Drawing
+pub mod Shows
+pub mod History
+pub mod HistoryExamples

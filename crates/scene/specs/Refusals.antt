@@ -1,0 +1,35 @@
+-- When a screen refuses an event, by what it holds.
+use Rattle.std.specs.Prelude.{◌≡◌, MatchOption, IsOkUnless, ℕ, ◌==◌, Option, Some, None, Result, Err}
+use Rattle.std.specs.Map.{lookup}
+use Rattle.viewer.specs.Viewer.{KeptViewer}
+use Rattle.scene.specs.declared.ScreenError.{ScreenError}
+use Rattle.scene.specs.declared.ScreenError.TheVariants as refusals
+use Rattle.scene.specs.declared.Event.{Event}
+use Rattle.scene.specs.declared.Event.TheVariants.{Connect, Hear, Cut, Close}
+use Rattle.scene.specs.Alone.{drawing_refusal}
+use Rattle.scene.specs.Answers.{SceneState}
+
+-- the live viewer with a number, if there is one
+abbrev pub viewer_at : SceneState → ℕ → Option KeptViewer
+viewer_at s v = lookup (λ n. n == v) s.viewers
+
+-- a viewer's own event is refused where it isn't there
+abbrev pub absence : Option KeptViewer → Option ScreenError
+absence None = Some refusals.NoViewer
+absence (Some viewer) = None
+
+-- and its connecting where it is
+abbrev pub presence : Option KeptViewer → Option ScreenError
+presence None = None
+presence (Some viewer) = Some refusals.NumberInUse
+
+abbrev pub refusal : SceneState → Event → Option ScreenError
+refusal s (Connect v) = presence (viewer_at s v)
+refusal s (Hear v piece) = absence (viewer_at s v)
+refusal s (Cut v) = absence (viewer_at s v)
+refusal s (Close v) = absence (viewer_at s v)
+refusal s e = drawing_refusal s.config e
+
+-- a call answers the refusal that is due, and where none is, it is refused for memory alone
+abbrev pub Refuses : {X : Type 0} → Result X ScreenError → Option ScreenError → Type 0
+Refuses result due = MatchOption due (IsOkUnless result refusals.OutOfMemory) (λ e. result ≡ Err e)

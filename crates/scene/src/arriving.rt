@@ -1,0 +1,42 @@
+//! A viewer that connects.
+
+ghost use Rattle.std.specs.Prelude.{◌≡◌, None, ◌∷◌, ◌++◌, [], All, ◌≤◌, IfOk, OnOk, OnErr};
+ghost use Rattle.std.specs.Map.{values_of};
+ghost use Rattle.client_list.specs.Connected.{value_of};
+ghost use Rattle.messages.specs.Server.{server_version};
+ghost use Rattle.viewer.specs.Viewer.{new_viewer, kept};
+ghost use Rattle.scene.specs.Held.{IsSized};
+
+use crate::Config;
+use client_list::Clients;
+use listed::Listed;
+use messages::put_version;
+use std::alloc::{AllocError, Global};
+use viewer::Viewer;
+
+/// A viewer that connects comes last; it is given the server's version. `AllocError` where memory is refused, since the number
+/// is no viewer's yet.
+pub fn let_in(
+    alloc: Global,
+    config: &Config,
+    viewers: &mut Clients<Viewer>,
+    number: u64,
+) -> Result<Listed<u8>, AllocError>
+    requires absent { value_of viewers.old number ≡ None }
+    requires some_columns { 1 ≤ config.now.width }
+    requires columns { config.now.width ≤ 8192 }
+    requires some_rows { 1 ≤ config.now.height }
+    requires rows { config.now.height ≤ 8192 }
+    ensures version { IfOk result (λ bytes. bytes ≡ server_version) }
+    ensures entries { OnOk result (viewers.new.pairs ≡ viewers.old.pairs ++ (number, kept (new_viewer config.now.width config.now.height)) ∷ []) }
+    ensures sized { All (IsSized config.now) (values_of viewers.old.pairs) → All (IsSized config.now) (values_of viewers.new.pairs) }
+    ensures err { OnErr result (viewers.new ≡ viewers.old) }
+{
+    let mut version = Vec::new(alloc);
+    put_version(&mut version)?;
+    let viewer = Viewer::new(alloc, config.width, config.height)?;
+    match viewers.connect(number, viewer) {
+        Ok(()) => Ok(Listed::from_vec(version)),
+        Err(_) => Err(AllocError),
+    }
+}

@@ -1,0 +1,35 @@
+//! What holds of whole runs: what the answers to a list of events do not depend on, and what the viewers show.
+
+ghost use Rattle.scene.specs.Claims.{told_alike, one_viewer_is_alone};
+ghost use Rattle.scene.specs.History.{accepted_is_enough, accepted_happens_again};
+ghost use Rattle.scene.specs.Pictures.{pictures_are_shown};
+
+use viewer_picture::rectangles_are_read;
+
+/// Two runs that agree in the drawing calls and in a viewer's own events tell that viewer the same.
+pub fn viewers_are_alone()
+    ensures { told_alike }
+{}
+
+/// A run with one viewer is the machine with one viewer.
+pub fn one_viewer_is_alone()
+    ensures { one_viewer_is_alone }
+{}
+
+/// What each viewer shows that is there is what is drawn, where the viewers are told of all that is drawn.
+pub fn pictures_are_shown()
+    ensures { pictures_are_shown }
+{
+    rectangles_are_read();
+}
+
+/// What is held after a list of events is held after those that happened: a refused event, and a cut that gave nothing, changed
+/// nothing.
+pub fn accepted_is_enough()
+    ensures { accepted_is_enough }
+{}
+
+/// The events that happened all happen when they come again, without the others.
+pub fn accepted_happens_again()
+    ensures { accepted_happens_again }
+{}

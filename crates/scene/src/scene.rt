@@ -1,0 +1,483 @@
+//! The scene: each call is one event, and leaves it standing for the list of events so far with its own behind it.
+
+ghost use Rattle.std.specs.Prelude.{◌≡◌, ◌≢◌, ◌++◌, ◌∷◌, [], List, IfSome, IfOk, OnOk, OnErr, MatchOption, MatchResult, IsOk, IsOkUnless, IsSome, None, Some, length, slice_index, is_some, ◌↔◌, ◌<◌, ◌+◌, ◌*◌};
+ghost use Rattle.messages.specs.Reading.{fault_kept};
+ghost use Rattle.scene.specs.declared.Config.{Config};
+ghost use Rattle.scene.specs.declared.Event.{Event};
+ghost use Rattle.scene.specs.Alone.{config_refusal, pixels_refusal, text_refusal, nothing_to_say, gives, something_to_send, told, Tells};
+ghost use Rattle.viewer.specs.Given.{bytes_given};
+ghost use Rattle.scene.specs.Answers.{scene_after, answer_to};
+ghost use Rattle.scene.specs.Refusals.{viewer_at, absence, presence, refusal, Refuses};
+
+use crate::answers::{settled, with_bytes, with_nothing, with_reply};
+use crate::arriving::let_in;
+use crate::drawing::{
+    commit_all, marks_with_copy, marks_with_rect, marks_with_rects, marks_with_region,
+    moves_nothing, ring_all, tell_all, texts,
+};
+use crate::limits::{checked, checked_text, refusal_of};
+use crate::{Answer, Config, Event, History, ScreenError};
+use client_list::Clients;
+use framebuffer::{Framebuffer, destinations};
+use listed::Listed;
+use messages::Fault;
+use region::{Rect, Region};
+use std::alloc::{AllocError, Global};
+use std::marker::Model;
+use viewer::{Update, Viewer};
+
+/// One framebuffer, drawn in by the application, and its viewers.
+#[derive(Drop)]
+pub struct Scene {
+    alloc: Global,
+    config: Config,
+    picture: Framebuffer,
+    viewers: Clients<Viewer>,
+}
+
+impl Model for Scene {
+    ghost use Rattle.std.specs.Map.{values_of};
+    ghost use Rattle.scene.specs.Answers.{SceneState};
+
+    ghost Value = { SceneState };
+
+    ghost use Rattle.scene.specs.Held.{IsHeld};
+
+    ghost view = { λ a. record { config = a.config; picture = a.picture.colours; viewers = a.viewers.pairs } };
+
+    ghost invariant = { λ a. IsHeld a.config a.picture (values_of a.viewers.pairs) };
+}
+
+impl Scene {
+    /// A picture that is 0 everywhere, with no viewer. It is refused as `BadSize`, `BadName` or
+    /// `BadRectLimit`, in this order, where the configuration is outside its limits.
+    pub fn new(alloc: Global, config: Config) -> Result<Scene, ScreenError>
+        ensures made { IfOk result (λ scene. scene ≡ scene_after config []) }
+        ensures refused { MatchOption (config_refusal config) (IsOkUnless result ScreenError.OutOfMemory) (λ e. result ≡ Err e) }
+    {
+        if let Some(error) = refusal_of(&config) {
+            return Err(error);
+        }
+        let picture = Framebuffer::new(alloc, config.width, config.height)?;
+        Ok(Scene {
+            alloc,
+            config,
+            picture,
+            viewers: Clients::new(alloc),
+        })
+    }
+
+    /// The screen's columns, 1 to 8192.
+    pub fn width(&self) -> u32
+        ensures { result ≡ self.now.config.width }
+    {
+        self.config.width
+    }
+
+    /// The screen's rows, 1 to 8192.
+    pub fn height(&self) -> u32
+        ensures { result ≡ self.now.config.height }
+    {
+        self.config.height
+    }
+
+    /// Whether the events are to be kept.
+    pub fn history(&self) -> History
+        ensures { result ≡ self.now.config.history }
+    {
+        self.config.history
+    }
+
+    /// The colour `0x00RRGGBB` of the place in column x of row y; None off the screen.
+    pub fn colour(&self, x: u32, y: u32) -> Option<u32>
+        ensures inside { IsSome result ↔ ((x < self.now.config.width) × (y < self.now.config.height)) }
+        ensures colour { IfSome result (λ colour. colour ≡ slice_index self.now.picture (y * self.now.config.width + x)) }
+    {
+        self.picture.colour(x, y)
+    }
+
+    /// How many viewers are live: connected, and not closed. A viewer that met a fault is live until it is closed.
+    pub fn viewer_count(&self) -> usize
+        ensures { result ≡ length self.now.viewers }
+    {
+        self.viewers.len()
+    }
+
+    /// Whether a live viewer has the number.
+    pub fn is_live(&self, number: u64) -> bool
+        ensures { result ≡ is_some (viewer_at self.now number) }
+    {
+        self.viewers.get(number).is_some()
+    }
+
+    /// Why a viewer is heard no further, if it met a fault. Refused as `NoViewer` where there is none with the number.
+    pub fn fault(&self, number: u64) -> Result<Option<Fault>, ScreenError>
+        ensures { MatchOption (viewer_at self.now number) (result ≡ Err ScreenError.NoViewer) (λ viewer. result ≡ Ok (fault_kept viewer.heard)) }
+    {
+        match self.viewers.get(number) {
+            Some(viewer) => Ok(viewer.fault()),
+            None => Err(ScreenError::NoViewer),
+        }
+    }
+
+    /// Nothing, or why colours `0x00RRGGBB`, row by row, may not replace those of a rectangle: `BadRect` unless
+    /// 0 <= x1 <= x2 <= width and 0 <= y1 <= y2 <= height, then `BadPixelCount` unless there are as many as places.
+    pub fn check_pixels(&self, rect: Rect, colours: &[u32]) -> Result<(), ScreenError>
+        ensures { MatchResult result (λ _. pixels_refusal self.now.config rect colours.now ≡ None) (λ e. pixels_refusal self.now.config rect colours.now ≡ Some e) }
+    {
+        checked(&self.config, rect, colours)?;
+        Ok(())
+    }
+
+    /// Nothing, or why a text can't be sent: `TextTooLong` above 65,536 bytes.
+    pub fn check_text(&self, text: &[u8]) -> Result<(), ScreenError>
+        ensures { MatchResult result (λ _. text_refusal text.now ≡ None) (λ e. text_refusal text.now ≡ Some e) }
+    {
+        checked_text(text)
+    }
+
+    /// Nothing, or why no viewer may connect with a number: `NumberInUse` where a live viewer has it.
+    pub fn check_free(&self, number: u64) -> Result<(), ScreenError>
+        ensures { MatchResult result (λ _. presence (viewer_at self.now number) ≡ None) (λ e. presence (viewer_at self.now number) ≡ Some e) }
+    {
+        match self.viewers.get(number) {
+            Some(_) => Err(ScreenError::NumberInUse),
+            None => Ok(()),
+        }
+    }
+
+    /// Nothing, or why a call for a viewer is refused: `NoViewer` where no live viewer has the number.
+    pub fn check_live(&self, number: u64) -> Result<(), ScreenError>
+        ensures { MatchResult result (λ _. absence (viewer_at self.now number) ≡ None) (λ e. absence (viewer_at self.now number) ≡ Some e) }
+    {
+        match self.viewers.get(number) {
+            Some(_) => Ok(()),
+            None => Err(ScreenError::NoViewer),
+        }
+    }
+
+    /// Nothing, or why an event would be refused now, but for want of memory.
+    pub fn check(&self, event: &Event) -> Result<(), ScreenError>
+        ensures { MatchResult result (λ _. refusal self.now event.now ≡ None) (λ e. refusal self.now event.now ≡ Some e) }
+    {
+        match event {
+            Event::Write { rect, colours } => self.check_pixels(*rect, colours.as_slice()),
+            Event::Paint { rect, colours } => self.check_pixels(*rect, colours.as_slice()),
+            Event::CutText { text } => self.check_text(text.as_slice()),
+            Event::Connect { viewer } => self.check_free(*viewer),
+            Event::Hear { viewer, .. } => self.check_live(*viewer),
+            Event::Cut { viewer } => self.check_live(*viewer),
+            Event::Close { viewer } => self.check_live(*viewer),
+            Event::Mark { .. } => Ok(()),
+            Event::ScheduleCopy { .. } => Ok(()),
+            Event::DoCopy { .. } => Ok(()),
+            Event::Bell => Ok(()),
+        }
+    }
+
+    /// Replaces the colours of a rectangle by others, `0x00RRGGBB` row by row, whose top bytes are
+    /// cleared, and owes it to every viewer. Refused as `BadRect` unless 0 <= x1 <= x2 <= width and
+    /// 0 <= y1 <= y2 <= height, then as `BadPixelCount` unless there are as many colours as places.
+    pub fn paint(&mut self, rect: Rect, colours: &[u32]) -> Result<(), ScreenError>
+        ensures step { (config : Config) (list : List Event) → self.old ≡ scene_after config list →
+            OnOk result (self.new ≡ scene_after config (list ++ Event.Paint rect colours.now ∷ [])) }
+        ensures answer { (config : Config) (list : List Event) → self.old ≡ scene_after config list →
+            Tells (λ _. nothing_to_say) result (answer_to config list (Event.Paint rect colours.now)) }
+        ensures refused { Refuses result (refusal self.old (Event.Paint rect colours.now)) }
+        ensures err { OnErr result (self.new ≡ self.old) }
+    {
+        let block = checked(&self.config, rect, colours)?;
+        let marks = marks_with_rect(self.alloc, &self.viewers, rect)?;
+        self.picture.write(block, colours)?;
+        commit_all(&mut self.viewers, marks);
+        Ok(())
+    }
+
+    /// Replaces the colours of a rectangle by others, `0x00RRGGBB` row by row, whose top bytes are
+    /// cleared, and tells no viewer: `mark_rect` and `mark_region` do. Refused as `paint` is.
+    pub fn write_pixels(&mut self, rect: Rect, colours: &[u32]) -> Result<(), ScreenError>
+        ensures step { (config : Config) (list : List Event) → self.old ≡ scene_after config list →
+            OnOk result (self.new ≡ scene_after config (list ++ Event.Write rect colours.now ∷ [])) }
+        ensures answer { (config : Config) (list : List Event) → self.old ≡ scene_after config list →
+            Tells (λ _. nothing_to_say) result (answer_to config list (Event.Write rect colours.now)) }
+        ensures refused { Refuses result (refusal self.old (Event.Write rect colours.now)) }
+        ensures err { OnErr result (self.new ≡ self.old) }
+    {
+        let block = checked(&self.config, rect, colours)?;
+        self.picture.write(block, colours)?;
+        Ok(())
+    }
+
+    /// The rectangles' places on the screen are owed to every viewer. Corners may stand in the wrong order, anywhere.
+    pub fn mark_rects(&mut self, rects: &[Rect]) -> Result<(), ScreenError>
+        ensures step { (config : Config) (list : List Event) → self.old ≡ scene_after config list →
+            OnOk result (self.new ≡ scene_after config (list ++ Event.Mark rects.now ∷ [])) }
+        ensures answer { (config : Config) (list : List Event) → self.old ≡ scene_after config list →
+            Tells (λ _. nothing_to_say) result (answer_to config list (Event.Mark rects.now)) }
+        ensures refused { IsOkUnless result ScreenError.OutOfMemory }
+        ensures err { OnErr result (self.new ≡ self.old) }
+    {
+        let marks = marks_with_rects(self.alloc, &self.config, &self.viewers, rects)?;
+        commit_all(&mut self.viewers, marks);
+        Ok(())
+    }
+
+    /// The places of a region, as far as they are on the screen, are owed to every viewer
+    /// (`rfbMarkRegionAsModified` of `rfb.h`). Refused for want of memory alone.
+    pub fn mark_region(&mut self, region: &Region) -> Result<(), ScreenError>
+        ensures step { (config : Config) (list : List Event) → self.old ≡ scene_after config list →
+            OnOk result (self.new ≡ scene_after config (list ++ Event.Mark region.now.list ∷ [])) }
+        ensures answer { (config : Config) (list : List Event) → self.old ≡ scene_after config list →
+            Tells (λ _. nothing_to_say) result (answer_to config list (Event.Mark region.now.list)) }
+        ensures refused { IsOkUnless result ScreenError.OutOfMemory }
+        ensures err { OnErr result (self.new ≡ self.old) }
+    {
+        region.list_is_canonical();
+        let marks = marks_with_region(self.alloc, &self.viewers, region)?;
+        commit_all(&mut self.viewers, marks);
+        Ok(())
+    }
+
+    /// Each viewer is told that the rectangles' places get the colours of the places (dx, dy) before them;
+    /// the picture stays.
+    pub fn schedule_copy(&mut self, rects: &[Rect], dx: i32, dy: i32) -> Result<(), ScreenError>
+        ensures step { (config : Config) (list : List Event) → self.old ≡ scene_after config list →
+            OnOk result (self.new ≡ scene_after config (list ++ Event.ScheduleCopy rects.now dx dy ∷ [])) }
+        ensures answer { (config : Config) (list : List Event) → self.old ≡ scene_after config list →
+            Tells (λ _. nothing_to_say) result (answer_to config list (Event.ScheduleCopy rects.now dx dy)) }
+        ensures refused { IsOkUnless result ScreenError.OutOfMemory }
+        ensures err { OnErr result (self.new ≡ self.old) }
+    {
+        let pieces = destinations(
+            self.alloc,
+            rects,
+            dx,
+            dy,
+            self.config.width,
+            self.config.height,
+        )?;
+        if moves_nothing(&pieces, (dx, dy)) {
+            return Ok(());
+        }
+        let marks = marks_with_copy(self.alloc, &self.viewers, &pieces, (dx, dy))?;
+        commit_all(&mut self.viewers, marks);
+        Ok(())
+    }
+
+    /// The rectangles' places get the colours of the places (dx, dy) before them, and each viewer is told.
+    pub fn do_copy(&mut self, rects: &[Rect], dx: i32, dy: i32) -> Result<(), ScreenError>
+        ensures step { (config : Config) (list : List Event) → self.old ≡ scene_after config list →
+            OnOk result (self.new ≡ scene_after config (list ++ Event.DoCopy rects.now dx dy ∷ [])) }
+        ensures answer { (config : Config) (list : List Event) → self.old ≡ scene_after config list →
+            Tells (λ _. nothing_to_say) result (answer_to config list (Event.DoCopy rects.now dx dy)) }
+        ensures refused { IsOkUnless result ScreenError.OutOfMemory }
+        ensures err { OnErr result (self.new ≡ self.old) }
+    {
+        let (width, height) = (self.picture.width(), self.picture.height());
+        let pieces = destinations(self.alloc, rects, dx, dy, width, height)?;
+        if moves_nothing(&pieces, (dx, dy)) {
+            return Ok(());
+        }
+        let marks = marks_with_copy(self.alloc, &self.viewers, &pieces, (dx, dy))?;
+        self.picture.move_colours(&pieces, (dx, dy))?;
+        commit_all(&mut self.viewers, marks);
+        Ok(())
+    }
+
+    /// A bell for every open viewer for which fewer than 64 notices wait (`rfbSendBell` of `rfb.h`). Refused
+    /// for want of memory alone.
+    pub fn bell(&mut self) -> Result<(), ScreenError>
+        ensures step { (config : Config) (list : List Event) → self.old ≡ scene_after config list →
+            OnOk result (self.new ≡ scene_after config (list ++ Event.Bell ∷ [])) }
+        ensures answer { (config : Config) (list : List Event) → self.old ≡ scene_after config list →
+            Tells (λ _. nothing_to_say) result (answer_to config list (Event.Bell)) }
+        ensures refused { IsOkUnless result ScreenError.OutOfMemory }
+        ensures err { OnErr result (self.new ≡ self.old) }
+    {
+        ring_all(&mut self.viewers);
+        Ok(())
+    }
+
+    /// A text for every open viewer for which fewer than 64 notices wait (`rfbSendServerCutText` of `rfb.h`).
+    /// Refused as `TextTooLong` above 65,536 bytes.
+    pub fn cut_text(&mut self, text: &[u8]) -> Result<(), ScreenError>
+        ensures step { (config : Config) (list : List Event) → self.old ≡ scene_after config list →
+            OnOk result (self.new ≡ scene_after config (list ++ Event.CutText text.now ∷ [])) }
+        ensures answer { (config : Config) (list : List Event) → self.old ≡ scene_after config list →
+            Tells (λ _. nothing_to_say) result (answer_to config list (Event.CutText text.now)) }
+        ensures refused { Refuses result (refusal self.old (Event.CutText text.now)) }
+        ensures err { OnErr result (self.new ≡ self.old) }
+    {
+        checked_text(text)?;
+        let notices = texts(self.alloc, text, self.viewers.len())?;
+        tell_all(&mut self.viewers, text, notices);
+        Ok(())
+    }
+
+    /// A viewer connects; it is given the server's version (RFC 6143, 7.1.1). Refused as
+    /// `NumberInUse` where a live viewer has the number.
+    pub fn connect(&mut self, number: u64) -> Result<Listed<u8>, ScreenError>
+        ensures step { (config : Config) (list : List Event) → self.old ≡ scene_after config list →
+            OnOk result (self.new ≡ scene_after config (list ++ Event.Connect number ∷ [])) }
+        ensures answer { (config : Config) (list : List Event) → self.old ≡ scene_after config list →
+            Tells gives result (answer_to config list (Event.Connect number)) }
+        ensures refused { Refuses result (presence (viewer_at self.old number)) }
+        ensures err { OnErr result (self.new ≡ self.old) }
+    {
+        if self.viewers.place_of(number).is_some() {
+            return Err(ScreenError::NumberInUse);
+        }
+        Ok(let_in(self.alloc, &self.config, &mut self.viewers, number)?)
+    }
+
+    /// Closes a viewer's connection. Refused as `NoViewer` where there is none with the number.
+    pub fn close(&mut self, number: u64) -> Result<(), ScreenError>
+        ensures step { (config : Config) (list : List Event) → self.old ≡ scene_after config list →
+            self.new ≡ scene_after config (list ++ Event.Close number ∷ []) }
+        ensures answer { (config : Config) (list : List Event) → self.old ≡ scene_after config list →
+            told (λ _. nothing_to_say) result ≡ answer_to config list (Event.Close number) }
+        ensures refused { MatchOption (absence (viewer_at self.old number)) (IsOk result) (λ e. result ≡ Err e) }
+        ensures err { OnErr result (self.new ≡ self.old) }
+    {
+        match self.viewers.remove(number) {
+            Ok(_) => Ok(()),
+            Err(_) => Err(ScreenError::NoViewer),
+        }
+    }
+
+    /// A piece of a viewer's bytes is heard (RFC 6143, 7.1 to 7.5): what it is answered, what it
+    /// tells the application, and why it is heard no further. Refused as `NoViewer` where there is
+    /// none with the number.
+    pub fn hear(&mut self, number: u64, piece: &[u8]) -> Result<Answer, ScreenError>
+        ensures step { (config : Config) (list : List Event) → self.old ≡ scene_after config list →
+            OnOk result (self.new ≡ scene_after config (list ++ Event.Hear number piece.now ∷ [])) }
+        ensures answer { (config : Config) (list : List Event) → self.old ≡ scene_after config list →
+            Tells (λ a. a) result (answer_to config list (Event.Hear number piece.now)) }
+        ensures refused { Refuses result (absence (viewer_at self.old number)) }
+        ensures accepted { IfOk result (λ answer. answer.refused ≡ None) }
+        ensures err { OnErr result (self.new ≡ self.old) }
+    {
+        let Some(viewer) = self.viewers.get_mut(number) else {
+            return Err(ScreenError::NoViewer);
+        };
+        let reply = viewer.hear(self.config.name.as_slice(), piece)?;
+        Ok(with_reply(reply))
+    }
+
+    /// Whether a cut now would give something. Refused as `NoViewer` where there is no viewer with
+    /// the number.
+    pub fn pending(&self, number: u64) -> Result<bool, ScreenError>
+        ensures answer { (config : Config) (list : List Event) → self.now ≡ scene_after config list →
+            result ≡ something_to_send (answer_to config list (Event.Cut number)) }
+        ensures refused { MatchOption (absence (viewer_at self.now number)) (IsOk result) (λ e. result ≡ Err e) }
+    {
+        let Some(viewer) = self.viewers.get(number) else {
+            return Err(ScreenError::NoViewer);
+        };
+        Ok(viewer.is_pending())
+    }
+
+    /// Cuts an update for a viewer: its rectangles, with copies of their colours; None where there is
+    /// nothing to send. Refused as `NoViewer` where there is none with the number.
+    pub fn cut(&mut self, number: u64) -> Result<Option<Update>, ScreenError>
+        ensures step { (config : Config) (list : List Event) → self.old ≡ scene_after config list →
+            OnOk result (self.new ≡ scene_after config (list ++ Event.Cut number ∷ [])) }
+        ensures answer { (config : Config) (list : List Event) → self.old ≡ scene_after config list →
+            Tells (λ update. gives (bytes_given update)) result (answer_to config list (Event.Cut number)) }
+        ensures some { IfOk result (λ update. IfSome update (λ u. u ≢ [])) }
+        ensures refused { Refuses result (absence (viewer_at self.old number)) }
+        ensures err { OnErr result (self.new ≡ self.old) }
+    {
+        let Some(viewer) = self.viewers.get_mut(number) else {
+            return Err(ScreenError::NoViewer);
+        };
+        Ok(viewer.cut(&self.picture, self.config.rects_per_update)?)
+    }
+
+    /// The same, encoded before the viewer changes.
+    fn cut_bytes(&mut self, number: u64) -> Result<Listed<u8>, ScreenError>
+        ensures step { (config : Config) (list : List Event) → self.old ≡ scene_after config list →
+            OnOk result (self.new ≡ scene_after config (list ++ Event.Cut number ∷ [])) }
+        ensures answer { (config : Config) (list : List Event) → self.old ≡ scene_after config list →
+            Tells gives result (answer_to config list (Event.Cut number)) }
+        ensures refused { Refuses result (absence (viewer_at self.old number)) }
+        ensures err { OnErr result (self.new ≡ self.old) }
+    {
+        let Some(viewer) = self.viewers.get_mut(number) else {
+            return Err(ScreenError::NoViewer);
+        };
+        let bytes = viewer.cut_bytes(&self.picture, self.config.rects_per_update)?;
+        Ok(Listed::from_vec(bytes))
+    }
+
+    /// One event, or why it is refused.
+    fn step(&mut self, event: &Event) -> Result<Answer, ScreenError>
+        ensures step { (config : Config) (list : List Event) → self.old ≡ scene_after config list →
+            OnOk result (self.new ≡ scene_after config (list ++ event.now ∷ [])) }
+        ensures answer { (config : Config) (list : List Event) → self.old ≡ scene_after config list →
+            Tells (λ a. a) result (answer_to config list event.now) }
+        ensures refused { Refuses result (refusal self.old event.now) }
+        ensures accepted { IfOk result (λ answer. answer.refused ≡ None) }
+        ensures err { OnErr result (self.new ≡ self.old) }
+    {
+        let alloc = self.alloc;
+        match event {
+            Event::Write { rect, colours } => {
+                let written = self.write_pixels(*rect, colours.as_slice());
+                with_nothing(alloc, written)
+            }
+            Event::Paint { rect, colours } => {
+                let painted = self.paint(*rect, colours.as_slice());
+                with_nothing(alloc, painted)
+            }
+            Event::Mark { rects } => {
+                let marked = self.mark_rects(rects.as_slice());
+                with_nothing(alloc, marked)
+            }
+            Event::ScheduleCopy { rects, dx, dy } => {
+                let scheduled = self.schedule_copy(rects.as_slice(), *dx, *dy);
+                with_nothing(alloc, scheduled)
+            }
+            Event::DoCopy { rects, dx, dy } => {
+                let copied = self.do_copy(rects.as_slice(), *dx, *dy);
+                with_nothing(alloc, copied)
+            }
+            Event::Bell => {
+                let rung = self.bell();
+                with_nothing(alloc, rung)
+            }
+            Event::CutText { text } => {
+                let told = self.cut_text(text.as_slice());
+                with_nothing(alloc, told)
+            }
+            Event::Connect { viewer } => {
+                let version = self.connect(*viewer);
+                with_bytes(alloc, version)
+            }
+            Event::Hear { viewer, piece } => self.hear(*viewer, piece.as_slice()),
+            Event::Cut { viewer } => {
+                let bytes = self.cut_bytes(*viewer);
+                with_bytes(alloc, bytes)
+            }
+            Event::Close { viewer } => {
+                let closed = self.close(*viewer);
+                with_nothing(alloc, closed)
+            }
+        }
+    }
+
+    /// One event. A refusal of another kind than want of memory stands in the answer, and then
+    /// nothing has changed; a Cut gives the encoded bytes, or none.
+    pub fn apply(&mut self, event: &Event) -> Result<Answer, AllocError>
+        ensures step { (config : Config) (list : List Event) → self.old ≡ scene_after config list →
+            OnOk result (self.new ≡ scene_after config (list ++ event.now ∷ [])) }
+        ensures answer { (config : Config) (list : List Event) → self.old ≡ scene_after config list →
+            MatchResult result (λ answer. answer ≡ answer_to config list event.now) (λ _. (answer_to config list event.now).refused ≡ None) }
+        ensures refused { MatchResult result (λ answer. answer.refused ≡ refusal self.old event.now) (λ _. refusal self.old event.now ≡ None) }
+        ensures unchanged { IfOk result (λ answer. answer.refused ≢ None → self.new ≡ self.old) }
+        ensures err { OnErr result (self.new ≡ self.old) }
+    {
+        let given = self.step(event);
+        settled(self.alloc, given)
+    }
+}

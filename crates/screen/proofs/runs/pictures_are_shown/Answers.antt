@@ -1,5 +1,0 @@
-use Rattle.screen.proofs.Shown.{pictures-shown}
-use Rattle.screen.proofs.runs.pictures_are_shown.Goals as goal
-
-pub returns : goal.returns
-returns c = pictures-shown c.rectangles_are_read.ensures

@@ -1,0 +1,143 @@
+//! The events that a screen keeps, in order, where it keeps any.
+
+ghost use Rattle.std.specs.Prelude.{◌≡◌, true, ◌∷◌, ◌++◌, [], List, IfOk, OnOk, is_some, option_map};
+ghost use Rattle.screen.specs.Kept.{HasRoom, kept_from_start, items_of};
+ghost use Rattle.scene.specs.History.{has_happened};
+
+use listed::Listed;
+use region::{Rect, Region};
+use scene::{Answer, Event, History};
+use std::alloc::{AllocError, Global};
+
+/// The events that were accepted, if they are kept, and room for further ones.
+#[derive(Drop)]
+pub struct KeptEvents {
+    alloc: Global,
+    events: Option<Vec<Event>>,
+}
+
+impl KeptEvents {
+    /// None yet.
+    pub fn new(alloc: Global, history: History) -> KeptEvents
+        ensures { items_of result.events ≡ kept_from_start history }
+    {
+        let events = match history {
+            History::Kept => Some(Vec::new(alloc)),
+            History::NotKept => None,
+        };
+        KeptEvents { alloc, events }
+    }
+
+    /// The events, if they are kept.
+    pub fn as_slice(&self) -> Option<&[Event]>
+        ensures { option_map (λ events. events.now) result ≡ items_of self.now.events }
+    {
+        match &self.events {
+            Some(events) => Some(events.as_slice()),
+            None => None,
+        }
+    }
+
+    /// Whether they are kept.
+    pub fn is_kept(&self) -> bool
+        ensures { result ≡ is_some (items_of self.now.events) }
+    {
+        self.events.is_some()
+    }
+
+    /// Makes room for one more, where they are kept.
+    pub fn make_room(&mut self) -> Result<(), AllocError>
+        ensures same { items_of self.new.events ≡ items_of self.old.events }
+        ensures room { OnOk result (HasRoom self.new.events) }
+    {
+        match &mut self.events {
+            Some(events) => events.reserve(1),
+            None => Ok(()),
+        }
+    }
+
+    /// Keeps one more, in the room that was made; it is dropped where none are kept.
+    pub fn push(&mut self, event: Event)
+        requires room { HasRoom self.old.events }
+        ensures { items_of self.new.events ≡ option_map (λ events. events ++ event ∷ []) (items_of self.old.events) }
+    {
+        if let Some(events) = &mut self.events {
+            events.push_reserved(event);
+        }
+    }
+
+    /// A copy of what an event holds, for keeping; nothing where none are kept.
+    pub fn copied<T: Copy>(&self, items: &[T]) -> Result<Listed<T>, AllocError>
+        ensures { is_some (items_of self.now.events) ≡ true → IfOk result (λ copy. copy ≡ items.now) }
+    {
+        if self.is_kept() {
+            Listed::from_slice(self.alloc, items)
+        } else {
+            Ok(Listed::new(self.alloc))
+        }
+    }
+
+    /// A region's canonical list, for keeping; nothing where none are kept.
+    pub fn rects_of(&self, region: &Region) -> Result<Listed<Rect>, AllocError>
+        ensures { is_some (items_of self.now.events) ≡ true → IfOk result (λ rects. rects ≡ region.now.list) }
+    {
+        if self.is_kept() {
+            region.rects(false, false)
+        } else {
+            Ok(Listed::new(self.alloc))
+        }
+    }
+
+    /// A copy of an event, for keeping; without its lists where none are kept.
+    pub fn copied_event(&self, event: &Event) -> Result<Event, AllocError>
+        ensures { is_some (items_of self.now.events) ≡ true → IfOk result (λ copy. copy ≡ event.now) }
+    {
+        Ok(match event {
+            Event::Write { rect, colours } => Event::Write {
+                rect: *rect,
+                colours: self.copied(colours.as_slice())?,
+            },
+            Event::Paint { rect, colours } => Event::Paint {
+                rect: *rect,
+                colours: self.copied(colours.as_slice())?,
+            },
+            Event::Mark { rects } => Event::Mark {
+                rects: self.copied(rects.as_slice())?,
+            },
+            Event::ScheduleCopy { rects, dx, dy } => Event::ScheduleCopy {
+                rects: self.copied(rects.as_slice())?,
+                dx: *dx,
+                dy: *dy,
+            },
+            Event::DoCopy { rects, dx, dy } => Event::DoCopy {
+                rects: self.copied(rects.as_slice())?,
+                dx: *dx,
+                dy: *dy,
+            },
+            Event::Bell => Event::Bell,
+            Event::CutText { text } => Event::CutText {
+                text: self.copied(text.as_slice())?,
+            },
+            Event::Connect { viewer } => Event::Connect { viewer: *viewer },
+            Event::Hear { viewer, piece } => Event::Hear {
+                viewer: *viewer,
+                piece: self.copied(piece.as_slice())?,
+            },
+            Event::Cut { viewer } => Event::Cut { viewer: *viewer },
+            Event::Close { viewer } => Event::Close { viewer: *viewer },
+        })
+    }
+}
+
+/// Whether something happened, by what an event was answered: not where it was refused, nor where a cut gave nothing.
+pub fn has_happened(event: &Event, answer: &Answer) -> bool
+    ensures { result ≡ has_happened event.now answer.now }
+{
+    if answer.refused.is_some() {
+        return false;
+    }
+    match event {
+        Event::Cut { .. } => !answer.bytes.is_empty(),
+        _ => true,
+    }
+}
