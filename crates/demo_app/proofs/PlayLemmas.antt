@@ -4,7 +4,7 @@ use Rattle.std.specs.Option.{option_map_or}
 use Rattle.std.proofs.Common.{Bor, length, arith, ◌<◌, ◌≤◌, ◌≡◌, ℕ, ◌+◌, List, ◌∷◌, ◌++◌, Option, Some, None, sym, ap, ◌∙◌, append_assoc}
 use Rattle.std.proofs.lemmas.List.{append-nil}
 use Rattle.std.specs.Io.KnownBytes.{Appends}
-use Rattle.screen.specs.Answers.{State}
+use Rattle.screen.specs.State.{State}
 use Rattle.play_script.specs.declared.lines.Line.{Line}
 use Rattle.play_script.specs.Transcript.{Played, Next, on, over, step_of, Outcome, with_text, outcome_from}
 use Rattle.demo_app.specs.Playing.{StandsFor, GoesOn}

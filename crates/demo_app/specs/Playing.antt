@@ -1,6 +1,6 @@
 -- How a screen stands to what was played, and a printed line to the script's.
 use Rattle.std.specs.Prelude.{◌≡◌, ℕ, ⊤, Option, Some, None}
-use Rattle.screen.specs.Answers.{State, state}
+use Rattle.screen.specs.State.{State, state}
 use Rattle.play_script.specs.Transcript.{Played, Next, on, over, Step}
 use Rattle.demo_app.specs.declared.play.Said.{Said}
 

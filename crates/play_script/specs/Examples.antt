@@ -3,7 +3,8 @@ use Rattle.std.specs.Prelude.{◌≡◌, [], ◌∷◌, ◌++◌, codes, replica
 use Rattle.std.specs.Fmt.{digits}
 use Rattle.messages.specs.declared.Input.TheVariants as input
 use Rattle.messages.specs.declared.Fault.TheVariants as fault
-use Rattle.screen.specs.declared.Event.TheVariants.{Paint, Mark, DoCopy, Bell, CutText, Connect, Hear}
+use Rattle.scene.specs.declared.History.TheVariants.{NotKept}
+use Rattle.scene.specs.declared.Event.TheVariants.{Paint, Mark, DoCopy, Bell, CutText, Connect, Hear}
 use Rattle.play_script.specs.declared.lines.Line.TheVariants.{Skipped, Start, Do, Bad}
 use Rattle.play_script.specs.Words.{lines_of, words_of, number, viewer_number, hex_bytes, hex_colours}
 use Rattle.play_script.specs.Lines.{line_of, config_of, places_of, pixels_of, corners_of, move_of, hear_of}
@@ -72,11 +73,11 @@ comment = refl
 blank_line : line_of (codes " ") ≡ Bad
 blank_line = refl
 
-screen_line : line_of (codes "screen 4 3 demo") ≡ Start (record { width = 4; height = 3; name = codes "demo"; rects_per_update = 50 })
+screen_line : line_of (codes "screen 4 3 demo") ≡ Start (record { width = 4; height = 3; name = codes "demo"; rects_per_update = 50; history = NotKept })
 unfolding config_of
 screen_line = refl
 
-screen_with_limit : line_of (codes "screen 9 1 - 2") ≡ Start (record { width = 9; height = 1; name = []; rects_per_update = 2 })
+screen_with_limit : line_of (codes "screen 9 1 - 2") ≡ Start (record { width = 9; height = 1; name = []; rects_per_update = 2; history = NotKept })
 unfolding config_of
 screen_with_limit = refl
 

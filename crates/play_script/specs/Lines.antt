@@ -1,8 +1,9 @@
 -- What a script's line says.
 use Rattle.std.specs.Prelude.{ℕ, ◌+◌, ◌*◌, ◌^◌, nat_le, Bool, ◌&&◌, ◌||◌, ◌==◌, if◌then◌else◌, List, [], ◌∷◌, length, get_or, codes, bytes_eq, replicate, pos, Option, Some, None, option_and_then, option_map}
-use Rattle.screen.specs.declared.Config.{Config}
-use Rattle.screen.specs.declared.Event.{Event}
-use Rattle.screen.specs.declared.Event.TheVariants as event
+use Rattle.scene.specs.declared.Config.{Config}
+use Rattle.scene.specs.declared.History.TheVariants.{NotKept}
+use Rattle.scene.specs.declared.Event.{Event}
+use Rattle.scene.specs.declared.Event.TheVariants as event
 use Rattle.play_script.specs.declared.lines.Line.{Line}
 use Rattle.play_script.specs.declared.lines.Line.TheVariants as line
 use Rattle.region.specs.declared.Rect.{Rect}
@@ -53,7 +54,7 @@ config_of ws = do
   width ← number (word ws 1)
   height ← number (word ws 2)
   name ← name_of (word ws 3)
-  Some (record { width = width; height = height; name = name; rects_per_update = limit })
+  Some (record { width = width; height = height; name = name; rects_per_update = limit; history = NotKept })
 
 -- X Y W H: the rectangle (X, Y, X+W, Y+H), and how many places it has, at most 2 ^ 24
 abbrev pub places_by : ℕ → ℕ → ℕ → ℕ → Option Places

@@ -1,13 +1,14 @@
 -- When a screen refuses an event, by what it holds.
-use Rattle.std.specs.Prelude.{◌≡◌, MatchOption, IsOkUnless, ℕ, ◌==◌, Option, Some, None, Result, Err}
+use Rattle.std.specs.Prelude.{◌≡◌, MatchOption, IsOkUnless, ℕ, ◌==◌, List, Option, Some, None, Result, Err}
 use Rattle.std.specs.Map.{lookup}
 use Rattle.viewer.specs.Viewer.{KeptViewer}
+use Rattle.scene.specs.declared.Config.{Config}
 use Rattle.scene.specs.declared.ScreenError.{ScreenError}
 use Rattle.scene.specs.declared.ScreenError.TheVariants as refusals
 use Rattle.scene.specs.declared.Event.{Event}
 use Rattle.scene.specs.declared.Event.TheVariants.{Connect, Hear, Cut, Close}
 use Rattle.scene.specs.Alone.{drawing_refusal}
-use Rattle.scene.specs.Answers.{SceneState}
+use Rattle.scene.specs.Answers.{SceneState, scene_after, answer_to}
 
 -- the live viewer with a number, if there is one
 abbrev pub viewer_at : SceneState → ℕ → Option KeptViewer
@@ -33,3 +34,7 @@ refusal s e = drawing_refusal s.config e
 -- a call answers the refusal that is due, and where none is, it is refused for memory alone
 abbrev pub Refuses : {X : Type 0} → Result X ScreenError → Option ScreenError → Type 0
 Refuses result due = MatchOption due (IsOkUnless result refusals.OutOfMemory) (λ e. result ≡ Err e)
+
+-- An event is answered the refusal that is due by what is held.
+abbrev pub refusals_are_due : Type 0
+refusals_are_due = (c : Config) (es : List Event) (e : Event) → (answer_to c es e).refused ≡ refusal (scene_after c es) e

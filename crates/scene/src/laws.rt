@@ -3,6 +3,7 @@
 ghost use Rattle.scene.specs.Claims.{told_alike, one_viewer_is_alone};
 ghost use Rattle.scene.specs.History.{accepted_is_enough, accepted_happens_again};
 ghost use Rattle.scene.specs.Pictures.{pictures_are_shown};
+ghost use Rattle.scene.specs.Refusals.{refusals_are_due};
 
 use viewer_picture::rectangles_are_read;
 
@@ -22,6 +23,11 @@ pub fn pictures_are_shown()
 {
     rectangles_are_read();
 }
+
+/// An event is answered the refusal that is due by what is held, and none where none is.
+pub fn refusals_are_due()
+    ensures { refusals_are_due }
+{}
 
 /// What is held after a list of events is held after those that happened: a refused event, and a cut that gave nothing, changed
 /// nothing.

@@ -11,7 +11,7 @@ mod scene;
 
 pub use laws::{
     accepted_happens_again, accepted_is_enough, one_viewer_is_alone, pictures_are_shown,
-    viewers_are_alone,
+    refusals_are_due, viewers_are_alone,
 };
 pub use listed::Listed;
 pub use messages::{Fault, Input};

@@ -1,8 +1,6 @@
 -- The events that a screen keeps, as it holds them.
-use Rattle.std.specs.Prelude.{ℕ, ◌<◌, List, [], Option, Some, None, option_map, vec_capacity, vec_len}
+use Rattle.std.specs.Prelude.{ℕ, ◌<◌, List, Option, Some, None, option_map, vec_capacity, vec_len}
 use Rattle.std.specs.Global.{Vec}
-use Rattle.scene.specs.declared.History.{History}
-use Rattle.scene.specs.declared.History.TheVariants.{Kept, NotKept}
 use Rattle.scene.specs.declared.Event.{Event}
 
 abbrev pub items_of : Option (Vec Event) → Option (List Event)
@@ -12,8 +10,3 @@ items_of events = option_map (λ v. v.items) events
 abbrev pub HasRoom : Option (Vec Event) → Type 0
 HasRoom None = Unit {0}
 HasRoom (Some v) = vec_len v < vec_capacity v
-
--- none yet
-abbrev pub kept_from_start : History → Option (List Event)
-kept_from_start Kept = Some []
-kept_from_start NotKept = None

@@ -3,6 +3,7 @@ use Rattle.std.specs.Prelude.{◌≡◌, ℕ, List, [], Option, Some, None}
 use Rattle.messages.specs.Reading.{Rest}
 use Rattle.viewer.specs.Viewer.{Viewer, KeptViewer}
 use Rattle.scene.specs.declared.Config.{Config}
+use Rattle.scene.specs.declared.History.{History}
 use Rattle.scene.specs.declared.History.TheVariants.{Kept, NotKept}
 use Rattle.scene.specs.declared.ScreenError.{ScreenError}
 use Rattle.scene.specs.declared.Event.{Event}
@@ -25,8 +26,12 @@ abbrev pub scene_of : State → SceneState
 scene_of s = record { config = s.config; picture = s.picture; viewers = s.viewers }
 
 -- the events that are kept, if any are
+abbrev pub history_by : History → List Event → Option (List Event)
+history_by Kept es = Some es
+history_by NotKept es = None
+
 abbrev pub history_of : Config → List Event → Option (List Event)
-history_of c es = elim c.history [ Kept ↦ Some (accepted c es) | NotKept ↦ None ]
+history_of c es = history_by c.history (accepted c es)
 
 abbrev pub state : Config → List Event → State
 state c es = with_history (scene_after c es) (history_of c es)

@@ -1,7 +1,8 @@
 //! The events that a screen keeps, in order, where it keeps any.
 
 ghost use Rattle.std.specs.Prelude.{◌≡◌, true, ◌∷◌, ◌++◌, [], List, IfOk, OnOk, is_some, option_map};
-ghost use Rattle.screen.specs.Kept.{HasRoom, kept_from_start, items_of};
+ghost use Rattle.screen.specs.Kept.{HasRoom, items_of};
+ghost use Rattle.screen.specs.State.{history_by};
 ghost use Rattle.scene.specs.History.{has_happened};
 
 use listed::Listed;
@@ -19,7 +20,7 @@ pub struct KeptEvents {
 impl KeptEvents {
     /// None yet.
     pub fn new(alloc: Global, history: History) -> KeptEvents
-        ensures { items_of result.events ≡ kept_from_start history }
+        ensures { items_of result.events ≡ history_by history [] }
     {
         let events = match history {
             History::Kept => Some(Vec::new(alloc)),

@@ -8,7 +8,10 @@ ghost use Rattle.scene.specs.Pictures.{is_told, ShowPictures};
 ghost use Rattle.screen.specs.State.{kept_is_enough, kept_is_kept};
 
 use crate::Screen;
-use scene::{Answer, Config, Event, ScreenError, pictures_are_shown};
+use scene::{
+    Answer, Config, Event, ScreenError, accepted_happens_again, accepted_is_enough,
+    pictures_are_shown,
+};
 use std::alloc::Global;
 
 /// The answers to events, each as if its viewer were alone. Where the viewers are told of all that is drawn, each that is
@@ -31,9 +34,14 @@ pub fn run(alloc: Global, config: Config, events: &[Event]) -> Result<Vec<Answer
 /// A screen stands for the events that it keeps: those that are left out changed nothing.
 pub fn kept_is_enough()
     ensures { kept_is_enough }
-{}
+{
+    accepted_is_enough();
+    accepted_happens_again();
+}
 
 /// A screen that is given the events that another one kept keeps them all.
 pub fn kept_is_kept()
     ensures { kept_is_kept }
-{}
+{
+    accepted_happens_again();
+}

@@ -16,7 +16,10 @@ use crate::kept_events::{KeptEvents, has_happened};
 use listed::Listed;
 use messages::Fault;
 use region::{Rect, Region};
-use scene::{Answer, Config, Event, Scene, ScreenError};
+use scene::{
+    Answer, Config, Event, Scene, ScreenError, accepted_happens_again, accepted_is_enough,
+    refusals_are_due,
+};
 use std::alloc::{AllocError, Global};
 use std::marker::Model;
 use viewer::Update;
@@ -53,8 +56,11 @@ impl Screen {
     /// one for a region with the region's canonical list, and no cut that gave nothing. They are all that the screen stands for.
     pub fn history(&self) -> Option<&[Event]>
         ensures kept { option_map (λ events. events.now) result ≡ self.now.history }
-        ensures enough { (config : Config) (list : List Event) → self.now ≡ state config list → IfSome result (λ events. self.now ≡ state config events.now) }
+        ensures enough { (config : Config) (list : List Event) → self.now ≡ state config list →
+            IfSome result (λ events. self.now ≡ state config events.now) }
     {
+        accepted_is_enough();
+        accepted_happens_again();
         self.events.as_slice()
     }
 
@@ -355,6 +361,7 @@ impl Screen {
         ensures refused { Refuses result (presence (viewer_at self.old number)) }
         ensures err { OnErr result (self.new ≡ self.old) }
     {
+        refusals_are_due();
         self.scene.check_free(number)?;
         self.events.make_room()?;
         let version = self.scene.connect(number)?;
@@ -371,6 +378,7 @@ impl Screen {
         ensures refused { Refuses result (absence (viewer_at self.old number)) }
         ensures err { OnErr result (self.new ≡ self.old) }
     {
+        refusals_are_due();
         self.scene.check_live(number)?;
         self.events.make_room()?;
         self.scene.close(number)?;
@@ -390,6 +398,7 @@ impl Screen {
         ensures accepted { IfOk result (λ answer. answer.refused ≡ None) }
         ensures err { OnErr result (self.new ≡ self.old) }
     {
+        refusals_are_due();
         self.scene.check_live(number)?;
         let copy = self.events.copied(piece)?;
         self.events.make_room()?;
@@ -422,13 +431,14 @@ impl Screen {
         ensures refused { Refuses result (absence (viewer_at self.old number)) }
         ensures err { OnErr result (self.new ≡ self.old) }
     {
+        refusals_are_due();
         self.scene.check_live(number)?;
         self.events.make_room()?;
-        let update = self.scene.cut(number)?;
-        if update.is_some() {
-            self.events.push(Event::Cut { viewer: number });
-        }
-        Ok(update)
+        let Some(update) = self.scene.cut(number)? else {
+            return Ok(None);
+        };
+        self.events.push(Event::Cut { viewer: number });
+        Ok(Some(update))
     }
 
     /// One event. A refusal of another kind than want of memory stands in the answer, and then
@@ -442,15 +452,17 @@ impl Screen {
         ensures unchanged { IfOk result (λ answer. answer.refused ≢ None → self.new ≡ self.old) }
         ensures err { OnErr result (self.new ≡ self.old) }
     {
+        refusals_are_due();
         if self.scene.check(event).is_err() {
             return self.scene.apply(event);
         }
         let copy = self.events.copied_event(event)?;
         self.events.make_room()?;
         let answer = self.scene.apply(event)?;
-        if has_happened(event, &answer) {
-            self.events.push(copy);
+        if !has_happened(event, &answer) {
+            return Ok(answer);
         }
+        self.events.push(copy);
         Ok(answer)
     }
 }

@@ -14,7 +14,7 @@ mod steps;
 use listed::Listed;
 use messages::Fault;
 use region::{Rect, Region, RegionError};
-use screen::{Answer, Config, Event, Screen, ScreenError, run};
+use screen::{Answer, Config, Event, History, Screen, ScreenError, run};
 use std::alloc::{AllocError, Global};
 use std::process::Abort;
 use std::test::Fail;
@@ -47,6 +47,7 @@ fn config(
         height,
         name: Listed::from_vec(name.to_vec(alloc)?),
         rects_per_update: limit,
+        history: History::NotKept,
     })
 }
 

@@ -1,5 +1,6 @@
 use Rattle.std.proofs.Common.{◌≡◌, ◌++◌, take, drop}
-use Rattle.scene.specs.Answers.{scene_after, answers, answers_after}
+use Rattle.scene.specs.Answers.{answers, answers_after}
+use Rattle.screen.specs.State.{state}
 use Rattle.screen.proofs.runs.run.Given as goal
 
 -- the screen holds what it should after the events so far, and the answers so far and those to what is left are those to all

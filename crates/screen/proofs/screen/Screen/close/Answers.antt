@@ -1,0 +1,36 @@
+use Rattle.std.proofs.Common.{◌≡◌, ◌∷◌, ◌++◌, [], List, Some, None, refl, sym, ◌∙◌, ap}
+use Rattle.std.specs.Prelude.{option_map, is_none}
+use Rattle.scene.specs.declared.Event.{Event}
+use Rattle.scene.specs.declared.Event.TheVariants.{Close}
+use Rattle.scene.specs.declared.Answer.{Answer}
+use Rattle.scene.specs.Alone.{nothing_to_say, gives}
+use Rattle.scene.specs.Refusals.{refusal}
+use Rattle.scene.specs.Answers.{answer_to}
+use Rattle.screen.specs.Kept.{items_of}
+use Rattle.screen.proofs.GoesOn.{goes_on, scene-is, told-unrefused, tells-error, tells-memory}
+use Rattle.screen.proofs.screen.Screen.close.Goals as goal
+
+pub returns-clause-step : goal.returns-clause-step
+returns-clause-step c = λ config list h.
+    let event = Close c.args.number in
+    let copy = Close c.args.number in
+    let was = items_of c.self.inside.events.events in
+    let is = c.self.view_is ∙ h in
+    let scene = scene-is c.self.inside.scene was config list is in
+    goes_on config list event copy c.self.inside.scene c.close.new.self was (items_of c.push.new.self.events) is
+    (c.in_ok-close.ensures.step config list scene)
+    (ap (λ (a : Answer). is_none a.refused) (sym (c.in_ok-close.ensures.answer config list scene)))
+    (c.push.ensures ∙ ap (option_map (λ (es : List Event). es ++ copy ∷ [])) c.in_ok-make_room.ensures.same)
+    (λ kept. refl)
+
+pub returns-in_err-check_live-clause-answer : goal.returns-in_err-check_live-clause-answer
+returns-in_err-check_live-clause-answer c = λ config list h.
+    let scene = scene-is c.self.inside.scene (items_of c.self.inside.events.events) config list (c.self.view_is ∙ h) in
+    tells-error (λ _. nothing_to_say) c.from_residual.result (answer_to config list (Close c.args.number)) c.in_err-check_live.field-0.0
+    (c.refusals_are_due.ensures config list (Close c.args.number) ∙ sym (ap (λ s. refusal s (Close c.args.number)) scene) ∙ c.in_err-check_live.ensures) c.from_residual.ensures.1
+
+pub returns-in_err-make_room-clause-answer : goal.returns-in_err-make_room-clause-answer
+returns-in_err-make_room-clause-answer c = λ config list h.
+    let scene = scene-is c.self.inside.scene (items_of c.self.inside.events.events) config list (c.self.view_is ∙ h) in
+    tells-memory (λ _. nothing_to_say) c.from_residual-in_err-make_room.result (answer_to config list (Close c.args.number))
+    (c.refusals_are_due.ensures config list (Close c.args.number) ∙ sym (ap (λ s. refusal s (Close c.args.number)) scene) ∙ c.in_ok-check_live.ensures) c.from_residual-in_err-make_room.ensures.1
