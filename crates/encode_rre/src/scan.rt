@@ -87,8 +87,8 @@ pub fn stretch_from(row: &[u32], start: usize) -> usize
     far_stretch(row, start, near)
 }
 
-/// Whether the row has the run. What stands at its ends and beside them is counted where it doesn't
-/// fit, with one branch for all four, and what lies between them is looked at only where it fits.
+/// Whether the row has the run. Its first place tells most rows that don't; then what stands at its end and beside it is
+/// counted where it doesn't fit, with one branch for all three, and what lies between is looked at only where it fits.
 #[inline]
 fn has_run(row: &[u32], run: Run) -> bool
     requires some { 0 < run.w }
@@ -96,14 +96,16 @@ fn has_run(row: &[u32], run: Run) -> bool
     requires columns { length row.now < 2 ^ 16 }
     ensures { result ≡ has_run run row.now }
 {
+    if row[run.x] != run.pixel {
+        return false;
+    }
     let end = run.x + run.w;
     let before = row[run.x.saturating_sub(1)];
     let behind = row[end.min(row.len() - 1)];
-    let first = u32::from(row[run.x] != run.pixel);
     let last = u32::from(row[end - 1] != run.pixel);
     let left = u32::from((run.x != 0) & (before == run.pixel));
     let right = u32::from((end != row.len()) & (behind == run.pixel));
-    first + last + left + right == 0 && are_all(&row[run.x..end], run.pixel)
+    last + left + right == 0 && are_all(&row[run.x..end], run.pixel)
 }
 
 /// How many rows from `top` on have the run, which the one there has.

@@ -186,6 +186,33 @@ fn notices_come_before_rectangles(rt: HostRuntime) -> Result<(), Fail> {
     shows(&rt, rt.alloc(), &rows, 0)
 }
 
+// A bell before the request and one behind it come first, both.
+#[test]
+fn notices_before_and_behind_a_request(rt: HostRuntime) -> Result<(), Fail> {
+    let rows = [
+        ("screen 4 3 demo", "ok\n"),
+        ("connect 1", "connect 1 524642203030332e3030380a\n"),
+        (
+            "hear 1 524642203030332e3030380a0101",
+            "hear 1 010100000000000400032018000100ff00ff00ff1008000000000000000464656d6f\n",
+        ),
+        ("hear 1 03000000000000040003", "hear 1 -\n"),
+        (
+            "cut 1",
+            "cut 1 00000001000000000004000300000000000000000000000000000000000000000000000000000000000000000000000000000000000000000000000000000000\n",
+        ),
+        ("mark 3 2 4 3", "ok\n"),
+        ("bell", "ok\n"),
+        ("hear 1 03010000000000040003", "hear 1 -\n"),
+        ("bell", "ok\n"),
+        (
+            "cut 1",
+            "cut 1 02020000000100030002000100010000000000000000\n",
+        ),
+    ];
+    shows(&rt, rt.alloc(), &rows, 0)
+}
+
 // A viewer that is not open yet keeps no notice.
 #[test]
 fn notices_for_open_viewers(rt: HostRuntime) -> Result<(), Fail> {
@@ -193,6 +220,8 @@ fn notices_for_open_viewers(rt: HostRuntime) -> Result<(), Fail> {
         ("screen 4 3 demo", "ok\n"),
         ("connect 1", "connect 1 524642203030332e3030380a\n"),
         ("bell", "ok\n"),
+        ("cuttext 6869", "ok\n"),
+        ("cut 1", "cut 1 -\n"),
         (
             "hear 1 524642203030332e3030380a0101",
             "hear 1 010100000000000400032018000100ff00ff00ff1008000000000000000464656d6f\n",
@@ -202,7 +231,7 @@ fn notices_for_open_viewers(rt: HostRuntime) -> Result<(), Fail> {
     shows(&rt, rt.alloc(), &rows, 0)
 }
 
-// A sixty-fifth notice is not kept.
+// A sixty-fifth notice is not kept, nor is a text behind it.
 #[test]
 fn sixty_four_notices(rt: HostRuntime) -> Result<(), Fail> {
     let opened = [
@@ -220,6 +249,7 @@ fn sixty_four_notices(rt: HostRuntime) -> Result<(), Fail> {
     let mut rows = Vec::new(rt.alloc());
     rows.extend_from_slice(&opened)?;
     rows.extend_from_slice(&[("bell", "ok\n"); 65])?;
+    rows.push(("cuttext 6869", "ok\n"))?;
     rows.extend_from_slice(&sent)?;
     shows(&rt, rt.alloc(), &rows, 0)
 }
@@ -252,7 +282,7 @@ fn copies_from_right_to_left(rt: HostRuntime) -> Result<(), Fail> {
     shows(&rt, rt.alloc(), &rows, 0)
 }
 
-// A copy down, over itself.
+// A copy down, over itself, and then the picture.
 #[test]
 fn a_copy_down(rt: HostRuntime) -> Result<(), Fail> {
     let rows = [
@@ -272,11 +302,16 @@ fn a_copy_down(rt: HostRuntime) -> Result<(), Fail> {
         ("docopy 0 1 1 4 0 1", "ok\n"),
         ("hear 1 03010000000000010004", "hear 1 -\n"),
         ("cut 1", "cut 1 0000000100000001000100030000000100000000\n"),
+        ("hear 1 03000000000000010004", "hear 1 -\n"),
+        (
+            "cut 1",
+            "cut 1 0000000100000000000100040000000001000000010000000200000003000000\n",
+        ),
     ];
     shows(&rt, rt.alloc(), &rows, 0)
 }
 
-// A copy that the application makes itself is sent all the same.
+// A copy that the application makes itself is sent all the same; the picture stays.
 #[test]
 fn a_scheduled_copy(rt: HostRuntime) -> Result<(), Fail> {
     let rows = [
@@ -296,11 +331,16 @@ fn a_scheduled_copy(rt: HostRuntime) -> Result<(), Fail> {
         ("schedule 0 1 1 4 0 1", "ok\n"),
         ("hear 1 03010000000000010004", "hear 1 -\n"),
         ("cut 1", "cut 1 0000000100000001000100030000000100000000\n"),
+        ("hear 1 03000000000000010004", "hear 1 -\n"),
+        (
+            "cut 1",
+            "cut 1 0000000100000000000100040000000001000000020000000300000004000000\n",
+        ),
     ];
     shows(&rt, rt.alloc(), &rows, 0)
 }
 
-// A copy by (0, 0), and one whose sources are all off the screen.
+// Copies by (0, 0), and copies whose sources are all off the screen.
 #[test]
 fn copies_that_do_nothing(rt: HostRuntime) -> Result<(), Fail> {
     let rows = [
@@ -319,9 +359,135 @@ fn copies_that_do_nothing(rt: HostRuntime) -> Result<(), Fail> {
         ),
         ("docopy 0 1 1 4 0 0", "ok\n"),
         ("docopy 0 1 1 4 0 9", "ok\n"),
+        ("docopy 0 1 1 4 0 -2147483647", "ok\n"),
+        ("docopy 0 1 1 4 2147483647 1", "ok\n"),
+        ("schedule 0 1 1 4 0 0", "ok\n"),
+        ("schedule 0 1 1 4 0 9", "ok\n"),
+        ("schedule 0 1 1 4 0 -2147483647", "ok\n"),
+        ("schedule 0 1 1 4 2147483647 1", "ok\n"),
         ("hear 1 03010000000000010004", "hear 1 -\n"),
         ("cut 1", "cut 1 -\n"),
+        ("hear 1 03000000000000010004", "hear 1 -\n"),
+        (
+            "cut 1",
+            "cut 1 0000000100000000000100040000000001000000020000000300000004000000\n",
+        ),
     ];
+    shows(&rt, rt.alloc(), &rows, 0)
+}
+
+// A copy's corners stand in the wrong order, and far beyond the screen.
+#[test]
+fn corners_of_copies(rt: HostRuntime) -> Result<(), Fail> {
+    let rows = [
+        ("screen 1 4 demo", "ok\n"),
+        ("paint 0 0 1 4 000001000002000003000004", "ok\n"),
+        ("connect 1", "connect 1 524642203030332e3030380a\n"),
+        (
+            "hear 1 524642203030332e3030380a0101",
+            "hear 1 010100000000000100042018000100ff00ff00ff1008000000000000000464656d6f\n",
+        ),
+        ("hear 1 020000020000000100000000", "hear 1 -\n"),
+        ("hear 1 03000000000000010004", "hear 1 -\n"),
+        (
+            "cut 1",
+            "cut 1 0000000100000000000100040000000001000000020000000300000004000000\n",
+        ),
+        (
+            "docopy 2147483647 2147483647 -2147483647 -2147483647 0 1",
+            "ok\n",
+        ),
+        ("hear 1 03010000000000010004", "hear 1 -\n"),
+        ("cut 1", "cut 1 0000000100000001000100030000000100000000\n"),
+        (
+            "schedule 2147483647 2147483647 -2147483647 -2147483647 0 1",
+            "ok\n",
+        ),
+        ("hear 1 03010000000000010004", "hear 1 -\n"),
+        ("cut 1", "cut 1 0000000100000001000100030000000100000000\n"),
+    ];
+    shows(&rt, rt.alloc(), &rows, 0)
+}
+
+// Marks beyond the screen owe nothing; one whose corners stand in the wrong order is cut to the screen.
+#[test]
+fn marks_are_cut_to_the_screen(rt: HostRuntime) -> Result<(), Fail> {
+    let rows = [
+        ("screen 2 2 demo", "ok\n"),
+        ("paint 0 0 2 2 000001000002000003000004", "ok\n"),
+        ("connect 1", "connect 1 524642203030332e3030380a\n"),
+        (
+            "hear 1 524642203030332e3030380a0101",
+            "hear 1 010100000000000200022018000100ff00ff00ff1008000000000000000464656d6f\n",
+        ),
+        ("hear 1 03000000000000020002", "hear 1 -\n"),
+        (
+            "cut 1",
+            "cut 1 0000000100000000000200020000000001000000020000000300000004000000\n",
+        ),
+        ("hear 1 03010000000000020002", "hear 1 -\n"),
+        ("mark 2 0 2147483647 2147483647", "ok\n"),
+        ("mark 0 -2147483647 2 0", "ok\n"),
+        ("mark -9 -9 0 9", "ok\n"),
+        ("cut 1", "cut 1 -\n"),
+        ("mark 2147483647 1 1 -2147483647", "ok\n"),
+        ("cut 1", "cut 1 0000000100010000000100010000000002000000\n"),
+    ];
+    shows(&rt, rt.alloc(), &rows, 0)
+}
+
+// Many marks side by side are one rectangle, for each viewer.
+#[test]
+fn many_marks(rt: HostRuntime) -> Result<(), Fail> {
+    let opened = [
+        ("screen 9 1 demo", "ok\n"),
+        ("connect 1", "connect 1 524642203030332e3030380a\n"),
+        (
+            "hear 1 524642203030332e3030380a0101",
+            "hear 1 010100000000000900012018000100ff00ff00ff1008000000000000000464656d6f\n",
+        ),
+        ("connect 2", "connect 2 524642203030332e3030380a\n"),
+        (
+            "hear 2 524642203030332e3030380a0101",
+            "hear 2 010100000000000900012018000100ff00ff00ff1008000000000000000464656d6f\n",
+        ),
+        ("hear 1 020000020000000100000000", "hear 1 -\n"),
+        ("hear 1 03000000000000090001", "hear 1 -\n"),
+        (
+            "cut 1",
+            "cut 1 00000001000000000009000100000000000000000000000000000000000000000000000000000000000000000000000000000000\n",
+        ),
+        ("hear 2 03000000000000090001", "hear 2 -\n"),
+        (
+            "cut 2",
+            "cut 2 00000001000000000009000100000000000000000000000000000000000000000000000000000000000000000000000000000000\n",
+        ),
+    ];
+    let marks = [
+        ("mark 0 0 1 1", "ok\n"),
+        ("mark 1 0 2 1", "ok\n"),
+        ("mark 2 0 3 1", "ok\n"),
+        ("mark 3 0 4 1", "ok\n"),
+        ("mark 4 0 5 1", "ok\n"),
+    ];
+    let sent = [
+        ("hear 1 03010000000000090001", "hear 1 -\n"),
+        (
+            "cut 1",
+            "cut 1 000000010000000000050001000000000000000000000000000000000000000000000000\n",
+        ),
+        ("hear 2 03010000000000090001", "hear 2 -\n"),
+        (
+            "cut 2",
+            "cut 2 000000010000000000050001000000000000000000000000000000000000000000000000\n",
+        ),
+    ];
+    let mut rows = Vec::new(rt.alloc());
+    rows.extend_from_slice(&opened)?;
+    for _ in 0..60 {
+        rows.extend_from_slice(&marks)?;
+    }
+    rows.extend_from_slice(&sent)?;
     shows(&rt, rt.alloc(), &rows, 0)
 }
 

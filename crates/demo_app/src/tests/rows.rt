@@ -1,6 +1,7 @@
 // Scripts and what they print: the worked conversations of the protocol, with the bytes of RFC 6143.
 
 use super::{play_bytes, shows};
+use std::alloc::{AllocError, Global};
 use std::test::Fail;
 
 // An opening in version 3.8, a request of all, an incremental one, and a painted place.
@@ -248,7 +249,7 @@ fn pixels_in_the_viewers_format(rt: HostRuntime) -> Result<(), Fail> {
     shows(&rt, rt.alloc(), &rows, 0)
 }
 
-// A key, a pointer and a text.
+// A key, a pointer and a text, alone and before what is no message.
 #[test]
 fn inputs_are_printed(rt: HostRuntime) -> Result<(), Fail> {
     let rows = [
@@ -261,6 +262,10 @@ fn inputs_are_printed(rt: HostRuntime) -> Result<(), Fail> {
         (
             "hear 1 040100000000ff0d05010002000106000000000000026869",
             "hear 1 -\nkey 1 1 0000ff0d\npointer 1 01 2 1\ntext 1 0 6869\n",
+        ),
+        (
+            "hear 1 040100000000ff0d0501000200010600000000000002686907",
+            "hear 1 -\nkey 1 1 0000ff0d\npointer 1 01 2 1\ntext 1 0 6869\nclosed 1 3 UnknownMessage 7\n",
         ),
     ];
     shows(&rt, rt.alloc(), &rows, 0)
@@ -275,6 +280,7 @@ fn refusals_go_on(rt: HostRuntime) -> Result<(), Fail> {
         ("paint 3 0 2 1 ff8000", "refused 4 BadRect\n"),
         ("paint 0 0 2 2 000001000002", "refused 5 BadPixelCount\n"),
         ("paint 3 0 2 1 000001000002000003", "refused 4 BadRect\n"),
+        ("paint 2 2 0 1 -", "ok\n"),
         ("cut 9", "refused 7 NoViewer\n"),
         ("hear 9 -", "refused 7 NoViewer\n"),
         ("close 9", "refused 7 NoViewer\n"),
@@ -347,7 +353,7 @@ fn nothing_to_do(rt: HostRuntime) -> Result<(), Fail> {
 // The limits of a screen. A refused one ends the script.
 #[test]
 fn screens_are_made_or_refused(rt: HostRuntime) {
-    let rows: [(&str, &str, u8); 7] = [
+    let rows: [(&str, &str, u8); 8] = [
         ("screen 0 1 demo\ncut 1\n", "refused 1 BadSize\n", 1),
         ("screen 0 3 demo\ncut 1\n", "refused 1 BadSize\n", 1),
         ("screen 8193 1 demo\ncut 1\n", "refused 1 BadSize\n", 1),
@@ -363,6 +369,11 @@ fn screens_are_made_or_refused(rt: HostRuntime) {
             "refused 3 BadRectLimit\n",
             1,
         ),
+        (
+            "screen 1 1 demo 1000\ncut 1\n",
+            "ok\nrefused 7 NoViewer\n",
+            0,
+        ),
     ];
     for (script, printed, status) in rows {
         let (out, ended) = play_bytes(rt.alloc(), script.as_bytes());
@@ -372,18 +383,58 @@ fn screens_are_made_or_refused(rt: HostRuntime) {
     }
 }
 
-// A name has at most 255 bytes.
+// A word of so many bytes, all one, between two texts.
+fn long_word(
+    alloc: Global,
+    before: &str,
+    (byte, count): (&str, usize),
+    behind: &str,
+) -> Result<String, AllocError> {
+    let mut text = String::from_str(alloc, before)?;
+    for _ in 0..count {
+        text.push_str(byte)?;
+    }
+    text.push_str(behind)?;
+    Ok(text)
+}
+
+// A name has at most 255 bytes. Of several refusals that are due the size's comes first, then the name's.
 #[test]
 fn long_names(rt: HostRuntime) -> Result<(), Fail> {
     let alloc = rt.alloc();
-    for (count, printed) in [(255, "ok\n"), (256, "refused 2 BadName\n")] {
-        let mut script = b"screen 1 1 ".to_vec(alloc)?;
-        for _ in 0..count {
-            script.push(b'n')?;
-        }
-        let (out, _) = play_bytes(alloc, &script);
+    let rows: [(&str, usize, &str, &str); 4] = [
+        ("screen 1 1 ", 255, "", "ok\n"),
+        ("screen 1 1 ", 256, "", "refused 2 BadName\n"),
+        ("screen 1 1 ", 256, " 0", "refused 2 BadName\n"),
+        ("screen 8192 2049 ", 256, " 0", "refused 1 BadSize\n"),
+    ];
+    for (before, count, behind, printed) in rows {
+        let script = long_word(alloc, before, ("n", count), behind)?;
+        let (out, _) = play_bytes(alloc, script.as_bytes());
         let text = str::from_utf8(&out).unwrap_or("no text");
         assert_eq!(rt; text, printed);
     }
     Ok(())
+}
+
+// A cut text has at most 65,536 bytes.
+#[test]
+fn long_texts(rt: HostRuntime) -> Result<(), Fail> {
+    let alloc = rt.alloc();
+    let too_long = long_word(alloc, "cuttext ", ("61", 65_537), "")?;
+    let longest = long_word(alloc, "cuttext ", ("61", 65_536), "")?;
+    let sent = long_word(alloc, "cut 1 0300000000010000", ("61", 65_536), "\n")?;
+    let rows: [(&str, &str); 7] = [
+        ("screen 4 3 demo", "ok\n"),
+        ("connect 1", "connect 1 524642203030332e3030380a\n"),
+        (
+            "hear 1 524642203030332e3030380a0101",
+            "hear 1 010100000000000400032018000100ff00ff00ff1008000000000000000464656d6f\n",
+        ),
+        (&too_long, "refused 6 TextTooLong\n"),
+        ("cut 1", "cut 1 -\n"),
+        (&longest, "ok\n"),
+        ("cut 1", &sent),
+    ];
+    shows(&rt, alloc, &rows, 0)
 }

@@ -1,13 +1,47 @@
-//! Whole lists of events, each answer byte for byte. Where an allocation fails, whichever, the event is applied again,
-//! and then every answer is the same: a call that was refused left the screen as it was.
+//! Whole lists of events, each beside its answer. Where an allocation fails, whichever, the event is applied again, and then every
+//! answer is the same: a call that was refused left the screen as it was. The bytes are written out from RFC 6143.
 
-use super::{OPENING, WITH_COPYRECT, config, hear, paint, rect, region, request, shown};
+use super::{OPENING, WITH_COPYRECT, config, rect, region, request, show};
 use listed::Listed;
 use region::{Rect, Region};
-use screen::{Config, Event, Screen, ScreenError, run};
+use screen::{Answer, Config, Event, Fault, Screen, ScreenError, run};
 use std::alloc::{AllocError, Global};
 use std::process::Abort;
 use std::test::Fail;
+
+/// An event as it is written down here: each rectangle by its corners x1, y1, x2, y2.
+#[derive(Clone, Copy)]
+enum Call {
+    Write([i32; 4], &'static [u32]),
+    Paint([i32; 4], &'static [u32]),
+    Mark(&'static [[i32; 4]]),
+    ScheduleCopy(&'static [[i32; 4]], i32, i32),
+    DoCopy(&'static [[i32; 4]], i32, i32),
+    Bell,
+    CutText(&'static [u8]),
+    Connect(u64),
+    Hear(u64, &'static [u8]),
+    Cut(u64),
+    Close(u64),
+}
+
+/// What an event is answered.
+#[derive(Clone, Copy)]
+enum Want {
+    Bytes(&'static [u8]),
+    Closed(Fault),
+    Refused(ScreenError),
+}
+
+use Call::{Bell, Close, Connect, Cut, CutText, DoCopy, Hear, Mark, Paint, ScheduleCopy, Write};
+use Fault::UnknownMessage;
+use ScreenError::{BadPixelCount, BadRect, NoViewer, NumberInUse};
+use Want::{Bytes, Closed, Refused};
+
+/// An event, and what it is answered.
+type Row = (Call, Want);
+
+const WHOLE: [i32; 4] = [0, 0, 4, 1];
 
 const VERSION: &[u8] = b"RFB 003.008\n";
 
@@ -16,6 +50,11 @@ const OPENED: &[u8] = &[
     1, 1, 0, 0, 0, 0, 0, 4, 0, 1, 32, 24, 0, 1, 0, 255, 0, 255, 0, 255, 16, 8, 0, 0, 0, 0, 0, 0, 0,
     4, 0x64, 0x65, 0x6d, 0x6f,
 ];
+
+/// A request of all of it, and one of what changed.
+const ALL: &[u8] = &[3, 0, 0, 0, 0, 0, 0, 4, 0, 1];
+
+const CHANGES: &[u8] = &[3, 1, 0, 0, 0, 0, 0, 4, 0, 1];
 
 /// The colours 1 to 4, as an update.
 const FOUR: &[u8] = &[
@@ -26,238 +65,244 @@ const BLACK: &[u8] = &[
     0, 0, 0, 1, 0, 0, 0, 0, 0, 4, 0, 1, 0, 0, 0, 0, 0, 0, 0, 0, 0, 0, 0, 0, 0, 0, 0, 0, 0, 0, 0, 0,
 ];
 
-/// Two viewers of one copy, with and without CopyRect: what each event is answered.
-const TWO_VIEWERS: [&[u8]; 15] = [
-    &[],
-    VERSION,
-    VERSION,
-    OPENED,
-    OPENED,
-    &[],
-    &[],
-    &[],
-    FOUR,
-    FOUR,
-    &[],
-    &[],
-    &[],
-    &[0, 0, 0, 1, 0, 1, 0, 0, 0, 3, 0, 1, 0, 0, 0, 1, 0, 0, 0, 0],
-    &[
-        0, 0, 0, 1, 0, 1, 0, 0, 0, 3, 0, 1, 0, 0, 0, 0, 1, 0, 0, 0, 2, 0, 0, 0, 3, 0, 0, 0,
-    ],
+/// A copy for viewers with and without CopyRect.
+const TWO_VIEWERS: [Row; 15] = [
+    (Paint(WHOLE, &[1, 2, 3, 4]), Bytes(&[])),
+    (Connect(1), Bytes(VERSION)),
+    (Connect(2), Bytes(VERSION)),
+    (Hear(1, OPENING), Bytes(OPENED)),
+    (Hear(2, OPENING), Bytes(OPENED)),
+    (Hear(1, WITH_COPYRECT), Bytes(&[])),
+    (Hear(1, ALL), Bytes(&[])),
+    (Hear(2, ALL), Bytes(&[])),
+    (Cut(1), Bytes(FOUR)),
+    (Cut(2), Bytes(FOUR)),
+    (DoCopy(&[[1, 0, 4, 1]], 1, 0), Bytes(&[])),
+    (Hear(1, CHANGES), Bytes(&[])),
+    (Hear(2, CHANGES), Bytes(&[])),
+    (
+        Cut(1),
+        Bytes(&[0, 0, 0, 1, 0, 1, 0, 0, 0, 3, 0, 1, 0, 0, 0, 1, 0, 0, 0, 0]),
+    ),
+    (
+        Cut(2),
+        Bytes(&[
+            0, 0, 0, 1, 0, 1, 0, 0, 0, 3, 0, 1, 0, 0, 0, 0, 1, 0, 0, 0, 2, 0, 0, 0, 3, 0, 0, 0,
+        ]),
+    ),
 ];
 
-fn rects(alloc: Global, rects: &[Rect]) -> Result<Listed<Rect>, AllocError> {
-    Ok(Listed::from_vec(rects.to_vec(alloc)?))
+/// Every kind of event.
+const EVERY_KIND: [Row; 21] = [
+    (Connect(1), Bytes(VERSION)),
+    (Hear(1, OPENING), Bytes(OPENED)),
+    (Hear(1, WITH_COPYRECT), Bytes(&[])),
+    (Hear(1, ALL), Bytes(&[])),
+    (Cut(1), Bytes(BLACK)),
+    (Write([0, 0, 2, 1], &[1, 2]), Bytes(&[])),
+    (Mark(&[[0, 0, 1, 1], [2, 1, 1, 0]]), Bytes(&[])),
+    (Bell, Bytes(&[])),
+    (CutText(b"hi"), Bytes(&[])),
+    (Hear(1, CHANGES), Bytes(&[])),
+    (
+        Cut(1),
+        Bytes(&[
+            2, 3, 0, 0, 0, 0, 0, 0, 2, 0x68, 0x69, 0, 0, 0, 1, 0, 0, 0, 0, 0, 2, 0, 1, 0, 0, 0, 0,
+            1, 0, 0, 0, 2, 0, 0, 0,
+        ]),
+    ),
+    (ScheduleCopy(&[[2, 0, 4, 1]], 2, 0), Bytes(&[])),
+    (Hear(1, CHANGES), Bytes(&[])),
+    (
+        Cut(1),
+        Bytes(&[0, 0, 0, 1, 0, 2, 0, 0, 0, 2, 0, 1, 0, 0, 0, 1, 0, 0, 0, 0]),
+    ),
+    (DoCopy(&[[1, 0, 2, 1], [3, 0, 4, 1]], 1, 0), Bytes(&[])),
+    (Hear(1, CHANGES), Bytes(&[])),
+    (
+        Cut(1),
+        Bytes(&[
+            0, 0, 0, 2, 0, 3, 0, 0, 0, 1, 0, 1, 0, 0, 0, 1, 0, 2, 0, 0, 0, 1, 0, 0, 0, 1, 0, 1, 0,
+            0, 0, 1, 0, 0, 0, 0,
+        ]),
+    ),
+    (Paint([0, 0, 1, 1], &[0xff8000]), Bytes(&[])),
+    (Hear(1, CHANGES), Bytes(&[])),
+    (
+        Cut(1),
+        Bytes(&[
+            0, 0, 0, 1, 0, 0, 0, 0, 0, 1, 0, 1, 0, 0, 0, 0, 0, 0x80, 0xff, 0,
+        ]),
+    ),
+    (Close(1), Bytes(&[])),
+];
+
+/// Calls that are refused, and then what is sent: nothing changed.
+const REFUSED: [Row; 21] = [
+    (Paint(WHOLE, &[1, 2, 3, 4]), Bytes(&[])),
+    (Connect(1), Bytes(VERSION)),
+    (Hear(1, OPENING), Bytes(OPENED)),
+    (Hear(1, ALL), Bytes(&[])),
+    (Cut(1), Bytes(FOUR)),
+    (Hear(1, CHANGES), Bytes(&[])),
+    (Write([-1, 0, 1, 1], &[9, 9]), Refused(BadRect)),
+    (Write([3, 0, 5, 1], &[9, 9]), Refused(BadRect)),
+    (Write([2, 0, 1, 1], &[]), Refused(BadRect)),
+    (Write([0, 0, 2, 1], &[9]), Refused(BadPixelCount)),
+    (Paint([-1, 0, 1, 1], &[9, 9]), Refused(BadRect)),
+    (Paint([3, 0, 5, 1], &[9]), Refused(BadRect)),
+    (Paint([2, 0, 1, 1], &[]), Refused(BadRect)),
+    (Paint([0, 0, 1, 1], &[9, 9]), Refused(BadPixelCount)),
+    (Connect(1), Refused(NumberInUse)),
+    (Hear(9, &[]), Refused(NoViewer)),
+    (Cut(9), Refused(NoViewer)),
+    (Close(9), Refused(NoViewer)),
+    (Cut(1), Bytes(&[])),
+    (Mark(&[WHOLE]), Bytes(&[])),
+    (Cut(1), Bytes(FOUR)),
+];
+
+/// What is no message of viewer 1: it is heard no further, and viewer 2 is sent its bytes all the same.
+const FAULT: [Row; 12] = [
+    (Connect(1), Bytes(VERSION)),
+    (Connect(2), Bytes(VERSION)),
+    (Hear(1, OPENING), Bytes(OPENED)),
+    (Hear(2, OPENING), Bytes(OPENED)),
+    (Hear(2, ALL), Bytes(&[])),
+    (Cut(2), Bytes(BLACK)),
+    (Hear(2, CHANGES), Bytes(&[])),
+    (Hear(1, &[7]), Closed(UnknownMessage(7))),
+    (Hear(1, &[0]), Closed(UnknownMessage(7))),
+    (Paint([2, 0, 3, 1], &[0x12_ff_8000]), Bytes(&[])),
+    (Cut(1), Bytes(&[])),
+    (
+        Cut(2),
+        Bytes(&[
+            0, 0, 0, 1, 0, 2, 0, 0, 0, 1, 0, 1, 0, 0, 0, 0, 0, 0x80, 0xff, 0,
+        ]),
+    ),
+];
+
+fn listed<T: Copy>(alloc: Global, items: &[T]) -> Result<Listed<T>, AllocError> {
+    Ok(Listed::from_vec(items.to_vec(alloc)?))
 }
 
-fn push_pieces(
-    alloc: Global,
-    events: &mut Vec<Event>,
-    pieces: &[(u64, &[u8])],
-) -> Result<(), AllocError> {
-    for (viewer, piece) in pieces {
-        events.push(hear(alloc, *viewer, piece)?)?;
+fn rect_of([x1, y1, x2, y2]: [i32; 4]) -> Rect {
+    rect(x1, y1, x2, y2)
+}
+
+fn rects(alloc: Global, corners: &[[i32; 4]]) -> Result<Listed<Rect>, AllocError> {
+    let mut rects = Vec::new(alloc);
+    for corners in corners {
+        rects.push(rect_of(*corners))?;
     }
-    Ok(())
+    Ok(Listed::from_vec(rects))
 }
 
-fn push_cuts(events: &mut Vec<Event>) -> Result<(), AllocError> {
-    events.push(Event::Cut { viewer: 1 })?;
-    events.push(Event::Cut { viewer: 2 })?;
-    Ok(())
+/// The event of a call.
+fn event(alloc: Global, call: Call) -> Result<Event, AllocError> {
+    Ok(match call {
+        Write(corners, colours) => Event::Write {
+            rect: rect_of(corners),
+            colours: listed(alloc, colours)?,
+        },
+        Paint(corners, colours) => Event::Paint {
+            rect: rect_of(corners),
+            colours: listed(alloc, colours)?,
+        },
+        Mark(corners) => Event::Mark {
+            rects: rects(alloc, corners)?,
+        },
+        ScheduleCopy(corners, dx, dy) => Event::ScheduleCopy {
+            rects: rects(alloc, corners)?,
+            dx,
+            dy,
+        },
+        DoCopy(corners, dx, dy) => Event::DoCopy {
+            rects: rects(alloc, corners)?,
+            dx,
+            dy,
+        },
+        Bell => Event::Bell,
+        CutText(text) => Event::CutText {
+            text: listed(alloc, text)?,
+        },
+        Connect(viewer) => Event::Connect { viewer },
+        Hear(viewer, piece) => Event::Hear {
+            viewer,
+            piece: listed(alloc, piece)?,
+        },
+        Cut(viewer) => Event::Cut { viewer },
+        Close(viewer) => Event::Close { viewer },
+    })
 }
 
-/// Two viewers connect and are sent the picture; the first uses CopyRect.
-fn push_openings(alloc: Global, events: &mut Vec<Event>) -> Result<(), AllocError> {
-    let whole = request(false, 0, 0, 4, 1);
-    events.push(paint(alloc, rect(0, 0, 4, 1), &[1, 2, 3, 4])?)?;
-    events.push(Event::Connect { viewer: 1 })?;
-    events.push(Event::Connect { viewer: 2 })?;
-    let pieces: [(u64, &[u8]); 5] = [
-        (1, OPENING),
-        (2, OPENING),
-        (1, WITH_COPYRECT),
-        (1, &whole),
-        (2, &whole),
-    ];
-    push_pieces(alloc, events, &pieces)?;
-    push_cuts(events)
-}
-
-fn two_viewers(alloc: Global) -> Result<Vec<Event>, AllocError> {
-    let changes = request(true, 0, 0, 4, 1);
-    let mut events = Vec::with_capacity(alloc, 15)?;
-    push_openings(alloc, &mut events)?;
-    events.push(Event::DoCopy {
-        rects: rects(alloc, &[rect(1, 0, 4, 1)])?,
-        dx: 1,
-        dy: 0,
-    })?;
-    let pieces: [(u64, &[u8]); 2] = [(1, &changes), (2, &changes)];
-    push_pieces(alloc, &mut events, &pieces)?;
-    push_cuts(&mut events)?;
+fn events(alloc: Global, rows: &[Row]) -> Result<Vec<Event>, AllocError> {
+    let mut events = Vec::with_capacity(alloc, rows.len())?;
+    for (call, _) in rows {
+        events.push(event(alloc, *call)?)?;
+    }
     Ok(events)
 }
 
-/// Every kind of event: what each is answered.
-const EVERY_KIND: [&[u8]; 21] = [
-    VERSION,
-    OPENED,
-    &[],
-    &[],
-    BLACK,
-    &[],
-    &[],
-    &[],
-    &[],
-    &[],
-    &[
-        2, 3, 0, 0, 0, 0, 0, 0, 2, 0x68, 0x69, 0, 0, 0, 1, 0, 0, 0, 0, 0, 2, 0, 1, 0, 0, 0, 0, 1,
-        0, 0, 0, 2, 0, 0, 0,
-    ],
-    &[],
-    &[],
-    &[0, 0, 0, 1, 0, 2, 0, 0, 0, 2, 0, 1, 0, 0, 0, 1, 0, 0, 0, 0],
-    &[],
-    &[],
-    &[
-        0, 0, 0, 2, 0, 3, 0, 0, 0, 1, 0, 1, 0, 0, 0, 1, 0, 2, 0, 0, 0, 1, 0, 0, 0, 1, 0, 1, 0, 0,
-        0, 1, 0, 0, 0, 0,
-    ],
-    &[],
-    &[],
-    &[
-        0, 0, 0, 1, 0, 0, 0, 0, 0, 1, 0, 1, 0, 0, 0, 0, 0, 0x80, 0xff, 0,
-    ],
-    &[],
-];
-
-/// The viewer asks for what changed, and an update is cut.
-fn push_cut(alloc: Global, events: &mut Vec<Event>) -> Result<(), AllocError> {
-    let changes = request(true, 0, 0, 4, 1);
-    events.push(hear(alloc, 1, &changes)?)?;
-    events.push(Event::Cut { viewer: 1 })?;
-    Ok(())
-}
-
-/// A viewer that uses CopyRect connects and is sent the picture.
-fn push_opening(alloc: Global, events: &mut Vec<Event>) -> Result<(), AllocError> {
-    let whole = request(false, 0, 0, 4, 1);
-    events.push(Event::Connect { viewer: 1 })?;
-    let pieces: [(u64, &[u8]); 3] = [(1, OPENING), (1, WITH_COPYRECT), (1, &whole)];
-    push_pieces(alloc, events, &pieces)?;
-    events.push(Event::Cut { viewer: 1 })?;
-    Ok(())
-}
-
-/// Colours that are written and then marked, and two notices.
-fn push_notices(alloc: Global, events: &mut Vec<Event>) -> Result<(), AllocError> {
-    events.push(Event::Write {
-        rect: rect(0, 0, 2, 1),
-        colours: Listed::from_vec([1, 2].to_vec(alloc)?),
-    })?;
-    events.push(Event::Mark {
-        rects: rects(alloc, &[rect(0, 0, 1, 1), rect(2, 1, 1, 0)])?,
-    })?;
-    events.push(Event::Bell)?;
-    events.push(Event::CutText {
-        text: Listed::from_vec(b"hi".to_vec(alloc)?),
-    })?;
-    push_cut(alloc, events)
-}
-
-/// A copy that the viewer is only told of.
-fn push_told_copy(alloc: Global, events: &mut Vec<Event>) -> Result<(), AllocError> {
-    events.push(Event::ScheduleCopy {
-        rects: rects(alloc, &[rect(2, 0, 4, 1)])?,
-        dx: 2,
-        dy: 0,
-    })?;
-    push_cut(alloc, events)
-}
-
-/// A copy of two places that is made.
-fn push_copy(alloc: Global, events: &mut Vec<Event>) -> Result<(), AllocError> {
-    events.push(Event::DoCopy {
-        rects: rects(alloc, &[rect(1, 0, 2, 1), rect(3, 0, 4, 1)])?,
-        dx: 1,
-        dy: 0,
-    })?;
-    push_cut(alloc, events)
-}
-
-fn every_kind(alloc: Global) -> Result<Vec<Event>, AllocError> {
-    let mut events = Vec::with_capacity(alloc, 21)?;
-    push_opening(alloc, &mut events)?;
-    push_notices(alloc, &mut events)?;
-    push_told_copy(alloc, &mut events)?;
-    push_copy(alloc, &mut events)?;
-    events.push(paint(alloc, rect(0, 0, 1, 1), &[0xff8000])?)?;
-    push_cut(alloc, &mut events)?;
-    events.push(Event::Close { viewer: 1 })?;
-    Ok(events)
+/// The answer to the event with a number is as wanted, and has nothing else.
+fn expect_answer(rt: &impl Abort, number: usize, answer: &Answer, want: Want) {
+    let (bytes, closed, refused): (&[u8], Option<Fault>, Option<ScreenError>) = match want {
+        Bytes(bytes) => (bytes, None, None),
+        Closed(fault) => (&[], Some(fault), None),
+        Refused(refusal) => (&[], None, Some(refusal)),
+    };
+    assert_eq!(rt; answer.bytes.as_slice(), bytes, "of event {number}");
+    assert_eq!(rt; answer.closed, closed, "of event {number}");
+    assert_eq!(rt; answer.refused, refused, "of event {number}");
+    assert!(rt; answer.inputs.is_empty());
 }
 
 fn four_by_one(alloc: Global) -> Result<Config, AllocError> {
-    config(alloc, 4, 1, b"demo", 50)
-}
-
-fn expect_run(
-    rt: &impl Abort,
-    alloc: Global,
-    events: &[Event],
-    want: &[&[u8]],
-) -> Result<(), ScreenError> {
-    let given = run(alloc, four_by_one(alloc)?, events)?;
-    assert_eq!(rt; given.len(), want.len());
-    for (number, (answer, bytes)) in given.iter().zip(want).enumerate() {
-        assert_eq!(rt; answer.bytes.as_slice(), *bytes, "of event {number}");
-        assert!(rt;
-            answer.inputs.is_empty() && answer.closed.is_none() && answer.refused.is_none()
-        );
-    }
-    Ok(())
+    config(alloc, (4, 1), 50)
 }
 
 #[test]
 fn runs_are_answered_byte_for_byte(rt: HostRuntime) -> Result<(), Fail> {
     let alloc = rt.alloc();
-    expect_run(&rt, alloc, &two_viewers(alloc)?, &TWO_VIEWERS)?;
-    expect_run(&rt, alloc, &every_kind(alloc)?, &EVERY_KIND)?;
+    let lists: [&[Row]; 4] = [&TWO_VIEWERS, &EVERY_KIND, &REFUSED, &FAULT];
+    for rows in lists {
+        let given = run(alloc, four_by_one(alloc)?, &events(alloc, rows)?)?;
+        assert_eq!(rt; given.len(), rows.len());
+        for (number, (answer, (_, want))) in given.iter().zip(rows).enumerate() {
+            expect_answer(&rt, number, answer, *want);
+        }
+    }
     Ok(())
 }
 
 /// Each event is answered so, at the second time where the first is refused for want of memory.
-fn expect_answers(rt: &impl Abort, screen: &mut Screen, events: &[Event], want: &[&[u8]]) {
-    for (number, (event, bytes)) in events.iter().zip(want).enumerate() {
+fn expect_answers(rt: &impl Abort, screen: &mut Screen, events: &[Event], rows: &[Row]) {
+    for (number, (event, (_, want))) in events.iter().zip(rows).enumerate() {
         let answer = match screen.apply(event) {
             Ok(answer) => answer,
             Err(_) => screen.apply(event).expect(rt, "memory is refused once"),
         };
-        assert_eq!(rt; answer.bytes.as_slice(), *bytes, "of event {number}");
-        assert!(rt; answer.refused.is_none());
+        expect_answer(rt, number, &answer, *want);
     }
 }
 
-fn ready(
-    alloc: Global,
-    events: Result<Vec<Event>, AllocError>,
-) -> Result<(Screen, Vec<Event>), ScreenError> {
-    Ok((Screen::new(alloc, four_by_one(alloc)?)?, events?))
+fn ready(alloc: Global, rows: &[Row]) -> Result<(Screen, Vec<Event>), ScreenError> {
+    let events = events(alloc, rows)?;
+    Ok((Screen::new(alloc, four_by_one(alloc)?)?, events))
 }
 
+// Where memory is refused before the first event, nothing is asked.
 #[test]
 fn two_viewers_whichever_allocation_is_refused(rt: HostRuntime) {
-    // Where memory is refused before the first event, nothing is asked.
-    if let Ok((mut screen, events)) = ready(rt.alloc(), two_viewers(rt.alloc())) {
+    if let Ok((mut screen, events)) = ready(rt.alloc(), &TWO_VIEWERS) {
         expect_answers(&rt, &mut screen, &events, &TWO_VIEWERS);
     }
 }
 
 #[test]
 fn every_kind_whichever_allocation_is_refused(rt: HostRuntime) {
-    if let Ok((mut screen, events)) = ready(rt.alloc(), every_kind(rt.alloc())) {
+    if let Ok((mut screen, events)) = ready(rt.alloc(), &EVERY_KIND) {
         expect_answers(&rt, &mut screen, &events, &EVERY_KIND);
     }
 }
@@ -277,7 +322,7 @@ fn open_again(rt: &impl Abort, screen: &mut Screen) {
     let version = again!(rt, screen.connect(2));
     assert_eq!(rt; version.as_slice(), VERSION);
     let opened = again!(rt, screen.hear(2, OPENING));
-    assert_eq!(rt; opened.bytes.len(), 30);
+    assert_eq!(rt; opened.bytes.len(), 34);
 }
 
 /// A place is written and marked, and a text is sent.
@@ -309,17 +354,20 @@ fn expect_copies(rt: &impl Abort, screen: &mut Screen) {
     assert!(rt; again!(rt, screen.cut(1)).is_none());
 }
 
+/// The screen with viewer 1, that was sent all of it, and a region of its first place.
+fn prepared(alloc: Global) -> Result<(Screen, Region), ScreenError> {
+    let zone = region(alloc, rect(0, 0, 1, 1))?;
+    let mut screen = Screen::new(alloc, config(alloc, (6, 1), 50)?)?;
+    show(&mut screen, (6, 1), &[1, 2, 3, 4, 5, 6])?;
+    Ok((screen, zone))
+}
+
 #[test]
 fn named_calls_whichever_allocation_is_refused(rt: HostRuntime) {
-    let alloc = rt.alloc();
-    let Ok(mut screen) = shown(alloc, (6, 1), &[1, 2, 3, 4, 5, 6]) else {
-        return;
-    };
-    let Ok(zone) = region(alloc, rect(0, 0, 1, 1)) else {
-        return;
-    };
-    open_again(&rt, &mut screen);
-    draw_again(&rt, &mut screen, &zone);
-    copy_again(&rt, &mut screen, &zone);
-    expect_copies(&rt, &mut screen);
+    if let Ok((mut screen, zone)) = prepared(rt.alloc()) {
+        open_again(&rt, &mut screen);
+        draw_again(&rt, &mut screen, &zone);
+        copy_again(&rt, &mut screen, &zone);
+        expect_copies(&rt, &mut screen);
+    }
 }

@@ -1,8 +1,8 @@
 //! Want of memory is answered only where there is none: more viewers than any table is likely to have, a long piece, and each
 //! drawing call with all of them there.
 
-use super::{OPENING, demo, rect, region, request};
-use screen::{Screen, ScreenError};
+use super::{OPENING, config, rect, region, request};
+use screen::{Fault, Screen, ScreenError};
 use std::alloc::{AllocError, Global};
 use std::test::Fail;
 
@@ -18,7 +18,12 @@ fn open_all(screen: &mut Screen) -> Result<(), ScreenError> {
     Ok(())
 }
 
-/// Each drawing call once, on a screen of 4 by 3.
+/// A screen of 4 by 3.
+fn new_screen(alloc: Global) -> Result<Screen, ScreenError> {
+    Screen::new(alloc, config(alloc, (4, 3), 50)?)
+}
+
+/// Each drawing call once.
 fn draw_each(alloc: Global, screen: &mut Screen) -> Result<(), ScreenError> {
     let top = region(alloc, rect(0, 0, 4, 1))?;
     screen.write_pixels(rect(0, 0, 1, 1), &[1])?;
@@ -45,6 +50,23 @@ fn count_served(screen: &mut Screen) -> Result<u64, ScreenError> {
     Ok(served)
 }
 
+/// All viewers open, everything is drawn, and so many of them are sent it.
+fn serve_all(alloc: Global, screen: &mut Screen) -> Result<u64, ScreenError> {
+    open_all(screen)?;
+    draw_each(alloc, screen)?;
+    count_served(screen)
+}
+
+#[test]
+fn two_hundred_viewers_are_served(rt: HostRuntime) -> Result<(), Fail> {
+    let mut screen = new_screen(rt.alloc())?;
+    let served = serve_all(rt.alloc(), &mut screen)?;
+    assert_eq!(rt; served, 200);
+    assert_eq!(rt; screen.viewer_count(), 200);
+    assert!(rt; screen.is_live(199) && !screen.is_live(200));
+    Ok(())
+}
+
 /// A piece of more than 65,536 bytes: whole requests.
 fn long_piece(alloc: Global) -> Result<Vec<u8>, AllocError> {
     let mut piece = Vec::new(alloc);
@@ -54,42 +76,47 @@ fn long_piece(alloc: Global) -> Result<Vec<u8>, AllocError> {
     Ok(piece)
 }
 
-#[test]
-fn two_hundred_viewers_are_served(rt: HostRuntime) -> Result<(), Fail> {
-    let mut screen = Screen::new(rt.alloc(), demo(rt.alloc())?)?;
-    open_all(&mut screen)?;
-    assert_eq!(rt; screen.viewer_count(), 200);
-    assert!(rt; screen.is_live(199) && !screen.is_live(200));
-    draw_each(rt.alloc(), &mut screen)?;
-    assert_eq!(rt; count_served(&mut screen)?, 200);
-    Ok(())
+/// A viewer opens and sends a piece. Tells whether that is heard with no answer and no fault, and an update waits.
+fn is_heard(screen: &mut Screen, piece: &[u8]) -> Result<bool, ScreenError> {
+    screen.connect(1)?;
+    screen.hear(1, OPENING)?;
+    let answer = screen.hear(1, piece)?;
+    Ok(answer.closed.is_none() && answer.bytes.is_empty() && screen.pending(1)?)
 }
 
 #[test]
 fn a_long_piece_is_heard_whole(rt: HostRuntime) -> Result<(), Fail> {
-    let mut screen = Screen::new(rt.alloc(), demo(rt.alloc())?)?;
-    screen.connect(1)?;
-    screen.hear(1, OPENING)?;
     let piece = long_piece(rt.alloc())?;
-    let answer = screen.hear(1, &piece)?;
-    assert!(rt; answer.closed.is_none() && answer.bytes.is_empty());
-    assert!(rt; screen.pending(1)?);
+    let mut screen = new_screen(rt.alloc())?;
+    let heard = is_heard(&mut screen, &piece)?;
+    assert!(rt; heard);
+    Ok(())
+}
+
+/// A place is painted, and viewer 5 sends what is no version.
+fn draw_and_fail(screen: &mut Screen) -> Result<(), ScreenError> {
+    screen.paint(rect(2, 1, 3, 2), &[0xff8000])?;
+    screen.connect(5)?;
+    screen.hear(5, b"hello world\n")?;
     Ok(())
 }
 
 #[test]
 fn what_a_screen_holds_can_be_read(rt: HostRuntime) -> Result<(), Fail> {
-    let mut screen = Screen::new(rt.alloc(), demo(rt.alloc())?)?;
-    screen.paint(rect(2, 1, 3, 2), &[0xff8000])?;
-    screen.connect(5)?;
-    screen.hear(5, b"hello world\n")?;
+    let mut screen = new_screen(rt.alloc())?;
+    draw_and_fail(&mut screen)?;
     assert_eq!(rt; (screen.width(), screen.height()), (4, 3));
     assert_eq!(rt; screen.colour(2, 1), Some(0xff8000));
     assert_eq!(rt; screen.colour(4, 0), None);
-    assert_eq!(rt; screen.fault(5)?, Some(screen::Fault::BadVersion));
-    assert_eq!(rt;
-        format!(in rt.alloc(); "{}", ScreenError::NoViewer)?.as_str(),
-        "NoViewer"
-    );
+    assert_eq!(rt; screen.fault(5), Ok(Some(Fault::BadVersion)));
+    assert_eq!(rt; screen.pending(5), Ok(false));
+    assert_eq!(rt; screen.pending(9), Err(ScreenError::NoViewer));
+    Ok(())
+}
+
+#[test]
+fn a_refusal_has_a_text(rt: HostRuntime) -> Result<(), Fail> {
+    let text = format!(in rt.alloc(); "{}", ScreenError::NoViewer)?;
+    assert_eq!(rt; text.as_str(), "NoViewer");
     Ok(())
 }

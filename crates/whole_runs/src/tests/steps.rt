@@ -3,7 +3,7 @@
 
 ghost use Rattle.std.specs.Prelude.{◌<◌};
 
-use super::copies::{COPYING, Copying, copy};
+use super::calls::{COPYING, Copying, copy};
 use super::plain::{Picture, Viewer, is_in};
 use super::{OPENING, WITH_COPYRECT, config, rect, request};
 use region::Rect;
@@ -52,20 +52,25 @@ const RAW: &[u8] = b"\x02\x00\x00\x01\x00\x00\x00\x00";
 impl World {
     /// A screen with three open viewers, of which the first and the third use CopyRect.
     fn new(alloc: Global, width: u16, height: u16, limit: u32) -> Result<World, ScreenError> {
-        let size = config(alloc, u32::from(width), u32::from(height), b"", limit)?;
+        let picture = Picture::new(alloc, width, height)?;
+        let screen = Screen::new(alloc, config(alloc, (width, height), limit)?)?;
         let mut world = World {
             alloc,
             width,
             height,
-            screen: Screen::new(alloc, size)?,
-            picture: Picture::new(alloc, width, height)?,
+            screen,
+            picture,
             is_wide: limit >= 50,
             watchers: Vec::new(alloc),
         };
-        world.watch(1, WITH_COPYRECT)?;
-        world.watch(2, RAW)?;
-        world.watch(3, WITH_COPYRECT)?;
+        world.watch_all()?;
         Ok(world)
+    }
+
+    fn watch_all(&mut self) -> Result<(), ScreenError> {
+        self.watch(1, WITH_COPYRECT)?;
+        self.watch(2, RAW)?;
+        self.watch(3, WITH_COPYRECT)
     }
 
     /// A viewer connects and opens.
