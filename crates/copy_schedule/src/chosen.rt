@@ -6,7 +6,7 @@ ghost use Rattle.region.specs.Places.{IsOnScreen};
 ghost use Rattle.copy_schedule.specs.Kept.{LiesOn, IsKept};
 
 use crate::kept::Kept;
-use crate::sets::{moved_by, union_of};
+use crate::sets::moved_by;
 use region::{Rect, Region};
 use std::alloc::{AllocError, Global};
 
@@ -86,8 +86,8 @@ pub fn left_after(
     requires pixels { All (IsOnScreen 8192 8192) pixels.now }
     ensures { IfOk result (λ left. (x y : ℤ) → covers left.list x y ≡ (covers unclean.now.list x y && not (covers copies.now x y || covers pixels.now x y))) }
 {
-    let moved = union_of(alloc, copies)?;
-    let drawn = union_of(alloc, pixels)?;
+    let moved = Region::from_rects_in_range(alloc, copies)?;
+    let drawn = Region::from_rects_in_range(alloc, pixels)?;
     let sent = moved.union(&drawn)?;
     let left = unclean.difference(&sent)?;
     Ok(left)

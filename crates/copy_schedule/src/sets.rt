@@ -1,30 +1,16 @@
-//! Regions of a screen's places: those of rectangles, moved ones, and the parts of others that are on the screen.
+//! Regions of a screen's places: its own, moved ones, and the parts of rectangles and of regions that are on it.
 
 ghost use Rattle.std.specs.Prelude.{◌≡◌, ◌≤◌, ◌||◌, ◌&&◌, true, ℤ, ◌-ℤ◌, IfOk, All};
 ghost use Rattle.region.specs.Region.{covers, in_rect, on_screen};
-ghost use Rattle.region.specs.Held.{in_range};
-ghost use Rattle.region.specs.Places.{IsOnScreen};
 ghost use Rattle.copy_schedule.specs.Kept.{LiesOn};
 ghost use Rattle.copy_schedule.specs.Sets.{is_far_by, lies_between, rect_of};
 
 use crate::windows::{Window, window_of};
-use region::{Rect, Region, RegionError};
+use region::{Rect, Region};
 use std::alloc::{AllocError, Global};
 
 /// The most columns, and rows, that a screen has.
 const LARGEST_SIDE: i32 = 8192;
-
-/// The places of some rectangles of a screen.
-pub fn union_of(alloc: Global, rects: &[Rect]) -> Result<Region, AllocError>
-    requires { All (IsOnScreen 8192 8192) rects.now }
-    ensures { IfOk result (λ all. (x y : ℤ) → covers all.list x y ≡ covers rects.now x y) }
-{
-    match Region::from_rects(alloc, rects) {
-        Ok(all) => Ok(all),
-        Err(RegionError::OutOfMemory) => Err(AllocError),
-        Err(RegionError::OutOfRange) => unreachable!(),
-    }
-}
 
 fn is_far(by: i32) -> bool
     ensures { result ≡ is_far_by by }
@@ -53,18 +39,6 @@ pub fn moved_by(alloc: Global, region: &Region, offset: (i32, i32)) -> Result<Re
     Ok(moved)
 }
 
-/// The places of a rectangle whose coordinates a region can have.
-fn places_of(alloc: Global, rect: Rect) -> Result<Region, AllocError>
-    requires { in_range rect ≡ true }
-    ensures { IfOk result (λ all. (x y : ℤ) → covers all.list x y ≡ in_rect rect x y) }
-{
-    match Region::from_rect(alloc, rect) {
-        Ok(all) => Ok(all),
-        Err(RegionError::OutOfMemory) => Err(AllocError),
-        Err(RegionError::OutOfRange) => unreachable!(),
-    }
-}
-
 /// The places of a screen.
 pub fn screen_places(alloc: Global, width: u32, height: u32) -> Result<Region, AllocError>
     requires width { width ≤ 8192 }
@@ -77,7 +51,8 @@ pub fn screen_places(alloc: Global, width: u32, height: u32) -> Result<Region, A
         x2: width as i32,
         y2: height as i32,
     };
-    places_of(alloc, screen)
+    let all = Region::from_rect_in_range(alloc, screen)?;
+    Ok(all)
 }
 
 /// The rectangle of a window of a screen.
@@ -109,7 +84,7 @@ pub fn part_of(
     ensures { IfOk result (λ part. (x y : ℤ) → covers part.list x y ≡ (in_rect rect (x -ℤ offset.0) (y -ℤ offset.1) && on_screen width height x y)) }
 {
     let window = window_of(rect, offset.0, offset.1, width, height);
-    let part = places_of(alloc, window_rect(window))?;
+    let part = Region::from_rect_in_range(alloc, window_rect(window))?;
     Ok(part)
 }
 

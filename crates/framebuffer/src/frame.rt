@@ -8,7 +8,7 @@ ghost use Rattle.framebuffer.specs.Picture.{blank, written, moved};
 ghost use Rattle.framebuffer.specs.Blocks.{rect_of, block_colours};
 
 use crate::blocks::{Block, read_block, replace};
-use crate::moves::move_colours;
+use crate::moves::{in_copy_order, move_colours};
 use region::Rect;
 use std::alloc::{AllocError, Global};
 use std::marker::Model;
@@ -110,14 +110,15 @@ impl Framebuffer {
         ensures ok { OnOk result (self.new ≡ record self.old { colours = moved self.old.width self.old.height (covers pieces.now) offset self.old.colours }) }
         ensures err { OnErr result (self.new ≡ self.old) }
     {
-        let mut row = vec![in self.alloc; 0u32; self.width as usize]?;
+        let rects = in_copy_order(self.alloc, pieces, offset)?;
+        let mut buffer = vec![in self.alloc; 0u32; self.width as usize]?;
         move_colours(
             &mut self.colours,
             self.width,
             self.height,
-            pieces,
+            &rects,
             offset,
-            &mut row,
+            &mut buffer,
         );
         Ok(())
     }

@@ -9,9 +9,8 @@ mod frame;
 mod moves;
 mod spans;
 
-pub use blocks::{Block, block_of, block_within, read_block, replace};
+pub use blocks::{Block, block_of, block_within};
 pub use frame::Framebuffer;
-pub use moves::move_colours;
 pub use spans::destinations;
 
 #[cfg(test)]

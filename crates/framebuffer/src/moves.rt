@@ -1,112 +1,85 @@
-//! Colours that move within a picture, all at once: row by row, from the side to which they move.
+//! Colours that move within a picture, all at once: one rectangle after the other, in an order in which none is moved over the
+//! source of a later one, and each row by row, from the side to which its colours move.
 
-ghost use Rattle.std.specs.Prelude.{◌≡◌, ℕ, ℤ, ◌+◌, ◌-◌, ◌*◌, ◌<◌, ◌≤◌, ◌≤ℤ◌, ◌<ℤ◌, ◌-ℤ◌, ◌==◌, All, length, pos, slice_index, false, true, MatchOption, int_lt, nat_lt, ◌&&◌, ◌||◌, int_le};
-ghost use Rattle.std.specs.List.{list_any};
+ghost use Rattle.std.specs.Prelude.{◌≡◌, ℕ, ℤ, ◌+◌, ◌-◌, ◌*◌, ◌<◌, ◌≤◌, ◌≤ℤ◌, ◌<ℤ◌, ◌-ℤ◌, ◌==◌, [], ◌∷◌, All, length, pos, nat_abs, slice_index, false, true, if◌then◌else◌, nat_le, nat_lt, ◌&&◌, ◌||◌, IfOk};
 ghost use Rattle.region.specs.Region.{covers};
+ghost use Rattle.region.specs.Copies.{InOrder};
 ghost use Rattle.region.specs.Places.{IsOnScreen, source_rect};
 ghost use Rattle.framebuffer.specs.Picture.{moved};
-ghost use Rattle.framebuffer.specs.Moves.{between, HasColumns, part_moved, row_moved, colour_moved, is_among};
+ghost use Rattle.framebuffer.specs.Moves.{between, colour_moved, is_among, row_number};
 
-use region::Rect;
+use region::{Rect, Region};
+use std::alloc::{AllocError, Global};
 
-/// The row's places in a rectangle's columns get the colours that a source row of the same length has `dx` before them.
-fn move_part(row: &mut [u32], source: &[u32], piece: Rect, dx: i32)
-    requires same { length source.now ≡ length row.old }
-    requires columns { HasColumns (length row.old) dx piece }
-    requires short { length row.old ≤ 8192 }
-    ensures { (x : ℕ) → x < length row.old → slice_index row.new x ≡ part_moved piece dx source.now row.old x }
+/// The same places as rectangles in an order for copies by (dx, dy), in which no rectangle is a place of a later one's source.
+pub fn in_copy_order(
+    alloc: Global,
+    pieces: &[Rect],
+    offset: (i32, i32),
+) -> Result<Vec<Rect>, AllocError>
+    requires { All (IsOnScreen 8192 8192) pieces.now }
+    ensures places { IfOk result (λ rects. (x y : ℤ) → covers rects.items x y ≡ covers pieces.now x y) }
+    ensures inside { IfOk result (λ rects. (w h : ℕ) → All (IsOnScreen w h) pieces.now → All (IsOnScreen w h) rects.items) }
+    ensures sources { IfOk result (λ rects. (w h : ℕ) → All (λ r. IsOnScreen w h (source_rect offset r)) pieces.now → All (λ r. IsOnScreen w h (source_rect offset r)) rects.items) }
+    ensures ordered { IfOk result (λ rects. InOrder offset rects.items) }
 {
-    let from = piece.x1 as usize;
-    let to = piece.x2 as usize;
-    let start = (piece.x1 - dx) as usize;
-    row[from..to].copy_from_slice(&source[start..start + (to - from)]);
+    let region = Region::from_rects_in_range(alloc, pieces)?;
+    let rects = region.rects(0 < offset.0, 0 < offset.1)?;
+    Ok(rects.into_vec())
 }
 
-/// Whether a rectangle has places in row y.
-fn has_row(piece: &Rect, y: i32) -> bool
-    ensures { result ≡ between piece.now.y1 y piece.now.y2 }
+/// So many places, from one on, get the colours of as many from another on, by way of a buffer. What the buffer holds doesn't
+/// matter.
+fn copy_places(places: &mut [u32], from: usize, to: usize, count: usize, buffer: &mut [u32])
+    requires from { from + count ≤ length places.old }
+    requires to { to + count ≤ length places.old }
+    requires buffer { count ≤ length buffer.old }
+    ensures { (k : ℕ) → slice_index places.new k ≡ (if nat_le to k && nat_lt k (to + count) then slice_index places.old (from + (k - to)) else slice_index places.old k) }
 {
-    let top = piece.y1;
-    let bottom = piece.y2;
-    top <= y && y < bottom
+    let part = &mut buffer[..count];
+    part.copy_from_slice(&places[from..from + count]);
+    places[to..to + count].copy_from_slice(part);
 }
 
-/// The places of row y in the rectangles get the colours that a source row has `dx` before them.
-fn move_row(row: &mut [u32], source: &[u32], pieces: &[Rect], y: i32, dx: i32)
-    requires same { length source.now ≡ length row.old }
-    requires columns { All (HasColumns (length row.old) dx) pieces.now }
-    requires short { length row.old ≤ 8192 }
-    ensures { (x : ℕ) → x < length row.old → slice_index row.new x ≡ row_moved pieces.now y dx source.now row.old x }
+/// The number of the place in column x of row y, in rows of so many places.
+fn place_number(x: i32, y: i32, width: u32) -> usize
+    requires left { pos 0 ≤ℤ x }
+    requires top { pos 0 ≤ℤ y }
+    ensures { result ≡ nat_abs y * width + nat_abs x }
 {
-    for piece in pieces {
-        if has_row(piece, y) {
-            move_part(row, source, *piece, dx);
-        }
-    }
+    y as usize * width as usize + x as usize
 }
 
-/// Whether one of the rectangles has places in row y.
-fn is_row_of_some(pieces: &[Rect], y: i32) -> bool
-    ensures { result ≡ list_any (λ r. between r.y1 y r.y2) pieces.now }
-{
-    pieces.iter().any(|piece| has_row(piece, y))
-}
-
-/// The row that lies `dy` before row y, if the screen has it.
-fn row_before(y: u32, dy: i32, height: u32) -> Option<u32>
-    requires { y < height }
-    ensures { MatchOption result (between (pos 0) (pos y -ℤ dy) (pos height) ≡ false) (λ source. (source < height) × (pos y -ℤ dy ≡ pos source)) }
-{
-    let source = i64::from(y) - i64::from(dy);
-    if 0 <= source && source < i64::from(height) {
-        Some(source as u32)
-    } else {
-        None
-    }
-}
-
-/// The rectangles' places in row y get the colours of the places (dx, dy) before them, by way of a buffer of a row.
-fn move_to_row(
+/// A rectangle's places in row y get the colours of the places (dx, dy) before them.
+fn move_row(
     picture: &mut [u32],
     width: u32,
     height: u32,
-    pieces: &[Rect],
+    piece: Rect,
     y: u32,
     offset: (i32, i32),
     buffer: &mut [u32],
 )
-    requires some { 0 < width }
     requires columns { width ≤ 8192 }
     requires rows { height ≤ 8192 }
     requires size { length picture.old ≡ width * height }
-    requires row { y < height }
     requires buffer { length buffer.old ≡ width }
-    requires inside { All (IsOnScreen width height) pieces.now }
-    requires sources { All (λ r. IsOnScreen width height (source_rect offset r)) pieces.now }
-    ensures { (k x : ℕ) → k < height → x < width → slice_index picture.new (k * width + x) ≡ colour_moved width height pieces.now offset (λ row. row == y) picture.old k x }
+    requires inside { IsOnScreen width height piece }
+    requires source { IsOnScreen width height (source_rect offset piece) }
+    requires top { piece.y1 ≤ℤ pos y }
+    requires bottom { pos y <ℤ piece.y2 }
+    ensures { (k x : ℕ) → k < height → x < width → slice_index picture.new (k * width + x) ≡ colour_moved width height (piece ∷ []) offset (λ row. row == y) picture.old k x }
 {
-    if !is_row_of_some(pieces, y as i32) {
-        return;
-    }
-    let Some(source) = row_before(y, offset.1, height) else {
-        return;
-    };
-    let columns = width as usize;
-    let from = source as usize * columns;
-    let to = y as usize * columns;
-    buffer.copy_from_slice(&picture[from..from + columns]);
-    move_row(
-        &mut picture[to..to + columns],
-        buffer,
-        pieces,
-        y as i32,
-        offset.0,
-    );
+    let columns = (piece.x2 - piece.x1) as usize;
+    let from = place_number(piece.x1 - offset.0, y as i32 - offset.1, width);
+    let to = place_number(piece.x1, y as i32, width);
+    copy_places(picture, from, to, columns, buffer);
 }
 
 /// The row that comes after n others: from the bottom, or from the top.
 fn row_after(n: u32, height: u32, down: bool) -> u32
     requires { n < height }
+    ensures value { result ≡ row_number down height n }
     ensures bound { result < height }
     ensures next { (k : ℕ) → k < height → is_among down height (n + 1) k ≡ (is_among down height n k || (k == result)) }
     ensures before { is_among down height n result ≡ false }
@@ -114,9 +87,77 @@ fn row_after(n: u32, height: u32, down: bool) -> u32
     if down { height - 1 - n } else { n }
 }
 
-/// The rectangles' places get the colours that the places (dx, dy) before them had before the call, all at once. Each of the
-/// rectangles has places, all of them on the screen, and so has the rectangle (dx, dy) before it. The buffer has as many places
-/// as the screen has columns; what it holds doesn't matter.
+/// How many rows come before a rectangle's, and how many with them: from the bottom, or from the top.
+fn rows_of(piece: Rect, height: u32, down: bool) -> (u32, u32)
+    requires top { pos 0 ≤ℤ piece.y1 }
+    requires some { piece.y1 <ℤ piece.y2 }
+    requires bottom { piece.y2 ≤ℤ pos height }
+    requires rows { height ≤ 8192 }
+    ensures none { (k : ℕ) → k < height → between piece.y1 (pos k) piece.y2 ≡ true → is_among down height result.0 k ≡ false }
+    ensures all { (n k : ℕ) → result.1 ≤ n → k < height → between piece.y1 (pos k) piece.y2 ≡ true → is_among down height n k ≡ true }
+    ensures from { (n : ℕ) → result.0 ≤ n → n < result.1 → piece.y1 ≤ℤ pos (row_number down height n) }
+    ensures to { (n : ℕ) → result.0 ≤ n → n < result.1 → pos (row_number down height n) <ℤ piece.y2 }
+    ensures bound { result.1 ≤ height }
+{
+    let (first, end) = (piece.y1 as u32, piece.y2 as u32);
+    if down {
+        (height - end, height - first)
+    } else {
+        (first, end)
+    }
+}
+
+/// A rectangle's places get the colours that the places (dx, dy) before them had before the call, all at once.
+fn move_piece(
+    picture: &mut [u32],
+    width: u32,
+    height: u32,
+    piece: Rect,
+    offset: (i32, i32),
+    buffer: &mut [u32],
+)
+    requires columns { width ≤ 8192 }
+    requires rows { height ≤ 8192 }
+    requires size { length picture.old ≡ width * height }
+    requires buffer { length buffer.old ≡ width }
+    requires inside { IsOnScreen width height piece }
+    requires source { IsOnScreen width height (source_rect offset piece) }
+    ensures { (k x : ℕ) → k < height → x < width → slice_index picture.new (k * width + x) ≡ colour_moved width height (piece ∷ []) offset (λ row. true) picture.old k x }
+{
+    let down = offset.1 > 0;
+    let (first, end) = rows_of(piece, height, down);
+    for n in first..end {
+        let y = row_after(n, height, down);
+        move_row(picture, width, height, piece, y, offset, buffer);
+    }
+}
+
+/// The same for all places of rectangles, none of which is moved over a later one's source.
+fn move_pieces(
+    picture: &mut [u32],
+    width: u32,
+    height: u32,
+    pieces: &[Rect],
+    offset: (i32, i32),
+    buffer: &mut [u32],
+)
+    requires columns { width ≤ 8192 }
+    requires rows { height ≤ 8192 }
+    requires size { length picture.old ≡ width * height }
+    requires buffer { length buffer.old ≡ width }
+    requires inside { All (IsOnScreen width height) pieces.now }
+    requires sources { All (λ r. IsOnScreen width height (source_rect offset r)) pieces.now }
+    requires ordered { InOrder offset pieces.now }
+    ensures { (k x : ℕ) → k < height → x < width → slice_index picture.new (k * width + x) ≡ colour_moved width height pieces.now offset (λ row. true) picture.old k x }
+{
+    for piece in pieces {
+        move_piece(picture, width, height, *piece, offset, buffer);
+    }
+}
+
+/// The rectangles' places get the colours that the places (dx, dy) before them had before the call, all at once. The rectangles
+/// stand in an order for copies by (dx, dy). Each has places, all of them on the screen, and so has the rectangle (dx, dy) before
+/// it. The buffer has as many places as the screen has columns; what it holds doesn't matter.
 pub fn move_colours(
     picture: &mut Vec<u32>,
     width: u32,
@@ -132,33 +173,9 @@ pub fn move_colours(
     requires buffer { length buffer.old ≡ width }
     requires inside { All (IsOnScreen width height) pieces.now }
     requires sources { All (λ r. IsOnScreen width height (source_rect offset r)) pieces.now }
+    requires ordered { InOrder offset pieces.now }
     ensures colours { picture.new.items ≡ moved width height (covers pieces.now) offset picture.old.items }
     ensures size { length picture.new.items ≡ width * height }
 {
-    move_rows(picture, width, height, pieces, offset, buffer);
-}
-
-/// The same, on the places.
-fn move_rows(
-    picture: &mut [u32],
-    width: u32,
-    height: u32,
-    pieces: &[Rect],
-    offset: (i32, i32),
-    buffer: &mut [u32],
-)
-    requires some { 0 < width }
-    requires columns { width ≤ 8192 }
-    requires rows { height ≤ 8192 }
-    requires size { length picture.old ≡ width * height }
-    requires buffer { length buffer.old ≡ width }
-    requires inside { All (IsOnScreen width height) pieces.now }
-    requires sources { All (λ r. IsOnScreen width height (source_rect offset r)) pieces.now }
-    ensures { (k x : ℕ) → k < height → x < width → slice_index picture.new (k * width + x) ≡ colour_moved width height pieces.now offset (λ row. true) picture.old k x }
-{
-    let down = offset.1 > 0;
-    for n in 0..height {
-        let y = row_after(n, height, down);
-        move_to_row(picture, width, height, pieces, y, offset, buffer);
-    }
+    move_pieces(picture, width, height, pieces, offset, buffer);
 }

@@ -6,7 +6,7 @@ use Rattle.std.proofs.lemmas.Int.{ints}
 use Rattle.std.proofs.lemmas.List.{reverse-append}
 use Rattle.region.specs.declared.Rect.{Rect}
 use Rattle.region.specs.Runs.{Run, AreRuns}
-use Rattle.region.specs.Region.{Interval, Band, IsBand, in_rect, covers, rects_of_band, rects_of_bands, by_band, in_order, order}
+use Rattle.region.specs.Region.{Interval, Band, IsBand, IsCanonical, in_rect, covers, rects_of, rects_of_band, rects_of_bands, by_band, in_order, order}
 use Rattle.region.proofs.RunLemmas.{first_some, rest_runs}
 use Rattle.region.proofs.CanonicalLemmas.{rects_of_is_canonical-holds}
 use Rattle.region.proofs.RectLemmas.{band_rect}
@@ -245,10 +245,12 @@ in-order bands runs each by false true h k =
     subst (InOrder by) (sym (in_order-bands (rects_of_bands bands) ∙ ap (λ (lines : List (List Rect)). reverse (flat_map reverse lines)) (lines-are bands runs each)))
     (pairs-in-order by _ (pairs-of (turned Turned) (Spares by) _ (spares-up by (not-positive by.0 h) (positive by.1 k)) (pairs-reverse Turned _ (turned-pairs bands runs each))))
 
+-- a canonical list, in the order for copies
+pub canonical-in-order : (rs : List Rect) → IsCanonical rs → (by : ℤ × ℤ) → InOrder by (order by.0 by.1 rs)
+canonical-in-order rs c by = subst (λ (qs : List Rect). InOrder by (order by.0 by.1 qs)) (sym c.2) (in-order c.0 c.1.0 c.1.1 by _ _ refl refl)
+
 pub copies-in-order : copies_are_in_order
-copies-in-order w h set by =
-    let c = rects_of_is_canonical-holds w h set in
-    subst (λ (rs : List Rect). InOrder by (order by.0 by.1 rs)) (sym c.2) (in-order c.0 c.1.0 c.1.1 by _ _ refl refl)
+copies-in-order w h set by = canonical-in-order (rects_of w h set) (rects_of_is_canonical-holds w h set) by
 
 -- the first ones of a list
 pub covers-take : (n : ℕ) (rs : List Rect) (x y : ℤ) → covers (take n rs) x y ≡ true → covers rs x y ≡ true

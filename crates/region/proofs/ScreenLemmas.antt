@@ -1,17 +1,14 @@
--- The rectangles of a canonical list are on the screen, also in another order.
-use Rattle.std.proofs.Common.{◌≡◌, ℕ, ◌<◌, Bool, true, false, cond, ◌&&◌, List, [], ◌∷◌, ◌++◌, map, reverse, length, get_or, subst, sym, ◌∙◌, arith}
-use Rattle.std.specs.Prelude.{ℤ, pos, ◌-ℤ◌, ◌<ℤ◌, flat_map}
+-- The rectangles of a canonical list have places, and what holds of each does so in another order too.
+use Rattle.std.proofs.Common.{Bool, true, false, cond, List, [], ◌∷◌, ◌++◌, map, reverse, subst, sym}
+use Rattle.std.specs.Prelude.{ℤ, ◌<ℤ◌, flat_map}
 use Rattle.std.specs.Ordering.{int_eq}
 use Rattle.std.specs.List.{AllByRecursion, All}
-use Rattle.std.proofs.lemmas.Int.{ints}
 use Rattle.std.proofs.lemmas.List.{reverse-append}
-use Rattle.std.proofs.lemmas.List.Folds.{list_any_at}
 use Rattle.std.proofs.lemmas.List.Elements.{All-from_recursion, recursion_from_All}
 use Rattle.region.specs.declared.Rect.{Rect}
 use Rattle.region.specs.Runs.{Run, AreRuns}
-use Rattle.region.specs.Region.{Interval, Band, in_rect, on_screen, rects_of_band, rects_of_bands, IsBand, IsCanonical, rects_of, beside, by_band, in_order}
+use Rattle.region.specs.Region.{Interval, Band, rects_of_band, rects_of_bands, IsBand, IsCanonical, beside, by_band, in_order}
 use Rattle.region.proofs.RunLemmas.{first_some, rest_runs}
-use Rattle.region.proofs.CanonicalLemmas.{rects_of_is_canonical-holds, rects_of_covers-holds}
 use Rattle.region.proofs.RectLemmas.{band_rect}
 use Rattle.region.proofs.OrderLemmas.{in_order-plain, in_order-both, in_order-bands}
 
@@ -69,33 +66,3 @@ some_bands (b ∷ bands) h k = all_append HasPlaces (rects_of_band b) (rects_of_
 
 pub rects_some : (rs : List Rect) → IsCanonical rs → AllByRecursion HasPlaces rs
 rects_some rs h = subst (AllByRecursion HasPlaces) (sym h.2) (some_bands h.0 (some_runs h.0 h.1.0) h.1.1)
-
-some_rects : (w h : ℕ) (test : ℤ → ℤ → Bool) → AllByRecursion HasPlaces (rects_of w h test)
-some_rects w h test = rects_some (rects_of w h test) (rects_of_is_canonical-holds w h test)
-
--- a rectangle of the list has a first and a last place, and they pass the test
-pub record IsOfTest (w h : ℕ) (test : ℤ → ℤ → Bool) (r : Rect) : Type 0 where
-  pub columns : r.x1 <ℤ r.x2
-  pub rows : r.y1 <ℤ r.y2
-  pub first : (on_screen w h r.x1 r.y1 && test r.x1 r.y1) ≡ true
-  pub last : (on_screen w h (r.x2 -ℤ pos 1) (r.y2 -ℤ pos 1) && test (r.x2 -ℤ pos 1) (r.y2 -ℤ pos 1)) ≡ true
-
-pub All-rects_of : (w h : ℕ) (test : ℤ → ℤ → Bool) → All (IsOfTest w h test) (rects_of w h test)
-All-rects_of w h test = λ k d below.
-    let r : Rect = get_or (rects_of w h test) k d in
-    let some : HasPlaces r = All-from_recursion HasPlaces (rects_of w h test) (some_rects w h test) k d below in
-    record {
-      columns = some.0;
-      rows = some.1;
-      first = passes k d r.x1 r.y1 below (first_in r some);
-      last = passes k d (r.x2 -ℤ pos 1) (r.y2 -ℤ pos 1) below (last_in r some);
-    }
-  where
-    first_in : (r : Rect) → HasPlaces r → in_rect r r.x1 r.y1 ≡ true
-    first_in r some = let a : r.x1 <ℤ r.x2 = some.0 in let b : r.y1 <ℤ r.y2 = some.1 in grind (arith, ints)
-
-    last_in : (r : Rect) → HasPlaces r → in_rect r (r.x2 -ℤ pos 1) (r.y2 -ℤ pos 1) ≡ true
-    last_in r some = let a : r.x1 <ℤ r.x2 = some.0 in let b : r.y1 <ℤ r.y2 = some.1 in grind (arith, ints)
-
-    passes : (k : ℕ) (d : Rect) (x y : ℤ) → k < length (rects_of w h test) → in_rect (get_or (rects_of w h test) k d) x y ≡ true → (on_screen w h x y && test x y) ≡ true
-    passes k d x y below within = sym (rects_of_covers-holds w h test x y) ∙ list_any_at (λ r. in_rect r x y) (rects_of w h test) k d below within

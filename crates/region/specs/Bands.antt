@@ -1,6 +1,7 @@
 -- What a walk over the bands of two canonical lists stands on.
-use Rattle.std.specs.Prelude.{◌≡◌, ℕ, ◌+◌, ◌*◌, ◌≤◌, ◌<◌, min, cond, pos, negsuc, ◌-ℤ◌, false, ◌&&◌, ◌||◌, List, [], ◌∷◌, ◌++◌, length, map, ℤ, ◌<ℤ◌, ◌≤ℤ◌, int_le, int_lt, ◌⊎◌}
+use Rattle.std.specs.Prelude.{◌≡◌, ℕ, ◌+◌, ◌*◌, ◌≤◌, ◌<◌, min, cond, pos, negsuc, ◌-ℤ◌, Bool, false, ◌&&◌, ◌||◌, List, [], ◌∷◌, ◌++◌, length, map, ℤ, ◌<ℤ◌, ◌≤ℤ◌, int_le, int_lt, ◌⊎◌}
 use Rattle.std.specs.List.{AllByRecursion}
+use Rattle.std.specs.Ordering.{int_eq}
 use Rattle.region.specs.declared.Rect.{Rect}
 use Rattle.region.specs.declared.rows.Keep.{Keep}
 use Rattle.region.specs.Region.{Band, covers, rects_of_band, rects_of_bands, AreBands}
@@ -48,6 +49,16 @@ pub record RowBehind (out : List Rect) (last end : ℕ) (y edge : ℤ) : Type 0 
   pub built : Built before last y
   pub runs : IsRow row
   pub some : y <ℤ edge
+
+-- a row's rectangles, from top to bottom
+pub record IsBandRow (y edge : ℤ) (rs : List Rect) : Type 0 where
+  pub runs : IsRow rs
+  pub some : y <ℤ edge
+  pub same : rs ≡ band_rects y edge rs
+
+-- the second has the rows of the first, and columns behind its columns and apart
+abbrev pub stands_beside : Rect → Rect → Bool
+stands_beside r s = (int_eq r.y1 s.y1 && int_eq r.y2 s.y2) && (int_lt r.x2 s.x1 && int_lt s.x1 s.x2)
 
 -- the row goes on the band: it begins where the band ends, with the same columns
 abbrev pub GoesOn : ℤ → List Rect → List Rect → Type 0

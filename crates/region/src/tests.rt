@@ -387,6 +387,62 @@ fn rectangles_in_any_order(rt: HostRuntime) -> Result<(), Fail> {
     Ok(())
 }
 
+/// Rectangles that stand row below row, or nearly so, and the canonical lists of their places.
+#[test]
+fn rectangles_in_rows(rt: HostRuntime) -> Result<(), Fail> {
+    let alloc = rt.alloc();
+    for (given, want) in [
+        // Two rows with the same columns are one band where they touch, and two where they don't.
+        (
+            [
+                rect(0, 0, 2, 1),
+                rect(3, 0, 5, 1),
+                rect(0, 1, 2, 4),
+                rect(3, 1, 5, 4),
+            ]
+            .as_slice(),
+            [rect(0, 0, 2, 4), rect(3, 0, 5, 4)].as_slice(),
+        ),
+        (
+            [rect(0, 0, 2, 1), rect(0, 2, 2, 4)].as_slice(),
+            [rect(0, 0, 2, 1), rect(0, 2, 2, 4)].as_slice(),
+        ),
+        // Other columns.
+        (
+            [rect(0, 0, 2, 1), rect(0, 1, 3, 2)].as_slice(),
+            [rect(0, 0, 2, 1), rect(0, 1, 3, 2)].as_slice(),
+        ),
+        // Columns that touch.
+        (
+            [rect(0, 0, 2, 1), rect(2, 0, 5, 1)].as_slice(),
+            [rect(0, 0, 5, 1)].as_slice(),
+        ),
+        // From the right.
+        (
+            [rect(3, 0, 5, 1), rect(0, 0, 2, 1)].as_slice(),
+            [rect(0, 0, 2, 1), rect(3, 0, 5, 1)].as_slice(),
+        ),
+        // A row that begins above the end of the last one, and one of which a rectangle ends elsewhere.
+        (
+            [rect(0, 0, 4, 4), rect(1, 2, 6, 3)].as_slice(),
+            [rect(0, 0, 4, 2), rect(0, 2, 6, 3), rect(0, 3, 4, 4)].as_slice(),
+        ),
+        (
+            [rect(0, 0, 2, 2), rect(3, 0, 5, 1)].as_slice(),
+            [rect(0, 0, 2, 1), rect(3, 0, 5, 1), rect(0, 1, 2, 2)].as_slice(),
+        ),
+        // One without places.
+        (
+            [rect(3, 0, 3, 1), rect(4, 0, 5, 1)].as_slice(),
+            [rect(4, 0, 5, 1)].as_slice(),
+        ),
+    ] {
+        let region = union_of(alloc, given)?;
+        assert!(rt; is_list(&region, alloc, want)?, "{given:?}");
+    }
+    Ok(())
+}
+
 #[test]
 fn no_rectangles_and_one_too_far(rt: HostRuntime) -> Result<(), Fail> {
     let alloc = rt.alloc();

@@ -1,7 +1,7 @@
 use Rattle.std.proofs.Common.{◌∙◌, sym}
 use Rattle.std.proofs.lemmas.Result.{IfOk-weaker}
 use Rattle.region.proofs.CallLemmas.{canonical-none, covers-single}
-use Rattle.region.proofs.unions.+union_of.Goals as goal
+use Rattle.region.proofs.unions.+halves_joined.Goals as goal
 
 pub returns-in-empty-clause-canonical : goal.returns-in-empty-clause-canonical
 returns-in-empty-clause-canonical t c = canonical-none _ c.new.ensures.items
