@@ -1,12 +1,13 @@
 //! What no clause says of a screen, and no script of `play` shows: that each call succeeds where there is memory, what the calls
 //! give that no line of a script makes, and what no line can say. `calls` has those calls, `many` many viewers and long pieces,
 //! and `events` whole lists of events, also where an allocation fails; their bytes are written out from RFC 6143. `steps` compares
-//! long runs with the plain picture and the plain viewers of `plain`.
+//! long runs with the plain picture and the plain viewers of `plain`. Each screen keeps its history; `kept` looks at it.
 //!
 //! A function that owns a screen lends it to others: each place where it may end on its way would be one more to prove.
 
 mod calls;
 mod events;
+mod kept;
 mod many;
 mod plain;
 mod steps;
@@ -28,7 +29,7 @@ fn config(alloc: Global, (width, height): (u16, u16), limit: u32) -> Result<Conf
         height: u32::from(height),
         name: Listed::from_vec(b"demo".to_vec(alloc)?),
         rects_per_update: limit,
-        history: History::NotKept,
+        history: History::Kept,
     })
 }
 

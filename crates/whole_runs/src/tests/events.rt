@@ -11,7 +11,7 @@ use std::test::Fail;
 
 /// An event as it is written down here: each rectangle by its corners x1, y1, x2, y2.
 #[derive(Clone, Copy)]
-enum Call {
+pub(crate) enum Call {
     Write([i32; 4], &'static [u32]),
     Paint([i32; 4], &'static [u32]),
     Mark(&'static [[i32; 4]]),
@@ -27,7 +27,7 @@ enum Call {
 
 /// What an event is answered.
 #[derive(Clone, Copy)]
-enum Want {
+pub(crate) enum Want {
     Bytes(&'static [u8]),
     Closed(Fault),
     Refused(ScreenError),
@@ -39,7 +39,7 @@ use ScreenError::{BadPixelCount, BadRect, NoViewer, NumberInUse};
 use Want::{Bytes, Closed, Refused};
 
 /// An event, and what it is answered.
-type Row = (Call, Want);
+pub(crate) type Row = (Call, Want);
 
 const WHOLE: [i32; 4] = [0, 0, 4, 1];
 
@@ -66,7 +66,7 @@ const BLACK: &[u8] = &[
 ];
 
 /// A copy for viewers with and without CopyRect.
-const TWO_VIEWERS: [Row; 15] = [
+pub(crate) const TWO_VIEWERS: [Row; 15] = [
     (Paint(WHOLE, &[1, 2, 3, 4]), Bytes(&[])),
     (Connect(1), Bytes(VERSION)),
     (Connect(2), Bytes(VERSION)),
@@ -93,7 +93,7 @@ const TWO_VIEWERS: [Row; 15] = [
 ];
 
 /// Every kind of event.
-const EVERY_KIND: [Row; 21] = [
+pub(crate) const EVERY_KIND: [Row; 21] = [
     (Connect(1), Bytes(VERSION)),
     (Hear(1, OPENING), Bytes(OPENED)),
     (Hear(1, WITH_COPYRECT), Bytes(&[])),
@@ -138,7 +138,7 @@ const EVERY_KIND: [Row; 21] = [
 ];
 
 /// Calls that are refused, and then what is sent: nothing changed.
-const REFUSED: [Row; 21] = [
+pub(crate) const REFUSED: [Row; 21] = [
     (Paint(WHOLE, &[1, 2, 3, 4]), Bytes(&[])),
     (Connect(1), Bytes(VERSION)),
     (Hear(1, OPENING), Bytes(OPENED)),
@@ -163,7 +163,7 @@ const REFUSED: [Row; 21] = [
 ];
 
 /// What is no message of viewer 1: it is heard no further, and viewer 2 is sent its bytes all the same.
-const FAULT: [Row; 12] = [
+pub(crate) const FAULT: [Row; 12] = [
     (Connect(1), Bytes(VERSION)),
     (Connect(2), Bytes(VERSION)),
     (Hear(1, OPENING), Bytes(OPENED)),
@@ -187,7 +187,7 @@ fn listed<T: Copy>(alloc: Global, items: &[T]) -> Result<Listed<T>, AllocError> 
     Ok(Listed::from_vec(items.to_vec(alloc)?))
 }
 
-fn rect_of([x1, y1, x2, y2]: [i32; 4]) -> Rect {
+pub(crate) fn rect_of([x1, y1, x2, y2]: [i32; 4]) -> Rect {
     rect(x1, y1, x2, y2)
 }
 
@@ -200,7 +200,7 @@ fn rects(alloc: Global, corners: &[[i32; 4]]) -> Result<Listed<Rect>, AllocError
 }
 
 /// The event of a call.
-fn event(alloc: Global, call: Call) -> Result<Event, AllocError> {
+pub(crate) fn event(alloc: Global, call: Call) -> Result<Event, AllocError> {
     Ok(match call {
         Write(corners, colours) => Event::Write {
             rect: rect_of(corners),
@@ -237,7 +237,7 @@ fn event(alloc: Global, call: Call) -> Result<Event, AllocError> {
     })
 }
 
-fn events(alloc: Global, rows: &[Row]) -> Result<Vec<Event>, AllocError> {
+pub(crate) fn events(alloc: Global, rows: &[Row]) -> Result<Vec<Event>, AllocError> {
     let mut events = Vec::with_capacity(alloc, rows.len())?;
     for (call, _) in rows {
         events.push(event(alloc, *call)?)?;
@@ -258,7 +258,7 @@ fn expect_answer(rt: &impl Abort, number: usize, answer: &Answer, want: Want) {
     assert!(rt; answer.inputs.is_empty());
 }
 
-fn four_by_one(alloc: Global) -> Result<Config, AllocError> {
+pub(crate) fn four_by_one(alloc: Global) -> Result<Config, AllocError> {
     config(alloc, (4, 1), 50)
 }
 
@@ -277,7 +277,7 @@ fn runs_are_answered_byte_for_byte(rt: HostRuntime) -> Result<(), Fail> {
 }
 
 /// Each event is answered so, at the second time where the first is refused for want of memory.
-fn expect_answers(rt: &impl Abort, screen: &mut Screen, events: &[Event], rows: &[Row]) {
+pub(crate) fn expect_answers(rt: &impl Abort, screen: &mut Screen, events: &[Event], rows: &[Row]) {
     for (number, (event, (_, want))) in events.iter().zip(rows).enumerate() {
         let answer = match screen.apply(event) {
             Ok(answer) => answer,

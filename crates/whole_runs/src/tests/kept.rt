@@ -1,0 +1,143 @@
+//! The events that a screen keeps: those that were accepted, in order, without the cuts that gave nothing.
+
+use super::events::Call::{self, Cut, DoCopy, Hear, Mark, Paint, ScheduleCopy, Write};
+use super::events::Want::{Bytes, Refused};
+use super::events::{
+    EVERY_KIND, FAULT, REFUSED, Row, TWO_VIEWERS, events, expect_answers, four_by_one, rect_of,
+};
+use super::region;
+use region::Rect;
+use screen::{Config, Event, History, Screen, ScreenError};
+use std::alloc::Global;
+use std::process::Abort;
+use std::test::Fail;
+
+fn are_of(rects: &[Rect], corners: &[[i32; 4]]) -> bool {
+    rects.len() == corners.len()
+        && rects
+            .iter()
+            .zip(corners)
+            .all(|(rect, corners)| *rect == rect_of(*corners))
+}
+
+/// Whether a kept event is that of a call, with all that it holds.
+fn is_of(event: &Event, call: Call) -> bool {
+    match (event, call) {
+        (Event::Write { rect, colours }, Write(corners, given)) => {
+            *rect == rect_of(corners) && colours.as_slice() == given
+        }
+        (Event::Paint { rect, colours }, Paint(corners, given)) => {
+            *rect == rect_of(corners) && colours.as_slice() == given
+        }
+        (Event::Mark { rects }, Mark(corners)) => are_of(rects.as_slice(), corners),
+        (Event::ScheduleCopy { rects, dx, dy }, ScheduleCopy(corners, right, down)) => {
+            are_of(rects.as_slice(), corners) && (*dx, *dy) == (right, down)
+        }
+        (Event::DoCopy { rects, dx, dy }, DoCopy(corners, right, down)) => {
+            are_of(rects.as_slice(), corners) && (*dx, *dy) == (right, down)
+        }
+        (Event::Bell, Call::Bell) => true,
+        (Event::CutText { text }, Call::CutText(given)) => text.as_slice() == given,
+        (Event::Connect { viewer }, Call::Connect(number)) => *viewer == number,
+        (Event::Hear { viewer, piece }, Hear(number, given)) => {
+            *viewer == number && piece.as_slice() == given
+        }
+        (Event::Cut { viewer }, Cut(number)) => *viewer == number,
+        (Event::Close { viewer }, Call::Close(number)) => *viewer == number,
+        _ => false,
+    }
+}
+
+/// The screen keeps the events of these calls, in order, and no others.
+fn expect_kept(rt: &impl Abort, screen: &Screen, calls: &[Call]) {
+    let kept = screen.history().expect(rt, "the events are kept");
+    assert_eq!(rt; kept.len(), calls.len());
+    for (number, (event, call)) in kept.iter().zip(calls).enumerate() {
+        assert!(rt; is_of(event, *call), "event {number} is {event:?}");
+    }
+}
+
+/// Whether something happens at a call.
+fn happens((call, want): &Row) -> bool {
+    match (call, want) {
+        (_, Refused(_)) => false,
+        (Cut(_), Bytes(bytes)) => !bytes.is_empty(),
+        _ => true,
+    }
+}
+
+// Of the second list 21 events are kept, of the third, with 12 refused and an empty cut, 8.
+#[test]
+fn accepted_events_are_kept(rt: HostRuntime) -> Result<(), Fail> {
+    let alloc = rt.alloc();
+    let lists: [(&[Row], usize); 4] = [
+        (&TWO_VIEWERS, 15),
+        (&EVERY_KIND, 21),
+        (&REFUSED, 8),
+        (&FAULT, 11),
+    ];
+    for (rows, count) in lists {
+        let events = events(alloc, rows)?;
+        let mut calls = Vec::with_capacity(alloc, rows.len())?;
+        for row in rows {
+            if happens(row) {
+                calls.push(row.0)?;
+            }
+        }
+        assert_eq!(rt; calls.len(), count);
+        let mut screen = Screen::new(alloc, four_by_one(alloc)?)?;
+        expect_answers(&rt, &mut screen, &events, rows);
+        expect_kept(&rt, &screen, &calls);
+    }
+    Ok(())
+}
+
+/// Each drawing call for a rectangle or a region, and calls that are refused or give nothing.
+fn draw(alloc: Global, screen: &mut Screen) -> Result<(), ScreenError> {
+    let places = region(alloc, rect_of([0, 0, 2, 1]))?;
+    screen.mark_rect(3, 2, 1, 0)?;
+    screen.mark_region(&places)?;
+    screen.schedule_copy_rect(3, 1, 0, 0, 1, 0)?;
+    screen.schedule_copy_region(&places, 0, 0)?;
+    screen.do_copy_rect(0, 0, 9, 9, i32::MIN, 7)?;
+    screen.do_copy_region(&places, -1, 0)?;
+    let refused = screen.paint(rect_of([0, 0, 1, 1]), &[]);
+    let _ = refused.is_err();
+    screen.connect(1)?;
+    screen.cut(1)?;
+    screen.close(1)
+}
+
+/// A rectangle is kept as it was given, a region as its canonical list; the cut of a viewer that has not opened gives nothing.
+const DRAWN: [Call; 8] = [
+    Mark(&[[3, 2, 1, 0]]),
+    Mark(&[[0, 0, 2, 1]]),
+    ScheduleCopy(&[[3, 1, 0, 0]], 1, 0),
+    ScheduleCopy(&[[0, 0, 2, 1]], 0, 0),
+    DoCopy(&[[0, 0, 9, 9]], i32::MIN, 7),
+    DoCopy(&[[0, 0, 2, 1]], -1, 0),
+    Call::Connect(1),
+    Call::Close(1),
+];
+
+#[test]
+fn drawing_calls_are_kept_as_given(rt: HostRuntime) -> Result<(), Fail> {
+    let alloc = rt.alloc();
+    let mut screen = Screen::new(alloc, four_by_one(alloc)?)?;
+    draw(alloc, &mut screen)?;
+    expect_kept(&rt, &screen, &DRAWN);
+    Ok(())
+}
+
+#[test]
+fn nothing_is_kept_where_none_is_asked(rt: HostRuntime) -> Result<(), Fail> {
+    let alloc = rt.alloc();
+    let config = Config {
+        history: History::NotKept,
+        ..four_by_one(alloc)?
+    };
+    let mut screen = Screen::new(alloc, config)?;
+    draw(alloc, &mut screen)?;
+    assert!(rt; screen.history().is_none());
+    Ok(())
+}
