@@ -5,7 +5,7 @@ use Rattle.std.specs.Map.{keys_of, values_of}
 use Rattle.std.specs.Option.{option_map, option_to_list}
 use Rattle.std.proofs.lemmas.List.{length-map, take_all, drop_all, reverse-append, reverse-reverse, length-append}
 use Rattle.std.proofs.lemmas.Option.{slice_get-map, same_Some}
-use Rattle.client_list.specs.Connected.{Connected, index_of, set_value_at, with_value, changed, IsPlace, IsListed, value_at, passed}
+use Rattle.client_list.specs.Connected.{Connected, index_of, set_value_at, with_value, changed, IsPlace, IsListed, value_at, number_at, passed}
 use Rattle.client_list.proofs.IndexLemmas.{index_within}
 
 module _ {T : Type 0} where
@@ -152,6 +152,24 @@ module _ {T X : Type 0} (g : T → X) where
       so_far
       ∙ ap (λ (o : Option ℕ). take (passed c o) (map g (values_of c.pairs))) is
       ∙ take_all (length c.places) (map g (values_of c.pairs)) (omega (arith, long, listed.as_many))
+
+-- ---- a walk that reads numbers
+
+module _ {T : Type 0} where
+  -- a step: one number more was read
+  pub number_step : (c : Connected T) (made : List ℕ) (here next : Option ℕ) (place number : ℕ) → made ≡ take (passed c here) (keys_of c.pairs) → here ≡ Some place → number_at c place ≡ Some number → passed c next ≡ index_of c.places place + 1 → made ++ number ∷ [] ≡ take (passed c next) (keys_of c.pairs)
+  number_step c made here next place number so_far is there step =
+      let i : ℕ = index_of c.places place in
+      let count : passed c next ≡ suc i = omega (arith, step) in
+      ap (λ (l : List ℕ). l ++ number ∷ []) (so_far ∙ ap (λ (o : Option ℕ). take (passed c o) (keys_of c.pairs)) is)
+      ∙ sym (take_next (keys_of c.pairs) i number (slice_get-map (λ pair. pair.0) c.pairs i ∙ there))
+      ∙ sym (ap (λ (n : ℕ). take n (keys_of c.pairs)) count)
+
+  pub numbers_end : (c : Connected T) (made : List ℕ) (here : Option ℕ) → IsListed c → made ≡ take (passed c here) (keys_of c.pairs) → here ≡ None → made ≡ keys_of c.pairs
+  numbers_end c made here listed so_far is =
+      so_far
+      ∙ ap (λ (o : Option ℕ). take (passed c o) (keys_of c.pairs)) is
+      ∙ take_all (length c.places) (keys_of c.pairs) (omega (arith, length-map c.pairs (λ e. e.0), listed.as_many))
 
 -- ---- a list that is taken from its end, turned round
 

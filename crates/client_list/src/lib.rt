@@ -5,7 +5,8 @@
 //! on the way; `proofs/Walks.antt` has what a caller's loop needs.
 #![tactic(auto)]
 
-ghost use Rattle.std.specs.Prelude.{◌≡◌, ◌+◌, ◌++◌, ◌∷◌, ◌↔◌, [], ℕ, None, Some, IsTrue, IfSome, MatchOption, MatchResult, IsOkUnless, OnOk, OnErr, length, slice_get, option_copied, ◌==◌, not};
+ghost use Rattle.std.specs.Prelude.{◌≡◌, ◌+◌, ◌++◌, ◌∷◌, ◌↔◌, [], ℕ, None, Some, IsTrue, IfSome, IfOk, MatchOption, MatchResult, IsOkUnless, OnOk, OnErr, length, slice_get, option_copied, ◌==◌, not};
+ghost use Rattle.std.specs.Map.{keys_of};
 ghost use Rattle.std.specs.Option.{option_copied_mut};
 ghost use Rattle.std.specs.Borrow.{sem};
 ghost use Rattle.std.specs.List.{remove as without_index, filter};
@@ -18,7 +19,7 @@ mod tests;
 
 use links::{Node, add, set_next, set_previous};
 use slab::Slab;
-use std::alloc::Global;
+use std::alloc::{AllocError, Global};
 use std::marker::Model;
 
 /// The place of a viewer in the list. It stays the viewer's until that viewer is removed.
@@ -149,6 +150,19 @@ impl<T> Clients<T> {
     {
         let node = &mut self.nodes[place.key];
         &mut node.value
+    }
+
+    /// The viewers' numbers, in the order in which they connected.
+    pub fn numbers(&self, alloc: Global) -> Result<Vec<u64>, AllocError>
+        ensures { IfOk result (λ numbers. numbers.items ≡ keys_of self.now.pairs) }
+    {
+        let mut numbers = Vec::with_capacity(alloc, self.len())?;
+        let mut place = self.first();
+        while let Some(at) = place {
+            numbers.push(self.number_at(at))?;
+            place = self.next(at);
+        }
+        Ok(numbers)
     }
 
     /// The place of the viewer with a number, found by a walk.

@@ -20,7 +20,7 @@ use crate::Config;
 use client_list::Clients;
 use framebuffer::destinations;
 use listed::Listed;
-use region::{Rect, Region, RegionError};
+use region::{Rect, Region};
 use std::alloc::{AllocError, Global};
 use viewer::{Notice, Prepared, Viewer};
 
@@ -76,23 +76,7 @@ fn region_of(alloc: Global, rects: &[Rect]) -> Result<Region, AllocError>
     requires { All (IsOnScreen 8192 8192) rects.now }
     ensures { IfOk result (λ region. covers region.list ≡ covers rects.now) }
 {
-    match Region::from_rects(alloc, rects) {
-        Ok(region) => Ok(region),
-        Err(RegionError::OutOfMemory) => Err(AllocError),
-        Err(RegionError::OutOfRange) => unreachable!(),
-    }
-}
-
-/// The region of a rectangle of a screen.
-fn region_of_rect(alloc: Global, rect: Rect) -> Result<Region, AllocError>
-    requires { in_range rect ≡ true }
-    ensures { IfOk result (λ region. covers region.list ≡ in_rect rect) }
-{
-    match Region::from_rect(alloc, rect) {
-        Ok(region) => Ok(region),
-        Err(RegionError::OutOfMemory) => Err(AllocError),
-        Err(RegionError::OutOfRange) => unreachable!(),
-    }
+    Region::from_rects_in_range(alloc, rects)
 }
 
 /// The marks of each viewer once the region's places are owed.
@@ -124,7 +108,7 @@ pub fn marks_with_rect(
     if viewers.is_empty() {
         return Ok(Vec::new(alloc));
     }
-    let region = region_of_rect(alloc, rect)?;
+    let region = Region::from_rect_in_range(alloc, rect)?;
     marks_with_region(alloc, viewers, &region)
 }
 

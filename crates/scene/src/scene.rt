@@ -1,7 +1,9 @@
 //! The scene: each call is one event, and leaves it standing for the list of events so far with its own behind it.
 
 ghost use Rattle.std.specs.Prelude.{◌≡◌, ◌≢◌, ◌++◌, ◌∷◌, [], List, IfSome, IfOk, OnOk, OnErr, MatchOption, MatchResult, IsOk, IsOkUnless, IsSome, None, Some, length, slice_index, is_some, ◌↔◌, ◌<◌, ◌+◌, ◌*◌};
+ghost use Rattle.std.specs.Map.{keys_of};
 ghost use Rattle.messages.specs.Reading.{fault_kept};
+ghost use Rattle.messages.specs.Server.{server_version};
 ghost use Rattle.scene.specs.declared.Config.{Config};
 ghost use Rattle.scene.specs.declared.Event.{Event};
 ghost use Rattle.scene.specs.Alone.{config_refusal, pixels_refusal, text_refusal, nothing_to_say, gives, something_to_send, told, Tells};
@@ -101,6 +103,13 @@ impl Scene {
         ensures { result ≡ length self.now.viewers }
     {
         self.viewers.len()
+    }
+
+    /// The live viewers' numbers, in the order in which they connected.
+    pub fn numbers(&self) -> Result<Listed<u64>, AllocError>
+        ensures { IfOk result (λ numbers. numbers ≡ keys_of self.now.viewers) }
+    {
+        Ok(Listed::from_vec(self.viewers.numbers(self.alloc)?))
     }
 
     /// Whether a live viewer has the number.
@@ -321,6 +330,7 @@ impl Scene {
             OnOk result (self.new ≡ scene_after config (list ++ Event.Connect number ∷ [])) }
         ensures answer { (config : Config) (list : List Event) → self.old ≡ scene_after config list →
             Tells gives result (answer_to config list (Event.Connect number)) }
+        ensures version { IfOk result (λ bytes. bytes ≡ server_version) }
         ensures refused { Refuses result (presence (viewer_at self.old number)) }
         ensures err { OnErr result (self.new ≡ self.old) }
     {

@@ -3,7 +3,9 @@
 //! changes.
 
 ghost use Rattle.std.specs.Prelude.{◌≡◌, ◌≢◌, ◌++◌, ◌∷◌, [], List, IfSome, IfOk, OnOk, OnErr, MatchOption, MatchResult, IsOk, IsOkUnless, IsSome, None, length, slice_index, is_some, option_map, ◌↔◌, ◌<◌, ◌+◌, ◌*◌};
+ghost use Rattle.std.specs.Map.{keys_of};
 ghost use Rattle.messages.specs.Reading.{fault_kept};
+ghost use Rattle.messages.specs.Server.{server_version};
 ghost use Rattle.scene.specs.declared.Config.{Config};
 ghost use Rattle.scene.specs.declared.Event.{Event};
 ghost use Rattle.scene.specs.Alone.{config_refusal, nothing_to_say, gives, something_to_send, Tells};
@@ -91,6 +93,13 @@ impl Screen {
         ensures { result ≡ length self.now.viewers }
     {
         self.scene.viewer_count()
+    }
+
+    /// The live viewers' numbers, in the order in which they connected.
+    pub fn numbers(&self) -> Result<Listed<u64>, AllocError>
+        ensures { IfOk result (λ numbers. numbers ≡ keys_of self.now.viewers) }
+    {
+        self.scene.numbers()
     }
 
     /// Whether a live viewer has the number.
@@ -358,6 +367,7 @@ impl Screen {
             OnOk result (self.new ≡ state config (list ++ Event.Connect number ∷ [])) }
         ensures answer { (config : Config) (list : List Event) → self.old ≡ state config list →
             Tells gives result (answer_to config list (Event.Connect number)) }
+        ensures version { IfOk result (λ bytes. bytes ≡ server_version) }
         ensures refused { Refuses result (presence (viewer_at self.old number)) }
         ensures err { OnErr result (self.new ≡ self.old) }
     {
