@@ -79,6 +79,14 @@ fn region_of(alloc: Global, rects: &[Rect]) -> Result<Region, AllocError>
     Region::from_rects_in_range(alloc, rects)
 }
 
+/// The region of a rectangle of a screen.
+fn region_of_rect(alloc: Global, rect: Rect) -> Result<Region, AllocError>
+    requires { in_range rect ≡ true }
+    ensures { IfOk result (λ region. covers region.list ≡ in_rect rect) }
+{
+    Region::from_rect_in_range(alloc, rect)
+}
+
 /// The marks of each viewer once the region's places are owed.
 pub fn marks_with_region(
     alloc: Global,
@@ -108,7 +116,7 @@ pub fn marks_with_rect(
     if viewers.is_empty() {
         return Ok(Vec::new(alloc));
     }
-    let region = Region::from_rect_in_range(alloc, rect)?;
+    let region = region_of_rect(alloc, rect)?;
     marks_with_region(alloc, viewers, &region)
 }
 

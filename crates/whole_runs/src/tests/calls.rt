@@ -40,13 +40,24 @@ pub(crate) fn copy(
     }
 }
 
+/// What a viewer is sent now, if anything.
+pub(crate) fn sent(screen: &mut Screen, viewer: u64) -> Result<Option<Vec<u8>>, ScreenError> {
+    match screen.cut(viewer)? {
+        Some(update) => Ok(Some(update.encode()?)),
+        None => Ok(None),
+    }
+}
+
 /// Viewer 1 is sent these bytes now, or nothing where there are none.
 fn expect_sent(rt: &impl Abort, screen: &mut Screen, bytes: &[u8]) -> Result<(), ScreenError> {
-    assert_eq!(rt; screen.pending(1)?, !bytes.is_empty());
-    match screen.cut(1)? {
-        Some(update) => assert_eq!(rt; update.encode()?.as_slice(), bytes),
-        None => assert!(rt; bytes.is_empty()),
-    }
+    let pending = screen.pending(1)?;
+    assert_eq!(rt; pending, !bytes.is_empty());
+    let given = sent(screen, 1)?;
+    assert_eq!(rt; given.is_some(), pending);
+    assert!(rt;
+        given.is_none_or(|given| given.as_slice() == bytes),
+        "{bytes:?}"
+    );
     Ok(())
 }
 
@@ -62,12 +73,15 @@ fn column(colours: [u8; 4]) -> [u8; 32] {
 /// The lower three places of that screen copied from the upper three, as an update.
 const COPIED_DOWN: &[u8] = &[0, 0, 0, 1, 0, 0, 0, 1, 0, 1, 0, 3, 0, 0, 0, 1, 0, 0, 0, 0];
 
-/// After a copy by one of the calls on a screen of 1 by 4 with the colours 1 to 4: what the viewer is sent of it, and the picture.
+/// A copy by one of the calls on a screen of 1 by 4.
+type Copied = (Copying, Rect, (i32, i32));
+
+/// After a copy of the colours 1 to 4: what viewer 1 is sent of it, and the picture.
 fn expect_copied(
     rt: &impl Abort,
     alloc: Global,
     screen: &mut Screen,
-    (copying, to, by): (Copying, Rect, (i32, i32)),
+    (copying, to, by): Copied,
     (sent, colours): (&[u8], [u8; 4]),
 ) -> Result<(), ScreenError> {
     show(screen, (1, 4), &[1, 2, 3, 4])?;
@@ -75,48 +89,61 @@ fn expect_copied(
     screen.hear(1, &request(true, 0, 0, 1, 4))?;
     expect_sent(rt, screen, sent)?;
     screen.hear(1, &request(false, 0, 0, 1, 4))?;
-    expect_sent(rt, screen, &column(colours))
+    expect_sent(rt, screen, &column(colours))?;
+    screen.close(1)
 }
 
-/// The picture after a copy down.
-fn copied_down(copying: Copying) -> [u8; 4] {
-    match copying {
-        Copying::DoRect | Copying::DoRegion => [1, 1, 2, 3],
-        Copying::ScheduleRect | Copying::ScheduleRegion => [1, 2, 3, 4],
+/// A copy down over itself, by the corners of the lower three places, or by corners beyond the screen in the wrong order.
+fn expect_copied_down(
+    rt: &impl Abort,
+    alloc: Global,
+    screen: &mut Screen,
+) -> Result<(), ScreenError> {
+    let lower = rect(0, 1, 1, 4);
+    let far = rect(i32::MAX, i32::MAX, i32::MIN, i32::MIN);
+    for (copying, to, picture) in [
+        (Copying::DoRect, lower, [1, 1, 2, 3]),
+        (Copying::DoRect, far, [1, 1, 2, 3]),
+        (Copying::DoRegion, lower, [1, 1, 2, 3]),
+        (Copying::ScheduleRect, lower, [1, 2, 3, 4]),
+        (Copying::ScheduleRect, far, [1, 2, 3, 4]),
+        (Copying::ScheduleRegion, lower, [1, 2, 3, 4]),
+    ] {
+        expect_copied(
+            rt,
+            alloc,
+            screen,
+            (copying, to, (0, 1)),
+            (COPIED_DOWN, picture),
+        )?;
     }
+    Ok(())
 }
 
-// A copy down over itself, by (0, 0), and from places that are off the screen.
-#[test]
-fn a_copy_by_each_call(rt: HostRuntime) -> Result<(), Fail> {
-    let alloc = rt.alloc();
+/// Copies by (0, 0), and from places that are off the screen.
+fn expect_unmoved(rt: &impl Abort, alloc: Global, screen: &mut Screen) -> Result<(), ScreenError> {
     for copying in COPYING {
-        let down = copied_down(copying);
-        let rows: [((i32, i32), &[u8], [u8; 4]); 5] = [
-            ((0, 1), COPIED_DOWN, down),
-            ((0, 0), &[], [1, 2, 3, 4]),
-            ((0, 9), &[], [1, 2, 3, 4]),
-            ((0, i32::MIN), &[], [1, 2, 3, 4]),
-            ((i32::MAX, 1), &[], [1, 2, 3, 4]),
-        ];
-        for (by, sent, colours) in rows {
-            let mut screen = Screen::new(alloc, config(alloc, (1, 4), 50)?)?;
+        for by in [(0, 0), (0, 9), (0, i32::MIN), (i32::MAX, 1)] {
             let made = (copying, rect(0, 1, 1, 4), by);
-            expect_copied(&rt, alloc, &mut screen, made, (sent, colours))?;
+            expect_copied(rt, alloc, screen, made, (&[], [1, 2, 3, 4]))?;
         }
     }
     Ok(())
 }
 
 #[test]
-fn corners_of_a_copy_are_swapped_and_cut(rt: HostRuntime) -> Result<(), Fail> {
+fn a_copy_down_by_each_call(rt: HostRuntime) -> Result<(), Fail> {
     let alloc = rt.alloc();
-    for copying in [Copying::DoRect, Copying::ScheduleRect] {
-        let mut screen = Screen::new(alloc, config(alloc, (1, 4), 50)?)?;
-        let far = rect(i32::MAX, i32::MAX, i32::MIN, i32::MIN);
-        let given = (COPIED_DOWN, copied_down(copying));
-        expect_copied(&rt, alloc, &mut screen, (copying, far, (0, 1)), given)?;
-    }
+    let mut screen = Screen::new(alloc, config(alloc, (1, 4), 50)?)?;
+    expect_copied_down(&rt, alloc, &mut screen)?;
+    Ok(())
+}
+
+#[test]
+fn a_copy_that_moves_nothing_marks_nothing(rt: HostRuntime) -> Result<(), Fail> {
+    let alloc = rt.alloc();
+    let mut screen = Screen::new(alloc, config(alloc, (1, 4), 50)?)?;
+    expect_unmoved(&rt, alloc, &mut screen)?;
     Ok(())
 }
 
@@ -153,23 +180,30 @@ fn marks_by_each_call(rt: HostRuntime) -> Result<(), Fail> {
     Ok(())
 }
 
-/// An update of the place (1, 0) in the colour 2. Since it was cut, all was painted anew and the viewer closed.
-fn cut_before(screen: &mut Screen) -> Result<Option<Update>, ScreenError> {
+/// An update of the place (1, 0) in the colour 2.
+fn cut_second(screen: &mut Screen) -> Result<Option<Update>, ScreenError> {
     show(screen, (2, 2), &[1, 2, 3, 4])?;
     screen.hear(1, &request(false, 1, 0, 1, 1))?;
-    let update = screen.cut(1)?;
+    screen.cut(1)
+}
+
+/// All is painted anew, and the viewer is closed.
+fn draw_over(screen: &mut Screen) -> Result<(), ScreenError> {
     screen.paint(rect(0, 0, 2, 2), &[7; 4])?;
-    screen.close(1)?;
+    screen.close(1)
+}
+
+/// That update, when the screen is gone.
+fn kept_update(alloc: Global) -> Result<Option<Update>, ScreenError> {
+    let mut screen = Screen::new(alloc, config(alloc, (2, 2), 50)?)?;
+    let update = cut_second(&mut screen)?;
+    draw_over(&mut screen)?;
     Ok(update)
 }
 
 #[test]
 fn an_update_keeps_the_colours_of_its_cut(rt: HostRuntime) -> Result<(), Fail> {
-    let alloc = rt.alloc();
-    let mut screen = Screen::new(alloc, config(alloc, (2, 2), 50)?)?;
-    let update = cut_before(&mut screen)?;
-    drop(screen);
-    let sent = update.ok_or("an update")?.encode()?;
-    assert_eq!(rt; sent.as_slice(), SECOND);
+    let update = kept_update(rt.alloc())?.ok_or("an update")?;
+    assert_eq!(rt; update.encode()?.as_slice(), SECOND);
     Ok(())
 }

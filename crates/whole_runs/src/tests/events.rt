@@ -276,35 +276,36 @@ fn runs_are_answered_byte_for_byte(rt: HostRuntime) -> Result<(), Fail> {
     Ok(())
 }
 
-/// Each event is answered so, at the second time where the first is refused for want of memory.
+/// What an event is answered, at the second time where the first is refused for want of memory.
+fn answer_at_last(rt: &impl Abort, screen: &mut Screen, event: &Event) -> Answer {
+    match screen.apply(event) {
+        Ok(answer) => answer,
+        Err(_) => screen.apply(event).expect(rt, "memory is refused once"),
+    }
+}
+
 pub(crate) fn expect_answers(rt: &impl Abort, screen: &mut Screen, events: &[Event], rows: &[Row]) {
     for (number, (event, (_, want))) in events.iter().zip(rows).enumerate() {
-        let answer = match screen.apply(event) {
-            Ok(answer) => answer,
-            Err(_) => screen.apply(event).expect(rt, "memory is refused once"),
-        };
-        expect_answer(rt, number, &answer, *want);
+        expect_answer(rt, number, &answer_at_last(rt, screen, event), *want);
     }
 }
 
-fn ready(alloc: Global, rows: &[Row]) -> Result<(Screen, Vec<Event>), ScreenError> {
+/// Each event is answered as wanted. Where memory is refused before the first, nothing is asked.
+pub(crate) fn expect_answers_at_last(rt: &impl Abort, alloc: Global, rows: &[Row]) -> Result<(), ScreenError> {
     let events = events(alloc, rows)?;
-    Ok((Screen::new(alloc, four_by_one(alloc)?)?, events))
+    let mut screen = Screen::new(alloc, four_by_one(alloc)?)?;
+    expect_answers(rt, &mut screen, &events, rows);
+    Ok(())
 }
 
-// Where memory is refused before the first event, nothing is asked.
 #[test]
 fn two_viewers_whichever_allocation_is_refused(rt: HostRuntime) {
-    if let Ok((mut screen, events)) = ready(rt.alloc(), &TWO_VIEWERS) {
-        expect_answers(&rt, &mut screen, &events, &TWO_VIEWERS);
-    }
+    let _ready = expect_answers_at_last(&rt, rt.alloc(), &TWO_VIEWERS);
 }
 
 #[test]
 fn every_kind_whichever_allocation_is_refused(rt: HostRuntime) {
-    if let Ok((mut screen, events)) = ready(rt.alloc(), &EVERY_KIND) {
-        expect_answers(&rt, &mut screen, &events, &EVERY_KIND);
-    }
+    let _ready = expect_answers_at_last(&rt, rt.alloc(), &EVERY_KIND);
 }
 
 /// What a call gives, at the second time where the first is refused.

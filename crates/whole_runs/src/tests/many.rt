@@ -4,6 +4,7 @@
 use super::{OPENING, config, rect, region, request};
 use screen::{Fault, Screen, ScreenError};
 use std::alloc::{AllocError, Global};
+use std::process::Abort;
 use std::test::Fail;
 
 /// How many viewers connect.
@@ -50,20 +51,21 @@ fn count_served(screen: &mut Screen) -> Result<u64, ScreenError> {
     Ok(served)
 }
 
-/// All viewers open, everything is drawn, and so many of them are sent it.
-fn serve_all(alloc: Global, screen: &mut Screen) -> Result<u64, ScreenError> {
+/// All viewers open, everything is drawn, and each of them is sent it.
+fn expect_served(rt: &impl Abort, alloc: Global, screen: &mut Screen) -> Result<(), ScreenError> {
     open_all(screen)?;
+    assert_eq!(rt; screen.viewer_count(), 200);
+    assert!(rt; screen.is_live(199) && !screen.is_live(200));
     draw_each(alloc, screen)?;
-    count_served(screen)
+    let served = count_served(screen)?;
+    assert_eq!(rt; served, 200);
+    Ok(())
 }
 
 #[test]
 fn two_hundred_viewers_are_served(rt: HostRuntime) -> Result<(), Fail> {
     let mut screen = new_screen(rt.alloc())?;
-    let served = serve_all(rt.alloc(), &mut screen)?;
-    assert_eq!(rt; served, 200);
-    assert_eq!(rt; screen.viewer_count(), 200);
-    assert!(rt; screen.is_live(199) && !screen.is_live(200));
+    expect_served(&rt, rt.alloc(), &mut screen)?;
     Ok(())
 }
 
@@ -76,20 +78,21 @@ fn long_piece(alloc: Global) -> Result<Vec<u8>, AllocError> {
     Ok(piece)
 }
 
-/// A viewer opens and sends a piece. Tells whether that is heard with no answer and no fault, and an update waits.
-fn is_heard(screen: &mut Screen, piece: &[u8]) -> Result<bool, ScreenError> {
+/// It is heard with no answer and no fault, and an update waits.
+fn expect_heard(rt: &impl Abort, screen: &mut Screen, piece: &[u8]) -> Result<(), ScreenError> {
     screen.connect(1)?;
     screen.hear(1, OPENING)?;
     let answer = screen.hear(1, piece)?;
-    Ok(answer.closed.is_none() && answer.bytes.is_empty() && screen.pending(1)?)
+    assert!(rt; answer.closed.is_none() && answer.bytes.is_empty());
+    assert_eq!(rt; screen.pending(1), Ok(true));
+    Ok(())
 }
 
 #[test]
 fn a_long_piece_is_heard_whole(rt: HostRuntime) -> Result<(), Fail> {
     let piece = long_piece(rt.alloc())?;
     let mut screen = new_screen(rt.alloc())?;
-    let heard = is_heard(&mut screen, &piece)?;
-    assert!(rt; heard);
+    expect_heard(&rt, &mut screen, &piece)?;
     Ok(())
 }
 
@@ -101,16 +104,21 @@ fn draw_and_fail(screen: &mut Screen) -> Result<(), ScreenError> {
     Ok(())
 }
 
-#[test]
-fn what_a_screen_holds_can_be_read(rt: HostRuntime) -> Result<(), Fail> {
-    let mut screen = new_screen(rt.alloc())?;
-    draw_and_fail(&mut screen)?;
+/// What the screen holds then.
+fn expect_held(rt: &impl Abort, screen: &Screen) {
     assert_eq!(rt; (screen.width(), screen.height()), (4, 3));
     assert_eq!(rt; screen.colour(2, 1), Some(0xff8000));
     assert_eq!(rt; screen.colour(4, 0), None);
     assert_eq!(rt; screen.fault(5), Ok(Some(Fault::BadVersion)));
     assert_eq!(rt; screen.pending(5), Ok(false));
     assert_eq!(rt; screen.pending(9), Err(ScreenError::NoViewer));
+}
+
+#[test]
+fn what_a_screen_holds_can_be_read(rt: HostRuntime) -> Result<(), Fail> {
+    let mut screen = new_screen(rt.alloc())?;
+    draw_and_fail(&mut screen)?;
+    expect_held(&rt, &screen);
     Ok(())
 }
 

@@ -3,7 +3,7 @@
 
 ghost use Rattle.std.specs.Prelude.{◌<◌};
 
-use super::calls::{COPYING, Copying, copy};
+use super::calls::{COPYING, Copying, copy, sent};
 use super::plain::{Picture, Viewer, is_in};
 use super::{OPENING, WITH_COPYRECT, config, rect, request};
 use region::Rect;
@@ -156,10 +156,10 @@ impl World {
             return Ok(false);
         };
         let pending = self.screen.pending(watcher.number)?;
-        let Some(update) = self.screen.cut(watcher.number)? else {
+        let Some(bytes) = sent(&mut self.screen, watcher.number)? else {
             return Ok(!pending && shows(&watcher.viewer, &self.picture, &watcher.asked));
         };
-        let fits = watcher.viewer.show(&update.encode()?)?;
+        let fits = watcher.viewer.show(&bytes)?;
         let clean = !self.is_wide || shows(&watcher.viewer, &self.picture, &watcher.asked);
         watcher.asked.clear();
         Ok(pending && fits && clean)
