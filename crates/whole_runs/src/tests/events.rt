@@ -291,7 +291,7 @@ pub(crate) fn expect_answers(rt: &impl Abort, screen: &mut Screen, events: &[Eve
 }
 
 /// Each event is answered as wanted. Where memory is refused before the first, nothing is asked.
-pub(crate) fn expect_answers_at_last(rt: &impl Abort, alloc: Global, rows: &[Row]) -> Result<(), ScreenError> {
+fn expect_answers_at_last(rt: &impl Abort, alloc: Global, rows: &[Row]) -> Result<(), ScreenError> {
     let events = events(alloc, rows)?;
     let mut screen = Screen::new(alloc, four_by_one(alloc)?)?;
     expect_answers(rt, &mut screen, &events, rows);

@@ -8,7 +8,7 @@ use super::events::{
 use super::region;
 use region::Rect;
 use screen::{Config, Event, History, Screen, ScreenError};
-use std::alloc::Global;
+use std::alloc::{AllocError, Global};
 use std::process::Abort;
 use std::test::Fail;
 
@@ -66,10 +66,36 @@ fn happens((call, want): &Row) -> bool {
     }
 }
 
-// Of the second list 21 events are kept, of the third, with 12 refused and an empty cut, 8.
+/// The calls of a list at which something happens.
+fn calls_of(alloc: Global, rows: &[Row]) -> Result<Vec<Call>, AllocError> {
+    let mut calls = Vec::with_capacity(alloc, rows.len())?;
+    for row in rows {
+        if happens(row) {
+            calls.push(row.0)?;
+        }
+    }
+    Ok(calls)
+}
+
+/// After a list of calls a screen keeps those at which something happens, so many.
+fn expect_kept_of(
+    rt: &impl Abort,
+    alloc: Global,
+    rows: &[Row],
+    count: usize,
+) -> Result<(), ScreenError> {
+    let calls = calls_of(alloc, rows)?;
+    assert_eq!(rt; calls.len(), count);
+    let events = events(alloc, rows)?;
+    let mut screen = Screen::new(alloc, four_by_one(alloc)?)?;
+    expect_answers(rt, &mut screen, &events, rows);
+    expect_kept(rt, &screen, &calls);
+    Ok(())
+}
+
+// Of the third list 12 calls are refused, and one cut gives nothing; so does one of the fourth.
 #[test]
 fn accepted_events_are_kept(rt: HostRuntime) -> Result<(), Fail> {
-    let alloc = rt.alloc();
     let lists: [(&[Row], usize); 4] = [
         (&TWO_VIEWERS, 15),
         (&EVERY_KIND, 21),
@@ -77,17 +103,7 @@ fn accepted_events_are_kept(rt: HostRuntime) -> Result<(), Fail> {
         (&FAULT, 11),
     ];
     for (rows, count) in lists {
-        let events = events(alloc, rows)?;
-        let mut calls = Vec::with_capacity(alloc, rows.len())?;
-        for row in rows {
-            if happens(row) {
-                calls.push(row.0)?;
-            }
-        }
-        assert_eq!(rt; calls.len(), count);
-        let mut screen = Screen::new(alloc, four_by_one(alloc)?)?;
-        expect_answers(&rt, &mut screen, &events, rows);
-        expect_kept(&rt, &screen, &calls);
+        expect_kept_of(&rt, rt.alloc(), rows, count)?;
     }
     Ok(())
 }
