@@ -1,5 +1,6 @@
 -- The answers of the check mean what they say.
 use Rattle.std.proofs.Common.{◌≡◌, ℕ, List, [], ◌∷◌, Option, None, Some, Result, Ok, Err, length, refl, ap, ◌∙◌, subst, inl, inr, ◌⊎◌}
+use Rattle.std.specs.Prelude.{IfOk, IfErr}
 use Rattle.screen.specs.declared.Config.{Config}
 use Rattle.screen.specs.declared.Event.{Event}
 use Rattle.screen.specs.History.{drawings, connects}
@@ -9,7 +10,7 @@ use Rattle.receipts.specs.declared.Sent.{Sent}
 use Rattle.receipts.specs.declared.FinishError.{FinishError}
 use Rattle.receipts.specs.declared.FinishError.TheVariants.{NotKept, Drawing, Missing, Count, Bytes, OutOfMemory}
 use Rattle.receipts.specs.Differences.{difference, same_event}
-use Rattle.receipts.specs.Checking.{without_one, stranger, first_of_two, missing, all_sent, reported, unless_missing, unless_different}
+use Rattle.receipts.specs.Checking.{without_one, stranger, first_of_two, missing, all_sent, reported, unless_missing, unless_different, checked, Gives}
 use Rattle.receipts.specs.Claims.{IsReceiptOf, IsReportOf, EachHasOne, NoneElseHas, IsFirst, IsWrong, LacksOne, IsStranger, IsRefusedFor, reports_are_true, refusals_are_true}
 use Rattle.receipts.proofs.Apart.{same_lists_from, first_difference}
 use Rattle.receipts.proofs.SameEvents.{event-Decides}
@@ -79,3 +80,10 @@ refusals_are_true-holds c es drawn rs e h = differs (difference same_event (draw
     differs (Some at) is h =
         let error : Drawing at ≡ e = cc in
         subst (λ x. IsRefusedFor c es drawn rs x) error (first_difference same_event event-Decides (drawings es) drawn at is)
+
+-- what an answer tells
+pub means : (c : Config) (es drawn : List Event) (rs : List Receipt) (result : Result Report FinishError) → reports_are_true → refusals_are_true → Gives result (checked c es drawn rs) →
+    IfOk result (λ report. IsReportOf c es drawn rs report) × IfErr result (λ e. IsRefusedFor c es drawn rs e ⊎ (e ≡ OutOfMemory))
+means c es drawn rs (Ok report) reports refusals h = (reports c es drawn rs report h, tt)
+means c es drawn rs (Err e) reports refusals (inl h) = (tt, inl (refusals c es drawn rs e h))
+means c es drawn rs (Err e) reports refusals (inr h) = (tt, inr h)

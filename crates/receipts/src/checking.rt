@@ -1,12 +1,14 @@
 //! Whether receipts are those of a history.
 
-ghost use Rattle.std.specs.Prelude.{◌≡◌, None, IfOk};
+ghost use Rattle.std.specs.Prelude.{◌≡◌, None, IfOk, IfErr, ◌⊎◌};
 ghost use Rattle.screen.specs.Alone.{config_refusal};
 ghost use Rattle.screen.specs.History.{connects};
 ghost use Rattle.receipts.specs.Checking.{missing, counts_are, sent_of, all_sent, checked, Gives};
+ghost use Rattle.receipts.specs.Claims.{IsReportOf, IsRefusedFor};
 
 use crate::comparing::{difference, drawing_difference};
 use crate::counting::{cuts_of, pieces_of, stranger, without_one};
+use crate::laws::{refusals_are_true, reports_are_true};
 use crate::replaying::bytes_of;
 use crate::{FinishError, Receipt, Report, Sent};
 use listed::Listed;
@@ -18,6 +20,24 @@ use std::alloc::{AllocError, Global};
 /// those that the viewer is sent where it is alone with the drawing calls, or begin them where its sender broke off.
 /// `OutOfMemory` may come in place of any other answer. The configuration is the screen's, and one that it accepts.
 pub fn check(
+    alloc: Global,
+    config: &Config,
+    history: &[Event],
+    drawn: &[Event],
+    receipts: &[Receipt],
+) -> Result<Report, FinishError>
+    requires { config_refusal config.now ≡ None }
+    ensures checked { Gives result (checked config.now history.now drawn.now receipts.now) }
+    ensures report { IfOk result (λ report. IsReportOf config.now history.now drawn.now receipts.now report) }
+    ensures refusal { IfErr result (λ e. IsRefusedFor config.now history.now drawn.now receipts.now e ⊎ (e ≡ FinishError.OutOfMemory)) }
+{
+    reports_are_true();
+    refusals_are_true();
+    judged(alloc, config, history, drawn, receipts)
+}
+
+/// The same, step by step: the drawing calls, the viewers, then each receipt.
+fn judged(
     alloc: Global,
     config: &Config,
     history: &[Event],

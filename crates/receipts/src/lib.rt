@@ -129,3 +129,6 @@ impl<T: Drop> From<AllocFailed<T>> for FinishError {
         FinishError::OutOfMemory
     }
 }
+
+#[cfg(test)]
+mod tests;
