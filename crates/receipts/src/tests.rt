@@ -122,3 +122,123 @@ fn a_receipt_of_nobody(rt: HostRuntime) -> Result<(), Fail> {
     );
     Ok(())
 }
+
+fn pair(alloc: Global, first: Receipt, second: Receipt) -> Result<Vec<Receipt>, AllocError> {
+    let mut receipts = Vec::new(alloc);
+    receipts.push(first)?;
+    receipts.push(second)?;
+    Ok(receipts)
+}
+
+#[test]
+fn the_last_byte_is_wrong(rt: HostRuntime) -> Result<(), Fail> {
+    let mut sent = DUE[..109].to_vec(rt.alloc())?;
+    sent.push(1)?;
+    let first = receipt(rt.alloc(), 1, &sent, Ended::Stopped)?;
+    let second = receipt(rt.alloc(), 2, DUE, Ended::Stopped)?;
+    let receipts = pair(rt.alloc(), first, second)?;
+    let error = checked(rt.alloc(), &receipts).err();
+    assert_eq!(rt; error, Some(FinishError::Bytes { viewer: 1, at: 109 }));
+    Ok(())
+}
+
+#[test]
+fn a_piece_too_many(rt: HostRuntime) -> Result<(), Fail> {
+    let mut first = receipt(rt.alloc(), 1, DUE, Ended::Stopped)?;
+    first.pieces = 2;
+    let second = receipt(rt.alloc(), 2, DUE, Ended::Stopped)?;
+    let receipts = pair(rt.alloc(), first, second)?;
+    let error = checked(rt.alloc(), &receipts).err();
+    assert_eq!(rt; error, Some(FinishError::Count { viewer: 1 }));
+    Ok(())
+}
+
+#[test]
+fn a_sender_that_was_stopped_sent_all(rt: HostRuntime) -> Result<(), Fail> {
+    let first = receipt(rt.alloc(), 1, DUE, Ended::Gate)?;
+    let second = receipt(rt.alloc(), 2, &DUE[..56], Ended::Stopped)?;
+    let receipts = pair(rt.alloc(), first, second)?;
+    let error = checked(rt.alloc(), &receipts).err();
+    assert_eq!(rt; error, Some(FinishError::Bytes { viewer: 2, at: 56 }));
+    Ok(())
+}
+
+/// A drawing call of each kind.
+fn drawing_calls(alloc: Global) -> Result<Vec<Event>, AllocError> {
+    let rect = Rect {
+        x1: 0,
+        y1: 0,
+        x2: 2,
+        y2: 1,
+    };
+    let mut calls = Vec::new(alloc);
+    let colours = Listed::from_slice(alloc, &[1, 2])?;
+    calls.push(Event::Write { rect, colours })?;
+    let colours = Listed::from_slice(alloc, &[1, 2])?;
+    calls.push(Event::Paint { rect, colours })?;
+    let rects = Listed::from_slice(alloc, &[rect])?;
+    calls.push(Event::Mark { rects })?;
+    push_copies(alloc, &mut calls, rect)?;
+    calls.push(Event::Bell)?;
+    let text = Listed::from_slice(alloc, b"hi")?;
+    calls.push(Event::CutText { text })?;
+    Ok(calls)
+}
+
+fn push_copies(alloc: Global, calls: &mut Vec<Event>, rect: Rect) -> Result<(), AllocError> {
+    let rects = Listed::from_slice(alloc, &[rect])?;
+    calls.push(Event::ScheduleCopy {
+        rects,
+        dx: 1,
+        dy: -1,
+    })?;
+    let rects = Listed::from_slice(alloc, &[rect])?;
+    calls.push(Event::DoCopy {
+        rects,
+        dx: -1,
+        dy: 1,
+    })?;
+    Ok(())
+}
+
+#[test]
+fn drawing_calls_are_compared(rt: HostRuntime) -> Result<(), Fail> {
+    let config = demo(rt.alloc())?;
+    let history = drawing_calls(rt.alloc())?;
+    let mut drawn = drawing_calls(rt.alloc())?;
+    let report = check(rt.alloc(), &config, &history, &drawn, &[])?;
+    assert_eq!(rt; report.events, 7);
+    assert!(rt; report.viewers.is_empty());
+    let _ = drawn.pop();
+    let error = check(rt.alloc(), &config, &history, &drawn, &[]).err();
+    assert_eq!(rt; error, Some(FinishError::Drawing { at: 6 }));
+    Ok(())
+}
+
+#[test]
+fn what_was_drawn_is_not_there(rt: HostRuntime) -> Result<(), Fail> {
+    let config = demo(rt.alloc())?;
+    let mut drawn = Vec::new(rt.alloc());
+    drawn.push(Event::Bell)?;
+    let error = check(rt.alloc(), &config, &[], &drawn, &[]).err();
+    assert_eq!(rt; error, Some(FinishError::Drawing { at: 0 }));
+    Ok(())
+}
+
+#[test]
+fn errors_are_named(rt: HostRuntime) -> Result<(), Fail> {
+    let (viewer, at) = (1, 2);
+    let errors = [
+        (FinishError::NotKept, "NotKept"),
+        (FinishError::Drawing { at }, "Drawing"),
+        (FinishError::Missing { viewer }, "Missing"),
+        (FinishError::Count { viewer }, "Count"),
+        (FinishError::Bytes { viewer, at }, "Bytes"),
+        (FinishError::OutOfMemory, "OutOfMemory"),
+    ];
+    for (error, name) in errors {
+        let text = format!(in rt.alloc(); "{error}")?;
+        assert_eq!(rt; text.as_str(), name);
+    }
+    Ok(())
+}
