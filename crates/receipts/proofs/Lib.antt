@@ -1,0 +1,9 @@
+mod Differing
+mod Apart
+mod SameEvents
+mod Missed
+mod Reading
+mod Replayed
+mod Joined
+mod Told
+mod Means

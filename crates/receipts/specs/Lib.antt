@@ -1,0 +1,5 @@
+pub mod Differences
+pub mod Histories
+pub mod Checking
+pub mod Claims
+pub mod Examples
