@@ -12,9 +12,9 @@ use Rattle.scene.specs.declared.Event.{Event}
 use Rattle.scene.specs.declared.Event.TheVariants.{Write, Paint, Mark, ScheduleCopy, DoCopy, Bell, CutText, Connect, Hear, Cut, Close}
 use Rattle.scene.specs.declared.Answer.{Answer}
 use Rattle.scene.specs.Alone.{One, step, own_step, draw_step, after, owner_of, drawing_refusal, empty_screen}
-use Rattle.scene.specs.Answers.{own, is_owner, is_drawing, answer_to, refused_or_nothing, picture_of, viewer_of, live_from, after_arrival, entry_of, SceneState, scene_after}
+use Rattle.scene.specs.Answers.{own, is_drawing, answer_to, refused_or_nothing, picture_of, viewer_of, live_from, after_arrival, entry_of, SceneState, scene_after}
 use Rattle.scene.specs.History.{has_happened, accepted_after, accepted, accepted_is_enough, accepted_happens_again}
-use Rattle.scene.proofs.Steps.{after-append, live-append, own-drawing, drawings-drawing, arrival-drawing, filter-append}
+use Rattle.scene.proofs.Steps.{after-append, live-append, own-drawing, drawings-drawing, filter-append}
 use Rattle.scene.proofs.Owners.{one_of, own-hit, own-miss, answer-hit, there-is}
 use Rattle.scene.proofs.Unchanged.{step_nothing}
 

@@ -1,9 +1,8 @@
 -- The refusal that is due by what a screen holds is the one that is answered.
-use Rattle.std.proofs.Common.{◌≡◌, ◌≢◌, ℕ, Bool, true, false, cond, List, [], Option, Some, None, Result, Ok, Err, refl, sym, ◌∙◌, ap, OnErr, IfOk}
+use Rattle.std.proofs.Common.{◌≡◌, ◌≢◌, ℕ, Bool, true, false, cond, List, Option, Some, None, Result, Ok, Err, refl, sym, ◌∙◌, ap, OnErr, IfOk}
 use Rattle.std.specs.Prelude.{MatchOption, MatchResult, IsOk, length, nat_abs, not, nat_lt, ◌==◌, ◌*◌, ◌-ℤ◌}
 use Rattle.std.specs.Option.{option_map}
 use Rattle.std.specs.declared.alloc.AllocError.{AllocError}
-use Rattle.region.specs.declared.Rect.{Rect}
 use Rattle.viewer.specs.Viewer.{Viewer, KeptViewer, kept}
 use Rattle.scene.specs.declared.Config.{Config}
 use Rattle.scene.specs.declared.ScreenError.{ScreenError}
@@ -11,7 +10,7 @@ use Rattle.scene.specs.declared.ScreenError.TheVariants as refusals
 use Rattle.scene.specs.declared.Event.{Event}
 use Rattle.scene.specs.declared.Event.TheVariants.{Write, Paint, Mark, ScheduleCopy, DoCopy, Bell, CutText, Connect, Hear, Cut, Close}
 use Rattle.scene.specs.declared.Answer.{Answer}
-use Rattle.scene.specs.Alone.{One, own_step, drawing_refusal, settled, is_within}
+use Rattle.scene.specs.Alone.{own_step, drawing_refusal, settled, is_within}
 use Rattle.scene.specs.Answers.{viewer_of, entry_of, refused_or_nothing, answer_to, SceneState, scene_after}
 use Rattle.scene.specs.Refusals.{viewer_at, absence, presence, refusal, Refuses}
 use Rattle.scene.proofs.Owners.{one_of, answer-hit, state-find}

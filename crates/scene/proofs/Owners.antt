@@ -10,7 +10,7 @@ use Rattle.scene.specs.declared.Event.{Event}
 use Rattle.scene.specs.declared.Event.TheVariants.{Write, Paint, Mark, ScheduleCopy, DoCopy, Bell, CutText, Connect, Hear, Cut, Close}
 use Rattle.messages.specs.declared.Item.{Item}
 use Rattle.messages.specs.declared.Item.TheVariants as item
-use Rattle.viewer.specs.Viewer.{Viewer, is_open_viewer, after_item, kept, KeptViewer}
+use Rattle.viewer.specs.Viewer.{Viewer, is_open_viewer, after_item, kept}
 use Rattle.scene.specs.Alone.{One, step, own_step, draw_step, after, answers_from, alone, owner_of, drawing_refusal, drawn, shown_drawing, hearing, empty_screen, nothing_to_say, refuses}
 use Rattle.viewer.specs.Hearing.{after_items}
 use Rattle.scene.specs.Answers.{own, is_owner, is_drawing, last_of, answer_to, picture_of, viewer_of, live_from, after_arrival, entry_of, SceneState, scene_after}

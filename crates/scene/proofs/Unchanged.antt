@@ -9,7 +9,7 @@ use Rattle.scene.specs.declared.Event.TheVariants.{Write, Paint, Mark, ScheduleC
 use Rattle.viewer.specs.declared.notices.Notice.{Notice}
 use Rattle.viewer.specs.declared.notices.Notice.TheVariants as notice
 use Rattle.viewer.specs.Viewer.{Viewer, is_open_viewer}
-use Rattle.viewer.specs.Sending.{notice_bytes, update_bytes, with_update, sending}
+use Rattle.viewer.specs.Sending.{notice_bytes, update_bytes, with_update}
 use Rattle.scene.specs.Alone.{One, step, own_step, draw_step, drawing_refusal, some_bytes}
 use Rattle.scene.specs.History.{has_happened}
 

@@ -1,5 +1,5 @@
 -- The events that a screen keeps, as it holds them.
-use Rattle.std.specs.Prelude.{ℕ, ◌<◌, List, Option, Some, None, option_map, vec_capacity, vec_len}
+use Rattle.std.specs.Prelude.{◌<◌, List, Option, Some, None, option_map, vec_capacity, vec_len}
 use Rattle.std.specs.Global.{Vec}
 use Rattle.scene.specs.declared.Event.{Event}
 

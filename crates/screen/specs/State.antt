@@ -1,5 +1,5 @@
 -- What a screen holds after a list of events: a scene, and the events that it keeps.
-use Rattle.std.specs.Prelude.{◌≡◌, ℕ, List, [], Option, Some, None}
+use Rattle.std.specs.Prelude.{◌≡◌, ℕ, List, Option, Some, None}
 use Rattle.messages.specs.Reading.{Rest}
 use Rattle.viewer.specs.Viewer.{Viewer, KeptViewer}
 use Rattle.scene.specs.declared.Config.{Config}

@@ -1,4 +1,4 @@
-use Rattle.std.proofs.Common.{◌≡◌, ℕ, Option, subst, ◌∙◌}
+use Rattle.std.proofs.Common.{ℕ, Option, subst, ◌∙◌}
 use Rattle.std.specs.Prelude.{IfSome}
 use Rattle.client_list.specs.Connected.{IsPlace}
 use Rattle.client_list.proofs.Walks.{number_step, numbers_end, walk_falls}

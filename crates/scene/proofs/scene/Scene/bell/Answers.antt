@@ -1,4 +1,4 @@
-use Rattle.std.proofs.Common.{ap, ◌∙◌, map, List, refl}
+use Rattle.std.proofs.Common.{ap, ◌∙◌, List, refl}
 use Rattle.scene.specs.declared.Event.TheVariants.{Bell}
 use Rattle.viewer.specs.declared.notices.Notice.TheVariants as notice
 use Rattle.scene.specs.Answers.{SceneState}

@@ -1,7 +1,4 @@
-use Rattle.std.proofs.Common.{◌≡◌, ℕ, ◌≤◌, false, cond, ap, ◌∙◌, map, length, List, Some, None, refl, arith}
-use Rattle.std.specs.Prelude.{nat_lt, if◌then◌else◌}
-use Rattle.std.proofs.lemmas.Bool.Decides.{nat_tests}
-use Rattle.scene.specs.declared.ScreenError.TheVariants as refusals
+use Rattle.std.proofs.Common.{ap, ◌∙◌, List, refl}
 use Rattle.scene.specs.declared.Event.TheVariants.{CutText}
 use Rattle.viewer.specs.declared.notices.Notice.TheVariants as notice
 use Rattle.scene.specs.Answers.{SceneState}

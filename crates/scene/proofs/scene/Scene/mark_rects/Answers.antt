@@ -1,4 +1,4 @@
-use Rattle.std.proofs.Common.{ℕ, ap, ◌∙◌, map, List, refl}
+use Rattle.std.proofs.Common.{ℕ, ap, ◌∙◌, List, refl}
 use Rattle.scene.specs.declared.Event.TheVariants.{Mark}
 use Rattle.viewer.specs.Viewer.{KeptViewer}
 use Rattle.scene.specs.Answers.{SceneState}

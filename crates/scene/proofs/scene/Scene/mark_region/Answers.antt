@@ -1,4 +1,4 @@
-use Rattle.std.proofs.Common.{ℕ, sym, ap, ◌∙◌, map, List, refl}
+use Rattle.std.proofs.Common.{ℕ, sym, ap, ◌∙◌, List, refl}
 use Rattle.region.specs.Region.{covers}
 use Rattle.scene.specs.declared.Event.TheVariants.{Mark}
 use Rattle.viewer.specs.Viewer.{KeptViewer, viewer_marked}

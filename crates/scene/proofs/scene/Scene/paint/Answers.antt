@@ -1,4 +1,4 @@
-use Rattle.std.proofs.Common.{ℕ, sym, ap, ◌∙◌, map, List, refl}
+use Rattle.std.proofs.Common.{ℕ, sym, ap, ◌∙◌, List, refl}
 use Rattle.scene.specs.declared.Event.TheVariants.{Paint}
 use Rattle.viewer.specs.Viewer.{KeptViewer}
 use Rattle.region.specs.Region.{in_rect}

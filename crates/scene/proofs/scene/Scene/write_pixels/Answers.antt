@@ -1,4 +1,4 @@
-use Rattle.std.proofs.Common.{sym, ap, ◌∙◌, refl}
+use Rattle.std.proofs.Common.{sym, ◌∙◌, refl}
 use Rattle.scene.specs.declared.Event.TheVariants.{Write}
 use Rattle.framebuffer.specs.Blocks.{rect_of}
 use Rattle.scene.proofs.Framed.{written-on}

@@ -1,15 +1,12 @@
-use Rattle.std.proofs.Common.{◌≡◌, ◌∷◌, ◌++◌, [], List, false, Option, None, OnOk, Result, Ok, Err, refl, sym, ◌∙◌, ap}
+use Rattle.std.proofs.Common.{◌≡◌, ◌∷◌, ◌++◌, [], List, false, OnOk, Result, Ok, Err, refl, sym, ◌∙◌, ap}
 use Rattle.std.specs.Prelude.{option_map, is_none}
 use Rattle.std.specs.declared.alloc.AllocError.{AllocError}
-use Rattle.scene.specs.declared.Config.{Config}
-use Rattle.scene.specs.declared.ScreenError.{ScreenError}
 use Rattle.scene.specs.declared.Event.{Event}
 use Rattle.scene.specs.declared.Answer.{Answer}
 use Rattle.scene.specs.Refusals.{refusal}
-use Rattle.scene.specs.Answers.{answer_to, SceneState, scene_after}
+use Rattle.scene.specs.Answers.{answer_to}
 use Rattle.scene.specs.History.{has_happened}
 use Rattle.screen.specs.Kept.{items_of}
-use Rattle.screen.specs.State.{with_history, state}
 use Rattle.screen.proofs.GoesOn.{goes_on, stays, scene-is, refused-unhappened, check-failed, check-passed, answers-memory}
 use Rattle.screen.proofs.screen.Screen.apply.Goals as goal
 

@@ -1,9 +1,8 @@
-use Rattle.std.proofs.Common.{◌≡◌, ◌∷◌, ◌++◌, [], List, Some, None, refl, sym, ◌∙◌, ap}
+use Rattle.std.proofs.Common.{◌∷◌, ◌++◌, [], List, refl, sym, ◌∙◌, ap}
 use Rattle.std.specs.Prelude.{option_map}
 use Rattle.scene.specs.declared.Event.{Event}
 use Rattle.scene.specs.declared.Event.TheVariants.{Connect}
-use Rattle.scene.specs.declared.Answer.{Answer}
-use Rattle.scene.specs.Alone.{nothing_to_say, gives}
+use Rattle.scene.specs.Alone.{gives}
 use Rattle.scene.specs.Refusals.{refusal}
 use Rattle.scene.specs.Answers.{answer_to}
 use Rattle.screen.specs.Kept.{items_of}

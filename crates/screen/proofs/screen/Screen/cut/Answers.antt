@@ -1,4 +1,4 @@
-use Rattle.std.proofs.Common.{◌≡◌, ◌≢◌, ℕ, ◌∷◌, ◌++◌, [], List, Option, Some, None, refl, sym, subst, ◌∙◌, ap}
+use Rattle.std.proofs.Common.{◌≢◌, ℕ, ◌∷◌, ◌++◌, [], List, Option, refl, sym, subst, ◌∙◌, ap}
 use Rattle.std.specs.Prelude.{option_map, IfSome}
 use Rattle.scene.specs.declared.Event.{Event}
 use Rattle.scene.specs.declared.Event.TheVariants.{Cut}

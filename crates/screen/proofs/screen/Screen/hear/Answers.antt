@@ -1,9 +1,7 @@
-use Rattle.std.proofs.Common.{◌≡◌, ◌∷◌, ◌++◌, [], List, Some, None, refl, sym, ◌∙◌, ap}
+use Rattle.std.proofs.Common.{◌∷◌, ◌++◌, [], List, sym, ◌∙◌, ap}
 use Rattle.std.specs.Prelude.{option_map}
 use Rattle.scene.specs.declared.Event.{Event}
 use Rattle.scene.specs.declared.Event.TheVariants.{Hear}
-use Rattle.scene.specs.declared.Answer.{Answer}
-use Rattle.scene.specs.Alone.{nothing_to_say, gives}
 use Rattle.scene.specs.Refusals.{refusal}
 use Rattle.scene.specs.Answers.{answer_to}
 use Rattle.screen.specs.Kept.{items_of}

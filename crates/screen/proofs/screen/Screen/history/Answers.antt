@@ -1,5 +1,4 @@
 use Rattle.std.proofs.Common.{◌≡◌, List, ◌∙◌, ap}
-use Rattle.std.specs.Prelude.{option_map}
 use Rattle.scene.specs.declared.Event.{Event}
 use Rattle.screen.specs.State.{State, state}
 use Rattle.screen.proofs.GoesOn.{kept-stands, if-some-mapped}

@@ -1,12 +1,11 @@
-use Rattle.std.proofs.Common.{◌≡◌, ◌∷◌, ◌++◌, [], List, Some, None, refl, sym, ◌∙◌, ap}
+use Rattle.std.proofs.Common.{◌∷◌, ◌++◌, [], List, ◌∙◌, ap}
 use Rattle.std.specs.Prelude.{option_map}
 use Rattle.scene.specs.declared.Event.{Event}
 use Rattle.scene.specs.declared.Event.TheVariants.{Mark}
-use Rattle.scene.specs.declared.Answer.{Answer}
-use Rattle.scene.specs.Alone.{nothing_to_say, gives}
+use Rattle.scene.specs.Alone.{nothing_to_say}
 use Rattle.scene.specs.Answers.{answer_to}
 use Rattle.screen.specs.Kept.{items_of}
-use Rattle.screen.proofs.GoesOn.{goes_on, scene-is, told-unrefused, tells-error, tells-memory}
+use Rattle.screen.proofs.GoesOn.{goes_on, scene-is, told-unrefused}
 use Rattle.screen.proofs.screen.Screen.mark_rects.Goals as goal
 
 pub returns-clause-step : goal.returns-clause-step

@@ -1,4 +1,4 @@
-use Rattle.std.proofs.Common.{◌≡◌, ◌∷◌, ◌++◌, [], List, ◌∙◌, ap}
+use Rattle.std.proofs.Common.{◌∷◌, ◌++◌, [], List, ◌∙◌, ap}
 use Rattle.std.specs.Prelude.{option_map}
 use Rattle.scene.specs.declared.Event.{Event}
 use Rattle.scene.specs.declared.Event.TheVariants.{Paint}
