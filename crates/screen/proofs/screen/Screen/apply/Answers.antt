@@ -24,7 +24,7 @@ returns-then-is_err-clause-step c = λ config list h.
     let due : (answer_to config list event).refused ≡ refusal c.self.inside.scene event = c.refusals_are_due.ensures config list event ∙ sym (ap (λ s. refusal s event) scene) in
     on-ok c.apply.result
     (λ now. stays config list event c.self.inside.scene c.apply.new.self was was is now
-      (refused-unhappened event (answer_to config list event) (ap (λ o. is_none o) due ∙ found)) refl)
+    (refused-unhappened event (answer_to config list event) (ap (λ o. is_none o) due ∙ found)) refl)
     (c.apply.ensures.step config list scene)
 
 pub returns-in_err-make_room-clause-answer : goal.returns-in_err-make_room-clause-answer
