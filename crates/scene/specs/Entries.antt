@@ -1,8 +1,10 @@
 -- What drawing calls make of a screen's viewers.
-use Rattle.std.specs.Prelude.{ℕ, Bool, List, [], ◌∷◌, ℤ}
+use Rattle.std.specs.Prelude.{ℕ, Bool, if◌then◌else◌, List, [], ◌∷◌, ℤ, Option, Some, None}
 use Rattle.messages.specs.Reading.{is_open_rest}
 use Rattle.copy_schedule.specs.Marks.{Marks, marked, copied_by}
 use Rattle.viewer.specs.declared.notices.Notice.{Notice}
+use Rattle.viewer.specs.declared.notices.Notice.TheVariants as notice
+use Rattle.viewer.specs.Given.{keeps_notices}
 use Rattle.viewer.specs.Viewer.{KeptViewer, noticed}
 
 -- a viewer's marks once a set of places is owed
@@ -26,3 +28,7 @@ with_marks_of (pair ∷ pairs) (m ∷ all) = (pair.0, record pair.1 { marks = m 
 -- a viewer that keeps a notice, where it is open
 abbrev pub viewer_noticed : Notice → KeptViewer → KeptViewer
 viewer_noticed notice v = noticed notice (is_open_rest v.heard) v
+
+-- a text for a viewer, if it would keep one
+abbrev pub text_for : List ℕ → KeptViewer → Option Notice
+text_for text v = if keeps_notices v then Some (notice.CutText text) else None

@@ -3,7 +3,7 @@
 //! A drawing call prepares the new marks of every viewer first, then changes the picture, and then puts the marks in place by
 //! steps that take no memory. Of its places it makes one region, for all viewers, and none where there is no viewer.
 
-ghost use Rattle.std.specs.Prelude.{◌≡◌, ◌≢◌, ◌⊎◌, true, false, pos, ◌≤◌, ◌^◌, [], All, map, length, replicate, IfOk};
+ghost use Rattle.std.specs.Prelude.{◌≡◌, ◌≢◌, ◌⊎◌, true, false, pos, ◌≤◌, ◌^◌, [], All, map, length, IfOk};
 ghost use Rattle.std.specs.Map.{values_of};
 ghost use Rattle.client_list.specs.Connected.{changed};
 ghost use Rattle.region.specs.Region.{covers, in_rect};
@@ -14,7 +14,7 @@ ghost use Rattle.framebuffer.specs.Picture.{union_of};
 ghost use Rattle.viewer.specs.declared.notices.Notice.{Notice};
 ghost use Rattle.viewer.specs.Short.{IsShort};
 ghost use Rattle.scene.specs.Held.{IsSized};
-ghost use Rattle.scene.specs.Entries.{viewer_noticed, marks_owed, marks_copied, with_marks_of};
+ghost use Rattle.scene.specs.Entries.{viewer_noticed, text_for, marks_owed, marks_copied, with_marks_of};
 
 use crate::Config;
 use client_list::Clients;
@@ -35,29 +35,56 @@ pub fn ring_all(viewers: &mut Clients<Viewer>)
     }
 }
 
-/// So many notices of one text.
-pub fn texts(alloc: Global, text: &[u8], count: usize) -> Result<Vec<Notice>, AllocError>
-    ensures { IfOk result (λ notices. notices.items ≡ replicate count (Notice.CutText text.now)) }
+/// A text for a viewer, if it would keep one.
+fn text_for(alloc: Global, viewer: &Viewer, text: &[u8]) -> Result<Option<Notice>, AllocError>
+    ensures { IfOk result (λ notice. notice ≡ text_for text.now viewer.now) }
 {
-    let mut notices = Vec::with_capacity(alloc, count)?;
-    while notices.len() < count {
-        let copy = text.to_vec(alloc)?;
-        notices.push(Notice::CutText(Listed::from_vec(copy)))?;
+    if viewer.keeps_notices() {
+        Ok(Some(Notice::CutText(Listed::from_slice(alloc, text)?)))
+    } else {
+        Ok(None)
+    }
+}
+
+/// A text for each viewer that would keep one.
+pub fn texts(
+    alloc: Global,
+    viewers: &Clients<Viewer>,
+    text: &[u8],
+) -> Result<Vec<Option<Notice>>, AllocError>
+    ensures { IfOk result (λ notices. notices.items ≡ map (text_for text.now) (values_of viewers.now.pairs)) }
+{
+    let mut notices = Vec::with_capacity(alloc, viewers.len())?;
+    let mut place = viewers.first();
+    while let Some(at) = place {
+        notices.push(text_for(alloc, viewers.at(at), text)?)?;
+        place = viewers.next(at);
     }
     Ok(notices)
 }
 
-/// Each viewer keeps one of the texts, where it is open.
-pub fn tell_all(viewers: &mut Clients<Viewer>, text: &[u8], notices: Vec<Notice>)
+/// A viewer keeps the text that was made for it.
+fn tell(viewer: &mut Viewer, text: &[u8], notice: Option<Notice>)
     requires short { length text.now ≤ 2 ^ 16 }
-    requires texts { notices.items ≡ replicate (length viewers.old.pairs) (Notice.CutText text.now) }
+    requires text { notice ≡ text_for text.now viewer.old }
+    ensures { viewer.new ≡ viewer_noticed (Notice.CutText text.now) viewer.old }
+{
+    if let Some(notice) = notice {
+        viewer.keep(notice);
+    }
+}
+
+/// Each viewer keeps its text, the first viewer the first. This takes no memory.
+pub fn tell_all(viewers: &mut Clients<Viewer>, text: &[u8], mut notices: Vec<Option<Notice>>)
+    requires short { length text.now ≤ 2 ^ 16 }
+    requires texts { notices.items ≡ map (text_for text.now) (values_of viewers.old.pairs) }
     ensures { viewers.new.pairs ≡ changed (viewer_noticed (Notice.CutText text.now)) viewers.old.pairs }
 {
-    let mut notices = notices;
+    notices.reverse();
     let mut place = viewers.first();
     while let Some(at) = place {
         if let Some(notice) = notices.pop() {
-            viewers.at_mut(at).keep(notice);
+            tell(viewers.at_mut(at), text, notice);
         }
         place = viewers.next(at);
     }

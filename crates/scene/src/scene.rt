@@ -318,7 +318,7 @@ impl Scene {
         ensures err { OnErr result (self.new ≡ self.old) }
     {
         checked_text(text)?;
-        let notices = texts(self.alloc, text, self.viewers.len())?;
+        let notices = texts(self.alloc, &self.viewers, text)?;
         tell_all(&mut self.viewers, text, notices);
         Ok(())
     }

@@ -1,7 +1,8 @@
--- What a call that cuts an update gives.
-use Rattle.std.specs.Prelude.{ℕ, List, [], Option, Some, None}
+-- What a call that cuts an update gives, and what a viewer takes.
+use Rattle.std.specs.Prelude.{ℕ, Bool, ◌&&◌, nat_lt, length, List, [], Option, Some, None}
+use Rattle.messages.specs.Reading.{is_open_rest}
 use Rattle.copy_schedule.specs.Marks.{Marks, Sent}
-use Rattle.viewer.specs.Viewer.{Viewer}
+use Rattle.viewer.specs.Viewer.{Viewer, KeptViewer}
 use Rattle.viewer.specs.Sending.{update_bytes}
 
 -- the bytes of an update, or none
@@ -22,3 +23,7 @@ sent_bytes w h picture v (Some s) = update_bytes w h picture v s
 abbrev pub sent_marks : Marks → Option Sent → Marks
 sent_marks m None = m
 sent_marks m (Some s) = s.after
+
+-- whether a viewer would keep a notice: it is open, and fewer than 64 wait
+abbrev pub keeps_notices : KeptViewer → Bool
+keeps_notices v = is_open_rest v.heard && nat_lt (length v.notices) 64

@@ -1,6 +1,6 @@
 //! The notices that wait for a viewer, in the order in which they were made.
 
-ghost use Rattle.std.specs.Prelude.{◌≡◌, ◌++◌, [], All, IfOk, OnOk, OnErr, flat_map};
+ghost use Rattle.std.specs.Prelude.{◌≡◌, ◌++◌, [], All, IfOk, OnOk, OnErr, flat_map, nat_lt, length};
 ghost use Rattle.viewer.specs.Viewer.{none_wait, with_notice};
 ghost use Rattle.viewer.specs.Sending.{notice_bytes};
 ghost use Rattle.viewer.specs.Short.{IsShort};
@@ -59,6 +59,13 @@ impl Notices {
         if self.waiting.len() < MOST {
             self.waiting.push_reserved(notice);
         }
+    }
+
+    /// Whether a further notice would be kept: fewer than 64 wait.
+    pub fn has_room(&self) -> bool
+        ensures { result ≡ nat_lt (length self.now) 64 }
+    {
+        self.waiting.len() < MOST
     }
 
     /// Whether none waits.

@@ -7,7 +7,7 @@ ghost use Rattle.copy_schedule.specs.Marks.{marked, copied_by, pending, IsCutTo}
 ghost use Rattle.viewer.specs.Viewer.{none_wait, noticed, new_viewer, kept};
 ghost use Rattle.viewer.specs.Hearing.{after_items, heard_reply};
 ghost use Rattle.viewer.specs.Sending.{sending_kept};
-ghost use Rattle.viewer.specs.Given.{bytes_given};
+ghost use Rattle.viewer.specs.Given.{bytes_given, keeps_notices};
 ghost use Rattle.viewer.specs.Short.{IsShort};
 
 use crate::Reply;
@@ -113,6 +113,13 @@ impl Viewer {
         ensures err { OnErr result (self.new ≡ self.old) }
     {
         cut_bytes_in(self.alloc, picture, limit, &mut self.standing)
+    }
+
+    /// Whether the viewer would keep a notice now.
+    pub fn keeps_notices(&self) -> bool
+        ensures { result ≡ keeps_notices self.now }
+    {
+        self.standing.ear.is_open() && self.standing.notices.has_room()
     }
 
     /// The viewer keeps a notice for its next update, where it is open and fewer than 64 wait. This takes no memory.

@@ -1,34 +1,44 @@
-use Rattle.std.proofs.Common.{◌≡◌, ◌<◌, ℕ, ◌-◌, length, replicate, sym, ap, ◌∙◌, arith, rules, Option}
-use Rattle.client_list.specs.Connected.{Connected, IsPlace, index_of, passed}
-use Rattle.client_list.proofs.IndexLemmas.{index_within}
-use Rattle.client_list.proofs.Walks.{change_step, walk_place}
+use Rattle.std.proofs.Common.{◌≡◌, ℕ, ◌+◌, List, map, length, drop, reverse, Option, Some, sym, ap, ◌∙◌, arith}
+use Rattle.std.specs.Map.{values_of}
+use Rattle.std.proofs.lemmas.Option.{same_Some, none-some}
+use Rattle.client_list.specs.Connected.{Connected}
+use Rattle.client_list.proofs.Walks.{change_step, change_end, take_step, keys-changed}
 use Rattle.viewer.specs.declared.notices.Notice.{Notice}
 use Rattle.viewer.specs.declared.notices.Notice.TheVariants as notice
 use Rattle.viewer.specs.Viewer.{KeptViewer}
-use Rattle.scene.specs.Entries.{viewer_noticed}
-use Rattle.scene.proofs.LoopLemmas.{replicate-taken, replicate-some}
+use Rattle.scene.specs.Entries.{viewer_noticed, text_for}
 use Rattle.scene.proofs.drawing.tell_all.Goals as goal
 use Rattle.scene.proofs.drawing.tell_all.Goals.{in-Some-pop, in_default-pop}
 
+pub tell-requires-clause-text : goal.tell-requires-clause-text
+tell-requires-clause-text c =
+    let text = c.args.text.now in
+    let f : KeptViewer → KeptViewer = viewer_noticed (notice.CutText text) in
+    let start : Connected KeptViewer = c.args.viewers.now in
+    let taken = take_step (text_for text) start _ c.loop-place.viewers c.loop-place.place c.in-Some.at c.loop-place.notices.items c.pop.new.self.items c.pop.result (keys-changed f start.pairs) c.first-place.ensures.listed c.loop-place.invariant.walk c.in-Some.is c.loop-place.invariant.left c.pop.ensures.items
+    (λ some. c.pop.ensures.variant.1 (omega (arith, some))) in
+    same_Some c.in-Some-pop.notice (text_for text taken.value) (sym c.in-Some-pop.is ∙ taken.next)
+    ∙ ap (text_for text) (same_Some taken.value c.at_mut.result.now (sym taken.was ∙ c.at_mut.ensures.value))
+
 pub loop-place-preserved : goal.loop-place-preserved
 loop-place-preserved c =
-    let text : Notice = notice.CutText c.args.text.now in
+    let text = c.args.text.now in
+    let f : KeptViewer → KeptViewer = viewer_noticed (notice.CutText text) in
     let start : Connected KeptViewer = c.args.viewers.now in
     let now : Connected KeptViewer = c.loop-place.viewers in
-    let n : ℕ = index_of now.places c.in-Some.at in
-    let there : IsPlace now c.in-Some.at = walk_place now c.loop-place.place c.in-Some.at c.in-Some.is c.loop-place.invariant.walk.place in
-    let same : length now.places ≡ length start.places = ap length c.loop-place.invariant.walk.places in
-    let below : n < length start.places = omega (arith, index_within now.places c.in-Some.at there, same) in
-    let left = c.loop-place.invariant.left ∙ ap (λ (o : Option ℕ). replicate (length start.places - passed now o) text) c.in-Some.is in
+    let taken = take_step (text_for text) start _ now c.loop-place.place c.in-Some.at c.loop-place.notices.items c.pop.new.self.items c.pop.result (keys-changed f start.pairs) c.first-place.ensures.listed c.loop-place.invariant.walk c.in-Some.is c.loop-place.invariant.left c.pop.ensures.items
+    (λ some. c.pop.ensures.variant.1 (omega (arith, some))) in
     elim c.match-pop.branch [
       | in-Some-pop w ↦
-          let taken = replicate-taken (length start.places) n text w.in-Some-pop.notice c.loop-place.notices.items c.pop.new.self.items below left w.in-Some-pop.ensures.items in
           let step = rw w.viewers-is at c.next-place.ensures.passed in
           rw w.viewers-is (record {
             walk =
-                change_step (viewer_noticed text) start now c.loop-place.place c.next-place.result c.in-Some.at w.at_mut.result.now w.keep.new.self c.loop-place.invariant.walk c.in-Some.is w.at_mut.ensures.value
-                (w.keep.ensures ∙ ap (λ (t : Notice). viewer_noticed t w.at_mut.result.now) taken.1) (rw w.viewers-is at c.next-place.ensures.place) step;
-            left = taken.0 ∙ sym (ap (λ (m : ℕ). replicate (length start.places - m) text) step);
+                change_step f start now c.loop-place.place c.next-place.result c.in-Some.at w.at_mut.result.now w.tell.new.viewer c.loop-place.invariant.walk c.in-Some.is w.at_mut.ensures.value
+                w.tell.ensures (rw w.viewers-is at c.next-place.ensures.place) step;
+            left = taken.left ∙ sym (ap (λ (m : ℕ). reverse (drop m (map (text_for text) (values_of start.pairs)))) step);
           })
-      | in_default-pop w ↦ absurd (replicate-some (length start.places) n text c.loop-place.notices.items below left (search rules))
+      | in_default-pop w ↦ absurd (none-some (text_for text taken.value) (sym w.in_default-pop.is ∙ taken.next))
     ]
+
+pub returns : goal.returns
+returns c = change_end (viewer_noticed (notice.CutText c.args.text.now)) c.args.viewers.now c.loop-place.viewers c.loop-place.place c.first-place.ensures.listed c.loop-place.invariant.walk c.in_default.is

@@ -1,13 +1,16 @@
-use Rattle.std.proofs.Common.{◌≡◌, ◌≤◌, ◌-◌, length, replicate}
-use Rattle.viewer.specs.declared.notices.Notice.TheVariants as notice
+use Rattle.std.proofs.Common.{◌≡◌, ◌-◌, map, take, length}
+use Rattle.std.specs.Prelude.{IfSome}
+use Rattle.std.specs.Map.{values_of}
+use Rattle.client_list.specs.Connected.{IsPlace, passed}
+use Rattle.scene.specs.Entries.{text_for}
 use Rattle.scene.proofs.drawing.texts.Given as goal
 
--- so many texts as there are
-abbrev pub invariant-loop-alloc : goal.invariant-loop-alloc
-invariant-loop-alloc l = record {
-  same : l.notices.items ≡ replicate (length l.notices.items) (notice.CutText l.text);
-  bound : length l.notices.items ≤ l.count;
+-- the texts of the viewers that were passed
+abbrev pub invariant-loop-place : goal.invariant-loop-place
+invariant-loop-place l = record {
+  place : IfSome l.place (IsPlace l.viewers);
+  made : l.notices.items ≡ take (passed l.viewers l.place) (map (text_for l.text) (values_of l.viewers.pairs));
 }
 
-abbrev pub decreases-loop-alloc : goal.decreases-loop-alloc
-decreases-loop-alloc l = l.count - length l.notices.items
+abbrev pub decreases-loop-place : goal.decreases-loop-place
+decreases-loop-place l = length l.viewers.places - passed l.viewers l.place
