@@ -40,6 +40,9 @@ fn play_bytes(alloc: Global, script: &[u8]) -> (Vec<u8>, u8) {
     (out, status)
 }
 
+// The lines of a script, each beside what it prints.
+type Rows = &'static [(&'static str, &'static str)];
+
 // Each line of a script prints the text beside it, and the script ends with the status.
 fn shows(rt: &impl Abort, alloc: Global, rows: &[(&str, &str)], status: u8) -> Result<(), Fail> {
     let mut script = String::new(alloc);

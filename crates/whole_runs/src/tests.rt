@@ -54,13 +54,24 @@ fn request(incremental: bool, x: u16, y: u16, w: u16, h: u16) -> [u8; 10] {
     [3, u8::from(incremental), x1, x0, y1, y0, w1, w0, h1, h0]
 }
 
+/// A viewer sends bytes, whatever it is answered.
+fn say(screen: &mut Screen, viewer: u64, piece: &[u8]) -> Result<(), ScreenError> {
+    screen.hear(viewer, piece)?;
+    Ok(())
+}
+
+/// A viewer connects and opens.
+fn open(screen: &mut Screen, viewer: u64) -> Result<(), ScreenError> {
+    screen.connect(viewer)?;
+    say(screen, viewer, OPENING)
+}
+
 /// The whole of a screen is painted; viewer 1, which uses CopyRect, opens and is sent it.
 fn show(screen: &mut Screen, (w, h): (u16, u16), colours: &[u32]) -> Result<(), ScreenError> {
     screen.paint(rect(0, 0, i32::from(w), i32::from(h)), colours)?;
-    screen.connect(1)?;
-    screen.hear(1, OPENING)?;
-    screen.hear(1, WITH_COPYRECT)?;
-    screen.hear(1, &request(false, 0, 0, w, h))?;
+    open(screen, 1)?;
+    say(screen, 1, WITH_COPYRECT)?;
+    say(screen, 1, &request(false, 0, 0, w, h))?;
     screen.cut(1)?;
     Ok(())
 }

@@ -1,7 +1,7 @@
 //! The calls that no line of a script makes, where there is memory: drawing by a rectangle or a region, `pending`, and updates
 //! that are encoded later. The bytes are written out from RFC 6143.
 
-use super::{config, rect, region, request, show};
+use super::{config, rect, region, request, say, show};
 use region::Rect;
 use screen::{Screen, ScreenError, Update};
 use std::alloc::Global;
@@ -86,9 +86,9 @@ fn expect_copied(
 ) -> Result<(), ScreenError> {
     show(screen, (1, 4), &[1, 2, 3, 4])?;
     copy(alloc, screen, copying, to, by)?;
-    screen.hear(1, &request(true, 0, 0, 1, 4))?;
+    say(screen, 1, &request(true, 0, 0, 1, 4))?;
     expect_sent(rt, screen, sent)?;
-    screen.hear(1, &request(false, 0, 0, 1, 4))?;
+    say(screen, 1, &request(false, 0, 0, 1, 4))?;
     expect_sent(rt, screen, &column(colours))?;
     screen.close(1)
 }
@@ -158,7 +158,7 @@ const BLUE: &[u8] = &[
 fn expect_marked(rt: &impl Abort, alloc: Global, screen: &mut Screen) -> Result<(), ScreenError> {
     let all = request(true, 0, 0, 2, 2);
     show(screen, (2, 2), &[1, 2, 3, 4])?;
-    screen.hear(1, &all)?;
+    say(screen, 1, &all)?;
     screen.mark_rect(2, 0, i32::MAX, i32::MAX)?;
     screen.mark_rect(0, i32::MIN, 2, 0)?;
     screen.mark_region(&region(alloc, rect(-9, -9, 0, 9))?)?;
@@ -166,7 +166,7 @@ fn expect_marked(rt: &impl Abort, alloc: Global, screen: &mut Screen) -> Result<
     screen.mark_rect(i32::MAX, 1, 1, i32::MIN)?;
     expect_sent(rt, screen, SECOND)?;
     screen.write_pixels(rect(1, 0, 2, 1), &[0x77_0000ff])?;
-    screen.hear(1, &all)?;
+    say(screen, 1, &all)?;
     expect_sent(rt, screen, &[])?;
     screen.mark_region(&region(alloc, rect(1, -9, 9, 1))?)?;
     expect_sent(rt, screen, BLUE)
@@ -183,7 +183,7 @@ fn marks_by_each_call(rt: HostRuntime) -> Result<(), Fail> {
 /// An update of the place (1, 0) in the colour 2.
 fn cut_second(screen: &mut Screen) -> Result<Option<Update>, ScreenError> {
     show(screen, (2, 2), &[1, 2, 3, 4])?;
-    screen.hear(1, &request(false, 1, 0, 1, 1))?;
+    say(screen, 1, &request(false, 1, 0, 1, 1))?;
     screen.cut(1)
 }
 

@@ -1,7 +1,7 @@
 //! Want of memory is answered only where there is none: more viewers than any table is likely to have, a long piece, and each
 //! drawing call with all of them there.
 
-use super::{OPENING, config, rect, region, request};
+use super::{config, open, rect, region, request, say};
 use screen::{Fault, Screen, ScreenError};
 use std::alloc::{AllocError, Global};
 use std::process::Abort;
@@ -13,8 +13,7 @@ const VIEWERS: u64 = 200;
 /// So many viewers connect and open.
 fn open_all(screen: &mut Screen) -> Result<(), ScreenError> {
     for viewer in 0..VIEWERS {
-        screen.connect(viewer)?;
-        screen.hear(viewer, OPENING)?;
+        open(screen, viewer)?;
     }
     Ok(())
 }
@@ -43,7 +42,7 @@ fn draw_each(alloc: Global, screen: &mut Screen) -> Result<(), ScreenError> {
 fn count_served(screen: &mut Screen) -> Result<u64, ScreenError> {
     let mut served = 0u64;
     for viewer in 0..VIEWERS {
-        screen.hear(viewer, &request(false, 0, 0, 4, 3))?;
+        say(screen, viewer, &request(false, 0, 0, 4, 3))?;
         if screen.cut(viewer)?.is_some() {
             served = served.saturating_add(1);
         }
@@ -80,8 +79,7 @@ fn long_piece(alloc: Global) -> Result<Vec<u8>, AllocError> {
 
 /// It is heard with no answer and no fault, and an update waits.
 fn expect_heard(rt: &impl Abort, screen: &mut Screen, piece: &[u8]) -> Result<(), ScreenError> {
-    screen.connect(1)?;
-    screen.hear(1, OPENING)?;
+    open(screen, 1)?;
     let answer = screen.hear(1, piece)?;
     assert!(rt; answer.closed.is_none() && answer.bytes.is_empty());
     assert_eq!(rt; screen.pending(1), Ok(true));
@@ -100,8 +98,7 @@ fn a_long_piece_is_heard_whole(rt: HostRuntime) -> Result<(), Fail> {
 fn draw_and_fail(screen: &mut Screen) -> Result<(), ScreenError> {
     screen.paint(rect(2, 1, 3, 2), &[0xff8000])?;
     screen.connect(5)?;
-    screen.hear(5, b"hello world\n")?;
-    Ok(())
+    say(screen, 5, b"hello world\n")
 }
 
 /// What the screen holds then.

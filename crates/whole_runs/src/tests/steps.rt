@@ -5,10 +5,11 @@ ghost use Rattle.std.specs.Prelude.{◌<◌};
 
 use super::calls::{COPYING, Copying, copy, sent};
 use super::plain::{Picture, Viewer, is_in};
-use super::{OPENING, WITH_COPYRECT, config, rect, request};
+use super::{WITH_COPYRECT, config, open, rect, request, say};
 use region::Rect;
 use screen::{Screen, ScreenError};
 use std::alloc::{AllocError, Global};
+use std::process::Abort;
 use std::test::Fail;
 
 /// A linear congruential sequence: each number is 1664525 times the one before it plus 1013904223, without what is
@@ -75,9 +76,8 @@ impl World {
 
     /// A viewer connects and opens.
     fn watch(&mut self, number: u64, encodings: &[u8]) -> Result<(), ScreenError> {
-        self.screen.connect(number)?;
-        self.screen.hear(number, OPENING)?;
-        self.screen.hear(number, encodings)?;
+        open(&mut self.screen, number)?;
+        say(&mut self.screen, number, encodings)?;
         self.watchers.push(Watcher {
             number,
             viewer: Viewer::new(self.alloc, self.width, self.height)?,
@@ -133,8 +133,8 @@ impl World {
             return Ok(());
         };
         let [x, y, w, h] = area;
-        self.screen
-            .hear(watcher.number, &request(incremental, x, y, w, h))?;
+        let request = request(incremental, x, y, w, h);
+        say(&mut self.screen, watcher.number, &request)?;
         let (left, top) = (i32::from(x), i32::from(y));
         watcher
             .asked
@@ -145,8 +145,7 @@ impl World {
     /// Viewer 3 uses CopyRect from now on, or no longer.
     fn encode(&mut self, copyrect: bool) -> Result<(), ScreenError> {
         let encodings = if copyrect { WITH_COPYRECT } else { RAW };
-        self.screen.hear(3, encodings)?;
-        Ok(())
+        say(&mut self.screen, 3, encodings)
     }
 
     /// An update is cut for a viewer and shown. Tells whether it is one, and then shows the colours of all places that
@@ -273,25 +272,50 @@ fn step(
     Ok(true)
 }
 
+/// So many steps, between two times at which each viewer shows the picture.
+fn expect_steps(
+    rt: &impl Abort,
+    numbers: &mut Numbers,
+    world: &mut World,
+) -> Result<(), ScreenError> {
+    let start = world.settle()?;
+    assert!(rt; start, "at the start");
+    let mut by = (1, 0);
+    for number in 0..50u32 {
+        let holds = step(numbers, world, &mut by)?;
+        assert!(rt; holds, "at step {number}");
+    }
+    let settled = world.settle()?;
+    assert!(rt; settled, "at the end");
+    Ok(())
+}
+
+/// Those steps on a screen of some size. Tells how many copies each viewer was sent.
+fn copies_in_steps(
+    rt: &impl Abort,
+    alloc: Global,
+    numbers: &mut Numbers,
+    limit: u32,
+) -> Result<[u32; 3], ScreenError> {
+    let (width, height) = (1 + next(numbers, 9), 1 + next(numbers, 7));
+    let mut world = World::new(alloc, width, height, limit)?;
+    expect_steps(rt, numbers, &mut world)?;
+    let mut copies = [0u32; 3];
+    for (count, watcher) in copies.iter_mut().zip(world.watchers.iter()) {
+        *count = watcher.viewer.copies;
+    }
+    Ok(copies)
+}
+
 #[test]
 fn viewers_show_the_picture_after_2000_steps(rt: HostRuntime) -> Result<(), Fail> {
     let mut numbers = Numbers(1);
     let mut copies = [0u32; 3];
     for case in 0..40u32 {
-        let (width, height) = (1 + next(&mut numbers, 9), 1 + next(&mut numbers, 7));
         let limit = if case % 4 == 3 { 2 } else { 50 };
-        let mut world = World::new(rt.alloc(), width, height, limit)?;
-        let start = world.settle()?;
-        assert!(rt; start, "at the start of case {case}");
-        let mut by = (1, 0);
-        for number in 0..50u32 {
-            let holds = step(&mut numbers, &mut world, &mut by)?;
-            assert!(rt; holds, "step {number} of case {case}");
-        }
-        let settled = world.settle()?;
-        assert!(rt; settled, "at the end of case {case}");
-        for (count, watcher) in copies.iter_mut().zip(world.watchers.iter()) {
-            *count = count.saturating_add(watcher.viewer.copies);
+        let sent = copies_in_steps(&rt, rt.alloc(), &mut numbers, limit)?;
+        for (count, more) in copies.iter_mut().zip(sent) {
+            *count = count.saturating_add(more);
         }
     }
     let [first, second, third] = copies;
@@ -309,37 +333,59 @@ fn quarter_turn((dx, dy): (i32, i32)) -> (i32, i32) {
     (dy.wrapping_neg(), dx)
 }
 
+/// Three copies in a row, after which each viewer shows the picture.
+fn expect_copies(
+    rt: &impl Abort,
+    world: &mut World,
+    copying: Copying,
+    offsets: [(i32, i32); 3],
+) -> Result<(), ScreenError> {
+    world.draw(world.all(), 7, true)?;
+    let start = world.settle()?;
+    assert!(rt; start);
+    for (number, offset) in offsets.iter().enumerate() {
+        let to = rect(3, 2, 6 + i32::from(number == 1), 5);
+        world.copy(copying, to, *offset)?;
+    }
+    let settled = world.settle()?;
+    assert!(rt; settled, "{offsets:?} by {copying:?}");
+    Ok(())
+}
+
+/// The same on a new screen. Tells how many copies the first viewer was sent.
+fn copies_in_a_row(
+    rt: &impl Abort,
+    alloc: Global,
+    copying: Copying,
+    offsets: [(i32, i32); 3],
+) -> Result<u32, ScreenError> {
+    let mut world = World::new(alloc, 9, 7, 50)?;
+    expect_copies(rt, &mut world, copying, offsets)?;
+    let first = world.watchers.first();
+    Ok(first.map_or(0, |first| first.viewer.copies))
+}
+
+const DIRECTIONS: [(i32, i32); 8] = [
+    (1, 0),
+    (1, 1),
+    (0, 1),
+    (-1, 1),
+    (-1, 0),
+    (-1, -1),
+    (0, -1),
+    (1, -1),
+];
+
 #[test]
 fn copies_in_eight_directions_three_in_a_row(rt: HostRuntime) -> Result<(), Fail> {
-    let alloc = rt.alloc();
     let mut copies = 0u32;
-    for direction in [
-        (1, 0),
-        (1, 1),
-        (0, 1),
-        (-1, 1),
-        (-1, 0),
-        (-1, -1),
-        (0, -1),
-        (1, -1),
-    ] {
+    for direction in DIRECTIONS {
         for (far, copying) in [(1, Copying::DoRect), (3, Copying::ScheduleRegion)] {
             let by = times(direction, far);
             let turned = quarter_turn(by);
             for offsets in [[by, by, by], [by, by, turned], [by, turned, by]] {
-                let mut world = World::new(alloc, 9, 7, 50)?;
-                world.draw(world.all(), 7, true)?;
-                let start = world.settle()?;
-                assert!(rt; start);
-                for (number, offset) in offsets.iter().enumerate() {
-                    let to = rect(3, 2, 6 + i32::from(number == 1), 5);
-                    world.copy(copying, to, *offset)?;
-                }
-                let settled = world.settle()?;
-                assert!(rt; settled, "{offsets:?} by {copying:?}");
-                if let Some(first) = world.watchers.first() {
-                    copies = copies.saturating_add(first.viewer.copies);
-                }
+                let sent = copies_in_a_row(&rt, rt.alloc(), copying, offsets)?;
+                copies = copies.saturating_add(sent);
             }
         }
     }
