@@ -9,6 +9,8 @@ mod drawing;
 mod ends;
 mod recorded;
 mod shared;
+#[cfg(test)]
+mod tests;
 mod turn;
 
 pub use brush::Brush;
