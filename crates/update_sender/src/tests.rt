@@ -23,6 +23,20 @@ fn config(alloc: Global, history: History) -> Result<Config, AllocError> {
     })
 }
 
+/// A screen that threads share, and its brush.
+fn fresh<L: Ledger>(
+    alloc: Global,
+    blank: Blank,
+    history: History,
+) -> Result<(Shared<L>, Brush<L>), ScreenError>
+    requires name { blank.name ≡ L.name }
+    requires parts { blank.parts ≡ L.parts }
+    requires some { 0 < L.parts }
+{
+    let config = config(alloc, history)?;
+    Shared::new(alloc, blank, config)
+}
+
 /// A FramebufferUpdateRequest of the whole screen (RFC 6143, 7.5.3).
 fn request(incremental: u8) -> [u8; 10] {
     [3, incremental, 0, 0, 0, 0, 0, 4, 0, 3]
@@ -52,23 +66,26 @@ fn waiting<L: Ledger, R: Wait>(
     Ok(speaker)
 }
 
+/// Whether a number connects once, and only above all others.
+fn numbers_rise_on<L: Ledger, R: Wait>(rt: &R, shared: &Shared<L>) -> Result<bool, ScreenError> {
+    let _two = shared.connect(rt, 2)?;
+    let below = shared.connect(rt, 1);
+    shared.close(rt, 2)?;
+    let again = shared.connect(rt, 2);
+    Ok(
+        matches!(below, Err(ScreenError::NumberInUse))
+            && matches!(again, Err(ScreenError::NumberInUse))
+            && shared.connect(rt, 3).is_ok(),
+    )
+}
+
 fn numbers_of<L: Ledger, R: Wait>(rt: &R, alloc: Global, blank: Blank) -> Result<bool, ScreenError>
     requires name { blank.name ≡ L.name }
     requires parts { blank.parts ≡ L.parts }
     requires some { 0 < L.parts }
 {
-    let config = config(alloc, History::NotKept)?;
-    let (shared, _brush) = Shared::<L>::new(alloc, blank, config)?;
-    let _two = shared.connect(rt, 2)?;
-    let below = shared.connect(rt, 1);
-    shared.close(rt, 2)?;
-    let again = shared.connect(rt, 2);
-    let next = shared.connect(rt, 3);
-    Ok(
-        matches!(below, Err(ScreenError::NumberInUse))
-            && matches!(again, Err(ScreenError::NumberInUse))
-            && next.is_ok(),
-    )
+    let (shared, _brush) = fresh::<L>(alloc, blank, History::NotKept)?;
+    numbers_rise_on(rt, &shared)
 }
 
 #[test]
@@ -77,34 +94,45 @@ fn numbers_rise(rt: HostRuntime) -> Result<(), Fail> {
     Ok(())
 }
 
+/// Whether a viewer that is closed is sent nothing, and neither heard nor closed again.
+fn closed_ends<L: Ledger, R: Wait>(rt: &R, shared: &Shared<L>) -> Result<bool, ScreenError> {
+    let (mut listener, mut speaker) = opened(rt, shared, 1)?;
+    shared.close(rt, 1)?;
+    let cut = shared.cut_wait(rt, &mut speaker)?;
+    let heard = shared.hear(rt, &mut listener, &[0]);
+    Ok(
+        cut.is_none()
+            && matches!(heard, Err(ScreenError::NoViewer))
+            && matches!(shared.close(rt, 1), Err(ScreenError::NoViewer)),
+    )
+}
+
+/// Whether a viewer that said what no message begins with is sent nothing.
+fn faulty_ends<L: Ledger, R: Wait>(rt: &R, shared: &Shared<L>) -> Result<bool, ScreenError> {
+    let (mut listener, mut speaker) = opened(rt, shared, 2)?;
+    let fault = shared.hear(rt, &mut listener, &[255])?.closed;
+    Ok(fault.is_some() && shared.cut_wait(rt, &mut speaker)?.is_none())
+}
+
+/// Whether a viewer that awaits the screen is sent nothing once all is stopped.
+fn stopped_ends<L: Ledger, R: Wait>(rt: &R, shared: &Shared<L>) -> Result<bool, ScreenError> {
+    let (mut listener, mut speaker) = opened(rt, shared, 3)?;
+    let _answer = shared.hear(rt, &mut listener, &request(0))?;
+    shared.stop(rt);
+    Ok(shared.cut_wait(rt, &mut speaker)?.is_none())
+}
+
+fn all_end<L: Ledger, R: Wait>(rt: &R, shared: &Shared<L>) -> Result<bool, ScreenError> {
+    Ok(closed_ends(rt, shared)? && faulty_ends(rt, shared)? && stopped_ends(rt, shared)?)
+}
+
 fn ends_of<L: Ledger, R: Wait>(rt: &R, alloc: Global, blank: Blank) -> Result<bool, ScreenError>
     requires name { blank.name ≡ L.name }
     requires parts { blank.parts ≡ L.parts }
     requires some { 0 < L.parts }
 {
-    let config = config(alloc, History::NotKept)?;
-    let (shared, _brush) = Shared::<L>::new(alloc, blank, config)?;
-    let (mut closed, mut closed_speaker) = opened(rt, &shared, 1)?;
-    let (mut faulty, mut faulty_speaker) = opened(rt, &shared, 2)?;
-    let (mut stopped, mut stopped_speaker) = opened(rt, &shared, 3)?;
-    shared.close(rt, 1)?;
-    // No message begins with this byte.
-    let fault = shared.hear(rt, &mut faulty, &[255])?;
-    let closed_turn = shared.cut_wait(rt, &mut closed_speaker)?;
-    let faulty_turn = shared.cut_wait(rt, &mut faulty_speaker)?;
-    let _answer = shared.hear(rt, &mut stopped, &request(0))?;
-    shared.stop(rt);
-    let stopped_turn = shared.cut_wait(rt, &mut stopped_speaker)?;
-    let gone = shared.hear(rt, &mut closed, &[0]);
-    let closed_again = shared.close(rt, 1);
-    Ok(
-        fault.closed.is_some()
-            && closed_turn.is_none()
-            && faulty_turn.is_none()
-            && stopped_turn.is_none()
-            && matches!(gone, Err(ScreenError::NoViewer))
-            && matches!(closed_again, Err(ScreenError::NoViewer)),
-    )
+    let (shared, _brush) = fresh::<L>(alloc, blank, History::NotKept)?;
+    all_end(rt, &shared)
 }
 
 #[test]
@@ -146,20 +174,24 @@ fn draws_all<L: Ledger, R: Wait>(
     ))
 }
 
-/// An update that has one rectangle, in Raw, all of whose pixels are the colour 00000a (7.6.1, 7.7.1).
-fn update_of(alloc: Global, corner: u8, columns: u8, rows: u8) -> Result<Vec<u8>, AllocError> {
-    let mut bytes = Vec::from_slice(
-        alloc,
-        &[
-            0, 0, 0, 1, 0, corner, 0, corner, 0, columns, 0, rows, 0, 0, 0, 0,
-        ],
-    )?;
-    for _row in 0..rows {
-        for _column in 0..columns {
-            bytes.extend_from_slice(&[10, 0, 0, 0])?;
-        }
+/// The whole screen in Raw, all of it in the colour 00000a (7.6.1, 7.7.1).
+const WHOLE: [u8; 64] = [
+    0, 0, 0, 1, 0, 0, 0, 0, 0, 4, 0, 3, 0, 0, 0, 0, 10, 0, 0, 0, 10, 0, 0, 0, 10, 0, 0, 0, 10, 0,
+    0, 0, 10, 0, 0, 0, 10, 0, 0, 0, 10, 0, 0, 0, 10, 0, 0, 0, 10, 0, 0, 0, 10, 0, 0, 0, 10, 0, 0,
+    0, 10, 0, 0, 0,
+];
+
+/// The place in column 1 of row 1 in that colour.
+const PLACE: [u8; 20] = [0, 0, 0, 1, 0, 1, 0, 1, 0, 1, 0, 1, 0, 0, 0, 0, 10, 0, 0, 0];
+
+/// Whether a viewer that opens and asks for the screen is sent all of it in that colour.
+fn is_shown<L: Ledger, R: Wait>(rt: &R, shared: &Shared<L>) -> Result<bool, ScreenError> {
+    let (mut listener, mut speaker) = opened(rt, shared, 1)?;
+    let _answer = shared.hear(rt, &mut listener, &request(0))?;
+    match shared.cut_wait(rt, &mut speaker)? {
+        Some(update) => Ok(update.encode()?.as_slice() == WHOLE.as_slice()),
+        None => Ok(false),
     }
-    Ok(bytes)
 }
 
 fn whole_of<L: Ledger, R: Wait>(
@@ -172,16 +204,9 @@ fn whole_of<L: Ledger, R: Wait>(
     requires parts { blank.parts ≡ L.parts }
     requires some { 0 < L.parts }
 {
-    let config = config(alloc, history)?;
-    let (shared, mut brush) = Shared::<L>::new(alloc, blank, config)?;
+    let (shared, mut brush) = fresh::<L>(alloc, blank, history)?;
     let drawn = draws_all(rt, alloc, &shared, &mut brush)?;
-    let (mut listener, mut speaker) = opened(rt, &shared, 1)?;
-    let _answer = shared.hear(rt, &mut listener, &request(0))?;
-    let Some(update) = shared.cut_wait(rt, &mut speaker)? else {
-        return Ok(false);
-    };
-    let expected = update_of(alloc, 0, 4, 3)?;
-    Ok(drawn && update.encode()?.as_slice() == expected.as_slice())
+    Ok(drawn && is_shown(rt, &shared)?)
 }
 
 #[test]
@@ -198,19 +223,18 @@ fn all_calls_draw_without_a_history(rt: HostRuntime) -> Result<(), Fail> {
     Ok(())
 }
 
-/// Waits for an update, and tells whether its bytes are these. `cut` counts the senders that waited.
+/// Waits for an update, and tells whether it is that place. `cut` counts the senders that waited.
 fn is_sent<L: Ledger, R: Wait>(
     rt: &R,
     shared: &Shared<L>,
     mut speaker: Speaker,
     cut: &AtomicU64,
-    bytes: &[u8],
 ) -> bool {
     let update = shared.cut_wait(rt, &mut speaker);
     cut.fetch_add(1, Ordering::SeqCst);
     match update {
         Ok(Some(update)) => match update.encode() {
-            Ok(sent) => sent.as_slice() == bytes,
+            Ok(sent) => sent.as_slice() == PLACE.as_slice(),
             Err(_) => false,
         },
         _ => false,
@@ -260,16 +284,14 @@ fn one_woken<L: Ledger + Send + Sync, R: Threads + Wait + Sync>(
     requires parts { blank.parts ≡ L.parts }
     requires some { 0 < L.parts }
 {
-    let config = config(alloc, History::Kept)?;
-    let (shared, brush) = Shared::<L>::new(alloc, blank, config)?;
+    let (shared, brush) = fresh::<L>(alloc, blank, History::Kept)?;
     let speaker = waiting(rt, &shared, 1)?;
-    let expected = update_of(alloc, 1, 1, 1)?;
-    let (shared, bytes) = (&shared, expected.as_slice());
+    let shared = &shared;
     let cuts = AtomicU64::new(0);
     let cut = &cuts;
     let (sent, painted) = thread::join(
         rt,
-        move || is_sent(rt, shared, speaker, cut, bytes),
+        move || is_sent(rt, shared, speaker, cut),
         move || paints(rt, shared, brush, cut, 1),
     );
     Ok(sent && painted)
@@ -288,12 +310,11 @@ fn both_sent<L: Ledger + Send + Sync, R: Threads + Wait + Sync>(
     one: Speaker,
     two: Speaker,
     cut: &AtomicU64,
-    bytes: &[u8],
 ) -> bool {
     let (first, second) = thread::join(
         rt,
-        move || is_sent(rt, shared, one, cut, bytes),
-        move || is_sent(rt, shared, two, cut, bytes),
+        move || is_sent(rt, shared, one, cut),
+        move || is_sent(rt, shared, two, cut),
     );
     first && second
 }
@@ -307,17 +328,15 @@ fn two_woken<L: Ledger + Send + Sync, R: Threads + Wait + Sync>(
     requires parts { blank.parts ≡ L.parts }
     requires some { 0 < L.parts }
 {
-    let config = config(alloc, History::NotKept)?;
-    let (shared, brush) = Shared::<L>::new(alloc, blank, config)?;
+    let (shared, brush) = fresh::<L>(alloc, blank, History::NotKept)?;
     let one = waiting(rt, &shared, 1)?;
     let two = waiting(rt, &shared, 2)?;
-    let expected = update_of(alloc, 1, 1, 1)?;
-    let (shared, bytes) = (&shared, expected.as_slice());
+    let shared = &shared;
     let cuts = AtomicU64::new(0);
     let cut = &cuts;
     let (sent, painted) = thread::join(
         rt,
-        move || both_sent(rt, shared, one, two, cut, bytes),
+        move || both_sent(rt, shared, one, two, cut),
         move || paints(rt, shared, brush, cut, 2),
     );
     Ok(sent && painted)
