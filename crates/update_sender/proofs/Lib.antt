@@ -1,0 +1,2 @@
+mod Stepped
+mod Absent

@@ -1,0 +1,18 @@
+-- The event that a drawing call is.
+use Rattle.std.specs.Prelude.{[], ◌∷◌}
+use Rattle.scene.specs.declared.Event.{Event}
+use Rattle.scene.specs.declared.Event.TheVariants as events
+use Rattle.update_sender.specs.declared.drawing.Drawing.{Drawing}
+use Rattle.update_sender.specs.declared.drawing.Drawing.TheVariants.{Write, Paint, MarkRect, MarkRegion, ScheduleCopyRect, ScheduleCopyRegion, DoCopyRect, DoCopyRegion, Bell, CutText}
+
+abbrev pub event_of : Drawing → Event
+event_of (Write rect colours) = events.Write rect colours.now
+event_of (Paint rect colours) = events.Paint rect colours.now
+event_of (MarkRect rect) = events.Mark (rect ∷ [])
+event_of (MarkRegion region) = events.Mark region.now.list
+event_of (ScheduleCopyRect rect dx dy) = events.ScheduleCopy (rect ∷ []) dx dy
+event_of (ScheduleCopyRegion region dx dy) = events.ScheduleCopy region.now.list dx dy
+event_of (DoCopyRect rect dx dy) = events.DoCopy (rect ∷ []) dx dy
+event_of (DoCopyRegion region dx dy) = events.DoCopy region.now.list dx dy
+event_of Bell = events.Bell
+event_of (CutText text) = events.CutText text.now

@@ -1,0 +1,48 @@
+-- What contracts see of a viewer's two ends, and of the application's brush.
+use Rattle.std.specs.Prelude.{ℕ, ◌+◌, ◌-◌, ◌^◌, min, List, [], ◌∷◌, ◌++◌, Option, option_map}
+use Rattle.messages.specs.Server.{server_version}
+use Rattle.scene.specs.declared.Event.{Event}
+use Rattle.scene.specs.declared.History.{History}
+use Rattle.update_sender.specs.Recorded.{first_of}
+
+-- what was heard of a viewer: how many pieces, and their bytes where the history is kept
+pub record Listening : Type 0 where
+  pub viewer : ℕ
+  pub pieces : ℕ
+  pub heard : Option (List ℕ)
+
+-- what was sent to it: how many updates were cut, and the bytes where the history is kept
+pub record Speaking : Type 0 where
+  pub viewer : ℕ
+  pub cuts : ℕ
+  pub sent : Option (List ℕ)
+
+-- a viewer that connected: its two ends, and the bytes that greet it
+pub record Greeting : Type 0 where
+  pub listener : Listening
+  pub speaker : Speaking
+  pub version : List ℕ
+
+-- one that has just connected
+abbrev pub greeted : ℕ → History → Greeting
+greeted v history = record {
+  listener = record { viewer = v; pieces = 0; heard = first_of history };
+  speaker = record { viewer = v; cuts = 0; sent = first_of history };
+  version = server_version;
+}
+
+-- a count that stops at 2^64 - 1
+abbrev pub one_more : ℕ → ℕ
+one_more n = min (n + 1) (2 ^ 64 - 1)
+
+-- a piece more was heard
+abbrev pub listened : List ℕ → Listening → Listening
+listened piece l = record l { pieces = one_more l.pieces; heard = option_map (λ bytes. bytes ++ piece) l.heard }
+
+-- an update more was cut
+abbrev pub has_cut : Speaking → Speaking
+has_cut s = record s { cuts = one_more s.cuts }
+
+-- the brush's list with a call more, where there is one
+abbrev pub drew : Event → Option (List Event) → Option (List Event)
+drew e drawn = option_map (λ events. events ++ e ∷ []) drawn

@@ -1,0 +1,63 @@
+-- What stands behind the lock, and what each hold does to it.
+use Rattle.std.specs.Prelude.{◌≡◌, ℕ, suc, Bool, true, false, List, [], ◌∷◌, ◌++◌, length, Option, Some, None}
+use Rattle.messages.specs.Reading.{fault_kept}
+use Rattle.viewer.specs.Viewer.{KeptViewer}
+use Rattle.scene.specs.declared.Event.{Event}
+use Rattle.scene.specs.declared.Event.TheVariants.{Cut}
+use Rattle.scene.specs.History.{accepted, drawings, connects}
+use Rattle.screen.specs.State.{State, state, viewer_at}
+use Rattle.update_sender.specs.declared.turn.Turn.{Turn}
+use Rattle.update_sender.specs.declared.turn.Turn.TheVariants.{Send, Stopped, Closed, Faulty}
+use Rattle.update_sender.specs.Numbers.{rises, newest}
+
+-- what is held: the screen, the greatest number that connected, whether all was stopped, and how many drawing calls were counted
+pub record Held : Type 0 where
+  pub screen : State
+  pub newest : Option ℕ
+  pub stopped : Bool
+  pub drawn : ℕ
+
+-- A screen stands for a history, of which each event happened, so that it is the history that the screen keeps where it keeps one.
+-- Its viewers connected by rising numbers, and as many drawing calls as it has were counted.
+pub record Stands (screen : State) (history : List Event) (greatest : Option ℕ) (counted : ℕ) : Type 0 where
+  pub stands : screen ≡ state screen.config history
+  pub happened : accepted screen.config history ≡ history
+  pub rising : rises (connects history) ≡ true
+  pub last : newest (connects history) ≡ greatest
+  pub as_many : counted ≡ length (drawings history)
+
+-- one event more: whatever list the screen stood for, it stands for that list with the event behind it
+abbrev pub Steps : Event → Held → Held → Type 0
+Steps e old new = (c : _) (list : List Event) → old.screen ≡ state c list → new.screen ≡ state c (list ++ e ∷ [])
+
+-- one event more, and nothing else is another
+abbrev pub StepsAlone : Event → Held → Held → Type 0
+StepsAlone e old new = Steps e old new × (new ≡ record old { screen = new.screen })
+
+-- a viewer that connects is the newest
+abbrev pub Joins : ℕ → Event → Held → Held → Type 0
+Joins v e old new = Steps e old new × (new ≡ record old { screen = new.screen; newest = Some v })
+
+-- a drawing call is counted
+abbrev pub Draws : Event → Held → Held → Type 0
+Draws e old new = Steps e old new × (new ≡ record old { screen = new.screen; drawn = suc old.drawn })
+
+abbrev faulty : KeptViewer → Option Turn
+faulty viewer = elim (fault_kept viewer.heard) [ None ↦ None | Some fault ↦ Some (Faulty fault) ]
+
+abbrev pub ending_of : Option KeptViewer → Option Turn
+ending_of None = Some Closed
+ending_of (Some viewer) = faulty viewer
+
+-- why a viewer is sent nothing any more: all was stopped, or it is closed, or it has a fault, the first of these
+abbrev pub ending : Held → ℕ → Option Turn
+ending held v = if_stopped held.stopped (ending_of (viewer_at held.screen v))
+  where
+    if_stopped : Bool → Option Turn → Option Turn
+    if_stopped true rest = Some Stopped
+    if_stopped false rest = rest
+
+-- a turn is an event where it sends
+abbrev pub Takes : ℕ → Held → Held → Option Turn → Type 0
+Takes v old new (Some (Send update)) = StepsAlone (Cut v) old new
+Takes v old new _ = new ≡ old

@@ -1,0 +1,297 @@
+//! The application's end, which draws. Where the history is kept it keeps its accepted calls too, in room that is made before
+//! the screen is held.
+
+ghost use Rattle.std.specs.Prelude.{◌≡◌, ◌<◌, ◌∷◌, [], true, OnOk, OnErr, IfOk, is_some};
+ghost use Rattle.scene.specs.declared.Event.{Event};
+ghost use Rattle.update_sender.specs.Calls.{event_of};
+ghost use Rattle.update_sender.specs.Ends.{drew};
+ghost use Rattle.update_sender.specs.Recorded.{first_of, items_of};
+
+use crate::drawing::Drawing;
+use crate::recorded::Recorded;
+use crate::shared::Shared;
+use listed::Listed;
+use region::{Rect, Region};
+use screen::{Event, History, ScreenError};
+use std::alloc::{AllocError, Global};
+use std::marker::Model;
+use std::sync::Wait;
+use std::sync::ledger::{Ledger, Share};
+
+/// Draws on a shared screen. Contracts see the list of its accepted calls, where the history is kept.
+#[derive(Drop)]
+pub struct Brush<L: Ledger> {
+    drawn: Recorded<Event>,
+    share: Share<L>,
+}
+
+impl<L: Ledger> Model for Brush<L> {
+    ghost use Rattle.std.specs.Prelude.{◌≡◌, ◌<◌, List, Option};
+    ghost use Rattle.scene.specs.declared.Event.{Event};
+    ghost use Rattle.update_sender.specs.Recorded.{items_of, Counts};
+
+    ghost Value = { Option (List Event) };
+
+    ghost view = { λ a. items_of a.drawn.items };
+
+    ghost invariant = { λ a. (a.share.parts ≡ L.parts) × (0 < a.share.parts) × Counts a.share.amount (items_of a.drawn.items) };
+}
+
+/// A rectangle as a list, for keeping.
+fn rect_in(drawn: &Recorded<Event>, rect: Rect) -> Result<Listed<Rect>, AllocError>
+    ensures { is_some (items_of drawn.now.items) ≡ true → IfOk result (λ rects. rects ≡ rect ∷ []) }
+{
+    drawn.copied(&[rect])
+}
+
+/// A region's canonical list, for keeping.
+fn rects_in(drawn: &Recorded<Event>, region: &Region) -> Result<Listed<Rect>, AllocError>
+    ensures { is_some (items_of drawn.now.items) ≡ true → IfOk result (λ rects. rects ≡ region.now.list) }
+{
+    if drawn.is_kept() {
+        region.rects(false, false)
+    } else {
+        drawn.copied(&[])
+    }
+}
+
+/// The event that a call is, for keeping; without its lists where none is kept.
+fn event_in(drawn: &Recorded<Event>, drawing: &Drawing<'_>) -> Result<Event, AllocError>
+    ensures { is_some (items_of drawn.now.items) ≡ true → IfOk result (λ event. event ≡ event_of drawing.now) }
+{
+    Ok(match drawing {
+        Drawing::Write { rect, colours } => Event::Write {
+            rect: *rect,
+            colours: drawn.copied(colours)?,
+        },
+        Drawing::Paint { rect, colours } => Event::Paint {
+            rect: *rect,
+            colours: drawn.copied(colours)?,
+        },
+        Drawing::MarkRect(rect) => Event::Mark {
+            rects: rect_in(drawn, *rect)?,
+        },
+        Drawing::MarkRegion(region) => Event::Mark {
+            rects: rects_in(drawn, region)?,
+        },
+        Drawing::ScheduleCopyRect { rect, dx, dy } => Event::ScheduleCopy {
+            rects: rect_in(drawn, *rect)?,
+            dx: *dx,
+            dy: *dy,
+        },
+        Drawing::ScheduleCopyRegion { region, dx, dy } => Event::ScheduleCopy {
+            rects: rects_in(drawn, region)?,
+            dx: *dx,
+            dy: *dy,
+        },
+        Drawing::DoCopyRect { rect, dx, dy } => Event::DoCopy {
+            rects: rect_in(drawn, *rect)?,
+            dx: *dx,
+            dy: *dy,
+        },
+        Drawing::DoCopyRegion { region, dx, dy } => Event::DoCopy {
+            rects: rects_in(drawn, region)?,
+            dx: *dx,
+            dy: *dy,
+        },
+        Drawing::Bell => Event::Bell,
+        Drawing::CutText(text) => Event::CutText {
+            text: drawn.copied(text)?,
+        },
+    })
+}
+
+impl<L: Ledger> Brush<L> {
+    /// A brush that has drawn nothing, with all parts of its ledger.
+    pub(crate) fn new(alloc: Global, history: History, share: Share<L>) -> Brush<L>
+        requires parts { share.parts ≡ L.parts }
+        requires some { 0 < L.parts }
+        requires none { share.amount ≡ 0 }
+        ensures { result ≡ first_of history }
+    {
+        Brush {
+            drawn: Recorded::new(alloc, history),
+            share,
+        }
+    }
+
+    /// One hold: a drawing call, which is kept once it is accepted, and after which waiting senders are woken.
+    fn draw<R: Wait>(
+        &mut self,
+        shared: &Shared<L>,
+        rt: &R,
+        drawing: &Drawing<'_>,
+    ) -> Result<(), ScreenError>
+        ensures drawn { OnOk result (self.new ≡ drew (event_of drawing.now) self.old) }
+        ensures err { OnErr result (self.new ≡ self.old) }
+    {
+        let event = event_in(&self.drawn, drawing)?;
+        self.drawn.make_room(1)?;
+        shared.desk.lock(rt).draw(&mut self.share, drawing)?;
+        self.drawn.push(event);
+        if drawing.may_be_sent() {
+            shared.moved.notify_all();
+        }
+        Ok(())
+    }
+
+    /// `Screen::write_pixels`. No sender is woken, since no viewer is told.
+    pub fn write_pixels<R: Wait>(
+        &mut self,
+        shared: &Shared<L>,
+        rt: &R,
+        rect: Rect,
+        colours: &[u32],
+    ) -> Result<(), ScreenError>
+        ensures drawn { OnOk result (self.new ≡ drew (Event.Write rect colours.now) self.old) }
+        ensures err { OnErr result (self.new ≡ self.old) }
+    {
+        self.draw(shared, rt, &Drawing::Write { rect, colours })
+    }
+
+    /// `Screen::paint`.
+    pub fn paint<R: Wait>(
+        &mut self,
+        shared: &Shared<L>,
+        rt: &R,
+        rect: Rect,
+        colours: &[u32],
+    ) -> Result<(), ScreenError>
+        ensures drawn { OnOk result (self.new ≡ drew (Event.Paint rect colours.now) self.old) }
+        ensures err { OnErr result (self.new ≡ self.old) }
+    {
+        self.draw(shared, rt, &Drawing::Paint { rect, colours })
+    }
+
+    /// `Screen::mark_rect`.
+    pub fn mark_rect<R: Wait>(
+        &mut self,
+        shared: &Shared<L>,
+        rt: &R,
+        x1: i32,
+        y1: i32,
+        x2: i32,
+        y2: i32,
+    ) -> Result<(), ScreenError>
+        ensures drawn { OnOk result (self.new ≡ drew (Event.Mark (record { x1 = x1; y1 = y1; x2 = x2; y2 = y2 } ∷ [])) self.old) }
+        ensures err { OnErr result (self.new ≡ self.old) }
+    {
+        self.draw(shared, rt, &Drawing::MarkRect(Rect { x1, y1, x2, y2 }))
+    }
+
+    /// `Screen::mark_region`.
+    pub fn mark_region<R: Wait>(
+        &mut self,
+        shared: &Shared<L>,
+        rt: &R,
+        region: &Region,
+    ) -> Result<(), ScreenError>
+        ensures drawn { OnOk result (self.new ≡ drew (Event.Mark region.now.list) self.old) }
+        ensures err { OnErr result (self.new ≡ self.old) }
+    {
+        self.draw(shared, rt, &Drawing::MarkRegion(region))
+    }
+
+    /// `Screen::schedule_copy_rect`.
+    pub fn schedule_copy_rect<R: Wait>(
+        &mut self,
+        shared: &Shared<L>,
+        rt: &R,
+        x1: i32,
+        y1: i32,
+        x2: i32,
+        y2: i32,
+        dx: i32,
+        dy: i32,
+    ) -> Result<(), ScreenError>
+        ensures drawn { OnOk result (self.new ≡ drew (Event.ScheduleCopy (record { x1 = x1; y1 = y1; x2 = x2; y2 = y2 } ∷ []) dx dy) self.old) }
+        ensures err { OnErr result (self.new ≡ self.old) }
+    {
+        self.draw(
+            shared,
+            rt,
+            &Drawing::ScheduleCopyRect {
+                rect: Rect { x1, y1, x2, y2 },
+                dx,
+                dy,
+            },
+        )
+    }
+
+    /// `Screen::schedule_copy_region`.
+    pub fn schedule_copy_region<R: Wait>(
+        &mut self,
+        shared: &Shared<L>,
+        rt: &R,
+        region: &Region,
+        dx: i32,
+        dy: i32,
+    ) -> Result<(), ScreenError>
+        ensures drawn { OnOk result (self.new ≡ drew (Event.ScheduleCopy region.now.list dx dy) self.old) }
+        ensures err { OnErr result (self.new ≡ self.old) }
+    {
+        self.draw(shared, rt, &Drawing::ScheduleCopyRegion { region, dx, dy })
+    }
+
+    /// `Screen::do_copy_rect`.
+    pub fn do_copy_rect<R: Wait>(
+        &mut self,
+        shared: &Shared<L>,
+        rt: &R,
+        x1: i32,
+        y1: i32,
+        x2: i32,
+        y2: i32,
+        dx: i32,
+        dy: i32,
+    ) -> Result<(), ScreenError>
+        ensures drawn { OnOk result (self.new ≡ drew (Event.DoCopy (record { x1 = x1; y1 = y1; x2 = x2; y2 = y2 } ∷ []) dx dy) self.old) }
+        ensures err { OnErr result (self.new ≡ self.old) }
+    {
+        self.draw(
+            shared,
+            rt,
+            &Drawing::DoCopyRect {
+                rect: Rect { x1, y1, x2, y2 },
+                dx,
+                dy,
+            },
+        )
+    }
+
+    /// `Screen::do_copy_region`.
+    pub fn do_copy_region<R: Wait>(
+        &mut self,
+        shared: &Shared<L>,
+        rt: &R,
+        region: &Region,
+        dx: i32,
+        dy: i32,
+    ) -> Result<(), ScreenError>
+        ensures drawn { OnOk result (self.new ≡ drew (Event.DoCopy region.now.list dx dy) self.old) }
+        ensures err { OnErr result (self.new ≡ self.old) }
+    {
+        self.draw(shared, rt, &Drawing::DoCopyRegion { region, dx, dy })
+    }
+
+    /// `Screen::bell`.
+    pub fn bell<R: Wait>(&mut self, shared: &Shared<L>, rt: &R) -> Result<(), ScreenError>
+        ensures drawn { OnOk result (self.new ≡ drew (Event.Bell) self.old) }
+        ensures err { OnErr result (self.new ≡ self.old) }
+    {
+        self.draw(shared, rt, &Drawing::Bell)
+    }
+
+    /// `Screen::cut_text`.
+    pub fn cut_text<R: Wait>(
+        &mut self,
+        shared: &Shared<L>,
+        rt: &R,
+        text: &[u8],
+    ) -> Result<(), ScreenError>
+        ensures drawn { OnOk result (self.new ≡ drew (Event.CutText text.now) self.old) }
+        ensures err { OnErr result (self.new ≡ self.old) }
+    {
+        self.draw(shared, rt, &Drawing::CutText(text))
+    }
+}

@@ -1,0 +1,159 @@
+//! What the lock keeps: a screen that stands for one list of events, in which viewers connected by rising numbers, and whose
+//! drawing calls are counted. Each call is one hold: it does one event, or changes nothing.
+
+ghost use Rattle.std.specs.Prelude.{◌≡◌, [], None, Some, true, OnOk, OnErr, IfOk, MatchBool, MatchOption, IsOkUnless, ◌+◌, ◌<◌};
+ghost use Rattle.messages.specs.Server.{server_version};
+ghost use Rattle.scene.specs.declared.Event.{Event};
+ghost use Rattle.scene.specs.declared.ScreenError.TheVariants as refusals;
+ghost use Rattle.scene.specs.Refusals.{absence, Refuses};
+ghost use Rattle.screen.specs.State.{state, viewer_at, refusal};
+ghost use Rattle.update_sender.specs.Calls.{event_of};
+ghost use Rattle.update_sender.specs.Numbers.{is_next};
+ghost use Rattle.update_sender.specs.Standing.{Draws, Joins, StepsAlone, Takes, ending};
+
+use crate::drawing::Drawing;
+use crate::turn::Turn;
+use listed::Listed;
+use screen::{Answer, Event, Screen, ScreenError, Update, kept_is_enough};
+use std::alloc::AllocError;
+use std::marker::Model;
+use std::sync::ledger::{Book, Ledger, Share};
+
+/// What lies behind the lock.
+#[derive(Drop)]
+pub struct Desk<L: Ledger> {
+    screen: Screen,
+    // the greatest number that connected
+    newest: Option<u64>,
+    stopped: bool,
+    // the drawing calls
+    drawings: Book<L>,
+}
+
+impl<L: Ledger> Model for Desk<L> {
+    ghost use Rattle.std.specs.Prelude.{List};
+    ghost use Rattle.scene.specs.declared.Event.{Event};
+    ghost use Rattle.update_sender.specs.Standing.{Held, Stands};
+
+    ghost Value = { Held };
+
+    ghost view = { λ a. record { screen = a.screen; newest = a.newest; stopped = a.stopped; drawn = a.drawings.total } };
+
+    ghost invariant = { λ a. (history : List Event) × Stands a.screen history a.newest a.drawings.total };
+}
+
+/// Whether a number is greater than the greatest.
+fn is_next(greatest: Option<u64>, number: u64) -> bool
+    ensures { result ≡ is_next greatest number }
+{
+    match greatest {
+        Some(greatest) => greatest < number,
+        None => true,
+    }
+}
+
+impl<L: Ledger> Desk<L> {
+    /// A screen on which nothing has happened yet.
+    pub fn new(screen: Screen, drawings: Book<L>) -> Desk<L>
+        requires screen { screen ≡ state screen.config [] }
+        requires drawings { drawings.total ≡ 0 }
+        ensures { result.screen ≡ screen }
+    {
+        Desk {
+            screen,
+            newest: None,
+            stopped: false,
+            drawings,
+        }
+    }
+
+    /// A viewer connects, where its number is greater than each before.
+    pub fn connect(&mut self, number: u64) -> Result<Listed<u8>, ScreenError>
+        ensures joins { OnOk result (Joins number (Event.Connect number) self.old self.new) }
+        ensures version { IfOk result (λ bytes. bytes ≡ server_version) }
+        ensures refused { MatchBool (is_next self.old.newest number) (IsOkUnless result refusals.OutOfMemory) (result ≡ Err refusals.NumberInUse) }
+        ensures err { OnErr result (self.new ≡ self.old) }
+    {
+        if !is_next(self.newest, number) {
+            return Err(ScreenError::NumberInUse);
+        }
+        let version = self.screen.connect(number)?;
+        self.newest = Some(number);
+        Ok(version)
+    }
+
+    /// A viewer's connection is closed.
+    pub fn close(&mut self, number: u64) -> Result<(), ScreenError>
+        ensures step { OnOk result (StepsAlone (Event.Close number) self.old self.new) }
+        ensures refused { Refuses result (absence (viewer_at self.old.screen number)) }
+        ensures err { OnErr result (self.new ≡ self.old) }
+    {
+        self.screen.close(number)?;
+        Ok(())
+    }
+
+    /// A piece of a viewer's bytes is heard.
+    pub fn hear(&mut self, number: u64, piece: &[u8]) -> Result<Answer, ScreenError>
+        ensures step { OnOk result (StepsAlone (Event.Hear number piece.now) self.old self.new) }
+        ensures refused { Refuses result (absence (viewer_at self.old.screen number)) }
+        ensures err { OnErr result (self.new ≡ self.old) }
+    {
+        let answer = self.screen.hear(number, piece)?;
+        Ok(answer)
+    }
+
+    /// A drawing call, which is counted.
+    pub fn draw(&mut self, share: &mut Share<L>, drawing: &Drawing<'_>) -> Result<(), ScreenError>
+        requires { 0 < share.old.parts }
+        ensures drawn { OnOk result (Draws (event_of drawing.now) self.old self.new) }
+        ensures counted { OnOk result (share.new.amount ≡ share.old.amount + 1) }
+        ensures parts { share.new.parts ≡ share.old.parts }
+        ensures refused { Refuses result (refusal self.old.screen (event_of drawing.now)) }
+        ensures err { OnErr result (self.new ≡ self.old) }
+        ensures not_counted { OnErr result (share.new.amount ≡ share.old.amount) }
+    {
+        drawing.draw_on(&mut self.screen)?;
+        self.drawings.add(share, 1);
+        Ok(())
+    }
+
+    /// Cuts an update for a viewer, if there is something to send.
+    fn cut(&mut self, number: u64) -> Result<Option<Update>, ScreenError>
+        ensures step { IfOk result (λ update. MatchOption update (self.new ≡ self.old) (λ _. StepsAlone (Event.Cut number) self.old self.new)) }
+        ensures err { OnErr result (self.new ≡ self.old) }
+    {
+        kept_is_enough();
+        let Some(update) = self.screen.cut(number)? else {
+            return Ok(None);
+        };
+        Ok(Some(update))
+    }
+
+    /// What a viewer's sender does next; None where it waits.
+    pub fn take_turn(&mut self, number: u64) -> Result<Option<Turn>, AllocError>
+        ensures ends { MatchOption (ending self.old number) (Unit {0}) (λ turn. result ≡ Ok (Some turn)) }
+        ensures takes { IfOk result (λ turn. Takes number self.old self.new turn) }
+        ensures err { OnErr result (self.new ≡ self.old) }
+    {
+        if self.stopped {
+            return Ok(Some(Turn::Stopped));
+        }
+        match self.screen.fault(number) {
+            Err(_) => Ok(Some(Turn::Closed)),
+            Ok(Some(fault)) => Ok(Some(Turn::Faulty(fault))),
+            Ok(None) => match self.cut(number) {
+                Ok(Some(update)) => Ok(Some(Turn::Send(update))),
+                Ok(None) => Ok(None),
+                // The viewer is live, so memory was refused.
+                Err(_) => Err(AllocError),
+            },
+        }
+    }
+
+    /// Nothing is sent any more.
+    pub fn stop(&mut self)
+        ensures { self.new ≡ record self.old { stopped = true } }
+    {
+        self.stopped = true;
+    }
+}

@@ -1,0 +1,105 @@
+//! A viewer's ends: a line once it connected, and then one that listens and one that speaks.
+
+ghost use Rattle.std.specs.Prelude.{◌≡◌};
+ghost use Rattle.scene.specs.declared.History.{History};
+ghost use Rattle.messages.specs.Server.{server_version};
+ghost use Rattle.update_sender.specs.Ends.{greeted, listened, has_cut};
+ghost use Rattle.update_sender.specs.Recorded.{HasRoom};
+
+use crate::recorded::Recorded;
+use listed::Listed;
+use screen::History;
+use std::alloc::Global;
+use std::marker::Model;
+
+/// The end that hears a viewer.
+#[derive(Drop)]
+pub struct Listener {
+    pub(crate) viewer: u64,
+    pub(crate) pieces: u64,
+    pub(crate) heard: Recorded<u8>,
+}
+
+impl Model for Listener {
+    ghost use Rattle.update_sender.specs.Ends.{Listening};
+    ghost use Rattle.update_sender.specs.Recorded.{items_of};
+
+    ghost Value = { Listening };
+
+    ghost view = { λ a. record { viewer = a.viewer; pieces = a.pieces; heard = items_of a.heard.items } };
+}
+
+/// The end that sends to it.
+#[derive(Drop)]
+pub struct Speaker {
+    pub(crate) viewer: u64,
+    pub(crate) cuts: u64,
+    pub(crate) sent: Recorded<u8>,
+}
+
+impl Model for Speaker {
+    ghost use Rattle.update_sender.specs.Ends.{Speaking};
+    ghost use Rattle.update_sender.specs.Recorded.{items_of};
+
+    ghost Value = { Speaking };
+
+    ghost view = { λ a. record { viewer = a.viewer; cuts = a.cuts; sent = items_of a.sent.items } };
+}
+
+impl Speaker {
+    /// An update more was cut.
+    pub(crate) fn count_cut(&mut self)
+        ensures { self.new ≡ has_cut self.old }
+    {
+        self.cuts = self.cuts.saturating_add(1);
+    }
+}
+
+/// A viewer that connected: its two ends, and the version that greets it, which is to be written first.
+#[derive(Drop)]
+pub struct Line {
+    pub(crate) listener: Listener,
+    pub(crate) speaker: Speaker,
+    pub(crate) version: Listed<u8>,
+}
+
+impl Model for Line {
+    ghost use Rattle.update_sender.specs.Ends.{Greeting};
+
+    ghost Value = { Greeting };
+
+    ghost view = { λ a. record { listener = a.listener; speaker = a.speaker; version = a.version } };
+}
+
+impl Line {
+    /// The line of a viewer that has just connected.
+    pub(crate) fn new(alloc: Global, viewer: u64, history: History, version: Listed<u8>) -> Line
+        requires { version ≡ server_version }
+        ensures { result ≡ greeted viewer history }
+    {
+        let listener = Listener {
+            viewer,
+            pieces: 0,
+            heard: Recorded::new(alloc, history),
+        };
+        let speaker = Speaker {
+            viewer,
+            cuts: 0,
+            sent: Recorded::new(alloc, history),
+        };
+        Line {
+            listener,
+            speaker,
+            version,
+        }
+    }
+
+    /// Its ends, and the version.
+    pub(crate) fn ends(self) -> (Listener, Speaker, Listed<u8>)
+        ensures listener { result.0 ≡ self.listener }
+        ensures speaker { result.1 ≡ self.speaker }
+        ensures version { result.2 ≡ self.version }
+    {
+        (self.listener, self.speaker, self.version)
+    }
+}

@@ -1,0 +1,157 @@
+//! The lock, and the viewers' calls. Each holds the lock for one event; what follows from it, as an update's encoding, is done
+//! once the lock is free. A hold after which a waiting sender may go on wakes the senders.
+
+ghost use Rattle.std.specs.Prelude.{◌≡◌, ◌<◌, ◌⊎◌, None, OnOk, OnErr, IfOk, IfErr, MatchOption, IsOkUnless};
+ghost use Rattle.scene.specs.declared.ScreenError.TheVariants as refusals;
+ghost use Rattle.scene.specs.Alone.{config_refusal};
+ghost use Rattle.update_sender.specs.Ends.{greeted, listened, has_cut};
+ghost use Rattle.update_sender.specs.Recorded.{first_of};
+
+use crate::brush::Brush;
+use crate::desk::Desk;
+use crate::ends::{Line, Listener, Speaker};
+use crate::turn::Turn;
+use listed::Listed;
+use screen::{Answer, Config, Screen, ScreenError, Update};
+use std::alloc::{AllocError, Global};
+use std::marker::Model;
+use std::sync::ledger::{Blank, Ledger};
+use std::sync::{Condvar, Mutex, Wait};
+
+/// A screen that threads share. Contracts see the configuration that it was made with.
+#[derive(Drop)]
+pub struct Shared<L: Ledger> {
+    alloc: Global,
+    config: Config,
+    pub(crate) desk: Mutex<Desk<L>>,
+    // a waiting sender may go on
+    pub(crate) moved: Condvar,
+}
+
+impl<L: Ledger> Model for Shared<L> {
+    ghost use Rattle.std.specs.Prelude.{◌≡◌, None};
+    ghost use Rattle.scene.specs.declared.Config.{Config};
+    ghost use Rattle.scene.specs.Alone.{config_refusal};
+
+    ghost Value = { Config };
+
+    ghost view = { λ a. a.config };
+
+    ghost invariant = { λ a. config_refusal a.config ≡ None };
+}
+
+/// The same configuration once more.
+fn copy_of(alloc: Global, config: &Config) -> Result<Config, AllocError>
+    ensures { IfOk result (λ copy. copy ≡ config.now) }
+{
+    Ok(Config {
+        width: config.width,
+        height: config.height,
+        name: Listed::from_slice(alloc, config.name.as_slice())?,
+        rects_per_update: config.rects_per_update,
+        history: config.history,
+    })
+}
+
+impl<L: Ledger> Shared<L> {
+    /// A screen behind a lock, and its one brush. The blank is one of the ledger that the type names; the drawing calls are
+    /// counted in it. Refused as `Screen::new` is.
+    pub fn new(
+        alloc: Global,
+        blank: Blank,
+        config: Config,
+    ) -> Result<(Shared<L>, Brush<L>), ScreenError>
+        requires name { blank.name ≡ L.name }
+        requires parts { blank.parts ≡ L.parts }
+        requires some { 0 < L.parts }
+        ensures refused { MatchOption (config_refusal config) (IsOkUnless result refusals.OutOfMemory) (λ e. result ≡ Err e) }
+        ensures shared { IfOk result (λ made. made.0 ≡ config) }
+        ensures brush { IfOk result (λ made. made.1 ≡ first_of config.history) }
+    {
+        let copy = copy_of(alloc, &config);
+        let screen = Screen::new(alloc, config)?;
+        let config = copy?;
+        let (book, share) = blank.open::<L>();
+        let brush = Brush::new(alloc, config.history, share);
+        let shared = Shared {
+            alloc,
+            config,
+            desk: Mutex::new(Desk::new(screen, book)),
+            moved: Condvar::new(),
+        };
+        Ok((shared, brush))
+    }
+
+    /// A viewer connects. Refused as `NumberInUse` unless its number is greater than each that connected before.
+    pub fn connect<R: Wait>(&self, rt: &R, number: u64) -> Result<Line, ScreenError>
+        ensures line { IfOk result (λ line. line ≡ greeted number self.now.history) }
+        ensures refused { IfErr result (λ e. (e ≡ refusals.NumberInUse) ⊎ (e ≡ refusals.OutOfMemory)) }
+    {
+        let version = self.desk.lock(rt).connect(number)?;
+        Ok(Line::new(self.alloc, number, self.config.history, version))
+    }
+
+    /// A viewer's connection is closed. Refused as `NoViewer` where there is none with the number.
+    pub fn close<R: Wait>(&self, rt: &R, number: u64) -> Result<(), ScreenError>
+        ensures refused { IfErr result (λ e. (e ≡ refusals.NoViewer) ⊎ (e ≡ refusals.OutOfMemory)) }
+    {
+        self.desk.lock(rt).close(number)?;
+        self.moved.notify_all();
+        Ok(())
+    }
+
+    /// Every later `cut_wait` gives None.
+    pub fn stop<R: Wait>(&self, rt: &R) {
+        self.desk.lock(rt).stop();
+        self.moved.notify_all();
+    }
+
+    /// A piece of a viewer's bytes is heard. Refused as `NoViewer` where the viewer is gone.
+    pub fn hear<R: Wait>(
+        &self,
+        rt: &R,
+        listener: &mut Listener,
+        piece: &[u8],
+    ) -> Result<Answer, ScreenError>
+        ensures heard { OnOk result (listener.new ≡ listened piece.now listener.old) }
+        ensures err { OnErr result (listener.new ≡ listener.old) }
+        ensures refused { IfErr result (λ e. (e ≡ refusals.NoViewer) ⊎ (e ≡ refusals.OutOfMemory)) }
+    {
+        listener.heard.make_room(piece.len())?;
+        let answer = self.desk.lock(rt).hear(listener.viewer, piece)?;
+        self.moved.notify_all();
+        listener.heard.append(piece);
+        listener.pieces = listener.pieces.saturating_add(1);
+        Ok(answer)
+    }
+
+    /// Waits until a viewer's sender has something to do.
+    pub(crate) fn wait_turn<R: Wait>(&self, rt: &R, viewer: u64) -> Result<Turn, AllocError> {
+        let mut desk = self.desk.lock(rt);
+        for _ in rt.forever() {
+            if let Some(turn) = desk.take_turn(viewer)? {
+                return Ok(turn);
+            }
+            desk = self.moved.wait(rt, desk);
+        }
+        unreachable!()
+    }
+
+    /// Waits until there is something to send, and cuts it. None after `stop`, and where the viewer is closed or met a fault.
+    pub fn cut_wait<R: Wait>(
+        &self,
+        rt: &R,
+        speaker: &mut Speaker,
+    ) -> Result<Option<Update>, AllocError>
+        ensures cut { IfOk result (λ update. MatchOption update (speaker.new ≡ speaker.old) (λ _. speaker.new ≡ has_cut speaker.old)) }
+        ensures err { OnErr result (speaker.new ≡ speaker.old) }
+    {
+        match self.wait_turn(rt, speaker.viewer)? {
+            Turn::Send(update) => {
+                speaker.count_cut();
+                Ok(Some(update))
+            }
+            Turn::Stopped | Turn::Closed | Turn::Faulty(_) => Ok(None),
+        }
+    }
+}
