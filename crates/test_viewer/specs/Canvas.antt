@@ -1,5 +1,5 @@
 -- What the places of a screen show, row by row.
-use Rattle.std.specs.Prelude.{◌≡◌, ℕ, ◌+◌, ◌-◌, ◌*◌, ◌/◌, ◌%◌, ◌^◌, ◌<◌, Bool, ◌&&◌, nat_le, nat_lt, if◌then◌else◌, List, map, length, slice_index_or, Option, None}
+use Rattle.std.specs.Prelude.{◌≡◌, ℕ, ◌+◌, ◌-◌, ◌*◌, ◌/◌, ◌%◌, ◌^◌, ◌<◌, Bool, ◌&&◌, nat_le, nat_lt, if◌then◌else◌, List, map, length, replicate, slice_index_or, Option, None}
 use Rattle.std.specs.List.{range_with_len}
 use Rattle.pixel_translate.specs.declared.Area.{Area}
 use Rattle.encode_raw.specs.Reading.{is_inside}
@@ -16,6 +16,10 @@ pub record IsCanvas (d : Dots) : Type 0 where
   pub columns : d.columns < 2 ^ 16
   pub rows : d.rows < 2 ^ 16
   pub places : length d.dots ≡ d.rows * d.columns
+
+-- a screen that shows nothing
+abbrev pub blank : ℕ → ℕ → Dots
+blank columns rows = record { columns = columns; rows = rows; dots = replicate (rows * columns) None }
 
 -- what the place in column x of row y shows; nothing off the screen
 abbrev pub dot_at : Dots → ℕ → ℕ → Option Dot

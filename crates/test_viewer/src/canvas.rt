@@ -1,7 +1,7 @@
 //! What the places of a screen show.
 
-ghost use Rattle.std.specs.Prelude.{◌≡◌, ℕ, ◌+◌, ◌-◌, ◌*◌, ◌<◌, ◌≤◌, length, slice_index_or, if◌then◌else◌, None, IfOk, OnOk, OnErr};
-ghost use Rattle.test_viewer.specs.Canvas.{dot_at, Dots, filled, copied_dots, row_filled};
+ghost use Rattle.std.specs.Prelude.{◌≡◌, ℕ, ◌+◌, ◌*◌, ◌^◌, ◌<◌, ◌≤◌, min, length, slice_index_or, None, IfOk, OnOk, OnErr};
+ghost use Rattle.test_viewer.specs.Canvas.{dot_at, blank, filled, copied_dot, copied_dots, row_filled};
 
 use crate::stages::Block;
 use pixel_translate::{Area, PixelFormat};
@@ -53,6 +53,7 @@ fn fill_rows(
     dot: Option<Dot>,
 )
     requires some { across.0 ≤ across.1 }
+    requires order { down.0 ≤ down.1 }
     requires wide { across.1 ≤ columns }
     requires high { down.1 * columns ≤ length dots.old }
     requires small { columns < 2 ^ 16 }
@@ -67,7 +68,10 @@ fn fill_rows(
 }
 
 /// Where a side begins and ends that is cut to so many places.
-fn cut(start: u32, length: u16, places: usize) -> (usize, usize) {
+fn cut(start: u32, length: u16, places: usize) -> (usize, usize)
+    ensures start { result.0 ≡ min start places }
+    ensures end { result.1 ≡ min (start + length) places }
+{
     let start = start as usize;
     let end = start + usize::from(length);
     (start.min(places), end.min(places))
@@ -75,7 +79,9 @@ fn cut(start: u32, length: u16, places: usize) -> (usize, usize) {
 
 impl Canvas {
     /// No screen.
-    pub(crate) fn empty(alloc: Global) -> Canvas {
+    pub(crate) fn empty(alloc: Global) -> Canvas
+        ensures { result ≡ blank 0 0 }
+    {
         Canvas {
             alloc,
             columns: 0,
@@ -85,10 +91,12 @@ impl Canvas {
     }
 
     /// A screen that shows nothing.
-    pub(crate) fn new(alloc: Global, columns: u16, rows: u16) -> Result<Canvas, AllocError> {
+    pub(crate) fn new(alloc: Global, columns: u16, rows: u16) -> Result<Canvas, AllocError>
+        ensures { IfOk result (λ c. c ≡ blank columns rows) }
+    {
         let columns = usize::from(columns);
         let rows = usize::from(rows);
-        let dots = vec![in alloc; None; columns * rows]?;
+        let dots = vec![in alloc; None; rows * columns]?;
         Ok(Canvas {
             alloc,
             columns,
@@ -98,7 +106,9 @@ impl Canvas {
     }
 
     /// What the place in column x of row y shows; nothing off the screen.
-    pub(crate) fn dot(&self, x: usize, y: usize) -> Option<Dot> {
+    pub(crate) fn dot(&self, x: usize, y: usize) -> Option<Dot>
+        ensures { result ≡ dot_at self.now x y }
+    {
         if x < self.columns && y < self.rows {
             self.dots[y * self.columns + x]
         } else {
@@ -107,14 +117,22 @@ impl Canvas {
     }
 
     /// A block shows a dot, or nothing, as far as it lies on the screen.
-    pub(crate) fn fill(&mut self, block: Block, dot: Option<Dot>) {
+    pub(crate) fn fill(&mut self, block: Block, dot: Option<Dot>)
+        ensures columns { self.new.columns ≡ self.old.columns }
+        ensures rows { self.new.rows ≡ self.old.rows }
+        ensures dots { (x y : ℕ) → dot_at self.new x y ≡ filled self.old block dot x y }
+    {
         let across = cut(block.x, block.columns, self.columns);
         let down = cut(block.y, block.rows, self.rows);
         fill_rows(&mut self.dots, self.columns, across, down, dot);
     }
 
     /// What the place in column x of row y shows once an area shows what the area at another place shows.
-    fn dot_behind(&self, area: Area, from: (u16, u16), x: usize, y: usize) -> Option<Dot> {
+    fn dot_behind(&self, area: Area, from: (u16, u16), x: usize, y: usize) -> Option<Dot>
+        requires x { x < 2 ^ 16 }
+        requires y { y < 2 ^ 16 }
+        ensures { result ≡ copied_dot self.now area from x y }
+    {
         let (left, top) = (usize::from(area.x), usize::from(area.y));
         let inside = left <= x
             && x - left < usize::from(area.w)
@@ -131,7 +149,10 @@ impl Canvas {
     }
 
     /// An area shows what the area of its size at another place shows, all at once.
-    pub(crate) fn copy(&mut self, area: Area, from: (u16, u16)) -> Result<(), AllocError> {
+    pub(crate) fn copy(&mut self, area: Area, from: (u16, u16)) -> Result<(), AllocError>
+        ensures ok { OnOk result (self.new ≡ record self.old { dots = copied_dots self.old area from }) }
+        ensures err { OnErr result (self.new ≡ self.old) }
+    {
         let mut dots = Vec::with_capacity(self.alloc, self.dots.len())?;
         for k in 0..self.dots.len() {
             dots.push(self.dot_behind(area, from, k % self.columns, k / self.columns))?;

@@ -1,6 +1,8 @@
 //! The rectangles of an update, in Raw, CopyRect and RRE (RFC 6143 sections 7.7.1 to 7.7.3).
 
-ghost use Rattle.std.specs.Prelude.{◌≤◌};
+ghost use Rattle.std.specs.Prelude.{◌≡◌, ◌+◌, ◌≤◌, ◌<◌, Err, IsErr, Ok, IfOk};
+ghost use Rattle.test_viewer.specs.Read.{block_of};
+ghost use Rattle.test_viewer.specs.Groups.{area_of_bytes, pixel_of_bytes, four_at};
 
 use crate::fault::{FaultKind, Halt};
 use crate::groups::{Group, area_in, four, leaves, pixel_in, two};
@@ -9,7 +11,9 @@ use crate::tiles;
 use pixel_translate::Area;
 
 /// The places of an area.
-pub(crate) fn whole(area: Area) -> Block {
+pub(crate) fn whole(area: Area) -> Block
+    ensures { result ≡ block_of area }
+{
     Block {
         x: u32::from(area.x),
         y: u32::from(area.y),
@@ -19,7 +23,9 @@ pub(crate) fn whole(area: Area) -> Block {
 }
 
 /// A block comes pixel by pixel. It has places.
-pub(crate) fn by_pixels(reading: Reading, block: Block) -> Reading {
+pub(crate) fn by_pixels(reading: Reading, block: Block) -> Reading
+    ensures { result.area ≡ reading.area }
+{
     Reading {
         cursor: Cursor {
             block,
@@ -32,7 +38,14 @@ pub(crate) fn by_pixels(reading: Reading, block: Block) -> Reading {
 }
 
 /// A rectangle's place and size, which lies on the screen, and its encoding.
-fn read_head(reading: Reading, bytes: &Group) -> Result<Step, Halt> {
+fn read_head(reading: Reading, bytes: &Group) -> Result<Step, Halt>
+    ensures known { IfOk result (λ step. four_at bytes.now 8 < 6) }
+    ensures three { four_at bytes.now 8 ≡ 3 → IsErr result }
+    ensures four { four_at bytes.now 8 ≡ 4 → IsErr result }
+    ensures area { IfOk result (λ step. step.reading.area ≡ area_of_bytes bytes.now 0) }
+    ensures columns { IfOk result (λ step. step.reading.area.x + step.reading.area.w ≤ reading.columns) }
+    ensures rows { IfOk result (λ step. step.reading.area.y + step.reading.area.h ≤ reading.rows) }
+{
     let area = area_in(bytes, 0);
     if let Some(offset) = leaves(area, reading.columns, reading.rows) {
         return halt(FaultKind::Rectangle, offset);
@@ -113,7 +126,9 @@ fn read_pixel(reading: Reading, bytes: &Group) -> Result<Step, Halt> {
 }
 
 /// How many subrectangles there are, and the background, which all places show before them.
-fn read_rre(reading: Reading, bytes: &Group) -> Result<Step, Halt> {
+fn read_rre(reading: Reading, bytes: &Group) -> Result<Step, Halt>
+    ensures { IfOk result (λ step. step.effect ≡ Effect.Fill (block_of reading.area) (pixel_of_bytes reading.format bytes.now 4)) }
+{
     let pixel = pixel_in(&reading.format, bytes, 4);
     let count = four(bytes, 0);
     let behind = if count == 0 {
@@ -134,7 +149,9 @@ fn read_rre(reading: Reading, bytes: &Group) -> Result<Step, Halt> {
 }
 
 /// The places of a subrectangle, which is counted from its rectangle's corner.
-fn placed(outer: Area, inner: Area) -> Block {
+fn placed(outer: Area, inner: Area) -> Block
+    ensures { result ≡ record { x = outer.x + inner.x; y = outer.y + inner.y; columns = inner.w; rows = inner.h } }
+{
     Block {
         x: u32::from(outer.x) + u32::from(inner.x),
         y: u32::from(outer.y) + u32::from(inner.y),

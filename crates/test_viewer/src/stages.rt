@@ -1,6 +1,6 @@
 //! What comes next, and what is kept of what came.
 
-ghost use Rattle.std.specs.Prelude.{◌≡◌, ◌≤◌};
+ghost use Rattle.std.specs.Prelude.{◌≡◌, ◌≤◌, Ok, Err};
 
 use crate::fault::{FaultKind, Halt};
 use crate::groups::Group;
@@ -199,7 +199,9 @@ impl Reading {
     }
 
     /// The same, with another group to come.
-    pub(crate) fn at(self, stage: Stage) -> Reading {
+    pub(crate) fn at(self, stage: Stage) -> Reading
+        ensures { result ≡ record self { stage = stage } }
+    {
         Reading { stage, ..self }
     }
 
@@ -229,7 +231,9 @@ impl Reading {
     }
 
     /// The next rectangle comes, or, behind the last, a message.
-    pub(crate) fn next_rectangle(self) -> Reading {
+    pub(crate) fn next_rectangle(self) -> Reading
+        ensures { result.area ≡ self.area }
+    {
         if self.rectangles > 0 {
             Reading {
                 rectangles: self.rectangles - 1,
@@ -271,7 +275,9 @@ impl Reading {
 }
 
 /// A group that shows nothing.
-pub(crate) fn silent(reading: Reading) -> Result<Step, Halt> {
+pub(crate) fn silent(reading: Reading) -> Result<Step, Halt>
+    ensures { result ≡ Ok (record { reading = reading; effect = Effect.Nothing }) }
+{
     Ok(Step {
         reading,
         effect: Effect::Nothing,
@@ -279,6 +285,8 @@ pub(crate) fn silent(reading: Reading) -> Result<Step, Halt> {
 }
 
 /// A group with a wrong field.
-pub(crate) fn halt(kind: FaultKind, offset: u64) -> Result<Step, Halt> {
+pub(crate) fn halt(kind: FaultKind, offset: u64) -> Result<Step, Halt>
+    ensures { result ≡ Err (record { kind = kind; offset = offset }) }
+{
     Err(Halt { kind, offset })
 }

@@ -1,6 +1,7 @@
 //! The tiles of a rectangle in Hextile (RFC 6143 section 7.7.4).
 
-ghost use Rattle.std.specs.Prelude.{◌≤◌};
+ghost use Rattle.std.specs.Prelude.{◌≡◌, ◌-◌, ◌≤◌, min, IfSome};
+ghost use Rattle.test_viewer.specs.Read.{in_tile, tile_block};
 
 use crate::fault::{FaultKind, Halt};
 use crate::groups::{Group, pixel_in};
@@ -24,7 +25,9 @@ fn has(bits: u8, bit: u8) -> bool {
 }
 
 /// The tile at a rectangle's corner comes. Nothing is carried to it.
-pub(crate) fn first_tile(reading: Reading) -> Reading {
+pub(crate) fn first_tile(reading: Reading) -> Reading
+    ensures { result.area ≡ reading.area }
+{
     let tile = Tile {
         column: 0,
         row: 0,
@@ -41,13 +44,15 @@ pub(crate) fn first_tile(reading: Reading) -> Reading {
 
 /// How much of a side of this length a tile has that begins so far from its start: 16, or less at the end.
 fn extent(length: u16, start: u16) -> u16
-    ensures { result ≤ 16 }
+    ensures { result ≡ min (length - start) 16 }
 {
     length.saturating_sub(start).min(16)
 }
 
 /// The places of a tile.
-fn places_of(area: Area, tile: Tile) -> Block {
+fn places_of(area: Area, tile: Tile) -> Block
+    ensures { result ≡ tile_block area tile }
+{
     Block {
         x: u32::from(area.x) + u32::from(tile.column),
         y: u32::from(area.y) + u32::from(tile.row),
@@ -57,7 +62,10 @@ fn places_of(area: Area, tile: Tile) -> Block {
 }
 
 /// The tile behind this one: in its row of tiles, else at the start of the next row.
-fn next_tile(area: Area, tile: Tile) -> Option<Tile> {
+fn next_tile(area: Area, tile: Tile) -> Option<Tile>
+    ensures background { IfSome result (λ next. next.background ≡ tile.background) }
+    ensures foreground { IfSome result (λ next. next.foreground ≡ tile.foreground) }
+{
     if u32::from(tile.column) + 16 < u32::from(area.w) {
         Some(Tile {
             column: tile.column + 16,
@@ -130,7 +138,9 @@ fn behind_foreground(reading: Reading, tile: Tile) -> Reading {
 }
 
 /// A tile's background, which all its places show first, and what comes behind it.
-fn with_background(reading: Reading, tile: Tile, pixel: u32) -> Step {
+fn with_background(reading: Reading, tile: Tile, pixel: u32) -> Step
+    ensures { result.effect ≡ Effect.Fill (tile_block reading.area tile) pixel }
+{
     let tile = Tile {
         background: Some(pixel),
         ..tile
@@ -199,7 +209,9 @@ fn read_count(reading: Reading, tile: Tile, count: u8) -> Result<Step, Halt> {
 }
 
 /// Which byte of a subrectangle, of its place and its size, is the first with which it leaves a tile, if it leaves it.
-fn leaves_tile(tile: Block, place: u8, size: u8) -> Option<u64> {
+fn leaves_tile(tile: Block, place: u8, size: u8) -> Option<u64>
+    ensures { IfSome result (λ k. k ≤ 1) }
+{
     let (x, y) = (u16::from(place / 16), u16::from(place % 16));
     let (columns, rows) = (u16::from(size / 16) + 1, u16::from(size % 16) + 1);
     if x >= tile.columns || y >= tile.rows {
@@ -212,7 +224,9 @@ fn leaves_tile(tile: Block, place: u8, size: u8) -> Option<u64> {
 }
 
 /// The places of a tile's subrectangle, which is counted from the tile's corner.
-fn placed(area: Area, tile: Tile, place: u8, size: u8) -> Block {
+fn placed(area: Area, tile: Tile, place: u8, size: u8) -> Block
+    ensures { result ≡ in_tile area tile place size }
+{
     Block {
         x: u32::from(area.x) + u32::from(tile.column) + u32::from(place / 16),
         y: u32::from(area.y) + u32::from(tile.row) + u32::from(place % 16),

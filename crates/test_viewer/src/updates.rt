@@ -1,11 +1,18 @@
 //! The server's messages, but for an update's rectangles (RFC 6143 section 7.6).
 
+ghost use Rattle.std.specs.Prelude.{◌≡◌, ◌<◌, ◌⊎◌, Ok, Err};
+ghost use Rattle.test_viewer.specs.Read.{update_begun};
+
 use crate::fault::{FaultKind, Halt};
 use crate::groups::{Group, four, two};
-use crate::stages::{Reading, Stage, Step, halt, silent};
+use crate::stages::{Effect, Reading, Stage, Step, halt, silent};
 
 /// A message's type: an update is 0, a bell 2, a text 3. An update is read in the format that was asked for before it begins.
-fn read_type(reading: Reading, kind: u8) -> Result<Step, Halt> {
+fn read_type(reading: Reading, kind: u8) -> Result<Step, Halt>
+    ensures update { kind ≡ 0 → result ≡ Ok (update_begun reading) }
+    ensures bell { kind ≡ 2 → result ≡ Ok (record { reading = reading; effect = Effect.Nothing }) }
+    ensures unknown { (kind ≡ 1) ⊎ (3 < kind) → result ≡ Err (record { kind = FaultKind.Message; offset = 0 }) }
+{
     match kind {
         0 => {
             let format = reading.chosen.unwrap_or(reading.format);
