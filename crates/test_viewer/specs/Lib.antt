@@ -1,0 +1,4 @@
+pub mod Canvas
+pub mod Groups
+pub mod Read
+pub mod Shown

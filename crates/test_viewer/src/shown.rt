@@ -1,0 +1,205 @@
+//! The calls of the viewer.
+
+ghost use Rattle.std.specs.Prelude.{◌≡◌, ℕ, ◌<◌, None, Some, IsSome, OnOk, OnErr, IfErr};
+ghost use Rattle.pixel_translate.specs.declared.Area.{Area};
+ghost use Rattle.test_viewer.specs.declared.stages.Block.{Block};
+ghost use Rattle.test_viewer.specs.Canvas.{dot_at, filled, copied_dots};
+ghost use Rattle.test_viewer.specs.Shown.{shown_at, request_bytes, shown_behind_request, set_format_bytes};
+
+use crate::canvas::{Canvas, Dot};
+use crate::fault::{Fault, FaultKind};
+use crate::groups::Group;
+use crate::rectangles::whole;
+use crate::stages::{Effect, Reading, group_size, pixel_size};
+use messages::Version;
+use pixel_translate::{Area, PixelFormat};
+use std::alloc::{AllocError, Global};
+use std::marker::Model;
+
+/// A viewer that reads what a server sends. Of what isn't read yet it keeps fewer than 24 bytes, and of a text or a name
+/// none: beside those it has what each place of the screen shows.
+#[derive(Drop)]
+pub struct Shown {
+    alloc: Global,
+    canvas: Canvas,
+    reading: Reading,
+    /// The bytes of the group that comes, and how many of them came.
+    group: Group,
+    count: usize,
+    /// How many bytes stand before the group.
+    begun: u64,
+    fault: Option<Fault>,
+}
+
+impl Model for Shown {
+    ghost use Rattle.std.specs.Prelude.{◌<◌};
+    ghost use Rattle.test_viewer.specs.Shown.{View};
+
+    ghost Value = { View };
+
+    ghost view = { λ s. record { canvas = s.canvas; reading = s.reading; kept = s.count; fault = s.fault } };
+
+    ghost invariant = { λ s. s.count < 24 };
+}
+
+impl Shown {
+    /// A viewer of this version, to which nothing was told. It shows nothing.
+    pub fn new(alloc: Global, version: Version) -> Shown
+        ensures told { result.fault ≡ None }
+        ensures shown { (x y : ℕ) → shown_at result x y ≡ None }
+    {
+        Shown {
+            alloc,
+            canvas: Canvas::empty(alloc),
+            reading: Reading::new(version),
+            group: [0; 24],
+            count: 0,
+            begun: 0,
+            fault: None,
+        }
+    }
+
+    /// Shows what a group of bytes says, in the format in which it was read.
+    fn show(&mut self, effect: Effect, format: PixelFormat) -> Result<(), AllocError>
+        ensures fill { (block : Block) (pixel x y : ℕ) → effect ≡ Effect.Fill block pixel → dot_at self.new.canvas x y ≡ filled self.old.canvas block (Some (record { format = format; pixel = pixel })) x y }
+        ensures copy { (area : Area) (from_x from_y : ℕ) → effect ≡ Effect.Copy area from_x from_y → OnOk result (self.new.canvas ≡ record self.old.canvas { dots = copied_dots self.old.canvas area (from_x, from_y) }) }
+        ensures reading { self.new.reading ≡ self.old.reading }
+    {
+        match effect {
+            Effect::Nothing => Ok(()),
+            Effect::Screen { columns, rows } => {
+                self.canvas = Canvas::new(self.alloc, columns, rows)?;
+                Ok(())
+            }
+            Effect::Fill { block, pixel } => {
+                self.canvas.fill(block, Some(Dot { format, pixel }));
+                Ok(())
+            }
+            Effect::Copy { area, x, y } => self.canvas.copy(area, (x, y)),
+        }
+    }
+
+    /// Reads the group of so many bytes that came.
+    fn take_group(&mut self, count: usize) {
+        match self.reading.read(&self.group) {
+            Ok(step) => match self.show(step.effect, self.reading.format) {
+                Ok(()) => self.reading = step.reading,
+                Err(_) => {
+                    let at = self.begun;
+                    self.fault = Some(Fault {
+                        kind: FaultKind::OutOfMemory,
+                        at,
+                    });
+                }
+            },
+            Err(halt) => {
+                let at = self.begun.saturating_add(halt.offset);
+                self.fault = Some(Fault {
+                    kind: halt.kind,
+                    at,
+                });
+            }
+        }
+        self.begun = self.begun.saturating_add(count as u64);
+        self.count = 0;
+    }
+
+    /// A byte comes. Behind a fault it isn't read.
+    fn hear(&mut self, byte: u8)
+        ensures { IsSome self.old.fault → self.new ≡ self.old }
+    {
+        if self.fault.is_some() {
+            return;
+        }
+        self.group[self.count] = byte;
+        let count = self.count + 1;
+        if count < group_size(self.reading.stage, pixel_size(&self.reading.format)) {
+            self.count = count;
+        } else {
+            self.take_group(count);
+        }
+    }
+
+    /// The fault that the viewer was told, if it was told one.
+    fn answer(&self) -> Result<(), Fault>
+        ensures ok { OnOk result (self.now.fault ≡ None) }
+        ensures err { IfErr result (λ e. self.now.fault ≡ Some e) }
+    {
+        match self.fault {
+            Some(fault) => Err(fault),
+            None => Ok(()),
+        }
+    }
+
+    /// The server says these bytes, which may be cut anywhere. Where they break the RFC, or memory is refused, nothing is
+    /// read behind that, each further call answers the same fault, and no place shows anything.
+    pub fn told(&mut self, piece: &[u8]) -> Result<(), Fault>
+        ensures ok { OnOk result (self.new.fault ≡ None) }
+        ensures err { IfErr result (λ e. self.new.fault ≡ Some e) }
+        ensures blank { OnErr result ((x y : ℕ) → shown_at self.new x y ≡ None) }
+        ensures faulted { IsSome self.old.fault → self.new ≡ self.old }
+    {
+        for byte in piece {
+            self.hear(*byte);
+        }
+        self.answer()
+    }
+
+    /// How many bytes the viewer keeps of those that it can't read yet.
+    pub fn kept(&self) -> usize
+        ensures value { result ≡ self.now.kept }
+        ensures bound { result < 24 }
+    {
+        self.count
+    }
+
+    /// The FramebufferUpdateRequest of an area (RFC 6143 section 7.5.3). One that isn't incremental says that the viewer has
+    /// lost what the area shows, so it shows nothing from then on.
+    pub fn request(&mut self, area: Area, incremental: bool) -> [u8; 10]
+        ensures bytes { result ≡ request_bytes area incremental }
+        ensures fault { self.new.fault ≡ self.old.fault }
+        ensures shown { (x y : ℕ) → shown_at self.new x y ≡ shown_behind_request self.old area incremental x y }
+    {
+        if !incremental {
+            self.canvas.fill(whole(area), None);
+        }
+        let [x_high, x_low] = area.x.to_be_bytes();
+        let [y_high, y_low] = area.y.to_be_bytes();
+        let [w_high, w_low] = area.w.to_be_bytes();
+        let [h_high, h_low] = area.h.to_be_bytes();
+        [
+            3,
+            u8::from(incremental),
+            x_high,
+            x_low,
+            y_high,
+            y_low,
+            w_high,
+            w_low,
+            h_high,
+            h_low,
+        ]
+    }
+
+    /// The SetPixelFormat of a format (RFC 6143 section 7.5.1), in which the pixels of later updates are read.
+    pub fn format(&mut self, format: &PixelFormat) -> [u8; 20]
+        ensures bytes { result ≡ set_format_bytes format.now }
+        ensures chosen { self.new ≡ record self.old { reading = record self.old.reading { chosen = Some format.now } } }
+    {
+        self.reading.chosen = Some(*format);
+        let mut bytes = [0; 20];
+        bytes[4..20].copy_from_slice(&format.to_bytes());
+        bytes
+    }
+
+    /// What the place in column x of row y shows: a pixel, and the format in which it was read; or nothing.
+    pub fn place(&self, x: u32, y: u32) -> Option<(PixelFormat, u32)>
+        ensures { result ≡ shown_at self.now x y }
+    {
+        if self.fault.is_some() {
+            return None;
+        }
+        let dot = self.canvas.dot(x as usize, y as usize)?;
+        Some((dot.format, dot.pixel))
+    }
+}
