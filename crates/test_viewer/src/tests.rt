@@ -360,7 +360,7 @@ fn shows(viewer: &Shown, columns: u8, rows: u8, pixels: &[u32]) -> bool {
     let (columns, rows) = (u32::from(columns), u32::from(rows));
     let mut right = pixel(viewer, columns, 0) == NOTHING && pixel(viewer, 0, rows) == NOTHING;
     for (k, wanted) in pixels.iter().enumerate() {
-        let place = k as u32;
+        let place = u32::try_from(k).unwrap_or(u32::MAX);
         right = right && pixel(viewer, place % columns.max(1), place / columns.max(1)) == *wanted;
     }
     right
@@ -406,7 +406,7 @@ fn is_refused(
     let mut bytes = opening(alloc, 33, 3)?;
     let fault = Err(Fault {
         kind,
-        at: bytes.len() as u64 + at,
+        at: (bytes.len() as u64).saturating_add(at),
     });
     bytes.extend_from_slice(messages)?;
     let (_, whole) = told_in(alloc, &bytes, bytes.len());
