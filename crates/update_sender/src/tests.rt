@@ -181,7 +181,7 @@ const WHOLE: [u8; 64] = [
     0, 10, 0, 0, 0,
 ];
 
-/// The place in column 1 of row 1 in that colour.
+/// One place, at (1, 1), in that colour.
 const PLACE: [u8; 20] = [0, 0, 0, 1, 0, 1, 0, 1, 0, 1, 0, 1, 0, 0, 0, 0, 10, 0, 0, 0];
 
 /// Whether a viewer that opens and asks for the screen is sent all of it in that colour.
