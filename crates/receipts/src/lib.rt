@@ -49,6 +49,17 @@ impl Ended {
     }
 }
 
+impl From<AllocError> for Ended {
+    ghost use Rattle.std.specs.Prelude.{◌≡◌};
+    ghost use Rattle.receipts.specs.declared.Ended.TheVariants.{Memory};
+
+    ghost from_gives = { λ _ e. e ≡ Memory };
+
+    fn from(_error: AllocError) -> Ended {
+        Ended::Memory
+    }
+}
+
 /// What was heard and sent of one viewer.
 #[derive(Debug, Drop)]
 pub struct Receipt {

@@ -2,7 +2,7 @@
 
 ghost use Rattle.std.specs.Prelude.{◌≡◌, ◌≢◌, ◌++◌, ◌∷◌, [], List, IfSome, IfOk, OnOk, OnErr, MatchOption, MatchResult, IsOk, IsOkUnless, IsSome, None, Some, length, slice_index, is_some, ◌↔◌, ◌<◌, ◌+◌, ◌*◌};
 ghost use Rattle.std.specs.Map.{keys_of};
-ghost use Rattle.messages.specs.Reading.{fault_kept};
+ghost use Rattle.messages.specs.Reading.{fault_kept, is_open_rest};
 ghost use Rattle.messages.specs.Server.{server_version};
 ghost use Rattle.scene.specs.declared.Config.{Config};
 ghost use Rattle.scene.specs.declared.Event.{Event};
@@ -125,6 +125,17 @@ impl Scene {
     {
         match self.viewers.get(number) {
             Some(viewer) => Ok(viewer.fault()),
+            None => Err(ScreenError::NoViewer),
+        }
+    }
+
+    /// Whether a viewer had its ServerInit (RFC 6143, 7.3.2) and met no fault. Refused as `NoViewer` where there is none with the
+    /// number.
+    pub fn is_open(&self, number: u64) -> Result<bool, ScreenError>
+        ensures { MatchOption (viewer_at self.now number) (result ≡ Err ScreenError.NoViewer) (λ viewer. result ≡ Ok (is_open_rest viewer.heard)) }
+    {
+        match self.viewers.get(number) {
+            Some(viewer) => Ok(viewer.is_open()),
             None => Err(ScreenError::NoViewer),
         }
     }

@@ -4,7 +4,7 @@
 
 ghost use Rattle.std.specs.Prelude.{◌≡◌, ◌≢◌, ◌++◌, ◌∷◌, [], List, IfSome, IfOk, OnOk, OnErr, MatchOption, MatchResult, IsOk, IsOkUnless, IsSome, None, length, slice_index, is_some, option_map, ◌↔◌, ◌<◌, ◌+◌, ◌*◌};
 ghost use Rattle.std.specs.Map.{keys_of};
-ghost use Rattle.messages.specs.Reading.{fault_kept};
+ghost use Rattle.messages.specs.Reading.{fault_kept, is_open_rest};
 ghost use Rattle.messages.specs.Server.{server_version};
 ghost use Rattle.scene.specs.declared.Config.{Config};
 ghost use Rattle.scene.specs.declared.Event.{Event};
@@ -114,6 +114,14 @@ impl Screen {
         ensures { MatchOption (viewer_at self.now number) (result ≡ Err ScreenError.NoViewer) (λ viewer. result ≡ Ok (fault_kept viewer.heard)) }
     {
         self.scene.fault(number)
+    }
+
+    /// Whether a viewer had its ServerInit (RFC 6143, 7.3.2) and met no fault. Refused as `NoViewer` where there is none with the
+    /// number.
+    pub fn is_open(&self, number: u64) -> Result<bool, ScreenError>
+        ensures { MatchOption (viewer_at self.now number) (result ≡ Err ScreenError.NoViewer) (λ viewer. result ≡ Ok (is_open_rest viewer.heard)) }
+    {
+        self.scene.is_open(number)
     }
 
     /// Replaces the colours of a rectangle by others, `0x00RRGGBB` row by row, whose top bytes are

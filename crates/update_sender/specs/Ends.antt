@@ -43,6 +43,10 @@ listened piece l = record l { pieces = one_more l.pieces; heard = option_map (λ
 abbrev pub has_cut : Speaking → Speaking
 has_cut s = record s { cuts = one_more s.cuts }
 
+-- bytes more were written
+abbrev pub has_sent : List ℕ → Speaking → Speaking
+has_sent added s = record s { sent = option_map (λ bytes. bytes ++ added) s.sent }
+
 -- the brush's list with a call more, where there is one
 abbrev pub drew : Event → Option (List Event) → Option (List Event)
 drew e drawn = option_map (λ events. events ++ e ∷ []) drawn

@@ -12,6 +12,11 @@ abbrev pub first_of : {X : Type 0} → History → Option (List X)
 first_of Kept = Some []
 first_of NotKept = None
 
+-- all of it; nothing where none is kept
+abbrev pub all_of : {X : Type 0} → Option (List X) → List X
+all_of None = []
+all_of (Some items) = items
+
 -- there is room for so many more, where any are kept
 abbrev pub HasRoom : {X : Type 0} → ℕ → Option (Vec X) → Type 0
 HasRoom more None = Unit {0}

@@ -1,6 +1,6 @@
 -- What stands behind the lock, and what each hold does to it.
 use Rattle.std.specs.Prelude.{◌≡◌, ℕ, suc, Bool, true, false, List, [], ◌∷◌, ◌++◌, length, Option, Some, None}
-use Rattle.messages.specs.Reading.{fault_kept}
+use Rattle.messages.specs.Reading.{fault_kept, is_open_rest}
 use Rattle.viewer.specs.Viewer.{KeptViewer}
 use Rattle.scene.specs.declared.Event.{Event}
 use Rattle.scene.specs.declared.Event.TheVariants.{Cut}
@@ -56,6 +56,11 @@ ending held v = if_stopped held.stopped (ending_of (viewer_at held.screen v))
     if_stopped : Bool → Option Turn → Option Turn
     if_stopped true rest = Some Stopped
     if_stopped false rest = rest
+
+-- a live viewer had its ServerInit, and met no fault
+abbrev pub is_open_now : Option KeptViewer → Bool
+is_open_now None = false
+is_open_now (Some viewer) = is_open_rest viewer.heard
 
 -- a turn is an event where it sends
 abbrev pub Takes : ℕ → Held → Held → Option Turn → Type 0

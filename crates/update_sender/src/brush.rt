@@ -21,8 +21,8 @@ use std::sync::ledger::{Ledger, Share};
 /// Draws on a shared screen. Contracts see the list of its accepted calls, where the history is kept.
 #[derive(Drop)]
 pub struct Brush<L: Ledger> {
-    drawn: Recorded<Event>,
-    share: Share<L>,
+    pub(crate) drawn: Recorded<Event>,
+    pub(crate) share: Share<L>,
 }
 
 impl<L: Ledger> Model for Brush<L> {

@@ -9,7 +9,7 @@ ghost use Rattle.scene.specs.Refusals.{absence, Refuses};
 ghost use Rattle.screen.specs.State.{state, viewer_at, refusal};
 ghost use Rattle.update_sender.specs.Calls.{event_of};
 ghost use Rattle.update_sender.specs.Numbers.{is_next};
-ghost use Rattle.update_sender.specs.Standing.{Draws, Joins, StepsAlone, Takes, ending};
+ghost use Rattle.update_sender.specs.Standing.{Draws, Joins, StepsAlone, Takes, ending, is_open_now};
 
 use crate::drawing::Drawing;
 use crate::turn::Turn;
@@ -102,6 +102,13 @@ impl<L: Ledger> Desk<L> {
         Ok(answer)
     }
 
+    /// Whether a viewer had its ServerInit and met no fault.
+    pub fn is_open(&self, number: u64) -> bool
+        ensures { result ≡ is_open_now (viewer_at self.now.screen number) }
+    {
+        matches!(self.screen.is_open(number), Ok(true))
+    }
+
     /// A drawing call, which is counted.
     pub fn draw(&mut self, share: &mut Share<L>, drawing: &Drawing<'_>) -> Result<(), ScreenError>
         requires { 0 < share.old.parts }
@@ -155,5 +162,13 @@ impl<L: Ledger> Desk<L> {
         ensures { self.new ≡ record self.old { stopped = true } }
     {
         self.stopped = true;
+    }
+
+    /// The screen and the count of drawing calls.
+    pub fn parts(self) -> (Screen, Book<L>)
+        ensures screen { result.0 ≡ self.screen }
+        ensures drawings { result.1.total ≡ self.drawn }
+    {
+        (self.screen, self.drawings)
     }
 }

@@ -8,16 +8,21 @@ ghost use Rattle.update_sender.specs.Recorded.{HasRoom};
 
 use crate::recorded::Recorded;
 use listed::Listed;
+use messages::Input;
 use screen::History;
 use std::alloc::Global;
 use std::marker::Model;
+use std::mem;
 
 /// The end that hears a viewer.
 #[derive(Drop)]
 pub struct Listener {
+    alloc: Global,
     pub(crate) viewer: u64,
     pub(crate) pieces: u64,
     pub(crate) heard: Recorded<u8>,
+    // inputs that came with the opening, and wait for a queue
+    pub(crate) waiting: Listed<Input>,
 }
 
 impl Model for Listener {
@@ -27,6 +32,16 @@ impl Model for Listener {
     ghost Value = { Listening };
 
     ghost view = { λ a. record { viewer = a.viewer; pieces = a.pieces; heard = items_of a.heard.items } };
+}
+
+impl Listener {
+    /// The inputs that wait, which are then no more.
+    pub(crate) fn take_waiting(&mut self) -> Listed<Input>
+        ensures { self.new ≡ self.old }
+    {
+        let none = Listed::new(self.alloc);
+        mem::replace(&mut self.waiting, none)
+    }
 }
 
 /// The end that sends to it.
@@ -78,9 +93,11 @@ impl Line {
         ensures { result ≡ greeted viewer history }
     {
         let listener = Listener {
+            alloc,
             viewer,
             pieces: 0,
             heard: Recorded::new(alloc, history),
+            waiting: Listed::new(alloc),
         };
         let speaker = Speaker {
             viewer,

@@ -6,14 +6,27 @@
 mod brush;
 mod desk;
 mod drawing;
+mod ending;
 mod ends;
+mod gate;
+mod hearing;
+mod opening;
+mod reader;
 mod recorded;
+mod sender;
 mod shared;
 #[cfg(test)]
 mod tests;
 mod turn;
+mod writing;
 
 pub use brush::Brush;
+pub use ending::{finish, receipt};
 pub use ends::{Line, Listener, Speaker};
+pub use gate::{Gate, OpenGate};
+pub use opening::{Opened, serve_opening};
+pub use reader::{ReadHalf, serve_reader};
+pub use receipts::{Ended, FinishError, Report, Sent, check};
 pub use screen::{Answer, Config, Event, History, Rect, Region, ScreenError, Update};
+pub use sender::{WriteHalf, serve_sender};
 pub use shared::Shared;

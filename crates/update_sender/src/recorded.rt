@@ -1,7 +1,7 @@
 //! What is noted one after the other where the history is kept, as a brush's calls or a viewer's bytes.
 
 ghost use Rattle.std.specs.Prelude.{◌≡◌, ◌≤◌, ◌+◌, true, vec_len, vec_capacity, ◌∷◌, ◌++◌, [], length, IfOk, OnOk, is_some, option_map};
-ghost use Rattle.update_sender.specs.Recorded.{HasRoom, first_of, items_of};
+ghost use Rattle.update_sender.specs.Recorded.{HasRoom, all_of, first_of, items_of};
 
 use listed::Listed;
 use screen::History;
@@ -33,6 +33,16 @@ impl<T> Recorded<T> {
         self.items.is_some()
     }
 
+    /// All of it, where it is kept.
+    pub fn as_slice(&self) -> Option<&[T]>
+        ensures { option_map (λ items. items.now) result ≡ items_of self.now.items }
+    {
+        match &self.items {
+            Some(items) => Some(items.as_slice()),
+            None => None,
+        }
+    }
+
     /// Makes room for so many more, where it is kept.
     pub fn make_room(&mut self, more: usize) -> Result<(), AllocError>
         ensures same { items_of self.new.items ≡ items_of self.old.items }
@@ -53,6 +63,16 @@ impl<T> Recorded<T> {
     {
         if let Some(items) = &mut self.items {
             items.push_reserved(item);
+        }
+    }
+
+    /// All of it; nothing where none is kept. This takes no memory.
+    pub fn into_listed(self) -> Listed<T>
+        ensures { result ≡ all_of (items_of self.items) }
+    {
+        match self.items {
+            Some(items) => Listed::from_vec(items),
+            None => Listed::new(self.alloc),
         }
     }
 

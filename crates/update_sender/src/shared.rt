@@ -21,8 +21,8 @@ use std::sync::{Condvar, Mutex, Wait};
 /// A screen that threads share. Contracts see the configuration that it was made with.
 #[derive(Drop)]
 pub struct Shared<L: Ledger> {
-    alloc: Global,
-    config: Config,
+    pub(crate) alloc: Global,
+    pub(crate) config: Config,
     pub(crate) desk: Mutex<Desk<L>>,
     // a waiting sender may go on
     pub(crate) moved: Condvar,
@@ -38,6 +38,14 @@ impl<L: Ledger> Model for Shared<L> {
     ghost view = { λ a. a.config };
 
     ghost invariant = { λ a. config_refusal a.config ≡ None };
+}
+
+/// What a piece brought.
+#[derive(Drop)]
+pub(crate) struct Heard {
+    pub(crate) answer: Answer,
+    // the viewer had its ServerInit, and met no fault
+    pub(crate) is_open: bool,
 }
 
 /// The same configuration once more.
@@ -117,12 +125,42 @@ impl<L: Ledger> Shared<L> {
         ensures err { OnErr result (listener.new ≡ listener.old) }
         ensures refused { IfErr result (λ e. (e ≡ refusals.NoViewer) ⊎ (e ≡ refusals.OutOfMemory)) }
     {
+        let heard = self.hear_further(rt, listener, piece)?;
+        Ok(heard.answer)
+    }
+
+    /// The same, and whether the viewer is open then.
+    pub(crate) fn hear_further<R: Wait>(
+        &self,
+        rt: &R,
+        listener: &mut Listener,
+        piece: &[u8],
+    ) -> Result<Heard, ScreenError>
+        ensures heard { OnOk result (listener.new ≡ listened piece.now listener.old) }
+        ensures err { OnErr result (listener.new ≡ listener.old) }
+        ensures refused { IfErr result (λ e. (e ≡ refusals.NoViewer) ⊎ (e ≡ refusals.OutOfMemory)) }
+    {
         listener.heard.make_room(piece.len())?;
-        let answer = self.desk.lock(rt).hear(listener.viewer, piece)?;
+        let heard = self.hear_in_hold(rt, listener.viewer, piece)?;
         self.moved.notify_all();
         listener.heard.append(piece);
         listener.pieces = listener.pieces.saturating_add(1);
-        Ok(answer)
+        Ok(heard)
+    }
+
+    /// One hold of it.
+    fn hear_in_hold<R: Wait>(
+        &self,
+        rt: &R,
+        viewer: u64,
+        piece: &[u8],
+    ) -> Result<Heard, ScreenError>
+        ensures refused { IfErr result (λ e. (e ≡ refusals.NoViewer) ⊎ (e ≡ refusals.OutOfMemory)) }
+    {
+        let mut desk = self.desk.lock(rt);
+        let answer = desk.hear(viewer, piece)?;
+        let is_open = desk.is_open(viewer);
+        Ok(Heard { answer, is_open })
     }
 
     /// Waits until a viewer's sender has something to do.

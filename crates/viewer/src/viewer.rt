@@ -115,6 +115,13 @@ impl Viewer {
         cut_bytes_in(self.alloc, picture, limit, &mut self.standing)
     }
 
+    /// Whether the viewer had its ServerInit (RFC 6143, 7.3.2) and met no fault.
+    pub fn is_open(&self) -> bool
+        ensures { result ≡ is_open_rest self.now.heard }
+    {
+        self.standing.ear.is_open()
+    }
+
     /// Whether the viewer would keep a notice now.
     pub fn keeps_notices(&self) -> bool
         ensures { result ≡ keeps_notices self.now }

@@ -1,0 +1,35 @@
+-- What a run shows once its threads have ended.
+use Rattle.std.specs.Prelude.{◌≡◌, ℕ, true, List, length, Option, Some, None, Result, Err, IfOk, IfErr, ◌⊎◌}
+use Rattle.scene.specs.declared.Config.{Config}
+use Rattle.scene.specs.declared.History.{History}
+use Rattle.scene.specs.declared.History.TheVariants.{Kept, NotKept}
+use Rattle.scene.specs.declared.Event.{Event}
+use Rattle.scene.specs.History.{drawings, connects}
+use Rattle.receipts.specs.declared.Receipt.{Receipt}
+use Rattle.receipts.specs.declared.Report.{Report}
+use Rattle.receipts.specs.declared.FinishError.{FinishError}
+use Rattle.receipts.specs.declared.FinishError.TheVariants as errors
+use Rattle.receipts.specs.Checking.{checked, Gives}
+use Rattle.receipts.specs.Claims.{IsReportOf, IsRefusedFor}
+use Rattle.update_sender.specs.Numbers.{rises}
+
+-- There is a history whose viewers connected by rising numbers and which has as many drawing calls as were drawn; the answer is what the check says of it, or want of memory. So a report is that history's, and a refusal is for what is wrong with it.
+pub record Judges (c : Config) (drawn : List Event) (receipts : List Receipt) (result : Result Report FinishError) : Type 0 where
+  pub history : List Event
+  pub rising : rises (connects history) ≡ true
+  pub as_many : length (drawings history) ≡ length drawn
+  pub checked : Gives result (checked c history drawn receipts)
+  pub report : IfOk result (λ report. IsReportOf c history drawn receipts report)
+  pub refusal : IfErr result (λ e. IsRefusedFor c history drawn receipts e ⊎ (e ≡ errors.OutOfMemory))
+
+-- a brush that keeps nothing beside a history that is kept is none of this screen's
+abbrev pub judges_drawn : Config → Option (List Event) → List Receipt → Result Report FinishError → Type 0
+judges_drawn c None receipts result = result ≡ Err errors.OutOfMemory
+judges_drawn c (Some drawn) receipts result = Judges c drawn receipts result
+
+abbrev pub Finishes : Config → Option (List Event) → List Receipt → Result Report FinishError → Type 0
+Finishes c drawn receipts result = by_history c.history
+  where
+    by_history : History → Type 0
+    by_history Kept = judges_drawn c drawn receipts result ⊎ (result ≡ Err errors.OutOfMemory)
+    by_history NotKept = result ≡ Err errors.NotKept

@@ -1,0 +1,115 @@
+//! A viewer's opening, from the server's version to the ServerInit (RFC 6143, 7.1 to 7.3).
+
+ghost use Rattle.std.specs.Prelude.{◌≡◌, List, ℕ, [], MatchResult};
+ghost use Rattle.update_sender.specs.Serving.{Opens, Hears, Sends, OpeningEnds, receipt_of};
+
+use crate::ends::{Line, Listener, Speaker};
+use crate::hearing::hear_piece;
+use crate::shared::Shared;
+use receipts::{Ended, Receipt};
+use std::io::{Read, Write};
+use std::sync::Wait;
+use std::sync::ledger::Ledger;
+
+/// How an opening came out.
+#[derive(Drop)]
+pub enum Opened {
+    /// The ServerInit is written. The viewer's two ends: one for `serve_reader`, one for `serve_sender`.
+    Ready(Listener, Speaker),
+    /// It broke off, and the viewer is closed. What was heard and sent until then.
+    Over(Receipt),
+}
+
+/// Writes the server's version, then hears the viewer and writes each answer as its piece is heard, until the ServerInit is
+/// written. Where the reader is at its end, a read or a write fails, memory is refused, the viewer was closed by somebody
+/// else, or it says what no message says, the opening is over and the viewer is closed; the answer to its last piece is
+/// written first. Inputs that come in the last piece stay with the listener, and `serve_reader` puts them before all others.
+pub fn serve_opening<L: Ledger, Rd: Read, W: Write, R: Wait>(
+    rt: &R,
+    shared: &Shared<L>,
+    line: Line,
+    reader: &mut Rd,
+    writer: &mut W,
+) -> Opened
+    ensures { Opens (Rd.remaining reader.old) (Rd.remaining reader.new) (W.contents writer.old) (W.contents writer.new) line result }
+{
+    let (mut listener, mut speaker, version) = line.ends();
+    let greeted = greet(
+        rt,
+        shared,
+        &mut listener,
+        &mut speaker,
+        version.as_slice(),
+        reader,
+        writer,
+    );
+    match greeted {
+        Ok(()) => Opened::Ready(listener, speaker),
+        Err(ended) => {
+            // It may be closed already. Where even this wants memory, it stays live.
+            let _closed = shared.close(rt, listener.viewer);
+            Opened::Over(receipt_of(listener, speaker, ended))
+        }
+    }
+}
+
+/// A viewer's receipt, of its two ends.
+fn receipt_of(listener: Listener, speaker: Speaker, ended: Ended) -> Receipt
+    ensures { result ≡ receipt_of listener speaker ended }
+{
+    Receipt {
+        viewer: listener.viewer,
+        pieces: listener.pieces,
+        cuts: speaker.cuts,
+        heard: listener.heard.into_listed(),
+        sent: speaker.sent.into_listed(),
+        ended,
+    }
+}
+
+/// Writes the version, and then answers until the ServerInit is written.
+fn greet<L: Ledger, Rd: Read, W: Write, R: Wait>(
+    rt: &R,
+    shared: &Shared<L>,
+    listener: &mut Listener,
+    speaker: &mut Speaker,
+    version: &[u8],
+    reader: &mut Rd,
+    writer: &mut W,
+) -> Result<(), Ended>
+    ensures heard { MatchResult result
+        (λ _. Hears (Rd.remaining reader.old) (Rd.remaining reader.new) listener.old listener.new [])
+        (λ e. (unheard : List ℕ) × Hears (Rd.remaining reader.old) (Rd.remaining reader.new) listener.old listener.new unheard × OpeningEnds e (Rd.remaining reader.new) unheard) }
+    ensures sent { Sends (W.contents writer.old) (W.contents writer.new) speaker.old speaker.new }
+{
+    speaker.write(writer, version)?;
+    for _ in rt.forever() {
+        if open_further(rt, shared, listener, speaker, reader, writer)? {
+            return Ok(());
+        }
+    }
+    unreachable!()
+}
+
+/// Hears a piece, and writes its answer. Whether the viewer is open now.
+fn open_further<L: Ledger, Rd: Read, W: Write, R: Wait>(
+    rt: &R,
+    shared: &Shared<L>,
+    listener: &mut Listener,
+    speaker: &mut Speaker,
+    reader: &mut Rd,
+    writer: &mut W,
+) -> Result<bool, Ended>
+    ensures heard { MatchResult result
+        (λ _. Hears (Rd.remaining reader.old) (Rd.remaining reader.new) listener.old listener.new [])
+        (λ e. (unheard : List ℕ) × Hears (Rd.remaining reader.old) (Rd.remaining reader.new) listener.old listener.new unheard × OpeningEnds e (Rd.remaining reader.new) unheard) }
+    ensures sent { Sends (W.contents writer.old) (W.contents writer.new) speaker.old speaker.new }
+{
+    let heard = hear_piece(rt, shared, listener, reader)?;
+    speaker.write(writer, heard.answer.bytes.as_slice())?;
+    if let Some(fault) = heard.answer.closed {
+        return Err(Ended::Fault(fault));
+    }
+    listener.waiting = heard.answer.inputs;
+    Ok(heard.is_open)
+}

@@ -1,0 +1,124 @@
+//! A viewer's sender: updates are cut, encoded and written, until there is nothing more to come.
+
+ghost use Rattle.std.specs.Prelude.{◌≡◌, ◌≤◌, List, ℕ, OnOk, OnErr, IfErr};
+ghost use Rattle.update_sender.specs.Recorded.{all_of};
+ghost use Rattle.update_sender.specs.Ends.{Speaking, has_cut};
+ghost use Rattle.update_sender.specs.Serving.{CutsAndSends, CuttingEnds, SendingEnds};
+
+use crate::ends::Speaker;
+use crate::gate::Gate;
+use crate::shared::Shared;
+use crate::turn::Turn;
+use listed::Listed;
+use receipts::Ended;
+use screen::Update;
+use std::io::Write;
+use std::sync::Wait;
+use std::sync::ledger::Ledger;
+
+/// What a viewer's sender leaves.
+#[derive(Drop)]
+pub struct WriteHalf {
+    /// The viewer's number.
+    pub viewer: u64,
+    /// How many updates were cut; the count stops at 2^64 - 1.
+    pub cuts: u64,
+    /// The bytes that were written, where the history is kept: the opening's, and then the updates'.
+    pub sent: Listed<u8>,
+    /// Why the sender ended.
+    pub ended: Ended,
+}
+
+/// Waits until there is something to send, cuts it, asks the gate, encodes it, asks the gate, and writes it, again and again.
+/// It ends after `Shared::stop`, where the viewer is closed, and where it met a fault, the first of these; and where a write
+/// fails or takes no byte, memory is refused, or the gate refuses: then it closes the viewer. No lock is held but while an
+/// update is cut.
+pub fn serve_sender<L: Ledger, W: Write, G: Gate, R: Wait>(
+    rt: &R,
+    shared: &Shared<L>,
+    mut speaker: Speaker,
+    writer: &mut W,
+    gate: &G,
+) -> WriteHalf
+    ensures viewer { result.viewer ≡ speaker.viewer }
+    ensures sent { (s : Speaking) × CutsAndSends (W.contents writer.old) (W.contents writer.new) speaker s × (result.cuts ≡ s.cuts) × (result.sent ≡ all_of s.sent) }
+    ensures ended { SendingEnds result.ended }
+{
+    let viewer = speaker.viewer;
+    let ended = send_all(rt, shared, &mut speaker, writer, gate);
+    if ended.may_break_off() {
+        // It may be closed already. Where even this wants memory, it stays live.
+        let _closed = shared.close(rt, viewer);
+    }
+    gate.ended(viewer);
+    WriteHalf {
+        viewer,
+        cuts: speaker.cuts,
+        sent: speaker.sent.into_listed(),
+        ended,
+    }
+}
+
+/// Sends until there is nothing more to come. Why it ends.
+fn send_all<L: Ledger, W: Write, G: Gate, R: Wait>(
+    rt: &R,
+    shared: &Shared<L>,
+    speaker: &mut Speaker,
+    writer: &mut W,
+    gate: &G,
+) -> Ended
+    ensures sent { CutsAndSends (W.contents writer.old) (W.contents writer.new) speaker.old speaker.new }
+    ensures ended { SendingEnds result }
+{
+    for _ in rt.forever() {
+        if let Err(ended) = send_next(rt, shared, speaker, writer, gate) {
+            return ended;
+        }
+    }
+    unreachable!()
+}
+
+/// Waits for an update, and sends it.
+fn send_next<L: Ledger, W: Write, G: Gate, R: Wait>(
+    rt: &R,
+    shared: &Shared<L>,
+    speaker: &mut Speaker,
+    writer: &mut W,
+    gate: &G,
+) -> Result<(), Ended>
+    ensures sent { CutsAndSends (W.contents writer.old) (W.contents writer.new) speaker.old speaker.new }
+    ensures ended { IfErr result SendingEnds }
+{
+    let update = next_update(rt, shared, speaker)?;
+    if !gate.encoding(speaker.viewer) {
+        return Err(Ended::Gate);
+    }
+    let bytes = update.encode()?;
+    if !gate.writing(speaker.viewer) {
+        return Err(Ended::Gate);
+    }
+    speaker.write(writer, &bytes)?;
+    gate.wrote(speaker.viewer, bytes.len() as u64);
+    Ok(())
+}
+
+/// Waits until there is something to send, and cuts it; or why there is nothing to come.
+fn next_update<L: Ledger, R: Wait>(
+    rt: &R,
+    shared: &Shared<L>,
+    speaker: &mut Speaker,
+) -> Result<Update, Ended>
+    ensures cut { OnOk result (speaker.new ≡ has_cut speaker.old) }
+    ensures err { OnErr result (speaker.new ≡ speaker.old) }
+    ensures ended { IfErr result CuttingEnds }
+{
+    match shared.wait_turn(rt, speaker.viewer)? {
+        Turn::Send(update) => {
+            speaker.count_cut();
+            Ok(update)
+        }
+        Turn::Stopped => Err(Ended::Stopped),
+        Turn::Closed => Err(Ended::Closed),
+        Turn::Faulty(fault) => Err(Ended::Fault(fault)),
+    }
+}
