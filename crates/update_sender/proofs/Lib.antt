@@ -1,2 +1,5 @@
 mod Stepped
 mod Absent
+mod Written
+mod Served
+mod Finished

@@ -1,5 +1,5 @@
 -- The event that a drawing call is.
-use Rattle.std.specs.Prelude.{[], ◌∷◌}
+use Rattle.std.specs.Prelude.{Bool, true, false, [], ◌∷◌}
 use Rattle.scene.specs.declared.Event.{Event}
 use Rattle.scene.specs.declared.Event.TheVariants as events
 use Rattle.update_sender.specs.declared.drawing.Drawing.{Drawing}
@@ -16,3 +16,8 @@ event_of (DoCopyRect rect dx dy) = events.DoCopy (rect ∷ []) dx dy
 event_of (DoCopyRegion region dx dy) = events.DoCopy region.now.list dx dy
 event_of Bell = events.Bell
 event_of (CutText text) = events.CutText text.now
+
+-- whether a viewer that waits may have something to be sent after it: none is told of colours that are only written
+abbrev pub may_be_sent : Drawing → Bool
+may_be_sent (Write rect colours) = false
+may_be_sent _ = true

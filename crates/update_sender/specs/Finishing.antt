@@ -22,14 +22,14 @@ pub record Judges (c : Config) (drawn : List Event) (receipts : List Receipt) (r
   pub report : IfOk result (λ report. IsReportOf c history drawn receipts report)
   pub refusal : IfErr result (λ e. IsRefusedFor c history drawn receipts e ⊎ (e ≡ errors.OutOfMemory))
 
--- a brush that keeps nothing beside a history that is kept is none of this screen's
-abbrev pub judges_drawn : Config → Option (List Event) → List Receipt → Result Report FinishError → Type 0
-judges_drawn c None receipts result = result ≡ Err errors.OutOfMemory
-judges_drawn c (Some drawn) receipts result = Judges c drawn receipts result
+-- The answer where the history is kept: what is judged of the brush's list, or want of memory. (A brush that keeps no list is none of such a screen's.)
+abbrev pub JudgesDrawn : Config → Option (List Event) → List Receipt → Result Report FinishError → Type 0
+JudgesDrawn c None receipts result = result ≡ Err errors.OutOfMemory
+JudgesDrawn c (Some drawn) receipts result = Judges c drawn receipts result ⊎ (result ≡ Err errors.OutOfMemory)
 
 abbrev pub Finishes : Config → Option (List Event) → List Receipt → Result Report FinishError → Type 0
 Finishes c drawn receipts result = by_history c.history
   where
     by_history : History → Type 0
-    by_history Kept = judges_drawn c drawn receipts result ⊎ (result ≡ Err errors.OutOfMemory)
+    by_history Kept = JudgesDrawn c drawn receipts result
     by_history NotKept = result ≡ Err errors.NotKept

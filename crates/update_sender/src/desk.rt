@@ -1,7 +1,7 @@
 //! What the lock keeps: a screen that stands for one list of events, in which viewers connected by rising numbers, and whose
 //! drawing calls are counted. Each call is one hold: it does one event, or changes nothing.
 
-ghost use Rattle.std.specs.Prelude.{◌≡◌, [], None, Some, true, OnOk, OnErr, IfOk, MatchBool, MatchOption, IsOkUnless, ◌+◌, ◌<◌};
+ghost use Rattle.std.specs.Prelude.{◌≡◌, List, [], None, Some, true, OnOk, OnErr, IfOk, MatchBool, MatchOption, IsOkUnless, ◌+◌, ◌<◌};
 ghost use Rattle.messages.specs.Server.{server_version};
 ghost use Rattle.scene.specs.declared.Event.{Event};
 ghost use Rattle.scene.specs.declared.ScreenError.TheVariants as refusals;
@@ -9,7 +9,7 @@ ghost use Rattle.scene.specs.Refusals.{absence, Refuses};
 ghost use Rattle.screen.specs.State.{state, viewer_at, refusal};
 ghost use Rattle.update_sender.specs.Calls.{event_of};
 ghost use Rattle.update_sender.specs.Numbers.{is_next};
-ghost use Rattle.update_sender.specs.Standing.{Draws, Joins, StepsAlone, Takes, ending, is_open_now};
+ghost use Rattle.update_sender.specs.Standing.{Draws, Joins, Stands, StepsAlone, Takes, ending, is_open_now};
 
 use crate::drawing::Drawing;
 use crate::turn::Turn;
@@ -166,8 +166,7 @@ impl<L: Ledger> Desk<L> {
 
     /// The screen and the count of drawing calls.
     pub fn parts(self) -> (Screen, Book<L>)
-        ensures screen { result.0 ≡ self.screen }
-        ensures drawings { result.1.total ≡ self.drawn }
+        ensures stands { (history : List Event) × Stands result.0 history self.newest result.1.total }
     {
         (self.screen, self.drawings)
     }

@@ -7,7 +7,7 @@ ghost use Rattle.scene.specs.Alone.{nothing_to_say, Tells};
 ghost use Rattle.scene.specs.Answers.{answer_to};
 ghost use Rattle.scene.specs.Refusals.{Refuses};
 ghost use Rattle.screen.specs.State.{state, refusal};
-ghost use Rattle.update_sender.specs.Calls.{event_of};
+ghost use Rattle.update_sender.specs.Calls.{event_of, may_be_sent};
 
 use region::{Rect, Region};
 use screen::{Screen, ScreenError};
@@ -52,7 +52,9 @@ pub enum Drawing<'a> {
 impl<'a> Drawing<'a> {
     /// Whether a viewer that waits may have something to be sent after the call: no viewer is told of colours that are only
     /// written.
-    pub fn may_be_sent(&self) -> bool {
+    pub fn may_be_sent(&self) -> bool
+        ensures { result ≡ may_be_sent self.now }
+    {
         !matches!(self, Drawing::Write { .. })
     }
 

@@ -1,7 +1,10 @@
 //! What a run shows once its threads have ended: a viewer's receipt of its two halves, and all receipts against the history.
 
-ghost use Rattle.std.specs.Prelude.{◌≡◌, ⊥, None, Some, MatchOption};
-ghost use Rattle.update_sender.specs.Finishing.{Finishes};
+ghost use Rattle.std.specs.Prelude.{◌≡◌, None, Some, MatchOption, length, true};
+ghost use Rattle.scene.specs.Alone.{config_refusal};
+ghost use Rattle.scene.specs.History.{drawings, connects};
+ghost use Rattle.update_sender.specs.Numbers.{rises};
+ghost use Rattle.update_sender.specs.Finishing.{Finishes, Judges, JudgesDrawn};
 ghost use Rattle.update_sender.specs.Ends.{Listening};
 ghost use Rattle.update_sender.specs.Recorded.{all_of};
 
@@ -12,7 +15,8 @@ use crate::sender::WriteHalf;
 use crate::shared::Shared;
 use input_queue::InputSeat;
 use receipts::{FinishError, Receipt, Report, check};
-use screen::History;
+use screen::{Config, Event, History};
+use std::alloc::Global;
 use std::sync::ledger::Ledger;
 
 /// A viewer's receipt, and its reader's seat. Exactly one of the first two is given: the half of the viewer's reader, or its
@@ -53,17 +57,48 @@ pub fn finish<L: Ledger>(
 ) -> Result<Report, FinishError>
     ensures { Finishes shared brush receipts.items result }
 {
-    if shared.config.history == History::NotKept {
-        return Err(FinishError::NotKept);
+    match shared.config.history {
+        History::NotKept => Err(FinishError::NotKept),
+        History::Kept => judge_kept(shared, brush, receipts),
     }
+}
+
+/// The same where the history is kept.
+fn judge_kept<L: Ledger>(
+    shared: Shared<L>,
+    brush: Brush<L>,
+    receipts: Vec<Receipt>,
+) -> Result<Report, FinishError>
+    ensures { JudgesDrawn shared brush receipts.items result }
+{
     let Shared {
-        alloc, config, desk, ..
+        alloc,
+        config,
+        desk,
+        ..
     } = shared;
     let Brush { drawn, mut share } = brush;
     let (screen, mut drawings) = desk.into_inner().parts();
     drawings.audit(&mut share);
     match (screen.history(), drawn.as_slice()) {
-        (Some(history), Some(drawn)) => check(alloc, &config, history, drawn, &receipts),
+        (Some(history), Some(drawn)) => judge(alloc, &config, history, drawn, &receipts),
         _ => Err(FinishError::OutOfMemory),
     }
+}
+
+/// What the check says of a history in which viewers connected by rising numbers, and that has as many drawing calls as were
+/// drawn.
+fn judge(
+    alloc: Global,
+    config: &Config,
+    history: &[Event],
+    drawn: &[Event],
+    receipts: &[Receipt],
+) -> Result<Report, FinishError>
+    requires config { config_refusal config.now ≡ None }
+    requires rising { rises (connects history.now) ≡ true }
+    requires as_many { length (drawings history.now) ≡ length drawn.now }
+    ensures { Judges config.now drawn.now receipts.now result }
+{
+    check(alloc, config, history, drawn, receipts)
 }

@@ -1,6 +1,6 @@
 //! A viewer's ends: a line once it connected, and then one that listens and one that speaks.
 
-ghost use Rattle.std.specs.Prelude.{◌≡◌};
+ghost use Rattle.std.specs.Prelude.{◌≡◌, ◌≤◌};
 ghost use Rattle.scene.specs.declared.History.{History};
 ghost use Rattle.messages.specs.Server.{server_version};
 ghost use Rattle.update_sender.specs.Ends.{greeted, listened, has_cut};
@@ -64,7 +64,8 @@ impl Model for Speaker {
 impl Speaker {
     /// An update more was cut.
     pub(crate) fn count_cut(&mut self)
-        ensures { self.new ≡ has_cut self.old }
+        ensures cut { self.new ≡ has_cut self.old }
+        ensures grows { self.old.cuts ≤ self.new.cuts }
     {
         self.cuts = self.cuts.saturating_add(1);
     }

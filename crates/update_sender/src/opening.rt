@@ -5,7 +5,7 @@ ghost use Rattle.update_sender.specs.Serving.{Opens, Hears, Sends, OpeningEnds, 
 
 use crate::ends::{Line, Listener, Speaker};
 use crate::hearing::hear_piece;
-use crate::shared::Shared;
+use crate::shared::{Heard, Shared};
 use receipts::{Ended, Receipt};
 use std::io::{Read, Write};
 use std::sync::Wait;
@@ -105,11 +105,11 @@ fn open_further<L: Ledger, Rd: Read, W: Write, R: Wait>(
         (λ e. (unheard : List ℕ) × Hears (Rd.remaining reader.old) (Rd.remaining reader.new) listener.old listener.new unheard × OpeningEnds e (Rd.remaining reader.new) unheard) }
     ensures sent { Sends (W.contents writer.old) (W.contents writer.new) speaker.old speaker.new }
 {
-    let heard = hear_piece(rt, shared, listener, reader)?;
-    speaker.write(writer, heard.answer.bytes.as_slice())?;
-    if let Some(fault) = heard.answer.closed {
+    let Heard { answer, is_open } = hear_piece(rt, shared, listener, reader)?;
+    speaker.write(writer, answer.bytes.as_slice())?;
+    if let Some(fault) = answer.closed {
         return Err(Ended::Fault(fault));
     }
-    listener.waiting = heard.answer.inputs;
-    Ok(heard.is_open)
+    listener.waiting = answer.inputs;
+    Ok(is_open)
 }

@@ -108,7 +108,7 @@ fn next_update<L: Ledger, R: Wait>(
     shared: &Shared<L>,
     speaker: &mut Speaker,
 ) -> Result<Update, Ended>
-    ensures cut { OnOk result (speaker.new ≡ has_cut speaker.old) }
+    ensures cut { OnOk result ((speaker.new ≡ has_cut speaker.old) × (speaker.old.cuts ≤ speaker.new.cuts)) }
     ensures err { OnErr result (speaker.new ≡ speaker.old) }
     ensures ended { IfErr result CuttingEnds }
 {

@@ -149,12 +149,7 @@ impl<L: Ledger> Shared<L> {
     }
 
     /// One hold of it.
-    fn hear_in_hold<R: Wait>(
-        &self,
-        rt: &R,
-        viewer: u64,
-        piece: &[u8],
-    ) -> Result<Heard, ScreenError>
+    fn hear_in_hold<R: Wait>(&self, rt: &R, viewer: u64, piece: &[u8]) -> Result<Heard, ScreenError>
         ensures refused { IfErr result (λ e. (e ≡ refusals.NoViewer) ⊎ (e ≡ refusals.OutOfMemory)) }
     {
         let mut desk = self.desk.lock(rt);
