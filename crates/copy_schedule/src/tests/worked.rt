@@ -80,9 +80,8 @@ fn mark_in_turn(
 /// Whether nothing is owed before `commit`.
 fn mark_in_two(marks: &mut Marks, alloc: Global, rects: &[Rect]) -> Result<bool, AllocError> {
     let drawn = region_of(alloc, rects)?;
-    let owed = marks.modified().count_rects();
     let prepared = marks.prepare_mark(&drawn)?;
-    let waits = marks.modified().count_rects() == owed;
+    let waits = marks.modified().is_empty();
     marks.commit(prepared);
     Ok(waits)
 }
