@@ -6,7 +6,7 @@ mod troubles;
 ghost use Rattle.std.specs.Prelude.{◌≡◌};
 
 use crate::{Chosen, Steps, line_of, play_over};
-use std::alloc::Global;
+use std::alloc::{AllocError, Global};
 use std::io::{Read, Write};
 use std::marker::Brand;
 use std::process::Abort;
@@ -32,34 +32,60 @@ fn play<R: Read, W: Write>(alloc: Global, reader: &mut R, writer: &mut W) -> u8 
     counted::<Brand, R, W>(alloc, Blank::new(1), reader, writer)
 }
 
-// What a script prints, and its status.
-fn play_bytes(alloc: Global, script: &[u8]) -> (Vec<u8>, u8) {
-    let mut reader = script;
-    let mut out = Vec::new(alloc);
-    let status = play(alloc, &mut reader, &mut out);
-    (out, status)
-}
-
 // The lines of a script, each beside what it prints.
 type Rows = &'static [(&'static str, &'static str)];
 
-// Each line of a script prints the text beside it, and the script ends with the status.
-fn shows(rt: &impl Abort, alloc: Global, rows: &[(&str, &str)], status: u8) -> Result<(), Fail> {
-    let mut script = String::new(alloc);
-    let mut printed = String::new(alloc);
-    for (line, text) in rows {
+// How often these lines come.
+type Part = (usize, Rows);
+
+// A reader's script prints this text, and ends with this status.
+fn expect<R: Read>(rt: &impl Abort, alloc: Global, reader: &mut R, printed: &str, status: u8) {
+    let mut out = Vec::new(alloc);
+    let ended = play(alloc, reader, &mut out);
+    assert_eq!(rt; str::from_utf8(&out).unwrap_or("no text"), printed);
+    assert_eq!(rt; ended, status);
+}
+
+fn push_lines(script: &mut String, rows: &[(&str, &str)]) -> Result<(), AllocError> {
+    for (line, _) in rows {
         script.push_str(line)?;
         script.push('\n')?;
-        printed.push_str(text)?;
     }
-    let (out, ended) = play_bytes(alloc, script.as_bytes());
-    let text = str::from_utf8(&out).unwrap_or("no text");
-    assert_eq!(rt; text, printed.as_str());
-    assert_eq!(rt; ended, status);
     Ok(())
 }
 
-fn words(alloc: Global, texts: &[&str]) -> Result<Vec<String>, Fail> {
+fn push_answers(printed: &mut String, rows: &[(&str, &str)]) -> Result<(), AllocError> {
+    for (_, text) in rows {
+        printed.push_str(text)?;
+    }
+    Ok(())
+}
+
+// The lines of a script, and what it prints.
+fn texts_of(
+    script: &mut String,
+    printed: &mut String,
+    (count, rows): Part,
+) -> Result<(), AllocError> {
+    for _ in 0..count {
+        push_lines(script, rows)?;
+        push_answers(printed, rows)?;
+    }
+    Ok(())
+}
+
+// Each line of a script prints the text beside it, and the script ends with the status.
+fn shows(rt: &impl Abort, alloc: Global, parts: &[Part], status: u8) -> Result<(), Fail> {
+    let mut script = String::new(alloc);
+    let mut printed = String::new(alloc);
+    for part in parts {
+        texts_of(&mut script, &mut printed, *part)?;
+    }
+    expect(rt, alloc, &mut script.as_bytes(), &printed, status);
+    Ok(())
+}
+
+fn words(alloc: Global, texts: &[&str]) -> Result<Vec<String>, AllocError> {
     let mut words = Vec::new(alloc);
     for text in texts {
         words.push(String::from_str(alloc, text)?)?;
@@ -67,11 +93,19 @@ fn words(alloc: Global, texts: &[&str]) -> Result<Vec<String>, Fail> {
     Ok(words)
 }
 
+fn is_refused(alloc: Global, texts: &[&str]) -> Result<bool, AllocError> {
+    let line = words(alloc, texts)?;
+    Ok(line_of(alloc, &line).is_err())
+}
+
+fn is_play(alloc: Global, texts: &[&str]) -> Result<bool, AllocError> {
+    let line = words(alloc, texts)?;
+    Ok(matches!(line_of(alloc, &line), Ok(Chosen::Play)))
+}
+
 #[test]
 fn command_lines(rt: HostRuntime) -> Result<(), Fail> {
-    let alloc = rt.alloc();
-    let play = words(alloc, &["vncdemo", "play"])?;
-    assert!(rt; matches!(line_of(alloc, &play), Ok(Chosen::Play)));
+    assert!(rt; is_play(rt.alloc(), &["vncdemo", "play"])?);
     let refused: [&[&str]; 7] = [
         &["vncdemo"],
         &["vncdemo", "--help"],
@@ -82,8 +116,7 @@ fn command_lines(rt: HostRuntime) -> Result<(), Fail> {
         &["vncdemo", "play", "--loud"],
     ];
     for texts in refused {
-        let line = words(alloc, texts)?;
-        assert!(rt; line_of(alloc, &line).is_err(), "{texts:?}");
+        assert!(rt; is_refused(rt.alloc(), texts)?, "{texts:?}");
     }
     Ok(())
 }

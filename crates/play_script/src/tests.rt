@@ -1,242 +1,259 @@
+//! What lines of scripts say, and what is printed of answers. A function that owns a line or an answer compares it and ends; the
+//! tests are tables.
+
 use crate::{Line, answer_text, bad_line_text, cut_line, ok_text, parse_line, refusal_text};
 use listed::Listed;
 use messages::{Fault, Input};
 use region::Rect;
-use screen::{Answer, Event, ScreenError};
-use std::alloc::Global;
+use screen::{Answer, Config, Event, ScreenError};
+use std::alloc::{AllocError, Global};
 use std::test::Fail;
+
+/// What a line says, as it is written down here: each rectangle by its corners x1, y1, x2, y2.
+#[derive(Clone, Copy)]
+enum Said {
+    Skipped,
+    Bad,
+    /// The columns, the rows, the name and the most rectangles of an update.
+    Start(u32, u32, &'static [u8], u32),
+    Paint([i32; 4], &'static [u32]),
+    Write([i32; 4], &'static [u32]),
+    Mark([i32; 4]),
+    ScheduleCopy([i32; 4], i32, i32),
+    DoCopy([i32; 4], i32, i32),
+    Bell,
+    CutText(&'static [u8]),
+    Connect(u64),
+    Hear(u64, &'static [u8]),
+    Cut(u64),
+    Close(u64),
+}
+
+type Row = (&'static [u8], Said);
+
+fn rect([x1, y1, x2, y2]: [i32; 4]) -> Rect {
+    Rect { x1, y1, x2, y2 }
+}
+
+fn is_one(rects: &[Rect], corners: [i32; 4]) -> bool {
+    rects == [rect(corners)].as_slice()
+}
+
+fn is_drawing(event: &Event, said: Said) -> bool {
+    match (event, said) {
+        (Event::Paint { rect: at, colours }, Said::Paint(corners, want)) => {
+            *at == rect(corners) && colours.as_slice() == want
+        }
+        (Event::Write { rect: at, colours }, Said::Write(corners, want)) => {
+            *at == rect(corners) && colours.as_slice() == want
+        }
+        (Event::Mark { rects }, Said::Mark(corners)) => is_one(rects.as_slice(), corners),
+        (Event::ScheduleCopy { rects, dx, dy }, Said::ScheduleCopy(corners, right, down)) => {
+            is_one(rects.as_slice(), corners) && (*dx, *dy) == (right, down)
+        }
+        (Event::DoCopy { rects, dx, dy }, Said::DoCopy(corners, right, down)) => {
+            is_one(rects.as_slice(), corners) && (*dx, *dy) == (right, down)
+        }
+        _ => false,
+    }
+}
+
+fn is_of_a_viewer(event: &Event, said: Said) -> bool {
+    match (event, said) {
+        (Event::Bell, Said::Bell) => true,
+        (Event::CutText { text }, Said::CutText(want)) => text.as_slice() == want,
+        (Event::Connect { viewer }, Said::Connect(number)) => *viewer == number,
+        (Event::Hear { viewer, piece }, Said::Hear(number, want)) => {
+            *viewer == number && piece.as_slice() == want
+        }
+        (Event::Cut { viewer }, Said::Cut(number)) => *viewer == number,
+        (Event::Close { viewer }, Said::Close(number)) => *viewer == number,
+        _ => false,
+    }
+}
+
+fn is_start(config: &Config, said: Said) -> bool {
+    match said {
+        Said::Start(width, height, name, limit) => {
+            (config.width, config.height, config.rects_per_update) == (width, height, limit)
+                && config.name.as_slice() == name
+        }
+        _ => false,
+    }
+}
+
+fn is_said(line: &Line, said: Said) -> bool {
+    match line {
+        Line::Skipped => matches!(said, Said::Skipped),
+        Line::Bad => matches!(said, Said::Bad),
+        Line::Start(config) => is_start(config, said),
+        Line::Do(event) => is_drawing(event, said) || is_of_a_viewer(event, said),
+    }
+}
+
+/// Whether a line says this.
+fn says(alloc: Global, line: &[u8], said: Said) -> Result<bool, AllocError> {
+    let given = parse_line(alloc, line)?;
+    Ok(is_said(&given, said))
+}
+
+const BAD_LINES: [&[u8]; 61] = [
+    b"pant 1",
+    b"Connect 1",
+    b" ",
+    b" # comment",
+    b"\tcut 1",
+    b"screen",
+    b"screen 4 1",
+    b"screen 4 1 ",
+    b"screen 4  demo",
+    b"screen +4 1 demo",
+    b"screen 2147483648 1 demo",
+    b"screen 4 2147483648 demo",
+    b"screen 4 1 demo 2147483648",
+    b"screen 4 1 demo -",
+    b"screen 4 1 demo 50 1",
+    b"paint 0 0 1 1",
+    b"paint 0 0 1 1 ",
+    b"paint 0 0 1 1 - -",
+    b"paint -0 0 1 1 -",
+    b"paint 0 +0 1 1 -",
+    b"paint 2147483647 0 1 1 -",
+    b"paint 0 2147483647 1 1 -",
+    b"paint 0 0 4096 4097 -",
+    b"paint 0 0 1 1 00000",
+    b"paint 0 0 1 1 0000001",
+    b"paint 0 0 1 1 00000g",
+    b"paint 0 0 1 1 --",
+    b"write 0 0 1 1",
+    b"write -1 0 1 1 -",
+    b"mark 0 0 1",
+    b"mark 0 0 1 1 1",
+    b"mark 0 0 1 +1",
+    b"mark 0 0 1 --1",
+    b"mark 0 0 1 -",
+    b"mark 0 0 1 2147483648",
+    b"schedule 0 0 1 1 1",
+    b"schedule 0 0 1 1 1 -2147483648",
+    b"docopy 0 0 1 1 1 1 1",
+    b"docopy 0 0 1 1 1 x",
+    b"bell ",
+    b"cuttext",
+    b"cuttext 123",
+    b"connect",
+    b"connect ",
+    b"connect -",
+    b"connect -1",
+    b"connect +1",
+    b"connect 0x1",
+    b"connect 1 ",
+    b"connect  1",
+    b" connect 1",
+    b"connect\t1",
+    b"connect 1\r",
+    b"connect 18446744073709551616",
+    b"connect 99999999999999999999999",
+    b"hear 9 0g",
+    b"hear 9 012",
+    b"hear 9",
+    b"hear 9 ",
+    b"cut 1 1",
+    b"close x",
+];
 
 #[test]
 fn lines_that_are_bad(rt: HostRuntime) -> Result<(), Fail> {
-    let lines: [&[u8]; 61] = [
-        b"pant 1",
-        b"Connect 1",
-        b" ",
-        b" # comment",
-        b"\tcut 1",
-        b"screen",
-        b"screen 4 1",
-        b"screen 4 1 ",
-        b"screen 4  demo",
-        b"screen +4 1 demo",
-        b"screen 2147483648 1 demo",
-        b"screen 4 2147483648 demo",
-        b"screen 4 1 demo 2147483648",
-        b"screen 4 1 demo -",
-        b"screen 4 1 demo 50 1",
-        b"paint 0 0 1 1",
-        b"paint 0 0 1 1 ",
-        b"paint 0 0 1 1 - -",
-        b"paint -0 0 1 1 -",
-        b"paint 0 +0 1 1 -",
-        b"paint 2147483647 0 1 1 -",
-        b"paint 0 2147483647 1 1 -",
-        b"paint 0 0 4096 4097 -",
-        b"paint 0 0 1 1 00000",
-        b"paint 0 0 1 1 0000001",
-        b"paint 0 0 1 1 00000g",
-        b"paint 0 0 1 1 --",
-        b"write 0 0 1 1",
-        b"write -1 0 1 1 -",
-        b"mark 0 0 1",
-        b"mark 0 0 1 1 1",
-        b"mark 0 0 1 +1",
-        b"mark 0 0 1 --1",
-        b"mark 0 0 1 -",
-        b"mark 0 0 1 2147483648",
-        b"schedule 0 0 1 1 1",
-        b"schedule 0 0 1 1 1 -2147483648",
-        b"docopy 0 0 1 1 1 1 1",
-        b"docopy 0 0 1 1 1 x",
-        b"bell ",
-        b"cuttext",
-        b"cuttext 123",
-        b"connect",
-        b"connect ",
-        b"connect -",
-        b"connect -1",
-        b"connect +1",
-        b"connect 0x1",
-        b"connect 1 ",
-        b"connect  1",
-        b" connect 1",
-        b"connect\t1",
-        b"connect 1\r",
-        b"connect 18446744073709551616",
-        b"connect 99999999999999999999999",
-        b"hear 9 0g",
-        b"hear 9 012",
-        b"hear 9",
-        b"hear 9 ",
-        b"cut 1 1",
-        b"close x",
-    ];
-    for line in lines {
-        let said = parse_line(rt.alloc(), line)?;
-        assert!(rt; matches!(said, Line::Bad), "{line:?}");
+    for line in BAD_LINES {
+        assert!(rt; says(rt.alloc(), line, Said::Bad)?, "{line:?}");
     }
     Ok(())
 }
 
+const LINES: [Row; 29] = [
+    (b"", Said::Skipped),
+    (b"#", Said::Skipped),
+    (b"# cut 1", Said::Skipped),
+    (b"#cut 1", Said::Skipped),
+    (b"screen 4 3 demo", Said::Start(4, 3, b"demo", 50)),
+    (b"screen 0009 01 - 2", Said::Start(9, 1, b"", 2)),
+    (
+        b"screen 2147483647 0 -- 0",
+        Said::Start(2147483647, 0, b"--", 0),
+    ),
+    (
+        b"screen 1 1 a\tb\r 2147483647",
+        Said::Start(1, 1, b"a\tb\r", 2147483647),
+    ),
+    (
+        b"paint 2 1 1 1 ff8000",
+        Said::Paint([2, 1, 3, 2], &[0xff8000]),
+    ),
+    (
+        b"paint 0 0 2 1 0000010A0b0C",
+        Said::Paint([0, 0, 2, 1], &[1, 0x0a0b0c]),
+    ),
+    (
+        b"paint 0 0 2 2 00000a",
+        Said::Paint([0, 0, 2, 2], &[10, 10, 10, 10]),
+    ),
+    (b"paint 0 0 0 2 00000a", Said::Paint([0, 0, 0, 2], &[])),
+    (b"paint 0 0 2 2 -", Said::Paint([0, 0, 2, 2], &[])),
+    (
+        b"paint 2147483646 2147483646 1 1 -",
+        Said::Paint([2147483646, 2147483646, 2147483647, 2147483647], &[]),
+    ),
+    (
+        b"paint 2147483647 0 0 2147483647 -",
+        Said::Paint([2147483647, 0, 2147483647, 2147483647], &[]),
+    ),
+    (
+        b"write 2 1 1 2 ff8000",
+        Said::Write([2, 1, 3, 3], &[0xff8000, 0xff8000]),
+    ),
+    (b"mark 1 1 0 0", Said::Mark([1, 1, 0, 0])),
+    (b"mark -1 -02 3 -0", Said::Mark([-1, -2, 3, 0])),
+    (
+        b"mark -2147483647 0 2147483647 1",
+        Said::Mark([-2147483647, 0, 2147483647, 1]),
+    ),
+    (
+        b"schedule 0 1 2 3 -4 5",
+        Said::ScheduleCopy([0, 1, 2, 3], -4, 5),
+    ),
+    (b"docopy 0 1 2 3 6 -7", Said::DoCopy([0, 1, 2, 3], 6, -7)),
+    (b"bell", Said::Bell),
+    (b"cuttext 6869", Said::CutText(b"hi")),
+    (b"cuttext -", Said::CutText(b"")),
+    (
+        b"connect 0000000018446744073709551615",
+        Said::Connect(18446744073709551615),
+    ),
+    (b"cut 007", Said::Cut(7)),
+    (b"close 0", Said::Close(0)),
+    (b"hear 1 00fFA1", Said::Hear(1, &[0, 255, 161])),
+    (b"hear 9 -", Said::Hear(9, &[])),
+];
+
 #[test]
-fn lines_that_are_skipped(rt: HostRuntime) -> Result<(), Fail> {
-    let lines: [&[u8]; 4] = [b"", b"#", b"# cut 1", b"#cut 1"];
-    for line in lines {
-        let said = parse_line(rt.alloc(), line)?;
-        assert!(rt; matches!(said, Line::Skipped), "{line:?}");
+fn lines_and_what_they_say(rt: HostRuntime) -> Result<(), Fail> {
+    for (line, said) in LINES {
+        assert!(rt; says(rt.alloc(), line, said)?, "{line:?}");
     }
     Ok(())
 }
 
-#[test]
-fn screens(rt: HostRuntime) -> Result<(), Fail> {
-    let rows: [(&[u8], u32, u32, &[u8], u32); 4] = [
-        (b"screen 4 3 demo", 4, 3, b"demo", 50),
-        (b"screen 0009 01 - 2", 9, 1, b"", 2),
-        (b"screen 2147483647 0 -- 0", 2147483647, 0, b"--", 0),
-        (b"screen 1 1 a\tb\r 2147483647", 1, 1, b"a\tb\r", 2147483647),
-    ];
-    for (line, width, height, name, limit) in rows {
-        let Line::Start(config) = parse_line(rt.alloc(), line)? else {
-            return Err("no screen".into());
-        };
-        assert_eq!(rt; (config.width, config.height), (width, height), "{line:?}");
-        assert!(rt; config.name.as_slice() == name, "{line:?}");
-        assert_eq!(rt; config.rects_per_update, limit, "{line:?}");
+/// How many colours a line paints.
+fn painted_count(alloc: Global, line: &[u8]) -> Result<usize, AllocError> {
+    match parse_line(alloc, line)? {
+        Line::Do(Event::Paint { rect: _, colours }) => Ok(colours.len()),
+        _ => Ok(0),
     }
-    Ok(())
 }
 
 #[test]
-fn painted_rectangles(rt: HostRuntime) -> Result<(), Fail> {
-    let all = i32::MAX;
-    let rows: [(&[u8], [i32; 4], &[u32]); 7] = [
-        (b"paint 2 1 1 1 ff8000", [2, 1, 3, 2], &[0xff8000]),
-        (b"paint 0 0 2 1 0000010A0b0C", [0, 0, 2, 1], &[1, 0x0a0b0c]),
-        (b"paint 0 0 2 2 00000a", [0, 0, 2, 2], &[10, 10, 10, 10]),
-        (b"paint 0 0 0 2 00000a", [0, 0, 0, 2], &[]),
-        (b"paint 0 0 2 2 -", [0, 0, 2, 2], &[]),
-        (
-            b"paint 2147483646 2147483646 1 1 -",
-            [all - 1, all - 1, all, all],
-            &[],
-        ),
-        (
-            b"paint 2147483647 0 0 2147483647 -",
-            [all, 0, all, all],
-            &[],
-        ),
-    ];
-    for (line, [x1, y1, x2, y2], want) in rows {
-        let Line::Do(Event::Paint { rect, colours }) = parse_line(rt.alloc(), line)? else {
-            return Err("no rectangle".into());
-        };
-        assert_eq!(rt; rect, Rect { x1, y1, x2, y2 }, "{line:?}");
-        assert!(rt; colours.as_slice() == want, "{line:?}");
-    }
-    let line = b"paint 0 0 4096 4096 ffffff";
-    let Line::Do(Event::Paint { rect: _, colours }) = parse_line(rt.alloc(), line)? else {
-        return Err("no rectangle".into());
-    };
-    assert_eq!(rt; colours.as_slice().len(), 1 << 24);
-    Ok(())
-}
-
-#[test]
-fn written_rectangles(rt: HostRuntime) -> Result<(), Fail> {
-    let line = b"write 2 1 1 2 ff8000";
-    let Line::Do(Event::Write { rect, colours }) = parse_line(rt.alloc(), line)? else {
-        return Err("no rectangle".into());
-    };
-    assert_eq!(rt; (rect.x1, rect.y1, rect.x2, rect.y2), (2, 1, 3, 3));
-    assert_eq!(rt; colours.as_slice(), [0xff8000, 0xff8000].as_slice());
-    Ok(())
-}
-
-#[test]
-fn marked_rectangles(rt: HostRuntime) -> Result<(), Fail> {
-    let least = -i32::MAX;
-    let rows: [(&[u8], [i32; 4]); 3] = [
-        (b"mark 1 1 0 0", [1, 1, 0, 0]),
-        (b"mark -1 -02 3 -0", [-1, -2, 3, 0]),
-        (b"mark -2147483647 0 2147483647 1", [least, 0, i32::MAX, 1]),
-    ];
-    for (line, [x1, y1, x2, y2]) in rows {
-        let Line::Do(Event::Mark { rects }) = parse_line(rt.alloc(), line)? else {
-            return Err("no rectangle".into());
-        };
-        assert!(rt;
-            rects.as_slice() == [Rect { x1, y1, x2, y2 }].as_slice(),
-            "{line:?}"
-        );
-    }
-    Ok(())
-}
-
-#[test]
-fn copied_rectangles(rt: HostRuntime) -> Result<(), Fail> {
-    let want = Rect {
-        x1: 0,
-        y1: 1,
-        x2: 2,
-        y2: 3,
-    };
-    let line = b"schedule 0 1 2 3 -4 5";
-    let Line::Do(Event::ScheduleCopy { rects, dx, dy }) = parse_line(rt.alloc(), line)? else {
-        return Err("no copy".into());
-    };
-    assert_eq!(rt; rects.as_slice(), [want].as_slice());
-    assert_eq!(rt; (dx, dy), (-4, 5));
-    let line = b"docopy 0 1 2 3 6 -7";
-    let Line::Do(Event::DoCopy { rects, dx, dy }) = parse_line(rt.alloc(), line)? else {
-        return Err("no copy".into());
-    };
-    assert_eq!(rt; rects.as_slice(), [want].as_slice());
-    assert_eq!(rt; (dx, dy), (6, -7));
-    Ok(())
-}
-
-#[test]
-fn notices(rt: HostRuntime) -> Result<(), Fail> {
-    assert!(rt; matches!(parse_line(rt.alloc(), b"bell")?, Line::Do(Event::Bell)));
-    let rows: [(&[u8], &[u8]); 2] = [(b"cuttext 6869", b"hi"), (b"cuttext -", b"")];
-    for (line, bytes) in rows {
-        let Line::Do(Event::CutText { text }) = parse_line(rt.alloc(), line)? else {
-            return Err("no text".into());
-        };
-        assert!(rt; text.as_slice() == bytes, "{line:?}");
-    }
-    Ok(())
-}
-
-#[test]
-fn viewers(rt: HostRuntime) -> Result<(), Fail> {
-    let alloc = rt.alloc();
-    let largest = parse_line(alloc, b"connect 0000000018446744073709551615")?;
-    assert!(rt; matches!(largest, Line::Do(Event::Connect { viewer: u64::MAX })));
-    assert!(rt;
-        matches!(
-            parse_line(alloc, b"cut 007")?,
-            Line::Do(Event::Cut { viewer: 7 })
-        )
-    );
-    assert!(rt;
-        matches!(
-            parse_line(alloc, b"close 0")?,
-            Line::Do(Event::Close { viewer: 0 })
-        )
-    );
-    let rows: [(&[u8], u64, &[u8]); 2] = [
-        (b"hear 1 00fFA1", 1, &[0, 255, 161]),
-        (b"hear 9 -", 9, &[]),
-    ];
-    for (line, number, bytes) in rows {
-        let Line::Do(Event::Hear { viewer, piece }) = parse_line(alloc, line)? else {
-            return Err("nothing heard".into());
-        };
-        assert_eq!(rt; viewer, number, "{line:?}");
-        assert!(rt; piece.as_slice() == bytes, "{line:?}");
-    }
+fn the_largest_rectangle_of_one_colour(rt: HostRuntime) -> Result<(), Fail> {
+    let count = painted_count(rt.alloc(), b"paint 0 0 4096 4096 ffffff")?;
+    assert_eq!(rt; count, 1 << 24);
     Ok(())
 }
 
@@ -249,76 +266,100 @@ fn lines_of_a_script(rt: HostRuntime) {
         (b"\n", b"", Some(b"")),
     ];
     for (text, line, rest) in rows {
-        let cut = cut_line(text);
-        assert!(rt; cut.0 == line, "{text:?}");
-        assert_eq!(rt; cut.1.is_some(), rest.is_some(), "{text:?}");
-        assert!(rt;
-            cut.1.unwrap_or(b"none") == rest.unwrap_or(b"none"),
-            "{text:?}"
-        );
+        assert!(rt; cut_line(text) == (line, rest), "{text:?}");
     }
 }
 
-fn answer(alloc: Global, bytes: &[u8]) -> Result<Answer, Fail> {
-    Ok(Answer {
+/// Whether a text is this one.
+fn is_text(text: Result<Vec<u8>, AllocError>, want: &[u8]) -> Result<bool, AllocError> {
+    let text = text?;
+    Ok(text.as_slice() == want)
+}
+
+/// Whether this is printed of an event that is answered with bytes, and perhaps a fault or a refusal.
+fn prints(
+    alloc: Global,
+    event: &Event,
+    bytes: &[u8],
+    closed: Option<Fault>,
+    refused: Option<ScreenError>,
+    want: &[u8],
+) -> Result<bool, AllocError> {
+    let answer = Answer {
         bytes: Listed::from_vec(bytes.to_vec(alloc)?),
         inputs: Listed::new(alloc),
-        closed: None,
-        refused: None,
-    })
+        closed,
+        refused,
+    };
+    is_text(answer_text(alloc, event, &answer), want)
 }
 
 #[test]
 fn answers_with_bytes(rt: HostRuntime) -> Result<(), Fail> {
-    let alloc = rt.alloc();
-    let given = answer(alloc, &[0x52, 0x46, 0x0a, 0xff])?;
-    let connect = Event::Connect { viewer: u64::MAX };
-    let want: &[u8] = b"connect 18446744073709551615 52460aff\n";
-    assert!(rt; answer_text(alloc, &connect, &given)?.as_slice() == want);
-    let cut = Event::Cut { viewer: 7 };
-    assert!(rt;
-        answer_text(alloc, &cut, &answer(alloc, &[])?)?.as_slice() == b"cut 7 -\n".as_slice()
-    );
-    let close = Event::Close { viewer: 7 };
-    assert!(rt; answer_text(alloc, &close, &answer(alloc, &[])?)?.as_slice() == b"ok\n".as_slice());
+    let rows: [(Event, &[u8], &[u8]); 3] = [
+        (
+            Event::Connect { viewer: u64::MAX },
+            &[0x52, 0x46, 0x0a, 0xff],
+            b"connect 18446744073709551615 52460aff\n",
+        ),
+        (Event::Cut { viewer: 7 }, &[], b"cut 7 -\n"),
+        (Event::Close { viewer: 7 }, &[], b"ok\n"),
+    ];
+    for (event, bytes, want) in &rows {
+        assert!(rt;
+            prints(rt.alloc(), event, bytes, None, None, want)?,
+            "{event:?}"
+        );
+    }
     Ok(())
+}
+
+fn three_inputs(alloc: Global) -> Result<Listed<Input>, AllocError> {
+    let key = Input::Key {
+        down: true,
+        key: 0xff0d,
+    };
+    let pointer = Input::Pointer {
+        mask: 1,
+        x: 2,
+        y: 1,
+    };
+    let text = Input::Text {
+        text: Listed::from_vec(b"hi".to_vec(alloc)?),
+        shortened: false,
+    };
+    Ok(Listed::from_vec(vec![in alloc; key, pointer, text]?))
+}
+
+/// What is printed of a message with three inputs and a fault behind them.
+fn heard_text(alloc: Global) -> Result<Vec<u8>, AllocError> {
+    let answer = Answer {
+        bytes: Listed::new(alloc),
+        inputs: three_inputs(alloc)?,
+        closed: Some(Fault::UnknownMessage(7)),
+        refused: None,
+    };
+    answer_text(alloc, &hear(alloc, 1), &answer)
+}
+
+/// A viewer is heard.
+fn hear(alloc: Global, viewer: u64) -> Event {
+    Event::Hear {
+        viewer,
+        piece: Listed::new(alloc),
+    }
 }
 
 #[test]
 fn answers_to_what_was_heard(rt: HostRuntime) -> Result<(), Fail> {
-    let alloc = rt.alloc();
-    let mut given = answer(alloc, &[])?;
-    given.inputs.push(Input::Key {
-        down: true,
-        key: 0xff0d,
-    })?;
-    given.inputs.push(Input::Pointer {
-        mask: 1,
-        x: 2,
-        y: 1,
-    })?;
-    given.inputs.push(Input::Text {
-        text: Listed::from_vec(b"hi".to_vec(alloc)?),
-        shortened: false,
-    })?;
-    given.closed = Some(Fault::UnknownMessage(7));
-    let hear = Event::Hear {
-        viewer: 1,
-        piece: Listed::new(alloc),
-    };
-    let want: &[u8] =
+    let want =
         b"hear 1 -\nkey 1 1 0000ff0d\npointer 1 01 2 1\ntext 1 0 6869\nclosed 1 3 UnknownMessage 7\n";
-    assert!(rt; answer_text(alloc, &hear, &given)?.as_slice() == want);
+    assert!(rt; is_text(heard_text(rt.alloc()), want)?);
     Ok(())
 }
 
 #[test]
 fn faults(rt: HostRuntime) -> Result<(), Fail> {
-    let alloc = rt.alloc();
-    let hear = Event::Hear {
-        viewer: 2,
-        piece: Listed::new(alloc),
-    };
     let rows: [(Fault, &[u8]); 4] = [
         (Fault::BadVersion, b"hear 2 -\nclosed 2 1 BadVersion\n"),
         (
@@ -334,11 +375,11 @@ fn faults(rt: HostRuntime) -> Result<(), Fail> {
             b"hear 2 -\nclosed 2 5 ColourMapUnsupported\n",
         ),
     ];
+    let alloc = rt.alloc();
     for (fault, want) in rows {
-        let mut given = answer(alloc, &[])?;
-        given.closed = Some(fault);
+        let heard = hear(alloc, 2);
         assert!(rt;
-            answer_text(alloc, &hear, &given)?.as_slice() == want,
+            prints(alloc, &heard, &[], Some(fault), None, want)?,
             "{fault:?}"
         );
     }
@@ -347,7 +388,6 @@ fn faults(rt: HostRuntime) -> Result<(), Fail> {
 
 #[test]
 fn refusals(rt: HostRuntime) -> Result<(), Fail> {
-    let alloc = rt.alloc();
     let rows: [(ScreenError, &[u8]); 9] = [
         (ScreenError::BadSize, b"refused 1 BadSize\n"),
         (ScreenError::BadName, b"refused 2 BadName\n"),
@@ -359,20 +399,22 @@ fn refusals(rt: HostRuntime) -> Result<(), Fail> {
         (ScreenError::NumberInUse, b"refused 8 NumberInUse\n"),
         (ScreenError::OutOfMemory, b"refused 9 OutOfMemory\n"),
     ];
+    let alloc = rt.alloc();
     for (refusal, want) in rows {
-        let mut given = answer(alloc, &[1])?;
-        given.refused = Some(refusal);
         let cut = Event::Cut { viewer: 2 };
         assert!(rt;
-            answer_text(alloc, &cut, &given)?.as_slice() == want,
+            prints(alloc, &cut, &[1], None, Some(refusal), want)?,
             "{refusal:?}"
         );
-        assert!(rt;
-            refusal_text(alloc, refusal)?.as_slice() == want,
-            "{refusal:?}"
-        );
+        assert!(rt; is_text(refusal_text(alloc, refusal), want)?, "{refusal:?}");
     }
-    assert!(rt; ok_text(alloc)?.as_slice() == b"ok\n".as_slice());
-    assert!(rt; bad_line_text(alloc, 16777217)?.as_slice() == b"bad line 16777217\n".as_slice());
+    Ok(())
+}
+
+#[test]
+fn other_texts(rt: HostRuntime) -> Result<(), Fail> {
+    let alloc = rt.alloc();
+    assert!(rt; is_text(ok_text(alloc), b"ok\n")?);
+    assert!(rt; is_text(bad_line_text(alloc, 16777217), b"bad line 16777217\n")?);
     Ok(())
 }

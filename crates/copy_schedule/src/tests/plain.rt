@@ -1,10 +1,20 @@
-//! The marks as they are defined, a mark for each place: a program that is compared with the marks over regions.
+//! The marks as they are defined, a mark for each place of a screen of 9 by 7: a program that is compared with the marks over
+//! regions.
 
 use crate::Mark;
 use region::Rect;
 use std::alloc::{AllocError, Global};
 
-/// A place of a screen.
+pub(super) const WIDTH: i32 = 9;
+
+pub(super) const HEIGHT: i32 = 7;
+
+const COUNT: usize = 63;
+
+/// Some places of the screen, row by row.
+pub(super) type Places = [bool; COUNT];
+
+/// A place of the screen.
 #[derive(Clone, Copy)]
 struct Place {
     x: i32,
@@ -13,27 +23,22 @@ struct Place {
     is_asked: bool,
 }
 
-/// The marks of a screen's places, row by row, and the offset of the pending copies.
-#[derive(Drop)]
+/// The marks of the screen's places, row by row, and the offset of the pending copies.
+#[derive(Clone, Copy)]
 pub(super) struct PlainMarks {
-    width: i32,
-    height: i32,
-    places: Vec<Place>,
+    places: [Place; COUNT],
     offset: (i32, i32),
 }
 
-/// What an update sends.
-#[derive(Drop)]
-pub(super) struct PlainCut {
-    pub(super) copies: Vec<Rect>,
-    pub(super) offset: (i32, i32),
-    pub(super) pixels: Vec<Rect>,
+/// The column and the row of the place with a number.
+pub(super) fn place_at(number: usize) -> (i32, i32) {
+    ((number % 9) as i32, (number / 9 % 7) as i32)
 }
 
-/// The index of a place of a screen; none off the screen.
-fn index_of(width: i32, height: i32, x: i32, y: i32) -> Option<usize> {
-    if 0 <= x && x < width && 0 <= y && y < height {
-        usize::try_from(y.wrapping_mul(width).wrapping_add(x)).ok()
+/// The number of a place; none off the screen.
+fn number_of(x: i32, y: i32) -> Option<usize> {
+    if 0 <= x && x < WIDTH && 0 <= y && y < HEIGHT {
+        Some((y * WIDTH + x) as usize)
     } else {
         None
     }
@@ -47,51 +52,43 @@ fn is_in_some(rects: &[Rect], x: i32, y: i32) -> bool {
     rects.iter().any(|rect| is_in(*rect, x, y))
 }
 
-/// The place (dx, dy) before another.
-fn before(place: Place, (dx, dy): (i32, i32)) -> (i32, i32) {
-    (place.x.wrapping_sub(dx), place.y.wrapping_sub(dy))
+impl Place {
+    /// The place (dx, dy) before this one.
+    fn before(&self, (dx, dy): (i32, i32)) -> (i32, i32) {
+        (self.x.wrapping_sub(dx), self.y.wrapping_sub(dy))
+    }
 }
 
 impl PlainMarks {
     /// Every place is owed.
-    pub(super) fn new(alloc: Global, width: i32, height: i32) -> Result<PlainMarks, AllocError> {
-        let mut places = Vec::new(alloc);
-        for y in 0..height {
-            for x in 0..width {
-                places.push(Place {
-                    x,
-                    y,
-                    mark: Mark::Owed,
-                    is_asked: false,
-                })?;
-            }
+    pub(super) fn new() -> PlainMarks {
+        let mut places = [Place {
+            x: 0,
+            y: 0,
+            mark: Mark::Owed,
+            is_asked: false,
+        }; COUNT];
+        for (number, place) in places.iter_mut().enumerate() {
+            (place.x, place.y) = place_at(number);
         }
-        Ok(PlainMarks {
-            width,
-            height,
+        PlainMarks {
             places,
             offset: (0, 0),
-        })
+        }
     }
 
     /// The place with these coordinates; none off the screen.
     fn place(&self, (x, y): (i32, i32)) -> Option<Place> {
-        let index = index_of(self.width, self.height, x, y)?;
-        self.places.get(index).copied()
+        let number = number_of(x, y)?;
+        self.places.get(number).copied()
     }
 
     fn is_owed(&self, at: (i32, i32)) -> bool {
-        match self.place(at) {
-            Some(place) => place.mark == Mark::Owed,
-            None => false,
-        }
+        self.place(at).is_some_and(|place| place.mark == Mark::Owed)
     }
 
     fn is_asked(&self, at: (i32, i32)) -> bool {
-        match self.place(at) {
-            Some(place) => place.is_asked,
-            None => false,
-        }
+        self.place(at).is_some_and(|place| place.is_asked)
     }
 
     /// The rectangles' places become owed.
@@ -104,13 +101,10 @@ impl PlainMarks {
     }
 
     /// The copied places become owed that wait by another offset, or from which a copy takes colours.
-    fn lose(&mut self, rects: &[Rect], offset: (i32, i32)) {
-        let stays = self.offset == offset;
+    fn lose(&mut self, rects: &[Rect], (dx, dy): (i32, i32)) {
+        let stays = self.offset == (dx, dy);
         for place in self.places.iter_mut() {
-            let (x, y) = (
-                place.x.wrapping_add(offset.0),
-                place.y.wrapping_add(offset.1),
-            );
+            let (x, y) = (place.x.wrapping_add(dx), place.y.wrapping_add(dy));
             if place.mark == Mark::Copied && (!stays || is_in_some(rects, x, y)) {
                 place.mark = Mark::Owed;
             }
@@ -118,27 +112,17 @@ impl PlainMarks {
     }
 
     /// A copy of the rectangles' places from those `offset` before them.
-    pub(super) fn copy(
-        &mut self,
-        rects: &[Rect],
-        offset: (i32, i32),
-        uses_copyrect: bool,
-    ) -> Result<(), AllocError> {
+    pub(super) fn copy(&mut self, rects: &[Rect], offset: (i32, i32), uses_copyrect: bool) {
         if !uses_copyrect {
             self.mark(rects);
-            return Ok(());
+            return;
         }
         self.lose(rects, offset);
-        let old = PlainMarks {
-            width: self.width,
-            height: self.height,
-            places: self.places.clone()?,
-            offset: self.offset,
-        };
+        let old = *self;
         for place in self.places.iter_mut() {
             let waits = place.mark == Mark::Copied || is_in_some(rects, place.x, place.y);
             if place.mark != Mark::Owed && waits {
-                place.mark = if old.is_owed(before(*place, offset)) {
+                place.mark = if old.is_owed(place.before(offset)) {
                     Mark::Owed
                 } else {
                     Mark::Copied
@@ -146,18 +130,15 @@ impl PlainMarks {
             }
         }
         self.offset = offset;
-        Ok(())
     }
 
     /// The rectangle is asked for; where not incremental, it is owed, and so is what awaits a copy from it.
     pub(super) fn request(&mut self, rect: Rect, incremental: bool) {
         for place in self.places.iter_mut() {
-            let (x, y) = before(*place, self.offset);
+            let (x, y) = place.before(self.offset);
             let is_inside = is_in(rect, place.x, place.y);
             let awaits = place.mark == Mark::Copied && is_in(rect, x, y);
-            if is_inside {
-                place.is_asked = true;
-            }
+            place.is_asked = place.is_asked || is_inside;
             if !incremental && (is_inside || awaits) {
                 place.mark = Mark::Owed;
             }
@@ -184,50 +165,37 @@ impl PlainMarks {
         self.offset
     }
 
-    /// The canonical list of the places with a mark.
-    pub(super) fn with_mark(&self, alloc: Global, mark: Mark) -> Result<Vec<Rect>, AllocError> {
-        let mut chosen = Vec::new(alloc);
-        for place in &self.places {
-            chosen.push(place.mark == mark)?;
+    /// The places with a mark.
+    pub(super) fn with_mark(&self, mark: Mark) -> Places {
+        let mut places = [false; COUNT];
+        for (chosen, place) in places.iter_mut().zip(&self.places) {
+            *chosen = place.mark == mark;
         }
-        plain_rects(alloc, self.width, self.height, &chosen)
+        places
     }
 
-    /// The canonical list of the places that are asked for.
-    pub(super) fn asked(&self, alloc: Global) -> Result<Vec<Rect>, AllocError> {
-        let mut chosen = Vec::new(alloc);
-        for place in &self.places {
-            chosen.push(place.is_asked)?;
+    /// The places that are asked for.
+    pub(super) fn asked(&self) -> Places {
+        let mut places = [false; COUNT];
+        for (chosen, place) in places.iter_mut().zip(&self.places) {
+            *chosen = place.is_asked;
         }
-        plain_rects(alloc, self.width, self.height, &chosen)
+        places
     }
 
-    /// Whether a place may be sent as a copy: it awaits one, and it and its source are asked for.
-    fn is_copyable(&self, place: Place) -> bool {
-        place.is_asked && place.mark == Mark::Copied && self.is_asked(before(place, self.offset))
-    }
-
-    /// The canonical list of the places that are sent as copies.
-    fn copies(&self, alloc: Global) -> Result<Vec<Rect>, AllocError> {
-        let mut chosen = Vec::new(alloc);
-        for place in &self.places {
-            chosen.push(self.is_copyable(*place))?;
+    /// The places that are sent as copies, or those that are sent as pixels: a place that is asked for and not clean is sent as
+    /// a copy where it awaits one and its source is asked for.
+    pub(super) fn sent(&self, as_copies: bool) -> Places {
+        let mut places = [false; COUNT];
+        for (chosen, place) in places.iter_mut().zip(&self.places) {
+            let is_copy = place.mark == Mark::Copied && self.is_asked(place.before(self.offset));
+            *chosen = place.is_asked && place.mark != Mark::Clean && is_copy == as_copies;
         }
-        plain_rects(alloc, self.width, self.height, &chosen)
-    }
-
-    /// The canonical list of the places that are sent as pixels.
-    fn pixels(&self, alloc: Global) -> Result<Vec<Rect>, AllocError> {
-        let mut chosen = Vec::new(alloc);
-        for place in &self.places {
-            let is_wanted = place.is_asked && place.mark != Mark::Clean;
-            chosen.push(is_wanted && !self.is_copyable(*place))?;
-        }
-        plain_rects(alloc, self.width, self.height, &chosen)
+        places
     }
 
     /// The rectangles are sent: their places are clean, and every other place that is not clean is owed.
-    fn settle(&mut self, copies: &[Rect], pixels: &[Rect]) {
+    pub(super) fn settle(&mut self, copies: &[Rect], pixels: &[Rect]) {
         for place in self.places.iter_mut() {
             let (x, y) = (place.x, place.y);
             if is_in_some(copies, x, y) || is_in_some(pixels, x, y) {
@@ -239,73 +207,36 @@ impl PlainMarks {
         }
         self.offset = (0, 0);
     }
-
-    /// The first copies and the first rectangles of pixels, at most `limit` of each.
-    pub(super) fn cut(
-        &mut self,
-        alloc: Global,
-        limit: u32,
-    ) -> Result<Option<PlainCut>, AllocError> {
-        if !self.pending() {
-            return Ok(None);
-        }
-        let offset = self.offset;
-        let mut copies = in_order(alloc, self.width, self.height, &self.copies(alloc)?, offset)?;
-        let mut pixels = self.pixels(alloc)?;
-        copies.truncate(limit as usize);
-        pixels.truncate(limit as usize);
-        self.settle(&copies, &pixels);
-        Ok(Some(PlainCut {
-            copies,
-            offset,
-            pixels,
-        }))
-    }
 }
 
 /// Whether a place is chosen; none is off the screen.
-pub(super) fn is_chosen(chosen: &[bool], width: i32, x: i32, y: i32) -> bool {
-    match index_of(width, i32::MAX, x, y) {
-        Some(index) => chosen.get(index).copied().unwrap_or(false),
+pub(super) fn is_chosen(places: &Places, x: i32, y: i32) -> bool {
+    match number_of(x, y) {
+        Some(number) => places.get(number) == Some(&true),
         None => false,
     }
 }
 
 /// Whether two rows have the same places.
-fn same_rows(chosen: &[bool], width: i32, y: i32, other: i32) -> bool {
-    (0..width).all(|x| is_chosen(chosen, width, x, y) == is_chosen(chosen, width, x, other))
+fn same_rows(places: &Places, y: i32, other: i32) -> bool {
+    (0..WIDTH).all(|x| is_chosen(places, x, y) == is_chosen(places, x, other))
 }
 
-/// The canonical list as it is defined: of each row that begins a band, each maximal interval, down to the band's end.
-pub(super) fn plain_rects(
-    alloc: Global,
-    width: i32,
-    height: i32,
-    chosen: &[bool],
-) -> Result<Vec<Rect>, AllocError> {
-    let mut rects = Vec::new(alloc);
-    for y in 0..height {
-        if y > 0 && same_rows(chosen, width, y, y - 1) {
-            continue;
-        }
-        let y2 = (y..height)
-            .find(|&below| !same_rows(chosen, width, below, y))
-            .unwrap_or(height);
-        for x in 0..width {
-            if is_chosen(chosen, width, x, y) && !is_chosen(chosen, width, x.wrapping_sub(1), y) {
-                let x2 = (x..width)
-                    .find(|&behind| !is_chosen(chosen, width, behind, y))
-                    .unwrap_or(width);
-                rects.push(Rect {
-                    x1: x,
-                    y1: y,
-                    x2,
-                    y2,
-                })?;
-            }
-        }
+/// The rectangle of the canonical list that begins at a place, as it is defined: of a row that begins a band, a maximal interval,
+/// down to the band's end.
+fn rect_at(places: &Places, x: i32, y: i32) -> Option<Rect> {
+    let begins = is_chosen(places, x, y) && !is_chosen(places, x.wrapping_sub(1), y);
+    if !begins || same_rows(places, y, y.wrapping_sub(1)) {
+        return None;
     }
-    Ok(rects)
+    let right = (x..WIDTH).find(|column| !is_chosen(places, *column, y));
+    let bottom = (y..HEIGHT).find(|row| !same_rows(places, *row, y));
+    Some(Rect {
+        x1: x,
+        y1: y,
+        x2: right.unwrap_or(WIDTH),
+        y2: bottom.unwrap_or(HEIGHT),
+    })
 }
 
 /// The number itself, or the one as far from the other end of the first ones below `end`.
@@ -317,24 +248,22 @@ fn turned(at: i32, end: i32, is_turned: bool) -> i32 {
     }
 }
 
-/// Rectangles of a screen by the rows in which they begin, from the bottom where dy > 0, and in each by their first columns,
-/// from the right where dx > 0.
-fn in_order(
+/// The first rectangles of the canonical list by the rows in which they begin, from the bottom where dy > 0, and in each by their
+/// first columns, from the right where dx > 0.
+pub(super) fn first_rects(
     alloc: Global,
-    width: i32,
-    height: i32,
-    rects: &[Rect],
+    places: &Places,
     (dx, dy): (i32, i32),
+    limit: u32,
 ) -> Result<Vec<Rect>, AllocError> {
-    let mut ordered = Vec::new(alloc);
-    for row in 0..height {
-        let y = turned(row, height, dy > 0);
-        for column in 0..width {
-            let x = turned(column, width, dx > 0);
-            if let Some(rect) = rects.iter().find(|rect| rect.x1 == x && rect.y1 == y) {
-                ordered.push(*rect)?;
-            }
+    let mut rects = Vec::new(alloc);
+    for number in 0..COUNT {
+        let (column, row) = place_at(number);
+        let (x, y) = (turned(column, WIDTH, dx > 0), turned(row, HEIGHT, dy > 0));
+        if let Some(rect) = rect_at(places, x, y) {
+            rects.push(rect)?;
         }
     }
-    Ok(ordered)
+    rects.truncate(limit as usize);
+    Ok(rects)
 }

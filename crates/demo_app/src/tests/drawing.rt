@@ -1,6 +1,6 @@
 // Drawing commands, copies, encodings and notices: what viewers are sent, with the bytes of RFC 6143.
 
-use super::{Rows, shows};
+use super::{Part, Rows, shows};
 use std::test::Fail;
 
 // Two copies by one offset, the second over the first one's places: both go as pixels.
@@ -200,26 +200,29 @@ const NOTICES_FOR_OPEN_VIEWERS: Rows = &[
 ];
 
 // A sixty-fifth notice is not kept, nor is a text behind it.
+const AN_OPENED_VIEWER: Rows = &[
+    ("screen 4 3 demo", "ok\n"),
+    ("connect 1", "connect 1 524642203030332e3030380a\n"),
+    (
+        "hear 1 524642203030332e3030380a0101",
+        "hear 1 010100000000000400032018000100ff00ff00ff1008000000000000000464656d6f\n",
+    ),
+];
+
+const SIXTY_FOUR_NOTICES: Rows = &[(
+    "cut 1",
+    "cut 1 02020202020202020202020202020202020202020202020202020202020202020202020202020202020202020202020202020202020202020202020202020202\n",
+)];
+
 #[test]
 fn sixty_four_notices(rt: HostRuntime) -> Result<(), Fail> {
-    let opened = [
-        ("screen 4 3 demo", "ok\n"),
-        ("connect 1", "connect 1 524642203030332e3030380a\n"),
-        (
-            "hear 1 524642203030332e3030380a0101",
-            "hear 1 010100000000000400032018000100ff00ff00ff1008000000000000000464656d6f\n",
-        ),
+    let parts: [Part; 4] = [
+        (1, AN_OPENED_VIEWER),
+        (65, &[("bell", "ok\n")]),
+        (1, &[("cuttext 6869", "ok\n")]),
+        (1, SIXTY_FOUR_NOTICES),
     ];
-    let sent = [(
-        "cut 1",
-        "cut 1 02020202020202020202020202020202020202020202020202020202020202020202020202020202020202020202020202020202020202020202020202020202\n",
-    )];
-    let mut rows = Vec::new(rt.alloc());
-    rows.extend_from_slice(&opened)?;
-    rows.extend_from_slice(&[("bell", "ok\n"); 65])?;
-    rows.push(("cuttext 6869", "ok\n"))?;
-    rows.extend_from_slice(&sent)?;
-    shows(&rt, rt.alloc(), &rows, 0)
+    shows(&rt, rt.alloc(), &parts, 0)
 }
 
 // Copies to the right are sent from the right, so that none is drawn over a later one's source.
@@ -381,58 +384,60 @@ const MARKS_ARE_CUT_TO_THE_SCREEN: Rows = &[
 ];
 
 // Many marks side by side are one rectangle, for each viewer.
+const TWO_CLEAN_VIEWERS: Rows = &[
+    ("screen 9 1 demo", "ok\n"),
+    ("connect 1", "connect 1 524642203030332e3030380a\n"),
+    (
+        "hear 1 524642203030332e3030380a0101",
+        "hear 1 010100000000000900012018000100ff00ff00ff1008000000000000000464656d6f\n",
+    ),
+    ("connect 2", "connect 2 524642203030332e3030380a\n"),
+    (
+        "hear 2 524642203030332e3030380a0101",
+        "hear 2 010100000000000900012018000100ff00ff00ff1008000000000000000464656d6f\n",
+    ),
+    ("hear 1 020000020000000100000000", "hear 1 -\n"),
+    ("hear 1 03000000000000090001", "hear 1 -\n"),
+    (
+        "cut 1",
+        "cut 1 00000001000000000009000100000000000000000000000000000000000000000000000000000000000000000000000000000000\n",
+    ),
+    ("hear 2 03000000000000090001", "hear 2 -\n"),
+    (
+        "cut 2",
+        "cut 2 00000001000000000009000100000000000000000000000000000000000000000000000000000000000000000000000000000000\n",
+    ),
+];
+
+const FIVE_MARKS: Rows = &[
+    ("mark 0 0 1 1", "ok\n"),
+    ("mark 1 0 2 1", "ok\n"),
+    ("mark 2 0 3 1", "ok\n"),
+    ("mark 3 0 4 1", "ok\n"),
+    ("mark 4 0 5 1", "ok\n"),
+];
+
+const FIVE_PLACES_TWICE: Rows = &[
+    ("hear 1 03010000000000090001", "hear 1 -\n"),
+    (
+        "cut 1",
+        "cut 1 000000010000000000050001000000000000000000000000000000000000000000000000\n",
+    ),
+    ("hear 2 03010000000000090001", "hear 2 -\n"),
+    (
+        "cut 2",
+        "cut 2 000000010000000000050001000000000000000000000000000000000000000000000000\n",
+    ),
+];
+
 #[test]
 fn many_marks(rt: HostRuntime) -> Result<(), Fail> {
-    let opened = [
-        ("screen 9 1 demo", "ok\n"),
-        ("connect 1", "connect 1 524642203030332e3030380a\n"),
-        (
-            "hear 1 524642203030332e3030380a0101",
-            "hear 1 010100000000000900012018000100ff00ff00ff1008000000000000000464656d6f\n",
-        ),
-        ("connect 2", "connect 2 524642203030332e3030380a\n"),
-        (
-            "hear 2 524642203030332e3030380a0101",
-            "hear 2 010100000000000900012018000100ff00ff00ff1008000000000000000464656d6f\n",
-        ),
-        ("hear 1 020000020000000100000000", "hear 1 -\n"),
-        ("hear 1 03000000000000090001", "hear 1 -\n"),
-        (
-            "cut 1",
-            "cut 1 00000001000000000009000100000000000000000000000000000000000000000000000000000000000000000000000000000000\n",
-        ),
-        ("hear 2 03000000000000090001", "hear 2 -\n"),
-        (
-            "cut 2",
-            "cut 2 00000001000000000009000100000000000000000000000000000000000000000000000000000000000000000000000000000000\n",
-        ),
+    let parts: [Part; 3] = [
+        (1, TWO_CLEAN_VIEWERS),
+        (60, FIVE_MARKS),
+        (1, FIVE_PLACES_TWICE),
     ];
-    let marks = [
-        ("mark 0 0 1 1", "ok\n"),
-        ("mark 1 0 2 1", "ok\n"),
-        ("mark 2 0 3 1", "ok\n"),
-        ("mark 3 0 4 1", "ok\n"),
-        ("mark 4 0 5 1", "ok\n"),
-    ];
-    let sent = [
-        ("hear 1 03010000000000090001", "hear 1 -\n"),
-        (
-            "cut 1",
-            "cut 1 000000010000000000050001000000000000000000000000000000000000000000000000\n",
-        ),
-        ("hear 2 03010000000000090001", "hear 2 -\n"),
-        (
-            "cut 2",
-            "cut 2 000000010000000000050001000000000000000000000000000000000000000000000000\n",
-        ),
-    ];
-    let mut rows = Vec::new(rt.alloc());
-    rows.extend_from_slice(&opened)?;
-    for _ in 0..60 {
-        rows.extend_from_slice(&marks)?;
-    }
-    rows.extend_from_slice(&sent)?;
-    shows(&rt, rt.alloc(), &rows, 0)
+    shows(&rt, rt.alloc(), &parts, 0)
 }
 
 // Written colours are sent once they are marked; the corners stand in the wrong order.
@@ -539,28 +544,28 @@ const A_COPY_OF_WHAT_IS_OWED: Rows = &[
 #[test]
 fn drawn_and_copied(rt: HostRuntime) -> Result<(), Fail> {
     let scripts = [
-        (COPIES_OF_COPIED_PLACES, 0),
-        (A_COPY_FOR_WHO_USES_COPYRECT, 0),
-        (COPIES_END_WITH_COPYRECT, 0),
-        (A_LOST_SOURCE, 0),
-        (A_LOST_SOURCE_AND_ITS_COPY, 0),
-        (NOTICES_COME_BEFORE_RECTANGLES, 0),
-        (NOTICES_BEFORE_AND_BEHIND_A_REQUEST, 0),
-        (NOTICES_FOR_OPEN_VIEWERS, 0),
-        (COPIES_FROM_RIGHT_TO_LEFT, 0),
-        (A_COPY_DOWN, 0),
-        (A_SCHEDULED_COPY, 0),
-        (COPIES_THAT_DO_NOTHING, 0),
-        (CORNERS_OF_COPIES, 0),
-        (MARKS_ARE_CUT_TO_THE_SCREEN, 0),
-        (WRITTEN_PLACES_ARE_MARKED, 0),
-        (RRE, 0),
-        (HEXTILE, 0),
-        (A_COPY_WAITS_FOR_ITS_PLACES, 0),
-        (A_COPY_OF_WHAT_IS_OWED, 0),
+        COPIES_OF_COPIED_PLACES,
+        A_COPY_FOR_WHO_USES_COPYRECT,
+        COPIES_END_WITH_COPYRECT,
+        A_LOST_SOURCE,
+        A_LOST_SOURCE_AND_ITS_COPY,
+        NOTICES_COME_BEFORE_RECTANGLES,
+        NOTICES_BEFORE_AND_BEHIND_A_REQUEST,
+        NOTICES_FOR_OPEN_VIEWERS,
+        COPIES_FROM_RIGHT_TO_LEFT,
+        A_COPY_DOWN,
+        A_SCHEDULED_COPY,
+        COPIES_THAT_DO_NOTHING,
+        CORNERS_OF_COPIES,
+        MARKS_ARE_CUT_TO_THE_SCREEN,
+        WRITTEN_PLACES_ARE_MARKED,
+        RRE,
+        HEXTILE,
+        A_COPY_WAITS_FOR_ITS_PLACES,
+        A_COPY_OF_WHAT_IS_OWED,
     ];
-    for (rows, status) in scripts {
-        shows(&rt, rt.alloc(), rows, status)?;
+    for rows in scripts {
+        shows(&rt, rt.alloc(), &[(1, rows)], 0)?;
     }
     Ok(())
 }

@@ -1,6 +1,6 @@
 // What clap prints: the version, and the help with its script, which is played.
 
-use super::{play_bytes, words};
+use super::{expect, words};
 use crate::line_of;
 use std::alloc::Global;
 use std::test::Fail;
@@ -47,24 +47,33 @@ fn the_help_of_play(rt: HostRuntime) -> Result<(), Fail> {
     Ok(())
 }
 
+// The script in the help.
+fn script_in(help: &str) -> Result<&str, Fail> {
+    let (_, behind) = help
+        .split_once("A script that works:\n")
+        .ok_or("no script")?;
+    let (lines, _) = behind.split_once("\n\n").ok_or("no end")?;
+    Ok(lines)
+}
+
+// Its lines, as they are played.
+fn lines_in(alloc: Global, help: &str) -> Result<String, Fail> {
+    let mut script = String::new(alloc);
+    for line in script_in(help)?.lines() {
+        script.push_str(line.trim_start())?;
+        script.push('\n')?;
+    }
+    Ok(script)
+}
+
+const ANSWERS: &str =
+    "ok\nconnect 1 524642203030332e3030380a\nhear 1 010100000000000400032018000100ff00ff00ff1008000000000000000464656d6f\nhear 1 -\ncut 1 00000001000000000004000300000000000000000000000000000000000000000000000000000000000000000000000000000000000000000000000000000000\n";
+
 #[test]
 fn the_script_of_the_help(rt: HostRuntime) -> Result<(), Fail> {
     let alloc = rt.alloc();
     let text = text_of(alloc, &["vncdemo", "play", "--help"])?;
-    let (_, behind) = text
-        .split_once("A script that works:\n")
-        .ok_or("no script")?;
-    let (lines, _) = behind.split_once("\n\n").ok_or("no end")?;
-    let mut script = String::new(alloc);
-    for line in lines.lines() {
-        script.push_str(line.trim_start())?;
-        script.push('\n')?;
-    }
-    let (out, status) = play_bytes(alloc, script.as_bytes());
-    assert_eq!(rt; status, 0);
-    assert_eq!(rt;
-        str::from_utf8(&out).unwrap_or("no text"),
-        "ok\nconnect 1 524642203030332e3030380a\nhear 1 010100000000000400032018000100ff00ff00ff1008000000000000000464656d6f\nhear 1 -\ncut 1 00000001000000000004000300000000000000000000000000000000000000000000000000000000000000000000000000000000000000000000000000000000\n"
-    );
+    let script = lines_in(alloc, &text)?;
+    expect(&rt, alloc, &mut script.as_bytes(), ANSWERS, 0);
     Ok(())
 }

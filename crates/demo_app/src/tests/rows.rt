@@ -1,7 +1,8 @@
 // Scripts and what they print: the worked conversations of the protocol, with the bytes of RFC 6143.
 
-use super::{Rows, play_bytes, shows};
+use super::{Rows, expect, push_answers, push_lines, shows};
 use std::alloc::{AllocError, Global};
+use std::process::Abort;
 use std::test::Fail;
 
 // An opening in version 3.8, a request of all, an incremental one, and a painted place.
@@ -307,10 +308,7 @@ fn screens_are_made_or_refused(rt: HostRuntime) {
         ),
     ];
     for (script, printed, status) in rows {
-        let (out, ended) = play_bytes(rt.alloc(), script.as_bytes());
-        let text = str::from_utf8(&out).unwrap_or("no text");
-        assert_eq!(rt; text, printed);
-        assert_eq!(rt; ended, status);
+        expect(&rt, rt.alloc(), &mut script.as_bytes(), printed, status);
     }
 }
 
@@ -333,18 +331,44 @@ fn long_word(
 #[test]
 fn long_names(rt: HostRuntime) -> Result<(), Fail> {
     let alloc = rt.alloc();
-    let rows: [(&str, usize, &str, &str); 4] = [
-        ("screen 1 1 ", 255, "", "ok\n"),
-        ("screen 1 1 ", 256, "", "refused 2 BadName\n"),
-        ("screen 1 1 ", 256, " 0", "refused 2 BadName\n"),
-        ("screen 8192 2049 ", 256, " 0", "refused 1 BadSize\n"),
+    let rows: [(&str, usize, &str, &str, u8); 4] = [
+        ("screen 1 1 ", 255, "", "ok\n", 0),
+        ("screen 1 1 ", 256, "", "refused 2 BadName\n", 1),
+        ("screen 1 1 ", 256, " 0", "refused 2 BadName\n", 1),
+        ("screen 8192 2049 ", 256, " 0", "refused 1 BadSize\n", 1),
     ];
-    for (before, count, behind, printed) in rows {
+    for (before, count, behind, printed, status) in rows {
         let script = long_word(alloc, before, ("n", count), behind)?;
-        let (out, _) = play_bytes(alloc, script.as_bytes());
-        let text = str::from_utf8(&out).unwrap_or("no text");
-        assert_eq!(rt; text, printed);
+        expect(&rt, alloc, &mut script.as_bytes(), printed, status);
     }
+    Ok(())
+}
+
+// A text that is too long, the longest one, and the update that sends it.
+fn shows_texts<'a>(
+    rt: &impl Abort,
+    alloc: Global,
+    too_long: &'a str,
+    longest: &'a str,
+    sent: &'a str,
+) -> Result<(), AllocError> {
+    let rows: [(&str, &str); 7] = [
+        ("screen 4 3 demo", "ok\n"),
+        ("connect 1", "connect 1 524642203030332e3030380a\n"),
+        (
+            "hear 1 524642203030332e3030380a0101",
+            "hear 1 010100000000000400032018000100ff00ff00ff1008000000000000000464656d6f\n",
+        ),
+        (too_long, "refused 6 TextTooLong\n"),
+        ("cut 1", "cut 1 -\n"),
+        (longest, "ok\n"),
+        ("cut 1", sent),
+    ];
+    let mut script = String::new(alloc);
+    let mut printed = String::new(alloc);
+    push_lines(&mut script, &rows)?;
+    push_answers(&mut printed, &rows)?;
+    expect(rt, alloc, &mut script.as_bytes(), &printed, 0);
     Ok(())
 }
 
@@ -355,19 +379,8 @@ fn long_texts(rt: HostRuntime) -> Result<(), Fail> {
     let too_long = long_word(alloc, "cuttext ", ("61", 65_537), "")?;
     let longest = long_word(alloc, "cuttext ", ("61", 65_536), "")?;
     let sent = long_word(alloc, "cut 1 0300000000010000", ("61", 65_536), "\n")?;
-    let rows: [(&str, &str); 7] = [
-        ("screen 4 3 demo", "ok\n"),
-        ("connect 1", "connect 1 524642203030332e3030380a\n"),
-        (
-            "hear 1 524642203030332e3030380a0101",
-            "hear 1 010100000000000400032018000100ff00ff00ff1008000000000000000464656d6f\n",
-        ),
-        (&too_long, "refused 6 TextTooLong\n"),
-        ("cut 1", "cut 1 -\n"),
-        (&longest, "ok\n"),
-        ("cut 1", &sent),
-    ];
-    shows(&rt, alloc, &rows, 0)
+    shows_texts(&rt, alloc, &too_long, &longest, &sent)?;
+    Ok(())
 }
 
 #[test]
@@ -393,7 +406,7 @@ fn conversations(rt: HostRuntime) -> Result<(), Fail> {
         (NOTHING_TO_DO, 0),
     ];
     for (rows, status) in scripts {
-        shows(&rt, rt.alloc(), rows, status)?;
+        shows(&rt, rt.alloc(), &[(1, rows)], status)?;
     }
     Ok(())
 }
