@@ -16,10 +16,12 @@ use test_viewer::Shown;
 
 const VERSIONS: [Version; 3] = [Version::V33, Version::V37, Version::V38];
 
-/// SetEncodings with CopyRect and Raw, and with Raw alone.
-const WITH_COPYRECT: &[u8] = b"\x02\x00\x00\x02\x00\x00\x00\x01\x00\x00\x00\x00";
+/// A SetEncodings, and the encodings below 256 that it lists.
+type Encodings = (&'static [u8], &'static [u8]);
 
-const RAW: &[u8] = b"\x02\x00\x00\x01\x00\x00\x00\x00";
+const WITH_COPYRECT: Encodings = (b"\x02\x00\x00\x02\x00\x00\x00\x01\x00\x00\x00\x00", &[1, 0]);
+
+const RAW: Encodings = (b"\x02\x00\x00\x01\x00\x00\x00\x00", &[0]);
 
 /// A format by its bits, its order of bytes, and a maximum and a shift for red, green and blue.
 fn format(
@@ -95,9 +97,9 @@ struct Watcher {
     shown: Shown,
     /// The format that it chose last.
     format: PixelFormat,
-    /// The SetEncodings that it sent last.
+    /// The encodings that it listed last.
     listed: &'static [u8],
-    /// Whether each update so far began with an encoding that was listed then.
+    /// Whether each update so far began with Raw, which needs no listing, or with an encoding that was listed then.
     is_served: bool,
 }
 
@@ -109,16 +111,6 @@ fn first_encoding(update: &[u8]) -> Option<u8> {
     } else {
         None
     }
-}
-
-/// Whether a SetEncodings lists an encoding below 256. Raw needs none.
-fn is_listed(message: &[u8], encoding: u8) -> bool {
-    let number = [0, 0, 0, encoding];
-    encoding == 0
-        || message
-            .chunks(4)
-            .skip(1)
-            .any(|listed| listed == number.as_slice())
 }
 
 /// What a viewer says of a version until the conversation is open: the version, the choice of no security, a ClientInit.
@@ -138,16 +130,16 @@ impl Watcher {
             version,
             shown: Shown::new(alloc, version),
             format: PixelFormat::server(),
-            listed: RAW,
+            listed: &[],
             is_served: true,
         }
     }
 
-    /// The screen gives bytes, which arrive in pieces of five.
+    /// The screen gives bytes, which arrive in two pieces.
     fn hear(&mut self, bytes: &[u8]) {
-        for piece in bytes.chunks(5) {
-            let _ = self.shown.told(piece);
-        }
+        let (front, back) = bytes.split_at(bytes.len() / 2);
+        let _ = self.shown.told(front);
+        let _ = self.shown.told(back);
     }
 
     /// Whether all that was told is legal, and listed. A fault stays.
@@ -165,7 +157,7 @@ impl Watcher {
     fn open(&mut self, screen: &mut Screen) -> Result<(), ScreenError> {
         self.shown = Shown::new(self.alloc, self.version);
         self.format = PixelFormat::server();
-        self.listed = RAW;
+        self.listed = &[];
         let greeting = screen.connect(self.number)?;
         self.hear(greeting.as_slice());
         self.say(screen, opening(self.version))
@@ -187,8 +179,12 @@ impl Watcher {
         self.say(screen, &message)
     }
 
-    fn list(&mut self, screen: &mut Screen, message: &'static [u8]) -> Result<(), ScreenError> {
-        self.listed = message;
+    fn list(
+        &mut self,
+        screen: &mut Screen,
+        (message, listed): Encodings,
+    ) -> Result<(), ScreenError> {
+        self.listed = listed;
         self.say(screen, message)
     }
 
@@ -200,7 +196,7 @@ impl Watcher {
         let bytes = update.encode()?;
         self.hear(&bytes);
         let encoding = first_encoding(&bytes).unwrap_or(0);
-        self.is_served = self.is_served && is_listed(self.listed, encoding);
+        self.is_served = self.is_served && (encoding == 0 || self.listed.contains(&encoding));
         Ok(bytes)
     }
 
@@ -231,5 +227,30 @@ impl Watcher {
             }
         }
         true
+    }
+}
+
+/// The viewers of a screen: two, of which the second may stay away.
+#[derive(Drop)]
+struct Watchers {
+    first: Watcher,
+    second: Watcher,
+}
+
+impl Watchers {
+    fn new(alloc: Global, versions: [Version; 2]) -> Watchers {
+        let [first, second] = versions;
+        Watchers {
+            first: Watcher::new(alloc, 1, first),
+            second: Watcher::new(alloc, 2, second),
+        }
+    }
+
+    fn of(&mut self, is_second: bool) -> &mut Watcher {
+        if is_second {
+            &mut self.second
+        } else {
+            &mut self.first
+        }
     }
 }

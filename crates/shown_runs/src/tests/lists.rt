@@ -4,7 +4,8 @@
 ghost use Rattle.std.specs.Prelude.{◌<◌};
 
 use super::{
-    RAW, VERSIONS, WITH_COPYRECT, Watcher, first_encoding, five_six_five, format, new_screen, whole,
+    Encodings, RAW, VERSIONS, WITH_COPYRECT, Watcher, Watchers, first_encoding, five_six_five,
+    format, new_screen, whole,
 };
 use messages::Version;
 use pixel_translate::{Area, BitsPerPixel, PixelFormat};
@@ -30,16 +31,22 @@ fn next(numbers: &mut Numbers, below: u16) -> u16
 /// The screens' sizes, the least of which is one tile of Hextile, and the others two.
 const SIZES: [(u16, u16); 3] = [(8, 6), (19, 3), (3, 18)];
 
-/// SetEncodings with each encoding of pixels, with and without CopyRect, and with two that no server has to know.
-const ENCODINGS: [&[u8]; 8] = [
+/// Each encoding of pixels, with and without CopyRect, and among them two that no server has to know.
+const ENCODINGS: [Encodings; 8] = [
     RAW,
     WITH_COPYRECT,
-    b"\x02\x00\x00\x01\x00\x00\x00\x02",
-    b"\x02\x00\x00\x02\x00\x00\x00\x02\x00\x00\x00\x01",
-    b"\x02\x00\x00\x01\x00\x00\x00\x05",
-    b"\x02\x00\x00\x02\x00\x00\x00\x05\x00\x00\x00\x01",
-    b"\x02\x00\x00\x04\xff\xff\xff\x11\x00\x00\x00\x01\x00\x00\x00\x10\x00\x00\x00\x05",
-    b"\x02\x00\x00\x04\x00\x00\x00\x01\x00\x00\x00\x02\x00\x00\x00\x05\x00\x00\x00\x00",
+    (b"\x02\x00\x00\x01\x00\x00\x00\x02", &[2]),
+    (b"\x02\x00\x00\x02\x00\x00\x00\x02\x00\x00\x00\x01", &[2, 1]),
+    (b"\x02\x00\x00\x01\x00\x00\x00\x05", &[5]),
+    (b"\x02\x00\x00\x02\x00\x00\x00\x05\x00\x00\x00\x01", &[5, 1]),
+    (
+        b"\x02\x00\x00\x04\xff\xff\xff\x11\x00\x00\x00\x01\x00\x00\x00\x10\x00\x00\x00\x05",
+        &[1, 16, 5],
+    ),
+    (
+        b"\x02\x00\x00\x04\x00\x00\x00\x01\x00\x00\x00\x02\x00\x00\x00\x05\x00\x00\x00\x00",
+        &[1, 2, 5, 0],
+    ),
 ];
 
 /// A screen with its viewers.
@@ -47,9 +54,9 @@ const ENCODINGS: [&[u8]; 8] = [
 struct World {
     alloc: Global,
     screen: Screen,
-    watchers: [Watcher; 2],
-    /// How many of the viewers are there.
-    count: u16,
+    watchers: Watchers,
+    /// Whether the second viewer is there.
+    are_two: bool,
     /// The offset of the copy before.
     by: (i32, i32),
 }
@@ -234,11 +241,9 @@ fn step(numbers: &mut Numbers, tally: &mut Tally, world: &mut World) -> Result<(
         6 if next(numbers, 2) == 0 => world.screen.bell(),
         6 => world.screen.cut_text(b"hi"),
         _ => {
-            let viewer = usize::from(next(numbers, world.count.max(1)));
-            match world.watchers.get_mut(viewer) {
-                Some(watcher) => watch(numbers, tally, &mut world.screen, watcher),
-                None => Ok(()),
-            }
+            let is_second = world.are_two && next(numbers, 2) == 1;
+            let watcher = world.watchers.of(is_second);
+            watch(numbers, tally, &mut world.screen, watcher)
         }
     }
 }
@@ -263,8 +268,9 @@ fn settles(
 
 /// Each viewer opens.
 fn open(world: &mut World) -> Result<(), ScreenError> {
-    for watcher in world.watchers.iter_mut().take(usize::from(world.count)) {
-        watcher.open(&mut world.screen)?;
+    world.watchers.first.open(&mut world.screen)?;
+    if world.are_two {
+        world.watchers.second.open(&mut world.screen)?;
     }
     Ok(())
 }
@@ -279,11 +285,9 @@ fn call(numbers: &mut Numbers, tally: &mut Tally, world: &mut World) -> Result<(
 
 /// Whether each viewer shows the picture in the end.
 fn settle(tally: &mut Tally, world: &mut World) -> Result<bool, ScreenError> {
-    let mut settled = true;
-    for watcher in world.watchers.iter_mut().take(usize::from(world.count)) {
-        settled = settles(tally, &mut world.screen, watcher)? && settled;
-    }
-    Ok(settled)
+    let first = settles(tally, &mut world.screen, &mut world.watchers.first)?;
+    let second = !world.are_two || settles(tally, &mut world.screen, &mut world.watchers.second)?;
+    Ok(first && second)
 }
 
 /// Whether the viewers show the picture after a list of calls.
@@ -311,15 +315,11 @@ fn list_holds(
 ) -> Result<bool, ScreenError> {
     let size = SIZES.get(list / 6 % 3).copied().unwrap_or((8, 6));
     let screen = new_screen(alloc, size, if list % 5 == 4 { 2 } else { 50 })?;
-    let [first, second] = versions_of(list);
     let mut world = World {
         alloc,
         screen,
-        watchers: [
-            Watcher::new(alloc, 1, first),
-            Watcher::new(alloc, 2, second),
-        ],
-        count: if list % 2 == 0 { 1 } else { 2 },
+        watchers: Watchers::new(alloc, versions_of(list)),
+        are_two: list % 2 == 1,
         by: (1, 0),
     };
     holds(numbers, tally, &mut world)

@@ -1,6 +1,8 @@
 //! Runs whose bytes and pixels are written out from RFC 6143, for viewers of each version.
 
-use super::{RAW, VERSIONS, WITH_COPYRECT, Watcher, five_six_five, new_screen, whole};
+use super::{
+    Encodings, RAW, VERSIONS, WITH_COPYRECT, Watcher, Watchers, five_six_five, new_screen, whole,
+};
 use messages::Version;
 use pixel_translate::{Area, PixelFormat};
 use region::{Rect, Region, RegionError};
@@ -8,24 +10,31 @@ use screen::{Screen, ScreenError};
 use std::alloc::Global;
 use std::test::Fail;
 
-/// A call of the screen, or what is to be seen then. A viewer is one of two, 0 or 1; a rectangle's corners are x1, y1, x2, y2.
+/// Which of two viewers.
+#[derive(Clone, Copy, PartialEq, Eq)]
+enum Who {
+    First,
+    Second,
+}
+
+/// A call of the screen, or what is to be seen then. A rectangle's corners are x1, y1, x2, y2.
 #[derive(Clone, Copy)]
 enum Step {
     Paint([i32; 4], &'static [u32]),
     CopyRect([i32; 4], (i32, i32)),
     CopyRegion([i32; 4], (i32, i32)),
     /// A viewer connects, opens and chooses a format or encodings.
-    Open(usize, Choice),
+    Open(Who, Choice),
     /// It is sent the whole screen.
-    Show(usize),
+    Show(Who),
     /// It asks for the area x, y, w, h, or for what changed there.
-    Ask(usize, [u16; 4]),
-    AskChanges(usize, [u16; 4]),
-    Encodings(usize, &'static [u8]),
+    Ask(Who, [u16; 4]),
+    AskChanges(Who, [u16; 4]),
+    Choose(Who, Encodings),
     /// What a cut gives it.
-    Cut(usize, &'static [u8]),
+    Cut(Who, &'static [u8]),
     /// What its places show, row by row, in the format that it chose last.
-    Shows(usize, &'static [u32]),
+    Shows(Who, &'static [u32]),
 }
 
 /// What a viewer chooses that opens.
@@ -36,7 +45,8 @@ enum Choice {
     FiveSixFive,
 }
 
-use Step::{Ask, AskChanges, CopyRect, CopyRegion, Cut, Encodings, Open, Paint, Show, Shows};
+use Step::{Ask, AskChanges, Choose, CopyRect, CopyRegion, Cut, Open, Paint, Show, Shows};
+use Who::{First, Second};
 
 /// What no place shows that was sent a pixel of these runs.
 const NOTHING: u32 = 0xdead_beef;
@@ -44,203 +54,203 @@ const NOTHING: u32 = 0xdead_beef;
 /// Two copies by one offset, of which the second is from what the first drew: its places are sent as pixels.
 const COPY_OF_A_COPY: [Step; 8] = [
     Paint([0, 0, 6, 1], &[1, 2, 3, 4, 5, 6]),
-    Open(0, Choice::CopyRect),
-    Show(0),
+    Open(First, Choice::CopyRect),
+    Show(First),
     CopyRect([2, 0, 4, 1], (1, 0)),
     CopyRect([3, 0, 5, 1], (1, 0)),
-    AskChanges(0, [0, 0, 6, 1]),
+    AskChanges(First, [0, 0, 6, 1]),
     Cut(
-        0,
+        First,
         b"\x00\x00\x00\x01\x00\x02\x00\x00\x00\x03\x00\x01\x00\x00\x00\x00\x02\x00\x00\x00\x02\x00\x00\x00\x03\x00\x00\x00",
     ),
-    Shows(0, &[1, 2, 2, 2, 3, 6]),
+    Shows(First, &[1, 2, 2, 2, 3, 6]),
 ];
 
 /// The source of a pending copy is asked for anew: the copy is sent as pixels.
 const LOST_SOURCE: [Step; 11] = [
     Paint([0, 0, 4, 1], &[1, 2, 3, 4]),
-    Open(0, Choice::CopyRect),
-    Show(0),
+    Open(First, Choice::CopyRect),
+    Show(First),
     CopyRect([2, 0, 3, 1], (1, 0)),
-    Ask(0, [1, 0, 1, 1]),
-    Shows(0, &[1, NOTHING, 3, 4]),
+    Ask(First, [1, 0, 1, 1]),
+    Shows(First, &[1, NOTHING, 3, 4]),
     Cut(
-        0,
+        First,
         b"\x00\x00\x00\x01\x00\x01\x00\x00\x00\x01\x00\x01\x00\x00\x00\x00\x02\x00\x00\x00",
     ),
-    Shows(0, &[1, 2, 3, 4]),
-    AskChanges(0, [0, 0, 4, 1]),
+    Shows(First, &[1, 2, 3, 4]),
+    AskChanges(First, [0, 0, 4, 1]),
     Cut(
-        0,
+        First,
         b"\x00\x00\x00\x01\x00\x02\x00\x00\x00\x01\x00\x01\x00\x00\x00\x00\x02\x00\x00\x00",
     ),
-    Shows(0, &[1, 2, 2, 4]),
+    Shows(First, &[1, 2, 2, 4]),
 ];
 
 /// The same, where what changed is asked for as well before the cut.
 const LOST_SOURCE_AND_CHANGES: [Step; 8] = [
     Paint([0, 0, 4, 1], &[1, 2, 3, 4]),
-    Open(0, Choice::CopyRect),
-    Show(0),
+    Open(First, Choice::CopyRect),
+    Show(First),
     CopyRect([2, 0, 3, 1], (1, 0)),
-    Ask(0, [1, 0, 1, 1]),
-    AskChanges(0, [0, 0, 4, 1]),
+    Ask(First, [1, 0, 1, 1]),
+    AskChanges(First, [0, 0, 4, 1]),
     Cut(
-        0,
+        First,
         b"\x00\x00\x00\x01\x00\x01\x00\x00\x00\x02\x00\x01\x00\x00\x00\x00\x02\x00\x00\x00\x02\x00\x00\x00",
     ),
-    Shows(0, &[1, 2, 2, 4]),
+    Shows(First, &[1, 2, 2, 4]),
 ];
 
 /// Two copies by one offset, of which the first is from where the second is to: they are sent in the other order.
 const COPIES_IN_ORDER: [Step; 8] = [
     Paint([0, 0, 6, 1], &[1, 2, 3, 4, 5, 6]),
-    Open(0, Choice::CopyRect),
-    Show(0),
+    Open(First, Choice::CopyRect),
+    Show(First),
     CopyRect([4, 0, 5, 1], (2, 0)),
     CopyRect([2, 0, 3, 1], (2, 0)),
-    AskChanges(0, [0, 0, 6, 1]),
+    AskChanges(First, [0, 0, 6, 1]),
     Cut(
-        0,
+        First,
         b"\x00\x00\x00\x02\x00\x04\x00\x00\x00\x01\x00\x01\x00\x00\x00\x01\x00\x02\x00\x00\x00\x02\x00\x00\x00\x01\x00\x01\x00\x00\x00\x01\x00\x00\x00\x00",
     ),
-    Shows(0, &[1, 2, 1, 4, 3, 6]),
+    Shows(First, &[1, 2, 1, 4, 3, 6]),
 ];
 
 /// A copy that is asked for only after an update of another place: it is sent as pixels.
 const COPY_AFTER_AN_UPDATE: [Step; 11] = [
     Paint([0, 0, 4, 1], &[1, 2, 3, 4]),
-    Open(0, Choice::CopyRect),
-    Show(0),
+    Open(First, Choice::CopyRect),
+    Show(First),
     CopyRect([2, 0, 3, 1], (1, 0)),
     Paint([0, 0, 1, 1], &[10]),
-    AskChanges(0, [0, 0, 1, 1]),
+    AskChanges(First, [0, 0, 1, 1]),
     Cut(
-        0,
+        First,
         b"\x00\x00\x00\x01\x00\x00\x00\x00\x00\x01\x00\x01\x00\x00\x00\x00\x0a\x00\x00\x00",
     ),
-    Shows(0, &[10, 2, 3, 4]),
-    AskChanges(0, [0, 0, 4, 1]),
+    Shows(First, &[10, 2, 3, 4]),
+    AskChanges(First, [0, 0, 4, 1]),
     Cut(
-        0,
+        First,
         b"\x00\x00\x00\x01\x00\x02\x00\x00\x00\x01\x00\x01\x00\x00\x00\x00\x02\x00\x00\x00",
     ),
-    Shows(0, &[10, 2, 2, 4]),
+    Shows(First, &[10, 2, 2, 4]),
 ];
 
 /// A copy from a place that is owed: both are sent as pixels.
 const COPY_FROM_A_PAINTED_PLACE: [Step; 8] = [
     Paint([0, 0, 4, 1], &[1, 2, 3, 4]),
-    Open(0, Choice::CopyRect),
-    Show(0),
+    Open(First, Choice::CopyRect),
+    Show(First),
     Paint([0, 0, 1, 1], &[10]),
     CopyRect([1, 0, 2, 1], (1, 0)),
-    AskChanges(0, [0, 0, 4, 1]),
+    AskChanges(First, [0, 0, 4, 1]),
     Cut(
-        0,
+        First,
         b"\x00\x00\x00\x01\x00\x00\x00\x00\x00\x02\x00\x01\x00\x00\x00\x00\x0a\x00\x00\x00\x0a\x00\x00\x00",
     ),
-    Shows(0, &[10, 10, 3, 4]),
+    Shows(First, &[10, 10, 3, 4]),
 ];
 
 /// A copy down over its own source.
 const COPY_DOWN: [Step; 7] = [
     Paint([0, 0, 1, 4], &[1, 2, 3, 4]),
-    Open(0, Choice::CopyRect),
-    Show(0),
+    Open(First, Choice::CopyRect),
+    Show(First),
     CopyRect([0, 1, 1, 4], (0, 1)),
-    AskChanges(0, [0, 0, 1, 4]),
+    AskChanges(First, [0, 0, 1, 4]),
     Cut(
-        0,
+        First,
         b"\x00\x00\x00\x01\x00\x00\x00\x01\x00\x01\x00\x03\x00\x00\x00\x01\x00\x00\x00\x00",
     ),
-    Shows(0, &[1, 1, 2, 3]),
+    Shows(First, &[1, 1, 2, 3]),
 ];
 
 /// The same for a region.
 const COPY_OF_A_REGION_DOWN: [Step; 7] = [
     Paint([0, 0, 1, 4], &[1, 2, 3, 4]),
-    Open(0, Choice::CopyRect),
-    Show(0),
+    Open(First, Choice::CopyRect),
+    Show(First),
     CopyRegion([0, 1, 1, 4], (0, 1)),
-    AskChanges(0, [0, 0, 1, 4]),
+    AskChanges(First, [0, 0, 1, 4]),
     Cut(
-        0,
+        First,
         b"\x00\x00\x00\x01\x00\x00\x00\x01\x00\x01\x00\x03\x00\x00\x00\x01\x00\x00\x00\x00",
     ),
-    Shows(0, &[1, 1, 2, 3]),
+    Shows(First, &[1, 1, 2, 3]),
 ];
 
 /// Copies by nothing, and from off the screen, change nothing.
 const COPIES_OF_NOTHING: [Step; 10] = [
     Paint([0, 0, 1, 4], &[1, 2, 3, 4]),
-    Open(0, Choice::CopyRect),
-    Show(0),
+    Open(First, Choice::CopyRect),
+    Show(First),
     CopyRect([0, 1, 1, 4], (0, 0)),
     CopyRegion([0, 1, 1, 4], (0, 0)),
     CopyRect([0, 1, 1, 4], (0, 9)),
     CopyRegion([0, 1, 1, 4], (0, 9)),
-    AskChanges(0, [0, 0, 1, 4]),
-    Cut(0, b""),
-    Shows(0, &[1, 2, 3, 4]),
+    AskChanges(First, [0, 0, 1, 4]),
+    Cut(First, b""),
+    Shows(First, &[1, 2, 3, 4]),
 ];
 
 /// A copy for a viewer that uses CopyRect, and for one that does not.
 const TWO_VIEWERS: [Step; 12] = [
     Paint([0, 0, 4, 1], &[1, 2, 3, 4]),
-    Open(0, Choice::CopyRect),
-    Open(1, Choice::Nothing),
-    Show(0),
-    Show(1),
+    Open(First, Choice::CopyRect),
+    Open(Second, Choice::Nothing),
+    Show(First),
+    Show(Second),
     CopyRect([1, 0, 4, 1], (1, 0)),
-    AskChanges(0, [0, 0, 4, 1]),
-    AskChanges(1, [0, 0, 4, 1]),
+    AskChanges(First, [0, 0, 4, 1]),
+    AskChanges(Second, [0, 0, 4, 1]),
     Cut(
-        0,
+        First,
         b"\x00\x00\x00\x01\x00\x01\x00\x00\x00\x03\x00\x01\x00\x00\x00\x01\x00\x00\x00\x00",
     ),
     Cut(
-        1,
+        Second,
         b"\x00\x00\x00\x01\x00\x01\x00\x00\x00\x03\x00\x01\x00\x00\x00\x00\x01\x00\x00\x00\x02\x00\x00\x00\x03\x00\x00\x00",
     ),
-    Shows(0, &[1, 1, 2, 3]),
-    Shows(1, &[1, 1, 2, 3]),
+    Shows(First, &[1, 1, 2, 3]),
+    Shows(Second, &[1, 1, 2, 3]),
 ];
 
 /// A viewer no longer uses CopyRect: its pending copy is sent as pixels.
 const COPYRECT_NO_LONGER: [Step; 13] = [
     Paint([0, 0, 4, 1], &[1, 2, 3, 4]),
-    Open(0, Choice::CopyRect),
-    Open(1, Choice::Nothing),
-    Show(0),
-    Show(1),
+    Open(First, Choice::CopyRect),
+    Open(Second, Choice::Nothing),
+    Show(First),
+    Show(Second),
     CopyRect([1, 0, 4, 1], (1, 0)),
-    Encodings(0, RAW),
-    AskChanges(0, [0, 0, 4, 1]),
-    AskChanges(1, [0, 0, 4, 1]),
+    Choose(First, RAW),
+    AskChanges(First, [0, 0, 4, 1]),
+    AskChanges(Second, [0, 0, 4, 1]),
     Cut(
-        0,
+        First,
         b"\x00\x00\x00\x01\x00\x01\x00\x00\x00\x03\x00\x01\x00\x00\x00\x00\x01\x00\x00\x00\x02\x00\x00\x00\x03\x00\x00\x00",
     ),
     Cut(
-        1,
+        Second,
         b"\x00\x00\x00\x01\x00\x01\x00\x00\x00\x03\x00\x01\x00\x00\x00\x00\x01\x00\x00\x00\x02\x00\x00\x00\x03\x00\x00\x00",
     ),
-    Shows(0, &[1, 1, 2, 3]),
-    Shows(1, &[1, 1, 2, 3]),
+    Shows(First, &[1, 1, 2, 3]),
+    Shows(Second, &[1, 1, 2, 3]),
 ];
 
 /// Pixels of 16 bits, for a viewer that chose such a format.
 const FIVE_SIX_FIVE: [Step; 6] = [
-    Open(0, Choice::FiveSixFive),
-    Show(0),
+    Open(First, Choice::FiveSixFive),
+    Show(First),
     Paint([0, 0, 1, 1], &[0xff8000]),
-    AskChanges(0, [0, 0, 4, 3]),
+    AskChanges(First, [0, 0, 4, 3]),
     Cut(
-        0,
+        First,
         b"\x00\x00\x00\x01\x00\x00\x00\x00\x00\x01\x00\x01\x00\x00\x00\x00\x00\xfc",
     ),
-    Shows(0, &[0xfc00, 0, 0, 0, 0, 0, 0, 0, 0, 0, 0, 0]),
+    Shows(First, &[0xfc00, 0, 0, 0, 0, 0, 0, 0, 0, 0, 0, 0]),
 ];
 
 /// The screens' sizes, and what is called.
@@ -346,7 +356,7 @@ fn watch(screen: &mut Screen, watcher: &mut Watcher, step: Step) -> Result<bool,
         Show(_) => return show(screen, watcher),
         Ask(_, corner) => watcher.ask(screen, false, area(corner))?,
         AskChanges(_, corner) => watcher.ask(screen, true, area(corner))?,
-        Encodings(_, message) => watcher.list(screen, message)?,
+        Choose(_, encodings) => watcher.list(screen, encodings)?,
         Cut(_, wanted) => return Ok(watcher.cut(screen)?.as_slice() == wanted),
         Shows(_, pixels) => return Ok(shows(screen, watcher, pixels)),
         _ => return Ok(false),
@@ -355,13 +365,13 @@ fn watch(screen: &mut Screen, watcher: &mut Watcher, step: Step) -> Result<bool,
 }
 
 /// The viewer whose step it is.
-fn viewer_of(step: Step) -> Option<usize> {
+fn viewer_of(step: Step) -> Option<Who> {
     match step {
         Open(viewer, _)
         | Show(viewer)
         | Ask(viewer, _)
         | AskChanges(viewer, _)
-        | Encodings(viewer, _)
+        | Choose(viewer, _)
         | Cut(viewer, _)
         | Shows(viewer, _) => Some(viewer),
         Paint(..) | CopyRect(..) | CopyRegion(..) => None,
@@ -372,26 +382,21 @@ fn viewer_of(step: Step) -> Option<usize> {
 fn take(
     alloc: Global,
     screen: &mut Screen,
-    watchers: &mut [Watcher],
+    watchers: &mut Watchers,
     step: Step,
 ) -> Result<bool, ScreenError> {
-    let Some(viewer) = viewer_of(step) else {
-        draw(alloc, screen, step)?;
-        return Ok(true);
-    };
-    match watchers.get_mut(viewer) {
-        Some(watcher) => watch(screen, watcher, step),
-        None => Ok(false),
+    match viewer_of(step) {
+        Some(who) => watch(screen, watchers.of(who == Second), step),
+        None => {
+            draw(alloc, screen, step)?;
+            Ok(true)
+        }
     }
 }
 
-/// Whether each viewer shows the picture, or nothing, and was told nothing illegal.
-fn show_picture(screen: &Screen, watchers: &mut [Watcher]) -> bool {
-    let mut right = true;
-    for watcher in watchers {
-        right = right && watcher.is_well() && watcher.shows_picture(screen, true);
-    }
-    right
+/// Whether a viewer shows the picture, or nothing, and was told nothing illegal.
+fn is_right(screen: &Screen, watcher: &mut Watcher) -> bool {
+    watcher.is_well() && watcher.shows_picture(screen, true)
 }
 
 /// The first step that does not give what it is to give; or how many steps there are, where a viewer shows something else than
@@ -399,7 +404,7 @@ fn show_picture(screen: &Screen, watchers: &mut [Watcher]) -> bool {
 fn first_wrong(
     alloc: Global,
     screen: &mut Screen,
-    watchers: &mut [Watcher],
+    watchers: &mut Watchers,
     steps: &[Step],
 ) -> Result<Option<usize>, ScreenError> {
     for (number, step) in steps.iter().enumerate() {
@@ -407,7 +412,7 @@ fn first_wrong(
             return Ok(Some(number));
         }
     }
-    if show_picture(screen, watchers) {
+    if is_right(screen, &mut watchers.first) && is_right(screen, &mut watchers.second) {
         Ok(None)
     } else {
         Ok(Some(steps.len()))
@@ -422,10 +427,7 @@ fn first_wrong_of(
     version: Version,
 ) -> Result<Option<usize>, ScreenError> {
     let mut screen = new_screen(alloc, size, 50)?;
-    let mut watchers = [
-        Watcher::new(alloc, 1, version),
-        Watcher::new(alloc, 2, version),
-    ];
+    let mut watchers = Watchers::new(alloc, [version, version]);
     first_wrong(alloc, &mut screen, &mut watchers, steps)
 }
 
