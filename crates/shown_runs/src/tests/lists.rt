@@ -4,8 +4,8 @@
 ghost use Rattle.std.specs.Prelude.{◌<◌};
 
 use super::{
-    Encodings, RAW, VERSIONS, WITH_COPYRECT, Watcher, Watchers, first_encoding, five_six_five,
-    format, new_screen, whole,
+    Encodings, RAW, WITH_COPYRECT, Watcher, Watchers, first_encoding, five_six_five, format,
+    new_screen, whole,
 };
 use messages::Version;
 use pixel_translate::{Area, BitsPerPixel, PixelFormat};
