@@ -92,3 +92,8 @@ IsOver left remains wrote written listener speaker r =
 abbrev pub Opens : Option (List ℕ) → Option (List ℕ) → Option (List ℕ) → Option (List ℕ) → Greeting → Opened → Type 0
 Opens left remains wrote written line (Ready listener speaker) = Hears left remains line.listener listener [] × Sends wrote written line.speaker speaker
 Opens left remains wrote written line (Over r) = IsOver left remains wrote written line.listener line.speaker r
+
+-- an opening's two ends, or its receipt, are one viewer's
+abbrev pub IsOf : ℕ → Opened → Type 0
+IsOf v (Ready listener speaker) = (listener.viewer ≡ v) × (speaker.viewer ≡ v)
+IsOf v (Over r) = r.viewer ≡ v

@@ -1,9 +1,12 @@
 //! What the lock keeps: a screen that stands for one list of events, in which viewers connected by rising numbers, and whose
 //! drawing calls are counted. Each call is one hold: it does one event, or changes nothing.
 
-ghost use Rattle.std.specs.Prelude.{◌≡◌, List, [], None, Some, true, OnOk, OnErr, IfOk, MatchBool, MatchOption, IsOkUnless, ◌+◌, ◌<◌};
+ghost use Rattle.std.specs.Prelude.{◌≡◌, List, [], None, Some, true, OnOk, OnErr, IfOk, MatchBool, MatchOption, IsOkUnless, ◌+◌, ◌<◌, is_some, Ok};
 ghost use Rattle.messages.specs.Server.{server_version};
+ghost use Rattle.scene.specs.declared.Config.{Config};
 ghost use Rattle.scene.specs.declared.Event.{Event};
+ghost use Rattle.scene.specs.Alone.{something_to_send};
+ghost use Rattle.scene.specs.Answers.{answer_to};
 ghost use Rattle.scene.specs.declared.ScreenError.TheVariants as refusals;
 ghost use Rattle.scene.specs.Refusals.{absence, Refuses};
 ghost use Rattle.screen.specs.State.{state, viewer_at, refusal};
@@ -107,6 +110,18 @@ impl<L: Ledger> Desk<L> {
         ensures { result ≡ is_open_now (viewer_at self.now.screen number) }
     {
         matches!(self.screen.is_open(number), Ok(true))
+    }
+
+    /// Whether a viewer's sender need not wait: it ends, or has something to send.
+    pub fn has_turn(&self, number: u64) -> bool
+        ensures ends { is_some (ending self.now number) ≡ true → result ≡ true }
+        ensures sends { (config : Config) (list : List Event) → self.now.screen ≡ state config list → ending self.now number ≡ None →
+            Ok result ≡ something_to_send (answer_to config list (Event.Cut number)) }
+    {
+        if self.stopped || !matches!(self.screen.fault(number), Ok(None)) {
+            return true;
+        }
+        matches!(self.screen.pending(number), Ok(true))
     }
 
     /// A drawing call, which is counted.

@@ -35,6 +35,13 @@ impl Model for Listener {
 }
 
 impl Listener {
+    /// The viewer's number.
+    pub fn viewer(&self) -> u64
+        ensures { result ≡ self.now.viewer }
+    {
+        self.viewer
+    }
+
     /// The inputs that wait, which are then no more.
     pub(crate) fn take_waiting(&mut self) -> Listed<Input>
         ensures { self.new ≡ self.old }
@@ -62,6 +69,13 @@ impl Model for Speaker {
 }
 
 impl Speaker {
+    /// The viewer's number.
+    pub fn viewer(&self) -> u64
+        ensures { result ≡ self.now.viewer }
+    {
+        self.viewer
+    }
+
     /// An update more was cut.
     pub(crate) fn count_cut(&mut self)
         ensures cut { self.new ≡ has_cut self.old }
@@ -80,14 +94,24 @@ pub struct Line {
 }
 
 impl Model for Line {
+    ghost use Rattle.std.specs.Prelude.{◌≡◌};
     ghost use Rattle.update_sender.specs.Ends.{Greeting};
 
     ghost Value = { Greeting };
 
     ghost view = { λ a. record { listener = a.listener; speaker = a.speaker; version = a.version } };
+
+    ghost invariant = { λ a. a.listener.viewer ≡ a.speaker.viewer };
 }
 
 impl Line {
+    /// The viewer's number.
+    pub fn viewer(&self) -> u64
+        ensures { result ≡ self.now.listener.viewer }
+    {
+        self.listener.viewer
+    }
+
     /// The line of a viewer that has just connected.
     pub(crate) fn new(alloc: Global, viewer: u64, history: History, version: Listed<u8>) -> Line
         requires { version ≡ server_version }
@@ -117,6 +141,7 @@ impl Line {
         ensures listener { result.0 ≡ self.listener }
         ensures speaker { result.1 ≡ self.speaker }
         ensures version { result.2 ≡ self.version }
+        ensures viewer { result.0.viewer ≡ result.1.viewer }
     {
         (self.listener, self.speaker, self.version)
     }

@@ -1,7 +1,7 @@
 //! A viewer's opening, from the server's version to the ServerInit (RFC 6143, 7.1 to 7.3).
 
 ghost use Rattle.std.specs.Prelude.{◌≡◌, List, ℕ, [], MatchResult};
-ghost use Rattle.update_sender.specs.Serving.{Opens, Hears, Sends, OpeningEnds, receipt_of};
+ghost use Rattle.update_sender.specs.Serving.{Opens, IsOf, Hears, Sends, OpeningEnds, receipt_of};
 
 use crate::ends::{Line, Listener, Speaker};
 use crate::hearing::hear_piece;
@@ -31,7 +31,8 @@ pub fn serve_opening<L: Ledger, Rd: Read, W: Write, R: Wait>(
     reader: &mut Rd,
     writer: &mut W,
 ) -> Opened
-    ensures { Opens (Rd.remaining reader.old) (Rd.remaining reader.new) (W.contents writer.old) (W.contents writer.new) line result }
+    ensures opens { Opens (Rd.remaining reader.old) (Rd.remaining reader.new) (W.contents writer.old) (W.contents writer.new) line result }
+    ensures viewer { IsOf line.listener.viewer result }
 {
     let (mut listener, mut speaker, version) = line.ends();
     let greeted = greet(
@@ -47,7 +48,7 @@ pub fn serve_opening<L: Ledger, Rd: Read, W: Write, R: Wait>(
         Ok(()) => Opened::Ready(listener, speaker),
         Err(ended) => {
             // It may be closed already. Where even this wants memory, it stays live.
-            let _closed = shared.close(rt, listener.viewer);
+            let _closed = shared.close(rt, listener.viewer());
             Opened::Over(receipt_of(listener, speaker, ended))
         }
     }
@@ -105,7 +106,11 @@ fn open_further<L: Ledger, Rd: Read, W: Write, R: Wait>(
         (λ e. (unheard : List ℕ) × Hears (Rd.remaining reader.old) (Rd.remaining reader.new) listener.old listener.new unheard × OpeningEnds e (Rd.remaining reader.new) unheard) }
     ensures sent { Sends (W.contents writer.old) (W.contents writer.new) speaker.old speaker.new }
 {
-    let Heard { answer, is_open } = hear_piece(rt, shared, listener, reader)?;
+    let Heard {
+        answer,
+        is_open,
+        ..
+    } = hear_piece(rt, shared, listener, reader)?;
     speaker.write(writer, answer.bytes.as_slice())?;
     if let Some(fault) = answer.closed {
         return Err(Ended::Fault(fault));

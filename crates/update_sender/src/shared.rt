@@ -46,6 +46,8 @@ pub(crate) struct Heard {
     pub(crate) answer: Answer,
     // the viewer had its ServerInit, and met no fault
     pub(crate) is_open: bool,
+    // its sender need not wait
+    has_turn: bool,
 }
 
 /// The same configuration once more.
@@ -142,7 +144,9 @@ impl<L: Ledger> Shared<L> {
     {
         listener.heard.make_room(piece.len())?;
         let heard = self.hear_in_hold(rt, listener.viewer, piece)?;
-        self.moved.notify_all();
+        if heard.has_turn {
+            self.moved.notify_all();
+        }
         listener.heard.append(piece);
         listener.pieces = listener.pieces.saturating_add(1);
         Ok(heard)
@@ -154,8 +158,11 @@ impl<L: Ledger> Shared<L> {
     {
         let mut desk = self.desk.lock(rt);
         let answer = desk.hear(viewer, piece)?;
-        let is_open = desk.is_open(viewer);
-        Ok(Heard { answer, is_open })
+        Ok(Heard {
+            answer,
+            is_open: desk.is_open(viewer),
+            has_turn: desk.has_turn(viewer),
+        })
     }
 
     /// Waits until a viewer's sender has something to do.
