@@ -6,8 +6,7 @@ use Rattle.update_sender.proofs.opening.serve_opening.Goals as goal
 
 pub returns-in-Ok-clause-viewer : goal.returns-in-Ok-clause-viewer
 returns-in-Ok-clause-viewer g c =
-    let line = ap (λ (l : Listening). l.viewer) c.ends-listener.ensures.listener in
-    (
+    let line = ap (λ (l : Listening). l.viewer) c.ends-listener.ensures.listener in (
       hears-one-viewer _ _ _ _ _ c.in-Ok.ensures.heard ∙ line,
       ap (λ (s : Speaking). s.viewer) c.in-Ok.ensures.sent.2 ∙ sym c.ends-listener.ensures.viewer ∙ line,
     )
