@@ -222,6 +222,55 @@ fn ninth(alloc: Global) -> Receipt {
     }
 }
 
+/// What both viewers leave of a run.
+fn served_of<L: Ledger + Send + Sync, R: Threads + Wait + Sync>(
+    rt: &R,
+    alloc: Global,
+    shared: &Shared<L>,
+    run: &Run,
+) -> Result<(Served, Served), ScreenError> {
+    let watch = Watch::new();
+    let guard = Guard {
+        watch: &watch,
+        hold: run.hold,
+    };
+    let (one, two) = join_both(rt, alloc, shared, &watch, run)?;
+    Ok(run_until_stopped(rt, shared, &guard, one, two))
+}
+
+/// Their receipts, whatever they are.
+fn any_receipts_of<L: Ledger + Send + Sync, R: Threads + Wait + Sync>(
+    rt: &R,
+    alloc: Global,
+    shared: &Shared<L>,
+) -> Result<Vec<Receipt>, ScreenError> {
+    let (one, two) = served_of(rt, alloc, shared, &HELD)?;
+    Ok(changed(
+        alloc,
+        Change::Nothing,
+        one.left.receipt(),
+        two.left.receipt(),
+    )?)
+}
+
+/// Whether nothing is found wrong with a run.
+fn holds_up<L: Ledger + Send + Sync, R: Threads + Wait + Sync>(
+    rt: &R,
+    alloc: Global,
+    blank: Blank,
+) -> Result<bool, ScreenError>
+    requires name { blank.name ≡ L.name }
+    requires parts { blank.parts ≡ L.parts }
+    requires some { 0 < L.parts }
+{
+    let (shared, brush) = fresh::<L>(alloc, blank, History::Kept)?;
+    let left = any_receipts_of(rt, alloc, &shared)?;
+    Ok(matches!(
+        finish(shared, brush, left),
+        Ok(_) | Err(FinishError::OutOfMemory)
+    ))
+}
+
 /// A run's receipts, where all is as it says.
 fn left_of<L: Ledger + Send + Sync, R: Threads + Wait + Sync>(
     rt: &R,
@@ -267,6 +316,14 @@ fn comes_out<R: Threads + Wait + Sync>(
     run: &Run,
 ) -> Result<bool, ScreenError> {
     run_of::<Brand, R>(rt, alloc, Blank::new(1), run)
+}
+
+// Written for a growth that is refused anywhere: the run has no screen then, or its receipts are still those of its history.
+#[test]
+fn whichever_growth_is_refused_the_receipts_are_right(rt: HostRuntime) -> Result<(), Fail> {
+    let found = holds_up::<Brand, HostRuntime>(&rt, rt.alloc(), Blank::new(1));
+    assert!(rt; matches!(found, Ok(true) | Err(ScreenError::OutOfMemory)));
+    Ok(())
 }
 
 // An empty history has no bell.
