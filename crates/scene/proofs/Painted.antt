@@ -15,6 +15,7 @@ use Rattle.region.specs.Places.{by_place, some_place, cut_destination, same_offs
 use Rattle.copy_schedule.specs.Marks.{Marks, copied_by}
 use Rattle.region.proofs.Places.{value_on, is_place}
 use Rattle.framebuffer.specs.Picture.{colour_at, written, copied, union_of, colour_in}
+use Rattle.viewer_picture.specs.Messages.{may_come}
 use Rattle.viewer_picture.proofs.Marks.{Shows, recoloured, marked-shows, moved-shows}
 use Rattle.scene.specs.declared.Config.{Config}
 use Rattle.scene.specs.declared.Event.{Event}
@@ -109,18 +110,18 @@ module _ (c : Config) (picture : List ℕ) (v : Viewer (List ℕ)) (s : Watching
   colour = colour_at c.width c.height picture
 
   -- other marks of the same size, which show the colours
-  remarked : (now : List ℕ) (marks : Marks) → marks.width ≡ v.marks.width → marks.height ≡ v.marks.height → Shows (colour_at c.width c.height now) marks s.shown → Watches c now (record v { marks = marks }) s
+  remarked : (now : List ℕ) (marks : Marks) → marks.width ≡ v.marks.width → marks.height ≡ v.marks.height → Shows (may_come s.agreed.listed (pos 1) ≡ true) (colour_at c.width c.height now) marks s.shown → Watches c now (record v { marks = marks }) s
   remarked now marks wide high shows = record {
     said = h.said;
     short = h.short;
-    follows = record { format = h.follows.format; early = h.follows.early; width = wide ∙ h.follows.width; height = high ∙ h.follows.height; shows = shows };
+    follows = record { format = h.follows.format; early = h.follows.early; told = h.follows.told; encoding = h.follows.encoding; copyrect = h.follows.copyrect; width = wide ∙ h.follows.width; height = high ∙ h.follows.height; shows = shows };
   }
 
   noticed-watched : (n : Notice) (open_now : Bool) → IsShort n → Watches c picture (record v { notices = cond open_now (with_notice n v.notices) v.notices }) s
   noticed-watched n open_now short = record {
     said = h.said;
     short = noticed-short n open_now v.notices short h.short;
-    follows = record { format = h.follows.format; early = h.follows.early; width = h.follows.width; height = h.follows.height; shows = h.follows.shows };
+    follows = record { format = h.follows.format; early = h.follows.early; told = h.follows.told; encoding = h.follows.encoding; copyrect = h.follows.copyrect; width = h.follows.width; height = h.follows.height; shows = h.follows.shows };
   }
 
   on : (x y : ℤ) → on_screen v.marks.width v.marks.height x y ≡ true → on_screen c.width c.height x y ≡ true
@@ -133,8 +134,8 @@ module _ (c : Config) (picture : List ℕ) (v : Viewer (List ℕ)) (s : Watching
   copy-watched : (set : ℤ → ℤ → Bool) (by : ℤ × ℤ) (b : Bool) → does_nothing c.width c.height set by ≡ b
       → Watches c (copied c.width c.height set by picture) (record v { marks = cond b v.marks (copied_by (cut_destination c.width c.height set by) by v.uses_copyrect v.marks) }) s
   unfolding colour
-  copy-watched set by true e = remarked _ v.marks refl refl (recoloured colour _ v.marks s.shown (λ x y there. still c.width c.height set by picture e x y (on x y there)) h.follows.shows)
-  copy-watched set by false e = by-copyrect v.uses_copyrect
+  copy-watched set by true e = remarked _ v.marks refl refl (recoloured _ colour _ v.marks s.shown (λ x y there. still c.width c.height set by picture e x y (on x y there)) h.follows.shows)
+  copy-watched set by false e = by-copyrect v.uses_copyrect refl
     where
       cut : ℤ → ℤ → Bool
       cut = cut_destination c.width c.height set by
@@ -147,17 +148,17 @@ module _ (c : Config) (picture : List ℕ) (v : Viewer (List ℕ)) (s : Watching
       source true false d e = absurd cc
       source false b d e = absurd cc
 
-      by-copyrect : (uses : Bool) → Watches c (copied c.width c.height set by picture) (record v { marks = copied_by cut by uses v.marks }) s
-      by-copyrect true = remarked _ _ refl refl (moved-shows colour _ cut by v.marks s.shown
+      by-copyrect : (uses : Bool) → v.uses_copyrect ≡ uses → Watches c (copied c.width c.height set by picture) (record v { marks = copied_by cut by uses v.marks }) s
+      by-copyrect true e = remarked _ _ refl refl (moved-shows _ (h.follows.copyrect e) colour _ cut by v.marks s.shown
           (λ x y hit. off (x -ℤ by.0) (y -ℤ by.1) (source (set x y) (on_screen c.width c.height x y) (on_screen c.width c.height (x -ℤ by.0) (y -ℤ by.1)) hit)) unset h.follows.shows)
-      by-copyrect false = remarked _ _ refl refl (marked-shows colour _ cut v.marks s.shown
+      by-copyrect false e = remarked _ _ refl refl (marked-shows _ colour _ cut v.marks s.shown
           (λ x y there out. unset x y there ∙ ap (λ b. cond b (colour (x -ℤ by.0) (y -ℤ by.1)) (colour x y)) out) h.follows.shows)
 
   -- each drawing call of which the viewers are told
   pub drawing-watched : (e : Event) → owner_of e ≡ None → is_told e ≡ true → drawing_refusal c e ≡ None → Watches c (drawn c e picture) (shown_drawing c e (is_open_viewer v) v) s
   unfolding colour
-  drawing-watched (event.Paint r colours) mine told accepted = remarked _ _ refl refl (marked-shows colour _ (in_rect r) v.marks s.shown (λ x y there out. written-out c.width c.height r colours picture x y (on x y there) out) h.follows.shows)
-  drawing-watched (event.Mark rects) mine told accepted = remarked _ _ refl refl (marked-shows colour colour (union_of rects) v.marks s.shown (λ x y there out. refl) h.follows.shows)
+  drawing-watched (event.Paint r colours) mine told accepted = remarked _ _ refl refl (marked-shows _ colour _ (in_rect r) v.marks s.shown (λ x y there out. written-out c.width c.height r colours picture x y (on x y there) out) h.follows.shows)
+  drawing-watched (event.Mark rects) mine told accepted = remarked _ _ refl refl (marked-shows _ colour colour (union_of rects) v.marks s.shown (λ x y there out. refl) h.follows.shows)
   drawing-watched (event.DoCopy rects dx dy) mine told accepted = copy-watched (union_of rects) (dx, dy) (does_nothing c.width c.height (union_of rects) (dx, dy)) refl
   drawing-watched event.Bell mine told accepted = noticed-watched notice.Bell (is_open_viewer v) tt
   drawing-watched (event.CutText text) mine told accepted = noticed-watched (notice.CutText text) (is_open_viewer v) (text-short (length text) (nat_lt 65536 (length text)) refl accepted)

@@ -1,6 +1,6 @@
 -- What a viewer shows as events come: the steps of the one viewer's machine.
 use Rattle.std.proofs.Common.{◌≡◌, ℕ, ◌+◌, ◌*◌, ◌<◌, ◌≤◌, ◌^◌, Bool, true, false, cond, not, ◌&&◌, List, [], ◌++◌, length, get_or, Option, Some, None, refl, sym, ap, subst, ◌∙◌, arith}
-use Rattle.std.specs.Prelude.{ℤ, nat_abs, nat_le, nat_lt, flat_map, option_map, replicate}
+use Rattle.std.specs.Prelude.{ℤ, pos, nat_abs, nat_le, nat_lt, flat_map, option_map, replicate}
 use Rattle.std.specs.List.{AllByRecursion}
 use Rattle.std.proofs.lemmas.Int.{ints}
 use Rattle.std.proofs.lemmas.Bool.Decides.{nat_tests}
@@ -9,12 +9,15 @@ use Rattle.std.proofs.lemmas.List.{append-nil, get_or-replicate}
 use Rattle.pixel_translate.specs.declared.PixelFormat.{PixelFormat}
 use Rattle.region.specs.Region.{on_screen}
 use Rattle.encode_raw.specs.Reading.{Shown}
-use Rattle.messages.specs.Reading.{heard}
+use Rattle.messages.specs.declared.Phase.{Phase}
+use Rattle.messages.specs.declared.Phase.TheVariants as phase
+use Rattle.messages.specs.Grammar.{End}
+use Rattle.messages.specs.Reading.{heard, is_open_phase}
 use Rattle.copy_schedule.specs.declared.Mark.TheVariants.{Clean, Copied, Owed}
 use Rattle.copy_schedule.specs.Marks.{Marks, mark_at, new_marks, copies_of, pixels_of, after_sending, pending, cut_of}
 use Rattle.region.proofs.Places.{is_place}
 use Rattle.framebuffer.specs.Picture.{colour_at}
-use Rattle.viewer_picture.specs.Messages.{messages_in}
+use Rattle.viewer_picture.specs.Messages.{Agreed, messages_in, may_come}
 use Rattle.viewer_picture.specs.Claims.{RectanglesAreRead}
 use Rattle.viewer_picture.proofs.Messages.{Reads}
 use Rattle.viewer_picture.proofs.Marks.{Shows}
@@ -24,20 +27,14 @@ use Rattle.scene.specs.declared.Event.{Event}
 use Rattle.scene.specs.declared.Event.TheVariants.{Write, Paint, Mark as MarkEvent, ScheduleCopy, DoCopy, Bell, CutText, Connect, Hear, Cut, Close}
 use Rattle.scene.specs.declared.ScreenError.TheVariants as refusals
 use Rattle.viewer.specs.Short.{IsShort}
-use Rattle.viewer.specs.Viewer.{Viewer, new_viewer, is_open_viewer}
+use Rattle.viewer.specs.Viewer.{Viewer, new_viewer, is_open, is_open_viewer}
 use Rattle.viewer.specs.Sending.{notice_bytes, bytes_of, with_update, sending}
 use Rattle.scene.specs.Alone.{own_step, config_refusal, is_size, hearing}
 use Rattle.scene.specs.Shown.{Watching, at_first, or_nothing, after_messages, after_piece, watched_unless_refused}
-use Rattle.scene.proofs.Watched.{Follows, piece-read}
+use Rattle.scene.proofs.Watched.{Limits, Follows, piece-read}
 use Rattle.scene.proofs.Told.{notices-read, whole-read}
 
 -- ---- the limits
-
-pub record Limits (c : Config) : Type 0 where
-  pub width : c.width ≤ 8192
-  pub height : c.height ≤ 8192
-  pub name : length c.name < 2 ^ 32
-  pub limit : c.rects_per_update ≤ 1000
 
 pub limits : (c : Config) → config_refusal c ≡ None → Limits c
 limits c e = let parts = accepted (is_size c.width c.height) (nat_lt 255 (length c.name)) (nat_le 1 c.rects_per_update && nat_le c.rects_per_update 1000) e in record {
@@ -89,11 +86,15 @@ connected c picture = record {
   follows = record {
     format = refl;
     early = λ e. refl;
+    told = λ e. absurd cc;
+    encoding = refl;
+    copyrect = λ e. absurd cc;
     width = refl;
     height = refl;
     shows = record {
       clean = λ x y on e. absurd (owed-clean (sym (all-owed x y on) ∙ e));
       copied = λ x y on e. absurd (owed-copied (sym (all-owed x y on) ∙ e));
+      may = λ x y on e. absurd (owed-copied (sym (all-owed x y on) ∙ e));
     };
   };
 }
@@ -118,18 +119,18 @@ connected c picture = record {
 heard-watched : (c : Config) → Limits c → (picture : List ℕ) (piece : List ℕ) (v : Viewer (List ℕ)) (s : Watching) → Watches c picture v s
     → Watches c picture (hearing c piece v).0 (after_piece piece (hearing c piece v).1.bytes s)
 heard-watched c ok picture piece v s h =
-    let r = piece-read c (colour_at c.width c.height picture) ok.name piece v s h.said h.follows in
+    let r = piece-read c (colour_at c.width c.height picture) ok piece v s h.said h.follows in
     record { said = r.said; short = subst (AllByRecursion IsShort) (sym r.notices) h.short; follows = r.follows }
 
 -- ---- a sending step
 
 -- messages that were read to their end
-told : (s : Watching) (bytes : List ℕ) (after : Shown) → Reads s.format (length bytes) s.shown bytes after [] → after_messages bytes s ≡ record s { shown = after }
+told : (s : Watching) (bytes : List ℕ) (after : Shown) → Reads s.agreed (length bytes) s.shown bytes after [] → after_messages bytes s ≡ record s { shown = after }
 unfolding messages_in
 told s bytes after r =
     ap (λ (o : Option Shown). or_nothing s (option_map (λ shown. record s { shown = shown }) o)) r.is ∙ ap (λ (o : Option Shown). or_nothing s (option_map (λ shown. record s { shown = shown }) o)) (done r.left)
   where
-    done : (n : ℕ) → messages_in s.format n after [] ≡ Some after
+    done : (n : ℕ) → messages_in s.agreed n after [] ≡ Some after
     done n = refl
 
 same-colour : (c : Config) (picture : List ℕ) (m : Marks) → m.width ≡ c.width → m.height ≡ c.height → colour_at m.width m.height picture ≡ colour_at c.width c.height picture
@@ -137,43 +138,54 @@ same-colour c picture m wide high = ap (λ w. colour_at w m.height picture) wide
 
 module _ (reads : RectanglesAreRead) (c : Config) (ok : Limits c) (picture : List ℕ) where
   -- the bytes of a step, by whether something is wanted
-  sent-watched : (v : Viewer (List ℕ)) (s : Watching) → Watches c picture v s → (b : Bool) →
+  sent-watched : (v : Viewer (List ℕ)) (s : Watching) → Watches c picture v s → is_open_phase (heard v.heard).phase ≡ true → (b : Bool) →
       let step = with_update c.width c.height picture v (cond b (Some (record { copies = copies_of c.rects_per_update v.marks; offset = v.marks.offset; pixels = pixels_of c.rects_per_update v.marks; after = after_sending (copies_of c.rects_per_update v.marks) (pixels_of c.rects_per_update v.marks) v.marks })) None) in
       Watches c picture step.1 (after_messages step.0 s)
-  sent-watched v s h false =
+  sent-watched v s h opened false =
       let f = h.follows in
+      let g : Agreed = s.agreed in
       let bytes : List ℕ = flat_map notice_bytes v.notices in
-      let read : Reads s.format (length bytes) s.shown bytes s.shown [] = subst (λ (l : List ℕ). Reads s.format (length l) s.shown l s.shown []) (append-nil bytes) (notices-read s.format v.notices h.short (length (bytes ++ [])) s.shown [] (omega arith)) in
+      let read : Reads g (length bytes) s.shown bytes s.shown [] = subst (λ (l : List ℕ). Reads g (length l) s.shown l s.shown []) (append-nil bytes) (notices-read g v.notices h.short (length (bytes ++ [])) s.shown [] (omega arith)) in
       subst (Watches c picture (record v { notices = [] })) (sym (told s bytes s.shown read))
-      (record { said = h.said; short = tt; follows = record { format = f.format; early = f.early; width = f.width; height = f.height; shows = f.shows } })
-  sent-watched v s h true =
+      (record { said = h.said; short = tt; follows = record { format = f.format; early = f.early; told = f.told; encoding = f.encoding; copyrect = f.copyrect; width = f.width; height = f.height; shows = f.shows } })
+  sent-watched v s h opened true =
       let f = h.follows in
       let m : Marks = v.marks in
+      let g : Agreed = s.agreed in
+      let may : Type 0 = may_come g.listed (pos 1) ≡ true in
       let limit : ℕ = c.rects_per_update in
       let notices : List ℕ = flat_map notice_bytes v.notices in
-      let rest : List ℕ = bytes_of m.width m.height picture v.encoding s.format (copies_of limit m) m.offset (pixels_of limit m) in
-      let after : Shown = update_of limit s.format picture m s.shown in
-      let first : Reads s.format (length (notices ++ rest)) s.shown (notices ++ rest) s.shown rest = notices-read s.format v.notices h.short (length (notices ++ rest)) s.shown rest (omega arith) in
-      let second : Reads s.format first.left s.shown rest after [] =
-      whole-read reads s.format v.encoding picture limit m (let e = f.width in let k = ok.width in omega arith) (let e = f.height in let k = ok.height in omega arith) ok.limit first.left s.shown first.room in
-      let read : Reads s.format (length (notices ++ rest)) s.shown (notices ++ rest) after [] = record { left = second.left; room = second.room; is = first.is ∙ second.is } in
+      let rest : List ℕ = bytes_of m.width m.height picture v.encoding g.format (copies_of limit m) m.offset (pixels_of limit m) in
+      let after : Shown = update_of limit g.format picture m s.shown in
+      let first : Reads g (length (notices ++ rest)) s.shown (notices ++ rest) s.shown rest = notices-read g v.notices h.short (length (notices ++ rest)) s.shown rest (omega arith) in
+      let size = f.told opened in
+      let second : Reads g first.left s.shown rest after [] =
+      whole-read reads g m (size.0 ∙ sym f.width) (size.1 ∙ sym f.height) (let e = f.width in let k = ok.width in omega arith) (let e = f.height in let k = ok.height in omega arith) f.shows.may
+      v.encoding f.encoding picture limit ok.limit first.left s.shown first.room in
+      let read : Reads g (length (notices ++ rest)) s.shown (notices ++ rest) after [] = record { left = second.left; room = second.room; is = first.is ∙ second.is } in
       let bytes-are : notices ++ bytes_of c.width c.height picture v.encoding v.format (copies_of limit m) m.offset (pixels_of limit m) ≡ notices ++ rest =
-      sym (ap (λ (w : ℕ). notices ++ bytes_of w m.height picture v.encoding s.format (copies_of limit m) m.offset (pixels_of limit m)) f.width
-      ∙ ap (λ (k : ℕ). notices ++ bytes_of c.width k picture v.encoding s.format (copies_of limit m) m.offset (pixels_of limit m)) f.height
-      ∙ ap (λ (g : PixelFormat). notices ++ bytes_of c.width c.height picture v.encoding g (copies_of limit m) m.offset (pixels_of limit m)) f.format) in
+      sym (ap (λ (w : ℕ). notices ++ bytes_of w m.height picture v.encoding g.format (copies_of limit m) m.offset (pixels_of limit m)) f.width
+      ∙ ap (λ (k : ℕ). notices ++ bytes_of c.width k picture v.encoding g.format (copies_of limit m) m.offset (pixels_of limit m)) f.height
+      ∙ ap (λ (p : PixelFormat). notices ++ bytes_of c.width c.height picture v.encoding p (copies_of limit m) m.offset (pixels_of limit m)) f.format) in
       let sent : Marks = after_sending (copies_of limit m) (pixels_of limit m) m in
       let same = same-colour c picture m f.width f.height in
-      let now : Shows (colour_at c.width c.height picture) sent after =
-      subst (λ (colour : ℤ → ℤ → ℕ). Shows colour sent after) same (cut-shows limit s.format picture m s.shown (subst (λ (colour : ℤ → ℤ → ℕ). Shows colour m s.shown) (sym same) f.shows)) in
+      let now : Shows may (colour_at c.width c.height picture) sent after =
+      subst (λ (colour : ℤ → ℤ → ℕ). Shows may colour sent after) same (cut-shows may limit g.format picture m s.shown (subst (λ (colour : ℤ → ℤ → ℕ). Shows may colour m s.shown) (sym same) f.shows)) in
       subst (Watches c picture (record v { notices = []; marks = sent })) (sym (ap (λ (l : List ℕ). after_messages l s) bytes-are ∙ told s (notices ++ rest) after read))
-      (record { said = h.said; short = tt; follows = record { format = f.format; early = f.early; width = f.width; height = f.height; shows = now } })
+      (record { said = h.said; short = tt; follows = record { format = f.format; early = f.early; told = f.told; encoding = f.encoding; copyrect = f.copyrect; width = f.width; height = f.height; shows = now } })
 
   cut-watched : (v : Viewer (List ℕ)) (s : Watching) → Watches c picture v s → Watches c picture (sending c.width c.height c.rects_per_update picture v).1 (after_messages (sending c.width c.height c.rects_per_update picture v).0 s)
-  cut-watched v s h = by-open (is_open_viewer v)
+  cut-watched v s h = by-open (is_open_viewer v) refl
     where
-      by-open : (b : Bool) → let step = cond b (with_update c.width c.height picture v (cut_of c.rects_per_update v.marks)) ([], v) in Watches c picture step.1 (after_messages step.0 s)
-      by-open true = sent-watched v s h (pending v.marks)
-      by-open false = subst (Watches c picture v) (sym (told s [] s.shown (record { left = 0; room = omega arith; is = refl }))) h
+      open-phase : (p : Phase) (e : End) → is_open p e ≡ true → is_open_phase p ≡ true
+      open-phase (phase.Open w) e k = refl
+      open-phase phase.Version e k = absurd cc
+      open-phase (phase.Choice w) e k = absurd cc
+      open-phase (phase.Init w) e k = absurd cc
+
+      by-open : (b : Bool) → is_open_viewer v ≡ b → let step = cond b (with_update c.width c.height picture v (cut_of c.rects_per_update v.marks)) ([], v) in Watches c picture step.1 (after_messages step.0 s)
+      by-open true e = sent-watched v s h (open-phase (heard v.heard).phase (heard v.heard).end e) (pending v.marks)
+      by-open false e = subst (Watches c picture v) (sym (told s [] s.shown (record { left = 0; room = omega arith; is = refl }))) h
 
   -- ---- the viewer's own events
 

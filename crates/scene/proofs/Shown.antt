@@ -20,7 +20,8 @@ use Rattle.scene.specs.Shown.{Watching, at_first, is_its, watched_unless_refused
 use Rattle.scene.specs.Pictures.{is_told, pictures_are_shown}
 use Rattle.scene.proofs.Steps.{after-append, own-drawing}
 use Rattle.scene.proofs.Owners.{one_of, own-picture, own-hit, own-miss, answer-hit, one-picture}
-use Rattle.scene.proofs.Pictured.{Limits, limits, Watches, WatchesIf, on-it, own-watched}
+use Rattle.scene.proofs.Watched.{Limits}
+use Rattle.scene.proofs.Pictured.{limits, Watches, WatchesIf, on-it, own-watched}
 use Rattle.scene.proofs.Painted.{drawing-watched}
 
 -- the one viewer's machine after one event more

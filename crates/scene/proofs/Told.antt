@@ -1,28 +1,31 @@
 -- What a viewer shows behind a sending step.
-use Rattle.std.proofs.Common.{◌≡◌, ℕ, zero, suc, ◌+◌, ◌*◌, ◌<◌, ◌≤◌, ◌^◌, List, [], ◌∷◌, ◌++◌, length, take, Some, refl, sym, ap, subst, ◌∙◌, arith, append_assoc}
-use Rattle.std.specs.Prelude.{ℤ, pos, ◌-ℤ◌, ◌≤ℤ◌, ◌<ℤ◌, nat_abs, flat_map}
+use Rattle.std.proofs.Common.{◌≡◌, true, ◌&&◌, ℕ, zero, suc, ◌+◌, ◌*◌, ◌<◌, ◌≤◌, ◌^◌, List, [], ◌∷◌, ◌++◌, length, take, Some, refl, sym, ap, subst, ◌∙◌, arith, append_assoc}
+use Rattle.std.specs.Prelude.{ℤ, pos, ◌-ℤ◌, ◌≤ℤ◌, ◌<ℤ◌, nat_abs, nat_le, flat_map}
 use Rattle.std.specs.List.{AllByRecursion}
 use Rattle.std.proofs.lemmas.Int.{ints}
+use Rattle.std.proofs.lemmas.Bool.Decides.{nat_tests}
 use Rattle.std.proofs.lemmas.List.{append-nil}
 use Rattle.std.proofs.lemmas.List.FromFn.{length-map-range_with_len}
 use Rattle.std.proofs.lemmas.List.Elements.{recursion_from_All}
 use Rattle.std.proofs.Math.Nat.{mul-le-mul}
-use Rattle.pixel_translate.specs.declared.PixelFormat.{PixelFormat}
 use Rattle.pixel_translate.specs.Pixel.{IsArea}
 use Rattle.region.specs.declared.Rect.{Rect}
 use Rattle.encode_raw.specs.Reading.{Shown}
 use Rattle.messages.specs.declared.Encoding.{Encoding}
 use Rattle.messages.specs.declared.Encoding.TheVariants as encoding
 use Rattle.messages.specs.Server.{cut_text, update_head}
+use Rattle.region.specs.Region.{on_screen}
 use Rattle.region.specs.Places.{IsOnScreen, source_rect}
-use Rattle.copy_schedule.specs.Marks.{Marks, copies_of, pixels_of}
+use Rattle.copy_schedule.specs.declared.Mark.TheVariants.{Copied}
+use Rattle.copy_schedule.specs.Marks.{Marks, mark_at, copies_of, pixels_of}
 use Rattle.copy_schedule.proofs.CutLemmas.{copies_on_screen, sources_inside, pixels_on_screen}
 use Rattle.viewer_picture.specs.Areas.{area_of}
 use Rattle.framebuffer.specs.Picture.{colours_of}
-use Rattle.viewer_picture.specs.Messages.{rectangles_at, messages_in}
-use Rattle.viewer_picture.specs.Claims.{RectanglesAreRead}
+use Rattle.viewer_picture.specs.Messages.{Agreed, is_in_picture, may_come, rectangles_at, messages_in}
+use Rattle.viewer_picture.specs.Encodings.{number_of}
+use Rattle.viewer_picture.specs.Claims.{IsPart, RectanglesAreRead}
 use Rattle.viewer_picture.proofs.Messages.{IsReadAs, changed, list-read, Reads, bell-read, text-read, update-read}
-use Rattle.viewer_picture.proofs.Cuts.{copy_of, pixel_of, update_of}
+use Rattle.viewer_picture.proofs.Cuts.{copy_of, pixel_of, update_of, copies-may}
 use Rattle.viewer.specs.declared.notices.Notice.{Notice}
 use Rattle.viewer.specs.declared.notices.Notice.TheVariants as notice
 use Rattle.viewer.specs.Short.{IsShort}
@@ -31,19 +34,19 @@ use Rattle.viewer.specs.Sending.{notice_bytes, copy_bytes, pixel_rectangle, byte
 -- ---- notices
 
 -- what is read further, behind bytes that are the same
-read-on : (f : PixelFormat) (n : ℕ) (shown : Shown) (bytes same between more : List ℕ) → bytes ≡ same → (one : Reads f n shown same shown between) → Reads f one.left shown between shown more → Reads f n shown bytes shown more
-read-on f n shown bytes same between more e one rest = record { left = rest.left; room = rest.room; is = ap (messages_in f n shown) e ∙ one.is ∙ rest.is }
+read-on : (g : Agreed) (n : ℕ) (shown : Shown) (bytes same between more : List ℕ) → bytes ≡ same → (one : Reads g n shown same shown between) → Reads g one.left shown between shown more → Reads g n shown bytes shown more
+read-on g n shown bytes same between more e one rest = record { left = rest.left; room = rest.room; is = ap (messages_in g n shown) e ∙ one.is ∙ rest.is }
 
-pub notices-read : (f : PixelFormat) (notices : List Notice) → AllByRecursion IsShort notices → (n : ℕ) (shown : Shown) (more : List ℕ) → length (flat_map notice_bytes notices ++ more) ≤ n → Reads f n shown (flat_map notice_bytes notices ++ more) shown more
-notices-read f [] short n shown more room = record { left = n; room = room; is = refl }
-notices-read f (notice.Bell ∷ notices) short n shown more room =
-    let one = bell-read f n shown (flat_map notice_bytes notices ++ more) room in
-    let rest = notices-read f notices short.1 one.left shown more one.room in
+pub notices-read : (g : Agreed) (notices : List Notice) → AllByRecursion IsShort notices → (n : ℕ) (shown : Shown) (more : List ℕ) → length (flat_map notice_bytes notices ++ more) ≤ n → Reads g n shown (flat_map notice_bytes notices ++ more) shown more
+notices-read g [] short n shown more room = record { left = n; room = room; is = refl }
+notices-read g (notice.Bell ∷ notices) short n shown more room =
+    let one = bell-read g n shown (flat_map notice_bytes notices ++ more) room in
+    let rest = notices-read g notices short.1 one.left shown more one.room in
     record { left = rest.left; room = rest.room; is = one.is ∙ rest.is }
-notices-read f (notice.CutText text ∷ notices) short n shown more room =
+notices-read g (notice.CutText text ∷ notices) short n shown more room =
     let same = append_assoc (cut_text text) (flat_map notice_bytes notices) more in
-    let one = text-read f n shown text (flat_map notice_bytes notices ++ more) (let s = short.0 in omega arith) (let size = ap length same in omega (arith, room, size)) in
-    read-on f n shown _ _ _ more same one (notices-read f notices short.1 one.left shown more one.room)
+    let one = text-read g n shown text (flat_map notice_bytes notices ++ more) (let s = short.0 in omega arith) (let size = ap length same in omega (arith, room, size)) in
+    read-on g n shown _ _ _ more same one (notices-read g notices short.1 one.left shown more one.room)
 
 -- ---- rectangles of a screen
 
@@ -61,8 +64,18 @@ fits w h wide high r on = record {
     size : (a b : ℤ) (n : ℕ) → n ≤ 8192 → pos 0 ≤ℤ a → a <ℤ b → b ≤ℤ pos n → nat_abs (b -ℤ a) < 2 ^ 16
     size a b n small h k l = omega (arith, ints)
 
-corner-fits : (w h : ℕ) → w ≤ 8192 → h ≤ 8192 → (r : Rect) → IsOnScreen w h r → (nat_abs r.x1 < 2 ^ 16) × (nat_abs r.y1 < 2 ^ 16)
-corner-fits w h wide high r on = let a = fits w h wide high r on in (a.x, a.y)
+-- and it is in the picture of a viewer that knows the screen's size
+inside : (g : Agreed) (w h : ℕ) → g.width ≡ w → g.height ≡ h → (r : Rect) → IsOnScreen w h r → is_in_picture g (area_of r) ≡ true
+inside g w h wide high r on = tests (nat_abs r.x1 + nat_abs (r.x2 -ℤ r.x1)) (nat_abs r.y1 + nat_abs (r.y2 -ℤ r.y1)) (reach r.x1 r.x2 w g.width wide on.left on.columns on.right) (reach r.y1 r.y2 h g.height high on.top on.rows on.bottom)
+  where
+    reach : (a b : ℤ) (n m : ℕ) → m ≡ n → pos 0 ≤ℤ a → a <ℤ b → b ≤ℤ pos n → nat_abs a + nat_abs (b -ℤ a) ≤ m
+    reach a b n m e low wide right = omega (arith, ints)
+
+    tests : (x y : ℕ) → x ≤ g.width → y ≤ g.height → (nat_le x g.width && nat_le y g.height) ≡ true
+    tests x y h k = grind (arith, nat_tests)
+
+part : (g : Agreed) (w h : ℕ) → g.width ≡ w → g.height ≡ h → w ≤ 8192 → h ≤ 8192 → (r : Rect) → IsOnScreen w h r → IsPart g (area_of r)
+part g w h is-wide is-high wide high r on = record { fits = fits w h wide high r on; inside = inside g w h is-wide is-high r on }
 
 -- its colours are as many as its places
 colours-count : (w h : ℕ) (picture : List ℕ) (r : Rect) → length (colours_of w h picture r) ≡ (area_of r).w * (area_of r).h
@@ -77,36 +90,48 @@ some-places w h r on = both (nat_abs (r.x2 -ℤ r.x1)) (nat_abs (r.y2 -ℤ r.y1)
     both : (m n : ℕ) → 0 < m → 0 < n → 0 < m * n
     both m n h k = let e : 1 * 1 ≤ m * n = mul-le-mul h k in omega (arith, e)
 
-module _ (reads : RectanglesAreRead) where
-  copy-read : (f : PixelFormat) (w h : ℕ) → w ≤ 8192 → h ≤ 8192 → (by : ℤ × ℤ) (r : Rect) → IsOnScreen w h r → IsOnScreen w h (source_rect by r) → IsReadAs f (copy_bytes by) (copy_of by) r
+all-of : (P Q R : Rect → Type 0) (rs : List Rect) → ((r : Rect) → P r → Q r → R r) → AllByRecursion P rs → AllByRecursion Q rs → AllByRecursion R rs
+all-of P Q R [] each h k = tt
+all-of P Q R (r ∷ rs) each h k = (each r h.0 k.0, all-of P Q R rs each h.1 k.1)
+
+length-take : {X : Type 0} (n : ℕ) (xs : List X) → length (take n xs) ≤ n
+length-take zero xs = omega arith
+length-take (suc n) [] = omega arith
+length-take (suc n) (x ∷ xs) = let h = length-take n xs in omega arith
+
+-- what is moved stays as large
+same-size : (by : ℤ × ℤ) (r : Rect) → area_of (source_rect by r) ≡ record (area_of r) { x = nat_abs (r.x1 -ℤ by.0); y = nat_abs (r.y1 -ℤ by.1) }
+same-size by r = ap (λ w. record { x = nat_abs (r.x1 -ℤ by.0); y = nat_abs (r.y1 -ℤ by.1); w = w; h = nat_abs ((r.y2 -ℤ by.1) -ℤ (r.y1 -ℤ by.1)) }) (same r.x1 r.x2 by.0)
+    ∙ ap (λ h. record { x = nat_abs (r.x1 -ℤ by.0); y = nat_abs (r.y1 -ℤ by.1); w = nat_abs (r.x2 -ℤ r.x1); h = h }) (same r.y1 r.y2 by.1)
+  where
+    same : (a b d : ℤ) → nat_abs ((b -ℤ d) -ℤ (a -ℤ d)) ≡ nat_abs (b -ℤ a)
+    same a b d = let moved : (b -ℤ d) -ℤ (a -ℤ d) ≡ b -ℤ a = omega (arith, ints) in ap nat_abs moved
+
+-- a viewer that knows the screen's size
+module _ (reads : RectanglesAreRead) (g : Agreed) (w h : ℕ) (is-wide : g.width ≡ w) (is-high : g.height ≡ h) (wide : w ≤ 8192) (high : h ≤ 8192) where
+  copy-read : (by : ℤ × ℤ) (r : Rect) → may_come g.listed (pos 1) ≡ true → IsOnScreen w h r → IsOnScreen w h (source_rect by r) → IsReadAs g (copy_bytes by) (copy_of by) r
   unfolding copy_of
-  copy-read f w h wide high by r on source shown more =
-      let from = corner-fits w h wide high (source_rect by r) source in
-      reads.copyrect f (area_of r) (nat_abs (r.x1 -ℤ by.0)) (nat_abs (r.y1 -ℤ by.1)) (fits w h wide high r on) from.0 from.1 shown more
+  copy-read by r comes on source shown more =
+      reads.copyrect g (area_of r) (nat_abs (r.x1 -ℤ by.0)) (nat_abs (r.y1 -ℤ by.1)) (part g w h is-wide is-high wide high r on)
+      (subst (IsPart g) (same-size by r) (part g w h is-wide is-high wide high (source_rect by r) source)) comes shown more
 
-  pixels-read : (w h : ℕ) → w ≤ 8192 → h ≤ 8192 → (picture : List ℕ) (e : Encoding) (f : PixelFormat) (r : Rect) → IsOnScreen w h r → IsReadAs f (pixel_rectangle w h picture e f) (pixel_of w h picture f) r
+  pixels-read : (picture : List ℕ) (e : Encoding) → may_come g.listed (number_of e) ≡ true → (r : Rect) → IsOnScreen w h r → IsReadAs g (pixel_rectangle w h picture e g.format) (pixel_of w h picture g.format) r
   unfolding pixel_of
-  pixels-read w h wide high picture encoding.Raw f r on shown more = reads.raw f (area_of r) (colours_of w h picture r) (fits w h wide high r on) (colours-count w h picture r) shown more
-  pixels-read w h wide high picture encoding.Rre f r on shown more = reads.rre f (area_of r) (colours_of w h picture r) (fits w h wide high r on)
+  pixels-read picture encoding.Raw comes r on shown more = reads.raw g (area_of r) (colours_of w h picture r) (part g w h is-wide is-high wide high r on) (colours-count w h picture r) shown more
+  pixels-read picture encoding.Rre comes r on shown more = reads.rre g (area_of r) (colours_of w h picture r) (part g w h is-wide is-high wide high r on) comes
       (subst (λ (n : ℕ). 0 < n) (sym (colours-count w h picture r)) (some-places w h r on)) (colours-count w h picture r) shown more
-  pixels-read w h wide high picture encoding.Hextile f r on shown more = reads.hextile f (area_of r) (colours_of w h picture r) (fits w h wide high r on)
+  pixels-read picture encoding.Hextile comes r on shown more = reads.hextile g (area_of r) (colours_of w h picture r) (part g w h is-wide is-high wide high r on) comes
       (subst (λ (n : ℕ). 0 < n) (sym (colours-count w h picture r)) (some-places w h r on)) (colours-count w h picture r) shown more
 
-  all-of : (P Q R : Rect → Type 0) (rs : List Rect) → ((r : Rect) → P r → Q r → R r) → AllByRecursion P rs → AllByRecursion Q rs → AllByRecursion R rs
-  all-of P Q R [] each h k = tt
-  all-of P Q R (r ∷ rs) each h k = (each r h.0 k.0, all-of P Q R rs each h.1 k.1)
-
-  length-take : {X : Type 0} (n : ℕ) (xs : List X) → length (take n xs) ≤ n
-  length-take zero xs = omega arith
-  length-take (suc n) [] = omega arith
-  length-take (suc n) (x ∷ xs) = let h = length-take n xs in omega arith
-
+-- a viewer that knows the screen's size, by the marks; CopyRect may come where a place is copied
+module _ (reads : RectanglesAreRead) (g : Agreed) (m : Marks) (is-wide : g.width ≡ m.width) (is-high : g.height ≡ m.height) (wide : m.width ≤ 8192) (high : m.height ≤ 8192)
+    (may : (x y : ℤ) → on_screen m.width m.height x y ≡ true → mark_at m x y ≡ Copied → may_come g.listed (pos 1) ≡ true) where
   -- the rectangles of an update
-  rectangles-read : (f : PixelFormat) (e : Encoding) (picture : List ℕ) (limit : ℕ) (m : Marks) → m.width ≤ 8192 → m.height ≤ 8192 → (shown : Shown) (more : List ℕ)
-      → rectangles_at f (length (copies_of limit m) + length (pixels_of limit m)) shown ((flat_map (copy_bytes m.offset) (copies_of limit m) ++ flat_map (pixel_rectangle m.width m.height picture e f) (pixels_of limit m)) ++ more)
-      ≡ Some (update_of limit f picture m shown, more)
+  rectangles-read : (e : Encoding) → may_come g.listed (number_of e) ≡ true → (picture : List ℕ) (limit : ℕ) (shown : Shown) (more : List ℕ)
+      → rectangles_at g (length (copies_of limit m) + length (pixels_of limit m)) shown ((flat_map (copy_bytes m.offset) (copies_of limit m) ++ flat_map (pixel_rectangle m.width m.height picture e g.format) (pixels_of limit m)) ++ more)
+      ≡ Some (update_of limit g.format picture m shown, more)
   unfolding rectangles_at update_of
-  rectangles-read f e picture limit m wide high shown more =
+  rectangles-read e comes picture limit shown more =
       let copies : List Rect = copies_of limit m in
       let pixels : List Rect = pixels_of limit m in
       let w : ℕ = m.width in
@@ -114,26 +139,30 @@ module _ (reads : RectanglesAreRead) where
       let copies-on = recursion_from_All (IsOnScreen w h) copies (copies_on_screen limit m) in
       let sources-on = recursion_from_All (λ r. IsOnScreen w h (source_rect m.offset r)) copies (sources_inside limit m) in
       let pixels-on = recursion_from_All (IsOnScreen w h) pixels (pixels_on_screen limit m) in
-      ap (rectangles_at f (length copies + length pixels) shown) (append_assoc (flat_map (copy_bytes m.offset) copies) (flat_map (pixel_rectangle w h picture e f) pixels) more)
-      ∙ list-read f (copy_bytes m.offset) (copy_of m.offset) copies
-      (all-of (IsOnScreen w h) (λ r. IsOnScreen w h (source_rect m.offset r)) (IsReadAs f (copy_bytes m.offset) (copy_of m.offset)) copies (copy-read f w h wide high m.offset) copies-on sources-on)
-      (length copies + length pixels) (length pixels) refl shown (flat_map (pixel_rectangle w h picture e f) pixels ++ more)
-      ∙ list-read f (pixel_rectangle w h picture e f) (pixel_of w h picture f) pixels
-      (all-of (IsOnScreen w h) (IsOnScreen w h) (IsReadAs f (pixel_rectangle w h picture e f) (pixel_of w h picture f)) pixels (λ r on again. pixels-read w h wide high picture e f r on) pixels-on pixels-on)
+      let copies-come = copies-may (may_come g.listed (pos 1) ≡ true) limit m may in
+      ap (rectangles_at g (length copies + length pixels) shown) (append_assoc (flat_map (copy_bytes m.offset) copies) (flat_map (pixel_rectangle w h picture e g.format) pixels) more)
+      ∙ list-read g (copy_bytes m.offset) (copy_of m.offset) copies
+      (all-of (λ r. may_come g.listed (pos 1) ≡ true) (λ r. IsOnScreen w h r × IsOnScreen w h (source_rect m.offset r)) (IsReadAs g (copy_bytes m.offset) (copy_of m.offset)) copies
+      (λ r may both. copy-read reads g w h is-wide is-high wide high m.offset r may both.0 both.1) copies-come
+      (all-of (IsOnScreen w h) (λ r. IsOnScreen w h (source_rect m.offset r)) (λ r. IsOnScreen w h r × IsOnScreen w h (source_rect m.offset r)) copies (λ r on source. (on, source)) copies-on sources-on))
+      (length copies + length pixels) (length pixels) refl shown (flat_map (pixel_rectangle w h picture e g.format) pixels ++ more)
+      ∙ list-read g (pixel_rectangle w h picture e g.format) (pixel_of w h picture g.format) pixels
+      (all-of (IsOnScreen w h) (IsOnScreen w h) (IsReadAs g (pixel_rectangle w h picture e g.format) (pixel_of w h picture g.format)) pixels
+      (λ r on again. pixels-read reads g w h is-wide is-high wide high picture e comes r on) pixels-on pixels-on)
       (length pixels) 0 (omega arith) (changed (copy_of m.offset) copies shown) more
 
   -- an update whole
-  pub whole-read : (f : PixelFormat) (e : Encoding) (picture : List ℕ) (limit : ℕ) (m : Marks) → m.width ≤ 8192 → m.height ≤ 8192 → limit ≤ 1000 → (n : ℕ) (shown : Shown)
-      → length (bytes_of m.width m.height picture e f (copies_of limit m) m.offset (pixels_of limit m)) ≤ n
-      → Reads f n shown (bytes_of m.width m.height picture e f (copies_of limit m) m.offset (pixels_of limit m)) (update_of limit f picture m shown) []
-  whole-read f e picture limit m wide high few n shown room =
+  pub whole-read : (e : Encoding) → may_come g.listed (number_of e) ≡ true → (picture : List ℕ) (limit : ℕ) → limit ≤ 1000 → (n : ℕ) (shown : Shown)
+      → length (bytes_of m.width m.height picture e g.format (copies_of limit m) m.offset (pixels_of limit m)) ≤ n
+      → Reads g n shown (bytes_of m.width m.height picture e g.format (copies_of limit m) m.offset (pixels_of limit m)) (update_of limit g.format picture m shown) []
+  whole-read e comes picture limit few n shown room =
       let count : ℕ = length (copies_of limit m) + length (pixels_of limit m) in
-      let body : List ℕ = flat_map (copy_bytes m.offset) (copies_of limit m) ++ flat_map (pixel_rectangle m.width m.height picture e f) (pixels_of limit m) in
+      let body : List ℕ = flat_map (copy_bytes m.offset) (copies_of limit m) ++ flat_map (pixel_rectangle m.width m.height picture e g.format) (pixels_of limit m) in
       let nothing_more : body ++ [] ≡ body = append-nil body in
       let small : count < 2 ^ 16 = omega (arith, few, copies-few limit m, pixels-few limit m) in
-      subst (λ (l : List ℕ). Reads f n shown (update_head count ++ l) (update_of limit f picture m shown) []) nothing_more
-      (update-read f n count shown (update_of limit f picture m shown) body [] small (subst (λ (l : List ℕ). length (update_head count ++ l) ≤ n) (sym nothing_more) room)
-      (rectangles-read f e picture limit m wide high shown []))
+      subst (λ (l : List ℕ). Reads g n shown (update_head count ++ l) (update_of limit g.format picture m shown) []) nothing_more
+      (update-read g n count shown (update_of limit g.format picture m shown) body [] small (subst (λ (l : List ℕ). length (update_head count ++ l) ≤ n) (sym nothing_more) room)
+      (rectangles-read e comes picture limit shown []))
     where
       copies-few : (limit : ℕ) (m : Marks) → length (copies_of limit m) ≤ limit
       copies-few limit m = length-take limit _

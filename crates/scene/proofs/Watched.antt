@@ -1,14 +1,16 @@
 -- What a viewer shows behind a piece of its bytes.
-use Rattle.std.proofs.Common.{◌≡◌, ℕ, ◌+◌, ◌<◌, ◌^◌, Bool, true, false, cond, ◌&&◌, List, [], ◌∷◌, ◌++◌, length, Option, Some, None, refl, sym, ap, subst, ◌∙◌, arith}
+use Rattle.std.proofs.Common.{◌≡◌, ℕ, ◌+◌, ◌<◌, ◌≤◌, ◌^◌, Bool, true, false, cond, ◌&&◌, List, [], ◌∷◌, ◌++◌, length, Option, Some, None, refl, sym, ap, subst, ◌∙◌, arith}
 use Rattle.std.specs.Prelude.{ℤ, pos, nat_abs, nat_lt, ◌≤ℤ◌}
 use Rattle.std.specs.Int.{w16, to_be_bytes, from_be_bytes}
 use Rattle.std.proofs.lemmas.Int.{ints}
-use Rattle.std.proofs.lemmas.Nat.{from_be_bytes-to_be_bytes_4}
+use Rattle.std.proofs.lemmas.Nat.{from_be_bytes-to_be_bytes_2, from_be_bytes-to_be_bytes_4}
 use Rattle.pixel_translate.specs.declared.Area.{Area}
 use Rattle.pixel_translate.specs.Pixel.{server_format}
 use Rattle.region.specs.declared.Rect.{Rect}
 use Rattle.region.specs.Region.{in_rect, on_screen}
 use Rattle.encode_raw.specs.Reading.{◌>>=◌, bytes_at, Shown, is_inside}
+use Rattle.messages.specs.declared.Encoding.{Encoding}
+use Rattle.messages.specs.declared.Encoding.TheVariants as encoding
 use Rattle.messages.specs.declared.Version.TheVariants.{V33, V37, V38}
 use Rattle.messages.specs.declared.Item.{Item}
 use Rattle.messages.specs.declared.Item.TheVariants as item
@@ -17,10 +19,12 @@ use Rattle.messages.specs.declared.Phase.TheVariants as phase
 use Rattle.messages.specs.Grammar.{after}
 use Rattle.messages.specs.Reading.{heard, new_items, is_open_phase}
 use Rattle.messages.specs.Server.{server_init, answer, answers}
+use Rattle.viewer_picture.specs.Messages.{may_come}
+use Rattle.viewer_picture.specs.Encodings.{number_of, taken}
 use Rattle.viewer_picture.specs.Opening.{Init, init_at}
 use Rattle.viewer_picture.specs.Pictures.{dot_at}
 use Rattle.viewer_picture.proofs.Messages.{bytes-read}
-use Rattle.viewer_picture.proofs.Marks.{Shows, uncopied-shows, asked-shows, forgotten-shows}
+use Rattle.viewer_picture.proofs.Marks.{Shows, uncopied-shows, allowed, asked-shows, forgotten-shows}
 use Rattle.viewer_picture.proofs.Comes.{Comes, Come, phase_after, Following, following}
 use Rattle.scene.specs.declared.Config.{Config}
 use Rattle.viewer.specs.Viewer.{Viewer, area_places, after_item}
@@ -28,13 +32,24 @@ use Rattle.scene.specs.Alone.{hearing}
 use Rattle.viewer.specs.Hearing.{after_items}
 use Rattle.scene.specs.Shown.{Watching, forgotten, item_at, items_at, all_read, or_nothing, after_piece}
 
--- a viewer reads pixels in its format, and shows its picture; before it is open its format is the server's
+-- the limits of a screen, as far as they are used
+pub record Limits (c : Config) : Type 0 where
+  pub width : c.width ≤ 8192
+  pub height : c.height ≤ 8192
+  pub name : length c.name < 2 ^ 32
+  pub limit : c.rects_per_update ≤ 1000
+
+-- A viewer reads pixels in its format, and shows its picture; before it is open its format is the server's, and from then on it knows the screen's size. What it is sent
+-- may come by what it listed.
 pub record Follows (c : Config) (colour : ℤ → ℤ → ℕ) (p : Phase) (v : Viewer (List ℕ)) (s : Watching) : Type 0 where
-  pub format : s.format ≡ v.format
+  pub format : s.agreed.format ≡ v.format
   pub early : is_open_phase p ≡ false → v.format ≡ server_format
+  pub told : is_open_phase p ≡ true → (s.agreed.width ≡ c.width) × (s.agreed.height ≡ c.height)
+  pub encoding : may_come s.agreed.listed (number_of v.encoding) ≡ true
+  pub copyrect : v.uses_copyrect ≡ true → may_come s.agreed.listed (pos 1) ≡ true
   pub width : v.marks.width ≡ c.width
   pub height : v.marks.height ≡ c.height
-  pub shows : Shows colour v.marks s.shown
+  pub shows : Shows (may_come s.agreed.listed (pos 1) ≡ true) colour v.marks s.shown
 
 -- ---- the ServerInit
 
@@ -82,57 +97,120 @@ record Item-read (c : Config) (colour : ℤ → ℤ → ℕ) (p : Phase) (i : It
   heard : (after_item c.width c.height i v).heard ≡ v.heard
   follows : Follows c colour (after p i) (after_item c.width c.height i v) next
 
-same-phase : (c : Config) (colour : ℤ → ℤ → ℕ) (p q : Phase) (v : Viewer (List ℕ)) (s : Watching) → is_open_phase p ≡ false → Follows c colour p v s → Follows c colour q v s
-same-phase c colour p q v s shut f = record { format = f.format; early = λ e. f.early shut; width = f.width; height = f.height; shows = f.shows }
+-- the same viewer, in another phase before it is open
+same-phase : (c : Config) (colour : ℤ → ℤ → ℕ) (p q : Phase) (v : Viewer (List ℕ)) (s : Watching) → is_open_phase p ≡ false → is_open_phase q ≡ false → Follows c colour p v s → Follows c colour q v s
+same-phase c colour p q v s shut then-shut f = record {
+  format = f.format;
+  early = λ e. f.early shut;
+  told = λ e. absurd (never (sym then-shut ∙ e));
+  encoding = f.encoding;
+  copyrect = f.copyrect;
+  width = f.width;
+  height = f.height;
+  shows = f.shows;
+}
+  where
+    never : false ≡ true → ⊥
+    never e = cc
 
-item-read : (c : Config) (colour : ℤ → ℤ → ℕ) → length c.name < 2 ^ 32 → (p : Phase) (i : Item) → Comes p i → (v : Viewer (List ℕ)) (s : Watching) (more : List ℕ) → Follows c colour p v s → Item-read c colour p i v s more
-item-read c colour small phase.Version (item.Version V33) comes v s more f = record { next = s; read = refl; said = refl; notices = refl; heard = refl; follows = same-phase c colour phase.Version _ v s refl f }
-item-read c colour small phase.Version (item.Version V37) comes v s more f = record { next = s; read = refl; said = refl; notices = refl; heard = refl; follows = same-phase c colour phase.Version _ v s refl f }
-item-read c colour small phase.Version (item.Version V38) comes v s more f = record { next = s; read = refl; said = refl; notices = refl; heard = refl; follows = same-phase c colour phase.Version _ v s refl f }
-item-read c colour small (phase.Choice V33) item.Choice comes v s more f = record { next = s; read = refl; said = refl; notices = refl; heard = refl; follows = same-phase c colour (phase.Choice V33) _ v s refl f }
-item-read c colour small (phase.Choice V37) item.Choice comes v s more f = record { next = s; read = refl; said = refl; notices = refl; heard = refl; follows = same-phase c colour (phase.Choice V37) _ v s refl f }
-item-read c colour small (phase.Choice V38) item.Choice comes v s more f = record { next = s; read = refl; said = refl; notices = refl; heard = refl; follows = same-phase c colour (phase.Choice V38) _ v s refl f }
-item-read c colour small (phase.Init w) (item.Init shared) comes v s more f = record {
-  next = record s { width = from_be_bytes w16 (to_be_bytes w16 c.width); height = from_be_bytes w16 (to_be_bytes w16 c.height); format = server_format };
-  read = ap (λ (o : Option (Init × List ℕ)). o >>= λ init. Some (record s { width = init.0.width; height = init.0.height; format = init.0.format }, init.1)) (init-read c.width c.height c.name more small);
+-- what is taken may come
+preferred-comes : (e : Encoding) (copyrect : Bool) → may_come (taken e copyrect) (number_of e) ≡ true
+preferred-comes encoding.Raw copyrect = refl
+preferred-comes encoding.Rre copyrect = refl
+preferred-comes encoding.Hextile copyrect = refl
+
+copyrect-comes : (e : Encoding) → may_come (taken e true) (pos 1) ≡ true
+copyrect-comes encoding.Raw = refl
+copyrect-comes encoding.Rre = refl
+copyrect-comes encoding.Hextile = refl
+
+size-told : (n : ℕ) → n ≤ 8192 → from_be_bytes w16 (to_be_bytes w16 n) ≡ n
+size-told n small = from_be_bytes-to_be_bytes_2 n (omega (arith, small))
+
+item-read : (c : Config) (colour : ℤ → ℤ → ℕ) → Limits c → (p : Phase) (i : Item) → Comes p i → (v : Viewer (List ℕ)) (s : Watching) (more : List ℕ) → Follows c colour p v s → Item-read c colour p i v s more
+item-read c colour ok phase.Version (item.Version V33) comes v s more f = record { next = s; read = refl; said = refl; notices = refl; heard = refl; follows = same-phase c colour phase.Version (phase.Init V33) v s refl refl f }
+item-read c colour ok phase.Version (item.Version V37) comes v s more f = record { next = s; read = refl; said = refl; notices = refl; heard = refl; follows = same-phase c colour phase.Version (phase.Choice V37) v s refl refl f }
+item-read c colour ok phase.Version (item.Version V38) comes v s more f = record { next = s; read = refl; said = refl; notices = refl; heard = refl; follows = same-phase c colour phase.Version (phase.Choice V38) v s refl refl f }
+item-read c colour ok (phase.Choice V33) item.Choice comes v s more f = record { next = s; read = refl; said = refl; notices = refl; heard = refl; follows = same-phase c colour (phase.Choice V33) (phase.Init V33) v s refl refl f }
+item-read c colour ok (phase.Choice V37) item.Choice comes v s more f = record { next = s; read = refl; said = refl; notices = refl; heard = refl; follows = same-phase c colour (phase.Choice V37) (phase.Init V37) v s refl refl f }
+item-read c colour ok (phase.Choice V38) item.Choice comes v s more f = record { next = s; read = refl; said = refl; notices = refl; heard = refl; follows = same-phase c colour (phase.Choice V38) (phase.Init V38) v s refl refl f }
+item-read c colour ok (phase.Init w) (item.Init shared) comes v s more f = record {
+  next = record s { agreed = record s.agreed { width = from_be_bytes w16 (to_be_bytes w16 c.width); height = from_be_bytes w16 (to_be_bytes w16 c.height); format = server_format } };
+  read = ap (λ (o : Option (Init × List ℕ)). o >>= λ init. Some (record s { agreed = record s.agreed { width = init.0.width; height = init.0.height; format = init.0.format } }, init.1)) (init-read c.width c.height c.name more ok.name);
   said = refl;
   notices = refl;
   heard = refl;
-  follows = record { format = sym (f.early refl); early = λ e. f.early refl; width = f.width; height = f.height; shows = f.shows };
+  follows = record {
+    format = sym (f.early refl);
+    early = λ e. f.early refl;
+    told = λ e. (size-told c.width ok.width, size-told c.height ok.height);
+    encoding = f.encoding;
+    copyrect = f.copyrect;
+    width = f.width;
+    height = f.height;
+    shows = f.shows;
+  };
 }
-item-read c colour small (phase.Open w) (item.Format g) comes v s more f = record {
-  next = record s { format = g };
+item-read c colour ok (phase.Open w) (item.Format g) comes v s more f = record {
+  next = record s { agreed = record s.agreed { format = g } };
   read = refl;
   said = refl;
   notices = refl;
   heard = refl;
-  follows = record { format = refl; early = λ e. absurd cc; width = f.width; height = f.height; shows = f.shows };
+  follows = record { format = refl; early = λ e. absurd cc; told = f.told; encoding = f.encoding; copyrect = f.copyrect; width = f.width; height = f.height; shows = f.shows };
 }
-item-read c colour small (phase.Open w) (item.Encodings preferred true) comes v s more f = record {
+item-read c colour ok (phase.Open w) (item.Encodings preferred true) comes v s more f = record {
+  next = record s { agreed = record s.agreed { listed = taken preferred true } };
+  read = refl;
+  said = refl;
+  notices = refl;
+  heard = refl;
+  follows = record {
+    format = f.format;
+    early = λ e. absurd cc;
+    told = f.told;
+    encoding = preferred-comes preferred true;
+    copyrect = λ e. copyrect-comes preferred;
+    width = f.width;
+    height = f.height;
+    shows = allowed (may_come s.agreed.listed (pos 1) ≡ true) (may_come (taken preferred true) (pos 1) ≡ true) colour v.marks s.shown (copyrect-comes preferred) f.shows;
+  };
+}
+item-read c colour ok (phase.Open w) (item.Encodings preferred false) comes v s more f = record {
+  next = record s { agreed = record s.agreed { listed = taken preferred false } };
+  read = refl;
+  said = refl;
+  notices = refl;
+  heard = refl;
+  follows = record {
+    format = f.format;
+    early = λ e. absurd cc;
+    told = f.told;
+    encoding = preferred-comes preferred false;
+    copyrect = λ e. absurd cc;
+    width = f.width;
+    height = f.height;
+    shows = uncopied-shows (may_come s.agreed.listed (pos 1) ≡ true) (may_come (taken preferred false) (pos 1) ≡ true) colour v.marks s.shown f.shows;
+  };
+}
+item-read c colour ok (phase.Open w) (item.Request true area) comes v s more f = record {
   next = s;
   read = refl;
   said = refl;
   notices = refl;
   heard = refl;
-  follows = record { format = f.format; early = λ e. absurd cc; width = f.width; height = f.height; shows = f.shows };
+  follows = record {
+    format = f.format;
+    early = λ e. absurd cc;
+    told = f.told;
+    encoding = f.encoding;
+    copyrect = f.copyrect;
+    width = f.width;
+    height = f.height;
+    shows = asked-shows _ colour (area_places c.width c.height area) v.marks s.shown f.shows;
+  };
 }
-item-read c colour small (phase.Open w) (item.Encodings preferred false) comes v s more f = record {
-  next = s;
-  read = refl;
-  said = refl;
-  notices = refl;
-  heard = refl;
-  follows = record { format = f.format; early = λ e. absurd cc; width = f.width; height = f.height; shows = uncopied-shows colour v.marks s.shown f.shows };
-}
-item-read c colour small (phase.Open w) (item.Request true area) comes v s more f = record {
-  next = s;
-  read = refl;
-  said = refl;
-  notices = refl;
-  heard = refl;
-  follows = record { format = f.format; early = λ e. absurd cc; width = f.width; height = f.height; shows = asked-shows colour (area_places c.width c.height area) v.marks s.shown f.shows };
-}
-item-read c colour small (phase.Open w) (item.Request false area) comes v s more f = record {
+item-read c colour ok (phase.Open w) (item.Request false area) comes v s more f = record {
   next = forgotten area s;
   read = refl;
   said = refl;
@@ -141,15 +219,25 @@ item-read c colour small (phase.Open w) (item.Request false area) comes v s more
   follows = record {
     format = f.format;
     early = λ e. absurd cc;
+    told = f.told;
+    encoding = f.encoding;
+    copyrect = f.copyrect;
     width = f.width;
     height = f.height;
-    shows = forgotten-shows colour (area_places c.width c.height area) _ s.shown (forgotten area s).shown
-        (λ x y on out. not-inside area c.width c.height s.width s.height s.shown x y (sym (ap (λ n. on_screen n v.marks.height x y) f.width ∙ ap (λ n. on_screen c.width n x y) f.height) ∙ on) out)
-        (asked-shows colour (area_places c.width c.height area) v.marks s.shown f.shows);
+    shows = forgotten-shows _ colour (area_places c.width c.height area) _ s.shown (forgotten area s).shown
+        (λ x y on out. not-inside area c.width c.height s.agreed.width s.agreed.height s.shown x y (sym (ap (λ n. on_screen n v.marks.height x y) f.width ∙ ap (λ n. on_screen c.width n x y) f.height) ∙ on) out)
+        (asked-shows _ colour (area_places c.width c.height area) v.marks s.shown f.shows);
   };
 }
-item-read c colour small (phase.Open w) (item.Input input) comes v s more f = record { next = s; read = refl; said = refl; notices = refl; heard = refl; follows = record { format = f.format; early = λ e. absurd cc; width = f.width; height = f.height; shows = f.shows } }
-item-read c colour small p i comes v s more f = absurd comes
+item-read c colour ok (phase.Open w) (item.Input input) comes v s more f = record {
+  next = s;
+  read = refl;
+  said = refl;
+  notices = refl;
+  heard = refl;
+  follows = record { format = f.format; early = λ e. absurd cc; told = f.told; encoding = f.encoding; copyrect = f.copyrect; width = f.width; height = f.height; shows = f.shows };
+}
+item-read c colour ok p i comes v s more f = absurd comes
 
 -- ---- the items of a piece
 
@@ -161,12 +249,12 @@ record Items-read (c : Config) (colour : ℤ → ℤ → ℕ) (p : Phase) (items
   heard : (after_items c.width c.height items v).heard ≡ v.heard
   follows : Follows c colour (phase_after p items) (after_items c.width c.height items v) next
 
-items-read : (c : Config) (colour : ℤ → ℤ → ℕ) → length c.name < 2 ^ 32 → (p : Phase) (items : List Item) → Come p items → (v : Viewer (List ℕ)) (s : Watching) → Follows c colour p v s → Items-read c colour p items v s
-items-read c colour small p [] come v s f = record { next = s; read = refl; said = refl; notices = refl; heard = refl; follows = f }
-items-read c colour small p (i ∷ items) come v s f =
+items-read : (c : Config) (colour : ℤ → ℤ → ℕ) → Limits c → (p : Phase) (items : List Item) → Come p items → (v : Viewer (List ℕ)) (s : Watching) → Follows c colour p v s → Items-read c colour p items v s
+items-read c colour ok p [] come v s f = record { next = s; read = refl; said = refl; notices = refl; heard = refl; follows = f }
+items-read c colour ok p (i ∷ items) come v s f =
     let init : List ℕ = server_init c.width c.height c.name in
-    let one = item-read c colour small p i come.0 v s (answers init (after p i) items) f in
-    let rest = items-read c colour small (after p i) items come.1 (after_item c.width c.height i v) one.next one.follows in
+    let one = item-read c colour ok p i come.0 v s (answers init (after p i) items) f in
+    let rest = items-read c colour ok (after p i) items come.1 (after_item c.width c.height i v) one.next one.follows in
     record {
       next = rest.next;
       read = ap (λ (o : Option (Watching × List ℕ)). o >>= λ first. items_at (after p i) items first.0 first.1) one.read ∙ rest.read;
@@ -183,8 +271,8 @@ pub record Piece-read (c : Config) (colour : ℤ → ℤ → ℕ) (piece : List 
   pub notices : (hearing c piece v).0.notices ≡ v.notices
   pub follows : Follows c colour (heard (hearing c piece v).0.heard).phase (hearing c piece v).0 (after_piece piece (hearing c piece v).1.bytes s)
 
-pub piece-read : (c : Config) (colour : ℤ → ℤ → ℕ) → length c.name < 2 ^ 32 → (piece : List ℕ) (v : Viewer (List ℕ)) (s : Watching) → s.said ≡ v.heard → Follows c colour (heard v.heard).phase v s → Piece-read c colour piece v s
-piece-read c colour small piece v s same f = record {
+pub piece-read : (c : Config) (colour : ℤ → ℤ → ℕ) → Limits c → (piece : List ℕ) (v : Viewer (List ℕ)) (s : Watching) → s.said ≡ v.heard → Follows c colour (heard v.heard).phase v s → Piece-read c colour piece v s
+piece-read c colour ok piece v s same f = record {
   said = ap (λ (t : Watching). t.said) result ∙ all.said ∙ ap (λ (l : List ℕ). l ++ piece) same ∙ sym all.heard;
   notices = all.notices;
   follows = subst (λ (t : Watching). Follows c colour (heard (hearing c piece v).0.heard).phase (hearing c piece v).0 t) (sym result)
@@ -204,10 +292,10 @@ piece-read c colour small piece v s same f = record {
     now = following v.heard piece
 
     start : Follows c colour (heard v.heard).phase later begun
-    start = record { format = f.format; early = f.early; width = f.width; height = f.height; shows = f.shows }
+    start = record { format = f.format; early = f.early; told = f.told; encoding = f.encoding; copyrect = f.copyrect; width = f.width; height = f.height; shows = f.shows }
 
     all : Items-read c colour (heard v.heard).phase items later begun
-    all = items-read c colour small (heard v.heard).phase items now.come later begun start
+    all = items-read c colour ok (heard v.heard).phase items now.come later begun start
 
     bytes : List ℕ
     bytes = answers (server_init c.width c.height c.name) (heard v.heard).phase items

@@ -1,7 +1,6 @@
 -- What a viewer shows, by RFC 6143 alone: from what it says itself and what it is answered, since it connected.
 use Rattle.std.specs.Prelude.{ℕ, Bool, false, ◌&&◌, ◌==◌, nat_lt, if◌then◌else◌, List, [], ◌∷◌, ◌++◌, Option, None, Some, option_map}
 use Rattle.pixel_translate.specs.declared.Area.{Area}
-use Rattle.pixel_translate.specs.declared.PixelFormat.{PixelFormat}
 use Rattle.pixel_translate.specs.Pixel.{server_format}
 use Rattle.encode_raw.specs.Reading.{◌>>=◌, Shown, is_inside}
 use Rattle.messages.specs.declared.Item.{Item}
@@ -10,19 +9,19 @@ use Rattle.messages.specs.declared.Phase.{Phase}
 use Rattle.messages.specs.declared.Phase.TheVariants as phase
 use Rattle.messages.specs.Grammar.{after}
 use Rattle.messages.specs.Reading.{heard, new_items}
-use Rattle.viewer_picture.specs.Messages.{messages_at}
+use Rattle.viewer_picture.specs.Messages.{Agreed, messages_at}
+use Rattle.viewer_picture.specs.Encodings.{taken}
 use Rattle.viewer_picture.specs.Opening.{security_at, result_at, init_at}
 use Rattle.scene.specs.declared.Event.{Event}
 use Rattle.scene.specs.declared.Event.TheVariants.{Connect, Hear, Cut}
 use Rattle.scene.specs.declared.Answer.{Answer}
 use Rattle.scene.specs.Alone.{owner_of}
 
--- A viewer: its bytes so far, the picture's size once it is told, the format in which it reads pixels, and what it shows.
+-- A viewer: its bytes so far, what it goes by where it reads an update (the picture's size once it is told, the format of pixels, and of the
+-- encodings that it listed those that the server takes), and what it shows.
 pub record Watching : Type 0 where
   pub said : List ℕ
-  pub width : ℕ
-  pub height : ℕ
-  pub format : PixelFormat
+  pub agreed : Agreed
   pub shown : Shown
 
 abbrev pub nothing_shown : Shown
@@ -30,11 +29,11 @@ nothing_shown x y = None
 
 -- at connecting
 abbrev pub at_first : Watching
-at_first = record { said = []; width = 0; height = 0; format = server_format; shown = nothing_shown }
+at_first = record { said = []; agreed = record { width = 0; height = 0; format = server_format; listed = [] }; shown = nothing_shown }
 
 -- 7.5.3: what the viewer asks for anew, of its picture, it shows no more
 abbrev pub forgotten : Area → Watching → Watching
-forgotten a s = record s { shown = λ x y. if is_inside a x y && nat_lt x s.width && nat_lt y s.height then None else s.shown x y }
+forgotten a s = record s { shown = λ x y. if is_inside a x y && nat_lt x s.agreed.width && nat_lt y s.agreed.height then None else s.shown x y }
 
 -- 7.1 to 7.5: what an item does that the viewer says, and the bytes that answer it
 abbrev pub item_at : Phase → Item → Watching → List ℕ → Option (Watching × List ℕ)
@@ -46,8 +45,9 @@ item_at (phase.Choice v) item.Choice s bytes = do
   Some (s, more)
 item_at p (item.Init shared) s bytes = do
   init ← init_at bytes
-  Some (record s { width = init.0.width; height = init.0.height; format = init.0.format }, init.1)
-item_at p (item.Format f) s bytes = Some (record s { format = f }, bytes)
+  Some (record s { agreed = record s.agreed { width = init.0.width; height = init.0.height; format = init.0.format } }, init.1)
+item_at p (item.Format f) s bytes = Some (record s { agreed = record s.agreed { format = f } }, bytes)
+item_at p (item.Encodings preferred copyrect) s bytes = Some (record s { agreed = record s.agreed { listed = taken preferred copyrect } }, bytes)
 item_at p (item.Request false area) s bytes = Some (forgotten area s, bytes)
 item_at p _ s bytes = Some (s, bytes)
 
@@ -76,7 +76,7 @@ after_piece piece bytes s =
 
 -- the bytes of a sending step
 abbrev pub after_messages : List ℕ → Watching → Watching
-after_messages bytes s = or_nothing s (option_map (λ shown. record s { shown = shown }) (messages_at s.format s.shown bytes))
+after_messages bytes s = or_nothing s (option_map (λ shown. record s { shown = shown }) (messages_at s.agreed s.shown bytes))
 
 -- an event of the viewer, and what it was answered
 abbrev pub watched : Event → Answer → Watching → Watching

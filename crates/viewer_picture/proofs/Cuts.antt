@@ -1,5 +1,5 @@
 -- What is shown once an update is read: the copies all at once, then the pixels.
-use Rattle.std.proofs.Common.{◌≡◌, ℕ, zero, suc, ◌+◌, ◌-◌, ◌*◌, ◌<◌, ◌≤◌, Bool, true, false, cond, ◌&&◌, ◌||◌, List, [], ◌∷◌, take, get_or, Option, Some, All, refl, sym, ap, ◌∙◌, arith}
+use Rattle.std.proofs.Common.{◌≡◌, ℕ, ◌+◌, ◌-◌, ◌*◌, ◌<◌, ◌≤◌, Bool, true, false, cond, ◌&&◌, ◌||◌, List, [], ◌∷◌, get_or, Option, Some, All, refl, sym, ap, ◌∙◌, arith}
 use Rattle.std.specs.Prelude.{ℤ, pos, ◌+ℤ◌, ◌-ℤ◌, ◌<ℤ◌, ◌≤ℤ◌, nat_abs, int_lt}
 use Rattle.std.specs.List.{AllByRecursion}
 use Rattle.std.proofs.lemmas.Int.{ints}
@@ -258,16 +258,30 @@ covered-on w h (r ∷ rs) on x y e = one (in_rect r x y) refl e (λ there. cover
     one true here e others = inside w h r x y on.0 here
     one false there e others = others e
 
+-- each copy has a place that is copied, so what holds of those holds
+pub copies-may : (P : Type 0) (limit : ℕ) (m : Marks) → ((x y : ℤ) → on_screen m.width m.height x y ≡ true → mark_at m x y ≡ Copied → P) → AllByRecursion (λ (r : Rect). P) (copies_of limit m)
+unfolding AreOf
+copies-may P limit m may = each (copies_of limit m) (recursion_from_All (IsOnScreen m.width m.height) (copies_of limit m) (copies_on_screen limit m)) (recursion_from_All (AreOf (copies_of limit m)) (copies_of limit m) (own-places (copies_of limit m)))
+  where
+    each : (rs : List Rect) → AllByRecursion (IsOnScreen m.width m.height) rs → AllByRecursion (AreOf (copies_of limit m)) rs → AllByRecursion (λ (r : Rect). P) rs
+    each [] on are = tt
+    each (r ∷ rs) on are =
+        let here : covers (copies_of limit m) r.x1 r.y1 ≡ true = are.0 r.x1 r.y1 (corner r on.0.columns on.0.rows) in
+        let there : on_screen m.width m.height r.x1 r.y1 ≡ true =
+        covered-on m.width m.height (copies_of limit m) (recursion_from_All (IsOnScreen m.width m.height) (copies_of limit m) (copies_on_screen limit m)) r.x1 r.y1 here in
+        (may r.x1 r.y1 there (can-copied (asked_at m r.x1 r.y1) (asked_at m (r.x1 -ℤ m.offset.0) (r.y1 -ℤ m.offset.1)) (mark_at m r.x1 r.y1) (copies-can limit m r.x1 r.y1 here)), each rs on.1 are.1)
+
 -- what an update does to what is shown: its copies, then its pixels
 unfoldable pub update_of : ℕ → PixelFormat → List ℕ → Marks → Shown → Shown
 update_of limit f picture m shown = changed (pixel_of m.width m.height picture f) (pixels_of limit m) (changed (copy_of m.offset) (copies_of limit m) shown)
 
-pub cut-shows : (limit : ℕ) (f : PixelFormat) (picture : List ℕ) (m : Marks) (shown : Shown) → Shows (colour_at m.width m.height picture) m shown
-    → Shows (colour_at m.width m.height picture) (after_sending (copies_of limit m) (pixels_of limit m) m) (update_of limit f picture m shown)
+pub cut-shows : (P : Type 0) (limit : ℕ) (f : PixelFormat) (picture : List ℕ) (m : Marks) (shown : Shown) → Shows P (colour_at m.width m.height picture) m shown
+    → Shows P (colour_at m.width m.height picture) (after_sending (copies_of limit m) (pixels_of limit m) m) (update_of limit f picture m shown)
 unfolding update_of
-cut-shows limit f picture m shown s = record {
+cut-shows P limit f picture m shown s = record {
   clean = λ x y on e. clean x y on (sym (mark-is m after x y on) ∙ e);
   copied = λ x y on e. absurd (none (covers copies x y || covers pixels x y || is_clean (mark_at m x y)) (sym (mark-is m after x y on) ∙ e));
+  may = λ x y on e. absurd (none (covers copies x y || covers pixels x y || is_clean (mark_at m x y)) (sym (mark-is m after x y on) ∙ e));
 }
   where
     copies : List Rect

@@ -4,3 +4,6 @@ pub mod Areas
 pub mod Marks
 pub mod Cuts
 pub mod Comes
+mod Legal
+mod Taken
+mod OnceCopied

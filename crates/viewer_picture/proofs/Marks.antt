@@ -15,11 +15,12 @@ use Rattle.copy_schedule.specs.Marks.{Marks, is_copied, mark_at, with_marks, mar
 use Rattle.region.proofs.Places.{value_on}
 use Rattle.viewer_picture.specs.Pictures.{dot_at, ShowsColour}
 
--- each clean place of the marks' screen shows its colour, and so does a copied place's source, which is on the screen
-pub record Shows (colour : ℤ → ℤ → ℕ) (m : Marks) (shown : Shown) : Type 0 where
+-- Each clean place of the marks' screen shows its colour, and so does a copied place's source, which is on the screen; and P holds where there is a copied place.
+pub record Shows (P : Type 0) (colour : ℤ → ℤ → ℕ) (m : Marks) (shown : Shown) : Type 0 where
   pub clean : (x y : ℤ) → on_screen m.width m.height x y ≡ true → mark_at m x y ≡ Clean → ShowsColour (dot_at shown x y) (colour x y)
   pub copied : (x y : ℤ) → on_screen m.width m.height x y ≡ true → mark_at m x y ≡ Copied
       → (on_screen m.width m.height (x -ℤ m.offset.0) (y -ℤ m.offset.1) ≡ true) × ShowsColour (dot_at shown (x -ℤ m.offset.0) (y -ℤ m.offset.1)) (colour x y)
+  pub may : (x y : ℤ) → on_screen m.width m.height x y ≡ true → mark_at m x y ≡ Copied → P
 
 owed-clean : Owed ≡ Clean → ⊥
 owed-clean e = cc
@@ -44,12 +45,12 @@ tells dot dot' c c' e k (f, h) = (f, e ∙ h ∙ ap (λ (n : ℕ). Some (record 
 -- ---- places that become owed
 
 -- where a place that isn't owed was the same before, and shows what it showed
-less : (colour colour' : ℤ → ℤ → ℕ) (m : Marks) (mark : ℤ → ℤ → Mark) (shown shown' : Shown)
+less : (P : Type 0) (colour colour' : ℤ → ℤ → ℕ) (m : Marks) (mark : ℤ → ℤ → Mark) (shown shown' : Shown)
     → ((x y : ℤ) → on_screen m.width m.height x y ≡ true → mark x y ≡ Clean → (mark_at m x y ≡ Clean) × (colour' x y ≡ colour x y) × (dot_at shown' x y ≡ dot_at shown x y))
     → ((x y : ℤ) → on_screen m.width m.height x y ≡ true → mark x y ≡ Copied → (mark_at m x y ≡ Copied) × (colour' x y ≡ colour x y)
     × (on_screen m.width m.height (x -ℤ m.offset.0) (y -ℤ m.offset.1) ≡ true → dot_at shown' (x -ℤ m.offset.0) (y -ℤ m.offset.1) ≡ dot_at shown (x -ℤ m.offset.0) (y -ℤ m.offset.1)))
-    → Shows colour m shown → Shows colour' (with_marks m mark) shown'
-less colour colour' m mark shown shown' were-clean were-copied s = record {
+    → Shows P colour m shown → Shows P colour' (with_marks m mark) shown'
+less P colour colour' m mark shown shown' were-clean were-copied s = record {
   clean = λ x y on e.
       let was = were-clean x y on (sym (mark-is m mark x y on) ∙ e) in
       tells (dot_at shown x y) (dot_at shown' x y) (colour x y) (colour' x y) was.2 was.1 (s.clean x y on was.0);
@@ -57,12 +58,13 @@ less colour colour' m mark shown shown' were-clean were-copied s = record {
       let was = were-copied x y on (sym (mark-is m mark x y on) ∙ e) in
       let there = s.copied x y on was.0 in
       (there.0, tells (dot_at shown (x -ℤ m.offset.0) (y -ℤ m.offset.1)) (dot_at shown' (x -ℤ m.offset.0) (y -ℤ m.offset.1)) (colour x y) (colour' x y) (was.2 there.0) was.1 there.1);
+  may = λ x y on e. s.may x y on (were-copied x y on (sym (mark-is m mark x y on) ∙ e)).0;
 }
 
 -- a set becomes owed; colours change only in it
-pub marked-shows : (colour colour' : ℤ → ℤ → ℕ) (set : ℤ → ℤ → Bool) (m : Marks) (shown : Shown) → ((x y : ℤ) → on_screen m.width m.height x y ≡ true → set x y ≡ false → colour' x y ≡ colour x y)
-    → Shows colour m shown → Shows colour' (marked set m) shown
-marked-shows colour colour' set m shown same s = less colour colour' m (λ x y. cond (set x y) Owed (mark_at m x y)) shown shown
+pub marked-shows : (P : Type 0) (colour colour' : ℤ → ℤ → ℕ) (set : ℤ → ℤ → Bool) (m : Marks) (shown : Shown) → ((x y : ℤ) → on_screen m.width m.height x y ≡ true → set x y ≡ false → colour' x y ≡ colour x y)
+    → Shows P colour m shown → Shows P colour' (marked set m) shown
+marked-shows P colour colour' set m shown same s = less P colour colour' m (λ x y. cond (set x y) Owed (mark_at m x y)) shown shown
     (λ x y on e. let was = one (set x y) (mark_at m x y) Clean owed-clean e in (was.1, same x y on was.0, refl))
     (λ x y on e. let was = one (set x y) (mark_at m x y) Copied owed-copied e in (was.1, same x y on was.0, λ there. refl)) s
   where
@@ -71,10 +73,12 @@ marked-shows colour colour' set m shown same s = less colour colour' m (λ x y. 
     one false a k not_owed e = (refl, e)
 
 -- no place is copied any more
-pub uncopied-shows : (colour : ℤ → ℤ → ℕ) (m : Marks) (shown : Shown) → Shows colour m shown → Shows colour (without_copyrect m) shown
-uncopied-shows colour m shown s = less colour colour m (λ x y. cond (is_copied (mark_at m x y)) Owed (mark_at m x y)) shown shown
-    (λ x y on e. (one (mark_at m x y) e, refl, refl))
-    (λ x y on e. absurd (two (mark_at m x y) e)) s
+pub uncopied-shows : (P Q : Type 0) (colour : ℤ → ℤ → ℕ) (m : Marks) (shown : Shown) → Shows P colour m shown → Shows Q colour (without_copyrect m) shown
+uncopied-shows P Q colour m shown s = record {
+  clean = owing.clean;
+  copied = owing.copied;
+  may = λ x y on e. absurd (two (mark_at m x y) (sym (mark-is m mark x y on) ∙ e));
+}
   where
     one : (a : Mark) → cond (is_copied a) Owed a ≡ Clean → a ≡ Clean
     one Clean e = refl
@@ -86,16 +90,26 @@ uncopied-shows colour m shown s = less colour colour m (λ x y. cond (is_copied 
     two Copied e = cc
     two Owed e = cc
 
+    mark : ℤ → ℤ → Mark
+    mark x y = cond (is_copied (mark_at m x y)) Owed (mark_at m x y)
+
+    owing : Shows P colour (with_marks m mark) shown
+    owing = less P colour colour m mark shown shown (λ x y on e. (one (mark_at m x y) e, refl, refl)) (λ x y on e. absurd (two (mark_at m x y) e)) s
+
+-- P may be another thing that holds
+pub allowed : (P Q : Type 0) (colour : ℤ → ℤ → ℕ) (m : Marks) (shown : Shown) → Q → Shows P colour m shown → Shows Q colour m shown
+allowed P Q colour m shown q s = record { clean = s.clean; copied = s.copied; may = λ x y on e. q }
+
 -- a set is asked for
-pub asked-shows : (colour : ℤ → ℤ → ℕ) (set : ℤ → ℤ → Bool) (m : Marks) (shown : Shown) → Shows colour m shown → Shows colour (asked_for set m) shown
-asked-shows colour set m shown s = record { clean = s.clean; copied = s.copied }
+pub asked-shows : (P : Type 0) (colour : ℤ → ℤ → ℕ) (set : ℤ → ℤ → Bool) (m : Marks) (shown : Shown) → Shows P colour m shown → Shows P colour (asked_for set m) shown
+asked-shows P colour set m shown s = record { clean = s.clean; copied = s.copied; may = s.may }
 
 -- and it is shown no more
-pub forgotten-shows : (colour : ℤ → ℤ → ℕ) (set : ℤ → ℤ → Bool) (m : Marks) (shown shown' : Shown)
+pub forgotten-shows : (P : Type 0) (colour : ℤ → ℤ → ℕ) (set : ℤ → ℤ → Bool) (m : Marks) (shown shown' : Shown)
     → ((x y : ℤ) → on_screen m.width m.height x y ≡ true → set x y ≡ false → dot_at shown' x y ≡ dot_at shown x y)
-    → Shows colour m shown → Shows colour (forgotten set m) shown'
-forgotten-shows colour set m shown shown' same s =
-    less colour colour m (λ x y. cond (set x y || (is_copied (mark_at m x y) && set (x -ℤ m.offset.0) (y -ℤ m.offset.1))) Owed (mark_at m x y)) shown shown'
+    → Shows P colour m shown → Shows P colour (forgotten set m) shown'
+forgotten-shows P colour set m shown shown' same s =
+    less P colour colour m (λ x y. cond (set x y || (is_copied (mark_at m x y) && set (x -ℤ m.offset.0) (y -ℤ m.offset.1))) Owed (mark_at m x y)) shown shown'
     (λ x y on e. let was = one (set x y) (set (x -ℤ m.offset.0) (y -ℤ m.offset.1)) (mark_at m x y) e in (was.1, refl, same x y on was.0))
     (λ x y on e. let was = two (set x y) (set (x -ℤ m.offset.0) (y -ℤ m.offset.1)) (mark_at m x y) e in (was.1, refl, λ there. same (x -ℤ m.offset.0) (y -ℤ m.offset.1) there was.0)) s
   where
@@ -157,11 +171,11 @@ abbrev SourceShows : (ℤ → ℤ → ℕ) → Marks → ℤ × ℤ → Shown �
 SourceShows colour m by shown x y = (on_screen m.width m.height (x -ℤ by.0) (y -ℤ by.1) ≡ true) × ShowsColour (dot_at shown (x -ℤ by.0) (y -ℤ by.1)) (colour x y)
 
 -- a set that is on the screen with its source gets the colours of its source
-pub moved-shows : (colour colour' : ℤ → ℤ → ℕ) (set : ℤ → ℤ → Bool) (by : ℤ × ℤ) (m : Marks) (shown : Shown)
+pub moved-shows : (P : Type 0) → P → (colour colour' : ℤ → ℤ → ℕ) (set : ℤ → ℤ → Bool) (by : ℤ × ℤ) (m : Marks) (shown : Shown)
     → ((x y : ℤ) → set x y ≡ true → on_screen m.width m.height (x -ℤ by.0) (y -ℤ by.1) ≡ true)
     → ((x y : ℤ) → on_screen m.width m.height x y ≡ true → colour' x y ≡ cond (set x y) (colour (x -ℤ by.0) (y -ℤ by.1)) (colour x y))
-    → Shows colour m shown → Shows colour' (moved set by (lost_to set by m)) shown
-moved-shows colour colour' set by m shown cut drawn s = record {
+    → Shows P colour m shown → Shows P colour' (moved set by (lost_to set by m)) shown
+moved-shows P p colour colour' set by m shown cut drawn s = record {
   clean = λ x y on e.
       let after = clean-after (set x y) (mark_at lost x y) (mark_at lost (x -ℤ by.0) (y -ℤ by.1)) (sym (mark-is lost new x y on) ∙ e) in
       let before : mark_at m x y ≡ Clean = left-clean _ (mark_at m x y) (sym (mark-is m left x y on) ∙ after.1) in
@@ -169,6 +183,7 @@ moved-shows colour colour' set by m shown cut drawn s = record {
   copied = λ x y on e.
       let after = copied-after (set x y) (mark_at lost x y) (mark_at lost (x -ℤ by.0) (y -ℤ by.1)) (sym (mark-is lost new x y on) ∙ e) in
       by-drawn x y on after.0 after.1;
+  may = λ x y on e. p;
 }
   where
     left : ℤ → ℤ → Mark
@@ -217,9 +232,10 @@ moved-shows colour colour' set by m shown cut drawn s = record {
         )
 
 -- other colours that are the same on the screen
-pub recoloured : (colour colour' : ℤ → ℤ → ℕ) (m : Marks) (shown : Shown) → ((x y : ℤ) → on_screen m.width m.height x y ≡ true → colour' x y ≡ colour x y) → Shows colour m shown → Shows colour' m shown
-recoloured colour colour' m shown same s = record {
+pub recoloured : (P : Type 0) (colour colour' : ℤ → ℤ → ℕ) (m : Marks) (shown : Shown) → ((x y : ℤ) → on_screen m.width m.height x y ≡ true → colour' x y ≡ colour x y) → Shows P colour m shown → Shows P colour' m shown
+recoloured P colour colour' m shown same s = record {
   clean = λ x y on e. tells (dot_at shown x y) (dot_at shown x y) (colour x y) (colour' x y) refl (same x y on) (s.clean x y on e);
   copied = λ x y on e. let there = s.copied x y on e in
       (there.0, tells (dot_at shown (x -ℤ m.offset.0) (y -ℤ m.offset.1)) (dot_at shown (x -ℤ m.offset.0) (y -ℤ m.offset.1)) (colour x y) (colour' x y) refl (same x y on) there.1);
+  may = s.may;
 }

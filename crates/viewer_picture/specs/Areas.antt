@@ -1,5 +1,5 @@
 -- Rectangles of a screen, as the areas that a viewer is sent (RFC 6143, 7.6.1).
-use Rattle.std.specs.Prelude.{ℕ, ◌-ℤ◌, nat_abs}
+use Rattle.std.specs.Prelude.{◌-ℤ◌, nat_abs}
 use Rattle.pixel_translate.specs.declared.Area.{Area}
 use Rattle.region.specs.declared.Rect.{Rect}
 

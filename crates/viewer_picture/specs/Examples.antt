@@ -1,5 +1,5 @@
 -- Worked examples, which compute.
-use Rattle.std.specs.Prelude.{◌≡◌, ℕ, List, [], ◌∷◌, ◌++◌, map, option_map, codes, take, Option, None, Some, refl}
+use Rattle.std.specs.Prelude.{◌≡◌, ℕ, ℤ, pos, List, [], ◌∷◌, ◌++◌, map, option_map, codes, take, Option, None, Some, refl}
 use Rattle.std.specs.List.{range_with_len}
 use Rattle.pixel_translate.specs.declared.BitsPerPixel.TheVariants.{Eight}
 use Rattle.pixel_translate.specs.declared.PixelFormat.{PixelFormat}
@@ -17,11 +17,14 @@ one_byte = record server_format { bits = Eight }
 abbrev blank : Shown
 blank x y = None
 
--- what the first four places show
-abbrev shows : List ℕ → Option (List (Option ℕ))
-shows bytes = do
-  shown ← messages_at one_byte blank bytes
+-- what the first four places show, by the encodings that were listed
+abbrev shows_by : List ℤ → List ℕ → Option (List (Option ℕ))
+shows_by listed bytes = do
+  shown ← messages_at (record { width = 4; height = 1; format = one_byte; listed = listed }) blank bytes
   Some (map (λ x. option_map (λ d. d.pixel) (shown x 0)) (range_with_len 0 4))
+
+abbrev shows : List ℕ → Option (List (Option ℕ))
+shows bytes = shows_by (pos 1 ∷ pos 2 ∷ []) bytes
 
 abbrev three_pixels : List ℕ
 three_pixels = 0 ∷ 0 ∷ 0 ∷ 1 ∷ 0 ∷ 0 ∷ 0 ∷ 0 ∷ 0 ∷ 3 ∷ 0 ∷ 1 ∷ 0 ∷ 0 ∷ 0 ∷ 0 ∷ 1 ∷ 2 ∷ 3 ∷ []
@@ -64,9 +67,34 @@ no_type : shows (three_pixels ++ 9 ∷ []) ≡ None
 unfolding pixels_at rectangles_at messages_in
 no_type = refl
 
-no_encoding : shows (0 ∷ 0 ∷ 0 ∷ 1 ∷ 0 ∷ 0 ∷ 0 ∷ 0 ∷ 0 ∷ 1 ∷ 0 ∷ 1 ∷ 0 ∷ 0 ∷ 0 ∷ 16 ∷ 0 ∷ []) ≡ None
+no_encoding : shows_by (pos 16 ∷ []) (0 ∷ 0 ∷ 0 ∷ 1 ∷ 0 ∷ 0 ∷ 0 ∷ 0 ∷ 0 ∷ 1 ∷ 0 ∷ 1 ∷ 0 ∷ 0 ∷ 0 ∷ 16 ∷ 0 ∷ []) ≡ None
 unfolding rectangles_at messages_in
 no_encoding = refl
+
+-- rectangles that reach beyond the picture, a copy of what is beyond it, and encodings that weren't listed
+too_wide : shows (0 ∷ 0 ∷ 0 ∷ 1 ∷ 0 ∷ 2 ∷ 0 ∷ 0 ∷ 0 ∷ 3 ∷ 0 ∷ 1 ∷ 0 ∷ 0 ∷ 0 ∷ 0 ∷ 1 ∷ 2 ∷ 3 ∷ []) ≡ None
+unfolding pixels_at rectangles_at messages_in
+too_wide = refl
+
+too_high : shows (0 ∷ 0 ∷ 0 ∷ 1 ∷ 0 ∷ 0 ∷ 0 ∷ 1 ∷ 0 ∷ 3 ∷ 0 ∷ 1 ∷ 0 ∷ 0 ∷ 0 ∷ 0 ∷ 1 ∷ 2 ∷ 3 ∷ []) ≡ None
+unfolding pixels_at rectangles_at messages_in
+too_high = refl
+
+copied_from_beyond : shows (0 ∷ 0 ∷ 0 ∷ 1 ∷ 0 ∷ 1 ∷ 0 ∷ 0 ∷ 0 ∷ 2 ∷ 0 ∷ 1 ∷ 0 ∷ 0 ∷ 0 ∷ 1 ∷ 0 ∷ 3 ∷ 0 ∷ 0 ∷ []) ≡ None
+unfolding rectangles_at messages_in
+copied_from_beyond = refl
+
+copy_not_listed : shows_by (pos 2 ∷ []) (three_pixels ++ two_copies) ≡ None
+unfolding pixels_at rectangles_at messages_in
+copy_not_listed = refl
+
+rre_not_listed : shows_by (pos 1 ∷ []) (0 ∷ 0 ∷ 0 ∷ 1 ∷ 0 ∷ 0 ∷ 0 ∷ 0 ∷ 0 ∷ 4 ∷ 0 ∷ 1 ∷ 0 ∷ 0 ∷ 0 ∷ 2 ∷ 0 ∷ 0 ∷ 0 ∷ 0 ∷ 7 ∷ []) ≡ None
+unfolding rectangles_at messages_in
+rre_not_listed = refl
+
+raw_not_listed : shows_by [] three_pixels ≡ Some (Some 1 ∷ Some 2 ∷ Some 3 ∷ None ∷ [])
+unfolding pixels_at rectangles_at messages_in
+raw_not_listed = refl
 
 -- the opening
 security_of_38 : security_at V38 (1 ∷ 1 ∷ 7 ∷ []) ≡ Some (7 ∷ [])

@@ -1,4 +1,5 @@
 pub mod Messages
+pub mod Encodings
 pub mod Opening
 pub mod Areas
 pub mod Pictures

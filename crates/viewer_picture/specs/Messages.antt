@@ -1,5 +1,7 @@
 -- How a viewer reads what the server sends once the conversation is open, by RFC 6143 sections 7.6 and 7.7 alone.
-use Rattle.std.specs.Prelude.{ℕ, zero, suc, ℤ, pos, ◌==◌, if◌then◌else◌, List, [], ◌∷◌, length, Option, None, Some}
+use Rattle.std.specs.Prelude.{ℕ, zero, suc, ℤ, pos, ◌+◌, ◌==◌, nat_le, Bool, ◌&&◌, ◌||◌, if◌then◌else◌, List, [], ◌∷◌, length, Option, None, Some}
+use Rattle.std.specs.List.{list_any}
+use Rattle.std.specs.Ordering.{int_eq}
 use Rattle.std.specs.Int.{w16, w32}
 use Rattle.pixel_translate.specs.declared.Area.{Area}
 use Rattle.pixel_translate.specs.declared.PixelFormat.{PixelFormat}
@@ -7,39 +9,61 @@ use Rattle.encode_raw.specs.Reading.{◌>>=◌, bytes_at, number_at, head_at, Sh
 use Rattle.encode_rre.specs.Reading.{rre_at}
 use Rattle.encode_hextile.specs.Reading.{hextile_at}
 
+-- What stands between the two when an update comes: the picture's size (7.3.2), the format of pixels (7.5.1), and the encodings that the viewer listed last (7.5.2).
+pub record Agreed : Type 0 where
+  pub width : ℕ
+  pub height : ℕ
+  pub format : PixelFormat
+  pub listed : List ℤ
+
+-- no place of an area is beyond the picture
+abbrev pub is_in_picture : Agreed → Area → Bool
+is_in_picture agreed a = nat_le (a.x + a.w) agreed.width && nat_le (a.y + a.h) agreed.height
+
+-- 7.5.2: encodings that may come are those that were listed; 7.7.1: and Raw
+abbrev pub may_come : List ℤ → ℤ → Bool
+may_come listed encoding = int_eq encoding (pos 0) || list_any (int_eq encoding) listed
+
 -- a rectangle's pixels, if they can be read, over what is shown
 abbrev pub written : PixelFormat → Area → Shown → Option (Patch × List ℕ) → Option (Shown × List ℕ)
 written f a shown read = do
   patch ← read
   Some (patched f a patch.0 shown, patch.1)
 
--- 7.7: a rectangle's data, by its encoding: Raw is 0, CopyRect 1, RRE 2 and Hextile 5
-abbrev pub data_at : PixelFormat → Area → Shown → ℤ → List ℕ → Option (Shown × List ℕ)
-data_at f a shown (pos zero) bytes = written f a shown (raw_at f a.w a.h bytes)
-data_at f a shown (pos (suc zero)) bytes = copyrect_at a shown bytes
-data_at f a shown (pos (suc (suc zero))) bytes = written f a shown (rre_at f bytes)
-data_at f a shown (pos (suc (suc (suc (suc (suc zero)))))) bytes = written f a shown (hextile_at f a.w a.h bytes)
-data_at f a shown _ bytes = None
+-- 7.7.2: a copy of what is in the picture
+abbrev pub copy_at : Agreed → Area → Shown → List ℕ → Option (Shown × List ℕ)
+copy_at agreed a shown bytes = do
+  x ← number_at w16 bytes
+  y ← number_at w16 x.1
+  if is_in_picture agreed (record a { x = x.0; y = y.0 }) then copyrect_at a shown bytes else None
 
--- 7.6.1: a rectangle
-abbrev pub rectangle_at : PixelFormat → Shown → List ℕ → Option (Shown × List ℕ)
-rectangle_at f shown bytes = do
+-- 7.7: a rectangle's data, by its encoding: Raw is 0, CopyRect 1, RRE 2 and Hextile 5
+abbrev pub data_at : Agreed → Area → Shown → ℤ → List ℕ → Option (Shown × List ℕ)
+data_at agreed a shown (pos zero) bytes = written agreed.format a shown (raw_at agreed.format a.w a.h bytes)
+data_at agreed a shown (pos (suc zero)) bytes = copy_at agreed a shown bytes
+data_at agreed a shown (pos (suc (suc zero))) bytes = written agreed.format a shown (rre_at agreed.format bytes)
+data_at agreed a shown (pos (suc (suc (suc (suc (suc zero)))))) bytes = written agreed.format a shown (hextile_at agreed.format a.w a.h bytes)
+data_at agreed a shown _ bytes = None
+
+-- 7.6.1: a rectangle of the picture, in an encoding that may come
+abbrev pub rectangle_at : Agreed → Shown → List ℕ → Option (Shown × List ℕ)
+rectangle_at agreed shown bytes = do
   head ← head_at bytes
-  data_at f head.0.area shown head.0.encoding head.1
+  if is_in_picture agreed head.0.area && may_come agreed.listed head.0.encoding then data_at agreed head.0.area shown head.0.encoding head.1 else None
 
 -- 7.6.1: so many, in the order sent
-unfoldable pub rectangles_at : PixelFormat → ℕ → Shown → List ℕ → Option (Shown × List ℕ)
-rectangles_at f zero shown bytes = Some (shown, bytes)
-rectangles_at f (suc n) shown bytes = do
-  first ← rectangle_at f shown bytes
-  rectangles_at f n first.0 first.1
+unfoldable pub rectangles_at : Agreed → ℕ → Shown → List ℕ → Option (Shown × List ℕ)
+rectangles_at agreed zero shown bytes = Some (shown, bytes)
+rectangles_at agreed (suc n) shown bytes = do
+  first ← rectangle_at agreed shown bytes
+  rectangles_at agreed n first.0 first.1
 
 -- 7.6.1: an update, behind its first byte
-abbrev pub update_at : PixelFormat → Shown → List ℕ → Option (Shown × List ℕ)
-update_at f shown bytes = do
+abbrev pub update_at : Agreed → Shown → List ℕ → Option (Shown × List ℕ)
+update_at agreed shown bytes = do
   padding ← bytes_at 1 bytes
   count ← number_at w16 padding.1
-  rectangles_at f count.0 shown count.1
+  rectangles_at agreed count.0 shown count.1
 
 -- 7.6.4: a text, behind its first byte; it shows nothing
 abbrev pub text_at : Shown → List ℕ → Option (Shown × List ℕ)
@@ -50,20 +74,20 @@ text_at shown bytes = do
   Some (shown, text.1)
 
 -- 7.6: a message: an update is of type 0, a bell of type 2, a text of type 3
-abbrev pub message_of : PixelFormat → Shown → ℕ → List ℕ → Option (Shown × List ℕ)
-message_of f shown kind bytes =
-    if kind == 0 then update_at f shown bytes
+abbrev pub message_of : Agreed → Shown → ℕ → List ℕ → Option (Shown × List ℕ)
+message_of agreed shown kind bytes =
+    if kind == 0 then update_at agreed shown bytes
     else (if kind == 2 then Some (shown, bytes)
     else (if kind == 3 then text_at shown bytes
     else None))
 
 -- 7.6: messages one after the other, up to the end of the bytes; there are no more than bytes
-unfoldable pub messages_in : PixelFormat → ℕ → Shown → List ℕ → Option Shown
-messages_in f n shown [] = Some shown
-messages_in f zero shown (b ∷ bytes) = None
-messages_in f (suc n) shown (b ∷ bytes) = do
-  first ← message_of f shown b bytes
-  messages_in f n first.0 first.1
+unfoldable pub messages_in : Agreed → ℕ → Shown → List ℕ → Option Shown
+messages_in agreed n shown [] = Some shown
+messages_in agreed zero shown (b ∷ bytes) = None
+messages_in agreed (suc n) shown (b ∷ bytes) = do
+  first ← message_of agreed shown b bytes
+  messages_in agreed n first.0 first.1
 
-abbrev pub messages_at : PixelFormat → Shown → List ℕ → Option Shown
-messages_at f shown bytes = messages_in f (length bytes) shown bytes
+abbrev pub messages_at : Agreed → Shown → List ℕ → Option Shown
+messages_at agreed shown bytes = messages_in agreed (length bytes) shown bytes
