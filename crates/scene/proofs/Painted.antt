@@ -113,6 +113,7 @@ module _ (c : Config) (picture : List ℕ) (v : Viewer (List ℕ)) (s : Watching
   remarked : (now : List ℕ) (marks : Marks) → marks.width ≡ v.marks.width → marks.height ≡ v.marks.height → Shows (may_come s.agreed.listed (pos 1) ≡ true) (colour_at c.width c.height now) marks s.shown → Watches c now (record v { marks = marks }) s
   remarked now marks wide high shows = record {
     said = h.said;
+    legal = h.legal;
     short = h.short;
     follows = record { format = h.follows.format; early = h.follows.early; told = h.follows.told; encoding = h.follows.encoding; copyrect = h.follows.copyrect; width = wide ∙ h.follows.width; height = high ∙ h.follows.height; shows = shows };
   }
@@ -120,6 +121,7 @@ module _ (c : Config) (picture : List ℕ) (v : Viewer (List ℕ)) (s : Watching
   noticed-watched : (n : Notice) (open_now : Bool) → IsShort n → Watches c picture (record v { notices = cond open_now (with_notice n v.notices) v.notices }) s
   noticed-watched n open_now short = record {
     said = h.said;
+    legal = h.legal;
     short = noticed-short n open_now v.notices short h.short;
     follows = record { format = h.follows.format; early = h.follows.early; told = h.follows.told; encoding = h.follows.encoding; copyrect = h.follows.copyrect; width = h.follows.width; height = h.follows.height; shows = h.follows.shows };
   }

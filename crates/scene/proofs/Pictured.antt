@@ -66,6 +66,7 @@ limits c e = let parts = accepted (is_size c.width c.height) (nat_lt 255 (length
 
 pub record Watches (c : Config) (picture : List ℕ) (v : Viewer (List ℕ)) (s : Watching) : Type 0 where
   pub said : s.said ≡ v.heard
+  pub legal : s.legal ≡ true
   pub short : AllByRecursion IsShort v.notices
   pub follows : Follows c (colour_at c.width c.height picture) (heard v.heard).phase v s
 
@@ -82,6 +83,7 @@ on-it c m wide high x y on = sym (ap (λ n. on_screen n m.height x y) wide ∙ a
 connected : (c : Config) (picture : List ℕ) → Watches c picture (new_viewer c.width c.height) at_first
 connected c picture = record {
   said = refl;
+  legal = refl;
   short = tt;
   follows = record {
     format = refl;
@@ -119,16 +121,17 @@ connected c picture = record {
 heard-watched : (c : Config) → Limits c → (picture : List ℕ) (piece : List ℕ) (v : Viewer (List ℕ)) (s : Watching) → Watches c picture v s
     → Watches c picture (hearing c piece v).0 (after_piece piece (hearing c piece v).1.bytes s)
 heard-watched c ok picture piece v s h =
-    let r = piece-read c (colour_at c.width c.height picture) ok piece v s h.said h.follows in
-    record { said = r.said; short = subst (AllByRecursion IsShort) (sym r.notices) h.short; follows = r.follows }
+    let r = piece-read c (colour_at c.width c.height picture) ok piece v s h.said h.legal h.follows in
+    record { said = r.said; legal = r.legal; short = subst (AllByRecursion IsShort) (sym r.notices) h.short; follows = r.follows }
 
 -- ---- a sending step
 
 -- messages that were read to their end
-told : (s : Watching) (bytes : List ℕ) (after : Shown) → Reads s.agreed (length bytes) s.shown bytes after [] → after_messages bytes s ≡ record s { shown = after }
+told : (s : Watching) → s.legal ≡ true → (bytes : List ℕ) (after : Shown) → Reads s.agreed (length bytes) s.shown bytes after [] → after_messages bytes s ≡ record s { shown = after }
 unfolding messages_in
-told s bytes after r =
-    ap (λ (o : Option Shown). or_nothing s (option_map (λ shown. record s { shown = shown }) o)) r.is ∙ ap (λ (o : Option Shown). or_nothing s (option_map (λ shown. record s { shown = shown }) o)) (done r.left)
+told s legal bytes after r =
+    ap (λ (b : Bool). cond b (or_nothing s (option_map (λ shown. record s { shown = shown }) (messages_in s.agreed (length bytes) s.shown bytes))) s) legal
+    ∙ ap (λ (o : Option Shown). or_nothing s (option_map (λ shown. record s { shown = shown }) o)) r.is ∙ ap (λ (o : Option Shown). or_nothing s (option_map (λ shown. record s { shown = shown }) o)) (done r.left)
   where
     done : (n : ℕ) → messages_in s.agreed n after [] ≡ Some after
     done n = refl
@@ -146,8 +149,8 @@ module _ (reads : RectanglesAreRead) (c : Config) (ok : Limits c) (picture : Lis
       let g : Agreed = s.agreed in
       let bytes : List ℕ = flat_map notice_bytes v.notices in
       let read : Reads g (length bytes) s.shown bytes s.shown [] = subst (λ (l : List ℕ). Reads g (length l) s.shown l s.shown []) (append-nil bytes) (notices-read g v.notices h.short (length (bytes ++ [])) s.shown [] (omega arith)) in
-      subst (Watches c picture (record v { notices = [] })) (sym (told s bytes s.shown read))
-      (record { said = h.said; short = tt; follows = record { format = f.format; early = f.early; told = f.told; encoding = f.encoding; copyrect = f.copyrect; width = f.width; height = f.height; shows = f.shows } })
+      subst (Watches c picture (record v { notices = [] })) (sym (told s h.legal bytes s.shown read))
+      (record { said = h.said; legal = h.legal; short = tt; follows = record { format = f.format; early = f.early; told = f.told; encoding = f.encoding; copyrect = f.copyrect; width = f.width; height = f.height; shows = f.shows } })
   sent-watched v s h opened true =
       let f = h.follows in
       let m : Marks = v.marks in
@@ -171,8 +174,8 @@ module _ (reads : RectanglesAreRead) (c : Config) (ok : Limits c) (picture : Lis
       let same = same-colour c picture m f.width f.height in
       let now : Shows may (colour_at c.width c.height picture) sent after =
       subst (λ (colour : ℤ → ℤ → ℕ). Shows may colour sent after) same (cut-shows may limit g.format picture m s.shown (subst (λ (colour : ℤ → ℤ → ℕ). Shows may colour m s.shown) (sym same) f.shows)) in
-      subst (Watches c picture (record v { notices = []; marks = sent })) (sym (ap (λ (l : List ℕ). after_messages l s) bytes-are ∙ told s (notices ++ rest) after read))
-      (record { said = h.said; short = tt; follows = record { format = f.format; early = f.early; told = f.told; encoding = f.encoding; copyrect = f.copyrect; width = f.width; height = f.height; shows = now } })
+      subst (Watches c picture (record v { notices = []; marks = sent })) (sym (ap (λ (l : List ℕ). after_messages l s) bytes-are ∙ told s h.legal (notices ++ rest) after read))
+      (record { said = h.said; legal = h.legal; short = tt; follows = record { format = f.format; early = f.early; told = f.told; encoding = f.encoding; copyrect = f.copyrect; width = f.width; height = f.height; shows = now } })
 
   cut-watched : (v : Viewer (List ℕ)) (s : Watching) → Watches c picture v s → Watches c picture (sending c.width c.height c.rects_per_update picture v).1 (after_messages (sending c.width c.height c.rects_per_update picture v).0 s)
   cut-watched v s h = by-open (is_open_viewer v) refl
@@ -185,7 +188,7 @@ module _ (reads : RectanglesAreRead) (c : Config) (ok : Limits c) (picture : Lis
 
       by-open : (b : Bool) → is_open_viewer v ≡ b → let step = cond b (with_update c.width c.height picture v (cut_of c.rects_per_update v.marks)) ([], v) in Watches c picture step.1 (after_messages step.0 s)
       by-open true e = sent-watched v s h (open-phase (heard v.heard).phase (heard v.heard).end e) (pending v.marks)
-      by-open false e = subst (Watches c picture v) (sym (told s [] s.shown (record { left = 0; room = omega arith; is = refl }))) h
+      by-open false e = subst (Watches c picture v) (sym (told s h.legal [] s.shown (record { left = 0; room = omega arith; is = refl }))) h
 
   -- ---- the viewer's own events
 

@@ -93,6 +93,7 @@ record Item-read (c : Config) (colour : ℤ → ℤ → ℕ) (p : Phase) (i : It
   next : Watching
   read : item_at p i s (answer (server_init c.width c.height c.name) p i ++ more) ≡ Some (next, more)
   said : next.said ≡ s.said
+  legal : next.legal ≡ s.legal
   notices : (after_item c.width c.height i v).notices ≡ v.notices
   heard : (after_item c.width c.height i v).heard ≡ v.heard
   follows : Follows c colour (after p i) (after_item c.width c.height i v) next
@@ -128,16 +129,17 @@ size-told : (n : ℕ) → n ≤ 8192 → from_be_bytes w16 (to_be_bytes w16 n) �
 size-told n small = from_be_bytes-to_be_bytes_2 n (omega (arith, small))
 
 item-read : (c : Config) (colour : ℤ → ℤ → ℕ) → Limits c → (p : Phase) (i : Item) → Comes p i → (v : Viewer (List ℕ)) (s : Watching) (more : List ℕ) → Follows c colour p v s → Item-read c colour p i v s more
-item-read c colour ok phase.Version (item.Version V33) comes v s more f = record { next = s; read = refl; said = refl; notices = refl; heard = refl; follows = same-phase c colour phase.Version (phase.Init V33) v s refl refl f }
-item-read c colour ok phase.Version (item.Version V37) comes v s more f = record { next = s; read = refl; said = refl; notices = refl; heard = refl; follows = same-phase c colour phase.Version (phase.Choice V37) v s refl refl f }
-item-read c colour ok phase.Version (item.Version V38) comes v s more f = record { next = s; read = refl; said = refl; notices = refl; heard = refl; follows = same-phase c colour phase.Version (phase.Choice V38) v s refl refl f }
-item-read c colour ok (phase.Choice V33) item.Choice comes v s more f = record { next = s; read = refl; said = refl; notices = refl; heard = refl; follows = same-phase c colour (phase.Choice V33) (phase.Init V33) v s refl refl f }
-item-read c colour ok (phase.Choice V37) item.Choice comes v s more f = record { next = s; read = refl; said = refl; notices = refl; heard = refl; follows = same-phase c colour (phase.Choice V37) (phase.Init V37) v s refl refl f }
-item-read c colour ok (phase.Choice V38) item.Choice comes v s more f = record { next = s; read = refl; said = refl; notices = refl; heard = refl; follows = same-phase c colour (phase.Choice V38) (phase.Init V38) v s refl refl f }
+item-read c colour ok phase.Version (item.Version V33) comes v s more f = record { next = s; read = refl; said = refl; legal = refl; notices = refl; heard = refl; follows = same-phase c colour phase.Version (phase.Init V33) v s refl refl f }
+item-read c colour ok phase.Version (item.Version V37) comes v s more f = record { next = s; read = refl; said = refl; legal = refl; notices = refl; heard = refl; follows = same-phase c colour phase.Version (phase.Choice V37) v s refl refl f }
+item-read c colour ok phase.Version (item.Version V38) comes v s more f = record { next = s; read = refl; said = refl; legal = refl; notices = refl; heard = refl; follows = same-phase c colour phase.Version (phase.Choice V38) v s refl refl f }
+item-read c colour ok (phase.Choice V33) item.Choice comes v s more f = record { next = s; read = refl; said = refl; legal = refl; notices = refl; heard = refl; follows = same-phase c colour (phase.Choice V33) (phase.Init V33) v s refl refl f }
+item-read c colour ok (phase.Choice V37) item.Choice comes v s more f = record { next = s; read = refl; said = refl; legal = refl; notices = refl; heard = refl; follows = same-phase c colour (phase.Choice V37) (phase.Init V37) v s refl refl f }
+item-read c colour ok (phase.Choice V38) item.Choice comes v s more f = record { next = s; read = refl; said = refl; legal = refl; notices = refl; heard = refl; follows = same-phase c colour (phase.Choice V38) (phase.Init V38) v s refl refl f }
 item-read c colour ok (phase.Init w) (item.Init shared) comes v s more f = record {
   next = record s { agreed = record s.agreed { width = from_be_bytes w16 (to_be_bytes w16 c.width); height = from_be_bytes w16 (to_be_bytes w16 c.height); format = server_format } };
   read = ap (λ (o : Option (Init × List ℕ)). o >>= λ init. Some (record s { agreed = record s.agreed { width = init.0.width; height = init.0.height; format = init.0.format } }, init.1)) (init-read c.width c.height c.name more ok.name);
   said = refl;
+  legal = refl;
   notices = refl;
   heard = refl;
   follows = record {
@@ -155,6 +157,7 @@ item-read c colour ok (phase.Open w) (item.Format g) comes v s more f = record {
   next = record s { agreed = record s.agreed { format = g } };
   read = refl;
   said = refl;
+  legal = refl;
   notices = refl;
   heard = refl;
   follows = record { format = refl; early = λ e. absurd cc; told = f.told; encoding = f.encoding; copyrect = f.copyrect; width = f.width; height = f.height; shows = f.shows };
@@ -163,6 +166,7 @@ item-read c colour ok (phase.Open w) (item.Encodings preferred true) comes v s m
   next = record s { agreed = record s.agreed { listed = taken preferred true } };
   read = refl;
   said = refl;
+  legal = refl;
   notices = refl;
   heard = refl;
   follows = record {
@@ -180,6 +184,7 @@ item-read c colour ok (phase.Open w) (item.Encodings preferred false) comes v s 
   next = record s { agreed = record s.agreed { listed = taken preferred false } };
   read = refl;
   said = refl;
+  legal = refl;
   notices = refl;
   heard = refl;
   follows = record {
@@ -197,6 +202,7 @@ item-read c colour ok (phase.Open w) (item.Request true area) comes v s more f =
   next = s;
   read = refl;
   said = refl;
+  legal = refl;
   notices = refl;
   heard = refl;
   follows = record {
@@ -214,6 +220,7 @@ item-read c colour ok (phase.Open w) (item.Request false area) comes v s more f 
   next = forgotten area s;
   read = refl;
   said = refl;
+  legal = refl;
   notices = refl;
   heard = refl;
   follows = record {
@@ -233,6 +240,7 @@ item-read c colour ok (phase.Open w) (item.Input input) comes v s more f = recor
   next = s;
   read = refl;
   said = refl;
+  legal = refl;
   notices = refl;
   heard = refl;
   follows = record { format = f.format; early = λ e. absurd cc; told = f.told; encoding = f.encoding; copyrect = f.copyrect; width = f.width; height = f.height; shows = f.shows };
@@ -245,12 +253,13 @@ record Items-read (c : Config) (colour : ℤ → ℤ → ℕ) (p : Phase) (items
   next : Watching
   read : items_at p items s (answers (server_init c.width c.height c.name) p items) ≡ Some (next, [])
   said : next.said ≡ s.said
+  legal : next.legal ≡ s.legal
   notices : (after_items c.width c.height items v).notices ≡ v.notices
   heard : (after_items c.width c.height items v).heard ≡ v.heard
   follows : Follows c colour (phase_after p items) (after_items c.width c.height items v) next
 
 items-read : (c : Config) (colour : ℤ → ℤ → ℕ) → Limits c → (p : Phase) (items : List Item) → Come p items → (v : Viewer (List ℕ)) (s : Watching) → Follows c colour p v s → Items-read c colour p items v s
-items-read c colour ok p [] come v s f = record { next = s; read = refl; said = refl; notices = refl; heard = refl; follows = f }
+items-read c colour ok p [] come v s f = record { next = s; read = refl; said = refl; legal = refl; notices = refl; heard = refl; follows = f }
 items-read c colour ok p (i ∷ items) come v s f =
     let init : List ℕ = server_init c.width c.height c.name in
     let one = item-read c colour ok p i come.0 v s (answers init (after p i) items) f in
@@ -259,6 +268,7 @@ items-read c colour ok p (i ∷ items) come v s f =
       next = rest.next;
       read = ap (λ (o : Option (Watching × List ℕ)). o >>= λ first. items_at (after p i) items first.0 first.1) one.read ∙ rest.read;
       said = rest.said ∙ one.said;
+      legal = rest.legal ∙ one.legal;
       notices = rest.notices ∙ one.notices;
       heard = rest.heard ∙ one.heard;
       follows = rest.follows;
@@ -268,12 +278,14 @@ items-read c colour ok p (i ∷ items) come v s f =
 
 pub record Piece-read (c : Config) (colour : ℤ → ℤ → ℕ) (piece : List ℕ) (v : Viewer (List ℕ)) (s : Watching) : Type 0 where
   pub said : (after_piece piece (hearing c piece v).1.bytes s).said ≡ (hearing c piece v).0.heard
+  pub legal : (after_piece piece (hearing c piece v).1.bytes s).legal ≡ true
   pub notices : (hearing c piece v).0.notices ≡ v.notices
   pub follows : Follows c colour (heard (hearing c piece v).0.heard).phase (hearing c piece v).0 (after_piece piece (hearing c piece v).1.bytes s)
 
-pub piece-read : (c : Config) (colour : ℤ → ℤ → ℕ) → Limits c → (piece : List ℕ) (v : Viewer (List ℕ)) (s : Watching) → s.said ≡ v.heard → Follows c colour (heard v.heard).phase v s → Piece-read c colour piece v s
-piece-read c colour ok piece v s same f = record {
+pub piece-read : (c : Config) (colour : ℤ → ℤ → ℕ) → Limits c → (piece : List ℕ) (v : Viewer (List ℕ)) (s : Watching) → s.said ≡ v.heard → s.legal ≡ true → Follows c colour (heard v.heard).phase v s → Piece-read c colour piece v s
+piece-read c colour ok piece v s same legal f = record {
   said = ap (λ (t : Watching). t.said) result ∙ all.said ∙ ap (λ (l : List ℕ). l ++ piece) same ∙ sym all.heard;
+  legal = ap (λ (t : Watching). t.legal) result ∙ all.legal ∙ legal;
   notices = all.notices;
   follows = subst (λ (t : Watching). Follows c colour (heard (hearing c piece v).0.heard).phase (hearing c piece v).0 t) (sym result)
       (subst (λ (q : Phase). Follows c colour q (after_items c.width c.height items later) all.next) (sym (ap (λ (l : List ℕ). (heard l).phase) all.heard ∙ now.phase)) all.follows);
@@ -301,5 +313,6 @@ piece-read c colour ok piece v s same f = record {
     bytes = answers (server_init c.width c.height c.name) (heard v.heard).phase items
 
     result : after_piece piece bytes s ≡ all.next
-    result = ap (λ (l : List ℕ). or_nothing begun (items_at (heard l).phase (new_items l piece) begun bytes >>= all_read)) same
+    result = ap (λ (b : Bool). cond b (or_nothing begun (items_at (heard s.said).phase (new_items s.said piece) begun bytes >>= all_read)) begun) legal
+        ∙ ap (λ (l : List ℕ). or_nothing begun (items_at (heard l).phase (new_items l piece) begun bytes >>= all_read)) same
         ∙ ap (λ (o : Option (Watching × List ℕ)). or_nothing begun (o >>= all_read)) all.read

@@ -1,5 +1,5 @@
 -- What a viewer shows, by RFC 6143 alone: from what it says itself and what it is answered, since it connected.
-use Rattle.std.specs.Prelude.{ℕ, Bool, false, ◌&&◌, ◌==◌, nat_lt, if◌then◌else◌, List, [], ◌∷◌, ◌++◌, Option, None, Some, option_map}
+use Rattle.std.specs.Prelude.{ℕ, Bool, true, false, ◌&&◌, ◌==◌, nat_lt, if◌then◌else◌, List, [], ◌∷◌, ◌++◌, Option, None, Some, option_map}
 use Rattle.pixel_translate.specs.declared.Area.{Area}
 use Rattle.pixel_translate.specs.Pixel.{server_format}
 use Rattle.encode_raw.specs.Reading.{◌>>=◌, Shown, is_inside}
@@ -17,10 +17,11 @@ use Rattle.scene.specs.declared.Event.TheVariants.{Connect, Hear, Cut}
 use Rattle.scene.specs.declared.Answer.{Answer}
 use Rattle.scene.specs.Alone.{owner_of}
 
--- A viewer: its bytes so far, what it goes by where it reads an update (the picture's size once it is told, the format of pixels, and of the
--- encodings that it listed those that the server takes), and what it shows.
+-- A viewer: its bytes so far, whether all that it was sent could be read, what it goes by where it reads an update (the picture's size once it is told, the format of
+-- pixels, and of the encodings that it listed those that the server takes), and what it shows.
 pub record Watching : Type 0 where
   pub said : List ℕ
+  pub legal : Bool
   pub agreed : Agreed
   pub shown : Shown
 
@@ -29,7 +30,7 @@ nothing_shown x y = None
 
 -- at connecting
 abbrev pub at_first : Watching
-at_first = record { said = []; agreed = record { width = 0; height = 0; format = server_format; listed = [] }; shown = nothing_shown }
+at_first = record { said = []; legal = true; agreed = record { width = 0; height = 0; format = server_format; listed = [] }; shown = nothing_shown }
 
 -- 7.5.3: what the viewer asks for anew, of its picture, it shows no more
 abbrev pub forgotten : Area → Watching → Watching
@@ -63,20 +64,23 @@ abbrev pub all_read : Watching × List ℕ → Option Watching
 all_read (s, []) = Some s
 all_read (s, b ∷ bytes) = None
 
--- bytes that can't be read show nothing
+-- from bytes on that can't be read nothing is shown
 abbrev pub or_nothing : Watching → Option Watching → Watching
-or_nothing s None = record s { shown = nothing_shown }
+or_nothing s None = record s { legal = false; shown = nothing_shown }
 or_nothing s (Some t) = t
+
+abbrev pub reading_on : Watching → Option Watching → Watching
+reading_on s read = if s.legal then or_nothing s read else s
 
 -- a piece of the viewer's bytes, and the bytes that answer it
 abbrev pub after_piece : List ℕ → List ℕ → Watching → Watching
 after_piece piece bytes s =
     let t = record s { said = s.said ++ piece } in
-    or_nothing t (items_at (heard s.said).phase (new_items s.said piece) t bytes >>= all_read)
+    reading_on t (items_at (heard s.said).phase (new_items s.said piece) t bytes >>= all_read)
 
 -- the bytes of a sending step
 abbrev pub after_messages : List ℕ → Watching → Watching
-after_messages bytes s = or_nothing s (option_map (λ shown. record s { shown = shown }) (messages_at s.agreed s.shown bytes))
+after_messages bytes s = reading_on s (option_map (λ shown. record s { shown = shown }) (messages_at s.agreed s.shown bytes))
 
 -- an event of the viewer, and what it was answered
 abbrev pub watched : Event → Answer → Watching → Watching

@@ -14,6 +14,8 @@ use Rattle.scene.specs.declared.Config.{Config}
 use Rattle.scene.specs.declared.History.TheVariants.{NotKept}
 use Rattle.scene.specs.declared.Event.{Event}
 use Rattle.scene.specs.declared.Event.TheVariants.{Write, Paint, ScheduleCopy, DoCopy, Bell, CutText, Connect, Hear, Cut, Close}
+use Rattle.scene.specs.declared.Answer.{Answer}
+use Rattle.scene.specs.Alone.{gives, nothing_to_say}
 use Rattle.scene.specs.Answers.{answers, picture_of}
 use Rattle.scene.specs.Examples.{demo, opens, ask, clean}
 use Rattle.scene.specs.Drawing.{six, right_to_left, twice, four, four_start, lost_source}
@@ -94,6 +96,35 @@ by_hextile = refl
 anew : shows 4 four (four_start ++ Close 1 ∷ Connect 1 ∷ []) ≡ None ∷ None ∷ None ∷ None ∷ []
 unfolding pixels_at rectangles_at messages_in
 anew = refl
+
+-- what it would show of other answers than this server's: behind bytes that are no messages it shows nothing, whatever comes then
+abbrev shows_given : List Event → List Answer → List (Option Dot)
+shows_given es given = map (λ x. shown_to 1 (opens 1 ++ es) (answers demo (opens 1) ++ given) x 0) (range_with_len 0 2)
+
+abbrev one_place : ℕ → List ℕ
+one_place x = 0 ∷ 0 ∷ 0 ∷ 1 ∷ 0 ∷ x ∷ 0 ∷ 0 ∷ 0 ∷ 1 ∷ 0 ∷ 1 ∷ 0 ∷ 0 ∷ 0 ∷ 0 ∷ 5 ∷ 0 ∷ 0 ∷ 0 ∷ []
+
+abbrev in_rre : List ℕ
+in_rre = 0 ∷ 0 ∷ 0 ∷ 1 ∷ 0 ∷ 1 ∷ 0 ∷ 0 ∷ 0 ∷ 1 ∷ 0 ∷ 1 ∷ 0 ∷ 0 ∷ 0 ∷ 2 ∷ 0 ∷ 0 ∷ 0 ∷ 0 ∷ 6 ∷ 0 ∷ 0 ∷ 0 ∷ []
+
+on_the_screen : shows_given (Cut 1 ∷ Cut 1 ∷ []) (gives (one_place 0) ∷ gives (one_place 1) ∷ []) ≡ colours (5 ∷ 5 ∷ [])
+unfolding pixels_at rectangles_at messages_in
+on_the_screen = refl
+
+beyond_the_screen : shows_given (Cut 1 ∷ Cut 1 ∷ Cut 1 ∷ []) (gives (one_place 0) ∷ gives (one_place 4) ∷ gives (one_place 1) ∷ []) ≡ None ∷ None ∷ []
+unfolding pixels_at rectangles_at messages_in
+beyond_the_screen = refl
+
+not_listed : shows_given (Cut 1 ∷ Cut 1 ∷ []) (gives (one_place 0) ∷ gives in_rre ∷ []) ≡ None ∷ None ∷ []
+unfolding pixels_at rectangles_at messages_in rre_subrectangles_at
+not_listed = refl
+
+abbrev asks_for_rre : List ℕ
+asks_for_rre = 2 ∷ 0 ∷ 0 ∷ 1 ∷ 0 ∷ 0 ∷ 0 ∷ 2 ∷ []
+
+listed : shows_given (Cut 1 ∷ Hear 1 asks_for_rre ∷ Cut 1 ∷ []) (gives (one_place 0) ∷ nothing_to_say ∷ gives in_rre ∷ []) ≡ colours (5 ∷ 6 ∷ [])
+unfolding pixels_at rectangles_at messages_in rre_subrectangles_at
+listed = refl
 
 -- where a viewer isn't told of what is drawn, or is told of what isn't, it shows something else
 abbrev written_unseen : List Event
