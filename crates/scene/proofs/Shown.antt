@@ -16,8 +16,8 @@ use Rattle.scene.specs.declared.ScreenError.{ScreenError}
 use Rattle.viewer.specs.Viewer.{Viewer, is_open_viewer}
 use Rattle.scene.specs.Alone.{One, own_step, draw_step, after, owner_of, drawing_refusal, drawn, shown_drawing, empty_screen}
 use Rattle.scene.specs.Answers.{own, answer_to, answers_after, answers, picture_of, viewer_of, live_from, entry_of, scene_after}
-use Rattle.scene.specs.Shown.{Watching, at_first, is_its, watched_unless_refused, watching, shown_to}
-use Rattle.scene.specs.Pictures.{is_told, pictures_are_shown}
+use Rattle.scene.specs.Shown.{Watching, at_first, is_its, watched_unless_refused, watching}
+use Rattle.scene.specs.Pictures.{is_told, ReadsAndShows, pictures_are_shown}
 use Rattle.scene.proofs.Steps.{after-append, own-drawing}
 use Rattle.scene.proofs.Owners.{one_of, own-picture, own-hit, own-miss, answer-hit, one-picture}
 use Rattle.scene.proofs.Watched.{Limits}
@@ -92,7 +92,7 @@ pub pictures-shown : RectanglesAreRead → pictures_are_shown
 pictures-shown reads c es accepted told = All-from_recursion P (scene_after c es).viewers (each (live_from [] es))
   where
     P : ℕ × Viewer Rest → Type 0
-    P p = ShowsPicture c.width c.height (picture_of c es) p.1.marks (shown_to p.0 es (answers c es))
+    P p = ReadsAndShows c.width c.height (picture_of c es) p.1.marks (watching p.0 es (answers c es) at_first)
 
     one : (n : ℕ) (w : Option (Viewer (List ℕ))) → viewer_of c n es ≡ w → (rest : List (ℕ × Viewer Rest)) → AllByRecursion P rest → AllByRecursion P (cons_option (entry_of n w) rest)
     one n None is rest h = h
@@ -100,7 +100,7 @@ pictures-shown reads c es accepted told = All-from_recursion P (scene_after c es
         let s : Watching = watching n es (answers c es) at_first in
         let all = list-watched reads c (limits c accepted) n es [] at_first told tt in
         let here : Watches c (picture_of c es) w s = subst (λ (l : List ℕ). Watches c l w s) (one-picture c n es) (subst (λ o. WatchesIf c (one_of c n es).picture o s) is all) in
-        (pictured c (picture_of c es) w s here, h)
+        (record { legal = here.legal; shows = pictured c (picture_of c es) w s here }, h)
 
     each : (ns : List ℕ) → AllByRecursion P (filter_map (λ n. entry_of n (viewer_of c n es)) ns)
     each [] = tt

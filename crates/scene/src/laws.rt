@@ -17,7 +17,8 @@ pub fn one_viewer_is_alone()
     ensures { one_viewer_is_alone }
 {}
 
-/// What each viewer shows that is there is what is drawn, where the viewers are told of all that is drawn.
+/// Where the viewers are told of all that is drawn, each that is there could read all that it was sent, and shows what is drawn:
+/// no rectangle was beyond the screen, and none in an encoding that it didn't list, but for Raw.
 pub fn pictures_are_shown()
     ensures { pictures_are_shown }
 {

@@ -15,8 +15,9 @@ use scene::{
 use std::alloc::Global;
 
 /// The answers to events, each as if its viewer were alone. Where the viewers are told of all that is drawn, each that is
-/// there shows what is drawn, by RFC 6143 and what it said and was answered: at each clean place the place's colour, and at
-/// the source of each place that awaits a copy that place's.
+/// there could read all that it was sent, by RFC 6143 and what it said: no rectangle was beyond the screen, and none in an
+/// encoding that it didn't list, but for Raw. And it shows what is drawn: at each clean place the place's colour, and at the
+/// source of each place that awaits a copy that place's.
 pub fn run(alloc: Global, config: Config, events: &[Event]) -> Result<Vec<Answer>, ScreenError>
     ensures pictures { IfOk result (λ given. list_all is_told events.now ≡ true → ShowPictures config events.now given.items) }
     ensures answers { MatchOption (config_refusal config) (MatchResult result (λ given. given.items ≡ answers config events.now) (λ e. e ≡ ScreenError.OutOfMemory)) (λ e. result ≡ Err e) }
