@@ -13,6 +13,7 @@ use Rattle.messages.specs.declared.Phase.{Phase}
 use Rattle.messages.specs.declared.Phase.TheVariants as phase
 use Rattle.messages.specs.Grammar.{End}
 use Rattle.messages.specs.Reading.{heard, is_open_phase}
+use Rattle.messages.specs.Server.{server_version}
 use Rattle.copy_schedule.specs.declared.Mark.TheVariants.{Clean, Copied, Owed}
 use Rattle.copy_schedule.specs.Marks.{Marks, mark_at, new_marks, copies_of, pixels_of, after_sending, pending, cut_of}
 use Rattle.region.proofs.Places.{is_place}
@@ -30,7 +31,7 @@ use Rattle.viewer.specs.Short.{IsShort}
 use Rattle.viewer.specs.Viewer.{Viewer, new_viewer, is_open, is_open_viewer}
 use Rattle.viewer.specs.Sending.{notice_bytes, bytes_of, with_update, sending}
 use Rattle.scene.specs.Alone.{own_step, config_refusal, is_size, hearing}
-use Rattle.scene.specs.Shown.{Watching, at_first, or_nothing, after_messages, after_piece, watched_unless_refused}
+use Rattle.scene.specs.Shown.{Watching, after_version, or_nothing, after_messages, after_piece, watched_unless_refused}
 use Rattle.scene.proofs.Watched.{Limits, Follows, piece-read}
 use Rattle.scene.proofs.Told.{notices-read, whole-read}
 
@@ -80,7 +81,7 @@ on-it c m wide high x y on = sym (ap (λ n. on_screen n m.height x y) wide ∙ a
 
 -- ---- at connecting
 
-connected : (c : Config) (picture : List ℕ) → Watches c picture (new_viewer c.width c.height) at_first
+connected : (c : Config) (picture : List ℕ) → Watches c picture (new_viewer c.width c.height) (after_version server_version)
 connected c picture = record {
   said = refl;
   legal = refl;

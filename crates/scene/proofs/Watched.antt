@@ -39,8 +39,8 @@ pub record Limits (c : Config) : Type 0 where
   pub name : length c.name < 2 ^ 32
   pub limit : c.rects_per_update ≤ 1000
 
--- A viewer reads pixels in its format, and shows its picture; before it is open its format is the server's, and from then on it knows the screen's size. What it is sent
--- may come by what it listed.
+-- A viewer reads pixels in its format, and shows its picture; before it is open its format is the server's, and from then on it
+-- knows the screen's size. What it is sent may come by what it listed.
 pub record Follows (c : Config) (colour : ℤ → ℤ → ℕ) (p : Phase) (v : Viewer (List ℕ)) (s : Watching) : Type 0 where
   pub format : s.agreed.format ≡ v.format
   pub early : is_open_phase p ≡ false → v.format ≡ server_format

@@ -8,7 +8,7 @@ use Rattle.messages.specs.declared.Item.TheVariants as item
 use Rattle.messages.specs.declared.Phase.{Phase}
 use Rattle.messages.specs.declared.Phase.TheVariants as phase
 use Rattle.messages.specs.Grammar.{after}
-use Rattle.messages.specs.Reading.{heard, new_items}
+use Rattle.messages.specs.Reading.{is_version, heard, new_items}
 use Rattle.viewer_picture.specs.Messages.{Agreed, messages_at}
 use Rattle.viewer_picture.specs.Encodings.{taken}
 use Rattle.viewer_picture.specs.Opening.{security_at, result_at, init_at}
@@ -17,8 +17,9 @@ use Rattle.scene.specs.declared.Event.TheVariants.{Connect, Hear, Cut}
 use Rattle.scene.specs.declared.Answer.{Answer}
 use Rattle.scene.specs.Alone.{owner_of}
 
--- A viewer: its bytes so far, whether all that it was sent could be read, what it goes by where it reads an update (the picture's size once it is told, the format of
--- pixels, and of the encodings that it listed those that the server takes), and what it shows.
+-- A viewer: its bytes so far, whether all that it was sent could be read, what it goes by where it reads an update (the
+-- picture's size once it is told, the format of pixels, and of the encodings that it listed those that the server takes), and
+-- what it shows.
 pub record Watching : Type 0 where
   pub said : List ℕ
   pub legal : Bool
@@ -28,9 +29,13 @@ pub record Watching : Type 0 where
 abbrev pub nothing_shown : Shown
 nothing_shown x y = None
 
--- at connecting
+-- before it is sent anything
 abbrev pub at_first : Watching
 at_first = record { said = []; legal = true; agreed = record { width = 0; height = 0; format = server_format; listed = [] }; shown = nothing_shown }
+
+-- 7.1.1: at connecting the server says a version
+abbrev pub after_version : List ℕ → Watching
+after_version bytes = record at_first { legal = is_version bytes }
 
 -- 7.5.3: what the viewer asks for anew, of its picture, it shows no more
 abbrev pub forgotten : Area → Watching → Watching
@@ -84,7 +89,7 @@ after_messages bytes s = reading_on s (option_map (λ shown. record s { shown = 
 
 -- an event of the viewer, and what it was answered
 abbrev pub watched : Event → Answer → Watching → Watching
-watched (Connect n) a s = at_first
+watched (Connect n) a s = after_version a.bytes
 watched (Hear n piece) a s = after_piece piece a.bytes s
 watched (Cut n) a s = after_messages a.bytes s
 watched _ a s = s

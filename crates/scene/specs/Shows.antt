@@ -1,5 +1,5 @@
 -- Worked examples of what viewers show, which compute.
-use Rattle.std.specs.Prelude.{◌≡◌, ℕ, List, [], ◌∷◌, ◌++◌, map, pos, Option, Some, None, refl}
+use Rattle.std.specs.Prelude.{◌≡◌, ℕ, List, [], ◌∷◌, ◌++◌, drop, map, pos, Option, Some, None, refl}
 use Rattle.std.specs.List.{range_with_len}
 use Rattle.pixel_translate.specs.declared.PixelFormat.{PixelFormat}
 use Rattle.pixel_translate.specs.Pixel.{server_format}
@@ -125,6 +125,10 @@ asks_for_rre = 2 ∷ 0 ∷ 0 ∷ 1 ∷ 0 ∷ 0 ∷ 0 ∷ 2 ∷ []
 listed : shows_given (Cut 1 ∷ Hear 1 asks_for_rre ∷ Cut 1 ∷ []) (gives (one_place 0) ∷ nothing_to_say ∷ gives in_rre ∷ []) ≡ colours (5 ∷ 6 ∷ [])
 unfolding pixels_at rectangles_at messages_in rre_subrectangles_at
 listed = refl
+
+no_version : map (λ x. shown_to 1 (opens 1 ++ Cut 1 ∷ []) (gives [] ∷ (drop 1 (answers demo (opens 1)) ++ gives (one_place 0) ∷ [])) x 0) (range_with_len 0 2) ≡ None ∷ None ∷ []
+unfolding pixels_at rectangles_at messages_in
+no_version = refl
 
 -- where a viewer isn't told of what is drawn, or is told of what isn't, it shows something else
 abbrev written_unseen : List Event

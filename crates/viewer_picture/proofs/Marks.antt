@@ -15,7 +15,8 @@ use Rattle.copy_schedule.specs.Marks.{Marks, is_copied, mark_at, with_marks, mar
 use Rattle.region.proofs.Places.{value_on}
 use Rattle.viewer_picture.specs.Pictures.{dot_at, ShowsColour}
 
--- Each clean place of the marks' screen shows its colour, and so does a copied place's source, which is on the screen; and P holds where there is a copied place.
+-- Each clean place of the marks' screen shows its colour, and so does a copied place's source, which is on the screen; and P
+-- holds where there is a copied place.
 pub record Shows (P : Type 0) (colour : ℤ → ℤ → ℕ) (m : Marks) (shown : Shown) : Type 0 where
   pub clean : (x y : ℤ) → on_screen m.width m.height x y ≡ true → mark_at m x y ≡ Clean → ShowsColour (dot_at shown x y) (colour x y)
   pub copied : (x y : ℤ) → on_screen m.width m.height x y ≡ true → mark_at m x y ≡ Copied

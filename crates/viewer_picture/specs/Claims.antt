@@ -23,14 +23,17 @@ abbrev pub IsRead : Agreed → Area → List ℕ → List ℕ → Type 0
 IsRead agreed a colours bytes = (shown : Shown) (more : List ℕ)
     → rectangle_at agreed shown (bytes ++ more) ≡ Some (patched agreed.format a (pixels_of agreed.format a.w colours) shown, more)
 
--- A rectangle of the picture, of as many colours as places, in Raw or an encoding that was listed; and a copy, which moves what is shown.
+-- A rectangle of the picture, of as many colours as places, in Raw or an encoding that was listed; and a copy, which moves what
+-- is shown.
 pub record RectanglesAreRead : Type 0 where
-  pub raw : (agreed : Agreed) (a : Area) (colours : List ℕ) → IsPart agreed a → length colours ≡ a.w * a.h → IsRead agreed a colours (raw agreed.format a colours)
+  pub raw : (agreed : Agreed) (a : Area) (colours : List ℕ) → IsPart agreed a
+      → length colours ≡ a.w * a.h → IsRead agreed a colours (raw agreed.format a colours)
   pub rre : (agreed : Agreed) (a : Area) (colours : List ℕ) → IsPart agreed a → may_come agreed.listed (pos 2) ≡ true
       → 0 < length colours → length colours ≡ a.w * a.h → IsRead agreed a colours (rre agreed.format a colours)
   pub hextile : (agreed : Agreed) (a : Area) (colours : List ℕ) → IsPart agreed a → may_come agreed.listed (pos 5) ≡ true
       → 0 < length colours → length colours ≡ a.w * a.h → IsRead agreed a colours (hextile agreed.format a colours)
-  pub copyrect : (agreed : Agreed) (a : Area) (src_x src_y : ℕ) → IsPart agreed a → IsPart agreed (record a { x = src_x; y = src_y }) → may_come agreed.listed (pos 1) ≡ true
+  pub copyrect : (agreed : Agreed) (a : Area) (src_x src_y : ℕ) → IsPart agreed a → IsPart agreed (record a { x = src_x; y = src_y })
+      → may_come agreed.listed (pos 1) ≡ true
       → (shown : Shown) (more : List ℕ) → rectangle_at agreed shown (copyrect a src_x src_y ++ more) ≡ Some (copied a src_x src_y shown, more)
 
 -- an area whose places are all in the picture
@@ -59,8 +62,10 @@ pub record IsLegal (agreed : Agreed) (bytes : List ℕ) : Type 0 where
 
 -- 7.5.2, 7.6.1: nothing else is read
 abbrev pub all_read_is_legal : Type 0
-all_read_is_legal = (agreed : Agreed) (shown : Shown) (bytes : List ℕ) (read : Shown × List ℕ) → rectangle_at agreed shown bytes ≡ Some read → IsLegal agreed bytes
+all_read_is_legal = (agreed : Agreed) (shown : Shown) (bytes : List ℕ) (read : Shown × List ℕ)
+    → rectangle_at agreed shown bytes ≡ Some read → IsLegal agreed bytes
 
 -- 7.5.2: what may come by what is taken of a list may come by the list
 abbrev pub taken_was_listed : Type 0
-taken_was_listed = (numbers : List ℤ) (encoding : ℤ) → may_come (taken (unwrap_or (first_encoding numbers) Raw) (lists_copyrect numbers)) encoding ≡ true → may_come numbers encoding ≡ true
+taken_was_listed = (numbers : List ℤ) (encoding : ℤ)
+    → may_come (taken (unwrap_or (first_encoding numbers) Raw) (lists_copyrect numbers)) encoding ≡ true → may_come numbers encoding ≡ true

@@ -9,7 +9,8 @@ use Rattle.encode_raw.specs.Reading.{◌>>=◌, bytes_at, number_at, head_at, Sh
 use Rattle.encode_rre.specs.Reading.{rre_at}
 use Rattle.encode_hextile.specs.Reading.{hextile_at}
 
--- What stands between the two when an update comes: the picture's size (7.3.2), the format of pixels (7.5.1), and the encodings that the viewer listed last (7.5.2).
+-- What a viewer goes by when an update comes: the picture's size (7.3.2), the format of pixels (7.5.1), and the encodings that it
+-- listed last (7.5.2).
 pub record Agreed : Type 0 where
   pub width : ℕ
   pub height : ℕ

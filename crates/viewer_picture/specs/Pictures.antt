@@ -38,5 +38,7 @@ pub record ShowsOnceCopied (w h : ℕ) (picture : List ℕ) (marks : Marks) (sho
 
 -- a viewer shows a picture by its marks exactly where it would show all but what is owed once it made the copies
 pub record PicturesAreOwedOrShown : Type 0 where
-  pub enough : (w h : ℕ) (picture : List ℕ) (marks : Marks) (shown : Shown) → ShowsPicture w h picture marks shown → ShowsOnceCopied w h picture marks shown
-  pub needed : (w h : ℕ) (picture : List ℕ) (marks : Marks) (shown : Shown) → ShowsOnceCopied w h picture marks shown → ShowsPicture w h picture marks shown
+  pub enough : (w h : ℕ) (picture : List ℕ) (marks : Marks) (shown : Shown)
+      → ShowsPicture w h picture marks shown → ShowsOnceCopied w h picture marks shown
+  pub needed : (w h : ℕ) (picture : List ℕ) (marks : Marks) (shown : Shown)
+      → ShowsOnceCopied w h picture marks shown → ShowsPicture w h picture marks shown
