@@ -1,0 +1,4 @@
+pub mod DistinctLemmas
+pub mod ChainLemmas
+pub mod ViewLemmas
+pub mod ChangeLemmas
