@@ -23,9 +23,6 @@ with_same f at x key same = rw (eq-eqb key at same) refl
 pub with_other : {X : Type 0} (f : ℕ → Option X) (at : ℕ) (x : Option X) (key : ℕ) → key ≢ at → with_at f at x key ≡ f key
 with_other f at x key differs = rw (ne_eqb key at differs) refl
 
-none-some : {X : Type 0} (x : X) → None ≡ Some x → ⊥
-none-some x is = cc
-
 -- nothing of one list changed
 pub record Leaves (old new : Nodes) (list : ℕ) : Type 0 where
   pub head : is_head new list ≡ is_head old list
