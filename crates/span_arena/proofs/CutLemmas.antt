@@ -1,16 +1,16 @@
 -- A list after a span went out.
 use Rattle.std.proofs.Common.{◌≡◌, ◌≢◌, ◌⊎◌, ℕ, Bool, true, false, List, [], ◌∷◌, ◌++◌, Option, Some, None, cond, refl, subst, sym, ap, ◌∙◌, inl, inr, arith, Contains, eqb}
-use Rattle.std.specs.List.{IsDistinct}
+use Rattle.std.specs.Option.{option_map}
 use Rattle.std.proofs.lemmas.Bool.{cases_eq}
 use Rattle.std.proofs.lemmas.Map.Keys.{IsDistinct-tail}
 use Rattle.std.proofs.lemmas.List.Elements.{Contains-append_left, Contains-append_right, Contains-append_cases}
 use Rattle.std.proofs.lemmas.Option.{same_Some}
-use Rattle.slab.specs.Slab.{Slab, get}
+use Rattle.slab.specs.Slab.{Slab, get, Updates}
 use Rattle.slab.proofs.SlabLemmas.{Contains-cons, Contains-cons_cases}
 use Rattle.span_arena.specs.declared.Span.{Span}
 use Rattle.span_arena.specs.declared.nodes.Node.{Node}
 use Rattle.span_arena.specs.Arena.{Arena, list_of, span_of, last_from, SetsList, SetsSpan}
-use Rattle.span_arena.specs.Links.{Nodes, list_in, next_in, previous_in, value_in, is_head, span_at, view_of, IsLinked, IsBetween, IsChain, IsRing, IsHeld, with_at, IsCut}
+use Rattle.span_arena.specs.Links.{Nodes, list_in, next_in, previous_in, value_in, is_head, span_at, view_of, IsLinked, IsBetween, IsChain, IsRing, IsHeld, with_at, NextSet, PreviousSet, IsCut}
 use Rattle.span_arena.proofs.DistinctLemmas.{here, apart_from_first, distinct_between, distinct_left, distinct_right, distinct_without, first_or, last_there, first_there}
 use Rattle.span_arena.proofs.ChainLemmas.{chain_front, chain_back, chain_first, chain_last, chain_lists, ring_lists, chain_from, chain_onto}
 use Rattle.span_arena.proofs.ViewLemmas.{test_other, test_none, list_of_ring, span_of_view}
@@ -147,3 +147,33 @@ module _ (old new : Slab Node) (list : ℕ) (front : List ℕ) (key : ℕ) (back
       span_of_view old key
       ∙ ap (λ (b : Bool). cond b None (value_in (get old) key)) (old_test (get old) list front key back ring (get new) cut)
       ∙ value
+
+-- a function that is another with one key changed stays so where both are changed
+with_both : {X : Type 0} (f g : ℕ → Option X) (at : ℕ) (x : Option X) → ((k : ℕ) → f k ≡ g k) → (k : ℕ) → with_at f at x k ≡ with_at g at x k
+with_both f g at x same k =
+    elim (cases_eq k at) [
+      | inl here ↦ with_same f at x k here ∙ sym (with_same g at x k here)
+      | inr away ↦ with_other f at x k away ∙ same k ∙ sym (with_other g at x k away)
+    ]
+
+-- the three steps of taking a node out
+pub cut_made : (old mid : Slab Node) (next new : Nodes) (at : ℕ) (node : Node) → get old at ≡ Some node → Updates old mid at None → NextSet (get mid) next node.previous node.next → PreviousSet next new node.next node.previous → (before after : ℕ) → IsBetween (get old) before at after → IsCut (get old) new before after at
+cut_made old mid next new at node found out on back before after between =
+    let left : node.previous ≡ before = same_Some node.previous before (sym (ap (option_map (λ n. n.previous)) found) ∙ between.0.1) in
+    let right : node.next ≡ after = same_Some node.next after (sym (ap (option_map (λ n. n.next)) found) ∙ between.1.0) in
+    subst (λ (b : ℕ). IsCut (get old) new b after at) left (subst (λ (a : ℕ). IsCut (get old) new node.previous a at) right made)
+  where
+    without : {X : Type 0} (f : Node → X) (k : ℕ) → option_map f (get mid k) ≡ with_at (λ j. option_map f (get old j)) at None k
+    without {X} f k =
+        elim (cases_eq k at) [
+          | inl here ↦ ap (λ (j : ℕ). option_map f (get mid j)) here ∙ ap (option_map f) out.changed ∙ sym (with_same (λ j. option_map f (get old j)) at None k here)
+          | inr away ↦ ap (option_map f) (out.others k away) ∙ sym (with_other (λ j. option_map f (get old j)) at None k away)
+        ]
+
+    made : IsCut (get old) new node.previous node.next at
+    made = record {
+      lists = λ k. back.lists k ∙ on.lists k ∙ without (λ n. n.list) k;
+      nexts = λ k. back.nexts k ∙ on.nexts k ∙ with_both (next_in (get mid)) (with_at (next_in (get old)) at None) node.previous (Some node.next) (without (λ n. n.next)) k;
+      previouses = λ k. back.previouses k ∙ with_both (previous_in next) (with_at (previous_in (get old)) at None) node.next (Some node.previous) (λ j. on.previouses j ∙ without (λ n. n.previous) j) k;
+      values = λ k. back.values k ∙ on.values k ∙ without (λ n. n.span) k;
+    }

@@ -6,3 +6,4 @@ pub mod PutLemmas
 pub mod CutLemmas
 pub mod HeadLemmas
 pub mod CallLemmas
+pub mod FreeLemmas
