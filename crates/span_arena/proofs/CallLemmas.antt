@@ -184,19 +184,20 @@ module _ (s : Slab Node) (a : Arena) (shown : Shows s a) where
   -- what contracts see is sound
   pub sound : IsSound a
   sound = record {
-    live = λ list ids at is there.
-        let ring = ring_for list list refl ids is in
-        let of = chain_lists (get s) list list ids list ring.chain at there in
+    live = λ list at inside.
+        let ids = inside.0 ++ at ∷ inside.1 in
+        let ring = ring_for list list refl ids inside.2 in
+        let of = in_list list at inside in
         ap is_some (sym (shown.spans at) ∙ span_of_view s at)
-        ∙ ap (λ (b : Bool). is_some (cond b None (value_in (get s) at))) (test_other (get s) at list of (λ same. apart_from_first list ids ring.distinct at there (sym same)))
+        ∙ ap (λ (b : Bool). is_some (cond b None (value_in (get s) at))) (test_other (get s) at list of (λ same. apart_from_first list ids ring.distinct at (Contains-append_right inside.0 (at ∷ inside.1) at (here at inside.1)) (sym same)))
         ∙ value_there (get s at) list of;
-    distinct = λ list ids is. IsDistinct-tail eqb list ids (ring_for list list refl ids is).distinct;
-    apart = λ list other ids others at is is_other there there_other.
-        let ring = ring_for list list refl ids is in
-        let second = ring_for other other refl others is_other in
-        same_Some list other (sym (chain_lists (get s) list list ids list ring.chain at there) ∙ chain_lists (get s) other other others other second.chain at there_other);
+    once = λ list ids is. IsDistinct-tail eqb list ids (ring_for list list refl ids is).distinct;
+    alone = λ list other at inside second. same_Some list other (sym (in_list list at inside) ∙ in_list other at second);
   }
     where
       value_there : (o : Option Node) (l : ℕ) → option_map (λ n. n.list) o ≡ Some l → is_some (option_map (λ n. n.span) o) ≡ true
       value_there None l is = absurd (cc)
       value_there (Some node) l is = refl
+
+      in_list : (list at : ℕ) → IsIn a list at → list_in (get s) at ≡ Some list
+      in_list list at inside = key_in (get s) list inside.0 at inside.1 (ring_for list list refl (inside.0 ++ at ∷ inside.1) inside.2)

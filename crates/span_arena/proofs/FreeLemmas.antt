@@ -7,8 +7,9 @@ use Rattle.std.proofs.lemmas.List.{append-nil, append_assoc, length-append}
 use Rattle.std.proofs.lemmas.List.Elements.{Contains-append_left, Contains-append_right, Contains-append_cases}
 use Rattle.std.proofs.lemmas.Option.{same_Some}
 use Rattle.slab.proofs.SlabLemmas.{Contains-cons_cases}
-use Rattle.span_arena.specs.Arena.{Arena, list_of, span_of, IsIn, SetsList, SetsSpan, SpansGone, SameSpans}
+use Rattle.span_arena.specs.Arena.{Arena, list_of, ids_of, span_of, IsIn, SetsList, SetsSpan, SpansGone, SameSpans}
 use Rattle.span_arena.proofs.DistinctLemmas.{here, not_in_none}
+use Rattle.span_arena.proofs.ViewLemmas.{ids_are}
 
 -- a list's first spans are gone, and the others are left
 pub record Emptied (old now : Arena) (list : ℕ) : Type 0 where
@@ -39,10 +40,10 @@ emptied_none old list some = by (list_of old list) refl some
       spare = omega arith;
     }
 
-module _ (old now : Arena) (list : ℕ) (emptied : Emptied old now list) (first : Option ℕ) (leads : (ids : List ℕ) → list_of now list ≡ Some ids → first ≡ slice_get ids 0) where
+module _ (old now : Arena) (list : ℕ) (emptied : Emptied old now list) (first : Option ℕ) (leads : first ≡ slice_get (ids_of now list) 0) where
   -- the first of those that are left, and what is behind it
   pub next_out : (at : ℕ) → first ≡ Some at → (back : List ℕ) × (emptied.rest ≡ at ∷ back)
-  next_out at is = by emptied.rest (sym (leads emptied.rest emptied.is) ∙ is)
+  next_out at is = by emptied.rest (sym (leads ∙ ap (λ (l : List ℕ). slice_get l 0) (ids_are now list emptied.rest emptied.is)) ∙ is)
     where
       by : (ids : List ℕ) → slice_get ids 0 ≡ Some at → (back : List ℕ) × (ids ≡ at ∷ back)
       by [] found = absurd (cc)
@@ -95,7 +96,7 @@ module _ (old now : Arena) (list : ℕ) (emptied : Emptied old now list) (first 
   -- none are left
   module _ (is : first ≡ None) where
     pub none_left : list_of now list ≡ Some []
-    none_left = emptied.is ∙ ap Some (by emptied.rest (sym (leads emptied.rest emptied.is) ∙ is))
+    none_left = emptied.is ∙ ap Some (by emptied.rest (sym (leads ∙ ap (λ (l : List ℕ). slice_get l 0) (ids_are now list emptied.rest emptied.is)) ∙ is))
       where
         by : (ids : List ℕ) → slice_get ids 0 ≡ None → ids ≡ []
         by [] found = refl
@@ -105,19 +106,18 @@ module _ (old now : Arena) (list : ℕ) (emptied : Emptied old now list) (first 
       pub freed_lists : SetsList old new list None
       freed_lists = record { set = lists.set; others = λ other differs. lists.others other differs ∙ emptied.others other differs }
 
-      module _ (ids : List ℕ) (had : list_of old list ≡ Some ids) where
-        all_done : emptied.done ≡ ids
-        all_done =
-            let rest : emptied.rest ≡ [] = same_Some emptied.rest [] (sym emptied.is ∙ none_left) in
-            sym (append-nil emptied.done)
-            ∙ sym (ap (λ (l : List ℕ). emptied.done ++ l) rest)
-            ∙ same_Some (emptied.done ++ emptied.rest) ids (sym emptied.was ∙ had)
+      all_done : emptied.done ≡ ids_of old list
+      all_done =
+          let rest : emptied.rest ≡ [] = same_Some emptied.rest [] (sym emptied.is ∙ none_left) in
+          sym (append-nil emptied.done)
+          ∙ sym (ap (λ (l : List ℕ). emptied.done ++ l) rest)
+          ∙ sym (ids_are old list (emptied.done ++ emptied.rest) emptied.was)
 
-        pub freed_spans : SpansGone old new ids
-        freed_spans = subst (SpansGone old new) all_done (record {
-          gone = λ at there. spans at ∙ emptied.spans.gone at there;
-          others = λ at away. spans at ∙ emptied.spans.others at away;
-        })
+      pub freed_spans : SpansGone old new (ids_of old list)
+      freed_spans = subst (SpansGone old new) all_done (record {
+        gone = λ at there. spans at ∙ emptied.spans.gone at there;
+        others = λ at away. spans at ∙ emptied.spans.others at away;
+      })
 
-        pub freed_spare : new.spare ≡ old.spare + length ids + 1
-        freed_spare = let long : length emptied.done ≡ length ids = ap length all_done in omega (arith, spare, emptied.spare, long)
+      pub freed_spare : new.spare ≡ old.spare + length (ids_of old list) + 1
+      freed_spare = let long : length emptied.done ≡ length (ids_of old list) = ap length all_done in omega (arith, spare, emptied.spare, long)

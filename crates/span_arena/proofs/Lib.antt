@@ -7,3 +7,4 @@ pub mod CutLemmas
 pub mod HeadLemmas
 pub mod CallLemmas
 pub mod FreeLemmas
+pub mod WalkLemmas

@@ -9,7 +9,7 @@ use Rattle.slab.specs.Slab.{Slab, get}
 use Rattle.slab.proofs.SlabLemmas.{ContainsKey-within}
 use Rattle.span_arena.specs.declared.Span.{Span}
 use Rattle.span_arena.specs.declared.nodes.Node.{Node}
-use Rattle.span_arena.specs.Arena.{Arena, list_of, span_of}
+use Rattle.span_arena.specs.Arena.{Arena, list_of, ids_of, span_of}
 use Rattle.span_arena.specs.Links.{Nodes, list_in, next_in, previous_in, value_in, is_head, along, list_at, span_at, from_key, view_of, IsChain, IsRing, IsHeld}
 use Rattle.span_arena.proofs.DistinctLemmas.{here, apart_from_first, first_or, few_below}
 use Rattle.span_arena.proofs.ChainLemmas.{chain_first, chain_lists, ring_lists}
@@ -20,6 +20,17 @@ from_key-get f key (suc n) zero past = ap f (let e : key ≡ key + 0 = omega ari
 from_key-get f key (suc n) (suc i) past =
     from_key-get f (suc key) n i (λ j within. past j (omega (arith, within)))
     ∙ ap f (let e : suc key + i ≡ key + suc i = omega arith in e)
+
+-- a live list is that of its ids
+pub ids_there : (a : Arena) (list : ℕ) → is_some (list_of a list) ≡ true → list_of a list ≡ Some (ids_of a list)
+ids_there a list = by (list_of a list)
+  where
+    by : (o : Option (List ℕ)) → is_some o ≡ true → o ≡ Some (option_map_or (λ ids. ids) o [])
+    by None some = absurd (cc)
+    by (Some ids) some = refl
+
+pub ids_are : (a : Arena) (list : ℕ) (ids : List ℕ) → list_of a list ≡ Some ids → ids_of a list ≡ ids
+ids_are a list ids is = ap (λ (o : Option (List ℕ)). option_map_or (λ l. l) o []) is
 
 -- a head by its test, and the other way round
 pub test_head : (nodes : Nodes) (key : ℕ) → list_in nodes key ≡ Some key → is_head nodes key ≡ true

@@ -1,6 +1,7 @@
 -- What a contract sees of lists of spans.
 use Rattle.std.specs.Prelude.{◌≡◌, ◌≢◌, ℕ, nat_eq, List, [], ◌∷◌, ◌++◌, Option, Some, None, IsSome, slice_index_or}
 use Rattle.std.specs.List.{Contains, IsDistinct}
+use Rattle.std.specs.Option.{option_map_or}
 use Rattle.span_arena.specs.declared.Span.{Span}
 
 -- the list or none at each id, as its spans' ids in order; the span or none at each id; and how many more lists and spans fit
@@ -24,6 +25,10 @@ module _ (arena : Arena) where
   abbrev pub list_of : ℕ → Option (List ℕ)
   list_of list = slice_index_or arena.lists list None
 
+  -- the same; none where no list has the id
+  abbrev pub ids_of : ℕ → List ℕ
+  ids_of list = option_map_or (λ ids. ids) (list_of list) []
+
   -- the span with an id; None where no span has it
   abbrev pub span_of : ℕ → Option Span
   span_of at = slice_index_or arena.spans at None
@@ -32,11 +37,11 @@ module _ (arena : Arena) where
   abbrev pub IsIn : ℕ → ℕ → Type 0
   IsIn list at = (front : List ℕ) × (back : List ℕ) × (list_of list ≡ Some (front ++ at ∷ back))
 
-  -- each id in a list is a span's, and comes in that list alone, and there once
+  -- each id in a list is a span's, and is in that list alone, and there once
   pub record IsSound : Type 0 where
-    pub live : (list : ℕ) (ids : List ℕ) (at : ℕ) → list_of list ≡ Some ids → Contains ids at → IsSome (span_of at)
-    pub distinct : (list : ℕ) (ids : List ℕ) → list_of list ≡ Some ids → IsDistinct nat_eq ids
-    pub apart : (list other : ℕ) (ids others : List ℕ) (at : ℕ) → list_of list ≡ Some ids → list_of other ≡ Some others → Contains ids at → Contains others at → list ≡ other
+    pub live : (list at : ℕ) → IsIn list at → IsSome (span_of at)
+    pub once : (list : ℕ) (ids : List ℕ) → list_of list ≡ Some ids → IsDistinct nat_eq ids
+    pub alone : (list other at : ℕ) → IsIn list at → IsIn other at → list ≡ other
 
 module _ (old new : Arena) where
   -- the list with an id is another, or none, and every other list is as it was

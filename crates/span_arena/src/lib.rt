@@ -6,7 +6,7 @@
 #![tactic(auto)]
 
 ghost use Rattle.std.specs.Prelude.{◌≡◌, ◌<◌, ◌≤◌, ◌+◌, ◌++◌, ◌∷◌, [], ℕ, List, None, Some, IsOk, IsSome, IfOk, OnOk, OnErr, length, slice_get, if◌then◌else◌, ◌==◌};
-ghost use Rattle.span_arena.specs.Arena.{list_of, span_of, last_in, IsIn, IsSound, SetsList, SetsSpan, SpansGone, SameLists, SameSpans};
+ghost use Rattle.span_arena.specs.Arena.{list_of, ids_of, span_of, last_in, IsIn, IsSound, SetsList, SetsSpan, SpansGone, SameLists, SameSpans};
 
 mod nodes;
 #[cfg(test)]
@@ -128,7 +128,7 @@ impl Spans {
     pub fn push_back(&mut self, list: ListId, span: Span) -> Result<SpanId, AllocError>
         requires { IsSome (list_of self.old list) }
         ensures fresh { IfOk result (λ at. span_of self.old at ≡ None) }
-        ensures lists { IfOk result (λ at. (ids : List ℕ) → list_of self.old list ≡ Some ids → SetsList self.old self.new list (Some (ids ++ at ∷ []))) }
+        ensures lists { IfOk result (λ at. SetsList self.old self.new list (Some (ids_of self.old list ++ at ∷ []))) }
         ensures spans { IfOk result (λ at. SetsSpan self.old self.new at (Some span)) }
         ensures spare { self.old.spare ≤ self.new.spare + 1 }
         ensures succeeds { 0 < self.old.spare → IsOk result }
@@ -190,7 +190,7 @@ impl Spans {
     /// The first span of a list; `None` where it has none.
     pub fn first(&self, list: ListId) -> Option<SpanId>
         requires { IsSome (list_of self.now list) }
-        ensures { (ids : List ℕ) → list_of self.now list ≡ Some ids → result ≡ slice_get ids 0 }
+        ensures { result ≡ slice_get (ids_of self.now list) 0 }
     {
         span_id(list.key, self.nodes[list.key].next)
     }
@@ -198,7 +198,7 @@ impl Spans {
     /// The last span of a list; `None` where it has none.
     pub fn last(&self, list: ListId) -> Option<SpanId>
         requires { IsSome (list_of self.now list) }
-        ensures { (ids : List ℕ) → list_of self.now list ≡ Some ids → result ≡ last_in ids }
+        ensures { result ≡ last_in (ids_of self.now list) }
     {
         span_id(list.key, self.nodes[list.key].previous)
     }
@@ -226,8 +226,8 @@ impl Spans {
     pub fn free_list(&mut self, list: ListId)
         requires { IsSome (list_of self.old list) }
         ensures lists { SetsList self.old self.new list None }
-        ensures spans { (ids : List ℕ) → list_of self.old list ≡ Some ids → SpansGone self.old self.new ids }
-        ensures spare { (ids : List ℕ) → list_of self.old list ≡ Some ids → self.new.spare ≡ self.old.spare + length ids + 1 }
+        ensures spans { SpansGone self.old self.new (ids_of self.old list) }
+        ensures spare { self.new.spare ≡ self.old.spare + length (ids_of self.old list) + 1 }
     {
         while let Some(at) = self.first(list) {
             self.remove(list, at);
@@ -235,7 +235,7 @@ impl Spans {
         self.drop_head(list);
     }
 
-    /// A law: each id in a list is a span's, and comes in that list alone, and there once.
+    /// A law: each id in a list is a span's, and is in that list alone, and there once.
     pub fn lists_are_sound(&self)
         ensures { IsSound self.now }
     {

@@ -1,5 +1,6 @@
 use Rattle.std.proofs.Common.{ℕ, List, ◌++◌, []}
-use Rattle.span_arena.specs.Links.{IsRing}
+use Rattle.span_arena.specs.Arena.{ids_of}
+use Rattle.span_arena.proofs.ViewLemmas.{ids_there}
 use Rattle.slab.specs.Slab.{get}
 use Rattle.span_arena.proofs.ChangeLemmas.{linked}
 use Rattle.span_arena.proofs.CallLemmas.{same_held, shows_more, some_ring, ring_for, end_ring, placed_held, placed_lists, placed_spans, placed_fresh}
@@ -27,9 +28,10 @@ returns-clause-fresh c =
     placed_fresh c.reserve.new.self c.args.self.now shown c.put.new.nodes c.list.inside.key there.0 [] (end_ring c.reserve.new.self c.args.self.now shown c.list.inside.key there.0 there.1) c.put.result c.args.span c.put.ensures.put
 
 pub returns-clause-lists : goal.returns-clause-lists
-returns-clause-lists c = λ ids is.
+returns-clause-lists c =
     let shown = shows_more c.self.inside.nodes c.reserve.new.self c.args.self.now c.self.invariant c.self.view_is c.in_ok-reserve.ensures.rest_kept in
-    let ring = ring_for c.reserve.new.self c.args.self.now shown c.list.inside.key c.args.list c.list.view_is ids is in
+    let ids = ids_of c.args.self.now c.args.list in
+    let ring = ring_for c.reserve.new.self c.args.self.now shown c.list.inside.key c.args.list c.list.view_is ids (ids_there c.args.self.now c.args.list c.requires) in
     placed_lists c.reserve.new.self c.args.self.now shown c.put.new.nodes c.list.inside.key ids [] (end_ring c.reserve.new.self c.args.self.now shown c.list.inside.key ids ring) c.put.result c.args.span c.put.ensures.put c.args.list c.list.view_is
 
 pub returns-clause-spans : goal.returns-clause-spans
