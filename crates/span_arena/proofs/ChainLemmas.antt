@@ -66,7 +66,7 @@ module _ (old new : Nodes) (list : ℕ) where
   chain_onto from (k ∷ front) rest past to nexts previouses lists distinct chain behind = (
     (
       nexts from (here from (k ∷ front)) (λ same. apart_from_first from (k ∷ front) distinct (last_from k front) (last_there k front) (sym same)) ∙ chain.0.0,
-      previouses k (here k front) ∙ chain.0.1
+      previouses k (here k front) ∙ chain.0.1,
     ),
     lists k (here k front) ∙ chain.1,
     chain_onto k front rest past to

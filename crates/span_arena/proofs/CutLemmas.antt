@@ -71,9 +71,10 @@ module _ (old : Nodes) (list : ℕ) (front : List ℕ) (key : ℕ) (back : List 
           (λ k there. list_stays k (front_key k (Contains-cons list k front there)))
           (front_distinct old list front (key ∷ back) ring)
           (chain_front old list list front (key ∷ back) list ring.chain)
-          (chain_from old new list key first_side back list
-          (cut.nexts first_side ∙ with_same (with_at (next_in old) key None) first_side (Some last_side) first_side refl,
-          cut.previouses last_side ∙ with_same (with_at (previous_in old) key None) last_side (Some first_side) last_side refl)
+          (chain_from old new list key first_side back list (
+            cut.nexts first_side ∙ with_same (with_at (next_in old) key None) first_side (Some last_side) first_side refl,
+            cut.previouses last_side ∙ with_same (with_at (previous_in old) key None) last_side (Some first_side) last_side refl,
+          )
           (λ k there. next_stays k (behind_apart k (Contains-append_left back (list ∷ []) k there)) (rest_apart old list front (key ∷ back) ring k (Contains-cons key k back there)))
           (λ k there apart. previous_stays k (behind_apart k there) apart)
           (λ k there. list_stays k (behind_apart k (Contains-append_left back (list ∷ []) k there)))

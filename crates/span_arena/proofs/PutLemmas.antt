@@ -53,23 +53,25 @@ module _ (old new : Nodes) (list : ℕ) (front rest : List ℕ) (ring : IsRing o
         (λ k there. previous_stays k (not_new k list (front_in old list front rest ring k (Contains-cons list k front there))) (front_apart old list front rest ring k there))
         (λ k there. list_stays k (not_new k list (front_in old list front rest ring k (Contains-cons list k front there))))
         (front_distinct old list front rest ring)
-        (chain_front old list list front rest list ring.chain)
-        (
-          (put.nexts first_side ∙ with_same (with_at (next_in old) key (Some last_side)) first_side (Some key) first_side refl,
-          put.previouses key
-          ∙ with_other (with_at (previous_in old) key (Some first_side)) last_side (Some key) key (λ same. after_new (sym same))
-          ∙ with_same (previous_in old) key (Some first_side) key refl),
+        (chain_front old list list front rest list ring.chain) (
+          (
+            put.nexts first_side ∙ with_same (with_at (next_in old) key (Some last_side)) first_side (Some key) first_side refl,
+            put.previouses key
+                ∙ with_other (with_at (previous_in old) key (Some first_side)) last_side (Some key) key (λ same. after_new (sym same))
+                ∙ with_same (previous_in old) key (Some first_side) key refl,
+          ),
           new_in,
-          chain_from old new list first_side key rest list
-          (put.nexts key
-          ∙ with_other (with_at (next_in old) key (Some last_side)) first_side (Some key) key (λ same. before_new (sym same))
-          ∙ with_same (next_in old) key (Some last_side) key refl,
-          put.previouses last_side ∙ with_same (with_at (previous_in old) key (Some first_side)) last_side (Some key) last_side refl)
-          (λ k there. next_stays k (not_new k list (behind k there)) (rest_apart old list front rest ring k there))
-          (λ k there away. previous_stays k (not_new k list (rest_in old list front rest ring k there)) away)
-          (λ k there. list_stays k (not_new k list (behind k there)))
-          (rest_distinct old list front rest ring)
-          (chain_back old list list front rest list ring.chain)
+          chain_from old new list first_side key rest list (
+            put.nexts key
+                ∙ with_other (with_at (next_in old) key (Some last_side)) first_side (Some key) key (λ same. before_new (sym same))
+                ∙ with_same (next_in old) key (Some last_side) key refl,
+            put.previouses last_side ∙ with_same (with_at (previous_in old) key (Some first_side)) last_side (Some key) last_side refl,
+          )
+              (λ k there. next_stays k (not_new k list (behind k there)) (rest_apart old list front rest ring k there))
+              (λ k there away. previous_stays k (not_new k list (rest_in old list front rest ring k there)) away)
+              (λ k there. list_stays k (not_new k list (behind k there)))
+              (rest_distinct old list front rest ring)
+              (chain_back old list list front rest list ring.chain),
         );
     distinct = distinct_with (list ∷ front) key rest (λ there. not_new key list (ring_lists old list (front ++ rest) ring key there) refl) ring.distinct;
   }

@@ -100,7 +100,7 @@ module _ (s : Slab Node) where
   list_of_ring list ids ring =
       let few : suc (length ids) ≤ length s.slots = few_below (list ∷ ids) (length s.slots) ring.distinct (λ k there. has_slot k list (ring_lists (get s) list ids ring k there)) in
       let found : along (get s) list (length s.slots) (first_or ids list) ≡ ids =
-          along-chain (get s) list list ids list (length s.slots) (λ k there. apart_from_first list ids ring.distinct k there) (omega (arith, few)) ring.chain in
+      along-chain (get s) list list ids list (length s.slots) (λ k there. apart_from_first list ids ring.distinct k there) (omega (arith, few)) ring.chain in
       list_of_view list
       ∙ rw (test_head (get s) list ring.head)
       (

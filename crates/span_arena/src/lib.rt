@@ -142,7 +142,12 @@ impl Spans {
     }
 
     /// Puts a span before another one of a list.
-    pub fn insert_before(&mut self, list: ListId, at: SpanId, span: Span) -> Result<SpanId, AllocError>
+    pub fn insert_before(
+        &mut self,
+        list: ListId,
+        at: SpanId,
+        span: Span,
+    ) -> Result<SpanId, AllocError>
         requires { IsIn self.old list at }
         ensures fresh { IfOk result (λ new. span_of self.old new ≡ None) }
         ensures lists { IfOk result (λ new. (front back : List ℕ) → list_of self.old list ≡ Some (front ++ at ∷ back) → SetsList self.old self.new list (Some (front ++ new ∷ at ∷ back))) }

@@ -3,7 +3,8 @@
 ghost use Rattle.std.specs.Prelude.{◌≡◌, IsSome};
 ghost use Rattle.span_arena.specs.Arena.{list_of};
 
-use crate::{ListId, Spans};
+use crate::{ListId, SpanId, Spans};
+use std::alloc::AllocError;
 
 // Whether a list has spans with these numbers, and its links lead back as they lead on.
 pub fn is_same(spans: &Spans, list: ListId, numbers: &[(i32, i32)]) -> bool
@@ -40,4 +41,19 @@ pub fn remove_empty(spans: &mut Spans, list: ListId)
             spans.remove(list, at);
         }
     }
+}
+
+// Puts a span behind all others of a list; one refusal of memory is passed over, and must have changed nothing.
+pub fn push(spans: &mut Spans, list: ListId, stop: i32) -> Result<SpanId, AllocError>
+    requires { IsSome (list_of spans.old list) }
+    ensures { IsSome (list_of spans.new list) }
+{
+    let last = spans.last(list);
+    if let Ok(at) = spans.push_back(list, super::span(0, stop)) {
+        return Ok(at);
+    }
+    if spans.last(list) != last {
+        return Err(AllocError);
+    }
+    spans.push_back(list, super::span(0, stop))
 }
