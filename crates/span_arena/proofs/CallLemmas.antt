@@ -1,7 +1,6 @@
 -- What the nodes say of the value that contracts see.
-use Rattle.std.proofs.Common.{◌≡◌, ◌≢◌, ℕ, Bool, true, false, List, [], ◌∷◌, ◌++◌, Option, Some, None, is_some, cond, refl, subst, sym, ap, ◌∙◌, inl, inr, arith, Contains, eqb}
+use Rattle.std.proofs.Common.{◌≡◌, ◌≢◌, ℕ, Bool, true, false, List, [], ◌∷◌, ◌++◌, Option, Some, None, is_some, cond, refl, subst, sym, ap, ◌∙◌, Contains, eqb}
 use Rattle.std.specs.Prelude.{slice_get}
-use Rattle.std.specs.List.{IsDistinct}
 use Rattle.std.specs.Option.{option_map}
 use Rattle.std.proofs.lemmas.Bool.{eq-eqb, ne_eqb}
 use Rattle.std.proofs.lemmas.List.{append-nil}
@@ -13,9 +12,9 @@ use Rattle.slab.proofs.SlabLemmas.{Contains-cons}
 use Rattle.span_arena.specs.declared.Span.{Span}
 use Rattle.span_arena.specs.declared.nodes.Node.{Node}
 use Rattle.span_arena.specs.Arena.{Arena, list_of, span_of, last_from, last_in, IsIn, IsSound, SetsList, SetsSpan, SameSpans}
-use Rattle.span_arena.specs.Links.{Nodes, list_in, next_in, previous_in, value_in, is_head, span_at, view_of, IsLinked, IsBetween, IsRing, IsHeld, IsPut, IsCut}
+use Rattle.span_arena.specs.Links.{Nodes, list_in, value_in, is_head, span_at, view_of, IsLinked, IsBetween, IsRing, IsHeld, IsPut, IsCut}
 use Rattle.span_arena.proofs.DistinctLemmas.{here, apart_from_first, first_or, last_there}
-use Rattle.span_arena.proofs.ChainLemmas.{chain_first, chain_last, chain_lists, ring_lists}
+use Rattle.span_arena.proofs.ChainLemmas.{chain_first, chain_last}
 use Rattle.span_arena.proofs.ViewLemmas.{test_other, ring_of_list, ring_there, span_of_view}
 use Rattle.span_arena.proofs.ChangeLemmas.{linked}
 use Rattle.span_arena.proofs.PutLemmas.{put_held, put_lists, put_spans, put_fresh}

@@ -1,20 +1,19 @@
 -- What one change of the nodes leaves, and makes of the list that it changes.
-use Rattle.std.proofs.Common.{◌≡◌, ◌≢◌, ◌⊎◌, ℕ, suc, Bool, true, false, List, [], ◌∷◌, ◌++◌, Option, Some, None, is_some, cond, refl, subst, sym, ap, ◌∙◌, inl, inr, arith, Contains, eqb}
+use Rattle.std.proofs.Common.{◌≡◌, ◌≢◌, ◌⊎◌, ℕ, Bool, true, false, List, [], ◌∷◌, ◌++◌, Option, Some, None, cond, refl, subst, sym, ap, ◌∙◌, inl, inr, Contains, eqb}
 use Rattle.std.specs.List.{IsDistinct}
-use Rattle.std.specs.Option.{option_map, option_map_or}
+use Rattle.std.specs.Option.{option_map_or}
 use Rattle.std.proofs.lemmas.Bool.{eq-eqb, ne_eqb, cases_eq}
 use Rattle.std.proofs.lemmas.Map.Keys.{IsDistinct-tail}
 use Rattle.std.proofs.lemmas.List.Elements.{Contains-append_left, Contains-append_right, Contains-append_cases}
-use Rattle.std.proofs.lemmas.Option.{same_Some}
 use Rattle.slab.specs.Slab.{Slab, get}
 use Rattle.slab.proofs.SlabLemmas.{Contains-cons, Contains-cons_cases}
 use Rattle.span_arena.specs.declared.Span.{Span}
 use Rattle.span_arena.specs.declared.nodes.Node.{Node}
-use Rattle.span_arena.specs.Arena.{Arena, list_of, span_of, last_from, SetsList, SetsSpan, SameLists, SameSpans}
-use Rattle.span_arena.specs.Links.{Nodes, list_in, next_in, previous_in, value_in, is_head, list_at, span_at, view_of, IsLinked, IsBetween, IsChain, IsRing, IsHeld, with_at, IsPut, IsCut, HeadPut}
-use Rattle.span_arena.proofs.DistinctLemmas.{here, not_in_none, apart_from_first, distinct_none, distinct_left, distinct_right, distinct_between, distinct_with, distinct_without, distinct_push, first_or, last_there}
-use Rattle.span_arena.proofs.ChainLemmas.{chain_front, chain_back, chain_last, chain_lists, ring_lists, chain_kept, chain_from, chain_onto}
-use Rattle.span_arena.proofs.ViewLemmas.{test_head, head_test, test_other, test_none, list_of_ring, no_list, span_of_view}
+use Rattle.span_arena.specs.Arena.{list_of, span_of, last_from}
+use Rattle.span_arena.specs.Links.{Nodes, list_in, next_in, previous_in, value_in, is_head, view_of, IsLinked, IsRing, IsHeld, with_at}
+use Rattle.span_arena.proofs.DistinctLemmas.{here, not_in_none, apart_from_first, distinct_left, distinct_right, distinct_between, distinct_push, first_or, last_there}
+use Rattle.span_arena.proofs.ChainLemmas.{chain_front, chain_last, chain_lists, ring_lists, chain_kept}
+use Rattle.span_arena.proofs.ViewLemmas.{test_head, head_test, list_of_ring, no_list, span_of_view}
 
 -- the changed key, and each other
 pub with_same : {X : Type 0} (f : ℕ → Option X) (at : ℕ) (x : Option X) (key : ℕ) → key ≡ at → with_at f at x key ≡ x

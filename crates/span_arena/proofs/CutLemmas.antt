@@ -1,20 +1,20 @@
 -- A list after a span went out.
-use Rattle.std.proofs.Common.{◌≡◌, ◌≢◌, ◌⊎◌, ℕ, Bool, true, false, List, [], ◌∷◌, ◌++◌, Option, Some, None, cond, refl, subst, sym, ap, ◌∙◌, inl, inr, arith, Contains, eqb}
+use Rattle.std.proofs.Common.{◌≡◌, ◌≢◌, ℕ, Bool, false, List, [], ◌∷◌, ◌++◌, Option, Some, None, cond, refl, subst, sym, ap, ◌∙◌, inl, inr, Contains, eqb}
 use Rattle.std.specs.Option.{option_map}
 use Rattle.std.proofs.lemmas.Bool.{cases_eq}
 use Rattle.std.proofs.lemmas.Map.Keys.{IsDistinct-tail}
-use Rattle.std.proofs.lemmas.List.Elements.{Contains-append_left, Contains-append_right, Contains-append_cases}
+use Rattle.std.proofs.lemmas.List.Elements.{Contains-append_left}
 use Rattle.std.proofs.lemmas.Option.{same_Some}
 use Rattle.slab.specs.Slab.{Slab, get, Updates}
-use Rattle.slab.proofs.SlabLemmas.{Contains-cons, Contains-cons_cases}
+use Rattle.slab.proofs.SlabLemmas.{Contains-cons}
 use Rattle.span_arena.specs.declared.Span.{Span}
 use Rattle.span_arena.specs.declared.nodes.Node.{Node}
-use Rattle.span_arena.specs.Arena.{Arena, list_of, span_of, last_from, SetsList, SetsSpan}
-use Rattle.span_arena.specs.Links.{Nodes, list_in, next_in, previous_in, value_in, is_head, span_at, view_of, IsLinked, IsBetween, IsChain, IsRing, IsHeld, with_at, NextSet, PreviousSet, IsCut}
-use Rattle.span_arena.proofs.DistinctLemmas.{here, apart_from_first, distinct_between, distinct_left, distinct_right, distinct_without, first_or, last_there, first_there}
-use Rattle.span_arena.proofs.ChainLemmas.{chain_front, chain_back, chain_first, chain_last, chain_lists, ring_lists, chain_from, chain_onto}
+use Rattle.span_arena.specs.Arena.{span_of, last_from, SetsList, SetsSpan}
+use Rattle.span_arena.specs.Links.{Nodes, list_in, next_in, previous_in, value_in, is_head, view_of, IsBetween, IsRing, IsHeld, with_at, NextSet, PreviousSet, IsCut}
+use Rattle.span_arena.proofs.DistinctLemmas.{here, apart_from_first, distinct_between, distinct_without, first_or, last_there, first_there}
+use Rattle.span_arena.proofs.ChainLemmas.{chain_front, chain_back, chain_first, chain_last, chain_from, chain_onto}
 use Rattle.span_arena.proofs.ViewLemmas.{test_other, test_none, list_of_ring, span_of_view}
-use Rattle.span_arena.proofs.ChangeLemmas.{with_same, with_other, Leaves, held_changed, list_left, span_left, same_test, before_in, front_distinct, rest_distinct, front_in, rest_in, rest_apart}
+use Rattle.span_arena.proofs.ChangeLemmas.{with_same, with_other, Leaves, held_changed, list_left, span_left, same_test, front_distinct, rest_distinct, front_in, rest_in, rest_apart}
 
 module _ (old : Nodes) (list : ℕ) (front : List ℕ) (key : ℕ) (back : List ℕ) (ring : IsRing old list (front ++ key ∷ back)) where
   abbrev pub first_side : ℕ

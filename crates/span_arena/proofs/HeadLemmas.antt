@@ -1,16 +1,15 @@
 -- Lists that come and go, and a span that changes.
-use Rattle.std.proofs.Common.{◌≡◌, ◌≢◌, ◌⊎◌, ℕ, Bool, true, false, List, [], ◌∷◌, ◌++◌, Option, Some, None, is_some, cond, refl, subst, sym, ap, ◌∙◌, inl, inr, arith, Contains, eqb}
+use Rattle.std.proofs.Common.{◌≡◌, ◌≢◌, ℕ, Bool, true, false, [], Option, Some, None, is_some, cond, refl, sym, ap, ◌∙◌, inl, inr}
 use Rattle.std.specs.Option.{option_map}
 use Rattle.std.proofs.lemmas.Bool.{cases_eq}
 use Rattle.std.proofs.lemmas.Option.{same_Some, none-some}
-use Rattle.slab.specs.Slab.{Slab, get, Updates, with_value}
-use Rattle.slab.proofs.SlabLemmas.{Updates-with_value}
+use Rattle.slab.specs.Slab.{Slab, get, Updates}
 use Rattle.span_arena.specs.declared.Span.{Span}
 use Rattle.span_arena.specs.declared.nodes.Node.{Node}
-use Rattle.span_arena.specs.Arena.{Arena, list_of, span_of, SetsList, SetsSpan, SameLists, SameSpans}
-use Rattle.span_arena.specs.Links.{Nodes, list_in, next_in, previous_in, value_in, is_head, span_at, view_of, IsChain, IsRing, IsHeld, with_at, HeadPut}
+use Rattle.span_arena.specs.Arena.{list_of, span_of, SetsList, SetsSpan, SameLists, SameSpans}
+use Rattle.span_arena.specs.Links.{Nodes, list_in, next_in, previous_in, value_in, is_head, view_of, IsRing, IsHeld, HeadPut}
 use Rattle.span_arena.proofs.DistinctLemmas.{not_in_none, distinct_cons, distinct_none}
-use Rattle.span_arena.proofs.ViewLemmas.{test_head, head_test, test_other, test_none, list_of_ring, no_list, span_of_view}
+use Rattle.span_arena.proofs.ViewLemmas.{test_head, head_test, test_none, list_of_ring, no_list, span_of_view}
 use Rattle.span_arena.proofs.ChangeLemmas.{with_same, with_other, Leaves, ring_kept, held_changed, list_left, span_left, same_test}
 
 -- the fields of a key that has no node

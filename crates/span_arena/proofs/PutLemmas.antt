@@ -1,5 +1,5 @@
 -- A list after a span came in.
-use Rattle.std.proofs.Common.{◌≡◌, ◌≢◌, ◌⊎◌, ℕ, Bool, true, false, List, [], ◌∷◌, ◌++◌, Option, Some, None, cond, refl, subst, sym, ap, ◌∙◌, inl, inr, arith, Contains, eqb}
+use Rattle.std.proofs.Common.{◌≡◌, ◌≢◌, ℕ, Bool, false, List, [], ◌∷◌, ◌++◌, Option, Some, None, cond, refl, sym, ap, ◌∙◌, inl, inr, Contains}
 use Rattle.std.specs.Option.{option_map}
 use Rattle.std.proofs.lemmas.Bool.{cases_eq}
 use Rattle.std.proofs.lemmas.List.Elements.{Contains-append_left}
@@ -8,9 +8,9 @@ use Rattle.slab.specs.Slab.{Slab, get}
 use Rattle.slab.proofs.SlabLemmas.{Contains-cons}
 use Rattle.span_arena.specs.declared.Span.{Span}
 use Rattle.span_arena.specs.declared.nodes.Node.{Node}
-use Rattle.span_arena.specs.Arena.{Arena, list_of, span_of, SetsList, SetsSpan}
-use Rattle.span_arena.specs.Links.{Nodes, list_in, next_in, previous_in, value_in, is_head, span_at, view_of, IsChain, IsRing, IsHeld, with_at, IsPut}
-use Rattle.span_arena.proofs.DistinctLemmas.{distinct_with, last_there}
+use Rattle.span_arena.specs.Arena.{span_of, SetsList, SetsSpan}
+use Rattle.span_arena.specs.Links.{Nodes, list_in, next_in, previous_in, value_in, is_head, view_of, IsRing, IsHeld, with_at, IsPut}
+use Rattle.span_arena.proofs.DistinctLemmas.{distinct_with}
 use Rattle.span_arena.proofs.ChainLemmas.{chain_front, chain_back, ring_lists, chain_from, chain_onto}
 use Rattle.span_arena.proofs.ViewLemmas.{test_other, test_none, list_of_ring, span_of_view}
 use Rattle.span_arena.proofs.ChangeLemmas.{with_same, with_other, Leaves, held_changed, list_left, span_left, same_test, before, after, before_in, after_in, front_apart, rest_apart, front_distinct, rest_distinct, front_in, rest_in}

@@ -1,5 +1,5 @@
 -- What contracts see of the nodes.
-use Rattle.std.proofs.Common.{◌≡◌, ◌≢◌, ℕ, zero, suc, ◌+◌, ◌<◌, ◌≤◌, Bool, true, false, List, [], ◌∷◌, ◌++◌, length, Option, Some, None, is_some, cond, refl, subst, sym, ap, ◌∙◌, inl, inr, zero-add, arith, Contains, eqb}
+use Rattle.std.proofs.Common.{◌≡◌, ◌≢◌, ℕ, zero, suc, ◌+◌, ◌<◌, ◌≤◌, Bool, true, false, List, [], ◌∷◌, length, Option, Some, None, is_some, refl, subst, sym, ap, ◌∙◌, zero-add, arith, Contains, eqb}
 use Rattle.std.specs.Prelude.{slice_index_or}
 use Rattle.std.specs.Option.{option_map, option_map_or}
 use Rattle.std.proofs.lemmas.Bool.{eq-eqb, ne_eqb, eqb-true}
@@ -7,12 +7,11 @@ use Rattle.std.proofs.lemmas.List.{get_or_past}
 use Rattle.std.proofs.lemmas.Option.{same_Some}
 use Rattle.slab.specs.Slab.{Slab, get}
 use Rattle.slab.proofs.SlabLemmas.{ContainsKey-within}
-use Rattle.span_arena.specs.declared.Span.{Span}
 use Rattle.span_arena.specs.declared.nodes.Node.{Node}
 use Rattle.span_arena.specs.Arena.{Arena, list_of, ids_of, span_of}
-use Rattle.span_arena.specs.Links.{Nodes, list_in, next_in, previous_in, value_in, is_head, along, list_at, span_at, from_key, view_of, IsChain, IsRing, IsHeld}
+use Rattle.span_arena.specs.Links.{Nodes, list_in, is_head, along, list_at, span_at, from_key, view_of, IsChain, IsRing, IsHeld}
 use Rattle.span_arena.proofs.DistinctLemmas.{here, apart_from_first, first_or, few_below}
-use Rattle.span_arena.proofs.ChainLemmas.{chain_first, chain_lists, ring_lists}
+use Rattle.span_arena.proofs.ChainLemmas.{chain_first, ring_lists}
 
 pub from_key-get : {X : Type 0} (f : ℕ → Option X) (key n i : ℕ) → ((j : ℕ) → key + n ≤ j → f j ≡ None) → slice_index_or (from_key f key n) i None ≡ f (key + i)
 from_key-get f key zero i past = sym (past (key + i) (omega arith))

@@ -1,5 +1,5 @@
 -- For callers: a walk along a list by `first` and `next`, where spans may go on the way.
-use Rattle.std.proofs.Common.{◌≡◌, ◌≢◌, ℕ, suc, ◌+◌, ◌<◌, Bool, true, false, List, [], ◌∷◌, ◌++◌, length, Option, Some, None, is_some, cond, refl, subst, sym, ap, ◌∙◌, inl, inr, arith, Contains, eqb}
+use Rattle.std.proofs.Common.{◌≡◌, ℕ, suc, ◌<◌, true, List, [], ◌∷◌, ◌++◌, length, Option, Some, is_some, cond, refl, sym, ap, ◌∙◌, arith, eqb}
 use Rattle.std.specs.Prelude.{slice_get}
 use Rattle.std.specs.List.{IsDistinct}
 use Rattle.std.specs.Option.{option_map_or}
@@ -8,7 +8,7 @@ use Rattle.std.proofs.lemmas.List.{append_assoc}
 use Rattle.std.proofs.lemmas.Map.Keys.{IsDistinct-tail}
 use Rattle.std.proofs.lemmas.Option.{same_Some}
 use Rattle.std.proofs.lemmas.List.Elements.{Contains-append_right}
-use Rattle.span_arena.specs.Arena.{Arena, list_of, ids_of, span_of, IsIn, IsSound, SetsList}
+use Rattle.span_arena.specs.Arena.{Arena, list_of, ids_of, IsIn, IsSound, SetsList}
 use Rattle.span_arena.proofs.ViewLemmas.{ids_there}
 use Rattle.span_arena.proofs.DistinctLemmas.{here, apart_from_first, distinct_without}
 

@@ -1,4 +1,4 @@
-use Rattle.std.proofs.Common.{[], refl, ap, is_some, None}
+use Rattle.std.proofs.Common.{[], ap, is_some, None}
 use Rattle.span_arena.specs.Links.{view_of}
 use Rattle.span_arena.proofs.HeadLemmas.{out_held, out_lists, out_spans}
 use Rattle.span_arena.proofs.CallLemmas.{shows, ring_for, has_head, lists_for, same_spans_for}

@@ -1,4 +1,4 @@
-use Rattle.std.proofs.Common.{ℕ, List, ◌++◌, ◌∷◌, Some, subst}
+use Rattle.std.proofs.Common.{ℕ, ◌++◌, ◌∷◌, Some, subst}
 use Rattle.slab.specs.Slab.{get}
 use Rattle.span_arena.specs.Arena.{SetsList}
 use Rattle.span_arena.specs.Links.{view_of}

@@ -1,4 +1,4 @@
-use Rattle.std.proofs.Common.{ℕ, List, ◌++◌, []}
+use Rattle.std.proofs.Common.{[]}
 use Rattle.span_arena.specs.Arena.{ids_of}
 use Rattle.span_arena.proofs.ViewLemmas.{ids_there}
 use Rattle.slab.specs.Slab.{get}

@@ -1,4 +1,4 @@
-use Rattle.std.proofs.Common.{Some, refl, ap, is_some, ◌∙◌}
+use Rattle.std.proofs.Common.{Some, ap, is_some, ◌∙◌}
 use Rattle.slab.specs.Slab.{with_value}
 use Rattle.slab.proofs.SlabLemmas.{Updates-with_value}
 use Rattle.span_arena.specs.Links.{view_of}
