@@ -1,5 +1,5 @@
 -- What the nodes say of the value that contracts see.
-use Rattle.std.proofs.Common.{◌≡◌, ◌≢◌, ℕ, Bool, true, false, List, [], ◌∷◌, ◌++◌, Option, Some, None, is_some, cond, refl, subst, sym, ap, ◌∙◌, Contains, eqb}
+use Rattle.std.proofs.Common.{◌≡◌, ◌≢◌, ℕ, Bool, true, false, List, [], ◌∷◌, ◌++◌, Option, Some, None, is_some, cond, refl, subst, sym, ap, ◌∙◌, Contains, eqb, inl, inr}
 use Rattle.std.specs.Prelude.{slice_get}
 use Rattle.std.specs.Option.{option_map}
 use Rattle.std.proofs.lemmas.Bool.{eq-eqb, ne_eqb}
@@ -8,14 +8,14 @@ use Rattle.std.proofs.lemmas.List.Elements.{Contains-append_left, Contains-appen
 use Rattle.std.proofs.lemmas.Map.Keys.{IsDistinct-tail}
 use Rattle.std.proofs.lemmas.Option.{same_Some}
 use Rattle.slab.specs.Slab.{Slab, get, ContainsKey}
-use Rattle.slab.proofs.SlabLemmas.{Contains-cons}
+use Rattle.slab.proofs.SlabLemmas.{Contains-cons, Contains-cons_cases}
 use Rattle.span_arena.specs.declared.Span.{Span}
 use Rattle.span_arena.specs.declared.nodes.Node.{Node}
 use Rattle.span_arena.specs.Arena.{Arena, list_of, span_of, last_from, last_in, IsIn, IsSound, SetsList, SetsSpan, SameSpans}
 use Rattle.span_arena.specs.Links.{Nodes, list_in, value_in, is_head, span_at, view_of, IsLinked, IsBetween, IsRing, IsHeld, IsPut, IsCut}
-use Rattle.span_arena.proofs.DistinctLemmas.{here, apart_from_first, first_or, last_there}
+use Rattle.span_arena.proofs.DistinctLemmas.{split_at, here, apart_from_first, first_or, last_there}
 use Rattle.span_arena.proofs.ChainLemmas.{chain_first, chain_last}
-use Rattle.span_arena.proofs.ViewLemmas.{test_other, ring_of_list, ring_there, span_of_view}
+use Rattle.span_arena.proofs.ViewLemmas.{test_head, list_of_ring, test_other, ring_of_list, ring_there, span_of_view}
 use Rattle.span_arena.proofs.ChangeLemmas.{linked}
 use Rattle.span_arena.proofs.PutLemmas.{put_held, put_lists, put_spans, put_fresh}
 use Rattle.span_arena.proofs.CutLemmas.{key_in, key_between, cut_held, cut_lists, cut_spans, cut_span}
@@ -192,6 +192,7 @@ module _ (s : Slab Node) (a : Arena) (shown : Shows s a) where
         ∙ value_there (get s at) list of;
     once = λ list ids is. IsDistinct-tail eqb list ids (ring_for list list refl ids is).distinct;
     alone = λ list other at inside second. same_Some list other (sym (in_list list at inside) ∙ in_list other at second);
+    listed = λ at some. list_there at (has_span at at refl some) (get s at) refl;
   }
     where
       value_there : (o : Option Node) (l : ℕ) → option_map (λ n. n.list) o ≡ Some l → is_some (option_map (λ n. n.span) o) ≡ true
@@ -200,3 +201,16 @@ module _ (s : Slab Node) (a : Arena) (shown : Shows s a) where
 
       in_list : (list at : ℕ) → IsIn a list at → list_in (get s) at ≡ Some list
       in_list list at inside = key_in (get s) list inside.0 at inside.1 (ring_for list list refl (inside.0 ++ at ∷ inside.1) inside.2)
+
+      list_there : (at : ℕ) → is_some (span_at (get s) at) ≡ true → (o : Option Node) → get s at ≡ o → (list : ℕ) × IsIn a list at
+      list_there at live None vacant =
+          absurd (let none = ap is_some (live_value (get s) at live ∙ ap (λ (o : Option Node). option_map (λ n. n.span) o) vacant) in cc)
+      list_there at live (Some node) found =
+          let of : list_in (get s) at ≡ Some node.list = ap (λ (o : Option Node). option_map (λ n. n.list) o) found in
+          let there = shown.held at node.list of in
+          elim (Contains-cons_cases node.list at there.0 there.2) [
+            | inl same ↦ absurd (let none = ap (λ (b : Bool). is_some (cond b None (value_in (get s) at))) (test_head (get s) at (of ∙ ap Some same)) in cc)
+            | inr inside ↦
+                let split = split_at there.0 at inside in
+                (node.list, (split.0, split.1, sym (shown.lists node.list) ∙ list_of_ring s node.list there.0 there.1 ∙ ap Some split.2))
+          ]

@@ -13,7 +13,7 @@ use Rattle.span_arena.specs.Arena.{list_of, span_of, last_from}
 use Rattle.span_arena.specs.Links.{Nodes, list_in, next_in, previous_in, value_in, is_head, view_of, IsLinked, IsRing, IsHeld, with_at}
 use Rattle.span_arena.proofs.DistinctLemmas.{here, not_in_none, apart_from_first, distinct_left, distinct_right, distinct_between, distinct_push, first_or, last_there}
 use Rattle.span_arena.proofs.ChainLemmas.{chain_front, chain_last, chain_lists, ring_lists, chain_kept}
-use Rattle.span_arena.proofs.ViewLemmas.{test_head, head_test, list_of_ring, no_list, span_of_view}
+use Rattle.span_arena.proofs.ViewLemmas.{head_test, list_of_ring, no_list, span_of_view}
 
 -- the changed key, and each other
 pub with_same : {X : Type 0} (f : ℕ → Option X) (at : ℕ) (x : Option X) (key : ℕ) → key ≡ at → with_at f at x key ≡ x
@@ -49,14 +49,13 @@ module _ (old new : Nodes) where
   }
 
   -- a change of one list leaves lists
-  pub held_changed : (list : ℕ) → IsHeld old → ((other : ℕ) → other ≢ list → Leaves old new other) → (list_in new list ≡ Some list → (ids : List ℕ) × IsRing new list ids) → IsHeld new
-  held_changed list held leaves changed = λ other head.
+  pub held_changed : (list : ℕ) → IsHeld old → ((other : ℕ) → other ≢ list → Leaves old new other) → ((key other : ℕ) → other ≢ list → list_in new key ≡ Some other → list_in old key ≡ Some other) → ((key : ℕ) → list_in new key ≡ Some list → (ids : List ℕ) × IsRing new list ids × Contains (list ∷ ids) key) → IsHeld new
+  held_changed list held leaves was changed = λ key other of.
       elim (cases_eq other list) [
-        | inl same ↦ subst (λ (l : ℕ). (ids : List ℕ) × IsRing new l ids) (sym same) (changed (subst (λ (l : ℕ). list_in new l ≡ Some l) same head))
+        | inl same ↦ subst (λ (l : ℕ). (ids : List ℕ) × IsRing new l ids × Contains (l ∷ ids) key) (sym same) (changed key (subst (λ (l : ℕ). list_in new key ≡ Some l) same of))
         | inr differs ↦
-            let left = leaves other differs in
-            let there = held other (head_test old other (sym left.head ∙ test_head new other head)) in
-            (there.0, ring_kept other there.0 left there.1)
+            let there = held key other (was key other differs of) in
+            (there.0, ring_kept other there.0 (leaves other differs) there.1, there.2)
       ]
 
 -- contracts see no change of a list that was left
@@ -65,7 +64,7 @@ list_left old new held list leaves = by (is_head (get old) list) refl
   where
     by : (b : Bool) → is_head (get old) list ≡ b → list_of (view_of new) list ≡ list_of (view_of old) list
     by true test =
-        let there = held list (head_test (get old) list test) in
+        let there = held list list (head_test (get old) list test) in
         list_of_ring new list there.0 (ring_kept (get old) (get new) list there.0 leaves there.1) ∙ sym (list_of_ring old list there.0 there.1)
     by false test = no_list new list (leaves.head ∙ test) ∙ sym (no_list old list test)
 

@@ -4,16 +4,16 @@ use Rattle.std.specs.Option.{option_map}
 use Rattle.std.proofs.lemmas.Bool.{cases_eq}
 use Rattle.std.proofs.lemmas.Map.Keys.{IsDistinct-tail}
 use Rattle.std.proofs.lemmas.List.Elements.{Contains-append_left}
-use Rattle.std.proofs.lemmas.Option.{same_Some}
+use Rattle.std.proofs.lemmas.Option.{same_Some, none-some}
 use Rattle.slab.specs.Slab.{Slab, get, Updates}
 use Rattle.slab.proofs.SlabLemmas.{Contains-cons}
 use Rattle.span_arena.specs.declared.Span.{Span}
 use Rattle.span_arena.specs.declared.nodes.Node.{Node}
 use Rattle.span_arena.specs.Arena.{span_of, last_from, SetsList, SetsSpan}
 use Rattle.span_arena.specs.Links.{Nodes, list_in, next_in, previous_in, value_in, is_head, view_of, IsBetween, IsRing, IsHeld, with_at, NextSet, PreviousSet, IsCut}
-use Rattle.span_arena.proofs.DistinctLemmas.{here, apart_from_first, distinct_between, distinct_without, first_or, last_there, first_there}
+use Rattle.span_arena.proofs.DistinctLemmas.{contains_away, here, apart_from_first, distinct_between, distinct_without, first_or, last_there, first_there}
 use Rattle.span_arena.proofs.ChainLemmas.{chain_front, chain_back, chain_first, chain_last, chain_from, chain_onto}
-use Rattle.span_arena.proofs.ViewLemmas.{test_other, test_none, list_of_ring, span_of_view}
+use Rattle.span_arena.proofs.ViewLemmas.{ring_same, test_other, test_none, list_of_ring, span_of_view}
 use Rattle.span_arena.proofs.ChangeLemmas.{with_same, with_other, Leaves, held_changed, list_left, span_left, same_test, front_distinct, rest_distinct, front_in, rest_in, rest_apart}
 
 module _ (old : Nodes) (list : ℕ) (front : List ℕ) (key : ℕ) (back : List ℕ) (ring : IsRing old list (front ++ key ∷ back)) where
@@ -121,7 +121,18 @@ module _ (old : Nodes) (list : ℕ) (front : List ℕ) (key : ℕ) (back : List 
         apart k side of same is = differs (same_Some other list (sym of ∙ ap (list_in old) same ∙ is))
 
     pub cut_held : IsHeld old → IsHeld new
-    cut_held held = held_changed old new list held cut_leaves (λ head. (front ++ back, cut_ring))
+    cut_held held = held_changed old new list held cut_leaves was changed
+      where
+        away : (k l : ℕ) → list_in new k ≡ Some l → k ≢ key
+        away k l of same = none-some l (sym (cut.lists k ∙ with_same (list_in old) key None k same) ∙ of)
+
+        was : (k other : ℕ) → other ≢ list → list_in new k ≡ Some other → list_in old k ≡ Some other
+        was k other differs of = sym (list_stays k (away k other of)) ∙ of
+
+        changed : (k : ℕ) → list_in new k ≡ Some list → (ids : List ℕ) × IsRing new list ids × Contains (list ∷ ids) k
+        changed k of =
+            let there = held k list (sym (list_stays k (away k list of)) ∙ of) in
+            (front ++ back, cut_ring, contains_away (list ∷ front) key back k (away k list of) (subst (λ (l : List ℕ). Contains (list ∷ l) k) (ring_same old list there.0 (front ++ key ∷ back) there.1 ring) there.2))
 
 module _ (old new : Slab Node) (list : ℕ) (front : List ℕ) (key : ℕ) (back : List ℕ) (ring : IsRing (get old) list (front ++ key ∷ back)) (cut : IsCut (get old) (get new) (first_side (get old) list front key back ring) (last_side (get old) list front key back ring) key) (held : IsHeld (get old)) where
   pub cut_lists : SetsList (view_of old) (view_of new) list (Some (front ++ back))

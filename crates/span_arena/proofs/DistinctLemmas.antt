@@ -1,5 +1,5 @@
 -- Lists of keys in which none comes twice.
-use Rattle.std.proofs.Common.{◌≡◌, ◌≢◌, ℕ, ◌<◌, ◌≤◌, List, [], ◌∷◌, ◌++◌, get_or, length, false, refl, subst, sym, ◌∙◌, inl, inr, arith, Contains, eqb}
+use Rattle.std.proofs.Common.{◌≡◌, ◌≢◌, ℕ, ◌<◌, ◌≤◌, List, [], ◌∷◌, ◌++◌, get_or, length, false, refl, subst, sym, ap, ◌∙◌, inl, inr, arith, Contains, eqb}
 use Rattle.std.specs.List.{IsDistinct}
 use Rattle.std.proofs.lemmas.Bool.{eqb-false, eqb-true, ne_eqb}
 use Rattle.std.proofs.lemmas.Map.Keys.{IsDistinct-head, IsDistinct-tail, IsDistinct-cons}
@@ -100,3 +100,23 @@ first_there (y ∷ ys) x = here y (ys ++ x ∷ [])
 -- keys below a bound, none twice, are at most as many
 pub few_below : (xs : List ℕ) (n : ℕ) → IsDistinct eqb xs → ((x : ℕ) → Contains xs x → x < n) → length xs ≤ n
 few_below xs n distinct below = length-le_from_distinct_below xs n distinct (λ q found. below q (Contains-from_any (λ x y e. eqb-true x y e) q xs found))
+
+-- what is in a list and isn't one element is in the list without it
+pub contains_away : (xs : List ℕ) (y : ℕ) (ys : List ℕ) (z : ℕ) → z ≢ y → Contains (xs ++ y ∷ ys) z → Contains (xs ++ ys) z
+contains_away xs y ys z differs there =
+    elim (Contains-append_cases xs (y ∷ ys) z there) [
+      | inl left ↦ Contains-append_left xs ys z left
+      | inr right ↦ elim (Contains-cons_cases y z ys right) [
+        | inl same ↦ absurd (differs (sym same))
+        | inr later ↦ Contains-append_right xs ys z later
+      ]
+    ]
+
+-- what is in a list has a place in it
+pub split_at : (xs : List ℕ) (x : ℕ) → Contains xs x → (front : List ℕ) × (back : List ℕ) × (xs ≡ front ++ x ∷ back)
+split_at [] x there = absurd (not_in_none x there)
+split_at (y ∷ ys) x there =
+    elim (Contains-cons_cases y x ys there) [
+      | inl same ↦ ([], ys, ap (λ (k : ℕ). k ∷ ys) same)
+      | inr later ↦ let rest = split_at ys x later in (y ∷ rest.0, rest.1, ap (λ (l : List ℕ). y ∷ l) rest.2)
+    ]

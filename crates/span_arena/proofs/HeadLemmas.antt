@@ -1,15 +1,16 @@
 -- Lists that come and go, and a span that changes.
-use Rattle.std.proofs.Common.{◌≡◌, ◌≢◌, ℕ, Bool, true, false, [], Option, Some, None, is_some, cond, refl, sym, ap, ◌∙◌, inl, inr}
+use Rattle.std.proofs.Common.{◌≡◌, ◌≢◌, ℕ, Bool, true, false, [], Option, Some, None, is_some, cond, refl, sym, ap, ◌∙◌, inl, inr, Contains, List, ◌∷◌, subst}
 use Rattle.std.specs.Option.{option_map}
 use Rattle.std.proofs.lemmas.Bool.{cases_eq}
 use Rattle.std.proofs.lemmas.Option.{same_Some, none-some}
 use Rattle.slab.specs.Slab.{Slab, get, Updates}
+use Rattle.slab.proofs.SlabLemmas.{Contains-cons_cases}
 use Rattle.span_arena.specs.declared.Span.{Span}
 use Rattle.span_arena.specs.declared.nodes.Node.{Node}
 use Rattle.span_arena.specs.Arena.{list_of, span_of, SetsList, SetsSpan, SameLists, SameSpans}
 use Rattle.span_arena.specs.Links.{Nodes, list_in, next_in, previous_in, value_in, is_head, view_of, IsRing, IsHeld, HeadPut}
-use Rattle.span_arena.proofs.DistinctLemmas.{not_in_none, distinct_cons, distinct_none}
-use Rattle.span_arena.proofs.ViewLemmas.{test_head, head_test, test_none, list_of_ring, no_list, span_of_view}
+use Rattle.span_arena.proofs.DistinctLemmas.{here, not_in_none, distinct_cons, distinct_none}
+use Rattle.span_arena.proofs.ViewLemmas.{ring_same, test_head, test_none, list_of_ring, no_list, span_of_view}
 use Rattle.span_arena.proofs.ChangeLemmas.{with_same, with_other, Leaves, ring_kept, held_changed, list_left, span_left, same_test}
 
 -- the fields of a key that has no node
@@ -36,7 +37,23 @@ module _ (old new : Nodes) (list : ℕ) (put : HeadPut old new list) where
   }
 
   pub head_held : IsHeld old → IsHeld new
-  head_held held = held_changed old new list held head_leaves (λ head. ([], head_ring))
+  head_held held = held_changed old new list held head_leaves was changed
+    where
+      kept : (k l : ℕ) → k ≢ list → list_in new k ≡ Some l → list_in old k ≡ Some l
+      kept k l differs of = sym (put.lists k ∙ with_other (list_in old) list (Some list) k differs) ∙ of
+
+      was : (k other : ℕ) → other ≢ list → list_in new k ≡ Some other → list_in old k ≡ Some other
+      was k other differs of = kept k other (λ same. differs (same_Some other list (sym of ∙ put.lists k ∙ with_same (list_in old) list (Some list) k same))) of
+
+      changed : (k : ℕ) → list_in new k ≡ Some list → (ids : List ℕ) × IsRing new list ids × Contains (list ∷ ids) k
+      changed k of = (
+        [],
+        head_ring,
+        elim (cases_eq k list) [
+          | inl same ↦ subst (Contains (list ∷ [])) (sym same) (here list [])
+          | inr differs ↦ absurd (none-some list (sym (no_list_in old list put.vacant) ∙ (held k list (kept k list differs of)).1.head))
+        ],
+      )
 
 module _ (old new : Slab Node) (list : ℕ) (put : HeadPut (get old) (get new) list) (held : IsHeld (get old)) where
   pub head_lists : SetsList (view_of old) (view_of new) list (Some [])
@@ -77,7 +94,25 @@ module _ (old new : Slab Node) (list : ℕ) (ring : IsRing (get old) list []) (o
   }
 
   pub out_held : IsHeld (get new)
-  out_held = held_changed (get old) (get new) list held out_leaves (λ head. absurd (none-some list (sym (no_list_in (get new) list out.changed) ∙ head)))
+  out_held = held_changed (get old) (get new) list held out_leaves was changed
+    where
+      away : (k l : ℕ) → list_in (get new) k ≡ Some l → k ≢ list
+      away k l of same = none-some l (sym (ap (list_in (get new)) same ∙ no_list_in (get new) list out.changed) ∙ of)
+
+      kept : (k l : ℕ) → list_in (get new) k ≡ Some l → list_in (get old) k ≡ Some l
+      kept k l of = sym (ap (λ (o : Option Node). option_map (λ node. node.list) o) (out.others k (away k l of))) ∙ of
+
+      was : (k other : ℕ) → other ≢ list → list_in (get new) k ≡ Some other → list_in (get old) k ≡ Some other
+      was k other differs of = kept k other of
+
+      changed : (k : ℕ) → list_in (get new) k ≡ Some list → (ids : List ℕ) × IsRing (get new) list ids × Contains (list ∷ ids) k
+      changed k of =
+          let there = held k list (kept k list of) in
+          let inside : Contains (list ∷ []) k = subst (λ (l : List ℕ). Contains (list ∷ l) k) (ring_same (get old) list there.0 [] there.1 ring) there.2 in
+          absurd (elim (Contains-cons_cases list k [] inside) [
+            | inl same ↦ away k list of (sym same)
+            | inr none ↦ not_in_none k none
+          ])
 
   pub out_lists : SetsList (view_of old) (view_of new) list None
   out_lists = record {
@@ -116,9 +151,9 @@ module _ (old new : Slab Node) (key : ℕ) (node : Node) (span : Span) (found : 
   }
 
   pub span_held : IsHeld (get old) → IsHeld (get new)
-  span_held held = λ list head.
-      let there = held list (head_test (get old) list (sym (span_leaves list).head ∙ test_head (get new) list head)) in
-      (there.0, ring_kept (get old) (get new) list there.0 (span_leaves list) there.1)
+  span_held held = λ k list of.
+      let there = held k list (sym (field_stays (λ n. n.list) refl k) ∙ of) in
+      (there.0, ring_kept (get old) (get new) list there.0 (span_leaves list) there.1, there.2)
 
   pub span_lists : IsHeld (get old) → SameLists (view_of old) (view_of new)
   span_lists held list = list_left old new held list (span_leaves list)

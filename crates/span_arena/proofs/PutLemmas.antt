@@ -1,8 +1,8 @@
 -- A list after a span came in.
-use Rattle.std.proofs.Common.{◌≡◌, ◌≢◌, ℕ, Bool, false, List, [], ◌∷◌, ◌++◌, Option, Some, None, cond, refl, sym, ap, ◌∙◌, inl, inr, Contains}
+use Rattle.std.proofs.Common.{◌≡◌, ◌≢◌, ℕ, Bool, false, List, [], ◌∷◌, ◌++◌, Option, Some, None, cond, refl, sym, ap, ◌∙◌, inl, inr, Contains, subst}
 use Rattle.std.specs.Option.{option_map}
 use Rattle.std.proofs.lemmas.Bool.{cases_eq}
-use Rattle.std.proofs.lemmas.List.Elements.{Contains-append_left}
+use Rattle.std.proofs.lemmas.List.Elements.{Contains-append_left, Contains-append_right}
 use Rattle.std.proofs.lemmas.Option.{same_Some, none-some}
 use Rattle.slab.specs.Slab.{Slab, get}
 use Rattle.slab.proofs.SlabLemmas.{Contains-cons}
@@ -10,9 +10,9 @@ use Rattle.span_arena.specs.declared.Span.{Span}
 use Rattle.span_arena.specs.declared.nodes.Node.{Node}
 use Rattle.span_arena.specs.Arena.{span_of, SetsList, SetsSpan}
 use Rattle.span_arena.specs.Links.{Nodes, list_in, next_in, previous_in, value_in, is_head, view_of, IsRing, IsHeld, with_at, IsPut}
-use Rattle.span_arena.proofs.DistinctLemmas.{distinct_with}
+use Rattle.span_arena.proofs.DistinctLemmas.{here, contains_without, distinct_with}
 use Rattle.span_arena.proofs.ChainLemmas.{chain_front, chain_back, ring_lists, chain_from, chain_onto}
-use Rattle.span_arena.proofs.ViewLemmas.{test_other, test_none, list_of_ring, span_of_view}
+use Rattle.span_arena.proofs.ViewLemmas.{ring_same, test_other, test_none, list_of_ring, span_of_view}
 use Rattle.span_arena.proofs.ChangeLemmas.{with_same, with_other, Leaves, held_changed, list_left, span_left, same_test, before, after, before_in, after_in, front_apart, rest_apart, front_distinct, rest_distinct, front_in, rest_in}
 
 module _ (old new : Nodes) (list : ℕ) (front rest : List ℕ) (ring : IsRing old list (front ++ rest)) (key : ℕ) (span : Span) (put : IsPut old new list (before old list front rest ring) (after old list front rest ring) key span) where
@@ -114,7 +114,26 @@ module _ (old new : Nodes) (list : ℕ) (front rest : List ℕ) (ring : IsRing o
       apart k side of same is = differs (same_Some other list (sym of ∙ ap (list_in old) same ∙ is))
 
   pub put_held : IsHeld old → IsHeld new
-  put_held held = held_changed old new list held put_leaves (λ head. (front ++ key ∷ rest, put_ring))
+  put_held held = held_changed old new list held put_leaves was changed
+    where
+      was : (k other : ℕ) → other ≢ list → list_in new k ≡ Some other → list_in old k ≡ Some other
+      was k other differs of =
+          elim (cases_eq k key) [
+            | inl same ↦ absurd (differs (same_Some other list (sym of ∙ ap (list_in new) same ∙ new_in)))
+            | inr fresh ↦ sym (list_stays k fresh) ∙ of
+          ]
+
+      changed : (k : ℕ) → list_in new k ≡ Some list → (ids : List ℕ) × IsRing new list ids × Contains (list ∷ ids) k
+      changed k of = (
+        front ++ key ∷ rest,
+        put_ring,
+        elim (cases_eq k key) [
+          | inl same ↦ Contains-append_right (list ∷ front) (key ∷ rest) k (subst (Contains (key ∷ rest)) (sym same) (here key rest))
+          | inr fresh ↦
+              let there = held k list (sym (list_stays k fresh) ∙ of) in
+              contains_without (list ∷ front) key rest k (subst (λ (l : List ℕ). Contains (list ∷ l) k) (ring_same old list there.0 (front ++ rest) there.1 ring) there.2)
+        ],
+      )
 
 module _ (old new : Slab Node) (list : ℕ) (front rest : List ℕ) (ring : IsRing (get old) list (front ++ rest)) (key : ℕ) (span : Span) (put : IsPut (get old) (get new) list (before (get old) list front rest ring) (after (get old) list front rest ring) key span) (held : IsHeld (get old)) where
   pub put_lists : SetsList (view_of old) (view_of new) list (Some (front ++ key ∷ rest))

@@ -66,6 +66,14 @@ along-chain nodes list from (k ∷ rest) to (suc n) apart long chain =
     more : (x y : ℕ) (xs : List ℕ) → Contains xs y → Contains (x ∷ xs) y
     more x y xs there = (suc there.0, omega (arith, there.1), there.2)
 
+-- a list has one ring
+pub ring_same : (nodes : Nodes) (list : ℕ) (ids others : List ℕ) → IsRing nodes list ids → IsRing nodes list others → ids ≡ others
+ring_same nodes list ids others ring other =
+    let n : ℕ = length ids + length others in
+    sym (along-chain nodes list list ids list n (apart_from_first list ids ring.distinct) (omega arith) ring.chain)
+    ∙ ap (along nodes list n) (same_Some (first_or ids list) (first_or others list) (sym (chain_first nodes list list ids list ring.chain).0 ∙ (chain_first nodes list list others list other.chain).0))
+    ∙ along-chain nodes list list others list n (apart_from_first list others other.distinct) (omega arith) other.chain
+
 module _ (s : Slab Node) where
   -- a key of a node has a slot
   pub has_slot : (key list : ℕ) → list_in (get s) key ≡ Some list → key < length s.slots
@@ -115,7 +123,7 @@ module _ (s : Slab Node) where
     where
       by : (b : Bool) → is_head (get s) list ≡ b → IsRing (get s) list ids
       by true test =
-          let there = held list (head_test (get s) list test) in
+          let there = held list list (head_test (get s) list test) in
           subst (IsRing (get s) list) (same_Some there.0 ids (sym (list_of_ring list there.0 there.1) ∙ is)) there.1
       by false test = absurd (let none = no_list list test in cc)
 
@@ -124,5 +132,5 @@ module _ (s : Slab Node) where
   ring_there held list some = by (is_head (get s) list) refl
     where
       by : (b : Bool) → is_head (get s) list ≡ b → (ids : List ℕ) × IsRing (get s) list ids
-      by true test = held list (head_test (get s) list test)
+      by true test = let there = held list list (head_test (get s) list test) in (there.0, there.1)
       by false test = absurd (let none = ap is_some (no_list list test) in cc)

@@ -37,11 +37,12 @@ module _ (arena : Arena) where
   abbrev pub IsIn : ℕ → ℕ → Type 0
   IsIn list at = (front : List ℕ) × (back : List ℕ) × (list_of list ≡ Some (front ++ at ∷ back))
 
-  -- each id in a list is a span's, and is in that list alone, and there once
+  -- each id in a list is a span's, and is in that list alone, and there once; and each span's id is in a list
   pub record IsSound : Type 0 where
     pub live : (list at : ℕ) → IsIn list at → IsSome (span_of at)
     pub once : (list : ℕ) (ids : List ℕ) → list_of list ≡ Some ids → IsDistinct nat_eq ids
     pub alone : (list other at : ℕ) → IsIn list at → IsIn other at → list ≡ other
+    pub listed : (at : ℕ) → IsSome (span_of at) → (list : ℕ) × IsIn list at
 
 module _ (old new : Arena) where
   -- the list with an id is another, or none, and every other list is as it was

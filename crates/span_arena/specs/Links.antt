@@ -1,6 +1,6 @@
 -- How the links of the lists lie in their slab.
 use Rattle.std.specs.Prelude.{◌≡◌, ◌≢◌, ℕ, zero, suc, ◌-◌, Bool, false, ◌==◌, nat_eq, if◌then◌else◌, List, [], ◌∷◌, length, Option, Some, None}
-use Rattle.std.specs.List.{IsDistinct}
+use Rattle.std.specs.List.{Contains, IsDistinct}
 use Rattle.std.specs.Option.{option_map, option_map_or}
 use Rattle.slab.specs.Slab.{Slab, get, slab_len}
 use Rattle.span_arena.specs.declared.Span.{Span}
@@ -75,9 +75,9 @@ module _ (nodes : Nodes) where
     pub chain : IsChain list list ids list
     pub distinct : IsDistinct nat_eq (list ∷ ids)
 
-  -- each head has a ring
+  -- each node lies on the ring of its list
   abbrev pub IsHeld : Type 0
-  IsHeld = (list : ℕ) → list_in nodes list ≡ Some list → (ids : List ℕ) × IsRing list ids
+  IsHeld = (key list : ℕ) → list_in nodes key ≡ Some list → (ids : List ℕ) × IsRing list ids × Contains (list ∷ ids) key
 
 -- a function that gives this for one key, and what f gives for each other
 abbrev pub with_at : {X : Type 0} → (ℕ → Option X) → ℕ → Option X → ℕ → Option X

@@ -240,7 +240,7 @@ impl Spans {
         self.drop_head(list);
     }
 
-    /// A law: each id in a list is a span's, and is in that list alone, and there once.
+    /// A law: each id in a list is a span's, and is in that list alone, and there once; and each span's id is in a list.
     pub fn lists_are_sound(&self)
         ensures { IsSound self.now }
     {
