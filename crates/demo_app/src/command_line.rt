@@ -1,8 +1,11 @@
 //! The command line.
 
-ghost use Rattle.std.specs.Prelude.{◌≡◌, ◌∷◌, [], List, ℕ, IfErr, IsErr, IfOk, map, codes, string_bytes};
+ghost use Rattle.std.specs.Prelude.{◌≡◌, ◌∷◌, [], List, ℕ, false, IfErr, IsErr, IfOk, map, codes, slice_get, string_bytes};
+ghost use Rattle.std.specs.Option.{option_map_or};
+ghost use Rattle.std.specs.Str.{bytes_eq};
 ghost use Rattle.clap.specs.Values.{kind_of};
 ghost use Rattle.demo_app.specs.CommandLine.{HasViewers};
+ghost use Rattle.demo_app.specs.declared.command_line.Chosen.TheVariants as chosen;
 
 use crate::serve::ServeOptions;
 use clap::error::ErrorKind;
@@ -65,31 +68,35 @@ Status: 0; 1 after a refused screen; 2 after a refused command line, and after t
 text; 3 after want of memory; 4 after a check that failed; 5 after a network fault, as
 of a port that is in use, and after a write that failed.";
 
-/// An option of `serve` with a number.
-fn number<'a>(alloc: Global, name: &'a str, help: &'a str) -> Arg<'a> {
+/// What `--help` says of `serve`, whose options are read by a command of their own.
+const OTHER_HELP: &str = "\
+  serve  shows a screen to viewers over TCP; `vncdemo serve --help` tells its options";
+
+/// An option of `serve`.
+fn option<'a>(alloc: Global, name: &'a str, help: &'a str) -> Arg<'a> {
     Arg::new(alloc, name).long(name).help(help)
 }
 
 /// The command `serve`.
-fn serve_command(alloc: Global) -> Result<Command<'static>, AllocError> {
-    let port = number(alloc, "port", "the port")
+fn serve_command<'a>(alloc: Global) -> Result<Command<'a>, AllocError> {
+    let port = option(alloc, "port", "the port")
         .value_parser(value_parser!(u16))
         .default_value("5900");
-    let width = number(alloc, "width", "columns of the screen, 1 to 8192")
+    let width = option(alloc, "width", "columns of the screen, 1 to 8192")
         .value_parser(value_parser!(u32))
         .default_value("640");
-    let height = number(
+    let height = option(
         alloc,
         "height",
         "rows of the screen, 1 to 8192; at most 2^24 places in all",
     )
     .value_parser(value_parser!(u32))
     .default_value("480");
-    let name = number(alloc, "name", "the desktop's name, at most 255 bytes").default_value("demo");
-    let limit = number(alloc, "limit", "rectangles in an update, 1 to 1000")
+    let name = option(alloc, "name", "the desktop's name, at most 255 bytes").default_value("demo");
+    let limit = option(alloc, "limit", "rectangles in an update, 1 to 1000")
         .value_parser(value_parser!(u32))
         .default_value("50");
-    let viewers = number(alloc, "viewers", "how many viewers are served, 1 to 64")
+    let viewers = option(alloc, "viewers", "how many viewers are served, 1 to 64")
         .value_parser(value_parser!(u32).range(1..=64))
         .default_value("1");
     let check = Arg::new(alloc, "check")
@@ -126,6 +133,52 @@ fn serve_of(alloc: Global, matches: &ArgMatches<'_>) -> Result<Chosen, AllocErro
     Ok(Chosen::Serve { port, options })
 }
 
+/// What a line that begins with `serve` chooses.
+fn serve_line(alloc: Global, words: &[String]) -> Result<Chosen, Error>
+    ensures { IfOk result HasViewers }
+{
+    let command = Command::new(alloc, "vncdemo")
+        .version(VERSION)
+        .subcommand_required(true)
+        .subcommand(serve_command(alloc)?)?;
+    let matches = command.try_get_matches_from(words)?;
+    match matches.subcommand_matches("serve") {
+        Some(matches) => Ok(serve_of(alloc, matches)?),
+        None => Err(Error::from(AllocError)),
+    }
+}
+
+/// What each other line chooses.
+fn other_line(alloc: Global, words: &[String]) -> Result<Chosen, Error>
+    ensures play { (program : List ℕ) → map string_bytes words.now ≡ program ∷ codes "play" ∷ [] →
+        IfErr result (λ e. kind_of e ≡ ErrorKind.OutOfMemory) }
+    ensures alone { (program : List ℕ) → map string_bytes words.now ≡ program ∷ [] → IsErr result }
+    ensures chosen { IfOk result (λ c. c ≡ chosen.Play) }
+{
+    let play = Command::new(alloc, "play")
+        .about("answers a script from standard input")
+        .after_help(SCRIPT_HELP);
+    let command = Command::new(alloc, "vncdemo")
+        .about("a server of remote framebuffers")
+        .after_help(OTHER_HELP)
+        .version(VERSION)
+        .subcommand_required(true)
+        .arg_required_else_help(true)
+        .subcommand(play)?;
+    let _matches = command.try_get_matches_from(words)?;
+    Ok(Chosen::Play)
+}
+
+/// Whether a line's first word behind the program's name is `serve`.
+fn is_serve(words: &[String]) -> bool
+    ensures { result ≡ option_map_or (λ word. bytes_eq word (codes "serve")) (slice_get (map string_bytes words.now) 1) false }
+{
+    match words.get(1) {
+        Some(word) => word.as_str() == "serve",
+        None => false,
+    }
+}
+
 /// What a command line chooses; its first word is the program's name. An error's text is what is to be printed,
 /// of `--help` and `--version` too.
 pub fn line_of(alloc: Global, words: &[String]) -> Result<Chosen, Error>
@@ -135,19 +188,9 @@ pub fn line_of(alloc: Global, words: &[String]) -> Result<Chosen, Error>
     ensures alone { (program : List ℕ) → map string_bytes words.now ≡ program ∷ [] → IsErr result }
     ensures viewers { IfOk result HasViewers }
 {
-    let play = Command::new(alloc, "play")
-        .about("answers a script from standard input")
-        .after_help(SCRIPT_HELP);
-    let command = Command::new(alloc, "vncdemo")
-        .about("a server of remote framebuffers")
-        .version(VERSION)
-        .subcommand_required(true)
-        .arg_required_else_help(true)
-        .subcommand(play)?
-        .subcommand(serve_command(alloc)?)?;
-    let matches = command.try_get_matches_from(words)?;
-    match matches.subcommand_matches("serve") {
-        Some(matches) => Ok(serve_of(alloc, matches)?),
-        None => Ok(Chosen::Play),
+    if is_serve(words) {
+        serve_line(alloc, words)
+    } else {
+        other_line(alloc, words)
     }
 }

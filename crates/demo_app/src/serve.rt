@@ -1,6 +1,6 @@
 //! `serve`: a screen over TCP, on which viewers paint places, ring bells and copy texts.
 
-ghost use Rattle.std.specs.Prelude.{◌≡◌, ◌<◌, ◌⊎◌};
+ghost use Rattle.std.specs.Prelude.{◌≡◌, ◌<◌, ◌⊎◌, IfOk};
 
 use crate::trouble::{Trouble, flush, print, report};
 use messages::Input;

@@ -1,7 +1,6 @@
 //! Viewers over loopback: what each is sent, why it ended, and that nobody waits for another.
 
-ghost use Rattle.std.specs.Prelude.{◌≡◌, ◌<◌, IfOk};
-ghost use Rattle.scene.specs.Alone.{config_refusal};
+ghost use Rattle.std.specs.Prelude.{◌≡◌, ◌<◌};
 
 use crate::{Application, ServeError, serve_viewers};
 use input_queue::Told;
@@ -166,9 +165,7 @@ fn talk_all<R: Net<Listener = TcpListener, Stream = TcpStream>>(
 }
 
 /// 4 columns and 3 rows.
-fn config(alloc: Global, history: History) -> Result<Config, ScreenError>
-    ensures { IfOk result (λ config. config_refusal config ≡ None) }
-{
+fn config(alloc: Global, history: History) -> Result<Config, ScreenError> {
     Ok(Config {
         width: 4,
         height: 3,
