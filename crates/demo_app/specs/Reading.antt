@@ -1,7 +1,7 @@
 -- Why a script could not be read.
 use Rattle.std.specs.Prelude.{ℕ, ⊤, ◌^◌, ◌<◌, List, length, Option, IfSome}
-use Rattle.demo_app.specs.declared.reading.Trouble.{Trouble}
-use Rattle.demo_app.specs.declared.reading.Trouble.TheVariants.{OutOfMemory, ReadFault, TooLong, WriteFault}
+use Rattle.demo_app.specs.declared.trouble.Trouble.{Trouble}
+use Rattle.demo_app.specs.declared.trouble.Trouble.TheVariants.{OutOfMemory, ReadFault, TooLong, NetworkFault, WriteFault}
 
 -- a read can only fail where there was one, and a script that is too long has more than 2 ^ 24 bytes
 abbrev pub CanEndReading : ℕ → Option (List ℕ) → Trouble → Type 0
@@ -9,3 +9,4 @@ CanEndReading reads known OutOfMemory = ⊤
 CanEndReading reads known ReadFault = 0 < reads
 CanEndReading reads known TooLong = IfSome known (λ bytes. 2 ^ 24 < length bytes)
 CanEndReading reads known WriteFault = ⊥
+CanEndReading reads known NetworkFault = ⊥

@@ -1,15 +1,25 @@
-ghost use Rattle.std.specs.Prelude.{◌≡◌, ◌∷◌, [], List, ℕ, IfErr, IsErr, map, codes, string_bytes};
-ghost use Rattle.clap.specs.Values.{kind_of};
+//! The command line.
 
+ghost use Rattle.std.specs.Prelude.{◌≡◌, ◌∷◌, [], List, ℕ, false, IfErr, IsErr, IfOk, map, codes, slice_get, string_bytes};
+ghost use Rattle.std.specs.Option.{option_map_or};
+ghost use Rattle.std.specs.Str.{bytes_eq};
+ghost use Rattle.clap.specs.Values.{kind_of};
+ghost use Rattle.demo_app.specs.CommandLine.{HasViewers};
+ghost use Rattle.demo_app.specs.declared.command_line.Chosen.TheVariants as chosen;
+
+use crate::serve::ServeOptions;
 use clap::error::ErrorKind;
-use clap::{Command, Error};
-use std::alloc::Global;
+use clap::{Arg, ArgAction, ArgMatches, Command, Error, value_parser};
+use listed::Listed;
+use std::alloc::{AllocError, Global};
 
 /// What the program is asked to do.
-#[derive(Clone, Copy, Debug, PartialEq, Eq)]
+#[derive(Debug, Drop)]
 pub enum Chosen {
     /// A script is read from standard input and answered on standard output.
     Play,
+    /// Viewers are served on a port of 127.0.0.1.
+    Serve { port: u16, options: ServeOptions },
 }
 
 /// The version that `--version` prints.
@@ -43,6 +53,132 @@ Status: 0; 1 after a bad line or a refused screen; 2 after a refused command lin
 and after this text; 3 after want of memory; 5 after a read or a write that failed,
 and after a script of more than 2^24 bytes.";
 
+/// What `serve --help` says of the viewers, behind the usage.
+const SERVE_HELP: &str = "\
+Viewers connect to 127.0.0.1, with security type None. A pointer whose first button is
+down paints its place white, a key that goes down rings the bell, and a text is sent
+back. The server ends once so many viewers have connected and left; then it prints a
+line for each, and with --check whether each was sent what it was to be sent.
+
+In two terminals:
+  vncdemo serve --port 5901
+  vncviewer 127.0.0.1::5901
+
+Status: 0; 1 after a refused screen; 2 after a refused command line, and after this
+text; 3 after want of memory; 4 after a check that failed; 5 after a network fault, as
+of a port that is in use, and after a write that failed.";
+
+/// What `--help` says of `serve`, whose options are read by a command of their own.
+const OTHER_HELP: &str = "\
+  serve  shows a screen to viewers over TCP; `vncdemo serve --help` tells its options";
+
+/// An option of `serve`.
+fn option<'a>(alloc: Global, name: &'a str, help: &'a str) -> Arg<'a> {
+    Arg::new(alloc, name).long(name).help(help)
+}
+
+/// The command `serve`.
+fn serve_command<'a>(alloc: Global) -> Result<Command<'a>, AllocError> {
+    let port = option(alloc, "port", "the port")
+        .value_parser(value_parser!(u16))
+        .default_value("5900");
+    let width = option(alloc, "width", "columns of the screen, 1 to 8192")
+        .value_parser(value_parser!(u32))
+        .default_value("640");
+    let height = option(
+        alloc,
+        "height",
+        "rows of the screen, 1 to 8192; at most 2^24 places in all",
+    )
+    .value_parser(value_parser!(u32))
+    .default_value("480");
+    let name = option(alloc, "name", "the desktop's name, at most 255 bytes").default_value("demo");
+    let limit = option(alloc, "limit", "rectangles in an update, 1 to 1000")
+        .value_parser(value_parser!(u32))
+        .default_value("50");
+    let viewers = option(alloc, "viewers", "how many viewers are served, 1 to 64")
+        .value_parser(value_parser!(u32).range(1..=64))
+        .default_value("1");
+    let check = Arg::new(alloc, "check")
+        .long("check")
+        .help("keeps what was drawn, heard and sent, and judges it at the end")
+        .action(ArgAction::SetTrue);
+    Command::new(alloc, "serve")
+        .about("shows a screen to viewers over TCP")
+        .after_help(SERVE_HELP)
+        .arg(port)?
+        .arg(width)?
+        .arg(height)?
+        .arg(name)?
+        .arg(limit)?
+        .arg(viewers)?
+        .arg(check)
+}
+
+/// What the options of `serve` say.
+fn serve_of(alloc: Global, matches: &ArgMatches<'_>) -> Result<Chosen, AllocError>
+    ensures { IfOk result HasViewers }
+{
+    let name = matches.get_str("name").unwrap_or("demo");
+    let options = ServeOptions {
+        width: matches.get_one("width").unwrap_or(640),
+        height: matches.get_one("height").unwrap_or(480),
+        name: Listed::from_slice(alloc, name.as_bytes())?,
+        limit: matches.get_one("limit").unwrap_or(50),
+        // clap refuses all other numbers, and says so
+        viewers: matches.get_one::<u32>("viewers").unwrap_or(1).clamp(1, 64),
+        check: matches.get_flag("check"),
+    };
+    let port = matches.get_one("port").unwrap_or(5900);
+    Ok(Chosen::Serve { port, options })
+}
+
+/// What a line that begins with `serve` chooses.
+fn serve_line(alloc: Global, words: &[String]) -> Result<Chosen, Error>
+    ensures { IfOk result HasViewers }
+{
+    let command = Command::new(alloc, "vncdemo")
+        .version(VERSION)
+        .subcommand_required(true)
+        .subcommand(serve_command(alloc)?)?;
+    let matches = command.try_get_matches_from(words)?;
+    match matches.subcommand_matches("serve") {
+        Some(matches) => Ok(serve_of(alloc, matches)?),
+        None => Err(Error::from(AllocError)),
+    }
+}
+
+/// What each other line chooses.
+fn other_line(alloc: Global, words: &[String]) -> Result<Chosen, Error>
+    ensures play { (program : List ℕ) → map string_bytes words.now ≡ program ∷ codes "play" ∷ [] →
+        IfErr result (λ e. kind_of e ≡ ErrorKind.OutOfMemory) }
+    ensures alone { (program : List ℕ) → map string_bytes words.now ≡ program ∷ [] → IsErr result }
+    ensures chosen { IfOk result (λ c. c ≡ chosen.Play) }
+{
+    let play = Command::new(alloc, "play")
+        .about("answers a script from standard input")
+        .after_help(SCRIPT_HELP);
+    let command = Command::new(alloc, "vncdemo")
+        .about("a server of remote framebuffers")
+        .after_help(OTHER_HELP)
+        .version(VERSION)
+        .subcommand_required(true)
+        .arg_required_else_help(true)
+        .subcommand(play)?;
+    let _matches = command.try_get_matches_from(words)?;
+    Ok(Chosen::Play)
+}
+
+/// Whether a line's first word behind the program's name is `serve`.
+fn is_serve(words: &[String]) -> bool
+    ensures { result ≡ option_map_or (λ word. bytes_eq word (codes "serve")) (slice_get (map string_bytes words.now) 1) false }
+{
+    match words.get(1) {
+        Some(word) => word.as_str() == "serve",
+        None => false,
+    }
+}
+
 /// What a command line chooses; its first word is the program's name. An error's text is what is to be printed,
 /// of `--help` and `--version` too.
 pub fn line_of(alloc: Global, words: &[String]) -> Result<Chosen, Error>
@@ -50,16 +186,11 @@ pub fn line_of(alloc: Global, words: &[String]) -> Result<Chosen, Error>
     ensures play { (program : List ℕ) → map string_bytes words.now ≡ program ∷ codes "play" ∷ [] →
         IfErr result (λ e. kind_of e ≡ ErrorKind.OutOfMemory) }
     ensures alone { (program : List ℕ) → map string_bytes words.now ≡ program ∷ [] → IsErr result }
+    ensures viewers { IfOk result HasViewers }
 {
-    let play = Command::new(alloc, "play")
-        .about("answers a script from standard input")
-        .after_help(SCRIPT_HELP);
-    let command = Command::new(alloc, "vncdemo")
-        .about("a server of remote framebuffers")
-        .version(VERSION)
-        .subcommand_required(true)
-        .arg_required_else_help(true)
-        .subcommand(play)?;
-    let _matches = command.try_get_matches_from(words)?;
-    Ok(Chosen::Play)
+    if is_serve(words) {
+        serve_line(alloc, words)
+    } else {
+        other_line(alloc, words)
+    }
 }

@@ -7,8 +7,9 @@ ghost use Rattle.play_script.specs.declared.lines.Line.TheVariants as line;
 ghost use Rattle.demo_app.specs.Playing.{StandsFor, Says};
 
 use crate::counted::CountedReader;
-use crate::reading::{Trouble, read_script};
+use crate::reading::read_script;
 use crate::steps::Steps;
+use crate::trouble::{Trouble, flush, print, report};
 use play_script::{Line, answer_text, bad_line_text, cut_line, ok_text, parse_line, refusal_text};
 use screen::{Config, Event, Screen, ScreenError};
 use std::alloc::{AllocError, Global};
@@ -107,24 +108,6 @@ fn step(
     }
 }
 
-fn print<W: Write>(writer: &mut W, text: &[u8]) -> Result<(), Trouble>
-    ensures { OnOk result (Appends (W.contents writer.old) (W.contents writer.new) text.now) }
-{
-    if writer.write_all(text).is_err() {
-        return Err(Trouble::WriteFault);
-    }
-    Ok(())
-}
-
-fn flush<W: Write>(writer: &mut W) -> Result<(), Trouble>
-    ensures { Keeps (W.contents writer.old) (W.contents writer.new) }
-{
-    if writer.flush().is_err() {
-        return Err(Trouble::WriteFault);
-    }
-    Ok(())
-}
-
 // A whole script is played, line by line. Its status is 0, or 1 where it ended early.
 fn play_text<W: Write>(alloc: Global, script: &[u8], writer: &mut W) -> Result<u8, Trouble>
     requires { length script.now ≤ 2 ^ 24 }
@@ -164,22 +147,6 @@ fn play_whole<R: Read, W: Write, L: Ledger>(
     let status = play_text(alloc, &script, writer)?;
     flush(writer)?;
     Ok(status)
-}
-
-// The last line printed, and the status. After a write fault nothing more is printed.
-fn report<W: Write>(writer: &mut W, trouble: Trouble) -> u8
-    ensures { (result ≡ 3) ⊎ (result ≡ 5) }
-{
-    let (line, status): (&[u8], u8) = match trouble {
-        Trouble::OutOfMemory => (b"out of memory\n", 3),
-        Trouble::ReadFault => (b"read fault\n", 5),
-        Trouble::TooLong => (b"too long\n", 5),
-        Trouble::WriteFault => return 5,
-    };
-    if print(writer, line).is_err() || flush(writer).is_err() {
-        return 5;
-    }
-    status
 }
 
 // `play_over` on a reader whose every read is counted.

@@ -2,6 +2,7 @@ ghost use Rattle.std.specs.Prelude.{◌≡◌, ℕ, ◌+◌, ◌-◌, ◌^◌, �
 ghost use Rattle.demo_app.specs.Reading.{CanEndReading};
 
 use crate::counted::CountedReader;
+use crate::trouble::Trouble;
 use std::alloc::{AllocError, Global};
 use std::io::Read;
 use std::sync::ledger::Ledger;
@@ -11,26 +12,6 @@ pub const SCRIPT_LIMIT: usize = 1 << 24;
 
 // How many bytes are asked of a reader at once.
 const PIECE: usize = 1 << 16;
-
-/// Why a script was not played to its end.
-#[derive(Clone, Copy, Debug, PartialEq, Eq)]
-pub enum Trouble {
-    OutOfMemory,
-    ReadFault,
-    TooLong,
-    WriteFault,
-}
-
-impl From<AllocError> for Trouble {
-    ghost use Rattle.std.specs.Prelude.{◌≡◌};
-    ghost use Rattle.demo_app.specs.declared.reading.Trouble.TheVariants.{OutOfMemory};
-
-    ghost from_gives = { λ _ e. e ≡ OutOfMemory };
-
-    fn from(_error: AllocError) -> Trouble {
-        Trouble::OutOfMemory
-    }
-}
 
 fn zeros(alloc: Global, count: usize) -> Result<Vec<u8>, AllocError>
     ensures { IfOk result (λ zeros. vec_len zeros ≡ count) }

@@ -1,5 +1,6 @@
 mod drawing;
 mod help;
+mod over_tcp;
 mod rows;
 mod troubles;
 

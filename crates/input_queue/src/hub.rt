@@ -14,6 +14,8 @@ use messages::Input;
 use std::alloc::{AllocError, Global};
 use std::marker::Model;
 use std::sync::Wait;
+use std::sync::atomic::{AtomicBool, Ordering};
+use std::thread::Parker;
 
 /// A queue of inputs, which threads share: a seat for each viewer puts, and one taker takes. Contracts
 /// see which queue it is, how many inputs it can hold, and how many seats it has made.
@@ -23,6 +25,9 @@ pub struct InputHub {
     queue: Queue,
     pass: Ticket,
     seats: u64,
+    // the taker sleeps on it
+    arrival: Parker,
+    is_closed: AtomicBool,
 }
 
 impl Model for InputHub {
@@ -95,6 +100,8 @@ impl InputHub {
             queue,
             pass,
             seats: 0,
+            arrival: Parker::new(),
+            is_closed: AtomicBool::new(false),
         };
         Ok((hub, Taker { pass: taking }))
     }
@@ -112,8 +119,8 @@ impl InputHub {
         InputSeat { viewer, pass }
     }
 
-    /// Puts an input behind the others. It comes back where the queue held as many as it can at that
-    /// step. After 2^62 accepted inputs this waits for ever.
+    /// Puts an input behind the others, and wakes the taker where it waits. The input comes back where the
+    /// queue held as many as it can at that step. After 2^62 accepted inputs this waits for ever.
     pub fn put<R: Wait>(&self, rt: &R, seat: &mut InputSeat, input: Input) -> Result<(), Full>
         requires { seat.old.queue ≡ self.now.queue }
         ensures accepted { IfOk result (λ _. seat.new ≡ record seat.old { accepted = seat.old.accepted ++ record { viewer = seat.old.viewer; input = input } ∷ [] }) }
@@ -125,7 +132,10 @@ impl InputHub {
             input,
         };
         match self.queue.push_as::<Puts, R>(rt, &mut seat.pass, told) {
-            Ok(()) => Ok(()),
+            Ok(()) => {
+                self.arrival.unpark();
+                Ok(())
+            }
             Err(told) => Err(Full(told.input)),
         }
     }
@@ -136,6 +146,31 @@ impl InputHub {
         ensures { MatchOption result ((taker.new ≡ taker.old) × AllTaken taker.old.taken) (λ told. taker.new ≡ record taker.old { taken = taker.old.taken ++ told ∷ [] }) }
     {
         self.queue.pop_as::<Takes, R>(rt, &mut taker.pass)
+    }
+
+    /// Takes the input in front, and sleeps until there is one. None once the hub is closed, where the queue
+    /// was empty at some moment after that.
+    pub fn take_wait<R: Wait>(&self, rt: &R, taker: &mut Taker) -> Option<Told>
+        requires { taker.old.queue ≡ self.now.queue }
+        ensures { MatchOption result ((taker.new ≡ taker.old) × AllTaken taker.old.taken) (λ told. taker.new ≡ record taker.old { taken = taker.old.taken ++ told ∷ [] }) }
+    {
+        for _ in rt.forever() {
+            let is_closed = self.is_closed.load(Ordering::SeqCst);
+            if let Some(told) = self.take(rt, taker) {
+                return Some(told);
+            }
+            if is_closed {
+                return None;
+            }
+            self.arrival.park(rt);
+        }
+        unreachable!()
+    }
+
+    /// No input is put any more: the taker waits for none. To be called once every seat has put its last.
+    pub fn close(&self) {
+        self.is_closed.store(true, Ordering::SeqCst);
+        self.arrival.unpark();
     }
 
     /// Gives back the seats, takes what is left, and gives back the taker. Where these are all seats that
@@ -155,7 +190,7 @@ impl InputHub {
             alloc,
             queue,
             mut pass,
-            seats: _,
+            ..
         } = self;
         let mut taking = give_back_all(&queue, taker.pass, seats);
         let items = take_all(rt, alloc, &queue, &mut taking)?;

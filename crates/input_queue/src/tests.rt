@@ -97,29 +97,18 @@ fn put_all<R: Wait>(
     (seat, next)
 }
 
-/// Takes until so many turns are over.
-fn take_all<R: Wait>(
-    rt: &R,
-    alloc: Global,
-    hub: &InputHub,
-    mut taker: Taker,
-    turns: u32,
-) -> (Taker, Vec<Told>)
+/// Takes until the hub is closed.
+fn take_all<R: Wait>(rt: &R, alloc: Global, hub: &InputHub, mut taker: Taker) -> (Taker, Vec<Told>)
     requires { taker.queue ≡ hub.now.queue }
     ensures { result.0.queue ≡ taker.queue }
 {
     let mut all = Vec::new(alloc);
-    for _ in 0..turns {
-        if all.len() >= 1500 {
+    for _ in rt.forever() {
+        let Some(told) = hub.take_wait(rt, &mut taker) else {
             break;
-        }
-        match hub.take(rt, &mut taker) {
-            Some(told) => {
-                if all.push(told).is_err() {
-                    break;
-                }
-            }
-            None => thread::yield_now(),
+        };
+        if all.push(told).is_err() {
+            break;
         }
     }
     (taker, all)
@@ -178,17 +167,21 @@ fn three<R: Threads + Wait + Sync>(rt: &R, alloc: Global) -> Result<Option<bool>
         move || -> ((InputSeat, u32), (InputSeat, u32))
             requires { (one.queue ≡ shared.now.queue) × (two.queue ≡ shared.now.queue) }
             ensures { (result.0.0.queue ≡ shared.entry.now.queue) × (result.1.0.queue ≡ shared.entry.now.queue) }
-        { both(rt, shared, one, two) },
+        {
+            let put = both(rt, shared, one, two);
+            shared.close();
+            put
+        },
         move || -> (Taker, Vec<Told>)
             requires { taker.queue ≡ shared.now.queue }
             ensures { result.0.queue ≡ shared.entry.now.queue }
-        { take_all(rt, alloc, shared, taker, 1_000_000) },
+        { take_all(rt, alloc, shared, taker) },
     );
     let mut seats = Vec::new(alloc);
     seats.push(one).map_err(|_| QueueError::OutOfMemory)?;
     seats.push(two).map_err(|_| QueueError::OutOfMemory)?;
     let left = hub.join(rt, taker, seats)?;
-    let mut right = true;
+    let mut right = left.items.as_slice().is_empty();
     for (viewer, accepted) in [(1u64, first), (2, second)] {
         let Some(next) = in_order(&taken, viewer, 0) else {
             return Ok(None);

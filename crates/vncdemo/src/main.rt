@@ -1,21 +1,32 @@
-//! The program `vncdemo`: its command line, and `play` on standard input and output.
+//! The program `vncdemo`: its command line, `play` on standard input and output, and `serve` on a port of 127.0.0.1.
 #![tactic(auto)]
 
 ghost use Rattle.std.specs.Prelude.{◌≡◌};
 
 use clap::error::ErrorKind;
-use demo_app::{Chosen, Steps, line_of, play_over};
+use demo_app::{Chosen, ServeOptions, Steps, line_of, play_over, serve_on};
+use std::alloc::Global;
 use std::io::BufWriter;
 use std::marker::Brand;
+use std::net::{Ipv4Addr, Net, TcpListener, TcpStream};
 use std::process::ExitCode;
+use std::rt::Runtime;
+use std::sync::Wait;
 use std::sync::ledger::{Blank, Ledger};
+use std::thread::Threads;
 use std::{env, io};
 
-fn out_of_memory(rt: &HostRuntime) -> ExitCode {
+fn out_of_memory<R: Runtime>(rt: &R) -> ExitCode {
     match println!(rt; "out of memory") {
         Ok(()) => ExitCode::from(3),
         Err(_) => ExitCode::from(5),
     }
+}
+
+fn network_fault<R: Runtime>(rt: &R) -> ExitCode {
+    // The status is the same where this can't be printed.
+    let _ = println!(rt; "network fault");
+    ExitCode::from(5)
 }
 
 fn words(rt: &HostRuntime) -> io::Result<Vec<String>> {
@@ -41,12 +52,31 @@ fn play<L: Ledger>(rt: &HostRuntime, blank: Blank) -> ExitCode
     ExitCode::from(status)
 }
 
+fn serve<R: Runtime + Threads + Wait + Net<Listener = TcpListener, Stream = TcpStream> + Sync>(
+    rt: &R,
+    alloc: Global,
+    port: u16,
+    options: &ServeOptions,
+) -> ExitCode {
+    let Ok(listener) = TcpListener::bind(rt, (Ipv4Addr::LOCALHOST, port)) else {
+        return network_fault(rt);
+    };
+    let Ok(mut writer) = BufWriter::new(alloc, io::writer(rt)) else {
+        return out_of_memory(rt);
+    };
+    let status = serve_on(rt, alloc, &listener, options, &mut writer);
+    // After a write fault nothing more is written: what the buffer holds is let go.
+    let _ = writer.into_parts();
+    ExitCode::from(status)
+}
+
 fn main(rt: HostRuntime) -> ExitCode {
     let Ok(words) = words(&rt) else {
         return out_of_memory(&rt);
     };
     match line_of(rt.alloc(), &words) {
         Ok(Chosen::Play) => play::<Brand>(&rt, Blank::new(1)),
+        Ok(Chosen::Serve { port, options }) => serve(&rt, rt.alloc(), port, &options),
         Err(error) if error.kind() == ErrorKind::OutOfMemory => out_of_memory(&rt),
         Err(error) => {
             // Where standard error fails too, there is nobody left to tell.

@@ -1,0 +1,260 @@
+//! `serve`: a screen over TCP, on which viewers paint places, ring bells and copy texts.
+
+ghost use Rattle.std.specs.Prelude.{◌≡◌, ◌<◌, ◌⊎◌, IfOk};
+
+use crate::trouble::{Trouble, flush, print, report};
+use messages::Input;
+use play_script::refusal_text;
+use receipts::{Ended, FinishError, Receipt};
+use screen::{Config, History, Listed, Rect, ScreenError};
+use serving::{Application, ServeError, Told, serve_viewers};
+use std::alloc::{AllocError, Global};
+use std::io::Write;
+use std::marker::Brand;
+use std::net::{Net, TcpListener};
+use std::sync::Wait;
+use std::sync::ledger::{Blank, Ledger};
+use std::thread::Threads;
+use update_sender::{Brush, Shared, finish};
+
+/// What `serve` is told.
+#[derive(Debug, Drop)]
+pub struct ServeOptions {
+    /// Columns of the screen.
+    pub width: u32,
+    /// Rows of the screen.
+    pub height: u32,
+    /// The desktop's name.
+    pub name: Listed<u8>,
+    /// How many copies, and how many pixel rectangles, one update has at most.
+    pub limit: u32,
+    /// How many connections are served.
+    pub viewers: u32,
+    /// Whether the history is kept, and the run is judged at its end.
+    pub check: bool,
+}
+
+/// The most bytes of a text that is sent back.
+const TEXT_LIMIT: usize = 65_536;
+
+/// The application: a pointer with its first button down paints its place white, a key that goes down rings the bell, and a text
+/// is sent back.
+#[derive(Drop)]
+struct Easel {
+    width: u32,
+    height: u32,
+}
+
+impl Easel {
+    /// The rectangle of one place, where that is on the screen.
+    fn place(&self, x: u16, y: u16) -> Option<Rect> {
+        let is_on_screen = u32::from(x) < self.width && u32::from(y) < self.height;
+        let (x1, y1) = (i32::from(x), i32::from(y));
+        is_on_screen.then(|| Rect {
+            x1,
+            y1,
+            x2: x1 + 1,
+            y2: y1 + 1,
+        })
+    }
+}
+
+impl<L: Ledger> Application<L> for Easel {
+    fn told<R: Wait>(
+        &mut self,
+        rt: &R,
+        shared: &Shared<L>,
+        brush: &mut Brush<L>,
+        told: &Told,
+    ) -> Result<(), ScreenError> {
+        match &told.input {
+            Input::Pointer { mask, x, y } if mask & 1 == 1 => match self.place(*x, *y) {
+                Some(rect) => brush.paint(shared, rt, rect, &[0xff_ffff]),
+                None => Ok(()),
+            },
+            Input::Key { down: true, .. } => brush.bell(shared, rt),
+            Input::Text { text, .. } => {
+                let text = text.as_slice();
+                brush.cut_text(shared, rt, text.get(..TEXT_LIMIT).unwrap_or(text))
+            }
+            _ => Ok(()),
+        }
+    }
+}
+
+impl From<ServeError> for Trouble {
+    fn from(error: ServeError) -> Trouble {
+        match error {
+            ServeError::Network => Trouble::NetworkFault,
+            // the application's calls are refused for memory alone
+            ServeError::Screen(_) => Trouble::OutOfMemory,
+        }
+    }
+}
+
+/// The name of how a viewer ended.
+fn name_of(ended: Ended) -> &'static str {
+    match ended {
+        Ended::EndOfInput => "EndOfInput",
+        Ended::Fault(_) => "Fault",
+        Ended::ReadFailed => "ReadFailed",
+        Ended::WriteFailed => "WriteFailed",
+        Ended::Memory => "Memory",
+        Ended::Gate => "Gate",
+        Ended::Closed => "Closed",
+        Ended::Stopped => "Stopped",
+    }
+}
+
+/// The code of an error of `finish`.
+fn code_of(error: FinishError) -> u8 {
+    match error {
+        FinishError::NotKept => 1,
+        FinishError::Drawing { .. } => 2,
+        FinishError::Missing { .. } => 3,
+        FinishError::Count { .. } => 4,
+        FinishError::Bytes { .. } => 5,
+        FinishError::OutOfMemory => 6,
+    }
+}
+
+/// Prints a line for each viewer.
+fn print_ends<W: Write>(
+    alloc: Global,
+    writer: &mut W,
+    receipts: &[Receipt],
+) -> Result<(), Trouble> {
+    for receipt in receipts {
+        let line = format!(in alloc; "viewer {} {}\n", receipt.viewer, name_of(receipt.ended))?;
+        print(writer, line.as_bytes())?;
+    }
+    Ok(())
+}
+
+/// Judges the run, and prints what comes of it. The status.
+fn print_verdict<L: Ledger, W: Write>(
+    alloc: Global,
+    writer: &mut W,
+    shared: Shared<L>,
+    brush: Brush<L>,
+    receipts: Vec<Receipt>,
+) -> Result<u8, Trouble>
+    ensures { IfOk result (λ status. (status ≡ 0) ⊎ (status ≡ 4)) }
+{
+    match finish(shared, brush, receipts) {
+        Ok(_) => {
+            print(writer, b"finish ok\n")?;
+            Ok(0)
+        }
+        Err(error) => {
+            let line = format!(in alloc; "finish {} {error}\n", code_of(error))?;
+            print(writer, line.as_bytes())?;
+            Ok(4)
+        }
+    }
+}
+
+/// The screen that the options say.
+fn config_of(alloc: Global, options: &ServeOptions) -> Result<Config, AllocError> {
+    let history = if options.check {
+        History::Kept
+    } else {
+        History::NotKept
+    };
+    Ok(Config {
+        width: options.width,
+        height: options.height,
+        name: Listed::from_slice(alloc, options.name.as_slice())?,
+        rects_per_update: options.limit,
+        history,
+    })
+}
+
+/// Prints a refused configuration. The status.
+fn print_refusal<W: Write>(
+    alloc: Global,
+    writer: &mut W,
+    refusal: ScreenError,
+) -> Result<u8, Trouble>
+    ensures { IfOk result (λ status. status ≡ 1) }
+{
+    if refusal == ScreenError::OutOfMemory {
+        return Err(Trouble::OutOfMemory);
+    }
+    print(writer, &refusal_text(alloc, refusal)?)?;
+    Ok(1)
+}
+
+/// Serves the viewers on a shared screen, and says how they ended. The status.
+fn serve<L: Ledger + Send + Sync, W: Write, R: Threads + Wait + Net + Sync>(
+    rt: &R,
+    alloc: Global,
+    blank: Blank,
+    listener: &TcpListener,
+    options: &ServeOptions,
+    writer: &mut W,
+) -> Result<u8, Trouble>
+    requires name { blank.name ≡ L.name }
+    requires parts { blank.parts ≡ L.parts }
+    requires some { 0 < L.parts }
+    ensures { IfOk result (λ status. (status ≡ 0) ⊎ (status ≡ 1) ⊎ (status ≡ 4)) }
+{
+    let made = Shared::<L>::new(alloc, blank, config_of(alloc, options)?);
+    let (shared, mut brush) = match made {
+        Ok(made) => made,
+        Err(refusal) => return print_refusal(alloc, writer, refusal),
+    };
+    let mut easel = Easel {
+        width: options.width,
+        height: options.height,
+    };
+    let viewers = u64::from(options.viewers);
+    let receipts = serve_viewers(
+        rt, alloc, listener, &shared, &mut brush, viewers, &mut easel,
+    )?;
+    print_ends(alloc, writer, &receipts)?;
+    if options.check {
+        print_verdict(alloc, writer, shared, brush, receipts)
+    } else {
+        Ok(0)
+    }
+}
+
+/// The same, and what it printed is written out.
+fn serve_and_flush<L: Ledger + Send + Sync, W: Write, R: Threads + Wait + Net + Sync>(
+    rt: &R,
+    alloc: Global,
+    blank: Blank,
+    listener: &TcpListener,
+    options: &ServeOptions,
+    writer: &mut W,
+) -> u8
+    requires name { blank.name ≡ L.name }
+    requires parts { blank.parts ≡ L.parts }
+    requires some { 0 < L.parts }
+    ensures { (result ≡ 0) ⊎ (result ≡ 1) ⊎ (result ≡ 3) ⊎ (result ≡ 4) ⊎ (result ≡ 5) }
+{
+    let served = serve::<L, W, R>(rt, alloc, blank, listener, options, writer);
+    match served.and_then(|status| flush(writer).map(|()| status)) {
+        Ok(status) => status,
+        Err(trouble) => report(writer, trouble),
+    }
+}
+
+/// Serves so many connections of a listener as the options say, each as a viewer of one screen, numbered from 1 on. A pointer
+/// whose first button is down paints its place white, a key that goes down rings the bell, and a text is sent back, its first
+/// 65,536 bytes. Once all have ended, `viewer V` and how it ended is printed for each viewer, and with `check` the judgement
+/// of the run: `finish ok`, or `finish`, the code and the name of what is wrong. The status is 0; 1 after `refused`, for a
+/// configuration that no screen has; 3 after `out of memory`; 4 after a judgement that is not `ok`; 5 after `network fault`, and
+/// after a write that failed.
+pub fn serve_on<W: Write, R: Threads + Wait + Net + Sync>(
+    rt: &R,
+    alloc: Global,
+    listener: &TcpListener,
+    options: &ServeOptions,
+    writer: &mut W,
+) -> u8
+    ensures { (result ≡ 0) ⊎ (result ≡ 1) ⊎ (result ≡ 3) ⊎ (result ≡ 4) ⊎ (result ≡ 5) }
+{
+    serve_and_flush::<Brand, W, R>(rt, alloc, Blank::new(1), listener, options, writer)
+}

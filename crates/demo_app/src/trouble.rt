@@ -1,0 +1,65 @@
+//! Why a command ends early, and what is printed then.
+
+ghost use Rattle.std.specs.Prelude.{◌≡◌, ◌⊎◌, OnOk};
+ghost use Rattle.std.specs.Io.KnownBytes.{Appends, Keeps};
+
+use std::alloc::AllocError;
+use std::io::Write;
+
+/// Why a script was not played to its end, or viewers were not served to theirs.
+#[derive(Clone, Copy, Debug, PartialEq, Eq)]
+pub enum Trouble {
+    OutOfMemory,
+    ReadFault,
+    TooLong,
+    NetworkFault,
+    WriteFault,
+}
+
+impl From<AllocError> for Trouble {
+    ghost use Rattle.std.specs.Prelude.{◌≡◌};
+    ghost use Rattle.demo_app.specs.declared.trouble.Trouble.TheVariants.{OutOfMemory};
+
+    ghost from_gives = { λ _ e. e ≡ OutOfMemory };
+
+    fn from(_error: AllocError) -> Trouble {
+        Trouble::OutOfMemory
+    }
+}
+
+/// Writes a text whole.
+pub fn print<W: Write>(writer: &mut W, text: &[u8]) -> Result<(), Trouble>
+    ensures { OnOk result (Appends (W.contents writer.old) (W.contents writer.new) text.now) }
+{
+    if writer.write_all(text).is_err() {
+        return Err(Trouble::WriteFault);
+    }
+    Ok(())
+}
+
+/// Hands on what the writer may hold.
+pub fn flush<W: Write>(writer: &mut W) -> Result<(), Trouble>
+    ensures { Keeps (W.contents writer.old) (W.contents writer.new) }
+{
+    if writer.flush().is_err() {
+        return Err(Trouble::WriteFault);
+    }
+    Ok(())
+}
+
+/// The last line printed, and the status. After a write fault nothing more is printed.
+pub fn report<W: Write>(writer: &mut W, trouble: Trouble) -> u8
+    ensures { (result ≡ 3) ⊎ (result ≡ 5) }
+{
+    let (line, status): (&[u8], u8) = match trouble {
+        Trouble::OutOfMemory => (b"out of memory\n", 3),
+        Trouble::ReadFault => (b"read fault\n", 5),
+        Trouble::TooLong => (b"too long\n", 5),
+        Trouble::NetworkFault => (b"network fault\n", 5),
+        Trouble::WriteFault => return 5,
+    };
+    if print(writer, line).is_err() || flush(writer).is_err() {
+        return 5;
+    }
+    status
+}

@@ -1,0 +1,16 @@
+use mathlib.Core.List.{[], ◌∷◌}
+use denote.Exit
+use denote.Param.{param}
+use denote.Param.Send.{param_send, param_sync, arg_send, shr_send}
+use Rattle.input_queue.proofs.Shares.{hub_sync, closure_send}
+use Rattle.input_queue.proofs.hub.InputSeat.TheSendSync.{the_send as seat_send}
+use Rattle.update_sender.proofs.shared.Shared.TheSendSync as shares
+use Rattle.std.proofs.net.tcp.TcpListener.TheSendSync.{the_sync as listener_sync}
+use Rattle.std.proofs.alloc.Global.TheSendSync as globals
+use Rattle.std.below.std_heap.proofs.GlobalAllocator.TheSendSync as frees
+use Rattle.std.proofs.vec.Vec.TheSendSync as vectors
+use Rattle.serving.proofs.doors.Doors.TheSendSync.{the_sync as doors_sync}
+use Rattle.serving.proofs.serving.serve_viewers.Goals as goal
+
+pub join-receipts-requires-send-F : goal.join-receipts-requires-send-F
+join-receipts-requires-send-F g c κs within = param_send 1 _ (arg_send _ Exit.no _ (closure_send _ (_ ∷ _ ∷ _ ∷ _ ∷ _ ∷ _ ∷ _ ∷ []) (shr_send _ _ _ (param_sync 2 _ c.type_bounds.sync-R), (globals.the_send, (shr_send _ _ _ listener_sync, (shr_send _ _ _ (shares.the_sync (param 0 g.row.L) g.L.Ledger), (shr_send _ _ _ hub_sync, (shr_send _ _ _ doors_sync, (vectors.the_send _ _ _ seat_send globals.the_send frees.the_frees, tt)))))))))

@@ -1,0 +1,23 @@
+//! A shared screen served over TCP: each connection is a viewer with a reader and a sender thread of its own, and one
+//! application draws, and is told what the viewers do.
+//!
+//! No clause says what a socket delivers, or that two threads ran: tests over loopback show it.
+#![tactic(auto)]
+
+mod accepting;
+mod application;
+mod connection;
+mod doors;
+mod serving;
+
+pub use application::Application;
+pub use input_queue::Told;
+pub use messages::Input;
+pub use serving::{INPUTS, ServeError, serve_viewers};
+pub use update_sender::{
+    Brush, Config, Ended, FinishError, History, Rect, Region, Report, ScreenError, Sent, Shared,
+    finish,
+};
+
+#[cfg(test)]
+mod tests;

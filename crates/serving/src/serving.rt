@@ -1,0 +1,126 @@
+//! The whole server: a thread that accepts, threads for each viewer, and the application's.
+
+ghost use Rattle.std.specs.Prelude.{◌≡◌, All, IfOk};
+
+use crate::accepting::{accept_all, end_all};
+use crate::application::{Application, run_application};
+use crate::doors::Doors;
+use input_queue::{InputHub, InputSeat, Taker};
+use receipts::Receipt;
+use screen::ScreenError;
+use std::alloc::{AllocError, AllocFailed, Global};
+use std::net::{Net, TcpListener, TcpStream};
+use std::sync::Wait;
+use std::sync::ledger::Ledger;
+use std::thread;
+use std::thread::Threads;
+use update_sender::{Brush, Shared};
+
+/// How many inputs may wait for the application. One that comes while so many wait is dropped.
+pub const INPUTS: usize = 1024;
+
+/// Why a server ended before its viewers did.
+#[derive(Clone, Copy, Debug, PartialEq, Eq)]
+pub enum ServeError {
+    /// The listener failed, or no thread could be started.
+    Network,
+    /// A call of the screen was refused.
+    Screen(ScreenError),
+}
+
+impl From<ScreenError> for ServeError {
+    fn from(refusal: ScreenError) -> ServeError {
+        ServeError::Screen(refusal)
+    }
+}
+
+impl From<AllocError> for ServeError {
+    fn from(_error: AllocError) -> ServeError {
+        ServeError::Screen(ScreenError::OutOfMemory)
+    }
+}
+
+impl<T: Drop> From<AllocFailed<T>> for ServeError {
+    fn from(_error: AllocFailed<T>) -> ServeError {
+        ServeError::Screen(ScreenError::OutOfMemory)
+    }
+}
+
+/// The inputs' queue, its taker, and a seat for each viewer, the first one's last.
+#[derive(Drop)]
+struct Seating {
+    hub: InputHub,
+    taker: Taker,
+    seats: Vec<InputSeat>,
+}
+
+/// A queue for so many viewers.
+fn seating_for(alloc: Global, viewers: u64) -> Result<Seating, AllocError>
+    ensures taker { IfOk result (λ q. q.taker.queue ≡ q.hub.queue) }
+    ensures seats { IfOk result (λ q. All (λ s. s.queue ≡ q.hub.queue) q.seats.items) }
+{
+    // the capacity is one that a hub may have
+    let Ok((mut hub, taker)) = InputHub::new(alloc, INPUTS) else {
+        return Err(AllocError);
+    };
+    let mut seats = Vec::new(alloc);
+    let mut viewer = viewers;
+    while viewer > 0 {
+        seats.push(hub.seat(viewer))?;
+        viewer -= 1;
+    }
+    Ok(Seating { hub, taker, seats })
+}
+
+/// A thread that waits for a connection is given one.
+fn knock<R: Net>(rt: &R, listener: &TcpListener) {
+    if let Ok(address) = listener.local_addr() {
+        let _knocked = rt.connect(address);
+    }
+}
+
+/// Accepts so many connections, and serves each as a viewer until it ends; they are numbered from 1 on. The application is told
+/// their inputs, in this thread. The viewers' receipts by number, once all have ended. Where the listener fails, or a call of
+/// the screen is refused, all connections are shut, and everything ends.
+pub fn serve_viewers<L, A, R>(
+    rt: &R,
+    alloc: Global,
+    listener: &TcpListener,
+    shared: &Shared<L>,
+    brush: &mut Brush<L>,
+    viewers: u64,
+    application: &mut A,
+) -> Result<Vec<Receipt>, ServeError>
+where
+    L: Ledger + Send + Sync,
+    A: Application<L>,
+    R: Threads + Wait + Net + Sync,
+{
+    let Seating {
+        hub,
+        mut taker,
+        seats,
+    } = seating_for(alloc, viewers)?;
+    let doors = Doors::new(alloc);
+    let (hub, doors) = (&hub, &doors);
+    let (receipts, drawn) = thread::join(
+        rt,
+        move || -> Result<Vec<Receipt>, ServeError>
+            requires { All (λ s. s.queue ≡ hub.now.queue) seats.items }
+        {
+            let receipts = accept_all(rt, alloc, listener, shared, hub, doors, seats);
+            hub.close();
+            receipts
+        },
+        || {
+            let drawn = run_application(rt, shared, brush, hub, &mut taker, application);
+            if drawn.is_err() {
+                end_all(rt, shared, doors);
+                knock(rt, listener);
+            }
+            drawn
+        },
+    );
+    drawn?;
+    receipts
+}
