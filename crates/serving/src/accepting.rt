@@ -1,25 +1,35 @@
 //! Connections are accepted as they come, and each is served at once.
 
-ghost use Rattle.std.specs.Prelude.{◌≡◌, All};
+ghost use Rattle.std.specs.Prelude.{◌≡◌, All, IfOk, length};
+ghost use Rattle.serving.specs.Serving.{AreNumbered, AreSeated};
 
 use crate::connection::serve_connection;
-use crate::doors::Doors;
+use crate::doors::{Doors, Place};
 use crate::serving::ServeError;
 use input_queue::{InputHub, InputSeat};
 use receipts::Receipt;
-use std::alloc::{AllocError, Global};
+use std::alloc::Global;
 use std::net::{TcpListener, TcpStream};
 use std::sync::Wait;
 use std::sync::ledger::Ledger;
 use std::thread;
-use std::thread::{JoinHandle, Scope, Threads};
+use std::thread::{Promise, Scope, Threads};
 use update_sender::{Line, Shared};
 
-/// A connection, and the line of its viewer.
+/// A connection, where its handle is kept, and the line of its viewer.
 #[derive(Drop)]
 struct Caller {
     line: Line,
     stream: TcpStream,
+    place: Place,
+}
+
+/// A viewer's thread gives a receipt with this number.
+#[derive(Clone, Copy)]
+struct ReceiptOf(u64);
+
+impl Promise<Receipt> for ReceiptOf {
+    ghost kept_by = { λ p r. r.viewer ≡ p.0 };
 }
 
 /// Waits for a connection, which gets a number.
@@ -29,13 +39,42 @@ fn accept<L: Ledger, R: Wait>(
     shared: &Shared<L>,
     doors: &Doors,
     number: u64,
-) -> Result<Caller, ServeError> {
+) -> Result<Caller, ServeError>
+    ensures { IfOk result (λ caller. caller.line.listener.viewer ≡ number) }
+{
     let Ok((stream, _address)) = listener.accept() else {
         return Err(ServeError::Network);
     };
-    doors.admit(rt, &stream)?;
+    let place = doors.admit(rt, &stream)?;
     let line = shared.connect(rt, number)?;
-    Ok(Caller { line, stream })
+    Ok(Caller {
+        line,
+        stream,
+        place,
+    })
+}
+
+/// Serves a connection until its viewer has ended; its handle is not kept any longer then.
+fn serve_caller<L: Ledger + Send + Sync, R: Threads + Wait + Sync>(
+    rt: &R,
+    shared: &Shared<L>,
+    hub: &InputHub,
+    doors: &Doors,
+    seat: InputSeat,
+    caller: Caller,
+) -> Receipt
+    requires queue { seat.queue ≡ hub.now.queue }
+    requires viewer { seat.viewer ≡ caller.line.listener.viewer }
+    ensures { result.viewer ≡ caller.line.listener.viewer }
+{
+    let Caller {
+        line,
+        stream,
+        place,
+    } = caller;
+    let receipt = serve_connection(rt, shared, line, stream, hub, seat);
+    doors.leave(rt, place);
+    receipt
 }
 
 /// Accepts a connection for each seat, the last of which is the first viewer's, and serves it in threads of its own. The
@@ -50,13 +89,17 @@ pub(crate) fn accept_all<L: Ledger + Send + Sync, R: Threads + Wait + Sync>(
     doors: &Doors,
     seats: Vec<InputSeat>,
 ) -> Result<Vec<Receipt>, ServeError>
-    requires { All (λ s. s.queue ≡ hub.now.queue) seats.items }
+    requires queue { All (λ s. s.queue ≡ hub.now.queue) seats.items }
+    requires seated { AreSeated (length seats.items) seats.items }
+    ensures { IfOk result (λ receipts. AreNumbered (length seats.items) receipts.items) }
 {
     thread::scope(
         thread::scope_env(),
         rt,
         move |scope| -> Result<Vec<Receipt>, ServeError>
-            requires { All (λ s. s.queue ≡ hub.now.queue) seats.items }
+            requires queue { All (λ s. s.queue ≡ hub.now.queue) seats.items }
+            requires seated { AreSeated (length seats.items) seats.items }
+            ensures { IfOk result (λ receipts. AreNumbered (length seats.items) receipts.items) }
         {
             let served = serve_each(rt, alloc, listener, shared, hub, doors, seats, scope);
             if served.is_err() {
@@ -74,41 +117,33 @@ fn serve_each<'s, E, L: Ledger + Send + Sync + 's, R: Threads + Wait + Sync + 's
     listener: &TcpListener,
     shared: &'s Shared<L>,
     hub: &'s InputHub,
-    doors: &Doors,
+    doors: &'s Doors,
     mut seats: Vec<InputSeat>,
     scope: &Scope<'s, E>,
 ) -> Result<Vec<Receipt>, ServeError>
-    requires { All (λ s. s.queue ≡ hub.now.queue) seats.items }
+    requires queue { All (λ s. s.queue ≡ hub.now.queue) seats.items }
+    requires seated { AreSeated (length seats.items) seats.items }
+    ensures { IfOk result (λ receipts. AreNumbered (length seats.items) receipts.items) }
 {
     let mut threads = Vec::with_capacity(alloc, seats.len())?;
     let mut number = 0u64;
     while let Some(seat) = seats.pop() {
         number = number.saturating_add(1);
-        let Caller { line, stream } = accept(rt, listener, shared, doors, number)?;
-        let thread = scope.spawn(
+        let caller = accept(rt, listener, shared, doors, number)?;
+        let thread = scope.spawn_with(
+            ReceiptOf(number),
             move || -> Receipt
-                requires { seat.queue ≡ hub.now.queue }
-            { serve_connection(rt, shared, line, stream, hub, seat) },
+                requires queue { seat.queue ≡ hub.now.queue }
+                requires viewer { seat.viewer ≡ caller.line.listener.viewer }
+                ensures { result.viewer ≡ caller.line.listener.viewer }
+            { serve_caller(rt, shared, hub, doors, seat, caller) },
         );
         match thread {
             Ok(thread) => threads.push(thread)?,
             Err(_) => return Err(ServeError::Network),
         }
     }
-    Ok(receipts_of(rt, alloc, threads)?)
-}
-
-/// What the threads give, in their order.
-fn receipts_of<R: Threads>(
-    rt: &R,
-    alloc: Global,
-    threads: Vec<JoinHandle<Receipt>>,
-) -> Result<Vec<Receipt>, AllocError> {
-    let mut receipts = Vec::with_capacity(alloc, threads.len())?;
-    for thread in threads {
-        receipts.push(thread.join(rt))?;
-    }
-    Ok(receipts)
+    Ok(thread::join_promised(rt, threads)?)
 }
 
 /// Stops all senders, and shuts all connections.

@@ -1,14 +1,15 @@
-//! The connections that were accepted, so that all can be shut at once.
+//! The connections that are served, so that all can be shut at once.
 
 use crate::serving::ServeError;
+use slab::Slab;
 use std::alloc::Global;
 use std::net::{Shutdown, TcpStream};
 use std::sync::{Mutex, Wait};
 
-/// Handles of the accepted connections.
+/// Handles of the connections that are served.
 #[derive(Drop)]
 struct Streams {
-    streams: Vec<TcpStream>,
+    streams: Slab<TcpStream>,
     are_shut: bool,
 }
 
@@ -16,6 +17,12 @@ struct Streams {
 #[derive(Drop)]
 pub(crate) struct Doors {
     streams: Mutex<Streams>,
+}
+
+/// Where a connection's handle is kept.
+#[derive(Clone, Copy, Debug)]
+pub(crate) struct Place {
+    key: usize,
 }
 
 /// Shuts a connection both ways: its reader is at its end then, and its writer fails. Where the system refuses, it was shut
@@ -26,18 +33,23 @@ pub(crate) fn shut(stream: &TcpStream) {
 
 impl Streams {
     /// Keeps a handle of a connection. Refused where all are shut.
-    fn admit(&mut self, stream: TcpStream) -> Result<(), ServeError> {
+    fn admit(&mut self, stream: TcpStream) -> Result<Place, ServeError> {
         if self.are_shut {
             return Err(ServeError::Network);
         }
-        self.streams.push(stream)?;
-        Ok(())
+        let key = self.streams.insert(stream)?;
+        Ok(Place { key })
     }
 
-    /// Shuts all that were let in, and lets in no other.
+    /// A handle is kept no longer.
+    fn leave(&mut self, place: Place) {
+        let _stream = self.streams.try_remove(place.key);
+    }
+
+    /// Shuts all that are served, and lets in no other.
     fn shut_all(&mut self) {
         self.are_shut = true;
-        for stream in self.streams.as_slice() {
+        for (_key, stream) in &self.streams {
             shut(stream);
         }
     }
@@ -48,18 +60,23 @@ impl Doors {
     pub fn new(alloc: Global) -> Doors {
         Doors {
             streams: Mutex::new(Streams {
-                streams: Vec::new(alloc),
+                streams: Slab::new(alloc),
                 are_shut: false,
             }),
         }
     }
 
     /// A connection is let in. Refused where all were shut, and where the system has no room for a further handle.
-    pub fn admit<R: Wait>(&self, rt: &R, stream: &TcpStream) -> Result<(), ServeError> {
+    pub fn admit<R: Wait>(&self, rt: &R, stream: &TcpStream) -> Result<Place, ServeError> {
         let Ok(handle) = stream.try_clone() else {
             return Err(ServeError::Network);
         };
         self.streams.lock(rt).admit(handle)
+    }
+
+    /// A connection has ended.
+    pub fn leave<R: Wait>(&self, rt: &R, place: Place) {
+        self.streams.lock(rt).leave(place);
     }
 
     /// Shuts all connections, and lets in no other.

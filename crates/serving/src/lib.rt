@@ -12,6 +12,7 @@ mod serving;
 
 pub use application::Application;
 pub use input_queue::Told;
+pub use listed::Listed;
 pub use messages::Input;
 pub use serving::{INPUTS, ServeError, serve_viewers};
 pub use update_sender::{

@@ -1,6 +1,7 @@
 //! The whole server: a thread that accepts, threads for each viewer, and the application's.
 
-ghost use Rattle.std.specs.Prelude.{◌≡◌, All, IfOk};
+ghost use Rattle.std.specs.Prelude.{◌≡◌, All, IfOk, length};
+ghost use Rattle.serving.specs.Serving.{AreNumbered, AreSeated};
 
 use crate::accepting::{accept_all, end_all};
 use crate::application::{Application, run_application};
@@ -58,6 +59,7 @@ struct Seating {
 fn seating_for(alloc: Global, viewers: u64) -> Result<Seating, AllocError>
     ensures taker { IfOk result (λ q. q.taker.queue ≡ q.hub.queue) }
     ensures seats { IfOk result (λ q. All (λ s. s.queue ≡ q.hub.queue) q.seats.items) }
+    ensures seated { IfOk result (λ q. AreSeated viewers q.seats.items) }
 {
     // the capacity is one that a hub may have
     let Ok((mut hub, taker)) = InputHub::new(alloc, INPUTS) else {
@@ -95,6 +97,7 @@ where
     L: Ledger + Send + Sync,
     A: Application<L>,
     R: Threads + Wait + Net + Sync,
+    ensures { IfOk result (λ receipts. AreNumbered viewers receipts.items) }
 {
     let Seating {
         hub,
@@ -106,7 +109,9 @@ where
     let (receipts, drawn) = thread::join(
         rt,
         move || -> Result<Vec<Receipt>, ServeError>
-            requires { All (λ s. s.queue ≡ hub.now.queue) seats.items }
+            requires queue { All (λ s. s.queue ≡ hub.now.queue) seats.items }
+            requires seated { AreSeated (length seats.items) seats.items }
+            ensures { IfOk result (λ receipts. AreNumbered (length seats.items) receipts.items) }
         {
             let receipts = accept_all(rt, alloc, listener, shared, hub, doors, seats);
             hub.close();

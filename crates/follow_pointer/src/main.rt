@@ -1,0 +1,122 @@
+//! A server of one's own: a white square that follows the pointer.
+//!
+//! With a port as its one word the program serves a viewer on that port of 127.0.0.1. Without a word it looks at its own screen,
+//! by a viewer that moves the pointer three times, and prints what that viewer shows.
+#![tactic(auto)]
+
+ghost use Rattle.std.specs.Prelude.{◌≡◌, ◌<◌};
+
+mod square;
+mod visitor;
+
+use serving::{Config, History, Listed, ServeError, Shared, serve_viewers};
+use square::{HEIGHT, Square, WIDTH};
+use std::alloc::Global;
+use std::io::Write;
+use std::marker::Brand;
+use std::net::{Ipv4Addr, Net, TcpListener, TcpStream};
+use std::process::ExitCode;
+use std::rt::Runtime;
+use std::sync::Wait;
+use std::sync::ledger::{Blank, Ledger};
+use std::thread::Threads;
+use std::{env, io, thread};
+use visitor::Visitor;
+
+/// Serves one viewer, until it leaves. The square is in the left upper corner at first.
+fn serve<L: Ledger + Send + Sync, R: Threads + Wait + Net + Sync>(
+    rt: &R,
+    alloc: Global,
+    blank: Blank,
+    listener: &TcpListener,
+) -> Result<(), ServeError>
+    requires name { blank.name ≡ L.name }
+    requires parts { blank.parts ≡ L.parts }
+    requires some { 0 < L.parts }
+{
+    let config = Config {
+        width: u32::from(WIDTH),
+        height: u32::from(HEIGHT),
+        name: Listed::from_slice(alloc, b"follow the pointer")?,
+        rects_per_update: 50,
+        history: History::NotKept,
+    };
+    let (shared, mut brush) = Shared::<L>::new(alloc, blank, config)?;
+    let mut square = Square::at(0, 0);
+    serve_viewers(rt, alloc, listener, &shared, &mut brush, 1, &mut square)?;
+    Ok(())
+}
+
+/// Moves the pointer three times. What is seen each time.
+fn visit(alloc: Global, mut visitor: Visitor) -> io::Result<Vec<u8>> {
+    let mut text = Vec::new(alloc);
+    for (x, y) in [(3, 1), (9, 3), (20, 0)] {
+        visitor.point(x, y)?;
+        visitor.draw(&mut text)?;
+        text.push(b'\n')?;
+    }
+    Ok(text)
+}
+
+/// Serves a viewer of its own.
+fn look<R: Threads + Wait + Net<Listener = TcpListener, Stream = TcpStream> + Sync>(
+    rt: &R,
+    alloc: Global,
+) -> io::Result<Vec<u8>> {
+    let listener = TcpListener::bind(rt, (Ipv4Addr::LOCALHOST, 0))?;
+    let visitor = Visitor::connect(rt, alloc, listener.local_addr()?)?;
+    let (seen, served) = thread::join(
+        rt,
+        move || visit(alloc, visitor),
+        || serve::<Brand, R>(rt, alloc, Blank::new(1), &listener),
+    );
+    match served {
+        Ok(()) => seen,
+        Err(_) => Err(io::ErrorKind::Other.into()),
+    }
+}
+
+/// Serves a viewer on a port.
+fn show<R: Threads + Wait + Net<Listener = TcpListener, Stream = TcpStream> + Sync>(
+    rt: &R,
+    alloc: Global,
+    port: u16,
+) -> io::Result<()> {
+    let listener = TcpListener::bind(rt, (Ipv4Addr::LOCALHOST, port))?;
+    match serve::<Brand, R>(rt, alloc, Blank::new(1), &listener) {
+        Ok(()) => Ok(()),
+        Err(_) => Err(io::ErrorKind::Other.into()),
+    }
+}
+
+/// What the words behind the program's name say is done.
+fn run<R: Runtime + Threads + Wait + Net<Listener = TcpListener, Stream = TcpStream> + Sync>(
+    rt: &R,
+    alloc: Global,
+    words: &[String],
+) -> io::Result<()> {
+    match words.get(1) {
+        None => io::writer(rt).write_all(&look(rt, alloc)?),
+        Some(word) => match word.parse() {
+            Ok(port) => show(rt, alloc, port),
+            Err(_) => Err(io::ErrorKind::InvalidInput.into()),
+        },
+    }
+}
+
+fn words(rt: &HostRuntime) -> io::Result<Vec<String>> {
+    let words = env::args(rt)?.collect(rt.alloc())?;
+    Ok(words)
+}
+
+fn main(rt: HostRuntime) -> ExitCode {
+    let done = words(&rt).and_then(|words| run(&rt, rt.alloc(), &words));
+    match done {
+        Ok(()) => ExitCode::from(0),
+        Err(error) => {
+            // Where standard error fails too, there is nobody left to tell.
+            let _ = eprintln!(rt; "{error}");
+            ExitCode::from(1)
+        }
+    }
+}
