@@ -47,6 +47,18 @@ fn serve<L: Ledger + Send + Sync, R: Threads + Wait + Net + Sync>(
     Ok(())
 }
 
+/// The same, with a ledger that nobody looks into.
+fn serve_one<R: Threads + Wait + Net + Sync>(
+    rt: &R,
+    alloc: Global,
+    listener: &TcpListener,
+) -> io::Result<()> {
+    match serve::<Brand, R>(rt, alloc, Blank::new(1), listener) {
+        Ok(()) => Ok(()),
+        Err(_) => Err(io::ErrorKind::Other.into()),
+    }
+}
+
 /// Moves the pointer three times. What is seen each time.
 fn visit(alloc: Global, mut visitor: Visitor) -> io::Result<Vec<u8>> {
     let mut text = Vec::new(alloc);
@@ -68,12 +80,10 @@ fn look<R: Threads + Wait + Net<Listener = TcpListener, Stream = TcpStream> + Sy
     let (seen, served) = thread::join(
         rt,
         move || visit(alloc, visitor),
-        || serve::<Brand, R>(rt, alloc, Blank::new(1), &listener),
+        || serve_one(rt, alloc, &listener),
     );
-    match served {
-        Ok(()) => seen,
-        Err(_) => Err(io::ErrorKind::Other.into()),
-    }
+    served?;
+    seen
 }
 
 /// Serves a viewer on a port.
@@ -83,10 +93,7 @@ fn show<R: Threads + Wait + Net<Listener = TcpListener, Stream = TcpStream> + Sy
     port: u16,
 ) -> io::Result<()> {
     let listener = TcpListener::bind(rt, (Ipv4Addr::LOCALHOST, port))?;
-    match serve::<Brand, R>(rt, alloc, Blank::new(1), &listener) {
-        Ok(()) => Ok(()),
-        Err(_) => Err(io::ErrorKind::Other.into()),
-    }
+    serve_one(rt, alloc, &listener)
 }
 
 /// What the words behind the program's name say is done.

@@ -18,6 +18,9 @@ const ALL: Area = Area {
     h: HEIGHT,
 };
 
+/// The most pieces that are read before the square is seen.
+const PIECES: u32 = 10_000;
+
 /// A viewer and its connection.
 #[derive(Drop)]
 pub struct Visitor {
@@ -53,15 +56,18 @@ impl Visitor {
     /// Reads what comes, until the square is seen.
     fn wait_for(&mut self, square: &Square) -> io::Result<()> {
         let mut piece = [0; 256];
-        while !self.sees(square) {
+        for _ in 0..PIECES {
+            if self.sees(square) {
+                return Ok(());
+            }
             let count = self.stream.read(&mut piece)?;
             let told = self.shown.told(&piece[..count]);
             if count == 0 || told.is_err() {
-                return Err(ErrorKind::InvalidData.into());
+                break;
             }
             self.stream.write_all(&self.shown.request(ALL, true))?;
         }
-        Ok(())
+        Err(ErrorKind::InvalidData.into())
     }
 
     /// Moves the pointer to a place (RFC 6143 section 7.5.5), and waits until the square is there.
