@@ -37,9 +37,10 @@ loop-seat-preserved g c =
     let more = c.saturating_add-number.ensures in
     let count = c.loop-seat.invariant.3 in
     let handles = c.loop-seat.invariant.4 in
-    let next : c.saturating_add-number.result ≡ c.loop-seat.number + 1 = grind (arith) in
-    ( (All-pop (λ (s : Putting). s.queue ≡ c.args.hub.now.queue) _ _ _ c.pop.ensures.items c.loop-seat.invariant.0).0
-    , grind (arith)
-    , left_are _ _ _ _ c.in-Some.ensures.items c.loop-seat.invariant.2
-    , grind (arith, elements)
-    , more_are _ _ _ _ _ c.in_ok-push-in-Ok.ensures.items count next (ap (λ p. p.0) c.in-Ok.ensures.ok) handles)
+    let next : c.saturating_add-number.result ≡ c.loop-seat.number + 1 = grind (arith) in (
+      (All-pop (λ (s : Putting). s.queue ≡ c.args.hub.now.queue) _ _ _ c.pop.ensures.items c.loop-seat.invariant.0).0,
+      grind (arith),
+      left_are _ _ _ _ c.in-Some.ensures.items c.loop-seat.invariant.2,
+      grind (arith, elements),
+      more_are _ _ _ _ _ c.in_ok-push-in-Ok.ensures.items count next (ap (λ p. p.0) c.in-Ok.ensures.ok) handles,
+    )
