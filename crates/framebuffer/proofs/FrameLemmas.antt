@@ -96,21 +96,21 @@ module _ (w h : ℕ) (b : Block) (old shared : List Row) (has : HasRows w h old)
   same : map row_colours shared ≡ map row_colours these
   same = are ∙ ap (take b.rows) (drop-map row_colours b.top old) ∙ take-map row_colours b.rows (drop b.top old)
 
-  long : All (IsOfWidth w) shared
-  long = wide_same w shared these same (All-take (IsOfWidth w) b.rows (drop b.top old) (All-drop (IsOfWidth w) b.top old has.wide))
+  pub parts_wide : All (IsOfWidth w) shared
+  parts_wide = wide_same w shared these same (All-take (IsOfWidth w) b.rows (drop b.top old) (All-drop (IsOfWidth w) b.top old has.wide))
 
-  count : length shared ≡ b.rows
-  count = sym (length-map shared row_colours) ∙ ap length same ∙ length-map these row_colours ∙ length-take-le b.rows (drop b.top old) (omega (arith, length-drop b.top old, has.count, high))
+  pub parts_count : length shared ≡ b.rows
+  parts_count = sym (length-map shared row_colours) ∙ ap length same ∙ length-map these row_colours ∙ length-take-le b.rows (drop b.top old) (omega (arith, length-drop b.top old, has.count, high))
 
   pub parts_taken : HasParts b.left b.columns shared
   parts_taken = record {
     columns = omega (arith, wide, has.columns);
-    rows = omega (arith, count, high, has.rows);
-    wide = λ k d below. let e = long k d below in omega (arith, e, wide);
+    rows = omega (arith, parts_count, high, has.rows);
+    wide = λ k d below. let e = parts_wide k d below in omega (arith, e, wide);
   }
 
   pub part_taken : part_of b.left b.columns shared ≡ record { width = b.columns; height = b.rows; colours = block_colours w b (colours_of_rows old) }
-  part_taken = ap of_height count ∙ ap with_colours
+  part_taken = ap of_height parts_count ∙ ap with_colours
       (flat_same (row_part b.left b.columns) 0 shared these (sym (map-map (λ l. take b.columns (drop b.left l)) row_colours shared) ∙ ap (map (λ l. take b.columns (drop b.left l))) same ∙ map-map (λ l. take b.columns (drop b.left l)) row_colours these)
       ∙ parts_read w b old b.rows wide (omega (arith, high, has.count)) has.wide)
     where

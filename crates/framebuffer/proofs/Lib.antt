@@ -5,3 +5,4 @@ pub mod PieceLemmas
 pub mod MoveLemmas
 pub mod RowLemmas
 pub mod FrameLemmas
+pub mod ScrollLemmas

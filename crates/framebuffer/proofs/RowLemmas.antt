@@ -195,14 +195,14 @@ module _ {X : Type 0} (f : X → List ℕ) (w : ℕ) where
   flat_append [] ys = refl
   flat_append (x ∷ xs) ys = ap (λ l. f x ++ l) (flat_append xs ys) ∙ simp append_assoc
 
-  flat_drop : (rows : List X) (n : ℕ) → AreLong f w rows → n ≤ length rows → flat_map f (drop n rows) ≡ drop (n * w) (flat_map f rows)
+  pub flat_drop : (rows : List X) (n : ℕ) → AreLong f w rows → n ≤ length rows → flat_map f (drop n rows) ≡ drop (n * w) (flat_map f rows)
   flat_drop rows zero long below = ap (λ n. drop n (flat_map f rows)) (let e : 0 ≡ 0 * w = omega arith in e)
   flat_drop [] (suc n) long below = absurd (omega arith)
   flat_drop (x ∷ rows) (suc n) long below =
       flat_drop rows n (rest_long f w x rows long) (omega arith)
       ∙ sym (ap (λ k. drop k (f x ++ flat_map f rows)) (let e = long 0 x (omega arith) in let g : suc n * w ≡ length (f x) + n * w = omega (arith, e) in g) ∙ drop-append-add (f x) (flat_map f rows) (n * w))
 
-  flat_take : (rows : List X) (n : ℕ) → AreLong f w rows → n ≤ length rows → flat_map f (take n rows) ≡ take (n * w) (flat_map f rows)
+  pub flat_take : (rows : List X) (n : ℕ) → AreLong f w rows → n ≤ length rows → flat_map f (take n rows) ≡ take (n * w) (flat_map f rows)
   flat_take rows zero long below = ap (λ n. take n (flat_map f rows)) (let e : 0 ≡ 0 * w = omega arith in e)
   flat_take [] (suc n) long below = absurd (omega arith)
   flat_take (x ∷ rows) (suc n) long below =
@@ -245,7 +245,7 @@ parts_read w b [] (suc n) wide inside long = absurd (omega arith)
 parts_read w b (r ∷ rows) n wide inside long = parts_so_far w b (r ∷ rows) r n wide inside long
 
 -- a part of the colours is replaced by another part of them
-copied : (flat part : List ℕ) (to from n k : ℕ) → length part ≡ n → to + n ≤ length flat → ((j : ℕ) → j < n → get_or part j 0 ≡ get_or flat (from + j) 0)
+pub copied : (flat part : List ℕ) (to from n k : ℕ) → length part ≡ n → to + n ≤ length flat → ((j : ℕ) → j < n → get_or part j 0 ≡ get_or flat (from + j) 0)
     → get_or (put_mid to (length part) flat part) k 0 ≡ cond (nat_le to k && nat_lt k (to + n)) (get_or flat (from + (k - to)) 0) (get_or flat k 0)
 copied flat part to from n k size fits each =
     by_lt k to

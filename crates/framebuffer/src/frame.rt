@@ -1,15 +1,16 @@
 //! A framebuffer: a picture that is drawn in, with its size; and snapshots of its blocks.
 
-ghost use Rattle.std.specs.Prelude.{◌≡◌, ◌+◌, ◌*◌, ◌<◌, ◌≤◌, ◌↔◌, All, length, take, drop, slice_index, IfOk, IfSome, IsSome, OnOk, OnErr};
+ghost use Rattle.std.specs.Prelude.{◌≡◌, ◌+◌, ◌*◌, ◌<◌, ◌≤◌, ◌↔◌, All, length, take, drop, slice_index, IfOk, IfSome, IsSome, OnOk, OnErr, [], ◌∷◌, pos};
 ghost use Rattle.region.specs.Region.{covers};
 ghost use Rattle.region.specs.Copies.{InOrder};
 ghost use Rattle.region.specs.Places.{IsOnScreen, source_rect};
 ghost use Rattle.framebuffer.specs.Frame.{IsPicture, IsPart};
 ghost use Rattle.framebuffer.specs.Picture.{blank, written, moved};
 ghost use Rattle.framebuffer.specs.Blocks.{rect_of, block_colours};
+ghost use Rattle.framebuffer.specs.Moves.{rows_copied};
 
-use crate::blocks::Block;
-use crate::moves::{in_copy_order, move_pieces, own_pieces};
+use crate::blocks::{Block, block_within};
+use crate::moves::{first_source, in_copy_order, move_pieces, own_pieces, whole_rows};
 use crate::rows::{
     Row, blank_rows, colours_of, gather, is_own_row, own_rows, put_rows, rows_with, share_rows,
     write_rows,
@@ -199,7 +200,37 @@ impl Framebuffer {
         ensures err { OnErr result (self.new ≡ self.old) }
     {
         let rects = in_copy_order(self.alloc, pieces, offset)?;
-        self.move_in_rows(&rects, offset)
+        match whole_rows(&rects, offset, self.width) {
+            Some(piece) => self.scroll(piece, offset),
+            None => self.move_in_rows(&rects, offset),
+        }
+    }
+
+    /// The same for one rectangle of whole rows that moves straight up or down.
+    fn scroll(&mut self, piece: Rect, offset: (i32, i32)) -> Result<(), AllocError>
+        requires inside { IsOnScreen self.old.width self.old.height piece }
+        requires source { IsOnScreen self.old.width self.old.height (source_rect offset piece) }
+        requires left { piece.x1 ≡ pos 0 }
+        requires right { piece.x2 ≡ pos self.old.width }
+        requires upright { offset.0 ≡ pos 0 }
+        ensures ok { OnOk result (self.new ≡ record self.old { colours = moved self.old.width self.old.height (covers (piece ∷ [])) offset self.old.colours }) }
+        ensures err { OnErr result (self.new ≡ self.old) }
+    {
+        let to = block_within(piece, self.width, self.height);
+        let from = first_source(piece, offset, self.height);
+        self.copy_rows(from, to.top, to.rows)
+    }
+
+    /// So many rows from one on get the colours of as many others, in rows that both share: no colour is copied.
+    fn copy_rows(&mut self, from: usize, to: usize, count: usize) -> Result<(), AllocError>
+        requires from { from + count ≤ self.old.height }
+        requires to { to + count ≤ self.old.height }
+        ensures ok { OnOk result (self.new ≡ record self.old { colours = rows_copied self.old.width from to count self.old.colours }) }
+        ensures err { OnErr result (self.new ≡ self.old) }
+    {
+        let rows = share_rows(self.alloc, &mut self.rows, from, count)?;
+        put_rows(&mut self.rows, to, rows);
+        Ok(())
     }
 
     /// The same for rectangles in an order for copies by (dx, dy), in the rows that are there; those that a snapshot holds are

@@ -1,7 +1,7 @@
 //! Colours that move within a picture, all at once: one rectangle after the other, in an order in which none is moved over the
 //! source of a later one, and each row by row, from the side to which its colours move.
 
-ghost use Rattle.std.specs.Prelude.{◌≡◌, ℕ, ℤ, ◌+◌, ◌-◌, ◌*◌, ◌<◌, ◌≤◌, ◌≤ℤ◌, ◌<ℤ◌, ◌-ℤ◌, ◌==◌, [], ◌∷◌, All, length, map, get_or, pos, nat_abs, slice_index, false, true, if◌then◌else◌, nat_le, nat_lt, ◌&&◌, ◌||◌, IfOk};
+ghost use Rattle.std.specs.Prelude.{◌≡◌, ℕ, ℤ, ◌+◌, ◌-◌, ◌*◌, ◌<◌, ◌≤◌, ◌≤ℤ◌, ◌<ℤ◌, ◌-ℤ◌, ◌==◌, [], ◌∷◌, All, length, map, get_or, pos, nat_abs, slice_index, false, true, if◌then◌else◌, nat_le, nat_lt, ◌&&◌, ◌||◌, IfOk, IfSome};
 ghost use Rattle.region.specs.Region.{covers};
 ghost use Rattle.region.specs.Copies.{InOrder};
 ghost use Rattle.region.specs.Places.{IsOnScreen, source_rect};
@@ -28,6 +28,30 @@ pub fn in_copy_order(
     let region = Region::from_rects_in_range(alloc, pieces)?;
     let rects = region.rects(0 < offset.0, 0 < offset.1)?;
     Ok(rects.into_vec())
+}
+
+/// The rectangle, if it is the only one, has whole rows and moves straight up or down.
+pub fn whole_rows(pieces: &[Rect], offset: (i32, i32), width: u32) -> Option<Rect>
+    requires { width ≤ 8192 }
+    ensures only { IfSome result (λ r. pieces.now ≡ r ∷ []) }
+    ensures left { IfSome result (λ r. r.x1 ≡ pos 0) }
+    ensures right { IfSome result (λ r. r.x2 ≡ pos width) }
+    ensures upright { IfSome result (λ r. offset.0 ≡ pos 0) }
+{
+    match pieces {
+        [piece] if offset.0 == 0 && piece.x1 == 0 && piece.x2 == width as i32 => Some(*piece),
+        _ => None,
+    }
+}
+
+/// The row that a rectangle's first row is moved from.
+pub fn first_source(piece: Rect, offset: (i32, i32), height: u32) -> usize
+    requires rows { height ≤ 8192 }
+    requires inside { IsOnScreen 8192 height piece }
+    requires source { IsOnScreen 8192 height (source_rect offset piece) }
+    ensures { result ≡ nat_abs (piece.y1 -ℤ offset.1) }
+{
+    (piece.y1 - offset.1) as usize
 }
 
 /// The picture holds the rows of a rectangle alone from now on, with their colours as they are.

@@ -1,5 +1,4 @@
 use Rattle.std.proofs.Common.{◌≡◌, ◌+◌, ◌-◌, take, drop, ap, ◌∙◌, arith}
-use Rattle.framebuffer.specs.Rows.{row_colours}
 use Rattle.framebuffer.proofs.RowLemmas.{places_copied}
 use Rattle.framebuffer.proofs.moves.copy_places.Goals as goal
 

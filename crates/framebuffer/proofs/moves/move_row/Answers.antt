@@ -1,4 +1,4 @@
-use Rattle.std.proofs.Common.{◌≡◌, ◌-◌, ◌<◌, arith, rules, ap, sym, subst, get_or, true}
+use Rattle.std.proofs.Common.{◌≡◌, ◌<◌, arith, rules, ap, sym, subst, get_or, true}
 use Rattle.std.specs.Prelude.{FitsSigned, nat_abs, pos, ◌-ℤ◌}
 use Rattle.std.specs.Int.{w32}
 use Rattle.std.proofs.lemmas.Int.{ints, to_z-of_z, to_z_pos}

@@ -1,4 +1,4 @@
-use Rattle.std.proofs.Common.{pos, nat_abs, ◌+◌, get_or, take, All, subst, ◌∙◌}
+use Rattle.std.proofs.Common.{pos, nat_abs, ◌+◌, get_or, take, subst, ◌∙◌}
 use Rattle.std.proofs.lemmas.List.{take_more, take_all}
 use Rattle.region.specs.declared.Rect.{Rect}
 use Rattle.framebuffer.specs.Rows.{AreOwn, AreOwnIn}

@@ -1,4 +1,4 @@
-use Rattle.std.proofs.Common.{◌≡◌, ◌+◌, ◌*◌, ◌<◌, length, get_or, ap, ◌∙◌, arith}
+use Rattle.std.proofs.Common.{◌+◌, ◌*◌, ◌<◌, length, get_or, ap, ◌∙◌, arith}
 use Rattle.framebuffer.specs.Rows.{row_colours}
 use Rattle.framebuffer.specs.Frame.{Frame}
 use Rattle.framebuffer.proofs.RowLemmas.{place_read}

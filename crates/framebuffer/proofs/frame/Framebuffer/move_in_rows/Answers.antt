@@ -1,8 +1,8 @@
-use Rattle.std.proofs.Common.{◌≡◌, ◌<◌, ℕ, ℤ, ◌+◌, ◌*◌, All, true, List, length, map, drop, get_or, sym, ap, ◌∙◌, subst}
+use Rattle.std.proofs.Common.{◌≡◌, ℤ, true, List, length, map, drop, sym, ap, ◌∙◌, subst}
 use Rattle.std.proofs.lemmas.List.{take_at}
 use Rattle.region.specs.declared.Rect.{Rect}
 use Rattle.region.specs.Region.{covers}
-use Rattle.framebuffer.specs.Rows.{row_colours, colours_of_rows, IsOfWidth}
+use Rattle.framebuffer.specs.Rows.{row_colours, colours_of_rows}
 use Rattle.framebuffer.specs.Moves.{colour_moved}
 use Rattle.framebuffer.specs.Picture.{moved}
 use Rattle.framebuffer.specs.Frame.{Frame}

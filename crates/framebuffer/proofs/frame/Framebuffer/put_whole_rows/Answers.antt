@@ -1,4 +1,4 @@
-use Rattle.std.proofs.Common.{◌≡◌, ℕ, ◌+◌, ◌*◌, ◌≤◌, ◌++◌, List, length, take, drop, ap, ◌∙◌, sym, arith}
+use Rattle.std.proofs.Common.{◌≡◌, ℕ, ◌+◌, ◌≤◌, ◌++◌, List, length, take, drop, ap, ◌∙◌, sym, arith}
 use Rattle.std.proofs.lemmas.List.{take_at}
 use Rattle.framebuffer.specs.declared.blocks.Block.{Block}
 use Rattle.framebuffer.specs.declared.rows.Row.{Row}
