@@ -26,13 +26,13 @@ row_given rows columns i len whole below =
     omega (arith, up)
 
 -- an element of a list of which a part was replaced
-put-below : {X : Type 0} (a k n : ℕ) (xs ys : List X) (d : X) → n < a → a ≤ length xs → get_or (put_mid a k xs ys) n d ≡ get_or xs n d
+pub put-below : {X : Type 0} (a k n : ℕ) (xs ys : List X) (d : X) → n < a → a ≤ length xs → get_or (put_mid a k xs ys) n d ≡ get_or xs n d
 put-below a k n xs ys d below inside = search (rules, places)
 
-put-in : {X : Type 0} (a k n : ℕ) (xs ys : List X) (d : X) → a ≤ n → n < a + length ys → a ≤ length xs → get_or (put_mid a k xs ys) n d ≡ get_or ys (n - a) d
+pub put-in : {X : Type 0} (a k n : ℕ) (xs ys : List X) (d : X) → a ≤ n → n < a + length ys → a ≤ length xs → get_or (put_mid a k xs ys) n d ≡ get_or ys (n - a) d
 put-in a k n xs ys d above below inside = search (rules, places)
 
-put-above : {X : Type 0} (a k n : ℕ) (xs ys : List X) (d : X) → length ys ≡ k → a + k ≤ n → a + k ≤ length xs → get_or (put_mid a k xs ys) n d ≡ get_or xs n d
+pub put-above : {X : Type 0} (a k n : ℕ) (xs ys : List X) (d : X) → length ys ≡ k → a + k ≤ n → a + k ≤ length xs → get_or (put_mid a k xs ys) n d ≡ get_or xs n d
 put-above a k n xs ys d long above inside = search (rules, places)
 
 same_test : (b : Block) (i y x : ℕ) → ((y ≡ b.top + i) → (x < b.left) ⊎ (b.left + b.columns ≤ x)) → is_in_block (record b { rows = i + 1 }) y x ≡ is_in_block (record b { rows = i }) y x

@@ -1,4 +1,4 @@
--- A picture with its size: what a framebuffer stands for.
+-- A picture with its size: what a framebuffer stands for, and a snapshot of a part of it.
 use Rattle.std.specs.Prelude.{◌≡◌, ℕ, ◌*◌, ◌≤◌, List, length}
 
 -- the colours of its places, row by row
@@ -12,5 +12,11 @@ pub record IsPicture (f : Frame) : Type 0 where
   pub some_columns : 1 ≤ f.width
   pub columns : f.width ≤ 8192
   pub some_rows : 1 ≤ f.height
+  pub rows : f.height ≤ 8192
+  pub places : length f.colours ≡ f.width * f.height
+
+-- so has a part of a picture, which may have no places
+pub record IsPart (f : Frame) : Type 0 where
+  pub columns : f.width ≤ 8192
   pub rows : f.height ≤ 8192
   pub places : length f.colours ≡ f.width * f.height

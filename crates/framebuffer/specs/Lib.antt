@@ -1,4 +1,5 @@
 pub mod Frame
 pub mod Picture
 pub mod Blocks
+pub mod Rows
 pub mod Moves

@@ -1,5 +1,5 @@
 -- Moves of a picture's colours, row by row.
-use Rattle.std.specs.Prelude.{ℕ, ◌+◌, ◌-◌, ◌*◌, Bool, ◌&&◌, nat_le, nat_lt, if◌then◌else◌, List, get_or, ℤ, pos, ◌-ℤ◌, int_le, int_lt}
+use Rattle.std.specs.Prelude.{ℕ, ◌+◌, ◌-◌, ◌*◌, Bool, ◌&&◌, nat_le, nat_lt, if◌then◌else◌, List, ◌++◌, take, drop, get_or, ℤ, pos, ◌-ℤ◌, int_le, int_lt}
 use Rattle.region.specs.declared.Rect.{Rect}
 use Rattle.region.specs.Region.{covers}
 use Rattle.framebuffer.specs.Picture.{colour_at}
@@ -20,3 +20,7 @@ is_among down h n y = if down then nat_le (h - n) y else nat_lt y n
 -- the row that comes after the first n
 abbrev pub row_number : Bool → ℕ → ℕ → ℕ
 row_number down h n = if down then h - 1 - n else n
+
+-- of the colours in rows of w places, those of so many rows from one on are replaced by those of as many from another on
+abbrev pub rows_copied : ℕ → ℕ → ℕ → ℕ → List ℕ → List ℕ
+rows_copied w from to count picture = take (to * w) picture ++ (take (count * w) (drop (from * w) picture) ++ drop (count * w) (drop (to * w) picture))

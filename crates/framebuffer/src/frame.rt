@@ -1,36 +1,64 @@
-//! A framebuffer: a picture that is drawn in, with its size.
+//! A framebuffer: a picture that is drawn in, with its size; and snapshots of its blocks.
 
-ghost use Rattle.std.specs.Prelude.{◌≡◌, ◌+◌, ◌*◌, ◌<◌, ◌≤◌, ◌↔◌, All, length, slice_index, IfOk, IfSome, IsSome, OnOk, OnErr};
+ghost use Rattle.std.specs.Prelude.{◌≡◌, ◌+◌, ◌*◌, ◌<◌, ◌≤◌, ◌↔◌, All, length, take, drop, slice_index, IfOk, IfSome, IsSome, OnOk, OnErr, [], ◌∷◌, pos};
 ghost use Rattle.region.specs.Region.{covers};
+ghost use Rattle.region.specs.Copies.{InOrder};
 ghost use Rattle.region.specs.Places.{IsOnScreen, source_rect};
-ghost use Rattle.framebuffer.specs.Frame.{IsPicture};
+ghost use Rattle.framebuffer.specs.Frame.{IsPicture, IsPart};
 ghost use Rattle.framebuffer.specs.Picture.{blank, written, moved};
 ghost use Rattle.framebuffer.specs.Blocks.{rect_of, block_colours};
+ghost use Rattle.framebuffer.specs.Moves.{rows_copied};
 
-use crate::blocks::{Block, read_block, replace};
-use crate::moves::{in_copy_order, move_colours};
+use crate::blocks::{Block, block_within};
+use crate::moves::{first_source, in_copy_order, move_pieces, own_pieces, whole_rows};
+use crate::rows::{
+    Row, blank_rows, colours_of, gather, is_own_row, own_rows, put_rows, rows_with, share_rows,
+    write_rows,
+};
 use region::Rect;
 use std::alloc::{AllocError, Global};
 use std::marker::Model;
 
 /// A picture of 1 to 8192 columns and rows: the colours `0x00RRGGBB` of its places, row by row from the top.
-/// It keeps the allocator that it was made with.
+/// It keeps the allocator that it was made with. A row is shared with the snapshots that were taken of it, until it is drawn
+/// over.
 #[derive(Drop)]
 pub struct Framebuffer {
     alloc: Global,
     width: u32,
     height: u32,
-    colours: Vec<u32>,
+    rows: Vec<Row>,
 }
 
 impl Model for Framebuffer {
-    ghost use Rattle.framebuffer.specs.Frame.{Frame, IsPicture};
+    ghost use Rattle.framebuffer.specs.Frame.{Frame};
+    ghost use Rattle.framebuffer.specs.Rows.{HasRows, frame_of};
 
     ghost Value = { Frame };
 
-    ghost view = { λ f. record { width = f.width; height = f.height; colours = f.colours.items } };
+    ghost view = { λ f. frame_of f.width f.height f.rows.items };
 
-    ghost invariant = { λ f. IsPicture (record { width = f.width; height = f.height; colours = f.colours.items }) };
+    ghost invariant = { λ f. HasRows f.width f.height f.rows.items };
+}
+
+/// The colours of a block of a picture as they were when it was taken, row by row. What is drawn later doesn't change them.
+#[derive(Drop)]
+pub struct Snapshot {
+    alloc: Global,
+    rows: Vec<Row>,
+    left: usize,
+    columns: usize,
+}
+
+impl Model for Snapshot {
+    ghost use Rattle.framebuffer.specs.Frame.{Frame};
+    ghost use Rattle.framebuffer.specs.Rows.{HasParts, part_of};
+
+    ghost Value = { Frame };
+
+    ghost view = { λ s. part_of s.left s.columns s.rows.items };
+
+    ghost invariant = { λ s. HasParts s.left s.columns s.rows.items };
 }
 
 impl Framebuffer {
@@ -42,12 +70,12 @@ impl Framebuffer {
         requires rows { height ≤ 8192 }
         ensures { IfOk result (λ f. f ≡ record { width = width; height = height; colours = blank width height }) }
     {
-        let colours = vec![in alloc; 0u32; width as usize * height as usize]?;
+        let rows = blank_rows(alloc, width as usize, height as usize)?;
         Ok(Framebuffer {
             alloc,
             width,
             height,
-            colours,
+            rows,
         })
     }
 
@@ -73,7 +101,7 @@ impl Framebuffer {
         ensures colour { IfSome result (λ c. c ≡ slice_index self.now.colours (y * self.now.width + x)) }
     {
         if x < self.width && y < self.height {
-            Some(self.colours[(y * self.width + x) as usize])
+            Some(colours_of(&self.rows[y as usize])[x as usize])
         } else {
             None
         }
@@ -85,7 +113,25 @@ impl Framebuffer {
         requires high { block.top + block.rows ≤ self.now.height }
         ensures { IfOk result (λ colours. colours.items ≡ block_colours self.now.width block self.now.colours) }
     {
-        read_block(self.alloc, &self.colours, self.width as usize, block)
+        let rows = &self.rows[block.top..block.top + block.rows];
+        gather(self.alloc, rows, block.left, block.columns)
+    }
+
+    /// The colours of a block of the picture as they stand, in rows that are shared with the picture: no colour is copied. It
+    /// may have no places. Refused for want of memory alone; the picture is as it was, whatever comes.
+    pub fn snapshot(&mut self, block: Block) -> Result<Snapshot, AllocError>
+        requires wide { block.left + block.columns ≤ self.old.width }
+        requires high { block.top + block.rows ≤ self.old.height }
+        ensures same { self.new ≡ self.old }
+        ensures taken { IfOk result (λ s. s ≡ record { width = block.columns; height = block.rows; colours = block_colours self.old.width block self.old.colours }) }
+    {
+        let rows = share_rows(self.alloc, &mut self.rows, block.top, block.rows)?;
+        Ok(Snapshot {
+            alloc: self.alloc,
+            rows,
+            left: block.left,
+            columns: block.columns,
+        })
     }
 
     /// Replaces the colours of a block of the picture by others, row by row, whose top bytes are cleared. The block may have no
@@ -97,7 +143,50 @@ impl Framebuffer {
         ensures ok { OnOk result (self.new ≡ record self.old { colours = written self.old.width self.old.height (rect_of block) colours.now self.old.colours }) }
         ensures err { OnErr result (self.new ≡ self.old) }
     {
-        replace(&mut self.colours, self.width, self.height, block, colours);
+        if block.columns == self.width as usize && self.shares(block) {
+            self.put_whole_rows(block, colours)
+        } else {
+            self.write_in_rows(block, colours)
+        }
+    }
+
+    /// Whether a row of a block may be shared with a snapshot.
+    fn shares(&self, block: Block) -> bool
+        requires { block.top + block.rows ≤ self.now.height }
+    {
+        let rows = &self.rows[block.top..block.top + block.rows];
+        !rows.iter().all(is_own_row)
+    }
+
+    /// The same as `write` at a block of whole rows, by new rows in place of the old ones.
+    fn put_whole_rows(&mut self, block: Block, colours: &[u32]) -> Result<(), AllocError>
+        requires left { block.left ≡ 0 }
+        requires wide { block.columns ≡ self.old.width }
+        requires high { block.top + block.rows ≤ self.old.height }
+        requires whole { length colours.now ≡ block.rows * block.columns }
+        ensures ok { OnOk result (self.new ≡ record self.old { colours = written self.old.width self.old.height (rect_of block) colours.now self.old.colours }) }
+        ensures err { OnErr result (self.new ≡ self.old) }
+    {
+        let rows = rows_with(self.alloc, block.columns, block.rows, colours)?;
+        put_rows(&mut self.rows, block.top, rows);
+        Ok(())
+    }
+
+    /// The same as `write`, in the rows that are there; those that a snapshot holds are copied first.
+    fn write_in_rows(&mut self, block: Block, colours: &[u32]) -> Result<(), AllocError>
+        requires wide { block.left + block.columns ≤ self.old.width }
+        requires high { block.top + block.rows ≤ self.old.height }
+        requires whole { length colours.now ≡ block.rows * block.columns }
+        ensures ok { OnOk result (self.new ≡ record self.old { colours = written self.old.width self.old.height (rect_of block) colours.now self.old.colours }) }
+        ensures err { OnErr result (self.new ≡ self.old) }
+    {
+        own_rows(
+            self.alloc,
+            &mut self.rows,
+            block.top,
+            block.top + block.rows,
+        )?;
+        write_rows(&mut self.rows, self.width as usize, block, colours);
         Ok(())
     }
 
@@ -111,15 +200,91 @@ impl Framebuffer {
         ensures err { OnErr result (self.new ≡ self.old) }
     {
         let rects = in_copy_order(self.alloc, pieces, offset)?;
+        match whole_rows(&rects, offset, self.width) {
+            Some(piece) => self.scroll(piece, offset),
+            None => self.move_in_rows(&rects, offset),
+        }
+    }
+
+    /// The same for one rectangle of whole rows that moves straight up or down.
+    fn scroll(&mut self, piece: Rect, offset: (i32, i32)) -> Result<(), AllocError>
+        requires inside { IsOnScreen self.old.width self.old.height piece }
+        requires source { IsOnScreen self.old.width self.old.height (source_rect offset piece) }
+        requires left { piece.x1 ≡ pos 0 }
+        requires right { piece.x2 ≡ pos self.old.width }
+        requires upright { offset.0 ≡ pos 0 }
+        ensures ok { OnOk result (self.new ≡ record self.old { colours = moved self.old.width self.old.height (covers (piece ∷ [])) offset self.old.colours }) }
+        ensures err { OnErr result (self.new ≡ self.old) }
+    {
+        let to = block_within(piece, self.width, self.height);
+        let from = first_source(piece, offset, self.height);
+        self.copy_rows(from, to.top, to.rows)
+    }
+
+    /// So many rows from one on get the colours of as many others, in rows that both share: no colour is copied.
+    fn copy_rows(&mut self, from: usize, to: usize, count: usize) -> Result<(), AllocError>
+        requires from { from + count ≤ self.old.height }
+        requires to { to + count ≤ self.old.height }
+        ensures ok { OnOk result (self.new ≡ record self.old { colours = rows_copied self.old.width from to count self.old.colours }) }
+        ensures err { OnErr result (self.new ≡ self.old) }
+    {
+        let rows = share_rows(self.alloc, &mut self.rows, from, count)?;
+        put_rows(&mut self.rows, to, rows);
+        Ok(())
+    }
+
+    /// The same for rectangles in an order for copies by (dx, dy), in the rows that are there; those that a snapshot holds are
+    /// copied first.
+    fn move_in_rows(&mut self, pieces: &[Rect], offset: (i32, i32)) -> Result<(), AllocError>
+        requires inside { All (IsOnScreen self.old.width self.old.height) pieces.now }
+        requires sources { All (λ r. IsOnScreen self.old.width self.old.height (source_rect offset r)) pieces.now }
+        requires ordered { InOrder offset pieces.now }
+        ensures ok { OnOk result (self.new ≡ record self.old { colours = moved self.old.width self.old.height (covers pieces.now) offset self.old.colours }) }
+        ensures err { OnErr result (self.new ≡ self.old) }
+    {
         let mut buffer = vec![in self.alloc; 0u32; self.width as usize]?;
-        move_colours(
-            &mut self.colours,
+        own_pieces(self.alloc, &mut self.rows, pieces)?;
+        move_pieces(
+            &mut self.rows,
             self.width,
             self.height,
-            &rects,
+            pieces,
             offset,
             &mut buffer,
         );
         Ok(())
+    }
+}
+
+impl Snapshot {
+    /// How many columns the block has.
+    pub fn width(&self) -> usize
+        ensures value { result ≡ self.now.width }
+        ensures part { IsPart self.now }
+    {
+        self.columns
+    }
+
+    /// How many rows the block has.
+    pub fn height(&self) -> usize
+        ensures value { result ≡ self.now.height }
+        ensures part { IsPart self.now }
+    {
+        self.rows.len()
+    }
+
+    /// The colours of a row.
+    pub fn row(&self, y: usize) -> &[u32]
+        requires { y < self.now.height }
+        ensures { result.now ≡ take self.now.width (drop (y * self.now.width) self.now.colours) }
+    {
+        &colours_of(&self.rows[y])[self.left..self.left + self.columns]
+    }
+
+    /// The colours, row by row, in one list.
+    pub fn colours(&self) -> Result<Vec<u32>, AllocError>
+        ensures { IfOk result (λ colours. colours.items ≡ self.now.colours) }
+    {
+        gather(self.alloc, &self.rows, self.left, self.columns)
     }
 }

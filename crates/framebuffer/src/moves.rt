@@ -1,13 +1,15 @@
 //! Colours that move within a picture, all at once: one rectangle after the other, in an order in which none is moved over the
 //! source of a later one, and each row by row, from the side to which its colours move.
 
-ghost use Rattle.std.specs.Prelude.{◌≡◌, ℕ, ℤ, ◌+◌, ◌-◌, ◌*◌, ◌<◌, ◌≤◌, ◌≤ℤ◌, ◌<ℤ◌, ◌-ℤ◌, ◌==◌, [], ◌∷◌, All, length, pos, nat_abs, slice_index, false, true, if◌then◌else◌, nat_le, nat_lt, ◌&&◌, ◌||◌, IfOk};
+ghost use Rattle.std.specs.Prelude.{◌≡◌, ℕ, ℤ, ◌+◌, ◌-◌, ◌*◌, ◌<◌, ◌≤◌, ◌≤ℤ◌, ◌<ℤ◌, ◌-ℤ◌, ◌==◌, [], ◌∷◌, All, length, map, get_or, pos, nat_abs, slice_index, false, true, if◌then◌else◌, nat_le, nat_lt, ◌&&◌, ◌||◌, IfOk, IfSome};
 ghost use Rattle.region.specs.Region.{covers};
 ghost use Rattle.region.specs.Copies.{InOrder};
 ghost use Rattle.region.specs.Places.{IsOnScreen, source_rect};
-ghost use Rattle.framebuffer.specs.Picture.{moved};
 ghost use Rattle.framebuffer.specs.Moves.{between, colour_moved, is_among, row_number};
+ghost use Rattle.framebuffer.specs.declared.rows.Row.{Row};
+ghost use Rattle.framebuffer.specs.Rows.{row_colours, colours_of_rows, is_own, IsOfWidth, AreOwn, AreOwnIn, StayOwn};
 
+use crate::rows::{Row, colours_of, copy_in_row, own_rows};
 use region::{Rect, Region};
 use std::alloc::{AllocError, Global};
 
@@ -28,31 +30,101 @@ pub fn in_copy_order(
     Ok(rects.into_vec())
 }
 
-/// So many places, from one on, get the colours of as many from another on, by way of a buffer. What the buffer holds doesn't
-/// matter.
-fn copy_places(places: &mut [u32], from: usize, to: usize, count: usize, buffer: &mut [u32])
-    requires from { from + count ≤ length places.old }
-    requires to { to + count ≤ length places.old }
-    requires buffer { count ≤ length buffer.old }
-    ensures { (k : ℕ) → slice_index places.new k ≡ (if nat_le to k && nat_lt k (to + count) then slice_index places.old (from + (k - to)) else slice_index places.old k) }
+/// The rectangle, if it is the only one, has whole rows and moves straight up or down.
+pub fn whole_rows(pieces: &[Rect], offset: (i32, i32), width: u32) -> Option<Rect>
+    requires { width ≤ 8192 }
+    ensures only { IfSome result (λ r. pieces.now ≡ r ∷ []) }
+    ensures left { IfSome result (λ r. r.x1 ≡ pos 0) }
+    ensures right { IfSome result (λ r. r.x2 ≡ pos width) }
+    ensures upright { IfSome result (λ r. offset.0 ≡ pos 0) }
 {
-    let part = &mut buffer[..count];
-    part.copy_from_slice(&places[from..from + count]);
-    places[to..to + count].copy_from_slice(part);
+    match pieces {
+        [piece] if offset.0 == 0 && piece.x1 == 0 && piece.x2 == width as i32 => Some(*piece),
+        _ => None,
+    }
 }
 
-/// The number of the place in column x of row y, in rows of so many places.
-fn place_number(x: i32, y: i32, width: u32) -> usize
+/// The row that a rectangle's first row is moved from.
+pub fn first_source(piece: Rect, offset: (i32, i32), height: u32) -> usize
+    requires rows { height ≤ 8192 }
+    requires inside { IsOnScreen 8192 height piece }
+    requires source { IsOnScreen 8192 height (source_rect offset piece) }
+    ensures { result ≡ nat_abs (piece.y1 -ℤ offset.1) }
+{
+    (piece.y1 - offset.1) as usize
+}
+
+/// The picture holds the rows of a rectangle alone from now on, with their colours as they are.
+fn own_piece(alloc: Global, rows: &mut [Row], piece: Rect) -> Result<(), AllocError>
+    requires { IsOnScreen 8192 (length rows.old) piece }
+    ensures same { map row_colours rows.new ≡ map row_colours rows.old }
+    ensures stay { StayOwn rows.old rows.new }
+    ensures own { IfOk result (λ _. AreOwn (nat_abs piece.y1) (nat_abs piece.y2) rows.new) }
+{
+    own_rows(alloc, rows, piece.y1 as usize, piece.y2 as usize)
+}
+
+/// The same for the rows of rectangles.
+pub fn own_pieces(alloc: Global, rows: &mut [Row], pieces: &[Rect]) -> Result<(), AllocError>
+    requires { All (IsOnScreen 8192 (length rows.old)) pieces.now }
+    ensures same { map row_colours rows.new ≡ map row_colours rows.old }
+    ensures own { IfOk result (λ _. AreOwnIn pieces.now rows.new) }
+{
+    for piece in pieces {
+        own_piece(alloc, rows, *piece)?;
+    }
+    Ok(())
+}
+
+/// A place of a picture.
+#[derive(Clone, Copy)]
+struct Place {
+    column: usize,
+    row: usize,
+}
+
+/// The place in column x of row y.
+fn place_at(x: i32, y: i32) -> Place
     requires left { pos 0 ≤ℤ x }
     requires top { pos 0 ≤ℤ y }
-    ensures { result ≡ nat_abs y * width + nat_abs x }
+    ensures { result ≡ record { column = nat_abs x; row = nat_abs y } }
 {
-    y as usize * width as usize + x as usize
+    Place {
+        column: x as usize,
+        row: y as usize,
+    }
+}
+
+/// So many places of a row, from one on, get the colours of as many from another on, by way of a buffer. What the buffer holds
+/// doesn't matter.
+fn copy_places(
+    rows: &mut [Row],
+    width: usize,
+    from: Place,
+    to: Place,
+    count: usize,
+    buffer: &mut [u32],
+)
+    requires wide { All (IsOfWidth width) rows.old }
+    requires from { from.row < length rows.old }
+    requires from_wide { from.column + count ≤ width }
+    requires to { to.row < length rows.old }
+    requires to_wide { to.column + count ≤ width }
+    requires own { (d : Row) → is_own (get_or rows.old to.row d) ≡ true }
+    requires buffer { count ≤ length buffer.old }
+    ensures wide { All (IsOfWidth width) rows.new }
+    ensures own { StayOwn rows.old rows.new }
+    ensures colours { (k : ℕ) → slice_index (colours_of_rows rows.new) k ≡ (if nat_le (to.row * width + to.column) k && nat_lt k (to.row * width + to.column + count) then slice_index (colours_of_rows rows.old) (from.row * width + from.column + (k - (to.row * width + to.column))) else slice_index (colours_of_rows rows.old) k) }
+{
+    let part = &mut buffer[..count];
+    let source = colours_of(&rows[from.row]);
+    part.copy_from_slice(&source[from.column..from.column + count]);
+    copy_in_row(&mut rows[to.row], to.column, part);
 }
 
 /// A rectangle's places in row y get the colours of the places (dx, dy) before them.
 fn move_row(
-    picture: &mut [u32],
+    rows: &mut [Row],
     width: u32,
     height: u32,
     piece: Rect,
@@ -62,18 +134,22 @@ fn move_row(
 )
     requires columns { width ≤ 8192 }
     requires rows { height ≤ 8192 }
-    requires size { length picture.old ≡ width * height }
+    requires count { length rows.old ≡ height }
+    requires wide { All (IsOfWidth width) rows.old }
+    requires own { AreOwn (nat_abs piece.y1) (nat_abs piece.y2) rows.old }
     requires buffer { length buffer.old ≡ width }
     requires inside { IsOnScreen width height piece }
     requires source { IsOnScreen width height (source_rect offset piece) }
     requires top { piece.y1 ≤ℤ pos y }
     requires bottom { pos y <ℤ piece.y2 }
-    ensures { (k x : ℕ) → k < height → x < width → slice_index picture.new (k * width + x) ≡ colour_moved width height (piece ∷ []) offset (λ row. row == y) picture.old k x }
+    ensures wide { All (IsOfWidth width) rows.new }
+    ensures own { StayOwn rows.old rows.new }
+    ensures colours { (k x : ℕ) → k < height → x < width → slice_index (colours_of_rows rows.new) (k * width + x) ≡ colour_moved width height (piece ∷ []) offset (λ row. row == y) (colours_of_rows rows.old) k x }
 {
     let columns = (piece.x2 - piece.x1) as usize;
-    let from = place_number(piece.x1 - offset.0, y as i32 - offset.1, width);
-    let to = place_number(piece.x1, y as i32, width);
-    copy_places(picture, from, to, columns, buffer);
+    let from = place_at(piece.x1 - offset.0, y as i32 - offset.1);
+    let to = place_at(piece.x1, y as i32);
+    copy_places(rows, width as usize, from, to, columns, buffer);
 }
 
 /// The row that comes after n others: from the bottom, or from the top.
@@ -109,7 +185,7 @@ fn rows_of(piece: Rect, height: u32, down: bool) -> (u32, u32)
 
 /// A rectangle's places get the colours that the places (dx, dy) before them had before the call, all at once.
 fn move_piece(
-    picture: &mut [u32],
+    rows: &mut [Row],
     width: u32,
     height: u32,
     piece: Rect,
@@ -118,64 +194,49 @@ fn move_piece(
 )
     requires columns { width ≤ 8192 }
     requires rows { height ≤ 8192 }
-    requires size { length picture.old ≡ width * height }
+    requires count { length rows.old ≡ height }
+    requires wide { All (IsOfWidth width) rows.old }
+    requires own { AreOwn (nat_abs piece.y1) (nat_abs piece.y2) rows.old }
     requires buffer { length buffer.old ≡ width }
     requires inside { IsOnScreen width height piece }
     requires source { IsOnScreen width height (source_rect offset piece) }
-    ensures { (k x : ℕ) → k < height → x < width → slice_index picture.new (k * width + x) ≡ colour_moved width height (piece ∷ []) offset (λ row. true) picture.old k x }
+    ensures wide { All (IsOfWidth width) rows.new }
+    ensures own { StayOwn rows.old rows.new }
+    ensures colours { (k x : ℕ) → k < height → x < width → slice_index (colours_of_rows rows.new) (k * width + x) ≡ colour_moved width height (piece ∷ []) offset (λ row. true) (colours_of_rows rows.old) k x }
 {
     let down = offset.1 > 0;
     let (first, end) = rows_of(piece, height, down);
     for n in first..end {
         let y = row_after(n, height, down);
-        move_row(picture, width, height, piece, y, offset, buffer);
-    }
-}
-
-/// The same for all places of rectangles, none of which is moved over a later one's source.
-fn move_pieces(
-    picture: &mut [u32],
-    width: u32,
-    height: u32,
-    pieces: &[Rect],
-    offset: (i32, i32),
-    buffer: &mut [u32],
-)
-    requires columns { width ≤ 8192 }
-    requires rows { height ≤ 8192 }
-    requires size { length picture.old ≡ width * height }
-    requires buffer { length buffer.old ≡ width }
-    requires inside { All (IsOnScreen width height) pieces.now }
-    requires sources { All (λ r. IsOnScreen width height (source_rect offset r)) pieces.now }
-    requires ordered { InOrder offset pieces.now }
-    ensures { (k x : ℕ) → k < height → x < width → slice_index picture.new (k * width + x) ≡ colour_moved width height pieces.now offset (λ row. true) picture.old k x }
-{
-    for piece in pieces {
-        move_piece(picture, width, height, *piece, offset, buffer);
+        move_row(rows, width, height, piece, y, offset, buffer);
     }
 }
 
 /// The rectangles' places get the colours that the places (dx, dy) before them had before the call, all at once. The rectangles
-/// stand in an order for copies by (dx, dy). Each has places, all of them on the screen, and so has the rectangle (dx, dy) before
-/// it. The buffer has as many places as the screen has columns; what it holds doesn't matter.
-pub fn move_colours(
-    picture: &mut Vec<u32>,
+/// stand in an order for copies by (dx, dy), and the picture holds their rows alone. Each has places, all of them on the screen,
+/// and so has the rectangle (dx, dy) before it. The buffer has as many places as the screen has columns; what it holds doesn't
+/// matter.
+pub fn move_pieces(
+    rows: &mut [Row],
     width: u32,
     height: u32,
     pieces: &[Rect],
     offset: (i32, i32),
     buffer: &mut [u32],
 )
-    requires some { 0 < width }
     requires columns { width ≤ 8192 }
     requires rows { height ≤ 8192 }
-    requires size { length picture.old.items ≡ width * height }
+    requires count { length rows.old ≡ height }
+    requires wide { All (IsOfWidth width) rows.old }
+    requires own { AreOwnIn pieces.now rows.old }
     requires buffer { length buffer.old ≡ width }
     requires inside { All (IsOnScreen width height) pieces.now }
     requires sources { All (λ r. IsOnScreen width height (source_rect offset r)) pieces.now }
     requires ordered { InOrder offset pieces.now }
-    ensures colours { picture.new.items ≡ moved width height (covers pieces.now) offset picture.old.items }
-    ensures size { length picture.new.items ≡ width * height }
+    ensures wide { All (IsOfWidth width) rows.new }
+    ensures colours { (k x : ℕ) → k < height → x < width → slice_index (colours_of_rows rows.new) (k * width + x) ≡ colour_moved width height pieces.now offset (λ row. true) (colours_of_rows rows.old) k x }
 {
-    move_pieces(picture, width, height, pieces, offset, buffer);
+    for piece in pieces {
+        move_piece(rows, width, height, *piece, offset, buffer);
+    }
 }

@@ -148,6 +148,22 @@ fn read(rt: &impl Abort, picture: &Framebuffer, block: Block) -> Result<Vec<u32>
     picture.read(block)
 }
 
+/// A snapshot of a block that lies on the picture.
+fn taken(rt: &impl Abort, picture: &mut Framebuffer, block: Block) -> Result<Snapshot, AllocError> {
+    assert!(rt; fit(block.left, block.columns, picture.width()));
+    assert!(rt; fit(block.top, block.rows, picture.height()));
+    picture.snapshot(block)
+}
+
+/// The colours of a snapshot's rows, one after the other.
+fn rows_of(alloc: Global, snapshot: &Snapshot) -> Result<Vec<u32>, AllocError> {
+    let mut colours = Vec::new(alloc);
+    for y in 0..snapshot.height() {
+        colours.extend_from_slice(snapshot.row(y))?;
+    }
+    Ok(colours)
+}
+
 #[test]
 fn a_block_is_written_and_read(rt: HostRuntime) -> Result<(), Fail> {
     let mut picture = Framebuffer::new(rt.alloc(), 4, 3)?;
@@ -264,7 +280,7 @@ fn moved_plainly(
     Ok(picture)
 }
 
-/// The same by a framebuffer.
+/// The same by a framebuffer, of which there is a snapshot that stays as it is.
 fn moved(
     rt: &impl Abort,
     alloc: Global,
@@ -285,7 +301,10 @@ fn moved(
         picture.width(),
         picture.height(),
     )?;
+    let before = taken(rt, &mut picture, all)?;
     picture.move_colours(&pieces, offset)?;
+    let kept = before.colours()?;
+    assert_eq!(rt; kept.as_slice(), colours.as_slice());
     read(rt, &picture, all)
 }
 
@@ -339,5 +358,74 @@ fn a_worked_move_downwards(rt: HostRuntime) -> Result<(), Fail> {
     assert_eq!(rt; given.as_slice(), [1, 2, 1, 2, 3, 4].as_slice());
     let given = moved(&rt, rt.alloc(), (3, 1), &[rect(0, 0, 3, 1)], (-1, 0))?;
     assert_eq!(rt; given.as_slice(), [2, 3, 3].as_slice());
+    Ok(())
+}
+
+#[test]
+fn a_wide_move_and_one_of_a_single_place(rt: HostRuntime) -> Result<(), Fail> {
+    let wide = moved(&rt, rt.alloc(), (8192, 2), &[rect(0, 1, 8192, 2)], (0, 1))?;
+    assert_eq!(rt; wide.len(), 16384);
+    assert_eq!(rt; wide.get(8191).copied(), Some(8192));
+    assert_eq!(rt; wide.last().copied(), Some(8192));
+    let single = moved(&rt, rt.alloc(), (1, 1), &[rect(0, 0, 1, 1)], (0, 0))?;
+    assert_eq!(rt; single.as_slice(), [1].as_slice());
+    Ok(())
+}
+
+/// Writes a block of 2 by 2 places, then a row, and moves all rows up by one.
+fn draw_over(
+    rt: &impl Abort,
+    alloc: Global,
+    picture: &mut Framebuffer,
+    block: Block,
+) -> Result<(), AllocError> {
+    write(rt, picture, block, &[21, 22, 23, 24])?;
+    let row = Block {
+        left: 0,
+        top: 1,
+        columns: 4,
+        rows: 1,
+    };
+    write(rt, picture, row, &[0xff_000005, 6, 7, 8])?;
+    let pieces = destinations(
+        alloc,
+        &[rect(0, 0, 4, 3)],
+        0,
+        -1,
+        picture.width(),
+        picture.height(),
+    )?;
+    picture.move_colours(&pieces, (0, -1))
+}
+
+#[test]
+fn a_snapshot_stays_as_it_was(rt: HostRuntime) -> Result<(), Fail> {
+    let all = whole(4, 3);
+    let block = Block {
+        left: 1,
+        top: 1,
+        columns: 2,
+        rows: 2,
+    };
+    let mut picture = Framebuffer::new(rt.alloc(), 4, 3)?;
+    let colours = numbered(rt.alloc(), 12)?;
+    write(&rt, &mut picture, all, &colours)?;
+    let before = taken(&rt, &mut picture, block)?;
+    draw_over(&rt, rt.alloc(), &mut picture, block)?;
+    let kept = rows_of(rt.alloc(), &before)?;
+    assert_eq!(rt; (before.width(), before.height()), (2, 2));
+    assert_eq!(rt; kept.as_slice(), [6, 7, 10, 11].as_slice());
+    drop(before);
+    let drawn = read(&rt, &picture, all)?;
+    assert_eq!(rt;
+        drawn.as_slice(),
+        [5, 6, 7, 8, 9, 23, 24, 12, 9, 23, 24, 12].as_slice()
+    );
+    write(&rt, &mut picture, block, &[1, 2, 3, 4])?;
+    let drawn = read(&rt, &picture, all)?;
+    assert_eq!(rt;
+        drawn.as_slice(),
+        [5, 6, 7, 8, 9, 1, 2, 12, 9, 3, 4, 12].as_slice()
+    );
     Ok(())
 }

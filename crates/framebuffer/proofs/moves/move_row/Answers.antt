@@ -1,8 +1,10 @@
-use Rattle.std.proofs.Common.{◌-◌, ◌<◌, arith, rules}
+use Rattle.std.proofs.Common.{◌≡◌, ◌<◌, arith, rules, ap, sym, subst, get_or, true}
 use Rattle.std.specs.Prelude.{FitsSigned, nat_abs, pos, ◌-ℤ◌}
 use Rattle.std.specs.Int.{w32}
 use Rattle.std.proofs.lemmas.Int.{ints, to_z-of_z, to_z_pos}
-use Rattle.framebuffer.proofs.MoveLemmas.{row_of, columns_of, row_room, row_copied}
+use Rattle.framebuffer.specs.declared.moves.Place.{Place}
+use Rattle.framebuffer.specs.Rows.{is_own, colours_of_rows}
+use Rattle.framebuffer.proofs.MoveLemmas.{row_of, columns_of, row_copied}
 use Rattle.framebuffer.proofs.moves.move_row.Goals as goal
 
 pub copy_places-requires-clause-from : goal.copy_places-requires-clause-from
@@ -19,10 +21,26 @@ copy_places-requires-clause-from c =
     let top : FitsSigned w32 (pos c.args.y -ℤ c.args.offset.1) = search rules in
     let is_y = to_z_pos w32 c.args.y (omega arith) in
     let is = row_of c.args.width c.args.height c.args.piece c.args.offset c.args.y inside source c.requires.top c.requires.bottom in
+    let from = simp to_z-of_z at (rw is_y at c.place_at-from.ensures) in
+    omega (arith, ap (λ (p : Place). p.row) from, is.source_high, c.requires.count)
+
+pub copy_places-requires-clause-from_wide : goal.copy_places-requires-clause-from_wide
+copy_places-requires-clause-from_wide c =
+    let inside = c.requires.inside in
+    let source = c.requires.source in
+    let high : c.args.y < c.args.height = omega (arith, ints, c.requires.bottom, inside.bottom) in
+    let x1 : FitsSigned w32 c.args.piece.x1 = search rules in
+    let x2 : FitsSigned w32 c.args.piece.x2 = search rules in
+    let dx : FitsSigned w32 c.args.offset.0 = search rules in
+    let dy : FitsSigned w32 c.args.offset.1 = search rules in
+    let columns : FitsSigned w32 (c.args.piece.x2 -ℤ c.args.piece.x1) = search rules in
+    let left : FitsSigned w32 (c.args.piece.x1 -ℤ c.args.offset.0) = search rules in
+    let top : FitsSigned w32 (pos c.args.y -ℤ c.args.offset.1) = search rules in
+    let is_y = to_z_pos w32 c.args.y (omega arith) in
+    let is = row_of c.args.width c.args.height c.args.piece c.args.offset c.args.y inside source c.requires.top c.requires.bottom in
+    let from = simp to_z-of_z at (rw is_y at c.place_at-from.ensures) in
     let wide = columns_of c.args.width c.args.height c.args.piece inside in
-    let from = simp to_z-of_z at (rw is_y at c.place_number-from.ensures) in
-    let room = row_room c.args.width c.args.height (nat_abs (pos c.args.y -ℤ c.args.offset.1)) (nat_abs (c.args.piece.x1 -ℤ c.args.offset.0)) (nat_abs c.args.piece.x2 - nat_abs c.args.piece.x1) c.args.picture.now c.requires.size is.source_high is.source_wide in
-    simp to_z-of_z (rw (from, wide) room)
+    simp to_z-of_z (omega (arith, ap (λ (p : Place). p.column) from, wide, is.source_wide))
 
 pub copy_places-requires-clause-to : goal.copy_places-requires-clause-to
 copy_places-requires-clause-to c =
@@ -38,21 +56,46 @@ copy_places-requires-clause-to c =
     let top : FitsSigned w32 (pos c.args.y -ℤ c.args.offset.1) = search rules in
     let is_y = to_z_pos w32 c.args.y (omega arith) in
     let is = row_of c.args.width c.args.height c.args.piece c.args.offset c.args.y inside source c.requires.top c.requires.bottom in
-    let wide = columns_of c.args.width c.args.height c.args.piece inside in
-    let to = simp to_z-of_z at (rw is_y at c.place_number-to.ensures) in
-    let room = row_room c.args.width c.args.height c.args.y (nat_abs c.args.piece.x1) (nat_abs c.args.piece.x2 - nat_abs c.args.piece.x1) c.args.picture.now c.requires.size high (let a = is.some in let b = is.wide in omega arith) in
-    simp to_z-of_z (rw (to, wide) room)
+    let to = simp to_z-of_z at (rw is_y at c.place_at-to.ensures) in
+    omega (arith, ap (λ (p : Place). p.row) to, high, c.requires.count)
 
-pub copy_places-requires-clause-buffer : goal.copy_places-requires-clause-buffer
-copy_places-requires-clause-buffer c =
+pub copy_places-requires-clause-to_wide : goal.copy_places-requires-clause-to_wide
+copy_places-requires-clause-to_wide c =
+    let inside = c.requires.inside in
+    let source = c.requires.source in
+    let high : c.args.y < c.args.height = omega (arith, ints, c.requires.bottom, inside.bottom) in
     let x1 : FitsSigned w32 c.args.piece.x1 = search rules in
     let x2 : FitsSigned w32 c.args.piece.x2 = search rules in
+    let dx : FitsSigned w32 c.args.offset.0 = search rules in
+    let dy : FitsSigned w32 c.args.offset.1 = search rules in
     let columns : FitsSigned w32 (c.args.piece.x2 -ℤ c.args.piece.x1) = search rules in
-    let inside = c.requires.inside in
-    simp to_z-of_z (omega (arith, ints))
+    let left : FitsSigned w32 (c.args.piece.x1 -ℤ c.args.offset.0) = search rules in
+    let top : FitsSigned w32 (pos c.args.y -ℤ c.args.offset.1) = search rules in
+    let is_y = to_z_pos w32 c.args.y (omega arith) in
+    let is = row_of c.args.width c.args.height c.args.piece c.args.offset c.args.y inside source c.requires.top c.requires.bottom in
+    let to = simp to_z-of_z at (rw is_y at c.place_at-to.ensures) in
+    let wide = columns_of c.args.width c.args.height c.args.piece inside in
+    let some = is.some in let wide_too = is.wide in simp to_z-of_z (omega (arith, ap (λ (p : Place). p.column) to, wide))
 
-pub returns : goal.returns
-returns c =
+pub copy_places-requires-clause-own : goal.copy_places-requires-clause-own
+copy_places-requires-clause-own c =
+    let inside = c.requires.inside in
+    let source = c.requires.source in
+    let high : c.args.y < c.args.height = omega (arith, ints, c.requires.bottom, inside.bottom) in
+    let x1 : FitsSigned w32 c.args.piece.x1 = search rules in
+    let x2 : FitsSigned w32 c.args.piece.x2 = search rules in
+    let dx : FitsSigned w32 c.args.offset.0 = search rules in
+    let dy : FitsSigned w32 c.args.offset.1 = search rules in
+    let columns : FitsSigned w32 (c.args.piece.x2 -ℤ c.args.piece.x1) = search rules in
+    let left : FitsSigned w32 (c.args.piece.x1 -ℤ c.args.offset.0) = search rules in
+    let top : FitsSigned w32 (pos c.args.y -ℤ c.args.offset.1) = search rules in
+    let is_y = to_z_pos w32 c.args.y (omega arith) in
+    let is = row_of c.args.width c.args.height c.args.piece c.args.offset c.args.y inside source c.requires.top c.requires.bottom in
+    let to = simp to_z-of_z at (rw is_y at c.place_at-to.ensures) in
+    λ d. subst (λ n. is_own (get_or c.args.rows.now n d) ≡ true) (sym (ap (λ (p : Place). p.row) to)) (c.requires.own c.args.y d (omega (arith, ints, c.requires.top, inside.top)) (omega (arith, ints, c.requires.bottom, inside.top, inside.rows)))
+
+pub returns-clause-colours : goal.returns-clause-colours
+returns-clause-colours c =
     let inside = c.requires.inside in
     let source = c.requires.source in
     let high : c.args.y < c.args.height = omega (arith, ints, c.requires.bottom, inside.bottom) in
@@ -66,7 +109,7 @@ returns c =
     let is_y = to_z_pos w32 c.args.y (omega arith) in
     let is = row_of c.args.width c.args.height c.args.piece c.args.offset c.args.y inside source c.requires.top c.requires.bottom in
     let wide = columns_of c.args.width c.args.height c.args.piece inside in
-    let from = simp to_z-of_z at (rw is_y at c.place_number-from.ensures) in
-    let to = simp to_z-of_z at (rw is_y at c.place_number-to.ensures) in
-    row_copied c.args.width c.args.height c.args.piece c.args.offset c.args.y (nat_abs c.args.piece.x1) (nat_abs c.args.piece.x2) (nat_abs (c.args.piece.x1 -ℤ c.args.offset.0)) (nat_abs (pos c.args.y -ℤ c.args.offset.1)) c.args.picture.now is c.copy_places.new.places
-    (λ k. rw (from, to, wide) at (simp to_z-of_z at (c.copy_places.ensures k)))
+    let from = simp to_z-of_z at (rw is_y at c.place_at-from.ensures) in
+    let to = simp to_z-of_z at (rw is_y at c.place_at-to.ensures) in
+    row_copied c.args.width c.args.height c.args.piece c.args.offset c.args.y (nat_abs c.args.piece.x1) (nat_abs c.args.piece.x2) (nat_abs (c.args.piece.x1 -ℤ c.args.offset.0)) (nat_abs (pos c.args.y -ℤ c.args.offset.1)) (colours_of_rows c.args.rows.now) is (colours_of_rows c.copy_places.new.rows)
+    (λ k. rw (from, to, wide) at (simp to_z-of_z at (c.copy_places.ensures.colours k)))

@@ -1,0 +1,270 @@
+//! Rows of a picture's colours: each is held by the picture alone, or shared with snapshots until it is drawn over.
+
+ghost use Rattle.std.specs.Prelude.{◌≡◌, ℕ, ◌+◌, ◌*◌, ◌%◌, ◌^◌, ◌<◌, ◌≤◌, ◌++◌, All, length, map, flat_map, take, drop, slice_index, replicate, true, IfOk, IfErr};
+ghost use Rattle.framebuffer.specs.Picture.{blank};
+ghost use Rattle.framebuffer.specs.Blocks.{colour_written};
+ghost use Rattle.framebuffer.specs.Rows.{row_colours, shared_colours, colours_of_rows, parts_of_rows, is_own, IsOfWidth, AreOwn, StayOwn, row_written};
+
+use crate::blocks::Block;
+use std::alloc::{AllocError, AllocFailed, Global};
+use std::mem;
+use std::sync::Arc;
+
+/// A row of colours. The picture writes in a row that it holds alone.
+#[derive(Drop)]
+pub enum Row {
+    Own(Vec<u32>),
+    Shared(Arc<Vec<u32>>),
+}
+
+/// The colours of a row.
+pub fn colours_of(row: &Row) -> &[u32]
+    ensures { result.now ≡ row_colours row.now }
+{
+    match row {
+        Row::Own(places) => places,
+        Row::Shared(places) => places,
+    }
+}
+
+/// Whether the picture holds a row alone.
+pub fn is_own_row(row: &Row) -> bool
+    ensures { result ≡ is_own row.now }
+{
+    match row {
+        Row::Own(_) => true,
+        Row::Shared(_) => false,
+    }
+}
+
+/// The colours of a row that snapshots may hold, for the picture alone: they are copied only where a snapshot holds them
+/// still.
+fn taken_back(alloc: Global, places: Arc<Vec<u32>>) -> Result<Vec<u32>, AllocFailed<Arc<Vec<u32>>>>
+    ensures ok { IfOk result (λ own. own.items ≡ shared_colours places) }
+    ensures err { IfErr result (λ e. shared_colours e.value ≡ shared_colours places) }
+{
+    match Arc::try_unwrap(places) {
+        Ok(own) => Ok(own),
+        Err(shared) => match shared.as_slice().to_vec(alloc) {
+            Ok(own) => Ok(own),
+            Err(_) => Err(AllocFailed { value: shared }),
+        },
+    }
+}
+
+/// The picture holds the row alone from now on, with its colours as they are.
+fn make_own(alloc: Global, row: &mut Row) -> Result<(), AllocError>
+    ensures same { row_colours row.new ≡ row_colours row.old }
+    ensures stays { is_own row.old ≡ true → is_own row.new ≡ true }
+    ensures own { IfOk result (λ _. is_own row.new ≡ true) }
+{
+    if is_own_row(row) {
+        return Ok(());
+    }
+    match mem::replace(row, Row::Own(Vec::new(alloc))) {
+        Row::Own(places) => {
+            *row = Row::Own(places);
+            Ok(())
+        }
+        Row::Shared(places) => match taken_back(alloc, places) {
+            Ok(places) => {
+                *row = Row::Own(places);
+                Ok(())
+            }
+            Err(refused) => {
+                *row = Row::Shared(refused.value);
+                Err(AllocError)
+            }
+        },
+    }
+}
+
+/// The row once more, shared with the picture; no colour is copied.
+fn share(alloc: Global, row: &mut Row) -> Result<Row, AllocError>
+    ensures same { row_colours row.new ≡ row_colours row.old }
+    ensures shared { IfOk result (λ shared. row_colours shared ≡ row_colours row.old) }
+{
+    match mem::replace(row, Row::Own(Vec::new(alloc))) {
+        Row::Own(places) => match Arc::new(alloc, places) {
+            Ok(places) => {
+                let shared = Arc::try_clone(&places);
+                *row = Row::Shared(places);
+                Ok(Row::Shared(shared?))
+            }
+            Err(refused) => {
+                *row = Row::Own(refused.value);
+                Err(AllocError)
+            }
+        },
+        Row::Shared(places) => {
+            let shared = Arc::try_clone(&places);
+            *row = Row::Shared(places);
+            Ok(Row::Shared(shared?))
+        }
+    }
+}
+
+/// Replaces the colours of a part of a row; their top bytes are cleared.
+fn write_places(places: &mut [u32], colours: &[u32])
+    requires { length places.old ≡ length colours.now }
+    ensures { (k : ℕ) → k < length colours.now → slice_index places.new k ≡ slice_index colours.now k % 2 ^ 24 }
+{
+    for i in 0..places.len() {
+        places[i] = colours[i] % (1 << 24);
+    }
+}
+
+/// Replaces the colours of a row from a column on; their top bytes are cleared.
+fn write_in_row(row: &mut Row, left: usize, colours: &[u32])
+    requires own { is_own row.old ≡ true }
+    requires fits { left + length colours.now ≤ length (row_colours row.old) }
+    ensures own { is_own row.new ≡ true }
+    ensures colours { row_colours row.new ≡ row_written left colours.now (row_colours row.old) }
+{
+    match row {
+        Row::Own(places) => write_places(&mut places[left..left + colours.len()], colours),
+        Row::Shared(_) => unreachable!(),
+    }
+}
+
+/// Replaces the colours of a row from a column on by others as they are.
+pub fn copy_in_row(row: &mut Row, left: usize, colours: &[u32])
+    requires own { is_own row.old ≡ true }
+    requires fits { left + length colours.now ≤ length (row_colours row.old) }
+    ensures own { is_own row.new ≡ true }
+    ensures colours { row_colours row.new ≡ take left (row_colours row.old) ++ (colours.now ++ drop (left + length colours.now) (row_colours row.old)) }
+{
+    match row {
+        Row::Own(places) => places[left..left + colours.len()].copy_from_slice(colours),
+        Row::Shared(_) => unreachable!(),
+    }
+}
+
+/// The picture holds the rows from one to below another alone from now on, with their colours as they are.
+pub fn own_rows(alloc: Global, rows: &mut [Row], from: usize, to: usize) -> Result<(), AllocError>
+    requires { to ≤ length rows.old }
+    ensures same { map row_colours rows.new ≡ map row_colours rows.old }
+    ensures stay { StayOwn rows.old rows.new }
+    ensures own { IfOk result (λ _. AreOwn from to rows.new) }
+{
+    for i in from..to {
+        make_own(alloc, &mut rows[i])?;
+    }
+    Ok(())
+}
+
+/// Replaces the colours of a block of rows that the picture holds alone; their top bytes are cleared.
+pub fn write_rows(rows: &mut [Row], width: usize, block: Block, colours: &[u32])
+    requires wide { block.left + block.columns ≤ width }
+    requires high { block.top + block.rows ≤ length rows.old }
+    requires rows { All (IsOfWidth width) rows.old }
+    requires own { AreOwn block.top (block.top + block.rows) rows.old }
+    requires whole { length colours.now ≡ block.rows * block.columns }
+    ensures rows { All (IsOfWidth width) rows.new }
+    ensures colours { (y x : ℕ) → x < width → slice_index (colours_of_rows rows.new) (y * width + x) ≡ colour_written width block colours.now (colours_of_rows rows.old) y x }
+{
+    for i in 0..block.rows {
+        let from = i * block.columns;
+        write_in_row(
+            &mut rows[block.top + i],
+            block.left,
+            &colours[from..from + block.columns],
+        );
+    }
+}
+
+/// The rows from one on, as many as asked, shared with the picture; no colour is copied.
+pub fn share_rows(
+    alloc: Global,
+    rows: &mut [Row],
+    from: usize,
+    count: usize,
+) -> Result<Vec<Row>, AllocError>
+    requires { from + count ≤ length rows.old }
+    ensures same { map row_colours rows.new ≡ map row_colours rows.old }
+    ensures shared { IfOk result (λ shared. map row_colours shared.items ≡ take count (drop from (map row_colours rows.old))) }
+{
+    let mut shared = Vec::with_capacity(alloc, count)?;
+    for i in 0..count {
+        shared.push(share(alloc, &mut rows[from + i])?)?;
+    }
+    Ok(shared)
+}
+
+/// The colours of so many columns of rows, from a column on, row by row.
+pub fn gather(
+    alloc: Global,
+    rows: &[Row],
+    left: usize,
+    columns: usize,
+) -> Result<Vec<u32>, AllocError>
+    requires wide { All (λ r. left + columns ≤ length (row_colours r)) rows.now }
+    requires room { length rows.now * columns < 2 ^ 64 }
+    ensures { IfOk result (λ colours. colours.items ≡ parts_of_rows left columns rows.now) }
+{
+    let mut colours = Vec::with_capacity(alloc, rows.len() * columns)?;
+    for row in rows {
+        colours.extend_from_slice(&colours_of(row)[left..left + columns])?;
+    }
+    Ok(colours)
+}
+
+/// A row of 0.
+fn blank_row(alloc: Global, width: usize) -> Result<Row, AllocError>
+    ensures { IfOk result (λ row. row_colours row ≡ replicate width 0) }
+{
+    let places = vec![in alloc; 0u32; width]?;
+    Ok(Row::Own(places))
+}
+
+/// Rows of 0, as many as asked.
+pub fn blank_rows(alloc: Global, width: usize, height: usize) -> Result<Vec<Row>, AllocError>
+    ensures count { IfOk result (λ rows. length rows.items ≡ height) }
+    ensures wide { IfOk result (λ rows. All (IsOfWidth width) rows.items) }
+    ensures blank { IfOk result (λ rows. colours_of_rows rows.items ≡ blank width height) }
+{
+    let mut rows = Vec::with_capacity(alloc, height)?;
+    for _i in 0..height {
+        rows.push(blank_row(alloc, width)?)?;
+    }
+    Ok(rows)
+}
+
+/// A row of these colours; their top bytes are cleared.
+fn row_with(alloc: Global, colours: &[u32]) -> Result<Row, AllocError>
+    ensures own { IfOk result (λ row. is_own row ≡ true) }
+    ensures colours { IfOk result (λ row. row_colours row ≡ map (λ c. c % 2 ^ 24) colours.now) }
+{
+    let mut places = vec![in alloc; 0u32; colours.len()]?;
+    write_places(&mut places, colours);
+    Ok(Row::Own(places))
+}
+
+/// Rows of so many places each, as many as asked, of these colours; their top bytes are cleared.
+pub fn rows_with(
+    alloc: Global,
+    width: usize,
+    height: usize,
+    colours: &[u32],
+) -> Result<Vec<Row>, AllocError>
+    requires { length colours.now ≡ height * width }
+    ensures count { IfOk result (λ rows. length rows.items ≡ height) }
+    ensures wide { IfOk result (λ rows. All (IsOfWidth width) rows.items) }
+    ensures colours { IfOk result (λ rows. colours_of_rows rows.items ≡ map (λ c. c % 2 ^ 24) colours.now) }
+{
+    let mut rows = Vec::with_capacity(alloc, height)?;
+    for i in 0..height {
+        let from = i * width;
+        rows.push(row_with(alloc, &colours[from..from + width])?)?;
+    }
+    Ok(rows)
+}
+
+/// Puts rows in the place of as many others, from one on.
+pub fn put_rows(rows: &mut [Row], top: usize, mut others: Vec<Row>)
+    requires { top + length others.items ≤ length rows.old }
+    ensures { rows.new ≡ take top rows.old ++ (others.items ++ drop (top + length others.items) rows.old) }
+{
+    let end = top + others.len();
+    rows[top..end].swap_with_slice(&mut others);
+}
