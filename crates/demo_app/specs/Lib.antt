@@ -1,3 +1,4 @@
 pub mod CommandLine
 pub mod Playing
 pub mod Reading
+pub mod Watching

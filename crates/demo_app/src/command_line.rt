@@ -20,6 +20,8 @@ pub enum Chosen {
     Play,
     /// Viewers are served on a port of 127.0.0.1.
     Serve { port: u16, options: ServeOptions },
+    /// A server and so many viewers run in one process.
+    Own { viewers: u32 },
 }
 
 /// The version that `--version` prints.
@@ -68,9 +70,21 @@ Status: 0; 1 after a refused screen; 2 after a refused command line, and after t
 text; 3 after want of memory; 4 after a check that failed; 5 after a network fault, as
 of a port that is in use, and after a write that failed.";
 
-/// What `--help` says of `serve`, whose options are read by a command of their own.
-const OTHER_HELP: &str = "\
-  serve  shows a screen to viewers over TCP; `vncdemo serve --help` tells its options";
+/// What `self --help` says of the run, behind the usage.
+const OWN_HELP: &str = "\
+A server and its viewers run in one process, over loopback. Once every viewer is open, a
+picture is drawn; then each viewer asks for everything, takes one update and leaves. It
+prints `viewer V shows the screen` for each, and then `finish ok`, which says that each
+viewer was sent what it was to be sent.
+
+Status: 0; 2 after a refused command line, and after this text; 3 after want of memory;
+4 where a viewer doesn't show the screen, or the check failed; 5 after a network fault,
+and after a write that failed.";
+
+/// What `--help` says of `serve` and `self`, whose options are read by commands of their own.
+const OTHER_HELP: &str =
+    "  serve  shows a screen to viewers over TCP; `vncdemo serve --help` tells its options
+  self   serves viewers of its own; `vncdemo self --help` tells its option";
 
 /// An option of `serve`.
 fn option<'a>(alloc: Global, name: &'a str, help: &'a str) -> Arg<'a> {
@@ -148,6 +162,35 @@ fn serve_line(alloc: Global, words: &[String]) -> Result<Chosen, Error>
     }
 }
 
+/// The command `self`.
+fn own_command<'a>(alloc: Global) -> Result<Command<'a>, AllocError> {
+    let viewers = option(alloc, "viewers", "how many viewers there are, 1 to 8")
+        .value_parser(value_parser!(u32).range(1..=8))
+        .default_value("2");
+    Command::new(alloc, "self")
+        .about("serves viewers of its own, and says what they show")
+        .after_help(OWN_HELP)
+        .arg(viewers)
+}
+
+/// What a line that begins with `self` chooses.
+fn own_line(alloc: Global, words: &[String]) -> Result<Chosen, Error>
+    ensures { IfOk result HasViewers }
+{
+    let command = Command::new(alloc, "vncdemo")
+        .version(VERSION)
+        .subcommand_required(true)
+        .subcommand(own_command(alloc)?)?;
+    let matches = command.try_get_matches_from(words)?;
+    match matches.subcommand_matches("self") {
+        // clap refuses all other numbers, and says so
+        Some(matches) => Ok(Chosen::Own {
+            viewers: matches.get_one::<u32>("viewers").unwrap_or(2).clamp(1, 8),
+        }),
+        None => Err(Error::from(AllocError)),
+    }
+}
+
 /// What each other line chooses.
 fn other_line(alloc: Global, words: &[String]) -> Result<Chosen, Error>
     ensures play { (program : List ℕ) → map string_bytes words.now ≡ program ∷ codes "play" ∷ [] →
@@ -179,6 +222,16 @@ fn is_serve(words: &[String]) -> bool
     }
 }
 
+/// Whether it is `self`.
+fn is_self(words: &[String]) -> bool
+    ensures { result ≡ option_map_or (λ word. bytes_eq word (codes "self")) (slice_get (map string_bytes words.now) 1) false }
+{
+    match words.get(1) {
+        Some(word) => word.as_str() == "self",
+        None => false,
+    }
+}
+
 /// What a command line chooses; its first word is the program's name. An error's text is what is to be printed,
 /// of `--help` and `--version` too.
 pub fn line_of(alloc: Global, words: &[String]) -> Result<Chosen, Error>
@@ -190,6 +243,8 @@ pub fn line_of(alloc: Global, words: &[String]) -> Result<Chosen, Error>
 {
     if is_serve(words) {
         serve_line(alloc, words)
+    } else if is_self(words) {
+        own_line(alloc, words)
     } else {
         other_line(alloc, words)
     }

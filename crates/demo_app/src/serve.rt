@@ -132,7 +132,7 @@ fn print_ends<W: Write>(
 }
 
 /// Judges the run, and prints what comes of it. The status.
-fn print_verdict<L: Ledger, W: Write>(
+pub(crate) fn print_verdict<L: Ledger, W: Write>(
     alloc: Global,
     writer: &mut W,
     shared: Shared<L>,

@@ -1,6 +1,7 @@
 mod drawing;
 mod help;
 mod over_tcp;
+mod own;
 mod rows;
 mod troubles;
 

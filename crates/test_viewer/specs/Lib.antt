@@ -1,4 +1,5 @@
 pub mod Canvas
+pub mod Counts
 pub mod Groups
 pub mod Read
 pub mod Shown

@@ -4,6 +4,7 @@ ghost use Rattle.std.specs.Prelude.{◌≡◌, ℕ, ◌<◌, None, Some, IsSome,
 ghost use Rattle.pixel_translate.specs.declared.Area.{Area};
 ghost use Rattle.test_viewer.specs.declared.stages.Block.{Block};
 ghost use Rattle.test_viewer.specs.Canvas.{dot_at, filled, copied_dots};
+ghost use Rattle.test_viewer.specs.Counts.{is_open_at};
 ghost use Rattle.test_viewer.specs.Shown.{shown_at, request_bytes, shown_behind_request, set_format_bytes};
 
 use crate::canvas::{Canvas, Dot};
@@ -151,6 +152,27 @@ impl Shown {
         ensures bound { result < 24 }
     {
         self.count
+    }
+
+    /// Whether the server's opening was read whole, up to the desktop's name (RFC 6143 sections 7.1 to 7.3).
+    pub fn is_open(&self) -> bool
+        ensures { result ≡ is_open_at self.now.reading.stage }
+    {
+        self.reading.is_open()
+    }
+
+    /// How many updates were read whole, each with its last rectangle (RFC 6143 section 7.6.1); at most `u64::MAX`.
+    pub fn updates(&self) -> u64
+        ensures { result ≡ self.now.reading.updates }
+    {
+        self.reading.updates
+    }
+
+    /// How many texts were read whole, each with its last byte (RFC 6143 section 7.6.4); at most `u64::MAX`.
+    pub fn texts(&self) -> u64
+        ensures { result ≡ self.now.reading.texts }
+    {
+        self.reading.texts
     }
 
     /// The FramebufferUpdateRequest of an area (RFC 6143 section 7.5.3). One that isn't incremental says that the viewer has

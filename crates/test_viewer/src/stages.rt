@@ -1,6 +1,7 @@
 //! What comes next, and what is kept of what came.
 
-ghost use Rattle.std.specs.Prelude.{◌≡◌, ◌≤◌, Ok, Err};
+ghost use Rattle.std.specs.Prelude.{◌≡◌, ◌-◌, ◌<◌, ◌≤◌, Ok, Err};
+ghost use Rattle.test_viewer.specs.Counts.{one_more, is_open_at};
 
 use crate::fault::{FaultKind, Halt};
 use crate::groups::Group;
@@ -104,6 +105,9 @@ pub(crate) struct Reading {
     /// The tile that is read, if the rectangle has tiles.
     pub tile: Option<Tile>,
     pub cursor: Cursor,
+    /// How many updates, and how many texts, were read whole.
+    pub updates: u64,
+    pub texts: u64,
 }
 
 /// What a group of bytes does to what is shown.
@@ -195,6 +199,8 @@ impl Reading {
                 column: 0,
                 row: 0,
             },
+            updates: 0,
+            texts: 0,
         }
     }
 
@@ -230,9 +236,10 @@ impl Reading {
         }
     }
 
-    /// The next rectangle comes, or, behind the last, a message.
+    /// The next rectangle comes, or, behind the last, a message: an update more was read whole.
     pub(crate) fn next_rectangle(self) -> Reading
-        ensures { result.area ≡ self.area }
+        ensures some { 0 < self.rectangles → result ≡ record self { rectangles = self.rectangles - 1; stage = Stage.Head } }
+        ensures none { self.rectangles ≡ 0 → result ≡ record self { updates = one_more self.updates; stage = Stage.Message } }
     {
         if self.rectangles > 0 {
             Reading {
@@ -242,10 +249,48 @@ impl Reading {
             }
         } else {
             Reading {
+                updates: self.updates.saturating_add(1),
                 stage: Stage::Message,
                 ..self
             }
         }
+    }
+
+    /// So many bytes of a text come, or, where there are none, a message: a text more was read whole.
+    pub(crate) fn text_bytes(self, left: u32) -> Reading
+        ensures some { 0 < left → result ≡ record self { left = left; stage = Stage.TextByte } }
+        ensures none { left ≡ 0 → result ≡ record self { left = 0; texts = one_more self.texts; stage = Stage.Message } }
+    {
+        if left > 0 {
+            Reading {
+                left,
+                stage: Stage::TextByte,
+                ..self
+            }
+        } else {
+            Reading {
+                left,
+                texts: self.texts.saturating_add(1),
+                stage: Stage::Message,
+                ..self
+            }
+        }
+    }
+
+    /// Whether the opening was read whole.
+    pub(crate) fn is_open(&self) -> bool
+        ensures { result ≡ is_open_at self.now.stage }
+    {
+        !matches!(
+            self.stage,
+            Stage::Version
+                | Stage::SecurityCount
+                | Stage::SecurityTypes { .. }
+                | Stage::SecurityType
+                | Stage::SecurityResult
+                | Stage::Init
+                | Stage::Name
+        )
     }
 
     /// Reads a group of bytes.

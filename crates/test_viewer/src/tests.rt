@@ -623,6 +623,41 @@ fn formats_in_an_update(rt: HostRuntime) -> Result<(), Fail> {
     Ok(())
 }
 
+/// Behind so many of these bytes: whether the opening was read whole, and how many updates and texts were.
+const COUNTS: [(usize, (bool, u64, u64)); 10] = [
+    (43, (false, 0, 0)),
+    (44, (true, 0, 0)),
+    (53, (true, 0, 0)),
+    (54, (true, 0, 1)),
+    (85, (true, 0, 1)),
+    (86, (true, 1, 1)),
+    (89, (true, 1, 1)),
+    (90, (true, 2, 1)),
+    (97, (true, 2, 1)),
+    (98, (true, 2, 2)),
+];
+
+/// The opening, a text of two bytes, an update of four places, one without rectangles, and a text without bytes: each is
+/// counted at its last byte.
+#[test]
+fn what_was_read_whole(rt: HostRuntime) -> Result<(), Fail> {
+    let mut bytes = opening(rt.alloc(), 4, 1)?;
+    bytes.extend_from_slice(b"\x03\x00\x00\x00\x00\x00\x00\x02hi")?;
+    bytes.extend_from_slice(FOUR)?;
+    bytes.extend_from_slice(b"\x00\x00\x00\x00\x03\x00\x00\x00\x00\x00\x00\x00")?;
+    assert_eq!(rt; bytes.len(), 98);
+    for (at, wanted) in COUNTS {
+        let (front, _) = bytes.split_at(at.min(bytes.len()));
+        let (viewer, _) = told_in(rt.alloc(), front, 1);
+        assert_eq!(rt;
+            (viewer.is_open(), viewer.updates(), viewer.texts()),
+            wanted,
+            "{at}"
+        );
+    }
+    Ok(())
+}
+
 /// Four places of 1 to 4.
 const FOUR: &[u8] =
     b"\x00\x00\x00\x01\x00\x00\x00\x00\x00\x04\x00\x01\x00\x00\x00\x00\x01\x00\x00\x00\x02\x00\x00\x00\x03\x00\x00\x00\x04\x00\x00\x00";

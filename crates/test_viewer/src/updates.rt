@@ -39,7 +39,7 @@ pub(crate) fn read(reading: Reading, bytes: &Group) -> Result<Step, Halt> {
             };
             silent(update.next_rectangle())
         }
-        Stage::Text => silent(reading.repeated(four(bytes, 3), Stage::TextByte, Stage::Message)),
-        _ => silent(reading.one_less(Stage::Message)),
+        Stage::Text => silent(reading.text_bytes(four(bytes, 3))),
+        _ => silent(reading.text_bytes(reading.left.saturating_sub(1))),
     }
 }

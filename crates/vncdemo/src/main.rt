@@ -1,10 +1,10 @@
-//! The program `vncdemo`: its command line, `play` on standard input and output, and `serve` on a port of 127.0.0.1.
+//! The program `vncdemo`: its command line, `play` on standard input and output, `serve` on a port of 127.0.0.1, and `self`.
 #![tactic(auto)]
 
 ghost use Rattle.std.specs.Prelude.{◌≡◌};
 
 use clap::error::ErrorKind;
-use demo_app::{Chosen, ServeOptions, Steps, line_of, play_over, serve_on};
+use demo_app::{Chosen, ServeOptions, Steps, line_of, play_over, self_on, serve_on};
 use std::alloc::Global;
 use std::io::BufWriter;
 use std::marker::Brand;
@@ -70,6 +70,20 @@ fn serve<R: Runtime + Threads + Wait + Net<Listener = TcpListener, Stream = TcpS
     ExitCode::from(status)
 }
 
+fn own<R: Runtime + Threads + Wait + Net<Listener = TcpListener, Stream = TcpStream> + Sync>(
+    rt: &R,
+    alloc: Global,
+    viewers: u32,
+) -> ExitCode {
+    let Ok(mut writer) = BufWriter::new(alloc, io::writer(rt)) else {
+        return out_of_memory(rt);
+    };
+    let status = self_on(rt, alloc, viewers, &mut writer);
+    // After a write fault nothing more is written: what the buffer holds is let go.
+    let _ = writer.into_parts();
+    ExitCode::from(status)
+}
+
 fn main(rt: HostRuntime) -> ExitCode {
     let Ok(words) = words(&rt) else {
         return out_of_memory(&rt);
@@ -77,6 +91,7 @@ fn main(rt: HostRuntime) -> ExitCode {
     match line_of(rt.alloc(), &words) {
         Ok(Chosen::Play) => play::<Brand>(&rt, Blank::new(1)),
         Ok(Chosen::Serve { port, options }) => serve(&rt, rt.alloc(), port, &options),
+        Ok(Chosen::Own { viewers }) => own(&rt, rt.alloc(), viewers),
         Err(error) if error.kind() == ErrorKind::OutOfMemory => out_of_memory(&rt),
         Err(error) => {
             // Where standard error fails too, there is nobody left to tell.
