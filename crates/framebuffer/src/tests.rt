@@ -280,6 +280,17 @@ fn moved_plainly(
     Ok(picture)
 }
 
+/// Moves the colours of the rectangles' places that are in a picture with their sources.
+fn move_to(
+    alloc: Global,
+    picture: &mut Framebuffer,
+    rects: &[Rect],
+    (dx, dy): (i32, i32),
+) -> Result<(), AllocError> {
+    let pieces = destinations(alloc, rects, dx, dy, picture.width(), picture.height())?;
+    picture.move_colours(&pieces, (dx, dy))
+}
+
 /// The same by a framebuffer, of which there is a snapshot that stays as it is.
 fn moved(
     rt: &impl Abort,
@@ -293,16 +304,8 @@ fn moved(
     let colours = numbered(alloc, width.saturating_mul(height))?;
     let mut picture = Framebuffer::new(alloc, width, height)?;
     write(rt, &mut picture, all, &colours)?;
-    let pieces = destinations(
-        alloc,
-        rects,
-        offset.0,
-        offset.1,
-        picture.width(),
-        picture.height(),
-    )?;
     let before = taken(rt, &mut picture, all)?;
-    picture.move_colours(&pieces, offset)?;
+    move_to(alloc, &mut picture, rects, offset)?;
     let kept = before.colours()?;
     assert_eq!(rt; kept.as_slice(), colours.as_slice());
     read(rt, &picture, all)
@@ -387,15 +390,7 @@ fn draw_over(
         rows: 1,
     };
     write(rt, picture, row, &[0xff_000005, 6, 7, 8])?;
-    let pieces = destinations(
-        alloc,
-        &[rect(0, 0, 4, 3)],
-        0,
-        -1,
-        picture.width(),
-        picture.height(),
-    )?;
-    picture.move_colours(&pieces, (0, -1))
+    move_to(alloc, picture, &[rect(0, 0, 4, 3)], (0, -1))
 }
 
 #[test]

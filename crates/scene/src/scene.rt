@@ -398,7 +398,7 @@ impl Scene {
         Ok(viewer.is_pending())
     }
 
-    /// Cuts an update for a viewer: its rectangles, with copies of their colours; None where there is
+    /// Cuts an update for a viewer: its rectangles, with their colours as they stand; None where there is
     /// nothing to send. Refused as `NoViewer` where there is none with the number.
     pub fn cut(&mut self, number: u64) -> Result<Option<Update>, ScreenError>
         ensures step { (config : Config) (list : List Event) → self.old ≡ scene_after config list →
@@ -412,7 +412,7 @@ impl Scene {
         let Some(viewer) = self.viewers.get_mut(number) else {
             return Err(ScreenError::NoViewer);
         };
-        Ok(viewer.cut(&self.picture, self.config.rects_per_update)?)
+        Ok(viewer.cut(&mut self.picture, self.config.rects_per_update)?)
     }
 
     /// The same, encoded before the viewer changes.
@@ -427,7 +427,7 @@ impl Scene {
         let Some(viewer) = self.viewers.get_mut(number) else {
             return Err(ScreenError::NoViewer);
         };
-        let bytes = viewer.cut_bytes(&self.picture, self.config.rects_per_update)?;
+        let bytes = viewer.cut_bytes(&mut self.picture, self.config.rects_per_update)?;
         Ok(Listed::from_vec(bytes))
     }
 

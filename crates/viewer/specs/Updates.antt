@@ -14,7 +14,7 @@ abbrev pub moved_bytes : Moved → List ℕ
 moved_bytes m = copyrect m.area m.src_x m.src_y
 
 abbrev pub coloured_bytes : Encoding → PixelFormat → Coloured → List ℕ
-coloured_bytes e f c = encoded e f c.area c.colours.items
+coloured_bytes e f c = encoded e f c.area c.colours
 
 -- 7.6.1: the copies, then the pixels
 abbrev pub kept_bytes : Encoding → PixelFormat → List Moved → List Coloured → List ℕ

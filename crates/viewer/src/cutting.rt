@@ -1,4 +1,4 @@
-//! What an update copies out of the screen: the rectangles that the marks chose, with their colours.
+//! What an update takes out of the screen: the rectangles that the marks chose, with their colours.
 
 ghost use Rattle.std.specs.Prelude.{◌≡◌, ◌<◌, ◌≤◌, ◌+◌, ◌*◌, ◌^◌, All, length, flat_map, IfOk, ◌-ℤ◌, nat_abs, [], ◌≢◌, IfSome, OnOk, OnErr};
 ghost use Rattle.region.specs.Places.{IsOnScreen, source_rect};
@@ -13,6 +13,7 @@ ghost use Rattle.framebuffer.specs.Blocks.{rect_of, FitsIn};
 ghost use Rattle.viewer.specs.Updates.{moved_bytes, coloured_bytes, rectangles_bytes, maybe_bytes};
 ghost use Rattle.viewer.specs.Given.{bytes_given, marks_put, sent_bytes, sent_marks};
 
+use crate::colours::Colours;
 use crate::parts::{Coloured, Moved, Rectangles};
 use crate::standing::{Planned, Standing, put_marks};
 use crate::update::{Update, encode_all};
@@ -66,14 +67,15 @@ fn moves_of(alloc: Global, rects: &[Rect], offset: (i32, i32)) -> Result<Vec<Mov
 }
 
 /// A block of the screen, with its colours.
-fn coloured_of(picture: &Framebuffer, block: Block) -> Result<Coloured, AllocError>
-    requires fits { FitsIn picture.now.width picture.now.height block }
-    requires width { picture.now.width ≤ 8192 }
-    requires height { picture.now.height ≤ 8192 }
+fn coloured_of(picture: &mut Framebuffer, block: Block) -> Result<Coloured, AllocError>
+    requires fits { FitsIn picture.old.width picture.old.height block }
+    requires width { picture.old.width ≤ 8192 }
+    requires height { picture.old.height ≤ 8192 }
+    ensures same { picture.new ≡ picture.old }
     ensures area { IfOk result (λ c. c.area ≡ area_of (rect_of block)) }
-    ensures colours { IfOk result (λ c. c.colours.items ≡ colours_of picture.now.width picture.now.height picture.now.colours (rect_of block)) }
+    ensures colours { IfOk result (λ c. c.colours ≡ colours_of picture.old.width picture.old.height picture.old.colours (rect_of block)) }
 {
-    let colours = picture.read(block)?;
+    let colours = Colours::of_block(picture, block)?;
     let area = Area {
         x: block.left as u16,
         y: block.top as u16,
@@ -86,11 +88,12 @@ fn coloured_of(picture: &Framebuffer, block: Block) -> Result<Coloured, AllocErr
 /// The rectangles of pixels, with their colours.
 fn coloured_rectangles(
     alloc: Global,
-    picture: &Framebuffer,
+    picture: &mut Framebuffer,
     rects: &[Rect],
 ) -> Result<Vec<Coloured>, AllocError>
-    requires inside { All (IsOnScreen picture.now.width picture.now.height) rects.now }
-    ensures bytes { IfOk result (λ parts. (encoding : Encoding) (format : PixelFormat) → flat_map (coloured_bytes encoding format) parts.items ≡ flat_map (pixel_rectangle picture.now.width picture.now.height picture.now.colours encoding format) rects.now) }
+    requires inside { All (IsOnScreen picture.old.width picture.old.height) rects.now }
+    ensures same { picture.new ≡ picture.old }
+    ensures bytes { IfOk result (λ parts. (encoding : Encoding) (format : PixelFormat) → flat_map (coloured_bytes encoding format) parts.items ≡ flat_map (pixel_rectangle picture.old.width picture.old.height picture.old.colours encoding format) rects.now) }
     ensures count { IfOk result (λ parts. length parts.items ≡ length rects.now) }
 {
     let (width, height) = (picture.width(), picture.height());
@@ -105,17 +108,18 @@ fn coloured_rectangles(
 /// The rectangles of a cut, for a viewer's encoding and format.
 fn rectangles_of(
     alloc: Global,
-    picture: &Framebuffer,
+    picture: &mut Framebuffer,
     encoding: Encoding,
     format: PixelFormat,
     cut: &Cut,
 ) -> Result<Rectangles, AllocError>
-    requires width { picture.now.width ≤ 8192 }
-    requires height { picture.now.height ≤ 8192 }
-    requires inside { IsInside picture.now.width picture.now.height cut.now }
-    requires sources { HasSourcesInside picture.now.width picture.now.height cut.now }
+    requires width { picture.old.width ≤ 8192 }
+    requires height { picture.old.height ≤ 8192 }
+    requires inside { IsInside picture.old.width picture.old.height cut.now }
+    requires sources { HasSourcesInside picture.old.width picture.old.height cut.now }
     requires count { length cut.now.copies + length cut.now.pixels < 2 ^ 16 }
-    ensures { IfOk result (λ rectangles. rectangles_bytes rectangles ≡ bytes_of picture.now.width picture.now.height picture.now.colours encoding format cut.now.copies cut.now.offset cut.now.pixels) }
+    ensures same { picture.new ≡ picture.old }
+    ensures bytes { IfOk result (λ rectangles. rectangles_bytes rectangles ≡ bytes_of picture.old.width picture.old.height picture.old.colours encoding format cut.now.copies cut.now.offset cut.now.pixels) }
 {
     let moves = moves_of(alloc, cut.copies.as_slice(), cut.offset)?;
     let coloured = coloured_rectangles(alloc, picture, cut.pixels.as_slice())?;
@@ -130,14 +134,15 @@ fn rectangles_of(
 /// The rectangles that a viewer is sent next, and its marks once they are sent; none where no place is wanted.
 fn plan(
     alloc: Global,
-    picture: &Framebuffer,
+    picture: &mut Framebuffer,
     limit: u32,
     standing: &Standing,
 ) -> Result<Planned, AllocError>
     requires limit { limit ≤ 1000 }
-    requires width { standing.now.marks.width ≡ picture.now.width }
-    requires height { standing.now.marks.height ≡ picture.now.height }
-    ensures bytes { IfOk result (λ planned. maybe_bytes planned.rectangles ≡ sent_bytes picture.now.width picture.now.height picture.now.colours (viewer_in standing.now) (cut_of limit standing.now.marks)) }
+    requires width { standing.now.marks.width ≡ picture.old.width }
+    requires height { standing.now.marks.height ≡ picture.old.height }
+    ensures same { picture.new ≡ picture.old }
+    ensures bytes { IfOk result (λ planned. maybe_bytes planned.rectangles ≡ sent_bytes picture.old.width picture.old.height picture.old.colours (viewer_in standing.now) (cut_of limit standing.now.marks)) }
     ensures marks { IfOk result (λ planned. marks_put standing.now.marks planned.marks ≡ sent_marks standing.now.marks (cut_of limit standing.now.marks)) }
     ensures none { IfOk result (λ planned. planned.rectangles ≡ None → cut_of limit standing.now.marks ≡ None) }
     ensures some { IfOk result (λ planned. IfSome planned.rectangles (λ r. rectangles_bytes r ≢ [])) }
@@ -168,15 +173,16 @@ fn plan(
 /// the viewer changes.
 pub fn cut_in(
     alloc: Global,
-    picture: &Framebuffer,
+    picture: &mut Framebuffer,
     limit: u32,
     standing: &mut Standing,
 ) -> Result<Option<Update>, AllocError>
     requires limit { limit ≤ 1000 }
-    requires width { standing.old.marks.width ≡ picture.now.width }
-    requires height { standing.old.marks.height ≡ picture.now.height }
-    ensures bytes { IfOk result (λ update. bytes_given update ≡ (sending_kept picture.now.width picture.now.height limit picture.now.colours (viewer_in standing.old)).0) }
-    ensures viewer { OnOk result (viewer_in standing.new ≡ (sending_kept picture.now.width picture.now.height limit picture.now.colours (viewer_in standing.old)).1) }
+    requires width { standing.old.marks.width ≡ picture.old.width }
+    requires height { standing.old.marks.height ≡ picture.old.height }
+    ensures same { picture.new ≡ picture.old }
+    ensures bytes { IfOk result (λ update. bytes_given update ≡ (sending_kept picture.old.width picture.old.height limit picture.old.colours (viewer_in standing.old)).0) }
+    ensures viewer { OnOk result (viewer_in standing.new ≡ (sending_kept picture.old.width picture.old.height limit picture.old.colours (viewer_in standing.old)).1) }
     ensures some { IfOk result (λ update. IfSome update (λ u. u ≢ [])) }
     ensures width { standing.new.marks.width ≡ standing.old.marks.width }
     ensures height { standing.new.marks.height ≡ standing.old.marks.height }
@@ -197,15 +203,16 @@ pub fn cut_in(
 /// The same, encoded.
 pub fn cut_bytes_in(
     alloc: Global,
-    picture: &Framebuffer,
+    picture: &mut Framebuffer,
     limit: u32,
     standing: &mut Standing,
 ) -> Result<Vec<u8>, AllocError>
     requires limit { limit ≤ 1000 }
-    requires width { standing.old.marks.width ≡ picture.now.width }
-    requires height { standing.old.marks.height ≡ picture.now.height }
-    ensures bytes { IfOk result (λ bytes. bytes.items ≡ (sending_kept picture.now.width picture.now.height limit picture.now.colours (viewer_in standing.old)).0) }
-    ensures viewer { OnOk result (viewer_in standing.new ≡ (sending_kept picture.now.width picture.now.height limit picture.now.colours (viewer_in standing.old)).1) }
+    requires width { standing.old.marks.width ≡ picture.old.width }
+    requires height { standing.old.marks.height ≡ picture.old.height }
+    ensures same { picture.new ≡ picture.old }
+    ensures bytes { IfOk result (λ bytes. bytes.items ≡ (sending_kept picture.old.width picture.old.height limit picture.old.colours (viewer_in standing.old)).0) }
+    ensures viewer { OnOk result (viewer_in standing.new ≡ (sending_kept picture.old.width picture.old.height limit picture.old.colours (viewer_in standing.old)).1) }
     ensures width { standing.new.marks.width ≡ standing.old.marks.width }
     ensures height { standing.new.marks.height ≡ standing.old.marks.height }
     ensures err { OnErr result (standing.new ≡ standing.old) }

@@ -2,9 +2,10 @@
 //! what it is sent.
 //!
 //! `standing` is what is kept of a viewer, `hearing` what its messages do to it, `cutting` and `update` one update, `notices`
-//! what goes before the rectangles of an update.
+//! what goes before the rectangles of an update. `colours` are those of one rectangle.
 #![tactic(auto)]
 
+mod colours;
 mod cutting;
 mod hearing;
 mod notices;

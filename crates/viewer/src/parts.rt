@@ -2,6 +2,7 @@
 
 ghost use Rattle.std.specs.Prelude.{◌≡◌, ◌≤◌, ◌<◌, ◌+◌, ◌*◌, ◌^◌, length};
 
+use crate::colours::Colours;
 use messages::Encoding;
 use pixel_translate::{Area, PixelFormat};
 
@@ -19,10 +20,10 @@ pub struct Moved {
 #[derive(Drop)]
 pub struct Coloured {
     pub area: Area,
-    pub colours: Vec<u32>,
+    pub colours: Colours,
     ghost wide: { 1 ≤ area.w },
     ghost high: { 1 ≤ area.h },
-    ghost whole: { length colours.items ≡ area.w * area.h },
+    ghost whole: { length colours ≡ area.w * area.h },
 }
 
 /// The rectangles of one FramebufferUpdate (RFC 6143, 7.6.1), with what their viewer asked for.

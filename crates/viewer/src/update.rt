@@ -1,4 +1,4 @@
-//! What one sending step sends: copied out of the picture, and encoded without it.
+//! What one sending step sends: taken out of the picture, and encoded without it.
 
 ghost use Rattle.std.specs.Prelude.{◌≡◌, ◌+◌, ◌<◌, ◌++◌, All, flat_map, IfOk, OnOk};
 ghost use Rattle.viewer.specs.Short.{IsShort};
@@ -6,9 +6,7 @@ ghost use Rattle.viewer.specs.Updates.{moved_bytes, coloured_bytes, rectangles_b
 
 use crate::notices::{Notice, put_notices};
 use crate::parts::{Coloured, Moved, Rectangles};
-use encode_hextile::encode_hextile_with_table;
-use encode_raw::{encode_copy, encode_raw_with_table};
-use encode_rre::encode_rre_with_table;
+use encode_raw::encode_copy;
 use messages::{Encoding, put_update_head};
 use pixel_translate::Table;
 use std::alloc::{AllocError, Global};
@@ -54,12 +52,7 @@ fn put_rectangle(
 ) -> Result<(), AllocError>
     ensures { OnOk result (out.new.items ≡ out.old.items ++ coloured_bytes encoding table.now rectangle.now) }
 {
-    let (area, colours) = (rectangle.area, &rectangle.colours);
-    match encoding {
-        Encoding::Raw => encode_raw_with_table(out, area, colours, table),
-        Encoding::Rre => encode_rre_with_table(out, area, colours, table),
-        Encoding::Hextile => encode_hextile_with_table(out, area, colours, table),
-    }
+    rectangle.colours.put(out, rectangle.area, encoding, table)
 }
 
 /// Appends rectangles of colours in the viewer's encoding and format.
@@ -81,9 +74,8 @@ fn put_coloured(
 fn size_of(rectangles: &[Coloured]) -> usize {
     let mut size = 0usize;
     for rectangle in rectangles {
-        size = size
-            .saturating_add(12)
-            .saturating_add(rectangle.colours.len().saturating_mul(4));
+        let places = usize::from(rectangle.area.w) * usize::from(rectangle.area.h);
+        size = size.saturating_add(12 + 4 * places);
     }
     size
 }

@@ -87,12 +87,17 @@ impl Viewer {
 
     /// Cuts an update of the picture for the viewer, with at most so many copies and so many rectangles of colours; None where
     /// there is nothing to send. After an `AllocError` the viewer is as it was.
-    pub fn cut(&mut self, picture: &Framebuffer, limit: u32) -> Result<Option<Update>, AllocError>
+    pub fn cut(
+        &mut self,
+        picture: &mut Framebuffer,
+        limit: u32,
+    ) -> Result<Option<Update>, AllocError>
         requires limit { limit ≤ 1000 }
-        requires width { self.old.marks.width ≡ picture.now.width }
-        requires height { self.old.marks.height ≡ picture.now.height }
-        ensures bytes { IfOk result (λ update. bytes_given update ≡ (sending_kept picture.now.width picture.now.height limit picture.now.colours self.old).0) }
-        ensures viewer { OnOk result (self.new ≡ (sending_kept picture.now.width picture.now.height limit picture.now.colours self.old).1) }
+        requires width { self.old.marks.width ≡ picture.old.width }
+        requires height { self.old.marks.height ≡ picture.old.height }
+        ensures same { picture.new ≡ picture.old }
+        ensures bytes { IfOk result (λ update. bytes_given update ≡ (sending_kept picture.old.width picture.old.height limit picture.old.colours self.old).0) }
+        ensures viewer { OnOk result (self.new ≡ (sending_kept picture.old.width picture.old.height limit picture.old.colours self.old).1) }
         ensures some { IfOk result (λ update. IfSome update (λ u. u ≢ [])) }
         ensures width { self.new.marks.width ≡ self.old.marks.width }
         ensures height { self.new.marks.height ≡ self.old.marks.height }
@@ -102,12 +107,17 @@ impl Viewer {
     }
 
     /// The same, encoded before the viewer changes; no bytes where there is nothing to send.
-    pub fn cut_bytes(&mut self, picture: &Framebuffer, limit: u32) -> Result<Vec<u8>, AllocError>
+    pub fn cut_bytes(
+        &mut self,
+        picture: &mut Framebuffer,
+        limit: u32,
+    ) -> Result<Vec<u8>, AllocError>
         requires limit { limit ≤ 1000 }
-        requires width { self.old.marks.width ≡ picture.now.width }
-        requires height { self.old.marks.height ≡ picture.now.height }
-        ensures bytes { IfOk result (λ bytes. bytes.items ≡ (sending_kept picture.now.width picture.now.height limit picture.now.colours self.old).0) }
-        ensures viewer { OnOk result (self.new ≡ (sending_kept picture.now.width picture.now.height limit picture.now.colours self.old).1) }
+        requires width { self.old.marks.width ≡ picture.old.width }
+        requires height { self.old.marks.height ≡ picture.old.height }
+        ensures same { picture.new ≡ picture.old }
+        ensures bytes { IfOk result (λ bytes. bytes.items ≡ (sending_kept picture.old.width picture.old.height limit picture.old.colours self.old).0) }
+        ensures viewer { OnOk result (self.new ≡ (sending_kept picture.old.width picture.old.height limit picture.old.colours self.old).1) }
         ensures width { self.new.marks.width ≡ self.old.marks.width }
         ensures height { self.new.marks.height ≡ self.old.marks.height }
         ensures err { OnErr result (self.new ≡ self.old) }

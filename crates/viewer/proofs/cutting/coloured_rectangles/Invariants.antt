@@ -9,6 +9,7 @@ use Rattle.viewer.proofs.cutting.coloured_rectangles.Given as goal
 -- the rectangles so far
 abbrev pub invariant-loop-rect : goal.invariant-loop-rect
 invariant-loop-rect l = record {
-  bytes : (encoding : Encoding) (format : PixelFormat) → flat_map (coloured_bytes encoding format) l.parts.items ≡ flat_map (pixel_rectangle l.picture.width l.picture.height l.picture.colours encoding format) (take l.rect-index l.rects);
+  bytes : (encoding : Encoding) (format : PixelFormat) → flat_map (coloured_bytes encoding format) l.parts.items ≡ flat_map (pixel_rectangle l.fn.picture.width l.fn.picture.height l.fn.picture.colours encoding format) (take l.rect-index l.rects);
+  same : l.picture ≡ l.fn.picture;
   count : length l.parts.items ≡ l.rect-index;
 }

@@ -1,5 +1,6 @@
 use Rattle.std.proofs.Common.{◌≡◌, ℕ, List, ◌∷◌, [], ◌++◌, sym, ap, ◌∙◌, Ok, Err, refl}
 use Rattle.std.proofs.lemmas.Result.{err_from_is_err_and}
+use Rattle.framebuffer.specs.Frame.{Frame}
 use Rattle.scene.specs.declared.Config.{Config}
 use Rattle.scene.specs.declared.Event.TheVariants.{Cut}
 use Rattle.scene.specs.declared.Answer.{Answer}
@@ -34,9 +35,10 @@ returns-in_err-bytes-clause-answer c = λ config list h.
 
 pub returns-clause-step : goal.returns-clause-step
 returns-clause-step c = λ config list h.
-    let after : SceneState = seen c.self.inside.config c.self.inside.picture.colours (with_numbered c.self.inside.viewers.pairs c.args.number c.cut_bytes.new.self) in
+    let after : SceneState = seen c.self.inside.config c.cut_bytes.new.picture.colours (with_numbered c.self.inside.viewers.pairs c.args.number c.cut_bytes.new.self) in
     at_config (λ k. after ≡ scene_after k (list ++ Cut c.args.number ∷ [])) c.self.inside.config config c.self.inside.picture.colours c.self.inside.viewers.pairs list (c.self.view_is ∙ h) (λ k.
-    cut-step c.self.inside.config list c.self.inside.picture.colours c.self.inside.viewers.pairs c.args.number c.in-Some.viewer.now c.cut_bytes.new.self k c.in-Some.ensures.value
+    ap (λ (f : Frame). seen c.self.inside.config f.colours (with_numbered c.self.inside.viewers.pairs c.args.number c.cut_bytes.new.self)) c.cut_bytes.ensures.same
+    ∙ cut-step c.self.inside.config list c.self.inside.picture.colours c.self.inside.viewers.pairs c.args.number c.in-Some.viewer.now c.cut_bytes.new.self k c.in-Some.ensures.value
     (c.in_ok-bytes.ensures.viewer ∙ ap (λ (p : List ℕ × KeptViewer). p.1) (sent-on c.self.inside.config c.self.inside.picture c.self.invariant.width c.self.invariant.height c.in-Some.viewer.now)))
 
 pub returns-clause-answer : goal.returns-clause-answer
@@ -57,8 +59,8 @@ invariant_of-self-in_err-bytes c =
     let was : IsSized c.self.inside.config c.in-Some.viewer.now = all-at (IsSized c.self.inside.config) c.self.inside.viewers.pairs c.args.number c.in-Some.viewer.now c.self.invariant.sized c.in-Some.ensures.value in
     record {
       accepted = c.self.invariant.accepted;
-      width = c.self.invariant.width;
-      height = c.self.invariant.height;
+      width = ap (λ (f : Frame). f.width) c.cut_bytes.ensures.same ∙ c.self.invariant.width;
+      height = ap (λ (f : Frame). f.height) c.cut_bytes.ensures.same ∙ c.self.invariant.height;
       sized = all-set (IsSized c.self.inside.config) c.self.inside.viewers.pairs (index_of_number c.self.inside.viewers c.args.number) c.cut_bytes.new.self c.self.invariant.sized (record { width = c.cut_bytes.ensures.width ∙ was.width; height = c.cut_bytes.ensures.height ∙ was.height });
     }
 
@@ -67,8 +69,8 @@ invariant_of-self-2 c =
     let was : IsSized c.self.inside.config c.in-Some.viewer.now = all-at (IsSized c.self.inside.config) c.self.inside.viewers.pairs c.args.number c.in-Some.viewer.now c.self.invariant.sized c.in-Some.ensures.value in
     record {
       accepted = c.self.invariant.accepted;
-      width = c.self.invariant.width;
-      height = c.self.invariant.height;
+      width = ap (λ (f : Frame). f.width) c.cut_bytes.ensures.same ∙ c.self.invariant.width;
+      height = ap (λ (f : Frame). f.height) c.cut_bytes.ensures.same ∙ c.self.invariant.height;
       sized = all-set (IsSized c.self.inside.config) c.self.inside.viewers.pairs (index_of_number c.self.inside.viewers c.args.number) c.cut_bytes.new.self c.self.invariant.sized (record { width = c.cut_bytes.ensures.width ∙ was.width; height = c.cut_bytes.ensures.height ∙ was.height });
     }
 
@@ -78,7 +80,8 @@ returns-in_err-bytes-clause-err c =
     let error = err_from_is_err_and c.from_residual.result c.from_residual.ensures.1 in
     rw error.1
     (
-    ap (λ (s : KeptViewer). seen here.config here.picture.colours (with_numbered here.viewers.pairs c.args.number s)) c.in_err-bytes.ensures.err
+    ap (λ (f : Frame). seen here.config f.colours (with_numbered here.viewers.pairs c.args.number c.cut_bytes.new.self)) c.cut_bytes.ensures.same
+    ∙ ap (λ (s : KeptViewer). seen here.config here.picture.colours (with_numbered here.viewers.pairs c.args.number s)) c.in_err-bytes.ensures.err
     ∙ ap (seen here.config here.picture.colours) (numbered-same here.viewers.pairs c.args.number c.in-Some.viewer.now c.in-Some.ensures.value)
     ∙ c.self.view_is
     )
