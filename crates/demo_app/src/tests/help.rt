@@ -47,6 +47,18 @@ fn the_help_of_play(rt: HostRuntime) -> Result<(), Fail> {
     Ok(())
 }
 
+// The commands whose options are read by commands of their own, and the option of `self`.
+#[test]
+fn the_help_of_other_commands(rt: HostRuntime) -> Result<(), Fail> {
+    let text = text_of(rt.alloc(), &["vncdemo", "--help"])?;
+    for part in ["\n  serve  shows ", "\n  self   serves "] {
+        assert!(rt; text.contains(part), "{part:?}");
+    }
+    let text = text_of(rt.alloc(), &["vncdemo", "self", "--help"])?;
+    assert!(rt; text.contains(" how many viewers there are, 1 to 8 [default: 2]\n"));
+    Ok(())
+}
+
 // The script in the help.
 fn script_in(help: &str) -> Result<&str, Fail> {
     let (_, behind) = help
