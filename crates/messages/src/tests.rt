@@ -11,13 +11,26 @@ fn opened(alloc: Global, messages: &[u8]) -> Result<Vec<u8>, AllocError> {
     Ok(bytes)
 }
 
+/// Prints items behind those that were printed before.
+fn print(said: &[Item], items: &mut String) -> Result<(), AllocError> {
+    for item in said {
+        write!(items, "{item:?};")?;
+    }
+    Ok(())
+}
+
 /// Feeds a piece, and prints its items behind those of the pieces before.
 fn listen(ear: &mut Ear, piece: &[u8], items: &mut String) -> Result<Option<Fault>, AllocError> {
     let heard = ear.feed(piece)?;
-    for item in heard.items.as_slice() {
-        write!(items, "{item:?};")?;
-    }
+    print(heard.items.as_slice(), items)?;
     Ok(heard.fault)
+}
+
+/// Feeds a piece. Its items, printed, and the fault.
+fn told(alloc: Global, ear: &mut Ear, piece: &[u8]) -> Result<(String, Option<Fault>), AllocError> {
+    let mut items = String::new(alloc);
+    let fault = listen(ear, piece, &mut items)?;
+    Ok((items, fault))
 }
 
 /// The items of bytes that come in pieces of this length, and the fault at their end.
@@ -46,6 +59,13 @@ fn heard_in_two(
     listen(&mut ear, front, &mut items)?;
     let fault = listen(&mut ear, back, &mut items)?;
     Ok((items, fault))
+}
+
+/// An ear that heard the opening and these bytes.
+fn ear_behind(alloc: Global, front: &[u8]) -> Result<Ear, AllocError> {
+    let mut ear = Ear::new(alloc);
+    ear.feed(&opened(alloc, front)?)?;
+    Ok(ear)
 }
 
 const OPENED: &str = "Version(V38);Choice;Init { shared: true };";
@@ -113,20 +133,32 @@ const MESSAGES: [(&[u8], &str, Option<Fault>); 12] = [
     (b"\x01", "", Some(Fault::UnknownMessage(1))),
 ];
 
+/// Whether these bytes say what is expected, in pieces of one length and another, and in two wherever they are cut.
+fn is_heard(
+    alloc: Global,
+    bytes: &[u8],
+    expected: &(String, Option<Fault>),
+) -> Result<bool, AllocError> {
+    for length in [bytes.len(), 1, 3] {
+        if heard_by(alloc, bytes, length)? != *expected {
+            return Ok(false);
+        }
+    }
+    for at in 0..bytes.len() {
+        let (front, back) = bytes.split_at(at);
+        if heard_in_two(alloc, front, back)? != *expected {
+            return Ok(false);
+        }
+    }
+    Ok(true)
+}
+
 #[test]
 fn messages_in_any_pieces(rt: HostRuntime) -> Result<(), Fail> {
     for (messages, said, fault) in MESSAGES {
         let bytes = opened(rt.alloc(), messages)?;
         let expected = (format!(in rt.alloc(); "{OPENED}{said}")?, fault);
-        for length in [bytes.len(), 1, 3] {
-            let heard = heard_by(rt.alloc(), &bytes, length)?;
-            assert_eq!(rt; heard, expected, "{messages:?} in pieces of {length}");
-        }
-        for (at, _) in bytes.iter().enumerate() {
-            let (front, back) = bytes.split_at(at);
-            let heard = heard_in_two(rt.alloc(), front, back)?;
-            assert_eq!(rt; heard, expected, "{messages:?} cut at {at}");
-        }
+        assert!(rt; is_heard(rt.alloc(), &bytes, &expected)?, "{messages:?}");
     }
     Ok(())
 }
@@ -180,29 +212,35 @@ fn text(alloc: Global, length: u32, come: u32) -> Result<Vec<u8>, AllocError> {
     Ok(bytes)
 }
 
+/// Whether a text was heard as it is: so many bytes of it, the last one rightly.
+fn is_kept(items: &[Item], kept: u32, is_shortened: bool) -> bool {
+    items.iter().all(|item| match item {
+        Item::Input(Input::Text { text, shortened }) => {
+            let text = text.as_slice();
+            text.len() == kept as usize
+                && text.last() == Some(&((kept.saturating_sub(1) % 251) as u8))
+                && *shortened == is_shortened
+        }
+        _ => true,
+    })
+}
+
+/// Whether so many bytes of a text are kept, and a byte behind it is a message.
+fn keeps_so_much(alloc: Global, length: u32, kept: u32) -> Result<bool, AllocError> {
+    let bytes = text(alloc, length, length)?;
+    let mut ear = Ear::new(alloc);
+    for piece in bytes.chunks(100_000) {
+        if !is_kept(ear.feed(piece)?.items.as_slice(), kept, kept < length) {
+            return Ok(false);
+        }
+    }
+    Ok(ear.feed(b"\x01")?.fault == Some(Fault::UnknownMessage(1)))
+}
+
 #[test]
 fn long_texts(rt: HostRuntime) -> Result<(), Fail> {
     for (length, kept) in [(262_143, 262_143), (262_144, 262_144), (262_145, 262_144)] {
-        let bytes = text(rt.alloc(), length, length)?;
-        let mut ear = Ear::new(rt.alloc());
-        for piece in bytes.chunks(100_000) {
-            let heard = ear.feed(piece)?;
-            for item in heard.items.as_slice() {
-                if let Item::Input(Input::Text { text, shortened }) = item {
-                    assert_eq!(rt; text.as_slice().len(), kept);
-                    assert_eq!(rt;
-                        text.as_slice().last().copied(),
-                        Some(((kept - 1) % 251) as u8)
-                    );
-                    assert_eq!(rt; *shortened, length == 262_145);
-                }
-            }
-        }
-        assert_eq!(rt;
-            ear.feed(b"\x01")?.fault,
-            Some(Fault::UnknownMessage(1)),
-            "of {length}"
-        );
+        assert!(rt; keeps_so_much(rt.alloc(), length, kept)?, "of {length}");
     }
     Ok(())
 }
@@ -231,8 +269,22 @@ fn many_encodings(rt: HostRuntime) -> Result<(), Fail> {
     Ok(())
 }
 
+/// Whether a clone of an ear that heard these bytes is as the ear is, and both hear further bytes alike.
+fn is_cloned(alloc: Global, front: &[u8], back: &[u8], is_open: bool) -> Result<bool, AllocError> {
+    let mut ear = ear_behind(alloc, front)?;
+    let mut clone = ear.try_clone()?;
+    let is_alike = clone.phase() == Phase::Open(Version::V38)
+        && clone.is_open() == is_open
+        && clone.fault().is_none() == is_open;
+    let heard = told(alloc, &mut ear, back)?;
+    Ok(is_alike && heard.0.is_empty() != is_open && told(alloc, &mut clone, back)? == heard)
+}
+
 #[test]
 fn clones_and_getters(rt: HostRuntime) -> Result<(), Fail> {
+    let ear = Ear::new(rt.alloc());
+    assert_eq!(rt; ear.phase(), Phase::Version);
+    assert!(rt; !ear.is_open());
     // In the midst of a request, of a list of encodings and of a text, and behind a fault.
     let table: [(&[u8], &[u8], bool); 4] = [
         (b"\x03\x01\x00\x01\x00", b"\x02\x00\x04\x00\x03\x01", true),
@@ -249,23 +301,29 @@ fn clones_and_getters(rt: HostRuntime) -> Result<(), Fail> {
         (b"\x07", b"\x05\x01\x00\x01\x00\x01", false),
     ];
     for (front, back, is_open) in table {
-        let mut ear = Ear::new(rt.alloc());
-        assert_eq!(rt; ear.phase(), Phase::Version);
-        assert!(rt; !ear.is_open());
-        let bytes = opened(rt.alloc(), front)?;
-        listen(&mut ear, &bytes, &mut String::new(rt.alloc()))?;
-        let mut clone = ear.try_clone()?;
-        assert_eq!(rt; clone.phase(), Phase::Open(Version::V38));
-        assert_eq!(rt; clone.is_open(), is_open);
-        assert_eq!(rt; clone.fault().is_none(), is_open);
-        let mut items = String::new(rt.alloc());
-        let mut again = String::new(rt.alloc());
-        let fault = listen(&mut ear, back, &mut items)?;
-        assert_eq!(rt; listen(&mut clone, back, &mut again)?, fault, "{front:?}");
-        assert_eq!(rt; again, items, "{front:?}");
-        assert_eq!(rt; items.is_empty(), !is_open, "{front:?}");
+        assert!(rt; is_cloned(rt.alloc(), front, back, is_open)?, "{front:?}");
     }
     Ok(())
+}
+
+/// What a piece says that is prepared and then put in place, and whether it is what a piece says that is fed, and the ear hears
+/// what comes behind as one that was fed.
+fn prepared(
+    alloc: Global,
+    front: &[u8],
+    piece: &[u8],
+) -> Result<(String, Option<Fault>, bool), AllocError> {
+    let mut ear = ear_behind(alloc, front)?;
+    let mut same = ear.try_clone()?;
+    let Prepared { heard, change } = ear.prepare(piece)?;
+    let mut said = String::new(alloc);
+    print(heard.items.as_slice(), &mut said)?;
+    let fed = told(alloc, &mut same, piece)?;
+    ear.commit(change);
+    let behind = b"\x00\x03c\x05\x01\x00\x02\x00\x01";
+    let is_same = told(alloc, &mut ear, behind)? == told(alloc, &mut same, behind)?;
+    let is_fed = is_same && fed.0 == said && fed.1 == heard.fault;
+    Ok((said, heard.fault, is_fed))
 }
 
 #[test]
@@ -283,26 +341,10 @@ fn prepared_and_put_in_place(rt: HostRuntime) -> Result<(), Fail> {
         (b"\x07", b"\x04", "", Some(Fault::UnknownMessage(7))),
     ];
     for (front, piece, said, fault) in table {
-        let mut ear = Ear::new(rt.alloc());
-        let bytes = opened(rt.alloc(), front)?;
-        listen(&mut ear, &bytes, &mut String::new(rt.alloc()))?;
-        let mut same = ear.try_clone()?;
-        let Prepared { heard, change } = ear.prepare(piece)?;
-        let mut items = String::new(rt.alloc());
-        for item in heard.items.as_slice() {
-            write!(items, "{item:?};")?;
-        }
+        let (items, found, is_same) = prepared(rt.alloc(), front, piece)?;
         assert_eq!(rt; items.as_str(), said, "{front:?}");
-        assert_eq!(rt; heard.fault, fault, "{front:?}");
-        // Nothing was heard yet, and what is put in place goes on as what was fed.
-        listen(&mut same, piece, &mut String::new(rt.alloc()))?;
-        ear.commit(change);
-        let behind = b"\x00\x03c\x05\x01\x00\x02\x00\x01";
-        let mut items = String::new(rt.alloc());
-        let mut again = String::new(rt.alloc());
-        let fault = listen(&mut ear, behind, &mut items)?;
-        assert_eq!(rt; listen(&mut same, behind, &mut again)?, fault, "{front:?}");
-        assert_eq!(rt; again, items, "{front:?}");
+        assert_eq!(rt; found, fault, "{front:?}");
+        assert!(rt; is_same, "{front:?}");
     }
     Ok(())
 }

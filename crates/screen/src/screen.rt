@@ -438,7 +438,7 @@ impl Screen {
         self.scene.pending(number)
     }
 
-    /// Cuts an update for a viewer: its rectangles, with copies of their colours; None where there is
+    /// Cuts an update for a viewer: its rectangles, with their colours as they stand; None where there is
     /// nothing to send. Refused as `NoViewer` where there is none with the number.
     pub fn cut(&mut self, number: u64) -> Result<Option<Update>, ScreenError>
         ensures step { (config : Config) (list : List Event) → self.old ≡ state config list →

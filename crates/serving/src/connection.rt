@@ -9,7 +9,7 @@ use std::net::TcpStream;
 use std::sync::Wait;
 use std::sync::ledger::Ledger;
 use std::thread;
-use std::thread::Threads;
+use std::thread::{Promise, Scope, Threads};
 use update_sender::{
     Line, Listener, OpenGate, Opened, ReadHalf, Shared, Speaker, WriteHalf, receipt, serve_opening,
     serve_reader, serve_sender,
@@ -41,6 +41,14 @@ pub(crate) fn serve_connection<L: Ledger + Send + Sync, R: Threads + Wait + Sync
     }
 }
 
+/// A sender's thread gives the half of the viewer with this number.
+#[derive(Clone, Copy)]
+struct HalfOf(u64);
+
+impl Promise<WriteHalf> for HalfOf {
+    ghost kept_by = { λ p half. half.viewer ≡ p.0 };
+}
+
 /// The viewer's two threads. Whichever ends first ends the other one.
 fn serve_open<L: Ledger + Send + Sync, R: Threads + Wait + Sync>(
     rt: &R,
@@ -55,17 +63,51 @@ fn serve_open<L: Ledger + Send + Sync, R: Threads + Wait + Sync>(
     requires viewer { listener.viewer ≡ speaker.viewer }
     ensures { result.viewer ≡ speaker.viewer }
 {
-    let (read, write) = thread::join(
+    let (read, write) = thread::scope(
+        thread::scope_env(),
         rt,
-        move || -> ReadHalf
+        move |scope| -> (ReadHalf, WriteHalf)
             requires { seat.queue ≡ hub.now.queue }
-            ensures { result.viewer ≡ listener.viewer }
-        { read_half(rt, shared, listener, stream, hub, seat) },
+            ensures read { result.0.viewer ≡ listener.viewer }
+            ensures write { result.1.viewer ≡ speaker.viewer }
+        { serve_halves(rt, shared, listener, speaker, stream, hub, seat, scope) },
+    );
+    receipt(Some(read), None, write).0
+}
+
+/// The same in a scope: the sender in a thread of it, the reader in this one. Where no thread can be started, the connection is
+/// shut, and both find it so.
+fn serve_halves<'s, E, L: Ledger + Send + Sync + 's, R: Threads + Wait + Sync + 's>(
+    rt: &'s R,
+    shared: &'s Shared<L>,
+    listener: Listener,
+    speaker: Speaker,
+    stream: &'s TcpStream,
+    hub: &InputHub,
+    seat: InputSeat,
+    scope: &Scope<'s, E>,
+) -> (ReadHalf, WriteHalf)
+    requires { seat.queue ≡ hub.now.queue }
+    ensures read { result.0.viewer ≡ listener.viewer }
+    ensures write { result.1.viewer ≡ speaker.viewer }
+{
+    let sender = scope.spawn_with(
+        HalfOf(speaker.viewer()),
         move || -> WriteHalf
             ensures { result.viewer ≡ speaker.viewer }
         { write_half(rt, shared, speaker, stream) },
     );
-    receipt(Some(read), None, write).0
+    match sender {
+        Ok(sender) => {
+            let read = read_half(rt, shared, listener, stream, hub, seat);
+            (read, sender.join(rt))
+        }
+        Err(refused) => {
+            shut(stream);
+            let read = read_half(rt, shared, listener, stream, hub, seat);
+            (read, (refused.value)())
+        }
+    }
 }
 
 /// The reader's thread.

@@ -14,7 +14,7 @@ use std::net::{Net, TcpListener, TcpStream};
 use std::sync::Wait;
 use std::sync::ledger::Ledger;
 use std::thread;
-use std::thread::Threads;
+use std::thread::{Promise, Scope, Threads};
 use update_sender::{Brush, Shared};
 
 /// How many inputs may wait for the application. One that comes while so many wait is dropped.
@@ -81,9 +81,69 @@ fn knock<R: Net>(rt: &R, listener: &TcpListener) {
     }
 }
 
+/// The thread that accepts gives receipts of so many viewers.
+#[derive(Clone, Copy)]
+struct ReceiptsOf(usize);
+
+impl Promise<Result<Vec<Receipt>, ServeError>> for ReceiptsOf {
+    ghost use Rattle.std.specs.Prelude.{IfOk};
+    ghost use Rattle.serving.specs.Serving.{AreNumbered};
+
+    ghost kept_by = { λ p result. IfOk result (λ receipts. AreNumbered p.0 receipts.items) };
+}
+
+/// Accepts a connection for each seat in a thread of a scope, while the application is told inputs in this one. Where no thread
+/// can be started, nothing is accepted.
+fn serve_seats<'s, E, L, A, R>(
+    rt: &'s R,
+    alloc: Global,
+    listener: &'s TcpListener,
+    shared: &'s Shared<L>,
+    brush: &mut Brush<L>,
+    hub: &'s InputHub,
+    doors: &'s Doors,
+    seats: Vec<InputSeat>,
+    mut taker: Taker,
+    application: &mut A,
+    scope: &Scope<'s, E>,
+) -> Result<Vec<Receipt>, ServeError>
+where
+    L: Ledger + Send + Sync + 's,
+    A: Application<L>,
+    R: Threads + Wait + Net + Sync + 's,
+    requires queue { All (λ s. s.queue ≡ hub.now.queue) seats.items }
+    requires seated { AreSeated (length seats.items) seats.items }
+    requires taker { taker.queue ≡ hub.now.queue }
+    ensures { IfOk result (λ receipts. AreNumbered (length seats.items) receipts.items) }
+{
+    let accepting = scope.spawn_with(
+        ReceiptsOf(seats.len()),
+        move || -> Result<Vec<Receipt>, ServeError>
+            requires queue { All (λ s. s.queue ≡ hub.now.queue) seats.items }
+            requires seated { AreSeated (length seats.items) seats.items }
+            ensures { IfOk result (λ receipts. AreNumbered (length seats.items) receipts.items) }
+        {
+            let receipts = accept_all(rt, alloc, listener, shared, hub, doors, seats);
+            hub.close();
+            receipts
+        },
+    );
+    let Ok(accepting) = accepting else {
+        return Err(ServeError::Network);
+    };
+    let drawn = run_application(rt, shared, brush, hub, &mut taker, application);
+    if drawn.is_err() {
+        end_all(rt, shared, doors);
+        knock(rt, listener);
+    }
+    let receipts = accepting.join(rt);
+    drawn?;
+    receipts
+}
+
 /// Accepts so many connections, and serves each as a viewer until it ends; they are numbered from 1 on. The application is told
 /// their inputs, in this thread. The viewers' receipts by number, once all have ended. Where the listener fails, or a call of
-/// the screen is refused, all connections are shut, and everything ends.
+/// the screen is refused, or no thread can be started for a viewer's connection, all connections are shut, and everything ends.
 pub fn serve_viewers<L, A, R>(
     rt: &R,
     alloc: Global,
@@ -99,33 +159,31 @@ where
     R: Threads + Wait + Net + Sync,
     ensures { IfOk result (λ receipts. AreNumbered viewers receipts.items) }
 {
-    let Seating {
-        hub,
-        mut taker,
-        seats,
-    } = seating_for(alloc, viewers)?;
+    let Seating { hub, taker, seats } = seating_for(alloc, viewers)?;
     let doors = Doors::new(alloc);
     let (hub, doors) = (&hub, &doors);
-    let (receipts, drawn) = thread::join(
+    thread::scope(
+        thread::scope_env(),
         rt,
-        move || -> Result<Vec<Receipt>, ServeError>
+        move |scope| -> Result<Vec<Receipt>, ServeError>
             requires queue { All (λ s. s.queue ≡ hub.now.queue) seats.items }
             requires seated { AreSeated (length seats.items) seats.items }
+            requires taker { taker.queue ≡ hub.now.queue }
             ensures { IfOk result (λ receipts. AreNumbered (length seats.items) receipts.items) }
         {
-            let receipts = accept_all(rt, alloc, listener, shared, hub, doors, seats);
-            hub.close();
-            receipts
+            serve_seats(
+                rt,
+                alloc,
+                listener,
+                shared,
+                brush,
+                hub,
+                doors,
+                seats,
+                taker,
+                application,
+                scope,
+            )
         },
-        || {
-            let drawn = run_application(rt, shared, brush, hub, &mut taker, application);
-            if drawn.is_err() {
-                end_all(rt, shared, doors);
-                knock(rt, listener);
-            }
-            drawn
-        },
-    );
-    drawn?;
-    receipts
+    )
 }
