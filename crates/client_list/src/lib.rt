@@ -14,8 +14,6 @@ ghost use Rattle.client_list.specs.Connected.{index_of, index_of_number, value_o
 ghost use Rattle.client_list.specs.declared.ConnectError.TheVariants.{NumberInUse, OutOfMemory};
 
 mod links;
-#[cfg(test)]
-mod tests;
 
 use links::{Node, add, set_next, set_previous};
 use slab::Slab;

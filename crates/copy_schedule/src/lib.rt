@@ -48,6 +48,3 @@ pub struct Cut {
     /// Rectangles whose pixels the viewer needs, from the top, each row from the left.
     pub pixels: Listed<Rect>,
 }
-
-#[cfg(test)]
-mod tests;

@@ -25,6 +25,3 @@ pub use reading::SCRIPT_LIMIT;
 pub use serve::{ServeOptions, serve_on};
 pub use steps::Steps;
 pub use test_viewer::{Area, Fault, FaultKind, PixelFormat, Shown, Version};
-
-#[cfg(test)]
-mod tests;

@@ -160,6 +160,3 @@ pub fn hextile_is_read_back()
     background_is_most_frequent();
     subrectangles_are_all_listed();
 }
-
-#[cfg(test)]
-mod tests;

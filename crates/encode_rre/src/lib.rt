@@ -239,6 +239,3 @@ pub fn rre_is_read_back()
 {
     raw_is_read_back();
 }
-
-#[cfg(test)]
-mod tests;

@@ -19,7 +19,7 @@ use std::process::ExitCode;
 use std::rt::Runtime;
 use std::sync::Wait;
 use std::sync::ledger::{Blank, Ledger};
-use std::thread::Threads;
+use std::thread::{Scope, Threads};
 use std::{env, io, thread};
 use visitor::Visitor;
 
@@ -70,6 +70,25 @@ fn visit(alloc: Global, mut visitor: Visitor) -> io::Result<Vec<u8>> {
     Ok(text)
 }
 
+/// Serves the visitor, which runs in a thread of the scope. The listener is closed at the end, so that a visitor whom nobody
+/// served does not wait.
+fn look_in_scope<'s, E, R: Threads + Wait + Net + Sync>(
+    rt: &R,
+    alloc: Global,
+    listener: TcpListener,
+    visitor: Visitor,
+    scope: &Scope<'s, E>,
+) -> io::Result<Vec<u8>> {
+    let Ok(visit) = scope.spawn(move || visit(alloc, visitor)) else {
+        return Err(io::ErrorKind::Other.into());
+    };
+    let served = serve_one(rt, alloc, &listener);
+    drop(listener);
+    let seen = visit.join(rt);
+    served?;
+    seen
+}
+
 /// Serves a viewer of its own.
 fn look<R: Threads + Wait + Net<Listener = TcpListener, Stream = TcpStream> + Sync>(
     rt: &R,
@@ -77,13 +96,9 @@ fn look<R: Threads + Wait + Net<Listener = TcpListener, Stream = TcpStream> + Sy
 ) -> io::Result<Vec<u8>> {
     let listener = TcpListener::bind(rt, (Ipv4Addr::LOCALHOST, 0))?;
     let visitor = Visitor::connect(rt, alloc, listener.local_addr()?)?;
-    let (seen, served) = thread::join(
-        rt,
-        move || visit(alloc, visitor),
-        || serve_one(rt, alloc, &listener),
-    );
-    served?;
-    seen
+    thread::scope(thread::scope_env(), rt, move |scope| {
+        look_in_scope(rt, alloc, listener, visitor, scope)
+    })
 }
 
 /// Serves a viewer on a port.

@@ -1,5 +1,7 @@
 //! What is drawn.
 
+ghost use Rattle.std.specs.Prelude.{◌≡◌, ◌+◌, ◌&&◌, min, nat_le, nat_lt};
+
 use serving::{Application, Brush, Input, Rect, ScreenError, Shared, Told};
 use std::sync::Wait;
 use std::sync::ledger::Ledger;
@@ -22,7 +24,9 @@ pub struct Square {
 
 impl Square {
     /// The square with its corner at a place, or as far from it as keeps the square on the screen.
-    pub fn at(x: u16, y: u16) -> Square {
+    pub fn at(x: u16, y: u16) -> Square
+        ensures { result ≡ record { x = min x 10; y = min y 4 } }
+    {
         Square {
             x: x.min(WIDTH - 2),
             y: y.min(HEIGHT - 2),
@@ -30,9 +34,12 @@ impl Square {
     }
 
     /// Whether it covers a place.
-    pub fn covers(&self, x: u16, y: u16) -> bool {
-        let (right, down) = (x.checked_sub(self.x), y.checked_sub(self.y));
-        right.is_some_and(|right| right < 2) && down.is_some_and(|down| down < 2)
+    pub fn covers(&self, x: u16, y: u16) -> bool
+        ensures { result ≡ (nat_le self.now.x x && nat_lt x (self.now.x + 2) && nat_le self.now.y y && nat_lt y (self.now.y + 2)) }
+    {
+        let (left, top) = (u32::from(self.x), u32::from(self.y));
+        let (x, y) = (u32::from(x), u32::from(y));
+        left <= x && x < left + 2 && top <= y && y < top + 2
     }
 
     /// Paints its places in a colour.

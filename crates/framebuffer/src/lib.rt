@@ -14,6 +14,3 @@ mod spans;
 pub use blocks::{Block, block_of, block_within};
 pub use frame::{Framebuffer, Snapshot};
 pub use spans::destinations;
-
-#[cfg(test)]
-mod tests;

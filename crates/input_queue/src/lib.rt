@@ -4,8 +4,6 @@
 
 mod hub;
 mod rule;
-#[cfg(test)]
-mod tests;
 
 pub use hub::{InputHub, InputSeat, Taker};
 use listed::Listed;

@@ -8,8 +8,6 @@ mod laws;
 mod numbers;
 mod opening;
 mod reading;
-#[cfg(test)]
-mod tests;
 mod text;
 mod writers;
 

@@ -11,6 +11,3 @@ pub use laws::{answers_are_printed, printed_is_read};
 pub use lines::{Line, parse_line};
 pub use texts::{answer_text, bad_line_text, ok_text, refusal_text};
 pub use words::cut_line;
-
-#[cfg(test)]
-mod tests;

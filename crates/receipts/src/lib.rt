@@ -140,6 +140,3 @@ impl<T: Drop> From<AllocFailed<T>> for FinishError {
         FinishError::OutOfMemory
     }
 }
-
-#[cfg(test)]
-mod tests;

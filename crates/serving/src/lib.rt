@@ -19,6 +19,3 @@ pub use update_sender::{
     Brush, Config, Ended, FinishError, History, Rect, Region, Report, ScreenError, Sent, Shared,
     finish,
 };
-
-#[cfg(test)]
-mod tests;

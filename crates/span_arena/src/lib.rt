@@ -9,8 +9,6 @@ ghost use Rattle.std.specs.Prelude.{◌≡◌, ◌<◌, ◌≤◌, ◌+◌, ◌+
 ghost use Rattle.span_arena.specs.Arena.{list_of, ids_of, span_of, last_in, IsIn, IsSound, SetsList, SetsSpan, SpansGone, SameLists, SameSpans};
 
 mod nodes;
-#[cfg(test)]
-mod tests;
 
 use nodes::{Node, cut, put, put_head};
 use slab::Slab;

@@ -12,8 +12,6 @@ mod opening;
 mod rectangles;
 mod shown;
 mod stages;
-#[cfg(test)]
-mod tests;
 mod tiles;
 mod updates;
 

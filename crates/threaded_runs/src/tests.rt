@@ -1,11 +1,12 @@
 //! What no clause says of viewers' threads: that they get on, that each byte arrives, why each of them ended, and that what
 //! they leave is accepted, or refused for what is wrong with it. `two_viewers` holds one viewer's sender until the other's has
 //! ended, `drawing` draws while a sender sends, `closing` ends a viewer whose sender waits or writes, `openings` has openings
-//! in pieces and with faults, and `inputs` what is told the application. Bytes are written out from RFC 6143. What waits here
+//! in pieces and with faults, `calls` makes each call, and `inputs` has what is told the application. Bytes are written out from RFC 6143. What waits here
 //! looks at most 1,000,000 times.
 //!
 //! A function that owns a shared screen lends it to others: each place where it may end on its way would be one more to prove.
 
+mod calls;
 mod closing;
 mod drawing;
 mod gates;

@@ -15,8 +15,6 @@ mod reader;
 mod recorded;
 mod sender;
 mod shared;
-#[cfg(test)]
-mod tests;
 mod turn;
 mod writing;
 

@@ -4,7 +4,7 @@
 use super::{config, rect, region, request, say, show};
 use region::Rect;
 use screen::{Screen, ScreenError, Update};
-use std::alloc::Global;
+use std::alloc::{AllocError, Global};
 use std::process::Abort;
 use std::test::Fail;
 
@@ -205,5 +205,42 @@ fn kept_update(alloc: Global) -> Result<Option<Update>, ScreenError> {
 fn an_update_keeps_the_colours_of_its_cut(rt: HostRuntime) -> Result<(), Fail> {
     let update = kept_update(rt.alloc())?.ok_or("an update")?;
     assert_eq!(rt; update.encode()?.as_slice(), SECOND);
+    Ok(())
+}
+
+/// An update of a whole screen of this blue in Raw (7.6.1, 7.7.1).
+fn whole_update(alloc: Global, (w, h): (u16, u16), blue: u8) -> Result<Vec<u8>, AllocError> {
+    let [w1, w0] = w.to_be_bytes();
+    let [h1, h0] = h.to_be_bytes();
+    let head = [0, 0, 0, 1, 0, 0, 0, 0, w1, w0, h1, h0, 0, 0, 0, 0];
+    let mut bytes = Vec::from_slice(alloc, &head)?;
+    for _ in 0..u32::from(w) * u32::from(h) {
+        bytes.extend_from_slice(&[blue, 0, 0, 0])?;
+    }
+    Ok(bytes)
+}
+
+/// What an update gives that was cut before the whole screen was drawn over.
+fn cut_and_drawn_over(alloc: Global, (w, h): (u16, u16)) -> Result<Vec<u8>, ScreenError> {
+    let places = usize::from(w) * usize::from(h);
+    let (before, after) = (vec![in alloc; 1u32; places]?, vec![in alloc; 2u32; places]?);
+    let mut screen = Screen::new(alloc, config(alloc, (w, h), 50)?)?;
+    show(&mut screen, (w, h), &before)?;
+    say(&mut screen, 1, &request(false, 0, 0, w, h))?;
+    let update = screen.cut(1)?;
+    screen.paint(rect(0, 0, i32::from(w), i32::from(h)), &after)?;
+    match update {
+        Some(update) => Ok(update.encode()?),
+        None => Ok(Vec::new(alloc)),
+    }
+}
+
+#[test]
+fn an_update_keeps_its_colours(rt: HostRuntime) -> Result<(), Fail> {
+    for size in [(4, 2), (300, 2)] {
+        let sent = cut_and_drawn_over(rt.alloc(), size)?;
+        let wanted = whole_update(rt.alloc(), size, 1)?;
+        assert_eq!(rt; sent.as_slice(), wanted.as_slice());
+    }
     Ok(())
 }

@@ -1,7 +1,7 @@
 //! Whole lists of events, each beside its answer. Where an allocation fails, whichever, the event is applied again, and then every
 //! answer is the same: a call that was refused left the screen as it was. The bytes are written out from RFC 6143.
 
-use super::{OPENING, WITH_COPYRECT, config, rect, region, request, show};
+use super::{OPENING, WITH_COPYRECT, config, open, rect, region, request, say, show};
 use listed::Listed;
 use region::{Rect, Region};
 use screen::{Answer, Config, Event, Fault, Screen, ScreenError, run};
@@ -370,5 +370,47 @@ fn named_calls_whichever_allocation_is_refused(rt: HostRuntime) {
         draw_again(&rt, &mut screen, &zone);
         copy_again(&rt, &mut screen, &zone);
         expect_copies(&rt, &mut screen);
+    }
+}
+
+/// Five places in black, as an update.
+const FIVE_BLACK: &[u8] = &[
+    0, 0, 0, 1, 0, 0, 0, 0, 0, 5, 0, 1, 0, 0, 0, 0, 0, 0, 0, 0, 0, 0, 0, 0, 0, 0, 0, 0, 0, 0, 0, 0,
+    0, 0, 0, 0,
+];
+
+/// A black screen of 9 by 1, and two viewers that were sent it.
+fn two_that_show_black(alloc: Global) -> Result<Screen, ScreenError> {
+    let mut screen = Screen::new(alloc, config(alloc, (9, 1), 50)?)?;
+    show(&mut screen, (9, 1), &[0; 9])?;
+    open(&mut screen, 2)?;
+    say(&mut screen, 2, &request(false, 0, 0, 9, 1))?;
+    screen.cut(2)?;
+    Ok(screen)
+}
+
+/// Each of the first five places is marked, one after the other.
+fn mark_five(rt: &impl Abort, screen: &mut Screen) {
+    for column in 0..5i32 {
+        again!(rt, screen.mark_rect(column, 0, column + 1, 1));
+    }
+}
+
+/// The viewer asks for what changed, and is sent these five.
+fn expect_five(rt: &impl Abort, screen: &mut Screen, viewer: u64) {
+    again!(rt, screen.hear(viewer, &request(true, 0, 0, 9, 1)));
+    let update = again!(rt, screen.cut(viewer)).expect(rt, "an update");
+    let bytes = again!(rt, update.encode());
+    assert_eq!(rt; bytes.as_slice(), FIVE_BLACK);
+}
+
+#[test]
+fn many_marks_whichever_allocation_is_refused(rt: HostRuntime) {
+    if let Ok(mut screen) = two_that_show_black(rt.alloc()) {
+        for _ in 0..60u8 {
+            mark_five(&rt, &mut screen);
+        }
+        expect_five(&rt, &mut screen, 1);
+        expect_five(&rt, &mut screen, 2);
     }
 }

@@ -1,0 +1,4 @@
+mod hextile;
+mod pixels;
+mod raw;
+mod rre;

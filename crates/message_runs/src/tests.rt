@@ -1,0 +1,3 @@
+mod conversations;
+mod inputs;
+mod watching;

@@ -1,0 +1,15 @@
+use Rattle.std.proofs.Common.{◌≡◌, ◌-◌, ◌/◌, map, drop, reverse, length}
+use Rattle.std.specs.Map.{values_of}
+use Rattle.client_list.specs.Connected.{changed, passed}
+use Rattle.client_list.proofs.Walks.{IsWalk}
+use Rattle.place_runs.proofs.tests.clients.walks.put_halves.Given as goal
+
+-- the viewers that were passed have their halves, and those of the others are left, the last one's first
+abbrev pub invariant-loop-place : goal.invariant-loop-place
+invariant-loop-place l = record {
+  walk : IsWalk l.fn.clients (changed (λ n. n / 2) l.fn.clients.pairs) l.clients l.place;
+  left : l.halves.items ≡ reverse (drop (passed l.clients l.place) (map (λ n. n / 2) (values_of l.fn.clients.pairs)));
+}
+
+abbrev pub decreases-loop-place : goal.decreases-loop-place
+decreases-loop-place l = length l.clients.places - passed l.clients l.place

@@ -1,0 +1,5 @@
+mod clients;
+mod marks;
+mod pictures;
+mod regions;
+mod spans;

@@ -1,0 +1,124 @@
+mod drawing;
+mod help;
+mod over_tcp;
+mod own;
+mod rows;
+mod troubles;
+
+ghost use Rattle.std.specs.Prelude.{◌≡◌};
+
+use demo_app::{Chosen, Steps, line_of, play_over};
+use std::alloc::{AllocError, Global};
+use std::io::{Read, Write};
+use std::marker::Brand;
+use std::process::Abort;
+use std::sync::ledger::{Blank, Ledger};
+use std::test::Fail;
+
+fn counted<L: Ledger, R: Read, W: Write>(
+    alloc: Global,
+    blank: Blank,
+    reader: &mut R,
+    writer: &mut W,
+) -> u8
+    requires name { blank.name ≡ L.name }
+    requires parts { blank.parts ≡ L.parts }
+    requires one { L.parts ≡ 1 }
+{
+    let mut steps = Steps::<L>::new(blank);
+    play_over(alloc, reader, writer, &mut steps)
+}
+
+// The status of a script, on a ledger that nobody looks into.
+fn play<R: Read, W: Write>(alloc: Global, reader: &mut R, writer: &mut W) -> u8 {
+    counted::<Brand, R, W>(alloc, Blank::new(1), reader, writer)
+}
+
+// The lines of a script, each beside what it prints.
+type Rows = &'static [(&'static str, &'static str)];
+
+// How often these lines come.
+type Part = (usize, Rows);
+
+// A reader's script prints this text, and ends with this status.
+fn expect<R: Read>(rt: &impl Abort, alloc: Global, reader: &mut R, printed: &str, status: u8) {
+    let mut out = Vec::new(alloc);
+    let ended = play(alloc, reader, &mut out);
+    assert_eq!(rt; str::from_utf8(&out).unwrap_or("no text"), printed);
+    assert_eq!(rt; ended, status);
+}
+
+fn push_lines(script: &mut String, rows: &[(&str, &str)]) -> Result<(), AllocError> {
+    for (line, _) in rows {
+        script.push_str(line)?;
+        script.push('\n')?;
+    }
+    Ok(())
+}
+
+fn push_answers(printed: &mut String, rows: &[(&str, &str)]) -> Result<(), AllocError> {
+    for (_, text) in rows {
+        printed.push_str(text)?;
+    }
+    Ok(())
+}
+
+// The lines of a script, and what it prints.
+fn texts_of(
+    script: &mut String,
+    printed: &mut String,
+    (count, rows): Part,
+) -> Result<(), AllocError> {
+    for _ in 0..count {
+        push_lines(script, rows)?;
+        push_answers(printed, rows)?;
+    }
+    Ok(())
+}
+
+// Each line of a script prints the text beside it, and the script ends with the status.
+fn shows(rt: &impl Abort, alloc: Global, parts: &[Part], status: u8) -> Result<(), Fail> {
+    let mut script = String::new(alloc);
+    let mut printed = String::new(alloc);
+    for part in parts {
+        texts_of(&mut script, &mut printed, *part)?;
+    }
+    expect(rt, alloc, &mut script.as_bytes(), &printed, status);
+    Ok(())
+}
+
+fn words(alloc: Global, texts: &[&str]) -> Result<Vec<String>, AllocError> {
+    let mut words = Vec::new(alloc);
+    for text in texts {
+        words.push(String::from_str(alloc, text)?)?;
+    }
+    Ok(words)
+}
+
+fn is_refused(alloc: Global, texts: &[&str]) -> Result<bool, AllocError> {
+    let line = words(alloc, texts)?;
+    Ok(line_of(alloc, &line).is_err())
+}
+
+fn is_play(alloc: Global, texts: &[&str]) -> Result<bool, AllocError> {
+    let line = words(alloc, texts)?;
+    Ok(matches!(line_of(alloc, &line), Ok(Chosen::Play)))
+}
+
+#[test]
+fn command_lines(rt: HostRuntime) -> Result<(), Fail> {
+    assert!(rt; is_play(rt.alloc(), &["vncdemo", "play"])?);
+    let refused: [&[&str]; 7] = [
+        &["vncdemo"],
+        &["vncdemo", "--help"],
+        &["vncdemo", "--version"],
+        &["vncdemo", "play", "--version"],
+        &["vncdemo", "draw"],
+        &["vncdemo", "play", "script"],
+        &["vncdemo", "play", "--loud"],
+    ];
+    for texts in refused {
+        assert!(rt; is_refused(rt.alloc(), texts)?, "{texts:?}");
+    }
+    Ok(())
+}
