@@ -9,10 +9,10 @@
 //! the pixels, and passes over each row that is as the one above.
 #![tactic(auto)]
 
-ghost use Rattle.std.specs.Prelude.{◌≡◌, ◌*◌, ◌<◌, ◌≤◌, ◌++◌, length, map, IfOk, OnOk, OnErr};
+ghost use Rattle.std.specs.Prelude.{◌≡◌, ℕ, List, ◌*◌, ◌<◌, ◌≤◌, ◌++◌, length, map, IfOk, OnOk, OnErr};
 ghost use Rattle.pixel_translate.specs.Pixel.{pixel};
 ghost use Rattle.encode_rre.specs.Begins.{BeginsWith};
-ghost use Rattle.encode_hextile.specs.Tiles.{pixel_rows, tiles_in};
+ghost use Rattle.encode_hextile.specs.Tiles.{pixel_rows, rows_of_tiles, tiles_in};
 ghost use Rattle.encode_hextile.specs.Claims.{hextile_reads_back};
 ghost use Rattle.encode_hextile.specs.Hextile.{tiles, carried_after, hextile, hextile_of};
 
@@ -25,17 +25,31 @@ mod scan;
 use crate::bytes::{NOTHING, put_tile};
 use crate::cut::{cut_tile, side_of};
 use encode_raw::rect_header;
-use encode_rre::rows::Rows;
+pub use encode_rre::rows::Rows;
 use encode_rre::{background_is_most_frequent, subrectangles_are_all_listed};
 use pixel_translate::Table;
 pub use pixel_translate::{Area, PixelFormat};
 use std::alloc::AllocError;
 
-/// What a tile leaves to the next: the background and the foreground that need not be said again.
+/// What the tiles so far leave to the next (RFC 6143, 7.7.4): the pixels that need not be said again.
 #[derive(Clone, Copy)]
-pub(crate) struct Carried {
-    background: Option<u32>,
-    foreground: Option<u32>,
+pub struct Carried {
+    /// The background of the tile before, unless that was raw.
+    pub background: Option<u32>,
+    /// The foreground, unless a tile since it was said was raw or had coloured subrectangles.
+    pub foreground: Option<u32>,
+}
+
+impl Carried {
+    ghost use Rattle.std.specs.Prelude.{◌≡◌};
+    ghost use Rattle.encode_hextile.specs.Hextile.{nothing};
+
+    /// What is carried to a rectangle's first tile: nothing.
+    pub fn nothing() -> Carried
+        ensures { result ≡ nothing }
+    {
+        NOTHING
+    }
 }
 
 /// Which pixels a tile has beside its background: none, just one, or several.
@@ -76,6 +90,30 @@ fn put_row_of_tiles(
         carried = put_tile(out, &pixels, &format, carried)?;
     }
     Ok(carried)
+}
+
+/// Appends one row of a rectangle's tiles (RFC 6143, 7.7.4), in the format of the table. Its colours are those of its rows of
+/// places, at most 16. A rectangle is its head and its rows of tiles from the top, each with what the one before it left; the
+/// first with nothing. Gives what this one leaves. Where memory is refused, nothing is appended.
+pub fn encode_row_of_tiles(
+    out: &mut Vec<u8>,
+    colours: &Rows,
+    table: &Table,
+    before: Carried,
+) -> Result<Carried, AllocError>
+    requires { colours.now.height ≤ 16 }
+    ensures next { (rows : List (List ℕ)) (j : ℕ) → rows_of_tiles rows j ≡ pixel_rows table.now colours.now →
+        IfOk result (λ next. next ≡ carried_after table.now rows before (tiles_in colours.now.width j)) }
+    ensures ok { (rows : List (List ℕ)) (j : ℕ) → rows_of_tiles rows j ≡ pixel_rows table.now colours.now →
+        OnOk result (out.new.items ≡ out.old.items ++ tiles table.now rows before (tiles_in colours.now.width j)) }
+    ensures err { OnErr result (out.new.items ≡ out.old.items) }
+{
+    let start = out.len();
+    let done = put_row_of_tiles(out, colours, 0, table, before);
+    if done.is_err() {
+        out.truncate(start);
+    }
+    done
 }
 
 /// Appends the tiles, row by row.

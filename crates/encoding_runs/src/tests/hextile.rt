@@ -4,7 +4,9 @@ ghost use Rattle.std.specs.Prelude.{◌≡◌, ◌*◌, ◌≤◌, length};
 
 mod plain;
 
-use encode_hextile::{encode_hextile, encode_hextile_with_table};
+use encode_hextile::{
+    Carried, Rows, encode_hextile, encode_hextile_with_table, encode_row_of_tiles,
+};
 use pixel_translate::{Area, BitsPerPixel, Component, PixelFormat, Table};
 use std::alloc::{AllocError, Global};
 use std::test::Fail;
@@ -65,6 +67,26 @@ fn a_background_is_said_once(rt: HostRuntime) -> Result<(), Fail> {
         &[0x02, 0x33, 0x22, 0x11, 0, 0x00],
     )?;
     assert!(rt; coded);
+    Ok(())
+}
+
+#[test]
+fn a_background_is_carried_to_the_next_row_of_tiles(rt: HostRuntime) -> Result<(), Fail> {
+    let table = Table::new(&PixelFormat::server());
+    let mut out = Vec::new(rt.alloc());
+    let first = Rows {
+        values: &[0x112233; 272],
+        width: 17,
+        height: 16,
+    };
+    let carried = encode_row_of_tiles(&mut out, &first, &table, Carried::nothing())?;
+    let second = Rows {
+        values: &[0x112233; 17],
+        width: 17,
+        height: 1,
+    };
+    encode_row_of_tiles(&mut out, &second, &table, carried)?;
+    assert!(rt; out.as_slice() == [0x02, 0x33, 0x22, 0x11, 0, 0x00, 0x00, 0x00].as_slice());
     Ok(())
 }
 
