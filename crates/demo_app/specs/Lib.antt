@@ -1,4 +1,2 @@
 pub mod CommandLine
-pub mod Playing
-pub mod Reading
 pub mod Watching

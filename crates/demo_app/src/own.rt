@@ -3,12 +3,12 @@
 
 ghost use Rattle.std.specs.Prelude.{◌≡◌, ◌-◌, ◌<◌, ◌⊎◌, true, IfOk};
 
-use crate::serve::print_verdict;
-use crate::trouble::{Trouble, flush, print, report};
+use crate::serve::{print_verdict, trouble_of};
 use crate::watching::{COLUMNS, shut_all, watch};
 use messages::Input;
 use receipts::Receipt;
 use screen::{Config, History, Listed, Rect, ScreenError};
+use script_player::trouble::{Trouble, flush, print, report};
 use serving::{Application, Told, serve_viewers};
 use std::alloc::{AllocError, Global};
 use std::io::{ErrorKind, Write};
@@ -161,7 +161,9 @@ where
     let threads = spawn_all(alloc, streams, scope)?;
     let viewers = streams.len() as u64;
     let mut drawer = Drawer { awaited: viewers };
-    let receipts = serve_viewers(rt, alloc, listener, shared, brush, viewers, &mut drawer)?;
+    let receipts = serve_viewers(rt, alloc, listener, shared, brush, viewers, &mut drawer).map_err(
+        trouble_of,
+    )?;
     let shows = join_all(rt, alloc, threads)?;
     Ok(Run { shows, receipts })
 }

@@ -2,11 +2,11 @@
 
 ghost use Rattle.std.specs.Prelude.{◌≡◌, ◌<◌, ◌⊎◌, IfOk};
 
-use crate::trouble::{Trouble, flush, print, report};
 use messages::Input;
 use play_script::refusal_text;
 use receipts::{Ended, FinishError, Receipt};
 use screen::{Config, History, Listed, Rect, ScreenError};
+use script_player::trouble::{Trouble, flush, print, report};
 use serving::{Application, ServeError, Told, serve_viewers};
 use std::alloc::{AllocError, Global};
 use std::io::Write;
@@ -82,13 +82,12 @@ impl<L: Ledger> Application<L> for Easel {
     }
 }
 
-impl From<ServeError> for Trouble {
-    fn from(error: ServeError) -> Trouble {
-        match error {
-            ServeError::Network => Trouble::NetworkFault,
-            // the application's calls are refused for memory alone
-            ServeError::Screen(_) => Trouble::OutOfMemory,
-        }
+/// Why serving ended early, as it is printed.
+pub(crate) fn trouble_of(error: ServeError) -> Trouble {
+    match error {
+        ServeError::Network => Trouble::NetworkFault,
+        // the application's calls are refused for memory alone
+        ServeError::Screen(_) => Trouble::OutOfMemory,
     }
 }
 
@@ -211,7 +210,8 @@ fn serve<L: Ledger + Send + Sync, W: Write, R: Threads + Wait + Net + Sync>(
     let viewers = u64::from(options.viewers);
     let receipts = serve_viewers(
         rt, alloc, listener, &shared, &mut brush, viewers, &mut easel,
-    )?;
+    )
+    .map_err(trouble_of)?;
     print_ends(alloc, writer, &receipts)?;
     if options.check {
         print_verdict(alloc, writer, shared, brush, receipts)

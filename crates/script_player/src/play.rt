@@ -4,7 +4,7 @@ ghost use Rattle.play_script.specs.Lines.{line_of};
 ghost use Rattle.play_script.specs.Texts.{bad_line};
 ghost use Rattle.play_script.specs.Transcript.{Played, step_of, transcript, status_of};
 ghost use Rattle.play_script.specs.declared.lines.Line.TheVariants as line;
-ghost use Rattle.demo_app.specs.Playing.{StandsFor, Says};
+ghost use Rattle.script_player.specs.Playing.{StandsFor, Says};
 
 use crate::counted::CountedReader;
 use crate::reading::read_script;
