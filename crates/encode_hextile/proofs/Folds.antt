@@ -1,12 +1,11 @@
 -- Tiles one after the other.
-use Rattle.std.proofs.Common.{◌≡◌, ℕ, zero, suc, ◌+◌, ◌*◌, ◌++◌, List, [], ◌∷◌, map, take, drop, refl, sym, ap, ◌∙◌, arith, append_assoc, append-nil}
+use Rattle.std.proofs.Common.{◌≡◌, ℕ, zero, suc, ◌+◌, ◌++◌, List, [], ◌∷◌, map, refl, sym, ap, ◌∙◌, arith, append_assoc, append-nil}
 use Rattle.std.specs.List.{flat_map, range_with_len}
-use Rattle.std.specs.Int.{div_ceil}
-use Rattle.std.proofs.lemmas.List.{map-append, take-take}
+use Rattle.std.proofs.lemmas.List.{map-append}
 use Rattle.pixel_translate.specs.declared.PixelFormat.{PixelFormat}
 use Rattle.encode_rre.specs.Scans.{row_more}
 use Rattle.encode_hextile.specs.declared.Carried.{Carried}
-use Rattle.encode_hextile.specs.Tiles.{Tile, rows_of_tiles, tiles_in, tile_rows}
+use Rattle.encode_hextile.specs.Tiles.{Tile, tiles_in, tile_rows}
 use Rattle.encode_hextile.specs.Hextile.{Coded, tile, tiles, carried_after}
 
 pub tiles_append : (f : PixelFormat) (rows : List (List ℕ)) (carried : Carried) (ts us : List Tile) → tiles f rows carried (ts ++ us) ≡ tiles f rows carried ts ++ tiles f rows (carried_after f rows carried ts) us
@@ -87,38 +86,3 @@ pub carried_rows : (f : PixelFormat) (rows : List (List ℕ)) (before carried ne
 carried_rows f rows before carried next w n k h =
     h ∙ ap (λ (t : Carried). carried_after f rows t (tiles_in w n)) k
     ∙ sym (ap (carried_after f rows before) (row_more (tiles_in w) n) ∙ carried_append f rows before (first_rows w n) (tiles_in w n))
-
--- ---- one row of tiles by its own rows
-
-abbrev at_row : ℕ → ℕ → Tile
-at_row j i = record { column = i; row = j }
-
-same_tile : (rows own : List (List ℕ)) (j i : ℕ) → rows_of_tiles rows j ≡ own → tile_rows own (at_row 0 i) ≡ tile_rows rows (at_row j i)
-same_tile rows own j i e =
-    ap (map (λ row. take 16 (drop (16 * i) row)))
-    (ap (take 16) (sym e) ∙ take-take 16 16 (drop (16 * j) rows) (omega arith))
-
-same_tiles : (f : PixelFormat) (rows own : List (List ℕ)) (j : ℕ) (columns : List ℕ) (carried : Carried) → rows_of_tiles rows j ≡ own
-    → tiles f own carried (map (at_row 0) columns) ≡ tiles f rows carried (map (at_row j) columns)
-same_tiles f rows own j [] carried e = refl
-same_tiles f rows own j (i ∷ is) carried e =
-    ap (λ (t : List (List ℕ)). let c = tile f carried t in c.bits ∷ c.bytes ++ tiles f own c.next (map (at_row 0) is)) (same_tile rows own j i e)
-    ∙ ap (λ (more : List ℕ). here.bits ∷ here.bytes ++ more) (same_tiles f rows own j is here.next e)
-  where
-    here : Coded
-    here = tile f carried (tile_rows rows (at_row j i))
-
-same_carried : (f : PixelFormat) (rows own : List (List ℕ)) (j : ℕ) (columns : List ℕ) (carried : Carried) → rows_of_tiles rows j ≡ own
-    → carried_after f own carried (map (at_row 0) columns) ≡ carried_after f rows carried (map (at_row j) columns)
-same_carried f rows own j [] carried e = refl
-same_carried f rows own j (i ∷ is) carried e =
-    ap (λ (t : List (List ℕ)). carried_after f own (tile f carried t).next (map (at_row 0) is)) (same_tile rows own j i e)
-    ∙ same_carried f rows own j is (tile f carried (tile_rows rows (at_row j i))).next e
-
--- a row of tiles is that of the rows that it has
-pub tiles_of_own : (f : PixelFormat) (rows own : List (List ℕ)) (w j : ℕ) (carried : Carried) → rows_of_tiles rows j ≡ own → tiles f own carried (tiles_in w 0) ≡ tiles f rows carried (tiles_in w j)
-tiles_of_own f rows own w j carried e = same_tiles f rows own j (range_with_len 0 (div_ceil w 16)) carried e
-
-pub carried_of_own : (f : PixelFormat) (rows own : List (List ℕ)) (w j : ℕ) (carried : Carried) → rows_of_tiles rows j ≡ own
-    → carried_after f own carried (tiles_in w 0) ≡ carried_after f rows carried (tiles_in w j)
-carried_of_own f rows own w j carried e = same_carried f rows own j (range_with_len 0 (div_ceil w 16)) carried e

@@ -5,3 +5,4 @@ pub mod Coding
 pub mod Folds
 pub mod TileBack
 mod ReadBack
+pub mod Pieces

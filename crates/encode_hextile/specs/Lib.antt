@@ -1,5 +1,6 @@
 pub mod Tiles
 pub mod Hextile
+pub mod Pieces
 pub mod Palettes
 pub mod Reading
 pub mod Claims

@@ -9,10 +9,11 @@
 //! the pixels, and passes over each row that is as the one above.
 #![tactic(auto)]
 
-ghost use Rattle.std.specs.Prelude.{◌≡◌, ℕ, List, ◌*◌, ◌<◌, ◌≤◌, ◌++◌, length, map, IfOk, OnOk, OnErr};
+ghost use Rattle.std.specs.Prelude.{◌≡◌, ℕ, List, ◌+◌, ◌*◌, ◌<◌, ◌≤◌, ◌++◌, length, map, IfOk, OnOk, OnErr};
 ghost use Rattle.pixel_translate.specs.Pixel.{pixel};
 ghost use Rattle.encode_rre.specs.Begins.{BeginsWith};
-ghost use Rattle.encode_hextile.specs.Tiles.{pixel_rows, rows_of_tiles, tiles_in};
+ghost use Rattle.encode_hextile.specs.Tiles.{pixel_rows, tiles_in};
+ghost use Rattle.encode_hextile.specs.Pieces.{hextile_from, IsRowOfTiles};
 ghost use Rattle.encode_hextile.specs.Claims.{hextile_reads_back};
 ghost use Rattle.encode_hextile.specs.Hextile.{tiles, carried_after, hextile, hextile_of};
 
@@ -102,10 +103,12 @@ pub fn encode_row_of_tiles(
     before: Carried,
 ) -> Result<Carried, AllocError>
     requires { colours.now.height ≤ 16 }
-    ensures next { (rows : List (List ℕ)) (j : ℕ) → rows_of_tiles rows j ≡ pixel_rows table.now colours.now →
-        IfOk result (λ next. next ≡ carried_after table.now rows before (tiles_in colours.now.width j)) }
-    ensures ok { (rows : List (List ℕ)) (j : ℕ) → rows_of_tiles rows j ≡ pixel_rows table.now colours.now →
-        OnOk result (out.new.items ≡ out.old.items ++ tiles table.now rows before (tiles_in colours.now.width j)) }
+    ensures next { IfOk result (λ next. next ≡ carried_after table.now (pixel_rows table.now colours.now) before (tiles_in colours.now.width 0)) }
+    ensures ok { OnOk result (out.new.items ≡ out.old.items ++ tiles table.now (pixel_rows table.now colours.now) before (tiles_in colours.now.width 0)) }
+    // So, where these are the colours of a rectangle's row of tiles, its data go on behind them.
+    ensures goes_on { (h : ℕ) (all : List ℕ) (j : ℕ) → IsRowOfTiles colours.now h all j →
+        IfOk result (λ next. out.new.items ++ hextile_from table.now colours.now.width h (map (pixel table.now) all) next (j + 1) ≡
+        out.old.items ++ hextile_from table.now colours.now.width h (map (pixel table.now) all) before j) }
     ensures err { OnErr result (out.new.items ≡ out.old.items) }
 {
     let start = out.len();
