@@ -1,3 +1,4 @@
 pub mod CutLemmas
 mod SetLemmas
 pub mod KeptLemmas
+pub mod LogLemmas

@@ -1,6 +1,6 @@
 -- What a viewer's screen lacks, place by place, and what one update sends of it.
 use Rattle.std.specs.Prelude.{◌≡◌, length, ◌≤◌, ℕ, ◌*◌, Bool, true, false, not, ◌&&◌, ◌||◌, if◌then◌else◌, List, take, replicate, ℤ, pos, ◌+ℤ◌, ◌-ℤ◌, Option, Some, None}
-use Rattle.std.specs.List.{All}
+use Rattle.std.specs.List.{All, list_any}
 use Rattle.region.specs.declared.Rect.{Rect}
 use Rattle.region.specs.Region.{covers, on_screen, rects_of, order}
 use Rattle.copy_schedule.specs.declared.Cut.{Cut}
@@ -38,6 +38,10 @@ mark_at m x y = at_place Clean m.width m.height m.marks x y
 
 abbrev pub asked_at : Marks → ℤ → ℤ → Bool
 asked_at m x y = at_place false m.width m.height m.asked x y
+
+-- whether a place is asked for
+abbrev pub has_asked : Marks → Bool
+has_asked m = list_any (λ is_asked. is_asked) m.asked
 
 -- m with these marks
 abbrev pub with_marks : Marks → (ℤ → ℤ → Mark) → Marks

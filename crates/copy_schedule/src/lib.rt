@@ -6,20 +6,22 @@
 //!
 //! `marks` holds three regions: the owed, the copied and the asked places. `sets` has set operations, of which `windows` finds
 //! a rectangle's part of a screen; `kept` has what drawing and requests do to the owed and the copied places, and `chosen` what
-//! an update sends. Every call makes its new regions first and then puts them in place, so a refused one changes nothing.
+//! an update sends. `log` has drawing that a viewer's marks lack yet: a list of entries, as several viewers share it, of which
+//! each may catch up later. Every call makes its new regions first and then puts them in place, so a refused one changes nothing.
 #![tactic(auto)]
 
 ghost use Rattle.region.specs.Copies.{copies_are_in_order};
 
 mod chosen;
 mod kept;
+mod log;
 mod marks;
 mod sets;
 mod windows;
 
 use listed::Listed;
 pub use marks::{Marks, Prepared};
-use region::Rect;
+use region::{Rect, Region};
 
 /// A law: in the order in which an update sends copies, none is drawn over what a later one is copied from.
 pub fn copies_are_in_order()
@@ -47,4 +49,13 @@ pub struct Cut {
     pub offset: (i32, i32),
     /// Rectangles whose pixels the viewer needs, from the top, each row from the left.
     pub pixels: Listed<Rect>,
+}
+
+/// One drawing call, as it stands in a log that several viewers share.
+#[derive(Debug, Drop)]
+pub enum LogEntry {
+    /// The region's places are owed, as far as they are on the screen.
+    Mark(Region),
+    /// A copy by (dx, dy) drew the region, which is on the screen with its sources.
+    Copy { region: Region, dx: i32, dy: i32 },
 }

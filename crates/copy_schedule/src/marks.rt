@@ -1,17 +1,19 @@
 //! The marks over regions: the places that are owed, that await a copy, and that are asked for.
 
-ghost use Rattle.std.specs.Prelude.{◌≡◌, ◌≤◌, ◌*◌, ◌&&◌, ◌||◌, not, false, pos, ℤ, replicate, if◌then◌else◌, IfOk, IfSome, OnOk, OnErr, option_map};
+ghost use Rattle.std.specs.Prelude.{◌≡◌, ◌≤◌, ◌*◌, ◌&&◌, ◌||◌, not, false, pos, ℤ, [], All, replicate, if◌then◌else◌, IfOk, IfSome, OnOk, OnErr, option_map};
 ghost use Rattle.copy_schedule.specs.declared.Mark.TheVariants.{Clean, Owed};
 ghost use Rattle.region.specs.Region.{covers, in_rect, rects_of};
 ghost use Rattle.region.specs.Copies.{InOrder};
 ghost use Rattle.region.specs.Places.{same_offset};
-ghost use Rattle.copy_schedule.specs.Marks.{is_clean, is_owed, is_copied, mark_at, asked_at, with_marks, new_marks, marked, copied_by, without_copyrect, requested, pending, cut_of, cut_of_sent, marks_after, copies_of, pixels_of, IsInside, HasSourcesInside, IsWithin, IsCutTo};
+ghost use Rattle.copy_schedule.specs.Marks.{is_clean, is_owed, is_copied, mark_at, asked_at, has_asked, with_marks, new_marks, marked, copied_by, without_copyrect, requested, pending, cut_of, cut_of_sent, marks_after, copies_of, pixels_of, IsInside, HasSourcesInside, IsWithin, IsCutTo};
 ghost use Rattle.copy_schedule.specs.Kept.{IsKept, LiesOn, with_kept};
+ghost use Rattle.copy_schedule.specs.Log.{logged, IsCutEntry};
 
-use crate::Cut;
 use crate::chosen::{choose, first_rects, left_after};
 use crate::kept::{Kept, clone_of, forgetting, losing, moving, owing_copies, owing_on_screen};
+use crate::log::take_entries;
 use crate::sets::{part_of, screen_places};
+use crate::{Cut, LogEntry};
 use listed::Listed;
 use region::{Rect, Region};
 use std::alloc::{AllocError, Global};
@@ -135,6 +137,21 @@ impl Marks {
         Ok(prepared)
     }
 
+    /// The marks as drawing leaves them that stands in a log, the first entry's first. Neighbouring marks are first joined in one
+    /// region. `AllocError` where memory is refused.
+    pub fn apply_log(
+        &self,
+        entries: &[LogEntry],
+        uses_copyrect: bool,
+    ) -> Result<Prepared, AllocError>
+        requires cut { All (IsCutEntry self.now.width self.now.height) entries.now }
+        ensures { IfOk result (λ prepared. prepared ≡ logged uses_copyrect entries.now self.now) }
+    {
+        let mut marks = self.try_clone()?;
+        take_entries(self.alloc, &mut marks, entries, uses_copyrect)?;
+        Ok(Prepared { marks })
+    }
+
     /// The marks are the prepared ones from now on. This takes no memory.
     pub fn commit(&mut self, prepared: Prepared)
         ensures { self.new ≡ prepared }
@@ -206,6 +223,21 @@ impl Marks {
         let kept = owing_copies(&self.kept)?;
         self.kept = kept;
         Ok(())
+    }
+
+    /// Whether a place is asked for.
+    pub fn has_asked(&self) -> bool
+        ensures { result ≡ has_asked self.now }
+    {
+        self.asked.list_is_canonical();
+        !self.asked.is_empty()
+    }
+
+    /// Marks of no place leave all as it is.
+    pub fn is_as_marked_nowhere(&self)
+        ensures { marked (covers []) self.now ≡ self.now }
+    {
+        let _ = &self.kept;
     }
 
     /// Whether a place is asked for and not clean (`FB_UPDATE_PENDING` of `rfb.h`): whether `cut` gives something.

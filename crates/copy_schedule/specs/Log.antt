@@ -1,0 +1,21 @@
+-- Drawing calls that wait in a log, and what they make of a viewer's marks.
+use Rattle.std.specs.Prelude.{Bool, ℕ, List, [], ◌∷◌}
+use Rattle.region.specs.Region.{covers}
+use Rattle.copy_schedule.specs.declared.LogEntry.{LogEntry}
+use Rattle.copy_schedule.specs.declared.LogEntry.TheVariants.{Mark, Copy}
+use Rattle.copy_schedule.specs.Marks.{Marks, marked, copied_by, IsCutTo}
+
+-- the marks after one entry, of a viewer that uses CopyRect or of another
+abbrev pub after_entry : Bool → LogEntry → Marks → Marks
+after_entry uses_copyrect (Mark region) m = marked (covers region.list) m
+after_entry uses_copyrect (Copy region dx dy) m = copied_by (covers region.list) (dx, dy) uses_copyrect m
+
+-- the marks after a list of entries, the first one first
+abbrev pub logged : Bool → List LogEntry → Marks → Marks
+logged uses_copyrect [] m = m
+logged uses_copyrect (entry ∷ entries) m = logged uses_copyrect entries (after_entry uses_copyrect entry m)
+
+-- a copy's region is on a w by h screen with its sources
+abbrev pub IsCutEntry : ℕ → ℕ → LogEntry → Type 0
+IsCutEntry w h (Mark region) = Unit {0}
+IsCutEntry w h (Copy region dx dy) = IsCutTo w h (dx, dy) region.list
