@@ -14,7 +14,7 @@ mod standing;
 mod update;
 mod viewer;
 
-pub use copy_schedule::Prepared;
+pub use copy_schedule::{LogEntry, Prepared};
 use listed::Listed;
 use messages::{Fault, Input};
 pub use notices::Notice;

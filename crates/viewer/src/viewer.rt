@@ -1,9 +1,10 @@
 //! A viewer, as the screen keeps it.
 
-ghost use Rattle.std.specs.Prelude.{◌≡◌, ◌≢◌, ◌&&◌, ◌||◌, not, ℕ, List, ◌++◌, ◌≤◌, ◌<◌, ◌^◌, [], length, IfOk, IfSome, OnOk, OnErr};
+ghost use Rattle.std.specs.Prelude.{◌≡◌, ◌≢◌, ◌&&◌, ◌||◌, not, ℕ, List, ◌++◌, ◌≤◌, ◌<◌, ◌^◌, [], length, All, IfOk, IfSome, OnOk, OnErr};
 ghost use Rattle.messages.specs.Reading.{rest, new_items, is_open_rest, fault_kept};
 ghost use Rattle.region.specs.Region.{covers};
-ghost use Rattle.copy_schedule.specs.Marks.{marked, copied_by, pending, IsCutTo};
+ghost use Rattle.copy_schedule.specs.Marks.{marked, copied_by, has_asked, pending, IsCutTo};
+ghost use Rattle.copy_schedule.specs.Log.{logged, IsCutEntry};
 ghost use Rattle.viewer.specs.Viewer.{none_wait, noticed, new_viewer, kept};
 ghost use Rattle.viewer.specs.Hearing.{after_items, heard_reply};
 ghost use Rattle.viewer.specs.Sending.{sending_kept};
@@ -16,7 +17,7 @@ use crate::hearing::{hear_in, is_pending, new_standing};
 use crate::notices::Notice;
 use crate::standing::Standing;
 use crate::update::Update;
-use copy_schedule::Prepared;
+use copy_schedule::{LogEntry, Prepared};
 use framebuffer::Framebuffer;
 use messages::Fault;
 use region::Region;
@@ -167,6 +168,23 @@ impl Viewer {
         standing
             .marks
             .prepare_copy(region, dx, dy, standing.uses_copyrect)
+    }
+
+    /// Whether the viewer asks for a place.
+    pub fn has_asked(&self) -> bool
+        ensures { result ≡ has_asked self.now.marks }
+    {
+        self.standing.marks.has_asked()
+    }
+
+    /// The marks as they are once the drawing is known that stands in a log, the first entry's first; `commit` puts them in
+    /// place. `AllocError` where memory is refused.
+    pub fn apply_log(&self, entries: &[LogEntry]) -> Result<Prepared, AllocError>
+        requires cut { All (IsCutEntry self.now.marks.width self.now.marks.height) entries.now }
+        ensures { IfOk result (λ prepared. prepared ≡ logged self.now.uses_copyrect entries.now self.now.marks) }
+    {
+        let standing = &self.standing;
+        standing.marks.apply_log(entries, standing.uses_copyrect)
     }
 
     /// The viewer's marks are the prepared ones from now on. This takes no memory.
