@@ -1,2 +1,3 @@
+mod RunLemmas
 mod HearingLemmas
 mod SentLemmas

@@ -1,11 +1,13 @@
 //! The colours of an update's rectangle: copied, or in rows that are shared with the picture until it is drawn over.
 
-ghost use Rattle.std.specs.Prelude.{◌≡◌, ◌+◌, ◌*◌, ◌≤◌, ◌++◌, length, IfOk, OnOk};
+ghost use Rattle.std.specs.Prelude.{◌≡◌, ◌+◌, ◌*◌, ◌^◌, ◌≤◌, ◌<◌, ◌↔◌, ◌++◌, IsTrue, length, take, drop, flat_map, IfOk, OnOk, OnErr};
+ghost use Rattle.pixel_translate.specs.Pixel.{colour_bytes};
+ghost use Rattle.encode_raw.specs.Raw.{raw};
 ghost use Rattle.framebuffer.specs.Blocks.{block_colours};
 ghost use Rattle.viewer.specs.Sending.{encoded};
 
 use encode_hextile::encode_hextile_with_table;
-use encode_raw::encode_raw_with_table;
+use encode_raw::{encode_raw_with_table, put_raw_pixels, rect_header};
 use encode_rre::encode_rre_with_table;
 use framebuffer::{Block, Framebuffer, Snapshot};
 use messages::Encoding;
@@ -16,6 +18,9 @@ use std::marker::Model;
 /// The colours of a rectangle of so many columns, or more, are shared with the picture; those of a narrower one are copied,
 /// which takes less time and keeps no row of the picture.
 const SHARED_COLUMNS: usize = 256;
+
+/// The colours that are written in Raw at once are at most so many: 8192, as many as the widest row has.
+const RUN: usize = 8192;
 
 /// How a rectangle's colours are held.
 #[derive(Drop)]
@@ -39,8 +44,20 @@ impl Model for Colours {
     ghost view = { λ c. held_colours c.held };
 }
 
-/// Appends a rectangle of colours in the viewer's encoding and format.
-fn put_colours(
+/// The colours of a snapshot from a place on, to the end of that place's row.
+fn rest_of_row(snapshot: &Snapshot, done: usize) -> &[u32]
+    requires { done < length snapshot.now.colours }
+    ensures part { result.now ≡ take (length result.now) (drop done snapshot.now.colours) }
+    ensures some { 1 ≤ length result.now }
+    ensures few { length result.now ≤ 8192 }
+    ensures small { length snapshot.now.colours < 2 ^ 64 }
+{
+    let columns = snapshot.width();
+    &snapshot.row(done / columns)[done % columns..]
+}
+
+/// Appends a rectangle of colours in RRE or Hextile, which take them in one list, and in the viewer's format.
+fn put_whole(
     out: &mut Vec<u8>,
     area: Area,
     colours: &[u32],
@@ -50,7 +67,8 @@ fn put_colours(
     requires wide { 1 ≤ area.w }
     requires high { 1 ≤ area.h }
     requires whole { length colours.now ≡ area.w * area.h }
-    ensures { OnOk result (out.new.items ≡ out.old.items ++ encoded encoding table.now area colours.now) }
+    ensures ok { OnOk result (out.new.items ≡ out.old.items ++ encoded encoding table.now area colours.now) }
+    ensures err { OnErr result (out.new.items ≡ out.old.items) }
 {
     match encoding {
         Encoding::Raw => encode_raw_with_table(out, area, colours, table),
@@ -75,7 +93,71 @@ impl Colours {
         Ok(Colours { held })
     }
 
-    /// Appends them as a rectangle in the viewer's encoding and format. Shared ones are gathered first.
+    /// Whether there are colours from a place on, which are so many before it.
+    pub fn goes_on(&self, done: usize) -> bool
+        ensures { IsTrue result ↔ (done < length self.now) }
+    {
+        match &self.held {
+            Held::Copied(colours) => done < colours.len(),
+            Held::Shared(snapshot) => done < snapshot.width() * snapshot.height(),
+        }
+    }
+
+    /// The colours from a place on: shared ones to the end of a row, copied ones to their end, and at most 8192.
+    pub fn run_from(&self, done: usize) -> &[u32]
+        requires { done < length self.now }
+        ensures part { result.now ≡ take (length result.now) (drop done self.now) }
+        ensures some { 1 ≤ length result.now }
+        ensures few { length result.now ≤ 8192 }
+        ensures small { length self.now < 2 ^ 64 }
+    {
+        match &self.held {
+            Held::Copied(colours) => {
+                let end = colours.len().min(done.saturating_add(RUN));
+                &colours[done..end]
+            }
+            Held::Shared(snapshot) => rest_of_row(snapshot, done),
+        }
+    }
+
+    /// Appends them as a rectangle in Raw, run by run.
+    fn put_raw(&self, out: &mut Vec<u8>, area: Area, table: &Table) -> Result<(), AllocError>
+        ensures { OnOk result (out.new.items ≡ out.old.items ++ raw table.now area self.now) }
+    {
+        rect_header(out, area, 0)?;
+        let mut done = 0;
+        while self.goes_on(done) {
+            let run = self.run_from(done);
+            put_raw_pixels(out, run, table)?;
+            done += run.len();
+        }
+        Ok(())
+    }
+
+    /// Appends them as a rectangle in RRE or Hextile. Shared ones are gathered first.
+    pub fn put_gathered(
+        &self,
+        out: &mut Vec<u8>,
+        area: Area,
+        encoding: Encoding,
+        table: &Table,
+    ) -> Result<(), AllocError>
+        requires wide { 1 ≤ area.w }
+        requires high { 1 ≤ area.h }
+        requires whole { length self.now ≡ area.w * area.h }
+        ensures ok { OnOk result (out.new.items ≡ out.old.items ++ encoded encoding table.now area self.now) }
+        ensures err { OnErr result (out.new.items ≡ out.old.items) }
+    {
+        match &self.held {
+            Held::Copied(colours) => put_whole(out, area, colours, encoding, table),
+            Held::Shared(snapshot) => {
+                let colours = snapshot.colours()?;
+                put_whole(out, area, &colours, encoding, table)
+            }
+        }
+    }
+
+    /// Appends them as a rectangle in the viewer's encoding and format. Shared ones are gathered for RRE and Hextile alone.
     pub fn put(
         &self,
         out: &mut Vec<u8>,
@@ -88,12 +170,9 @@ impl Colours {
         requires whole { length self.now ≡ area.w * area.h }
         ensures { OnOk result (out.new.items ≡ out.old.items ++ encoded encoding table.now area self.now) }
     {
-        match &self.held {
-            Held::Copied(colours) => put_colours(out, area, colours, encoding, table),
-            Held::Shared(snapshot) => {
-                let colours = snapshot.colours()?;
-                put_colours(out, area, &colours, encoding, table)
-            }
+        match encoding {
+            Encoding::Raw => self.put_raw(out, area, table),
+            Encoding::Rre | Encoding::Hextile => self.put_gathered(out, area, encoding, table),
         }
     }
 }
