@@ -1,3 +1,4 @@
+mod LeftLemmas
 mod RunLemmas
 mod HearingLemmas
 mod SentLemmas

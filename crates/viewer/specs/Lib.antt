@@ -6,3 +6,4 @@ pub mod HeldColours
 pub mod Updates
 pub mod Given
 pub mod Standings
+pub mod Left

@@ -2,15 +2,18 @@
 //! what it is sent.
 //!
 //! `standing` is what is kept of a viewer, `hearing` what its messages do to it, `cutting` and `update` one update, `notices`
-//! what goes before the rectangles of an update. `colours` are those of one rectangle.
+//! what goes before the rectangles of an update. `colours` are those of one rectangle. `left` is what of an update is still to
+//! be encoded, and `stream` gives an update in pieces.
 #![tactic(auto)]
 
 mod colours;
 mod cutting;
 mod hearing;
+mod left;
 mod notices;
 mod parts;
 mod standing;
+mod stream;
 mod update;
 mod viewer;
 
@@ -18,6 +21,7 @@ pub use copy_schedule::{LogEntry, Prepared};
 use listed::Listed;
 use messages::{Fault, Input};
 pub use notices::Notice;
+pub use stream::Stream;
 pub use update::Update;
 pub use viewer::Viewer;
 

@@ -106,7 +106,7 @@ impl Notices {
 }
 
 /// Appends a notice.
-fn put_notice(out: &mut Vec<u8>, notice: &Notice) -> Result<(), AllocError>
+pub fn put_notice(out: &mut Vec<u8>, notice: &Notice) -> Result<(), AllocError>
     requires { IsShort notice.now }
     ensures { OnOk result (out.new.items ≡ out.old.items ++ notice_bytes notice.now) }
 {

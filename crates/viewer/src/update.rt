@@ -1,11 +1,14 @@
 //! What one sending step sends: taken out of the picture, and encoded without it.
 
-ghost use Rattle.std.specs.Prelude.{◌≡◌, ◌+◌, ◌<◌, ◌++◌, All, flat_map, IfOk, OnOk};
+ghost use Rattle.std.specs.Prelude.{◌≡◌, ◌+◌, ◌<◌, ◌++◌, All, flat_map, length, IfOk, OnOk};
+ghost use Rattle.messages.specs.Server.{update_head};
 ghost use Rattle.viewer.specs.Short.{IsShort};
 ghost use Rattle.viewer.specs.Updates.{moved_bytes, coloured_bytes, rectangles_bytes, all_bytes};
 
+use crate::left::UpdateLeft;
 use crate::notices::{Notice, put_notices};
 use crate::parts::{Coloured, Moved, Rectangles};
+use crate::stream::Stream;
 use encode_raw::encode_copy;
 use messages::{Encoding, put_update_head};
 use pixel_translate::Table;
@@ -80,6 +83,15 @@ fn size_of(rectangles: &[Coloured]) -> usize {
     size
 }
 
+/// Appends the head of a FramebufferUpdate, and its copies.
+pub fn put_opening(out: &mut Vec<u8>, rectangles: &Rectangles) -> Result<(), AllocError>
+    ensures { OnOk result (out.new.items ≡ out.old.items ++ (update_head (length rectangles.now.moves.items + length rectangles.now.coloured.items) ++ flat_map moved_bytes rectangles.now.moves.items)) }
+{
+    let count = rectangles.moves.len() + rectangles.coloured.len();
+    put_update_head(out, count as u16)?;
+    put_moves(out, &rectangles.moves)
+}
+
 /// Appends a FramebufferUpdate. The room for all of it in Raw is made at once.
 fn put_rectangles(out: &mut Vec<u8>, rectangles: &Rectangles) -> Result<(), AllocError>
     ensures { OnOk result (out.new.items ≡ out.old.items ++ rectangles_bytes rectangles.now) }
@@ -87,9 +99,7 @@ fn put_rectangles(out: &mut Vec<u8>, rectangles: &Rectangles) -> Result<(), Allo
     if rectangles.encoding == Encoding::Raw {
         out.reserve(size_of(&rectangles.coloured).saturating_add(4 + 16 * rectangles.moves.len()))?;
     }
-    let count = rectangles.moves.len() + rectangles.coloured.len();
-    put_update_head(out, count as u16)?;
-    put_moves(out, &rectangles.moves)?;
+    put_opening(out, rectangles)?;
     let table = Table::new(&rectangles.format);
     put_coloured(out, &rectangles.coloured, rectangles.encoding, &table)
 }
@@ -130,5 +140,12 @@ impl Update {
         ensures { IfOk result (λ bytes. bytes.items ≡ self.now) }
     {
         encode_all(self.alloc, &self.notices, &self.rectangles)
+    }
+
+    /// The same bytes, to be given in pieces: of an update in Raw no more than a row is encoded at once.
+    pub fn into_stream(self) -> Stream
+        ensures { result ≡ self }
+    {
+        Stream::new(self.alloc, UpdateLeft::new(self.notices, self.rectangles))
     }
 }

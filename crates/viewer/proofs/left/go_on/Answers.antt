@@ -1,0 +1,20 @@
+use Rattle.std.proofs.Common.{arith}
+use Rattle.pixel_translate.specs.Pixel.{colour_bytes}
+use Rattle.std.specs.List.{flat_map}
+use Rattle.viewer.proofs.RunLemmas.{run_on}
+use Rattle.viewer.proofs.LeftLemmas.{some_pixels, longer}
+use Rattle.viewer.proofs.left.go_on.Goals as goal
+
+pub returns-then-goes_on-clause-bytes : goal.returns-then-goes_on-clause-bytes
+returns-then-goes_on-clause-bytes c =
+    run_on (colour_bytes c.args.table.now) c.args.out.now.items c.put_raw_pixels.new.out.items c.args.rectangle.now.colours c.run_from-run.result.now c.args.done c.run_from-run.ensures.part c.in_ok-put_raw_pixels.ensures.ok
+
+pub returns-then-goes_on-clause-more : goal.returns-then-goes_on-clause-more
+returns-then-goes_on-clause-more c =
+    longer c.args.out.now.items c.put_raw_pixels.new.out.items (flat_map (colour_bytes c.args.table.now) c.run_from-run.result.now) c.in_ok-put_raw_pixels.ensures.ok
+    (some_pixels c.args.table.now c.run_from-run.result.now (omega (arith, c.run_from-run.ensures.some)))
+
+pub returns-else-goes_on-clause-more : goal.returns-else-goes_on-clause-more
+returns-else-goes_on-clause-more c =
+    longer c.args.out.now.items c.put_raw_pixels.new.out.items (flat_map (colour_bytes c.args.table.now) c.run_from-run.result.now) c.in_ok-put_raw_pixels.ensures.ok
+    (some_pixels c.args.table.now c.run_from-run.result.now (omega (arith, c.run_from-run.ensures.some)))

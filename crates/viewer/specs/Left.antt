@@ -1,0 +1,53 @@
+-- What is left of an update while it is encoded part by part.
+use Rattle.std.specs.Prelude.{ℕ, ◌+◌, ◌<◌, List, [], ◌∷◌, ◌++◌, length, drop, flat_map, Option, None, Some}
+use Rattle.pixel_translate.specs.declared.PixelFormat.{PixelFormat}
+use Rattle.pixel_translate.specs.Pixel.{colour_bytes}
+use Rattle.messages.specs.declared.Encoding.{Encoding}
+use Rattle.viewer.specs.declared.notices.Notice.{Notice}
+use Rattle.viewer.specs.declared.parts.Moved.{Moved}
+use Rattle.viewer.specs.declared.parts.Coloured.{Coloured}
+use Rattle.viewer.specs.declared.parts.Rectangles.{Rectangles}
+use Rattle.viewer.specs.declared.left.Reached.{Reached}
+use Rattle.viewer.specs.declared.left.Reached.TheVariants.{Nothing, Before, Within}
+use Rattle.viewer.specs.Sending.{notice_bytes}
+use Rattle.viewer.specs.Updates.{coloured_bytes, kept_bytes}
+
+-- what is left of a rectangle in Raw behind so many of its colours, and nothing where there is no such number
+abbrev pub rest_of : PixelFormat → Coloured → Option ℕ → List ℕ
+rest_of f c None = []
+rest_of f c (Some done) = flat_map (colour_bytes f) (drop done c.colours)
+
+-- of the first of some rectangles so many colours are encoded
+abbrev pub rest_within : Encoding → PixelFormat → ℕ → List Coloured → List ℕ
+rest_within e f done [] = []
+rest_within e f done (c ∷ cs) = rest_of f c (Some done) ++ flat_map (coloured_bytes e f) cs
+
+abbrev pub rectangles_left : Encoding → PixelFormat → List Moved → List Coloured → Reached → List ℕ
+rectangles_left e f moves rectangles Nothing = kept_bytes e f moves rectangles
+rectangles_left e f moves rectangles (Before next) = flat_map (coloured_bytes e f) (drop next rectangles)
+rectangles_left e f moves rectangles (Within next done) = rest_within e f done (drop next rectangles)
+
+abbrev pub left_of : Rectangles → PixelFormat → Reached → List ℕ
+left_of r f reached = rectangles_left r.encoding f r.moves.items r.coloured.items reached
+
+-- there is a first rectangle, which has more than so many colours
+abbrev pub GoesOn : ℕ → List Coloured → Type 0
+GoesOn done [] = ⊥
+GoesOn done (c ∷ cs) = done < length c.colours
+
+abbrev pub IsWithin : List Coloured → Reached → Type 0
+IsWithin rectangles Nothing = Unit {0}
+IsWithin rectangles (Before next) = Unit {0}
+IsWithin rectangles (Within next done) = GoesOn done (drop next rectangles)
+
+abbrev pub reached_after : ℕ → Option ℕ → Reached
+reached_after next None = Before (next + 1)
+reached_after next (Some done) = Within next done
+
+-- the bytes that are left, if there are any
+abbrev pub maybe_left : Option (List ℕ) → List ℕ
+maybe_left None = []
+maybe_left (Some bytes) = bytes
+
+abbrev pub update_left : List Notice → ℕ → Option (List ℕ) → List ℕ
+update_left notices told rectangles = flat_map notice_bytes (drop told notices) ++ maybe_left rectangles

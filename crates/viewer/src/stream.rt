@@ -1,0 +1,85 @@
+//! An update that is written in pieces.
+
+ghost use Rattle.std.specs.Prelude.{◌≡◌, ◌≢◌, ◌+◌, ◌≤◌, ◌<◌, ◌++◌, ◌↔◌, [], IsTrue, OnOk, OnErr, length};
+
+use crate::left::UpdateLeft;
+use std::alloc::{AllocError, Global};
+use std::marker::Model;
+
+/// How many bytes a piece has at most: 32,768, as many as the pixels of the widest row.
+pub const PIECE: usize = 32_768;
+
+/// An update on its way to a viewer, piece by piece. Contracts see it as the bytes that are still to come.
+///
+/// In Raw no more than a row is made at once. A notice, and a rectangle in RRE or Hextile, is made whole, in a vector that
+/// the stream keeps, and given in pieces.
+#[derive(Drop)]
+pub struct Stream {
+    left: UpdateLeft,
+    made: Vec<u8>,
+    given: usize,
+}
+
+impl Model for Stream {
+    ghost use Rattle.std.specs.Prelude.{ℕ, ◌≤◌, ◌++◌, List, length, drop};
+
+    ghost Value = { List ℕ };
+
+    ghost view = { λ a. drop a.given a.made.items ++ a.left };
+
+    ghost invariant = { λ a. a.given ≤ length a.made.items };
+}
+
+/// Makes the next part of what is left. Where memory is refused, nothing is made and all of it is left.
+fn make_part(made: &mut Vec<u8>, left: &mut UpdateLeft) -> Result<(), AllocError>
+    ensures bytes { OnOk result (made.new.items ++ left.new ≡ left.old) }
+    ensures more { OnOk result (left.old ≢ [] → 0 < length made.new.items) }
+    ensures none { OnErr result (made.new.items ≡ []) }
+    ensures same { OnErr result (left.new ≡ left.old) }
+{
+    made.clear();
+    let done = left.put_part(made);
+    if done.is_err() {
+        made.clear();
+    }
+    done
+}
+
+impl Stream {
+    /// All of an update.
+    pub(crate) fn new(alloc: Global, left: UpdateLeft) -> Stream
+        ensures { result ≡ left }
+    {
+        Stream {
+            left,
+            made: Vec::new(alloc),
+            given: 0,
+        }
+    }
+
+    /// Whether all of the update was given.
+    pub fn is_ended(&self) -> bool
+        ensures { IsTrue result ↔ (self.now ≡ []) }
+    {
+        self.given == self.made.len() && self.left.is_ended()
+    }
+
+    /// Appends the next piece of the update, of at most 32,768 bytes; nothing where all of it was given. The pieces one after
+    /// the other are the update's bytes. Where memory is refused, nothing is appended, and the same call may be made again.
+    pub fn put(&mut self, out: &mut Vec<u8>) -> Result<(), AllocError>
+        ensures ok { OnOk result (out.new.items ++ self.new ≡ out.old.items ++ self.old) }
+        ensures more { OnOk result (self.old ≢ [] → length out.old.items < length out.new.items) }
+        ensures bound { length out.new.items ≤ length out.old.items + 32768 }
+        ensures err { OnErr result (out.new.items ≡ out.old.items) }
+        ensures kept { OnErr result (self.new ≡ self.old) }
+    {
+        if self.given >= self.made.len() {
+            self.given = 0;
+            make_part(&mut self.made, &mut self.left)?;
+        }
+        let end = self.made.len().min(self.given.saturating_add(PIECE));
+        out.extend_from_slice(&self.made[self.given..end])?;
+        self.given = end;
+        Ok(())
+    }
+}
