@@ -103,6 +103,7 @@ pub fn encode_row_of_tiles(
     before: Carried,
 ) -> Result<Carried, AllocError>
     requires { colours.now.height ≤ 16 }
+    ensures more { OnOk result (length out.old.items < length out.new.items) }
     ensures next { IfOk result (λ next. next ≡ carried_after table.now (pixel_rows table.now colours.now) before (tiles_in colours.now.width 0)) }
     ensures ok { OnOk result (out.new.items ≡ out.old.items ++ tiles table.now (pixel_rows table.now colours.now) before (tiles_in colours.now.width 0)) }
     // So, where these are the colours of a rectangle's row of tiles, its data go on behind them.
