@@ -1,11 +1,11 @@
 -- What is left of an update, and that a part of it has bytes.
-use Rattle.std.proofs.Common.{◌≡◌, ◌+◌, ◌-◌, ◌/◌, ◌<◌, ◌≤◌, ◌↔◌, ℕ, Bool, true, false, List, [], ◌∷◌, ◌++◌, length, take, drop, Result, Ok, Err, refl, sym, ap, ◌∙◌, arith, append_assoc}
+use Rattle.std.proofs.Common.{◌≡◌, ◌+◌, ◌-◌, ◌/◌, ◌<◌, ◌≤◌, ◌↔◌, ℕ, Bool, true, false, List, [], ◌∷◌, ◌++◌, length, take, drop, map, get_or, Option, None, Some, subst, Result, Ok, Err, refl, sym, ap, ◌∙◌, arith, append_assoc}
 use Rattle.std.specs.Prelude.{if◌then◌else◌, IsTrue, OnOk}
 use Rattle.std.specs.List.{flat_map}
 use Rattle.std.proofs.Math.Dec.{leb}
 use Rattle.std.proofs.lemmas.Bool.{leb-true}
 use Rattle.std.proofs.lemmas.Bool.Decides.{nat_tests}
-use Rattle.std.proofs.lemmas.List.{length-append, length-drop, drop_all, drop-drop, take-append-drop}
+use Rattle.std.proofs.lemmas.List.{length-append, length-drop, drop_all, drop-drop, take-append-drop, get_or-drop}
 use Rattle.pixel_translate.specs.declared.Area.{Area}
 use Rattle.pixel_translate.specs.declared.BitsPerPixel.{BitsPerPixel}
 use Rattle.pixel_translate.specs.declared.BitsPerPixel.TheVariants.{Eight, Sixteen, ThirtyTwo}
@@ -16,12 +16,15 @@ use Rattle.messages.specs.declared.Encoding.{Encoding}
 use Rattle.messages.specs.declared.Encoding.TheVariants as encoding
 use Rattle.viewer.specs.declared.parts.Moved.{Moved}
 use Rattle.viewer.specs.declared.parts.Coloured.{Coloured}
+use Rattle.encode_hextile.specs.Pieces.{some_data}
+use Rattle.viewer.specs.declared.left.Begun.{Begun}
+use Rattle.viewer.specs.declared.left.Begun.TheVariants.{Colours, Tiles}
 use Rattle.viewer.specs.declared.left.Reached.{Reached}
 use Rattle.viewer.specs.declared.left.Reached.TheVariants.{Nothing, Before, Within}
 use Rattle.viewer.specs.declared.notices.Notice.{Notice}
 use Rattle.viewer.specs.Sending.{encoded, notice_bytes}
 use Rattle.viewer.specs.Updates.{coloured_bytes}
-use Rattle.viewer.specs.Left.{rest_within, rectangles_left, GoesOn, IsWithin}
+use Rattle.viewer.specs.Left.{rest_of, rest_within, rectangles_left, reached_after, IsBegun, GoesOn, IsWithin}
 
 some_byte : (b : BitsPerPixel) → 1 ≤ bit_count b / 8
 some_byte Eight = omega arith
@@ -49,28 +52,36 @@ some_encoded encoding.Raw f a colours rest none = cc
 some_encoded encoding.Rre f a colours rest none = some_choice _ _ _ _ _ rest none
 some_encoded encoding.Hextile f a colours rest none = cc
 
+front_is_none : (xs ys : List ℕ) → xs ++ ys ≡ [] → xs ≡ []
+front_is_none [] ys none = refl
+front_is_none (x ∷ xs) ys none = cc
+
 none_left : (e : Encoding) (f : PixelFormat) (cs : List Coloured) → flat_map (coloured_bytes e f) cs ≡ [] → length cs ≡ 0
 none_left e f [] none = refl
 none_left e f (c ∷ cs) none = absurd (some_encoded e f c.area c.colours (flat_map (coloured_bytes e f) cs) none)
 
-some_within : (e : Encoding) (f : PixelFormat) (done : ℕ) (cs : List Coloured) → GoesOn done cs → rest_within e f done cs ≡ [] → ⊥
-some_within e f done [] more none = more
-some_within e f done (c ∷ cs) more none =
-    let rest = flat_map (coloured_bytes e f) cs in
+-- so has what is left of one
+some_rest : (f : PixelFormat) (begun : Begun) (c : Coloured) (rest : List ℕ) → IsBegun begun c → rest_of f c (Some begun) ++ rest ≡ [] → ⊥
+some_rest f (Colours done) c rest more none =
     let pixels = flat_map (colour_bytes f) (drop done c.colours) in
     let some = some_pixels f (drop done c.colours) (omega (arith, more, length-drop done c.colours)) in
     omega (arith, some, ap (λ (l : List ℕ). length l) none, length-append pixels rest)
+some_rest f (Tiles row carried) c rest more none = some_data f c.area.w c.area.h (map (pixel f) c.colours) carried row c.wide more (front_is_none _ rest none)
+
+some_within : (e : Encoding) (f : PixelFormat) (begun : Begun) (cs : List Coloured) → GoesOn begun cs → rest_within e f begun cs ≡ [] → ⊥
+some_within e f begun [] more none = more
+some_within e f begun (c ∷ cs) more none = some_rest f begun c (flat_map (coloured_bytes e f) cs) more none
 
 -- where nothing is left, all rectangles are encoded
 abbrev pub IsOver : List Coloured → Reached → Type 0
 IsOver cs Nothing = ⊥
 IsOver cs (Before next) = length cs ≤ next
-IsOver cs (Within next done) = ⊥
+IsOver cs (Within next begun) = ⊥
 
 pub is_over : (e : Encoding) (f : PixelFormat) (moves : List Moved) (cs : List Coloured) (reached : Reached) → IsWithin cs reached → rectangles_left e f moves cs reached ≡ [] → IsOver cs reached
 is_over e f moves cs Nothing within none = cc
 is_over e f moves cs (Before next) within none = omega (arith, none_left e f (drop next cs) none, length-drop next cs)
-is_over e f moves cs (Within next done) within none = some_within e f done (drop next cs) within none
+is_over e f moves cs (Within next begun) within none = some_within e f begun (drop next cs) within none
 
 le_test : (a b : ℕ) → a ≤ b → leb a b ≡ true
 le_test a b h = grind (arith, nat_tests)
@@ -94,3 +105,31 @@ piece_given made left old new given end ordered e =
     let behind : drop (end - given) (drop given made) ≡ drop end made = drop-drop (end - given) given made ∙ ap (λ n. drop n made) (let same : given + (end - given) ≡ end = omega arith in same) in
     ap (λ (l : List ℕ). l ++ (drop end made ++ left)) e ∙ append_assoc old piece (drop end made ++ left)
     ∙ ap (λ (l : List ℕ). old ++ l) (sym (append_assoc piece (drop end made) left) ∙ ap (λ (l : List ℕ). (piece ++ l) ++ left) (sym behind) ∙ ap (λ (l : List ℕ). l ++ left) (take-append-drop (end - given) (drop given made)))
+
+along : (old new a b rest : List ℕ) → new ++ a ≡ old ++ b → new ++ (a ++ rest) ≡ old ++ (b ++ rest)
+along old new a b rest e = sym (append_assoc new a rest) ∙ ap (λ (l : List ℕ). l ++ rest) e ∙ append_assoc old b rest
+
+within_from : (e : Encoding) (f : PixelFormat) (moves : List Moved) (begun : Begun) (after : Option Begun) (cs : List Coloured) (next : ℕ) (d : Coloured) (ds : List Coloured) (old new : List ℕ)
+    → drop next cs ≡ d ∷ ds → drop (next + 1) cs ≡ ds → new ++ rest_of f d after ≡ old ++ rest_of f d (Some begun) → new ++ rectangles_left e f moves cs (reached_after next after) ≡ old ++ rest_within e f begun (d ∷ ds)
+within_from e f moves begun None cs next d ds old new at behind on =
+    ap (λ (t : List Coloured). new ++ flat_map (coloured_bytes e f) t) behind ∙ along old new [] (rest_of f d (Some begun)) (flat_map (coloured_bytes e f) ds) on
+within_from e f moves begun (Some b) cs next d ds old new at behind on =
+    ap (λ (t : List Coloured). new ++ rest_within e f b t) at ∙ along old new (rest_of f d (Some b)) (rest_of f d (Some begun)) (flat_map (coloured_bytes e f) ds) on
+
+within_at : (e : Encoding) (f : PixelFormat) (moves : List Moved) (begun : Begun) (after : Option Begun) (cs : List Coloured) (next : ℕ) (c : Coloured) (old new : List ℕ) (t : List Coloured)
+    → drop next cs ≡ t → GoesOn begun t → c ≡ get_or cs next c → new ++ rest_of f c after ≡ old ++ rest_of f c (Some begun)
+    → new ++ rectangles_left e f moves cs (reached_after next after) ≡ old ++ rest_within e f begun t
+within_at e f moves begun after cs next c old new [] at goes is on = absurd goes
+within_at e f moves begun after cs next c old new (d ∷ ds) at goes is on =
+    let first : c ≡ d = is ∙ ap (λ (k : ℕ). get_or cs k c) (let q : next ≡ next + 0 = omega arith in q) ∙ sym (get_or-drop next cs 0 c) ∙ ap (λ (l : List Coloured). get_or l 0 c) at in
+    within_from e f moves begun after cs next d ds old new at (sym (drop-drop 1 next cs) ∙ ap (drop 1) at)
+    (subst (λ (x : Coloured). new ++ rest_of f x after ≡ old ++ rest_of f x (Some begun)) first on)
+
+-- one part more of a rectangle is encoded
+pub within_on : (e : Encoding) (f : PixelFormat) (moves : List Moved) (begun : Begun) (after : Option Begun) (cs : List Coloured) (next : ℕ) (c : Coloured) (old new : List ℕ) (now soon : Reached)
+    → now ≡ Within next begun → soon ≡ reached_after next after → IsWithin cs now → c ≡ get_or cs next c → new ++ rest_of f c after ≡ old ++ rest_of f c (Some begun)
+    → new ++ rectangles_left e f moves cs soon ≡ old ++ rectangles_left e f moves cs now
+within_on e f moves begun after cs next c old new now soon here there within is on =
+    ap (λ (r : Reached). new ++ rectangles_left e f moves cs r) there
+    ∙ within_at e f moves begun after cs next c old new (drop next cs) refl (subst (λ (r : Reached). IsWithin cs r) here within) is on
+    ∙ ap (λ (r : Reached). old ++ rectangles_left e f moves cs r) (sym here)

@@ -1,9 +1,10 @@
 -- Runs of a rectangle's colours, one after the other.
 use Rattle.std.proofs.Common.{◌≡◌, ◌+◌, ◌-◌, ◌*◌, ◌/◌, ◌%◌, ◌<◌, ◌≤◌, ℕ, zero, suc, List, [], ◌∷◌, ◌++◌, length, take, drop, refl, sym, ap, ◌∙◌, arith, append_assoc}
 use Rattle.std.specs.List.{flat_map}
-use Rattle.std.proofs.Math.Nat.{zero-mul}
+use Rattle.std.proofs.Math.Nat.{zero-mul, add-mul, mul_comm, mul-le-mul_right}
 use Rattle.std.proofs.lemmas.Nat.{div-add-mod'}
-use Rattle.std.proofs.lemmas.List.{length-take, length-drop, take_rest, drop-take, drop-drop, take-append-drop}
+use Rattle.std.proofs.Math.Seq.{take-add}
+use Rattle.std.proofs.lemmas.List.{length-append, length-take, length-take-le, length-drop, take_rest, take-take, drop-take, drop-drop, take-append-drop}
 use Rattle.std.proofs.lemmas.List.Concat.{flat_map-append}
 
 -- a picture with places has columns
@@ -43,3 +44,23 @@ run_on f old new colours run done is added =
 pub run_within : (colours run : List ℕ) (done : ℕ) → done < length colours → run ≡ take (length run) (drop done colours) → done + length run ≤ length colours
 run_within colours run done below is =
     omega (arith, ap (λ (l : List ℕ). length l) is, length-take (length run) (drop done colours), length-drop done colours)
+
+-- some of a run is taken behind what was taken before it
+pub part_on : (all run part new : List ℕ) (from some : ℕ) → part ≡ take (length part) (drop from all) → run ≡ take (length run) (drop (from + length part) all) → new ≡ part ++ take some run → some ≤ length run
+    → new ≡ take (length new) (drop from all)
+part_on all run part new from some e is added le =
+    let rest = drop from all in
+    let n = length part in
+    let piece : take some run ≡ take some (drop n rest) =
+    ap (take some) (is ∙ ap (take (length run)) (sym (drop-drop n from all))) ∙ take-take some (length run) (drop n rest) le in
+    let long : length new ≡ n + some = ap (λ (l : List ℕ). length l) added ∙ length-append part (take some run) ∙ ap (λ k. n + k) (length-take-le some run le) in
+    added ∙ ap (λ l. l ++ take some run) e ∙ ap (λ l. take n rest ++ l) piece ∙ sym (take-add n some rest) ∙ ap (λ k. take k rest) (sym long)
+
+-- some lines of a rectangle lie within it
+pub lines_inside : (w h a b n : ℕ) → a + b ≤ h → n ≡ w * h → a * w + b * w ≤ n
+lines_inside w h a b n le e =
+    let all : (a + b) * w ≤ h * w = mul-le-mul_right w le in
+    omega (arith, all, e, add-mul a b w)
+
+pub lines_long : (w b from : ℕ) (xs : List ℕ) → from + b * w ≤ length xs → length (take (b * w) (drop from xs)) ≡ w * b
+lines_long w b from xs le = length-take-le (b * w) (drop from xs) (omega (arith, le, length-drop from xs)) ∙ mul_comm b w

@@ -1,48 +1,57 @@
 -- What is left of an update while it is encoded part by part.
-use Rattle.std.specs.Prelude.{ℕ, ◌+◌, ◌<◌, List, [], ◌∷◌, ◌++◌, length, drop, flat_map, Option, None, Some}
+use Rattle.std.specs.Prelude.{ℕ, ◌+◌, ◌*◌, ◌<◌, List, [], ◌∷◌, ◌++◌, length, drop, map, flat_map, Option, None, Some}
 use Rattle.pixel_translate.specs.declared.PixelFormat.{PixelFormat}
-use Rattle.pixel_translate.specs.Pixel.{colour_bytes}
+use Rattle.pixel_translate.specs.Pixel.{pixel, colour_bytes}
 use Rattle.messages.specs.declared.Encoding.{Encoding}
 use Rattle.viewer.specs.declared.notices.Notice.{Notice}
 use Rattle.viewer.specs.declared.parts.Moved.{Moved}
 use Rattle.viewer.specs.declared.parts.Coloured.{Coloured}
 use Rattle.viewer.specs.declared.parts.Rectangles.{Rectangles}
+use Rattle.encode_hextile.specs.Pieces.{hextile_from}
+use Rattle.viewer.specs.declared.left.Begun.{Begun}
+use Rattle.viewer.specs.declared.left.Begun.TheVariants.{Colours, Tiles}
 use Rattle.viewer.specs.declared.left.Reached.{Reached}
 use Rattle.viewer.specs.declared.left.Reached.TheVariants.{Nothing, Before, Within}
 use Rattle.viewer.specs.Sending.{notice_bytes}
 use Rattle.viewer.specs.Updates.{coloured_bytes, kept_bytes}
 
--- what is left of a rectangle in Raw behind so many of its colours, and nothing where there is no such number
-abbrev pub rest_of : PixelFormat → Coloured → Option ℕ → List ℕ
+-- what is left of a rectangle: in Raw the pixels behind so many, in Hextile the rows of tiles behind so many, or nothing
+abbrev pub rest_of : PixelFormat → Coloured → Option Begun → List ℕ
 rest_of f c None = []
-rest_of f c (Some done) = flat_map (colour_bytes f) (drop done c.colours)
+rest_of f c (Some (Colours done)) = flat_map (colour_bytes f) (drop done c.colours)
+rest_of f c (Some (Tiles row carried)) = hextile_from f c.area.w c.area.h (map (pixel f) c.colours) carried row
 
--- of the first of some rectangles so many colours are encoded
-abbrev pub rest_within : Encoding → PixelFormat → ℕ → List Coloured → List ℕ
-rest_within e f done [] = []
-rest_within e f done (c ∷ cs) = rest_of f c (Some done) ++ flat_map (coloured_bytes e f) cs
+-- something is left
+abbrev pub IsBegun : Begun → Coloured → Type 0
+IsBegun (Colours done) c = done < length c.colours
+IsBegun (Tiles row carried) c = 16 * row < c.area.h
+
+-- of the first of some rectangles some is encoded
+abbrev pub rest_within : Encoding → PixelFormat → Begun → List Coloured → List ℕ
+rest_within e f begun [] = []
+rest_within e f begun (c ∷ cs) = rest_of f c (Some begun) ++ flat_map (coloured_bytes e f) cs
 
 abbrev pub rectangles_left : Encoding → PixelFormat → List Moved → List Coloured → Reached → List ℕ
 rectangles_left e f moves rectangles Nothing = kept_bytes e f moves rectangles
 rectangles_left e f moves rectangles (Before next) = flat_map (coloured_bytes e f) (drop next rectangles)
-rectangles_left e f moves rectangles (Within next done) = rest_within e f done (drop next rectangles)
+rectangles_left e f moves rectangles (Within next begun) = rest_within e f begun (drop next rectangles)
 
 abbrev pub left_of : Rectangles → PixelFormat → Reached → List ℕ
 left_of r f reached = rectangles_left r.encoding f r.moves.items r.coloured.items reached
 
--- there is a first rectangle, which has more than so many colours
-abbrev pub GoesOn : ℕ → List Coloured → Type 0
-GoesOn done [] = ⊥
-GoesOn done (c ∷ cs) = done < length c.colours
+-- there is a first rectangle, of which something is left
+abbrev pub GoesOn : Begun → List Coloured → Type 0
+GoesOn begun [] = ⊥
+GoesOn begun (c ∷ cs) = IsBegun begun c
 
 abbrev pub IsWithin : List Coloured → Reached → Type 0
 IsWithin rectangles Nothing = Unit {0}
 IsWithin rectangles (Before next) = Unit {0}
-IsWithin rectangles (Within next done) = GoesOn done (drop next rectangles)
+IsWithin rectangles (Within next begun) = GoesOn begun (drop next rectangles)
 
-abbrev pub reached_after : ℕ → Option ℕ → Reached
+abbrev pub reached_after : ℕ → Option Begun → Reached
 reached_after next None = Before (next + 1)
-reached_after next (Some done) = Within next done
+reached_after next (Some begun) = Within next begun
 
 -- the bytes that are left, if there are any
 abbrev pub maybe_left : Option (List ℕ) → List ℕ

@@ -1,5 +1,4 @@
 -- How what is kept of a viewer is seen.
-use Rattle.std.specs.Prelude.{ℕ}
 use Rattle.viewer.specs.declared.standing.Standing.{Standing}
 use Rattle.viewer.specs.declared.standing.Draft.{Draft}
 use Rattle.viewer.specs.Given.{marks_put}

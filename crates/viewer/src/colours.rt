@@ -12,7 +12,7 @@ use encode_rre::encode_rre_with_table;
 use framebuffer::{Block, Framebuffer, Snapshot};
 use messages::Encoding;
 use pixel_translate::{Area, Table};
-use std::alloc::AllocError;
+use std::alloc::{AllocError, Global};
 use std::marker::Model;
 
 /// The colours of a rectangle of so many columns, or more, are shared with the picture; those of a narrower one are copied,
@@ -118,6 +118,21 @@ impl Colours {
             }
             Held::Shared(snapshot) => rest_of_row(snapshot, done),
         }
+    }
+
+    /// So many of the colours, from a place on.
+    pub fn part(&self, alloc: Global, from: usize, count: usize) -> Result<Vec<u32>, AllocError>
+        requires inside { from + count ≤ length self.now }
+        requires small { from + count < 2 ^ 64 }
+        ensures { IfOk result (λ part. part.items ≡ take count (drop from self.now)) }
+    {
+        let mut part = Vec::with_capacity(alloc, count)?;
+        while part.len() < count {
+            let run = self.run_from(from + part.len());
+            let some = run.len().min(count - part.len());
+            part.extend_from_slice(&run[..some])?;
+        }
+        Ok(part)
     }
 
     /// Appends them as a rectangle in Raw, run by run.

@@ -1,18 +1,29 @@
 //! What of an update is still to be encoded, part by part.
 
-ghost use Rattle.std.specs.Prelude.{◌≡◌, ◌≢◌, ◌<◌, ◌++◌, ◌↔◌, [], All, IsTrue, IfOk, IfSome, OnOk, OnErr, length};
+ghost use Rattle.std.specs.Prelude.{◌≡◌, ◌≢◌, ◌*◌, ◌^◌, ◌<◌, ◌++◌, ◌↔◌, [], All, IsTrue, IfOk, IfSome, OnOk, OnErr, length};
 ghost use Rattle.viewer.specs.Short.{IsShort};
 ghost use Rattle.viewer.specs.Updates.{coloured_bytes, rectangles_bytes, all_bytes};
-ghost use Rattle.viewer.specs.Left.{rest_of, reached_after, left_of, IsWithin};
+ghost use Rattle.viewer.specs.declared.left.Begun.TheVariants as begun;
+ghost use Rattle.viewer.specs.Left.{rest_of, reached_after, left_of, IsBegun, IsWithin};
 
 use crate::notices::{Notice, put_notice};
 use crate::parts::{Coloured, Rectangles};
 use crate::update::put_opening;
+use encode_hextile::{Carried, Rows, encode_row_of_tiles};
 use encode_raw::{put_raw_pixels, rect_header};
 use messages::Encoding;
-use pixel_translate::Table;
-use std::alloc::AllocError;
+use pixel_translate::{Area, Table};
+use std::alloc::{AllocError, Global};
 use std::marker::Model;
+
+/// How far a rectangle is encoded of which some is left.
+#[derive(Clone, Copy)]
+pub enum Begun {
+    /// In Raw: the head, and so many colours.
+    Colours(usize),
+    /// In Hextile: the head, and so many rows of tiles, with what the last of them left.
+    Tiles(usize, Carried),
+}
 
 /// How far the rectangles of an update are encoded.
 #[derive(Clone, Copy)]
@@ -21,13 +32,14 @@ pub enum Reached {
     Nothing,
     /// All before a rectangle of colours.
     Before(usize),
-    /// So far, and of that rectangle in Raw the head and so many colours.
-    Within(usize, usize),
+    /// So far, and some of that rectangle.
+    Within(usize, Begun),
 }
 
 /// The rectangles of an update, of which some are encoded. Contracts see it as the bytes of the others.
 #[derive(Drop)]
 pub struct RectanglesLeft {
+    alloc: Global,
     rectangles: Rectangles,
     table: Table,
     reached: Reached,
@@ -44,66 +56,133 @@ impl Model for RectanglesLeft {
     ghost invariant = { λ a. IsWithin a.rectangles.coloured.items a.reached };
 }
 
-/// Begins a rectangle: in Raw its head, else all of it. How many of its colours are encoded, where not all of it is.
+/// Begins a rectangle: in Raw and Hextile its head, else all of it. How far it is encoded, where not all of it is.
 fn begin_rectangle(
     out: &mut Vec<u8>,
     rectangle: &Coloured,
     encoding: Encoding,
     table: &Table,
-) -> Result<Option<usize>, AllocError>
-    ensures bytes { IfOk result (λ done. out.new.items ++ rest_of table.now rectangle.now done ≡ out.old.items ++ coloured_bytes encoding table.now rectangle.now) }
+) -> Result<Option<Begun>, AllocError>
+    ensures bytes { IfOk result (λ begun. out.new.items ++ rest_of table.now rectangle.now begun ≡ out.old.items ++ coloured_bytes encoding table.now rectangle.now) }
     ensures more { OnOk result (length out.old.items < length out.new.items) }
-    ensures within { IfOk result (λ done. IfSome done (λ n. n < length rectangle.now.colours)) }
+    ensures within { IfOk result (λ begun. IfSome begun (λ b. IsBegun b rectangle.now)) }
 {
     match encoding {
         Encoding::Raw => {
             rect_header(out, rectangle.area, 0)?;
-            Ok(Some(0))
+            Ok(Some(Begun::Colours(0)))
         }
-        Encoding::Rre | Encoding::Hextile => {
+        Encoding::Rre => {
             let colours = &rectangle.colours;
             colours.put_gathered(out, rectangle.area, encoding, table)?;
             Ok(None)
         }
+        Encoding::Hextile => {
+            rect_header(out, rectangle.area, 5)?;
+            Ok(Some(Begun::Tiles(0, Carried::nothing())))
+        }
     }
 }
 
-/// Goes on with a rectangle in Raw, by one run of its colours. How many of them are encoded then, where not all are.
-fn go_on(
+/// Goes on with a rectangle in Raw, by one run of its colours. How far it is encoded then, where not all of it is.
+fn go_on_in_raw(
     out: &mut Vec<u8>,
     rectangle: &Coloured,
     table: &Table,
     done: usize,
-) -> Result<Option<usize>, AllocError>
+) -> Result<Option<Begun>, AllocError>
     requires { done < length rectangle.now.colours }
-    ensures bytes { IfOk result (λ next. out.new.items ++ rest_of table.now rectangle.now next ≡ out.old.items ++ rest_of table.now rectangle.now (Some done)) }
+    ensures bytes { IfOk result (λ next. out.new.items ++ rest_of table.now rectangle.now next ≡ out.old.items ++ rest_of table.now rectangle.now (Some (begun.Colours done))) }
     ensures more { OnOk result (length out.old.items < length out.new.items) }
-    ensures within { IfOk result (λ next. IfSome next (λ n. n < length rectangle.now.colours)) }
+    ensures within { IfOk result (λ next. IfSome next (λ b. IsBegun b rectangle.now)) }
 {
     let run = rectangle.colours.run_from(done);
     put_raw_pixels(out, run, table)?;
     let next = done + run.len();
     if rectangle.colours.goes_on(next) {
-        Ok(Some(next))
+        Ok(Some(Begun::Colours(next)))
     } else {
         Ok(None)
     }
 }
 
-/// How far the rectangles are encoded once so many colours of one are, or all of it is.
-fn reached_after(next: usize, done: Option<usize>) -> Reached
-    requires { next < usize.MAX }
-    ensures { result ≡ reached_after next done }
+/// How many columns an area has: fewer than 2^16.
+fn columns_of(area: Area) -> usize
+    ensures columns { result ≡ area.w }
+    ensures few { result < 2 ^ 16 }
 {
-    match done {
-        None => Reached::Before(next + 1),
-        Some(done) => Reached::Within(next, done),
+    usize::from(area.w)
+}
+
+/// Goes on with a rectangle in Hextile, by one row of tiles. How far it is encoded then, where not all of it is.
+fn go_on_in_hextile(
+    alloc: Global,
+    out: &mut Vec<u8>,
+    rectangle: &Coloured,
+    table: &Table,
+    row: usize,
+    carried: Carried,
+) -> Result<Option<Begun>, AllocError>
+    requires { 16 * row < rectangle.now.area.h }
+    ensures bytes { IfOk result (λ next. out.new.items ++ rest_of table.now rectangle.now next ≡ out.old.items ++ rest_of table.now rectangle.now (Some (begun.Tiles row carried))) }
+    ensures more { OnOk result (length out.old.items < length out.new.items) }
+    ensures within { IfOk result (λ next. IfSome next (λ b. IsBegun b rectangle.now)) }
+{
+    let width = columns_of(rectangle.area);
+    let height = usize::from(rectangle.area.h);
+    let lines = (height - 16 * row).min(16);
+    let values = rectangle
+        .colours
+        .part(alloc, 16 * row * width, lines * width)?;
+    let rows = Rows {
+        values: &values,
+        width,
+        height: lines,
+    };
+    let left = encode_row_of_tiles(out, &rows, table, carried)?;
+    if 16 * (row + 1) < height {
+        Ok(Some(Begun::Tiles(row + 1, left)))
+    } else {
+        Ok(None)
     }
 }
 
-/// Appends the next part of rectangles, behind what is reached: the head with the copies, a rectangle in RRE or Hextile, or
-/// the head or some of the pixels of one in Raw. What is reached then.
+/// Goes on with a rectangle of which some is encoded. How far it is encoded then, where not all of it is.
+fn go_on(
+    alloc: Global,
+    out: &mut Vec<u8>,
+    rectangle: &Coloured,
+    table: &Table,
+    begun: Begun,
+) -> Result<Option<Begun>, AllocError>
+    requires { IsBegun begun rectangle.now }
+    ensures bytes { IfOk result (λ next. out.new.items ++ rest_of table.now rectangle.now next ≡ out.old.items ++ rest_of table.now rectangle.now (Some begun)) }
+    ensures more { OnOk result (length out.old.items < length out.new.items) }
+    ensures within { IfOk result (λ next. IfSome next (λ b. IsBegun b rectangle.now)) }
+{
+    match begun {
+        Begun::Colours(done) => go_on_in_raw(out, rectangle, table, done),
+        Begun::Tiles(row, carried) => {
+            go_on_in_hextile(alloc, out, rectangle, table, row, carried)
+        }
+    }
+}
+
+/// How far the rectangles are encoded once some of one is, or all of it.
+fn reached_after(next: usize, begun: Option<Begun>) -> Reached
+    requires { next < usize.MAX }
+    ensures { result ≡ reached_after next begun }
+{
+    match begun {
+        None => Reached::Before(next + 1),
+        Some(begun) => Reached::Within(next, begun),
+    }
+}
+
+/// Appends the next part of rectangles, behind what is reached: the head with the copies, a rectangle in RRE, the head of
+/// another, some of the pixels of one in Raw, or a row of tiles of one in Hextile. What is reached then.
 fn put_next(
+    alloc: Global,
     out: &mut Vec<u8>,
     rectangles: &Rectangles,
     table: &Table,
@@ -125,23 +204,24 @@ fn put_next(
                 return Ok(reached);
             }
             let encoding = rectangles.encoding;
-            let done = begin_rectangle(out, &coloured[next], encoding, table)?;
-            Ok(reached_after(next, done))
+            let begun = begin_rectangle(out, &coloured[next], encoding, table)?;
+            Ok(reached_after(next, begun))
         }
-        Reached::Within(next, done) => {
-            let done = go_on(out, &coloured[next], table, done)?;
-            Ok(reached_after(next, done))
+        Reached::Within(next, begun) => {
+            let begun = go_on(alloc, out, &coloured[next], table, begun)?;
+            Ok(reached_after(next, begun))
         }
     }
 }
 
 impl RectanglesLeft {
     /// All of an update's rectangles.
-    pub fn new(rectangles: Rectangles) -> RectanglesLeft
+    pub fn new(alloc: Global, rectangles: Rectangles) -> RectanglesLeft
         ensures { result ≡ rectangles_bytes rectangles }
     {
         let table = Table::new(&rectangles.format);
         RectanglesLeft {
+            alloc,
             rectangles,
             table,
             reached: Reached::Nothing,
@@ -165,7 +245,7 @@ impl RectanglesLeft {
         ensures more { OnOk result (self.old ≢ [] → length out.old.items < length out.new.items) }
         ensures err { OnErr result (self.new ≡ self.old) }
     {
-        self.reached = put_next(out, &self.rectangles, &self.table, self.reached)?;
+        self.reached = put_next(self.alloc, out, &self.rectangles, &self.table, self.reached)?;
         Ok(())
     }
 }
@@ -192,12 +272,12 @@ impl Model for UpdateLeft {
 
 impl UpdateLeft {
     /// All of an update of notices, and of rectangles if there are any.
-    pub fn new(notices: Vec<Notice>, rectangles: Option<Rectangles>) -> UpdateLeft
+    pub fn new(alloc: Global, notices: Vec<Notice>, rectangles: Option<Rectangles>) -> UpdateLeft
         requires { All IsShort notices.items }
         ensures { result ≡ all_bytes notices.items rectangles }
     {
         let rectangles = match rectangles {
-            Some(rectangles) => Some(RectanglesLeft::new(rectangles)),
+            Some(rectangles) => Some(RectanglesLeft::new(alloc, rectangles)),
             None => None,
         };
         UpdateLeft {

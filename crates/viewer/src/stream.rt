@@ -11,8 +11,8 @@ pub const PIECE: usize = 32_768;
 
 /// An update on its way to a viewer, piece by piece. Contracts see it as the bytes that are still to come.
 ///
-/// In Raw no more than a row is made at once. A notice, and a rectangle in RRE or Hextile, is made whole, in a vector that
-/// the stream keeps, and given in pieces.
+/// No more is made at once, in a vector that the stream keeps, than a row in Raw, a row of tiles in Hextile, a rectangle in
+/// RRE, or a notice.
 #[derive(Drop)]
 pub struct Stream {
     left: UpdateLeft,

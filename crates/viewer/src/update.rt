@@ -142,10 +142,12 @@ impl Update {
         encode_all(self.alloc, &self.notices, &self.rectangles)
     }
 
-    /// The same bytes, to be given in pieces: of an update in Raw no more than a row is encoded at once.
+    /// The same bytes, to be given in pieces: no more is encoded at once than a row in Raw, a row of tiles in
+    /// Hextile, or a rectangle in RRE.
     pub fn into_stream(self) -> Stream
         ensures { result ≡ self }
     {
-        Stream::new(self.alloc, UpdateLeft::new(self.notices, self.rectangles))
+        let left = UpdateLeft::new(self.alloc, self.notices, self.rectangles);
+        Stream::new(self.alloc, left)
     }
 }

@@ -1,4 +1,4 @@
-use Rattle.std.proofs.Common.{◌≡◌, ℕ, List, ◌++◌, sym, ap, ◌∙◌}
+use Rattle.std.proofs.Common.{◌≡◌, List, ◌++◌, sym, ap, ◌∙◌}
 use Rattle.messages.specs.declared.Item.{Item}
 use Rattle.messages.specs.Reading.{Rest, rest, new_items}
 use Rattle.viewer.specs.Viewer.{KeptViewer}
