@@ -1,17 +1,18 @@
 -- What a viewer's threads read and wrote, step after step.
-use Rattle.std.specs.Prelude.{Result, Err, IsErrAnd, MatchResult}
+use Rattle.std.specs.Prelude.{Result, IsErrAnd, MatchResult}
 use Rattle.std.proofs.lemmas.Result.{err_from_is_err_and}
-use Rattle.std.proofs.Common.{◌≡◌, ◌+◌, ◌≤◌, ◌<◌, ◌⊎◌, ℕ, List, [], ◌∷◌, ◌++◌, length, take, Option, Some, None, refl, sym, ap, ◌∙◌, subst, arith, append_assoc, append-nil, inl, inr}
-use Rattle.std.specs.Prelude.{option_map, min, ◌-◌, ◌^◌, All}
+use Rattle.std.proofs.Common.{◌≡◌, ◌≤◌, ◌<◌, ◌⊎◌, ℕ, List, [], ◌∷◌, ◌++◌, length, Option, Some, None, refl, sym, ap, ◌∙◌, subst, arith, append_assoc, append-nil, inl, inr}
+use Rattle.std.specs.Prelude.{option_map}
 use Rattle.std.proofs.lemmas.List.Elements.{All-append, All-nil, All-cons}
+use Rattle.std.proofs.lemmas.List.{length-append}
 use Rattle.std.proofs.lemmas.List.Folds.{concat-append}
-use Rattle.std.specs.Io.KnownBytes.{Appends, Consumes, Keeps, IsAtEnd}
-use Rattle.std.proofs.KnownBytes.{Appends-trans, Appends-nil, Consumes-trans, Consumes-nil, Consumes-kept}
+use Rattle.std.specs.Io.KnownBytes.{Appends, Consumes}
+use Rattle.std.proofs.KnownBytes.{Appends-trans, Appends-nil, Consumes-trans, Consumes-nil}
 use Rattle.std.specs.List.{concat}
 use Rattle.receipts.specs.declared.Ended.{Ended}
-use Rattle.receipts.specs.declared.Ended.TheVariants.{EndOfInput, Fault, ReadFailed, WriteFailed, Memory, Gate, Closed, Stopped}
-use Rattle.update_sender.specs.Ends.{Listening, Speaking, listened, has_sent, has_cut, one_more}
-use Rattle.update_sender.specs.Serving.{IsPiece, after_pieces, Hears, ReadingEnds, OpeningEnds, HearsPiece, HearsNoMore, Sends, CutsAndSends}
+use Rattle.receipts.specs.declared.Ended.TheVariants.{WriteFailed, Memory}
+use Rattle.update_sender.specs.Ends.{Listening, Speaking, listened, has_sent, has_cut}
+use Rattle.update_sender.specs.Serving.{IsPiece, after_pieces, Hears, ReadingEnds, OpeningEnds, HearsPiece, Sends, CutsAndSends}
 
 -- an error that is handed on
 pub on_error : {X : Type 0} (r : Result X Ended) (e : Ended) (good : X → Type 0) (bad : Ended → Type 0) → IsErrAnd r (λ y. y ≡ e) → bad e → MatchResult r good bad
@@ -111,3 +112,24 @@ cuts-then a b c s t u p q = (
   q.2 ∙ ap (λ (v : Speaking). with_cuts (has_sent q.0 v) u.cuts) p.2 ∙ ap (λ v. with_cuts v u.cuts) (sent-twice s p.0 q.0),
   omega (p.3, q.3, arith),
 )
+
+-- ---- writing a buffer at a time
+
+-- of some bytes what is written is kept, and the rest is left
+abbrev pub SendsSome : Option (List ℕ) → Option (List ℕ) → Speaking → Speaking → List ℕ → List ℕ → Type 0
+SendsSome wrote written before after left all = (added : List ℕ) × Appends wrote written added × (after ≡ has_sent added before) × (added ++ left ≡ all)
+
+pub sends-further : (a b c : Option (List ℕ)) (s t u : Speaking) (left all buffer rest : List ℕ) → SendsSome a b s t left all → buffer ++ rest ≡ left
+    → (added : List ℕ) × Appends b c added × (u ≡ has_sent added t) × (added ≡ buffer) → SendsSome a c s u rest all
+unfolding sends-then
+sends-further a b c s t u left all buffer rest p filled q =
+    let both = sends-then a b c s t u (p.0, p.1, p.2) (q.0, q.1, q.2) in (
+      p.0 ++ q.0,
+      both.1,
+      both.2,
+      append_assoc p.0 q.0 rest ∙ ap (λ l. p.0 ++ l) (ap (λ l. l ++ rest) q.3 ∙ filled) ∙ p.3,
+    )
+
+-- less is left once more is in the buffer
+pub less-left : (old new left rest : List ℕ) → new ++ rest ≡ old ++ left → length old < length new → length rest < length left
+less-left old new left rest e more = omega (arith, more, ap (λ (l : List ℕ). length l) e, length-append new rest, length-append old left)

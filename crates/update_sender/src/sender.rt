@@ -1,4 +1,4 @@
-//! A viewer's sender: updates are cut, encoded and written, until there is nothing more to come.
+//! A viewer's sender: updates are cut, encoded and written in pieces, until there is nothing more to come.
 
 ghost use Rattle.std.specs.Prelude.{◌≡◌, ◌≤◌, List, ℕ, OnOk, OnErr, IfErr};
 ghost use Rattle.update_sender.specs.Recorded.{all_of};
@@ -9,6 +9,7 @@ use crate::ends::Speaker;
 use crate::gate::Gate;
 use crate::shared::Shared;
 use crate::turn::Turn;
+use crate::writing::{BUFFER, fill};
 use listed::Listed;
 use receipts::Ended;
 use screen::Update;
@@ -29,7 +30,8 @@ pub struct WriteHalf {
     pub ended: Ended,
 }
 
-/// Waits until there is something to send, cuts it, asks the gate, encodes it, asks the gate, and writes it, again and again.
+/// Waits until there is something to send, cuts it, asks the gate, encodes its first 64 KB, asks the gate, writes them, and
+/// then encodes and writes the others, again and again. Beside the update it keeps a buffer of 65,536 bytes while it sends.
 /// It ends after `Shared::stop`, where the viewer is closed, and where it met a fault, the first of these; and where a write
 /// fails or takes no byte, memory is refused, or the gate refuses: then it closes the viewer. No lock is held but while an
 /// update is cut.
@@ -93,12 +95,14 @@ fn send_next<L: Ledger, W: Write, G: Gate, R: Wait>(
     if !gate.encoding(speaker.viewer) {
         return Err(Ended::Gate);
     }
-    let bytes = update.encode()?;
+    let mut stream = update.into_stream();
+    let mut buffer = Vec::with_capacity(shared.alloc, BUFFER)?;
+    fill(&mut buffer, &mut stream)?;
     if !gate.writing(speaker.viewer) {
         return Err(Ended::Gate);
     }
-    speaker.write(writer, &bytes)?;
-    gate.wrote(speaker.viewer, bytes.len() as u64);
+    let count = speaker.write_stream(writer, &mut buffer, &mut stream)?;
+    gate.wrote(speaker.viewer, count);
     Ok(())
 }
 

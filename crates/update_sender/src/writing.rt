@@ -1,13 +1,34 @@
 //! Bytes on their way to a viewer: those that are written are kept, where the history is, and no others.
 
-ghost use Rattle.std.specs.Prelude.{◌≡◌, ◌≤◌, ◌⊎◌, ℕ, List, length, take, OnOk, IfErr};
+ghost use Rattle.std.specs.Prelude.{◌≡◌, ◌≢◌, ◌<◌, ◌≤◌, ◌⊎◌, ◌++◌, [], ℕ, List, length, take, OnOk, IfErr};
 ghost use Rattle.std.specs.Io.KnownBytes.{Appends};
 ghost use Rattle.receipts.specs.declared.Ended.TheVariants as ended;
 ghost use Rattle.update_sender.specs.Ends.{has_sent};
 
 use crate::ends::Speaker;
 use receipts::Ended;
+use std::alloc::AllocError;
 use std::io::Write;
+use viewer::Stream;
+
+/// How many bytes of an update are encoded before they are written, at most: 64 KB.
+pub const BUFFER: usize = 65_536;
+
+/// How many bytes a stream appends at once, at most.
+const PIECE: usize = 32_768;
+
+/// Fills a buffer with the next bytes of an update, until all are in it or fewer than a piece's places are left.
+pub fn fill(buffer: &mut Vec<u8>, stream: &mut Stream) -> Result<(), AllocError>
+    ensures bytes { OnOk result (buffer.new.items ++ stream.new ≡ stream.old) }
+    ensures more { OnOk result (stream.old ≢ [] → 0 < length buffer.new.items) }
+    ensures bound { length buffer.new.items ≤ 65536 }
+{
+    buffer.clear();
+    while buffer.len() <= BUFFER - PIECE && !stream.is_ended() {
+        stream.put(buffer)?;
+    }
+    Ok(())
+}
 
 /// Writes until all is written, a write fails, or one takes nothing. How many bytes were written.
 fn put_on<W: Write>(writer: &mut W, bytes: &[u8]) -> usize
@@ -37,5 +58,26 @@ impl Speaker {
             return Err(Ended::WriteFailed);
         }
         Ok(())
+    }
+
+    /// Writes what a buffer has, and then the rest of an update, a buffer at a time. How many bytes these are. What is written
+    /// before an error is kept.
+    pub(crate) fn write_stream<W: Write>(
+        &mut self,
+        writer: &mut W,
+        buffer: &mut Vec<u8>,
+        stream: &mut Stream,
+    ) -> Result<u64, Ended>
+        ensures sent { (added : List ℕ) × Appends (W.contents writer.old) (W.contents writer.new) added × (self.new ≡ has_sent added self.old) × OnOk result (added ≡ buffer.old.items ++ stream.old) }
+        ensures ended { IfErr result (λ e. (e ≡ ended.Memory) ⊎ (e ≡ ended.WriteFailed)) }
+    {
+        self.write(writer, buffer)?;
+        let mut count = buffer.len() as u64;
+        while !stream.is_ended() {
+            fill(buffer, stream)?;
+            self.write(writer, buffer)?;
+            count = count.saturating_add(buffer.len() as u64);
+        }
+        Ok(count)
     }
 }
