@@ -1,0 +1,129 @@
+-- One viewer that lags: what it lacks, and what a drawing call adds.
+use Rattle.std.proofs.Common.{◌≡◌, ℕ, zero, suc, ◌+◌, ◌-◌, ◌≤◌, Bool, true, false, cond, ◌||◌, ◌&&◌, not, List, [], ◌∷◌, ◌++◌, length, drop, All, Some, None, true≢false, refl, sym, subst, ◌∙◌, ap, arith}
+use Rattle.std.proofs.lemmas.List.{drop_all, length-append}
+use Rattle.std.proofs.lemmas.List.Elements.{All-append}
+use Rattle.copy_schedule.specs.declared.LogEntry.{LogEntry}
+use Rattle.copy_schedule.specs.declared.LogEntry.TheVariants.{Mark, Copy}
+use Rattle.copy_schedule.specs.Marks.{Marks, has_asked, pending}
+use Rattle.copy_schedule.specs.Log.{after_entry, logged, IsCutEntry}
+use Rattle.copy_schedule.proofs.LogLemmas.{unasked_is_not_pending}
+use Rattle.messages.specs.Reading.{is_open_rest}
+use Rattle.viewer.specs.Viewer.{KeptViewer, none_wait}
+use Rattle.viewer_list.specs.declared.lagging.Lagging.{Lagging}
+use Rattle.viewer_list.specs.Lagging.{waiting, caught_up, up_to_date, told, IsCurrent, Fits}
+use Rattle.viewer_list.specs.Viewers.{drawn, told_at_once, is_pending}
+
+-- what drawing leaves of marks
+pub record Alike (m n : Marks) : Type 0 where
+  pub width : n.width ≡ m.width
+  pub height : n.height ≡ m.height
+  pub asked : n.asked ≡ m.asked
+
+entry-alike : (u : Bool) (e : LogEntry) (m : Marks) → Alike m (after_entry u e m)
+entry-alike u (Mark region) m = record { width = refl; height = refl; asked = refl }
+entry-alike true (Copy region dx dy) m = record { width = refl; height = refl; asked = refl }
+entry-alike false (Copy region dx dy) m = record { width = refl; height = refl; asked = refl }
+
+pub logged-alike : (u : Bool) (es : List LogEntry) (m : Marks) → Alike m (logged u es m)
+logged-alike u [] m = record { width = refl; height = refl; asked = refl }
+logged-alike u (e ∷ es) m =
+    let first = entry-alike u e m in
+    let rest = logged-alike u es (after_entry u e m) in record { width = rest.width ∙ first.width; height = rest.height ∙ first.height; asked = rest.asked ∙ first.asked }
+
+-- a further entry
+pub logged-last : (u : Bool) (es : List LogEntry) (e : LogEntry) (m : Marks) → logged u (es ++ e ∷ []) m ≡ after_entry u e (logged u es m)
+logged-last u [] e m = refl
+logged-last u (first ∷ es) e m = logged-last u es e (after_entry u first m)
+
+drop-last : {X : Type 0} (n : ℕ) (xs : List X) (x : X) → n ≤ length xs → drop n (xs ++ x ∷ []) ≡ drop n xs ++ x ∷ []
+drop-last zero xs x within = refl
+drop-last (suc n) [] x within = absurd (omega (arith, within))
+drop-last (suc n) (y ∷ xs) x within = drop-last n xs x (omega (arith, within))
+
+-- A viewer whose marks lack nothing.
+
+pub nothing_waits : (log : List LogEntry) (l : Lagging) → IsCurrent l → waiting log l ≡ []
+nothing_waits log l current = drop_all (length log - l.waits) log (omega (arith, current))
+
+pub current_viewer : (log : List LogEntry) (l : Lagging) → IsCurrent l → caught_up log l ≡ l.viewer
+current_viewer log l current = ap (λ (es : List LogEntry). record l.viewer { marks = logged l.viewer.uses_copyrect es l.viewer.marks }) (nothing_waits log l current)
+
+pub current_fits : (log : List LogEntry) (l : Lagging) → IsCurrent l → Fits log l
+current_fits log l current = record {
+  stands = omega (arith, current);
+  asks = λ _. current;
+  cut = subst (All (IsCutEntry l.viewer.marks.width l.viewer.marks.height)) (sym (nothing_waits log l current)) (λ k d below. absurd (omega (arith, below)));
+}
+
+-- in any log alike
+pub current_alike : (log other : List LogEntry) (l : Lagging) → IsCurrent l → caught_up log l ≡ caught_up other l
+current_alike log other l current = current_viewer log l current ∙ sym (current_viewer other l current)
+
+-- Catching up changes no viewer.
+
+pub caught_up_again : (log : List LogEntry) (l : Lagging) → caught_up log (up_to_date log l) ≡ caught_up log l
+caught_up_again log l = current_viewer log (up_to_date log l) refl
+
+-- A further drawing call.
+
+pub asked_same : (log : List LogEntry) (l : Lagging) → has_asked (caught_up log l).marks ≡ has_asked l.viewer.marks
+asked_same log l =
+    let alike = logged-alike l.viewer.uses_copyrect (waiting log l) l.viewer.marks in
+    ap (λ (bs : List Bool). has_asked (record l.viewer.marks { asked = bs })) alike.asked
+
+more_waits : (log : List LogEntry) (e : LogEntry) (l : Lagging) → Fits log l → waiting (log ++ e ∷ []) (record l { waits = l.waits + 1 }) ≡ waiting log l ++ e ∷ []
+more_waits log e l fits =
+    let count : length (log ++ e ∷ []) - (l.waits + 1) ≡ length log - l.waits = omega (arith, length-append log (e ∷ [])) in
+    ap (λ (n : ℕ). drop n (log ++ e ∷ [])) count ∙ drop-last (length log - l.waits) log e (omega arith)
+
+-- told at once
+abbrev at_once : LogEntry → Lagging → Lagging
+at_once e l = record l { viewer = record l.viewer { marks = after_entry l.viewer.uses_copyrect e l.viewer.marks } }
+
+pub told_viewer : (log : List LogEntry) (e : LogEntry) (l : Lagging) → Fits log l → caught_up (log ++ e ∷ []) (told e l) ≡ drawn e (caught_up log l)
+told_viewer log e l fits = go (has_asked l.viewer.marks) refl
+  where
+    go : (b : Bool) → has_asked l.viewer.marks ≡ b → caught_up (log ++ e ∷ []) (cond b (at_once e l) (record l { waits = l.waits + 1 })) ≡ drawn e (caught_up log l)
+    go true asks = current_viewer (log ++ e ∷ []) (at_once e l) (fits.asks asks) ∙ ap (drawn e) (sym (current_viewer log l (fits.asks asks)))
+    go false asks =
+        ap (λ (es : List LogEntry). record l.viewer { marks = logged l.viewer.uses_copyrect es l.viewer.marks }) (more_waits log e l fits)
+        ∙ ap (λ (m : Marks). record l.viewer { marks = m }) (logged-last l.viewer.uses_copyrect (waiting log l) e l.viewer.marks)
+
+pub told_fits : (log : List LogEntry) (e : LogEntry) (l : Lagging) → Fits log l → IsCutEntry l.viewer.marks.width l.viewer.marks.height e → Fits (log ++ e ∷ []) (told e l)
+told_fits log e l fits cut = go (has_asked l.viewer.marks) refl
+  where
+    go : (b : Bool) → has_asked l.viewer.marks ≡ b → Fits (log ++ e ∷ []) (cond b (at_once e l) (record l { waits = l.waits + 1 }))
+    go true asks = current_fits (log ++ e ∷ []) (at_once e l) (fits.asks asks)
+    go false asks = record {
+      stands = let stands = fits.stands in omega (arith, stands, length-append log (e ∷ []));
+      asks = λ is. absurd (true≢false (sym is ∙ asks));
+      cut =
+          subst (All (IsCutEntry l.viewer.marks.width l.viewer.marks.height)) (sym (more_waits log e l fits))
+          (All-append (IsCutEntry l.viewer.marks.width l.viewer.marks.height) (waiting log l) (e ∷ []) fits.cut (one (IsCutEntry l.viewer.marks.width l.viewer.marks.height) e cut));
+    }
+      where
+        one : (P : LogEntry → Type 0) (x : LogEntry) → P x → All P (x ∷ [])
+        one P x is zero d below = is
+        one P x is (suc k) d below = absurd (omega (arith, below))
+
+-- its marks, if it asks
+pub told_same : (log : List LogEntry) (e : LogEntry) (l : Lagging) → Fits log l → told_at_once e (caught_up log l) ≡ told_at_once e l.viewer
+told_same log e l fits = go (has_asked l.viewer.marks) refl
+  where
+    go : (b : Bool) → has_asked l.viewer.marks ≡ b → told_at_once e (caught_up log l) ≡ told_at_once e l.viewer
+    go true asks = ap (told_at_once e) (current_viewer log l (fits.asks asks))
+    go false asks =
+        ap (λ b. cond b (Some (after_entry (caught_up log l).uses_copyrect e (caught_up log l).marks)) None) (asked_same log l ∙ asks)
+        ∙ sym (ap (λ b. cond b (Some (after_entry l.viewer.uses_copyrect e l.viewer.marks)) None) asks)
+
+-- Whether something is to be sent doesn't hang on what waits.
+
+pub pending_same : (log : List LogEntry) (l : Lagging) → Fits log l → is_pending l.viewer ≡ is_pending (caught_up log l)
+pending_same log l fits = go (has_asked l.viewer.marks) refl
+  where
+    same : (b : Bool) → has_asked l.viewer.marks ≡ b → pending l.viewer.marks ≡ pending (caught_up log l).marks
+    same true asks = ap (λ (v : KeptViewer). pending v.marks) (sym (current_viewer log l (fits.asks asks)))
+    same false asks = unasked_is_not_pending l.viewer.marks asks ∙ sym (unasked_is_not_pending (caught_up log l).marks (asked_same log l ∙ asks))
+
+    go : (b : Bool) → has_asked l.viewer.marks ≡ b → is_pending l.viewer ≡ is_pending (caught_up log l)
+    go b asks = ap (λ (t : Bool). is_open_rest l.viewer.heard && (not (none_wait l.viewer.notices) || t)) (same b asks)

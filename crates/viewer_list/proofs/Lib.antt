@@ -1,0 +1,2 @@
+mod LagLemmas
+mod ListLemmas

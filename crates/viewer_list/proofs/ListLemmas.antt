@@ -1,0 +1,274 @@
+-- The viewers one by one.
+use Rattle.std.proofs.Common.{◌≡◌, ℕ, zero, suc, ◌+◌, Bool, true, false, cond, not, List, [], ◌∷◌, ◌++◌, length, take, drop, reverse, All, Option, Some, None, refl, sym, subst, ◌∙◌, ap, arith}
+use Rattle.std.specs.Prelude.{◌==◌, slice_get}
+use Rattle.std.specs.List.{filter_map, cons_option, filter}
+use Rattle.std.specs.Map.{keys_of, values_of, lookup}
+use Rattle.std.specs.Option.{option_map}
+use Rattle.std.proofs.lemmas.Option.{same_Some, slice_get-map}
+use Rattle.std.proofs.lemmas.List.{take_all, length-map, reverse-append, reverse-reverse, append-nil}
+use Rattle.std.proofs.lemmas.List.Elements.{All-append, filter_map-append}
+use Rattle.client_list.proofs.Walks.{take_next, drop_next}
+use Rattle.client_list.specs.Connected.{Connected, IsListed, changed, set_value_at, index_of, value_at, passed}
+use Rattle.client_list.proofs.CallerLemmas.{lookup-mapped, keys-mapped, mapped-set_value_at}
+use Rattle.copy_schedule.specs.declared.LogEntry.{LogEntry}
+use Rattle.copy_schedule.specs.Marks.{Marks}
+use Rattle.copy_schedule.specs.Log.{IsCutEntry}
+use Rattle.viewer.specs.declared.notices.Notice.{Notice}
+use Rattle.viewer.specs.Viewer.{KeptViewer}
+use Rattle.viewer_list.specs.declared.lagging.Lagging.{Lagging}
+use Rattle.viewer_list.specs.Lagging.{waiting, caught_up, up_to_date, seen, told, told_of, IsCurrent, Fits}
+use Rattle.viewer_list.specs.Viewers.{Viewers, viewer_of, with_viewer, drawn, told_at_once, viewer_noticed}
+use Rattle.viewer_list.proofs.LagLemmas.{caught_up_again, current_fits, current_alike, told_viewer, told_fits, told_same, logged-alike}
+
+module _ {T : Type 0} (P : T → Type 0) where
+  pub all-cons : (x : T) (xs : List T) → P x → All P xs → All P (x ∷ xs)
+  all-cons x xs here rest zero d below = here
+  all-cons x xs here rest (suc k) d below = rest k d (omega (arith, below))
+
+  pub all-tail : (x : T) (xs : List T) → All P (x ∷ xs) → All P xs
+  all-tail x xs all = λ k d below. all (suc k) d (omega (arith, below))
+
+  pub all-head : (x : T) (xs : List T) → All P (x ∷ xs) → P x
+  all-head x xs all = all 0 x (omega arith)
+
+  -- of the viewer at an index
+  pub all-at : (pairs : List (ℕ × T)) (n : ℕ) (x : T) → All P (values_of pairs) → option_map (λ (pair : ℕ × T). pair.1) (slice_get pairs n) ≡ Some x → P x
+  all-at [] n x all there = absurd (cc)
+  all-at (pair ∷ pairs) zero x all there = subst P (same_Some pair.1 x there) (all-head pair.1 (values_of pairs) all)
+  all-at (pair ∷ pairs) (suc n) x all there = all-at pairs n x (all-tail pair.1 (values_of pairs) all) there
+
+  -- of the viewer with a number
+  pub all-numbered : (pairs : List (ℕ × T)) (number : ℕ) (x : T) → All P (values_of pairs) → Some x ≡ lookup (λ n. n == number) pairs → P x
+  all-numbered [] number x all there = absurd (cc)
+  all-numbered (pair ∷ pairs) number x all there = go (pair.0 == number) there (λ later. all-numbered pairs number x (all-tail pair.1 (values_of pairs) all) later)
+    where
+      go : (b : Bool) → Some x ≡ cond b (Some pair.1) (lookup (λ n. n == number) pairs) → (Some x ≡ lookup (λ n. n == number) pairs → P x) → P x
+      go true e later = subst P (sym (same_Some x pair.1 e)) (all-head pair.1 (values_of pairs) all)
+      go false e later = later e
+
+  -- of one more
+  pub all-last : (pairs : List (ℕ × T)) (number : ℕ) (x : T) → All P (values_of pairs) → P x → All P (values_of (pairs ++ (number, x) ∷ []))
+  all-last [] number x all here = all-cons x [] here all
+  all-last (pair ∷ pairs) number x all here = all-cons pair.1 (values_of (pairs ++ (number, x) ∷ [])) (all-head pair.1 (values_of pairs) all) (all-last pairs number x (all-tail pair.1 (values_of pairs) all) here)
+
+  -- once one is another of which it holds
+  pub all-set : (pairs : List (ℕ × T)) (i : ℕ) (x : T) → All P (values_of pairs) → P x → All P (values_of (set_value_at pairs i x))
+  all-set [] i x all here = all
+  all-set (pair ∷ pairs) zero x all here = all-cons x (values_of pairs) here (all-tail pair.1 (values_of pairs) all)
+  all-set (pair ∷ pairs) (suc i) x all here = all-cons pair.1 (values_of (set_value_at pairs i x)) (all-head pair.1 (values_of pairs) all) (all-set pairs i x (all-tail pair.1 (values_of pairs) all) here)
+
+  -- of some of them
+  pub all-some : (test : ℕ × T → Bool) (pairs : List (ℕ × T)) → All P (values_of pairs) → All P (values_of (filter test pairs))
+  all-some test [] all = all
+  all-some test (pair ∷ pairs) all =
+      let rest = all-some test pairs (all-tail pair.1 (values_of pairs) all) in
+      elim (test pair) as (λ b. All P (values_of (cond b (pair ∷ filter test pairs) (filter test pairs)))) [
+        | true ↦ all-cons pair.1 (values_of (filter test pairs)) (all-head pair.1 (values_of pairs) all) rest
+        | false ↦ rest
+      ]
+
+module _ {T : Type 0} (P Q : T → Type 0) (f : T → T) (each : (x : T) → P x → Q (f x)) where
+  -- each is changed so that Q holds
+  pub all-changed : (pairs : List (ℕ × T)) → All P (values_of pairs) → All Q (values_of (changed f pairs))
+  all-changed [] all = λ k d below. absurd (omega (arith, below))
+  all-changed (pair ∷ pairs) all = all-cons Q (f pair.1) (values_of (changed f pairs)) (each pair.1 (all-head P pair.1 (values_of pairs) all)) (all-changed pairs (all-tail P pair.1 (values_of pairs) all))
+
+module _ {T : Type 0} (P : T → Type 0) (f : T → T) (each : (x : T) → P x → P (f x)) where
+  -- the first ones are changed
+  pub all-partly : (pairs : List (ℕ × T)) (n : ℕ) → All P (values_of pairs) → All P (values_of (take n (changed f pairs) ++ drop n pairs))
+  all-partly [] zero all = all
+  all-partly [] (suc n) all = all
+  all-partly (pair ∷ pairs) zero all = all
+  all-partly (pair ∷ pairs) (suc n) all = all-cons P (f pair.1) (values_of (take n (changed f pairs) ++ drop n pairs)) (each pair.1 (all-head P pair.1 (values_of pairs) all)) (all-partly pairs n (all-tail P pair.1 (values_of pairs) all))
+
+-- ---- what is seen
+
+-- the first ones have caught up
+pub seen-partly : (log : List LogEntry) (pairs : List (ℕ × Lagging)) (n : ℕ) → seen log (take n (changed (up_to_date log) pairs) ++ drop n pairs) ≡ seen log pairs
+seen-partly log [] zero = refl
+seen-partly log [] (suc n) = refl
+seen-partly log (pair ∷ pairs) zero = refl
+seen-partly log (pair ∷ pairs) (suc n) =
+    ap (λ (v : KeptViewer). (pair.0, v) ∷ seen log (take n (changed (up_to_date log) pairs) ++ drop n pairs)) (caught_up_again log pair.1)
+    ∙ ap (λ (l : List (ℕ × KeptViewer)). (pair.0, caught_up log pair.1) ∷ l) (seen-partly log pairs n)
+
+pub seen-changed : (log : List LogEntry) (pairs : List (ℕ × Lagging)) → seen log (changed (up_to_date log) pairs) ≡ seen log pairs
+seen-changed log [] = refl
+seen-changed log (pair ∷ pairs) =
+    ap (λ (v : KeptViewer). (pair.0, v) ∷ seen log (changed (up_to_date log) pairs)) (caught_up_again log pair.1)
+    ∙ ap (λ (l : List (ℕ × KeptViewer)). (pair.0, caught_up log pair.1) ∷ l) (seen-changed log pairs)
+
+-- where nothing waits, by any log
+pub seen-current : (log other : List LogEntry) (pairs : List (ℕ × Lagging)) → All IsCurrent (values_of pairs) → seen log pairs ≡ seen other pairs
+seen-current log other [] all = refl
+seen-current log other (pair ∷ pairs) all =
+    ap (λ (v : KeptViewer). (pair.0, v) ∷ seen log pairs) (current_alike log other pair.1 (all-head IsCurrent pair.1 (values_of pairs) all))
+    ∙ ap (λ (l : List (ℕ × KeptViewer)). (pair.0, caught_up other pair.1) ∷ l) (seen-current log other pairs (all-tail IsCurrent pair.1 (values_of pairs) all))
+
+pub fit-current : (log : List LogEntry) (pairs : List (ℕ × Lagging)) → All IsCurrent (values_of pairs) → All (Fits log) (values_of pairs)
+fit-current log [] all = λ k d below. absurd (omega (arith, below))
+fit-current log (pair ∷ pairs) all = all-cons (Fits log) pair.1 (values_of pairs) (current_fits log pair.1 (all-head IsCurrent pair.1 (values_of pairs) all)) (fit-current log pairs (all-tail IsCurrent pair.1 (values_of pairs) all))
+
+-- a drawing call
+pub seen-told : (log : List LogEntry) (e : LogEntry) (pairs : List (ℕ × Lagging)) → All (Fits log) (values_of pairs) → seen (log ++ e ∷ []) (changed (told e) pairs) ≡ changed (drawn e) (seen log pairs)
+seen-told log e [] all = refl
+seen-told log e (pair ∷ pairs) all =
+    ap (λ (v : KeptViewer). (pair.0, v) ∷ seen (log ++ e ∷ []) (changed (told e) pairs)) (told_viewer log e pair.1 (all-head (Fits log) pair.1 (values_of pairs) all))
+    ∙ ap (λ (l : List (ℕ × KeptViewer)). (pair.0, drawn e (caught_up log pair.1)) ∷ l) (seen-told log e pairs (all-tail (Fits log) pair.1 (values_of pairs) all))
+
+-- a copy is on the screen of each
+pub cut-seen : (log : List LogEntry) (e : LogEntry) (pairs : List (ℕ × Lagging)) → All (λ v. IsCutEntry v.marks.width v.marks.height e) (values_of (seen log pairs)) → All (λ l. IsCutEntry l.viewer.marks.width l.viewer.marks.height e) (values_of pairs)
+cut-seen log e [] all = λ k d below. absurd (omega (arith, below))
+cut-seen log e (pair ∷ pairs) all =
+    let alike = logged-alike pair.1.viewer.uses_copyrect (waiting log pair.1) pair.1.viewer.marks in
+    let here = all-head (λ (v : KeptViewer). IsCutEntry v.marks.width v.marks.height e) (caught_up log pair.1) (values_of (seen log pairs)) all in
+    all-cons (λ (l : Lagging). IsCutEntry l.viewer.marks.width l.viewer.marks.height e) pair.1 (values_of pairs)
+    (subst (λ (h : ℕ). IsCutEntry pair.1.viewer.marks.width h e) alike.height (subst (λ (w : ℕ). IsCutEntry w (caught_up log pair.1).marks.height e) alike.width here))
+    (cut-seen log e pairs (all-tail (λ (v : KeptViewer). IsCutEntry v.marks.width v.marks.height e) (caught_up log pair.1) (values_of (seen log pairs)) all))
+
+pub fit-told : (log : List LogEntry) (e : LogEntry) (pairs : List (ℕ × Lagging)) → All (Fits log) (values_of pairs) → All (λ l. IsCutEntry l.viewer.marks.width l.viewer.marks.height e) (values_of pairs) → All (Fits (log ++ e ∷ [])) (values_of (changed (told e) pairs))
+fit-told log e [] all cut = λ k d below. absurd (omega (arith, below))
+fit-told log e (pair ∷ pairs) all cut =
+    let C : Lagging → Type 0 = λ l. IsCutEntry l.viewer.marks.width l.viewer.marks.height e in
+    all-cons (Fits (log ++ e ∷ [])) (told e pair.1) (values_of (changed (told e) pairs)) (told_fits log e pair.1 (all-head (Fits log) pair.1 (values_of pairs) all) (all-head C pair.1 (values_of pairs) cut))
+    (fit-told log e pairs (all-tail (Fits log) pair.1 (values_of pairs) all) (all-tail C pair.1 (values_of pairs) cut))
+
+-- the marks of those that ask
+pub told-seen : (log : List LogEntry) (e : LogEntry) (pairs : List (ℕ × Lagging)) → All (Fits log) (values_of pairs) → filter_map (told_at_once e) (values_of (seen log pairs)) ≡ filter_map (λ l. told_at_once e l.viewer) (values_of pairs)
+told-seen log e [] all = refl
+told-seen log e (pair ∷ pairs) all =
+    ap (λ (o : Option Marks). cons_option o (filter_map (told_at_once e) (values_of (seen log pairs)))) (told_same log e pair.1 (all-head (Fits log) pair.1 (values_of pairs) all))
+    ∙ ap (cons_option (told_at_once e pair.1.viewer)) (told-seen log e pairs (all-tail (Fits log) pair.1 (values_of pairs) all))
+
+-- a notice
+pub seen-noticed : (log : List LogEntry) (notice : Notice) (pairs : List (ℕ × Lagging)) → seen log (changed (told_of notice) pairs) ≡ changed (viewer_noticed notice) (seen log pairs)
+seen-noticed log notice [] = refl
+seen-noticed log notice (pair ∷ pairs) = ap (λ (l : List (ℕ × KeptViewer)). (pair.0, viewer_noticed notice (caught_up log pair.1)) ∷ l) (seen-noticed log notice pairs)
+
+pub fit-noticed : (log : List LogEntry) (notice : Notice) (pairs : List (ℕ × Lagging)) → All (Fits log) (values_of pairs) → All (Fits log) (values_of (changed (told_of notice) pairs))
+fit-noticed log notice pairs all = all-changed (Fits log) (Fits log) (told_of notice) (λ l fits. record { stands = fits.stands; asks = fits.asks; cut = fits.cut }) pairs all
+
+-- one more, and one less
+pub seen-last : (log : List LogEntry) (pairs : List (ℕ × Lagging)) (number : ℕ) (l : Lagging) → seen log (pairs ++ (number, l) ∷ []) ≡ seen log pairs ++ (number, caught_up log l) ∷ []
+seen-last log [] number l = refl
+seen-last log (pair ∷ pairs) number l = ap (λ (r : List (ℕ × KeptViewer)). (pair.0, caught_up log pair.1) ∷ r) (seen-last log pairs number l)
+
+pub seen-filter : (log : List LogEntry) (number : ℕ) (pairs : List (ℕ × Lagging)) → seen log (filter (λ pair. not (pair.0 == number)) pairs) ≡ filter (λ pair. not (pair.0 == number)) (seen log pairs)
+seen-filter log number [] = refl
+seen-filter log number (pair ∷ pairs) = go (not (pair.0 == number)) (seen-filter log number pairs)
+  where
+    go : (b : Bool) → seen log (filter (λ pair. not (pair.0 == number)) pairs) ≡ filter (λ pair. not (pair.0 == number)) (seen log pairs)
+        → seen log (cond b (pair ∷ filter (λ pair. not (pair.0 == number)) pairs) (filter (λ pair. not (pair.0 == number)) pairs)) ≡ cond b ((pair.0, caught_up log pair.1) ∷ filter (λ pair. not (pair.0 == number)) (seen log pairs)) (filter (λ pair. not (pair.0 == number)) (seen log pairs))
+    go true rest = ap (λ (r : List (ℕ × KeptViewer)). (pair.0, caught_up log pair.1) ∷ r) rest
+    go false rest = rest
+
+pub seen-none : (log : List LogEntry) (pairs : List (ℕ × Lagging)) → seen log pairs ≡ [] → pairs ≡ []
+seen-none log [] e = refl
+seen-none log (pair ∷ pairs) e = absurd (cc)
+
+-- ---- the viewer with a number
+
+seen-some : (log : List LogEntry) (pairs : List (ℕ × Lagging)) (number : ℕ) (l : Lagging) → Some l ≡ lookup (λ n. n == number) pairs → lookup (λ n. n == number) (seen log pairs) ≡ Some (caught_up log l)
+seen-some log pairs number l there = lookup-mapped (caught_up log) pairs number ∙ ap (option_map (caught_up log)) (sym there)
+
+seen-absent : (log : List LogEntry) (pairs : List (ℕ × Lagging)) (number : ℕ) → None ≡ lookup (λ n. n == number) pairs → lookup (λ n. n == number) (seen log pairs) ≡ None
+seen-absent log pairs number away = lookup-mapped (caught_up log) pairs number ∙ ap (option_map (caught_up log)) (sym away)
+
+-- what contracts see of it
+pub viewer-some : (s : Viewers) (log : List LogEntry) (pairs : List (ℕ × Lagging)) (room number : ℕ) (l : Lagging) → record { pairs = seen log pairs; room = room } ≡ s → Some l ≡ lookup (λ n. n == number) pairs → viewer_of s number ≡ Some (caught_up log l)
+viewer-some s log pairs room number l is there = ap (λ (t : Viewers). viewer_of t number) (sym is) ∙ seen-some log pairs number l there
+
+pub viewer-absent : (s : Viewers) (log : List LogEntry) (pairs : List (ℕ × Lagging)) (room number : ℕ) → record { pairs = seen log pairs; room = room } ≡ s → None ≡ lookup (λ n. n == number) pairs → viewer_of s number ≡ None
+viewer-absent s log pairs room number is away = ap (λ (t : Viewers). viewer_of t number) (sym is) ∙ seen-absent log pairs number away
+
+-- one viewer is another
+set-same : {T : Type 0} (pairs : List (ℕ × T)) (number : ℕ) (x : T) → Some x ≡ lookup (λ n. n == number) pairs → set_value_at pairs (index_of (keys_of pairs) number) x ≡ pairs
+set-same [] number x there = refl
+set-same {T} (pair ∷ pairs) number x there = go (pair.0 == number) there (λ later. set-same pairs number x later)
+  where
+    go : (b : Bool) → Some x ≡ cond b (Some pair.1) (lookup (λ n. n == number) pairs) → (Some x ≡ lookup (λ n. n == number) pairs → set_value_at pairs (index_of (keys_of pairs) number) x ≡ pairs)
+        → set_value_at (pair ∷ pairs) (cond b 0 (suc (index_of (keys_of pairs) number))) x ≡ pair ∷ pairs
+    go true e later = ap (λ (y : T). (pair.0, y) ∷ pairs) (same_Some x pair.1 e)
+    go false e later = ap (λ (l : List (ℕ × T)). pair ∷ l) (later e)
+
+pub set-at-same : {T : Type 0} (pairs : List (ℕ × T)) (i : ℕ) (x : T) → option_map (λ (pair : ℕ × T). pair.1) (slice_get pairs i) ≡ Some x → set_value_at pairs i x ≡ pairs
+set-at-same [] i x there = refl
+set-at-same {T} (pair ∷ pairs) zero x there = ap (λ (y : T). (pair.0, y) ∷ pairs) (sym (same_Some pair.1 x there))
+set-at-same {T} (pair ∷ pairs) (suc i) x there = ap (λ (l : List (ℕ × T)). pair ∷ l) (set-at-same pairs i x there)
+
+pub seen-set : (log : List LogEntry) (pairs : List (ℕ × Lagging)) (number : ℕ) (l : Lagging) (v : KeptViewer) → caught_up log l ≡ v → seen log (set_value_at pairs (index_of (keys_of pairs) number) l) ≡ set_value_at (seen log pairs) (index_of (keys_of (seen log pairs)) number) v
+seen-set log pairs number l v is =
+    mapped-set_value_at (caught_up log) pairs (index_of (keys_of pairs) number) l
+    ∙ ap (set_value_at (seen log pairs) (index_of (keys_of pairs) number)) is
+    ∙ ap (λ (ks : List ℕ). set_value_at (seen log pairs) (index_of ks number) v) (sym (keys-mapped (caught_up log) pairs))
+
+-- as contracts see it
+pub viewer-set : (s : Viewers) (log : List LogEntry) (pairs : List (ℕ × Lagging)) (room number : ℕ) (l : Lagging) (v : KeptViewer) → record { pairs = seen log pairs; room = room } ≡ s → caught_up log l ≡ v → seen log (set_value_at pairs (index_of (keys_of pairs) number) l) ≡ with_viewer s number v
+viewer-set s log pairs room number l v is becomes = seen-set log pairs number l v becomes ∙ ap (λ (t : Viewers). with_viewer t number v) is
+
+pub viewer-same : (s : Viewers) (log : List LogEntry) (pairs : List (ℕ × Lagging)) (room number : ℕ) (was l : Lagging) → record { pairs = seen log pairs; room = room } ≡ s → Some was ≡ lookup (λ n. n == number) pairs → caught_up log l ≡ caught_up log was → seen log (set_value_at pairs (index_of (keys_of pairs) number) l) ≡ s.pairs
+viewer-same s log pairs room number was l is there same =
+    seen-set log pairs number l (caught_up log was) same
+    ∙ set-same (seen log pairs) number (caught_up log was) (sym (seen-some log pairs number was there))
+    ∙ ap (λ (t : Viewers). t.pairs) is
+
+-- ---- a walk over the viewers
+
+module _ (c : Connected Lagging) where
+  value-there : (place : ℕ) (v : Lagging) → value_at c place ≡ Some v → slice_get (values_of c.pairs) (index_of c.places place) ≡ Some v
+  value-there place v is = slice_get-map (λ pair. pair.1) c.pairs (index_of c.places place) ∙ is
+
+  passed-next : (here next : Option ℕ) (place : ℕ) (v : Lagging) → here ≡ Some place → value_at c place ≡ Some v → passed c next ≡ index_of c.places place + 1 → take (passed c next) (values_of c.pairs) ≡ take (passed c here) (values_of c.pairs) ++ v ∷ []
+  passed-next here next place v is value step =
+      let i : ℕ = index_of c.places place in
+      let count : passed c next ≡ suc i = omega (arith, step) in
+      ap (λ (n : ℕ). take n (values_of c.pairs)) count
+      ∙ take_next (values_of c.pairs) i v (value-there place v value)
+      ∙ ap (λ (o : Option ℕ). take (passed c o) (values_of c.pairs) ++ v ∷ []) (sym is)
+
+  all-passed : (here : Option ℕ) → IsListed c → here ≡ None → take (passed c here) (values_of c.pairs) ≡ values_of c.pairs
+  all-passed here listed is =
+      ap (λ (o : Option ℕ). take (passed c o) (values_of c.pairs)) is
+      ∙ take_all (length c.places) (values_of c.pairs) (omega (arith, length-map c.pairs (λ e. e.1), listed.as_many))
+
+  one-current : (v : Lagging) → IsCurrent v → All IsCurrent (v ∷ [])
+  one-current v is = all-cons IsCurrent v [] is (λ k d below. absurd (omega (arith, below)))
+
+  pub current-step : (here next : Option ℕ) (place : ℕ) (v : Lagging) → All IsCurrent (take (passed c here) (values_of c.pairs)) → here ≡ Some place → value_at c place ≡ Some v → IsCurrent v → passed c next ≡ index_of c.places place + 1 → All IsCurrent (take (passed c next) (values_of c.pairs))
+  current-step here next place v so_far is value current step =
+      subst (All IsCurrent) (sym (passed-next here next place v is value step)) (All-append IsCurrent (take (passed c here) (values_of c.pairs)) (v ∷ []) so_far (one-current v current))
+
+  pub current-end : (here : Option ℕ) → IsListed c → All IsCurrent (take (passed c here) (values_of c.pairs)) → here ≡ None → All IsCurrent (values_of c.pairs)
+  current-end here listed so_far is = subst (All IsCurrent) (all-passed here listed is) so_far
+
+  module _ {X : Type 0} (g : Lagging → Option X) where
+    pub picked-step : (made : List X) (here next : Option ℕ) (place : ℕ) (v : Lagging) → made ≡ filter_map g (take (passed c here) (values_of c.pairs)) → here ≡ Some place → value_at c place ≡ Some v → passed c next ≡ index_of c.places place + 1 → made ++ cons_option (g v) [] ≡ filter_map g (take (passed c next) (values_of c.pairs))
+    picked-step made here next place v so_far is value step =
+        ap (λ (l : List X). l ++ cons_option (g v) []) so_far
+        ∙ sym (filter_map-append g (take (passed c here) (values_of c.pairs)) (v ∷ []))
+        ∙ ap (filter_map g) (sym (passed-next here next place v is value step))
+
+    pub picked-end : (made : List X) (here : Option ℕ) → IsListed c → made ≡ filter_map g (take (passed c here) (values_of c.pairs)) → here ≡ None → made ≡ filter_map g (values_of c.pairs)
+    picked-end made here listed so_far is = so_far ∙ ap (filter_map g) (all-passed here listed is)
+
+-- ---- marks that are taken from the end of a list, turned round
+
+module _ {X : Type 0} where
+  reverse-option : (o : Option X) (rest : List X) → reverse (cons_option o rest) ≡ reverse rest ++ cons_option o []
+  reverse-option None rest = sym (append-nil (reverse rest))
+  reverse-option (Some x) rest = reverse-append (x ∷ []) rest
+
+  last-same : (xs ys : List X) (x y : X) → xs ++ x ∷ [] ≡ ys ++ y ∷ [] → xs ≡ ys
+  last-same xs ys x y e =
+      let turned : x ∷ reverse xs ≡ y ∷ reverse ys = sym (reverse-append xs (x ∷ [])) ∙ ap reverse e ∙ reverse-append ys (y ∷ []) in
+      let tails : reverse xs ≡ reverse ys = cc in
+      sym (reverse-reverse xs) ∙ ap reverse tails ∙ reverse-reverse ys
+
+  pub front-same : (o : Option X) (xs ys : List X) → xs ++ cons_option o [] ≡ ys ++ cons_option o [] → xs ≡ ys
+  front-same None xs ys e = sym (append-nil xs) ∙ e ∙ append-nil ys
+  front-same (Some x) xs ys e = last-same xs ys x x e
+
+  pub left-next : (g : Lagging → Option X) (pairs : List (ℕ × Lagging)) (i : ℕ) (v : Lagging) → option_map (λ (pair : ℕ × Lagging). pair.1) (slice_get pairs i) ≡ Some v → reverse (filter_map g (drop i (values_of pairs))) ≡ reverse (filter_map g (drop (suc i) (values_of pairs))) ++ cons_option (g v) []
+  left-next g pairs i v there =
+      ap (λ (l : List Lagging). reverse (filter_map g l)) (drop_next (values_of pairs) i v (slice_get-map (λ pair. pair.1) pairs i ∙ there))
+      ∙ reverse-option (g v) (filter_map g (drop (suc i) (values_of pairs)))

@@ -1,0 +1,49 @@
+-- One viewer that lags behind a log of drawing, and what it stands for.
+use Rattle.std.specs.Prelude.{◌≡◌, ℕ, ◌≤◌, ◌+◌, ◌-◌, true, if◌then◌else◌, List, length, drop, map, All}
+use Rattle.std.specs.Map.{values_of}
+use Rattle.copy_schedule.specs.declared.LogEntry.{LogEntry}
+use Rattle.copy_schedule.specs.Marks.{has_asked}
+use Rattle.copy_schedule.specs.Log.{after_entry, logged, IsCutEntry}
+use Rattle.viewer.specs.Viewer.{KeptViewer}
+use Rattle.viewer.specs.declared.notices.Notice.{Notice}
+use Rattle.viewer_list.specs.Viewers.{viewer_noticed}
+use Rattle.viewer_list.specs.declared.lagging.Lagging.{Lagging}
+
+-- the entries that a viewer's marks lack: the last ones of the log
+abbrev pub waiting : List LogEntry → Lagging → List LogEntry
+waiting log l = drop (length log - l.waits) log
+
+-- a viewer with its waiting entries applied, the first one first
+abbrev pub caught_up : List LogEntry → Lagging → KeptViewer
+caught_up log l = record l.viewer { marks = logged l.viewer.uses_copyrect (waiting log l) l.viewer.marks }
+
+-- the same viewer, whose marks lack nothing
+abbrev pub up_to_date : List LogEntry → Lagging → Lagging
+up_to_date log l = record { viewer = caught_up log l; waits = 0 }
+
+-- the pairs of number and viewer
+abbrev pub seen : List LogEntry → List (ℕ × Lagging) → List (ℕ × KeptViewer)
+seen log pairs = map (λ pair. (pair.0, caught_up log pair.1)) pairs
+
+-- a viewer's marks lack nothing
+abbrev pub IsCurrent : Lagging → Type 0
+IsCurrent l = l.waits ≡ 0
+
+-- the entries that a viewer lacks stand in the log, each copy is on its screen, and a viewer that asks lacks none
+pub record Fits (log : List LogEntry) (l : Lagging) : Type 0 where
+  pub stands : l.waits ≤ length log
+  pub asks : has_asked l.viewer.marks ≡ true → l.waits ≡ 0
+  pub cut : All (IsCutEntry l.viewer.marks.width l.viewer.marks.height) (waiting log l)
+
+-- a viewer that is told of a drawing call: at once where it asks, and elsewhere it lacks one entry more
+abbrev pub told : LogEntry → Lagging → Lagging
+told entry l = if has_asked l.viewer.marks then record l { viewer = record l.viewer { marks = after_entry l.viewer.uses_copyrect entry l.viewer.marks } } else record l { waits = l.waits + 1 }
+
+-- a viewer that keeps a notice, where it is open
+abbrev pub told_of : Notice → Lagging → Lagging
+told_of notice l = record l { viewer = viewer_noticed notice l.viewer }
+
+-- the log has at most 256 entries, and holds what the viewers lack
+pub record AllFit (log : List LogEntry) (pairs : List (ℕ × Lagging)) : Type 0 where
+  pub short : length log ≤ 256
+  pub each : All (Fits log) (values_of pairs)

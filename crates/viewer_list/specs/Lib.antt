@@ -1,0 +1,2 @@
+pub mod Lagging
+pub mod Viewers

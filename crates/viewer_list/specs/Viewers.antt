@@ -1,0 +1,58 @@
+-- What a contract sees of the viewers of a screen, and of a drawing call for them.
+use Rattle.std.specs.Prelude.{◌≡◌, ℕ, ◌≤◌, ◌==◌, ◌&&◌, ◌||◌, not, Bool, if◌then◌else◌, List, All, Option, Some, None}
+use Rattle.std.specs.List.{filter_map}
+use Rattle.std.specs.Map.{keys_of, values_of, lookup}
+use Rattle.client_list.specs.Connected.{index_of, set_value_at}
+use Rattle.copy_schedule.specs.declared.LogEntry.{LogEntry}
+use Rattle.copy_schedule.specs.Marks.{Marks, has_asked, pending}
+use Rattle.copy_schedule.specs.Log.{after_entry, IsCutEntry}
+use Rattle.messages.specs.Reading.{is_open_rest}
+use Rattle.viewer.specs.declared.notices.Notice.{Notice}
+use Rattle.viewer.specs.declared.notices.Notice.TheVariants as notice
+use Rattle.viewer.specs.Given.{keeps_notices}
+use Rattle.viewer.specs.Viewer.{KeptViewer, noticed, none_wait}
+
+-- the viewers by number, in their order of connecting, each as it would be had it been told of all drawing at once; and for how
+-- many drawing calls there is room
+pub record Viewers : Type 0 where
+  pub pairs : List (ℕ × KeptViewer)
+  pub room : ℕ
+
+-- the viewer with a number
+abbrev pub viewer_of : Viewers → ℕ → Option KeptViewer
+viewer_of s number = lookup (λ n. n == number) s.pairs
+
+-- the viewers once that with a number is another
+abbrev pub with_viewer : Viewers → ℕ → KeptViewer → List (ℕ × KeptViewer)
+with_viewer s number viewer = set_value_at s.pairs (index_of (keys_of s.pairs) number) viewer
+
+-- a viewer that was told of a drawing call
+abbrev pub drawn : LogEntry → KeptViewer → KeptViewer
+drawn entry v = record v { marks = after_entry v.uses_copyrect entry v.marks }
+
+-- a viewer that asks is told at once: its marks then
+abbrev pub told_at_once : LogEntry → KeptViewer → Option Marks
+told_at_once entry v = if has_asked v.marks then Some (after_entry v.uses_copyrect entry v.marks) else None
+
+-- a drawing call, and the marks of those viewers that ask
+pub record Drawn : Type 0 where
+  pub entry : LogEntry
+  pub marks : List Marks
+
+-- the drawing call was prepared for the viewers
+pub record IsReady (s : Viewers) (d : Drawn) : Type 0 where
+  pub room : 1 ≤ s.room
+  pub marks : d.marks ≡ filter_map (told_at_once d.entry) (values_of s.pairs)
+  pub cut : All (λ v. IsCutEntry v.marks.width v.marks.height d.entry) (values_of s.pairs)
+
+-- a viewer that keeps a notice, where it is open
+abbrev pub viewer_noticed : Notice → KeptViewer → KeptViewer
+viewer_noticed notice v = noticed notice (is_open_rest v.heard) v
+
+-- a text for a viewer, if it would keep one
+abbrev pub text_for : List ℕ → KeptViewer → Option Notice
+text_for text v = if keeps_notices v then Some (notice.CutText text) else None
+
+-- whether an update that is cut now would have something to send
+abbrev pub is_pending : KeptViewer → Bool
+is_pending v = is_open_rest v.heard && (not (none_wait v.notices) || pending v.marks)

@@ -1,0 +1,412 @@
+//! The viewers of a screen, and one log of the drawing that some of them lack.
+//!
+//! A viewer's marks are needed where it asks for places, and only then: one that asks is told of each drawing call at once.
+//! One that asks for nothing only lags: the call appends an entry to the log, which stands there once for all of them, and the
+//! viewer catches up before its next bytes are heard or an update is cut for it. Contracts see each viewer as it would be had it
+//! been told of all drawing at once; the log is in no clause. It has at most 256 entries: before a further one comes, all
+//! viewers catch up and the log is emptied. It is emptied, too, when no viewer lags.
+//!
+//! `lagging` is one viewer, `walks` what is done for each viewer in turn, and `notices` their bells and texts.
+#![tactic(auto)]
+
+ghost use Rattle.std.specs.Prelude.{◌≡◌, ◌≢◌, ◌++◌, ◌∷◌, [], ℕ, List, All, ◌≤◌, ◌^◌, ◌==◌, not, filter, length, IsTrue, ◌↔◌, IfOk, IfSome, OnOk, OnErr, MatchOption, MatchResult, IsOkUnless, is_some, None, Some};
+ghost use Rattle.std.specs.Map.{keys_of, values_of};
+ghost use Rattle.std.specs.Option.{option_map};
+ghost use Rattle.client_list.specs.Connected.{changed};
+ghost use Rattle.client_list.specs.declared.ConnectError.TheVariants.{NumberInUse, OutOfMemory};
+ghost use Rattle.copy_schedule.specs.Log.{IsCutEntry};
+ghost use Rattle.messages.specs.Reading.{rest, new_items, fault_kept, is_open_rest};
+ghost use Rattle.viewer.specs.declared.notices.Notice.{Notice};
+ghost use Rattle.viewer.specs.Hearing.{after_items, heard_reply};
+ghost use Rattle.viewer.specs.Sending.{sending_kept};
+ghost use Rattle.viewer.specs.Given.{bytes_given};
+ghost use Rattle.viewer.specs.Viewer.{KeptViewer};
+ghost use Rattle.viewer_list.specs.Viewers.{viewer_of, with_viewer, drawn, is_pending, IsReady, viewer_noticed};
+
+mod lagging;
+mod notices;
+mod walks;
+
+use client_list::{Clients, ConnectError, NoViewer};
+use framebuffer::Framebuffer;
+use lagging::{Lagging, catch_up, cut_bytes_one, cut_one, hear_one};
+use listed::Listed;
+use messages::Fault;
+use notices::{keep_texts, ring_all, texts};
+use std::alloc::{AllocError, Global};
+use std::marker::Model;
+use viewer::{LogEntry, Prepared, Reply, Update, Viewer};
+use walks::{catch_up_all, marks_of_all, some_lags, tell_all};
+
+/// How many entries the log has at most.
+const MOST: usize = 256;
+
+/// The viewers of a screen by number, in their order of connecting.
+#[derive(Drop)]
+pub struct ViewerList {
+    alloc: Global,
+    viewers: Clients<Lagging>,
+    log: Vec<LogEntry>,
+}
+
+impl Model for ViewerList {
+    ghost use Rattle.std.specs.Prelude.{min, vec_len, vec_capacity, ◌-◌};
+    ghost use Rattle.viewer_list.specs.Viewers.{Viewers};
+
+    ghost Value = { Viewers };
+
+    ghost use Rattle.viewer_list.specs.Lagging.{seen, AllFit};
+
+    ghost view = { λ a. record { pairs = seen a.log.items a.viewers.pairs; room = min (vec_capacity a.log) 256 - vec_len a.log } };
+
+    ghost invariant = { λ a. AllFit a.log.items a.viewers.pairs };
+}
+
+/// A drawing call that was prepared for the viewers: what it drew, and the marks of those that ask.
+#[derive(Drop)]
+pub struct Drawn {
+    entry: LogEntry,
+    marks: Vec<Prepared>,
+}
+
+impl Model for Drawn {
+    ghost use Rattle.viewer_list.specs.Viewers.{Drawn};
+
+    ghost Value = { Drawn };
+
+    ghost view = { λ a. record { entry = a.entry; marks = a.marks.items } };
+}
+
+impl ViewerList {
+    /// No viewers. This takes no memory.
+    pub fn new(alloc: Global) -> ViewerList
+        ensures { result.pairs ≡ [] }
+    {
+        ViewerList {
+            alloc,
+            viewers: Clients::new(alloc),
+            log: Vec::new(alloc),
+        }
+    }
+
+    /// How many viewers there are.
+    pub fn len(&self) -> usize
+        ensures { result ≡ length self.now.pairs }
+    {
+        self.viewers.len()
+    }
+
+    /// Whether there are none.
+    pub fn is_empty(&self) -> bool
+        ensures { IsTrue result ↔ (self.now.pairs ≡ []) }
+    {
+        self.viewers.is_empty()
+    }
+
+    /// How many entries of drawing the log has, at most 256.
+    pub fn log_len(&self) -> usize
+        ensures { result ≤ 256 }
+    {
+        self.log.len()
+    }
+
+    /// The viewers' numbers, in the order in which they connected.
+    pub fn numbers(&self) -> Result<Vec<u64>, AllocError>
+        ensures { IfOk result (λ numbers. numbers.items ≡ keys_of self.now.pairs) }
+    {
+        self.viewers.numbers(self.alloc)
+    }
+
+    /// Whether a viewer has the number.
+    pub fn has(&self, number: u64) -> bool
+        ensures { result ≡ is_some (viewer_of self.now number) }
+    {
+        match self.viewers.get(number) {
+            Some(_) => true,
+            None => false,
+        }
+    }
+
+    /// Whether the viewer with a number had its ServerInit (RFC 6143, 7.3.2) and met no fault; None where there is none.
+    pub fn is_open(&self, number: u64) -> Option<bool>
+        ensures { result ≡ option_map (λ viewer. is_open_rest viewer.heard) (viewer_of self.now number) }
+    {
+        match self.viewers.get(number) {
+            Some(lagging) => Some(lagging.viewer.is_open()),
+            None => None,
+        }
+    }
+
+    /// Why the viewer with a number is heard no further, if it met a fault; None where there is no such viewer.
+    pub fn fault(&self, number: u64) -> Option<Option<Fault>>
+        ensures { result ≡ option_map (λ viewer. fault_kept viewer.heard) (viewer_of self.now number) }
+    {
+        match self.viewers.get(number) {
+            Some(lagging) => Some(lagging.viewer.fault()),
+            None => None,
+        }
+    }
+
+    /// Whether an update that is cut now for the viewer with a number would have something to send; None where there is none.
+    /// This takes no memory: a viewer that asks lags behind nothing, and for another no place is pending.
+    pub fn is_pending(&self, number: u64) -> Option<bool>
+        ensures { result ≡ option_map is_pending (viewer_of self.now number) }
+    {
+        match self.viewers.get(number) {
+            Some(lagging) => Some(lagging.viewer.is_pending()),
+            None => None,
+        }
+    }
+
+    /// Takes in a viewer, behind all others. `NumberInUse` where a viewer has the number, then `OutOfMemory` where the room is
+    /// refused; either way the viewer is dropped, and nothing else changes.
+    pub fn connect(&mut self, number: u64, viewer: Viewer) -> Result<(), ConnectError>
+        ensures pairs { OnOk result (self.new.pairs ≡ self.old.pairs ++ (number, viewer) ∷ []) }
+        ensures refused { MatchOption (viewer_of self.old number) (IsOkUnless result OutOfMemory) (λ _. result ≡ Err NumberInUse) }
+        ensures err { OnErr result (self.new ≡ self.old) }
+    {
+        self.viewers.connect(number, Lagging { viewer, waits: 0 })
+    }
+
+    /// Takes out the viewer with a number; the others stay in their order. `NoViewer` where no viewer has it, and then nothing
+    /// changes. This takes no memory.
+    pub fn remove(&mut self, number: u64) -> Result<(), NoViewer>
+        ensures ok { OnOk result (self.new.pairs ≡ filter (λ pair. not (pair.0 == number)) self.old.pairs) }
+        ensures found { MatchResult result (λ _. viewer_of self.old number ≢ None) (λ _. viewer_of self.old number ≡ None) }
+        ensures err { OnErr result (self.new ≡ self.old) }
+    {
+        self.take_out(number)?;
+        self.tidy();
+        Ok(())
+    }
+
+    /// Each viewer keeps a Bell, where it is open and fewer than 64 notices wait. This takes no memory.
+    pub fn ring(&mut self)
+        ensures { self.new.pairs ≡ changed (viewer_noticed Notice.Bell) self.old.pairs }
+    {
+        ring_all(&mut self.viewers);
+    }
+
+    /// Each viewer keeps a text of at most 65,536 bytes, where it is open and fewer than 64 notices wait. After an `AllocError`
+    /// nothing has changed.
+    pub fn text(&mut self, text: &[u8]) -> Result<(), AllocError>
+        requires { length text.now ≤ 2 ^ 16 }
+        ensures ok { OnOk result (self.new.pairs ≡ changed (viewer_noticed (Notice.CutText text.now)) self.old.pairs) }
+        ensures err { OnErr result (self.new ≡ self.old) }
+    {
+        let notices = texts(self.alloc, &self.viewers, text)?;
+        keep_texts(&mut self.viewers, text, notices);
+        Ok(())
+    }
+
+    /// Prepares a drawing call, whose copy is on each viewer's screen with its sources: all growths that it needs. The viewers
+    /// stay as they are, also after an `AllocError`.
+    pub fn prepare(&mut self, entry: LogEntry) -> Result<Drawn, AllocError>
+        requires cut { All (λ v. IsCutEntry v.marks.width v.marks.height entry) (values_of self.old.pairs) }
+        ensures same { self.new.pairs ≡ self.old.pairs }
+        ensures ready { IfOk result (IsReady self.new) }
+        ensures entry { IfOk result (λ drawn. drawn.entry ≡ entry) }
+    {
+        self.make_room()?;
+        let marks = marks_of_all(self.alloc, &self.viewers, &entry)?;
+        Ok(Drawn { entry, marks })
+    }
+
+    /// Each viewer is told of a drawing call that was prepared for them as they are. This takes no memory.
+    pub fn commit(&mut self, call: Drawn)
+        requires { IsReady self.old call }
+        ensures { self.new.pairs ≡ changed (drawn call.entry) self.old.pairs }
+    {
+        self.append(call);
+        self.tidy();
+    }
+
+    /// A piece of a viewer's bytes is heard (RFC 6143, 7.1 to 7.5): what it is answered, what it tells the application, and why
+    /// it is heard no further; None where no viewer has the number. The desktop's name is what its ServerInit tells it (7.3.2).
+    /// After an `AllocError` the viewers are as they were.
+    pub fn hear(
+        &mut self,
+        number: u64,
+        name: &[u8],
+        piece: &[u8],
+    ) -> Result<Option<Reply>, AllocError>
+        requires { length name.now ≤ u32.MAX }
+        ensures absent { viewer_of self.old number ≡ None → result ≡ Ok None }
+        ensures none { viewer_of self.old number ≡ None → self.new.pairs ≡ self.old.pairs }
+        ensures reply { (v : KeptViewer) (before : List ℕ) → viewer_of self.old number ≡ Some v → v.heard ≡ rest before →
+            IfOk result (λ reply. reply ≡ Some (heard_reply v.marks.width v.marks.height name.now before piece.now)) }
+        ensures viewer { (v : KeptViewer) (before : List ℕ) → viewer_of self.old number ≡ Some v → v.heard ≡ rest before →
+            OnOk result (self.new.pairs ≡ with_viewer self.old number (after_items v.marks.width v.marks.height (new_items before piece.now) (record v { heard = rest (before ++ piece.now) }))) }
+        ensures err { OnErr result (self.new.pairs ≡ self.old.pairs) }
+    {
+        let reply = self.hear_viewer(number, name, piece)?;
+        self.tidy();
+        Ok(reply)
+    }
+
+    /// Cuts an update of the picture for the viewer with a number, with at most so many copies and so many rectangles of colours;
+    /// None where no viewer has the number, or `Some(None)` where there is nothing to send. After an `AllocError` the viewers are
+    /// as they were.
+    pub fn cut(
+        &mut self,
+        number: u64,
+        picture: &mut Framebuffer,
+        limit: u32,
+    ) -> Result<Option<Option<Update>>, AllocError>
+        requires limit { limit ≤ 1000 }
+        requires width { (v : KeptViewer) → viewer_of self.old number ≡ Some v → v.marks.width ≡ picture.old.width }
+        requires height { (v : KeptViewer) → viewer_of self.old number ≡ Some v → v.marks.height ≡ picture.old.height }
+        ensures same { picture.new ≡ picture.old }
+        ensures absent { viewer_of self.old number ≡ None → result ≡ Ok None }
+        ensures none { viewer_of self.old number ≡ None → self.new.pairs ≡ self.old.pairs }
+        ensures bytes { (v : KeptViewer) → viewer_of self.old number ≡ Some v →
+            IfOk result (λ update. option_map bytes_given update ≡ Some (sending_kept picture.old.width picture.old.height limit picture.old.colours v).0) }
+        ensures viewer { (v : KeptViewer) → viewer_of self.old number ≡ Some v →
+            OnOk result (self.new.pairs ≡ with_viewer self.old number (sending_kept picture.old.width picture.old.height limit picture.old.colours v).1) }
+        ensures some { IfOk result (λ update. IfSome update (λ u. IfSome u (λ bytes. bytes ≢ []))) }
+        ensures err { OnErr result (self.new.pairs ≡ self.old.pairs) }
+    {
+        let update = self.cut_viewer(number, picture, limit)?;
+        self.tidy();
+        Ok(update)
+    }
+
+    /// The same, encoded before the viewer changes; no bytes where there is nothing to send.
+    pub fn cut_bytes(
+        &mut self,
+        number: u64,
+        picture: &mut Framebuffer,
+        limit: u32,
+    ) -> Result<Option<Vec<u8>>, AllocError>
+        requires limit { limit ≤ 1000 }
+        requires width { (v : KeptViewer) → viewer_of self.old number ≡ Some v → v.marks.width ≡ picture.old.width }
+        requires height { (v : KeptViewer) → viewer_of self.old number ≡ Some v → v.marks.height ≡ picture.old.height }
+        ensures same { picture.new ≡ picture.old }
+        ensures absent { viewer_of self.old number ≡ None → result ≡ Ok None }
+        ensures none { viewer_of self.old number ≡ None → self.new.pairs ≡ self.old.pairs }
+        ensures bytes { (v : KeptViewer) → viewer_of self.old number ≡ Some v →
+            IfOk result (λ bytes. option_map (λ b. b.items) bytes ≡ Some (sending_kept picture.old.width picture.old.height limit picture.old.colours v).0) }
+        ensures viewer { (v : KeptViewer) → viewer_of self.old number ≡ Some v →
+            OnOk result (self.new.pairs ≡ with_viewer self.old number (sending_kept picture.old.width picture.old.height limit picture.old.colours v).1) }
+        ensures err { OnErr result (self.new.pairs ≡ self.old.pairs) }
+    {
+        let bytes = self.cut_bytes_viewer(number, picture, limit)?;
+        self.tidy();
+        Ok(bytes)
+    }
+
+    // Room for one entry more. Where 256 stand, all viewers catch up first, and the log is emptied.
+    fn make_room(&mut self) -> Result<(), AllocError>
+        ensures same { self.new.pairs ≡ self.old.pairs }
+        ensures ok { OnOk result (1 ≤ self.new.room) }
+    {
+        if self.log.len() >= MOST {
+            catch_up_all(&mut self.viewers, &self.log)?;
+            self.log.clear();
+        }
+        self.log.reserve(1)
+    }
+
+    // The log has a drawing call more, and the viewers that ask are told of it at once.
+    fn append(&mut self, call: Drawn)
+        requires { IsReady self.old call }
+        ensures { self.new.pairs ≡ changed (drawn call.entry) self.old.pairs }
+    {
+        let Drawn { entry, marks } = call;
+        tell_all(&mut self.viewers, &entry, marks);
+        self.log.push_reserved(entry);
+    }
+
+    // The log is emptied where no viewer lacks an entry.
+    fn tidy(&mut self)
+        ensures { self.new.pairs ≡ self.old.pairs }
+    {
+        if !some_lags(&self.viewers) {
+            self.log.clear();
+        }
+    }
+
+    fn take_out(&mut self, number: u64) -> Result<(), NoViewer>
+        ensures ok { OnOk result (self.new.pairs ≡ filter (λ pair. not (pair.0 == number)) self.old.pairs) }
+        ensures found { MatchResult result (λ _. viewer_of self.old number ≢ None) (λ _. viewer_of self.old number ≡ None) }
+        ensures err { OnErr result (self.new ≡ self.old) }
+    {
+        match self.viewers.remove(number) {
+            Ok(_) => Ok(()),
+            Err(error) => Err(error),
+        }
+    }
+
+    fn hear_viewer(
+        &mut self,
+        number: u64,
+        name: &[u8],
+        piece: &[u8],
+    ) -> Result<Option<Reply>, AllocError>
+        requires { length name.now ≤ u32.MAX }
+        ensures absent { viewer_of self.old number ≡ None → result ≡ Ok None }
+        ensures none { viewer_of self.old number ≡ None → self.new.pairs ≡ self.old.pairs }
+        ensures reply { (v : KeptViewer) (before : List ℕ) → viewer_of self.old number ≡ Some v → v.heard ≡ rest before →
+            IfOk result (λ reply. reply ≡ Some (heard_reply v.marks.width v.marks.height name.now before piece.now)) }
+        ensures viewer { (v : KeptViewer) (before : List ℕ) → viewer_of self.old number ≡ Some v → v.heard ≡ rest before →
+            OnOk result (self.new.pairs ≡ with_viewer self.old number (after_items v.marks.width v.marks.height (new_items before piece.now) (record v { heard = rest (before ++ piece.now) }))) }
+        ensures err { OnErr result (self.new.pairs ≡ self.old.pairs) }
+    {
+        let Some(lagging) = self.viewers.get_mut(number) else {
+            return Ok(None);
+        };
+        let reply = hear_one(lagging, &self.log, name, piece)?;
+        Ok(Some(reply))
+    }
+
+    fn cut_viewer(
+        &mut self,
+        number: u64,
+        picture: &mut Framebuffer,
+        limit: u32,
+    ) -> Result<Option<Option<Update>>, AllocError>
+        requires limit { limit ≤ 1000 }
+        requires width { (v : KeptViewer) → viewer_of self.old number ≡ Some v → v.marks.width ≡ picture.old.width }
+        requires height { (v : KeptViewer) → viewer_of self.old number ≡ Some v → v.marks.height ≡ picture.old.height }
+        ensures same { picture.new ≡ picture.old }
+        ensures absent { viewer_of self.old number ≡ None → result ≡ Ok None }
+        ensures none { viewer_of self.old number ≡ None → self.new.pairs ≡ self.old.pairs }
+        ensures bytes { (v : KeptViewer) → viewer_of self.old number ≡ Some v →
+            IfOk result (λ update. option_map bytes_given update ≡ Some (sending_kept picture.old.width picture.old.height limit picture.old.colours v).0) }
+        ensures viewer { (v : KeptViewer) → viewer_of self.old number ≡ Some v →
+            OnOk result (self.new.pairs ≡ with_viewer self.old number (sending_kept picture.old.width picture.old.height limit picture.old.colours v).1) }
+        ensures some { IfOk result (λ update. IfSome update (λ u. IfSome u (λ bytes. bytes ≢ []))) }
+        ensures err { OnErr result (self.new.pairs ≡ self.old.pairs) }
+    {
+        let Some(lagging) = self.viewers.get_mut(number) else {
+            return Ok(None);
+        };
+        let update = cut_one(lagging, &self.log, picture, limit)?;
+        Ok(Some(update))
+    }
+
+    fn cut_bytes_viewer(
+        &mut self,
+        number: u64,
+        picture: &mut Framebuffer,
+        limit: u32,
+    ) -> Result<Option<Vec<u8>>, AllocError>
+        requires limit { limit ≤ 1000 }
+        requires width { (v : KeptViewer) → viewer_of self.old number ≡ Some v → v.marks.width ≡ picture.old.width }
+        requires height { (v : KeptViewer) → viewer_of self.old number ≡ Some v → v.marks.height ≡ picture.old.height }
+        ensures same { picture.new ≡ picture.old }
+        ensures absent { viewer_of self.old number ≡ None → result ≡ Ok None }
+        ensures none { viewer_of self.old number ≡ None → self.new.pairs ≡ self.old.pairs }
+        ensures bytes { (v : KeptViewer) → viewer_of self.old number ≡ Some v →
+            IfOk result (λ bytes. option_map (λ b. b.items) bytes ≡ Some (sending_kept picture.old.width picture.old.height limit picture.old.colours v).0) }
+        ensures viewer { (v : KeptViewer) → viewer_of self.old number ≡ Some v →
+            OnOk result (self.new.pairs ≡ with_viewer self.old number (sending_kept picture.old.width picture.old.height limit picture.old.colours v).1) }
+        ensures err { OnErr result (self.new.pairs ≡ self.old.pairs) }
+    {
+        let Some(lagging) = self.viewers.get_mut(number) else {
+            return Ok(None);
+        };
+        let bytes = cut_bytes_one(lagging, &self.log, picture, limit)?;
+        Ok(Some(bytes))
+    }
+}

@@ -1,0 +1,80 @@
+//! Notices for all viewers.
+
+ghost use Rattle.std.specs.Prelude.{◌≡◌, ◌≤◌, ◌^◌, map, length, IfOk};
+ghost use Rattle.std.specs.Map.{values_of};
+ghost use Rattle.client_list.specs.Connected.{changed};
+ghost use Rattle.viewer.specs.declared.notices.Notice.{Notice};
+ghost use Rattle.viewer_list.specs.Lagging.{told_of};
+ghost use Rattle.viewer_list.specs.Viewers.{text_for};
+
+use crate::lagging::Lagging;
+use client_list::Clients;
+use listed::Listed;
+use std::alloc::{AllocError, Global};
+use viewer::Notice;
+
+/// Each viewer keeps a Bell, where it is open.
+pub fn ring_all(viewers: &mut Clients<Lagging>)
+    ensures { viewers.new.pairs ≡ changed (told_of Notice.Bell) viewers.old.pairs }
+{
+    let mut place = viewers.first();
+    while let Some(at) = place {
+        viewers.at_mut(at).viewer.keep(Notice::Bell);
+        place = viewers.next(at);
+    }
+}
+
+/// A text for a viewer, if it would keep one.
+fn text_for(alloc: Global, lagging: &Lagging, text: &[u8]) -> Result<Option<Notice>, AllocError>
+    ensures { IfOk result (λ notice. notice ≡ text_for text.now lagging.now.viewer) }
+{
+    if lagging.viewer.keeps_notices() {
+        Ok(Some(Notice::CutText(Listed::from_slice(alloc, text)?)))
+    } else {
+        Ok(None)
+    }
+}
+
+/// A text for each viewer that would keep one.
+pub fn texts(
+    alloc: Global,
+    viewers: &Clients<Lagging>,
+    text: &[u8],
+) -> Result<Vec<Option<Notice>>, AllocError>
+    ensures { IfOk result (λ notices. notices.items ≡ map (λ l. text_for text.now l.viewer) (values_of viewers.now.pairs)) }
+{
+    let mut notices = Vec::with_capacity(alloc, viewers.len())?;
+    let mut place = viewers.first();
+    while let Some(at) = place {
+        notices.push(text_for(alloc, viewers.at(at), text)?)?;
+        place = viewers.next(at);
+    }
+    Ok(notices)
+}
+
+/// A viewer keeps the text that was made for it.
+fn keep_text(lagging: &mut Lagging, text: &[u8], notice: Option<Notice>)
+    requires short { length text.now ≤ 2 ^ 16 }
+    requires text { notice ≡ text_for text.now lagging.old.viewer }
+    ensures { lagging.new ≡ told_of (Notice.CutText text.now) lagging.old }
+{
+    if let Some(notice) = notice {
+        lagging.viewer.keep(notice);
+    }
+}
+
+/// Each viewer keeps its text, the first viewer the first. This takes no memory.
+pub fn keep_texts(viewers: &mut Clients<Lagging>, text: &[u8], mut notices: Vec<Option<Notice>>)
+    requires short { length text.now ≤ 2 ^ 16 }
+    requires texts { notices.items ≡ map (λ l. text_for text.now l.viewer) (values_of viewers.old.pairs) }
+    ensures { viewers.new.pairs ≡ changed (told_of (Notice.CutText text.now)) viewers.old.pairs }
+{
+    notices.reverse();
+    let mut place = viewers.first();
+    while let Some(at) = place {
+        if let Some(notice) = notices.pop() {
+            keep_text(viewers.at_mut(at), text, notice);
+        }
+        place = viewers.next(at);
+    }
+}

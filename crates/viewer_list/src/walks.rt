@@ -1,0 +1,119 @@
+//! What is done for each viewer in turn.
+
+ghost use Rattle.std.specs.Prelude.{◌≡◌, ◌++◌, ◌∷◌, [], ◌+◌, ◌≤◌, ◌<◌, ◌^◌, List, All, map, true, false, if◌then◌else◌, length, IfOk, OnOk, Some, None};
+ghost use Rattle.std.specs.List.{filter_map, cons_option};
+ghost use Rattle.std.specs.Map.{values_of};
+ghost use Rattle.client_list.specs.Connected.{changed};
+ghost use Rattle.copy_schedule.specs.Marks.{Marks};
+ghost use Rattle.copy_schedule.specs.Log.{IsCutEntry};
+ghost use Rattle.viewer.specs.declared.notices.Notice.{Notice};
+ghost use Rattle.viewer.specs.Short.{IsShort};
+ghost use Rattle.viewer_list.specs.Lagging.{up_to_date, seen, told, IsCurrent, Fits};
+ghost use Rattle.viewer_list.specs.Viewers.{told_at_once, viewer_noticed, text_for};
+
+use crate::lagging::{Lagging, catch_up};
+use client_list::Clients;
+use listed::Listed;
+use std::alloc::{AllocError, Global};
+use viewer::{LogEntry, Notice, Prepared};
+
+/// The marks of every viewer take what they lack of the log. After an `AllocError` some may have taken it.
+pub fn catch_up_all(viewers: &mut Clients<Lagging>, log: &[LogEntry]) -> Result<(), AllocError>
+    requires { All (Fits log.now) (values_of viewers.old.pairs) }
+    ensures ok { OnOk result (viewers.new.pairs ≡ changed (up_to_date log.now) viewers.old.pairs) }
+    ensures same { seen log.now viewers.new.pairs ≡ seen log.now viewers.old.pairs }
+    ensures fits { All (Fits log.now) (values_of viewers.new.pairs) }
+{
+    let mut place = viewers.first();
+    while let Some(at) = place {
+        catch_up(viewers.at_mut(at), log)?;
+        place = viewers.next(at);
+    }
+    Ok(())
+}
+
+fn lags(lagging: &Lagging) -> bool
+    ensures { result ≡ false → IsCurrent lagging.now }
+{
+    lagging.waits != 0
+}
+
+/// Whether some viewer's marks lack an entry.
+pub fn some_lags(viewers: &Clients<Lagging>) -> bool
+    ensures { result ≡ false → All IsCurrent (values_of viewers.now.pairs) }
+{
+    let mut place = viewers.first();
+    while let Some(at) = place {
+        if lags(viewers.at(at)) {
+            return true;
+        }
+        place = viewers.next(at);
+    }
+    false
+}
+
+/// The marks of a viewer that asks, once it is told of a drawing call.
+fn marks_of(lagging: &Lagging, entry: &LogEntry) -> Result<Option<Prepared>, AllocError>
+    requires cut { IsCutEntry lagging.now.viewer.marks.width lagging.now.viewer.marks.height entry.now }
+    ensures { IfOk result (λ marks. marks ≡ told_at_once entry.now lagging.now.viewer) }
+{
+    if !lagging.viewer.has_asked() {
+        return Ok(None);
+    }
+    let viewer = &lagging.viewer;
+    let prepared = match entry {
+        LogEntry::Mark(region) => viewer.prepare_mark(region)?,
+        LogEntry::Copy { region, dx, dy } => viewer.prepare_copy(region, *dx, *dy)?,
+    };
+    Ok(Some(prepared))
+}
+
+/// The marks of each viewer that asks, once it is told of a drawing call.
+pub fn marks_of_all(
+    alloc: Global,
+    viewers: &Clients<Lagging>,
+    entry: &LogEntry,
+) -> Result<Vec<Prepared>, AllocError>
+    requires cut { All (λ l. IsCutEntry l.viewer.marks.width l.viewer.marks.height entry.now) (values_of viewers.now.pairs) }
+    ensures { IfOk result (λ all. all.items ≡ filter_map (λ l. told_at_once entry.now l.viewer) (values_of viewers.now.pairs)) }
+{
+    let mut all = Vec::new(alloc);
+    let mut place = viewers.first();
+    while let Some(at) = place {
+        if let Some(marks) = marks_of(viewers.at(at), entry)? {
+            all.push(marks)?;
+        }
+        place = viewers.next(at);
+    }
+    Ok(all)
+}
+
+/// A viewer is told of a drawing call: its marks, if it asks, are the last ones of the list; if not, it lacks one entry more.
+fn tell_one(lagging: &mut Lagging, entry: &LogEntry, all: &mut Vec<Prepared>)
+    requires asked { (m : Marks) → told_at_once entry.now lagging.old.viewer ≡ Some m → (rest : List Marks) × (all.old.items ≡ rest ++ m ∷ []) }
+    requires waits { lagging.old.waits < 256 }
+    ensures viewer { lagging.new ≡ told entry.now lagging.old }
+    ensures rest { all.old.items ≡ all.new.items ++ cons_option (told_at_once entry.now lagging.old.viewer) [] }
+{
+    if lagging.viewer.has_asked() {
+        if let Some(marks) = all.pop() {
+            lagging.viewer.commit(marks);
+        }
+    } else {
+        lagging.waits += 1;
+    }
+}
+
+/// Each viewer is told of a drawing call. This takes no memory.
+pub fn tell_all(viewers: &mut Clients<Lagging>, entry: &LogEntry, mut all: Vec<Prepared>)
+    requires marks { all.items ≡ filter_map (λ l. told_at_once entry.now l.viewer) (values_of viewers.old.pairs) }
+    requires waits { All (λ l. l.waits < 256) (values_of viewers.old.pairs) }
+    ensures { viewers.new.pairs ≡ changed (told entry.now) viewers.old.pairs }
+{
+    all.reverse();
+    let mut place = viewers.first();
+    while let Some(at) = place {
+        tell_one(viewers.at_mut(at), entry, &mut all);
+        place = viewers.next(at);
+    }
+}
