@@ -1,9 +1,9 @@
 //! What lines of scripts say, and what is printed of answers. A function that owns a line or an answer compares it and ends; the
 //! tests are tables.
 
-use play_script::{Line, answer_text, bad_line_text, cut_line, ok_text, parse_line, refusal_text};
 use listed::Listed;
 use messages::{Fault, Input};
+use play_script::{Line, answer_text, bad_line_text, cut_line, ok_text, parse_line, refusal_text};
 use region::Rect;
 use screen::{Answer, Config, Event, ScreenError};
 use std::alloc::{AllocError, Global};

@@ -3,8 +3,8 @@
 ghost use Rattle.std.specs.Prelude.{◌≡◌, IfOk, None};
 ghost use Rattle.scene.specs.Alone.{config_refusal};
 
-use receipts::{Ended, FinishError, Receipt, Report, Sent, check};
 use listed::Listed;
+use receipts::{Ended, FinishError, Receipt, Report, Sent, check};
 use region::Rect;
 use scene::{Config, Event, History};
 use std::alloc::{AllocError, Global};

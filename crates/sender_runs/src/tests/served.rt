@@ -2,12 +2,12 @@
 
 ghost use Rattle.std.specs.Prelude.{◌≡◌, ◌<◌};
 
-use serving::{Application, ServeError, serve_viewers};
 use input_queue::Told;
 use listed::Listed;
 use messages::{Fault, Input};
 use receipts::{Ended, Receipt};
 use screen::{Config, History, Rect, ScreenError};
+use serving::{Application, ServeError, serve_viewers};
 use std::alloc::Global;
 use std::io::{ErrorKind, Read, Write};
 use std::marker::Brand;
