@@ -1,5 +1,5 @@
 -- Marks that are joined, marks of no place, and places that are asked for.
-use Rattle.std.proofs.Common.{◌≡◌, ℕ, suc, zero, ◌+◌, ◌*◌, ◌/◌, ◌%◌, ◌<◌, ◌≤◌, zero-add, Bool, true, false, cond, ◌||◌, ◌&&◌, not, List, [], ◌∷◌, get_or, replicate, refl, sym, ◌∙◌, ap, arith}
+use Rattle.std.proofs.Common.{◌≡◌, ℕ, suc, zero, ◌+◌, ◌*◌, ◌/◌, ◌%◌, ◌<◌, zero-add, Bool, true, false, cond, ◌||◌, ◌&&◌, not, List, [], ◌∷◌, get_or, replicate, refl, sym, ◌∙◌, ap, arith}
 use Rattle.std.specs.Prelude.{ℤ, pos, nat_abs}
 use Rattle.std.specs.List.{All, list_any}
 use Rattle.std.proofs.lemmas.Int.{ints}
@@ -11,11 +11,17 @@ use Rattle.region.specs.Region.{covers, in_rect, on_screen, IsCanonical}
 use Rattle.region.specs.Places.{by_place, IsOnScreen}
 use Rattle.region.proofs.Places.{is_place, same_by_place, below, value_on}
 use Rattle.region.proofs.CopyPlaces.{rects-on-screen}
-use Rattle.copy_schedule.specs.declared.Mark.{Mark}
+use Rattle.copy_schedule.specs.declared.Mark as mark
 use Rattle.copy_schedule.specs.declared.Mark.TheVariants.{Clean, Owed}
-use Rattle.copy_schedule.specs.Marks.{Marks, mark_at, asked_at, has_asked, marked, is_clean, wanted, pending}
+use Rattle.copy_schedule.specs.Marks.{Marks, mark_at, has_asked, marked, copied_by, is_clean, wanted, pending}
 use Rattle.copy_schedule.specs.Kept.{LiesOn}
 use Rattle.copy_schedule.proofs.KeptLemmas.{none_asked}
+use Rattle.copy_schedule.specs.declared.LogEntry.{LogEntry}
+use Rattle.copy_schedule.specs.declared.LogEntry.TheVariants.{Mark, Copy}
+use Rattle.region.specs.Held.{Held}
+use Rattle.copy_schedule.specs.Log.{after_entry, logged, IsCutEntry}
+use Rattle.std.proofs.Common.{◌++◌}
+use Rattle.std.proofs.lemmas.List.Elements.{All-append, All-cons, All-nil, All-head, All-tail}
 
 -- one set after another is both at once
 pub marked_twice : (m : Marks) (first second both : ℤ → ℤ → Bool) → ((x y : ℤ) → both x y ≡ (first x y || second x y)) → marked both m ≡ marked second (marked first m)
@@ -24,11 +30,52 @@ marked_twice m first second both each = ap (λ marks. record m { marks = marks }
     ∙ either (first x y) (second x y) (mark_at m x y)
     ∙ ap (cond (second x y) Owed) (sym (value_on Clean m.width m.height (λ x y. cond (first x y) Owed (mark_at m x y)) x y on))))
   where
-    either : (a b : Bool) → (z : Mark) → cond (a || b) Owed z ≡ cond b Owed (cond a Owed z)
+    either : (a b : Bool) → (z : mark.Mark) → cond (a || b) Owed z ≡ cond b Owed (cond a Owed z)
     either true true z = refl
     either true false z = refl
     either false true z = refl
     either false false z = refl
+
+-- entries behind others
+pub logged_append : (uses : Bool) (xs ys : List LogEntry) (m : Marks) → logged uses (xs ++ ys) m ≡ logged uses ys (logged uses xs m)
+logged_append uses [] ys m = refl
+logged_append uses (x ∷ xs) ys m = logged_append uses xs ys (after_entry uses x m)
+
+-- an entry last, on a screen as the others are
+pub cut_append : (w h : ℕ) (xs : List LogEntry) (entry : LogEntry) → All (IsCutEntry w h) xs → IsCutEntry w h entry → All (IsCutEntry w h) (xs ++ entry ∷ [])
+cut_append w h xs entry all one = All-append (IsCutEntry w h) xs (entry ∷ []) all (All-cons (IsCutEntry w h) entry [] one (All-nil (IsCutEntry w h)))
+
+-- what is left of entries on a screen
+pub front_is_cut : (w h : ℕ) (xs ys : List LogEntry) → All (IsCutEntry w h) (xs ++ ys) → All (IsCutEntry w h) xs
+front_is_cut w h [] ys all = All-nil (IsCutEntry w h)
+front_is_cut w h (x ∷ xs) ys all = All-cons (IsCutEntry w h) x xs (All-head (IsCutEntry w h) x (xs ++ ys) all) (front_is_cut w h xs ys (All-tail (IsCutEntry w h) x (xs ++ ys) all))
+
+-- a mark that is joined to the last one
+pub joins_mark : (uses : Bool) (front old now : List LogEntry) (before region both : Held) (m : Marks) → old ≡ front ++ Mark before ∷ []
+    → ((x y : ℤ) → covers both.list x y ≡ (covers before.list x y || covers region.list x y)) → now ≡ front ++ Mark both ∷ []
+    → logged uses now m ≡ marked (covers region.list) (logged uses old m)
+joins_mark uses front old now before region both m was each is =
+    ap (λ (xs : List LogEntry). logged uses xs m) is
+    ∙ logged_append uses front (Mark both ∷ []) m
+    ∙ marked_twice (logged uses front m) (covers before.list) (covers region.list) (covers both.list) each
+    ∙ sym (ap (λ (xs : List LogEntry). marked (covers region.list) (logged uses xs m)) was ∙ ap (marked (covers region.list)) (logged_append uses front (Mark before ∷ []) m))
+
+-- a mark behind others
+pub joins_last : (uses : Bool) (old now : List LogEntry) (region copy : Held) (m : Marks) → now ≡ old ++ Mark copy ∷ [] → copy.list ≡ region.list
+    → logged uses now m ≡ marked (covers region.list) (logged uses old m)
+joins_last uses old now region copy m is same =
+    ap (λ (xs : List LogEntry). logged uses xs m) is
+    ∙ logged_append uses old (Mark copy ∷ []) m
+    ∙ ap (λ (rs : List Rect). marked (covers rs) (logged uses old m)) same
+
+-- a copy of the same region by the same offset
+pub joins_copy : (uses : Bool) (copy region : Held) (d e dx dy : ℤ) (entry : LogEntry) (m : Marks) → copy.list ≡ region.list → d ≡ dx → e ≡ dy → entry ≡ Copy region dx dy
+    → copied_by (covers copy.list) (d, e) uses m ≡ after_entry uses entry m
+joins_copy uses copy region d e dx dy entry m list across down is =
+    ap (λ (rs : List Rect). copied_by (covers rs) (d, e) uses m) list
+    ∙ ap (λ (x : ℤ). copied_by (covers region.list) (x, e) uses m) across
+    ∙ ap (λ (y : ℤ). copied_by (covers region.list) (dx, y) uses m) down
+    ∙ ap (λ (en : LogEntry). after_entry uses en m) (sym is)
 
 -- Places that are asked for.
 

@@ -20,6 +20,7 @@ mod sets;
 mod windows;
 
 use listed::Listed;
+pub use log::joined_log;
 pub use marks::{Marks, Prepared};
 use region::{Rect, Region};
 

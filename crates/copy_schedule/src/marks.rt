@@ -67,6 +67,15 @@ struct Sending {
     owed: Region,
 }
 
+impl Prepared {
+    /// The marks themselves. This takes no memory.
+    pub fn into_marks(self) -> Marks
+        ensures { result ≡ self }
+    {
+        self.marks
+    }
+}
+
 impl Marks {
     /// At connecting every place is owed, and none is asked for. The width and the height are in places, at most 8192 each.
     /// `AllocError` where memory for a rectangle is refused.
@@ -137,8 +146,8 @@ impl Marks {
         Ok(prepared)
     }
 
-    /// The marks as drawing leaves them that stands in a log, the first entry's first. Neighbouring marks are first joined in one
-    /// region. `AllocError` where memory is refused.
+    /// The marks as drawing leaves them that stands in a log, the first entry's first. Each entry makes new regions, so a long
+    /// log is first made shorter by `joined_log`. `AllocError` where memory is refused.
     pub fn apply_log(
         &self,
         entries: &[LogEntry],
@@ -147,8 +156,11 @@ impl Marks {
         requires cut { All (IsCutEntry self.now.width self.now.height) entries.now }
         ensures { IfOk result (λ prepared. prepared ≡ logged uses_copyrect entries.now self.now) }
     {
+        if let [LogEntry::Mark(region)] = entries {
+            return self.prepare_mark(region);
+        }
         let mut marks = self.try_clone()?;
-        take_entries(self.alloc, &mut marks, entries, uses_copyrect)?;
+        take_entries(&mut marks, entries, uses_copyrect)?;
         Ok(Prepared { marks })
     }
 
@@ -231,13 +243,6 @@ impl Marks {
     {
         self.asked.list_is_canonical();
         !self.asked.is_empty()
-    }
-
-    /// Marks of no place leave all as it is.
-    pub fn is_as_marked_nowhere(&self)
-        ensures { marked (covers []) self.now ≡ self.now }
-    {
-        let _ = &self.kept;
     }
 
     /// Whether a place is asked for and not clean (`FB_UPDATE_PENDING` of `rfb.h`): whether `cut` gives something.

@@ -1,14 +1,11 @@
 use Rattle.std.proofs.Common.{◌≡◌, drop}
-use Rattle.std.specs.List.{All}
-use Rattle.region.specs.Region.{covers}
-use Rattle.copy_schedule.specs.Marks.{marked}
-use Rattle.copy_schedule.specs.Log.{logged, IsCutEntry}
+use Rattle.copy_schedule.specs.Log.{logged}
 use Rattle.copy_schedule.proofs.log.take_entries.Given as goal
 
--- what is left makes of the marks now, with what waits, what all make of the marks before
+-- what is left makes of the marks now what all make of the marks before
 abbrev pub invariant-loop-entry : goal.invariant-loop-entry
 invariant-loop-entry l = record {
-  marks : logged l.uses_copyrect (drop l.entry-index l.entries) (marked (covers l.waiting.list) l.marks) ≡ logged l.uses_copyrect l.entries l.fn.marks;
+  marks : logged l.uses_copyrect (drop l.entry-index l.entries) l.marks ≡ logged l.uses_copyrect l.entries l.fn.marks;
   width : l.marks.width ≡ l.fn.marks.width;
   height : l.marks.height ≡ l.fn.marks.height;
 }
