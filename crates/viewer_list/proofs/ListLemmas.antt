@@ -17,7 +17,7 @@ use Rattle.viewer.specs.declared.notices.Notice.{Notice}
 use Rattle.viewer.specs.Viewer.{KeptViewer}
 use Rattle.viewer_list.specs.declared.lagging.Lagging.{Lagging}
 use Rattle.viewer_list.specs.Lagging.{waiting, caught_up, up_to_date, seen, told, told_of, IsCurrent, Fits}
-use Rattle.viewer_list.specs.Viewers.{Viewers, viewer_of, with_viewer, drawn, told_at_once, viewer_noticed}
+use Rattle.viewer_list.specs.Viewers.{Viewers, IsOfSize, viewer_of, with_viewer, drawn, told_at_once, viewer_noticed}
 use Rattle.viewer_list.proofs.LagLemmas.{caught_up_again, current_fits, current_alike, told_viewer, told_fits, told_same, logged-alike}
 
 module _ {T : Type 0} (P : T → Type 0) where
@@ -211,6 +211,15 @@ viewer-same s log pairs room number was l is there same =
     seen-set log pairs number l (caught_up log was) same
     ∙ set-same (seen log pairs) number (caught_up log was) (sym (seen-some log pairs number was there))
     ∙ ap (λ (t : Viewers). t.pairs) is
+
+-- one of the same size in another's place
+pub size-set : (s : Viewers) (log : List LogEntry) (pairs : List (ℕ × Lagging)) (room number : ℕ) (was l : Lagging) → record { pairs = seen log pairs; room = room } ≡ s → Some was ≡ lookup (λ n. n == number) pairs
+    → (caught_up log l).marks.width ≡ (caught_up log was).marks.width → (caught_up log l).marks.height ≡ (caught_up log was).marks.height
+    → (w h : ℕ) → All (IsOfSize w h) (values_of s.pairs) → All (IsOfSize w h) (values_of (seen log (set_value_at pairs (index_of (keys_of pairs) number) l)))
+size-set s log pairs room number was l is there width height w h sized =
+    let old : IsOfSize w h (caught_up log was) = all-numbered (IsOfSize w h) s.pairs number (caught_up log was) sized (sym (viewer-some s log pairs room number was is there)) in
+    subst (λ (ps : List (ℕ × KeptViewer)). All (IsOfSize w h) (values_of ps)) (sym (viewer-set s log pairs room number l (caught_up log l) is refl))
+    (all-set (IsOfSize w h) s.pairs (index_of (keys_of s.pairs) number) (caught_up log l) sized (record { width = width ∙ old.width; height = height ∙ old.height }))
 
 -- ---- a walk over the viewers
 

@@ -26,6 +26,11 @@ viewer_of s number = lookup (λ n. n == number) s.pairs
 abbrev pub with_viewer : Viewers → ℕ → KeptViewer → List (ℕ × KeptViewer)
 with_viewer s number viewer = set_value_at s.pairs (index_of (keys_of s.pairs) number) viewer
 
+-- a viewer's marks are of a size
+pub record IsOfSize (w h : ℕ) (v : KeptViewer) : Type 0 where
+  pub width : v.marks.width ≡ w
+  pub height : v.marks.height ≡ h
+
 -- a viewer that was told of a drawing call
 abbrev pub drawn : LogEntry → KeptViewer → KeptViewer
 drawn entry v = record v { marks = after_entry v.uses_copyrect entry v.marks }

@@ -47,6 +47,8 @@ pub fn hear_one(
         IfOk result (λ reply. reply ≡ heard_reply (caught_up log.now lagging.old).marks.width (caught_up log.now lagging.old).marks.height name.now before piece.now) }
     ensures viewer { (before : List ℕ) → (caught_up log.now lagging.old).heard ≡ rest before →
         OnOk result (caught_up log.now lagging.new ≡ after_items (caught_up log.now lagging.old).marks.width (caught_up log.now lagging.old).marks.height (new_items before piece.now) (record (caught_up log.now lagging.old) { heard = rest (before ++ piece.now) })) }
+    ensures width { (caught_up log.now lagging.new).marks.width ≡ (caught_up log.now lagging.old).marks.width }
+    ensures height { (caught_up log.now lagging.new).marks.height ≡ (caught_up log.now lagging.old).marks.height }
     ensures fits { Fits log.now lagging.new }
     ensures err { OnErr result (caught_up log.now lagging.new ≡ caught_up log.now lagging.old) }
 {

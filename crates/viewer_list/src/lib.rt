@@ -21,7 +21,7 @@ ghost use Rattle.viewer.specs.Hearing.{after_items, heard_reply};
 ghost use Rattle.viewer.specs.Sending.{sending_kept};
 ghost use Rattle.viewer.specs.Given.{bytes_given};
 ghost use Rattle.viewer.specs.Viewer.{KeptViewer};
-ghost use Rattle.viewer_list.specs.Viewers.{viewer_of, with_viewer, drawn, is_pending, IsReady, viewer_noticed};
+ghost use Rattle.viewer_list.specs.Viewers.{viewer_of, with_viewer, drawn, is_pending, IsReady, IsOfSize, viewer_noticed};
 
 mod lagging;
 mod notices;
@@ -231,12 +231,14 @@ impl ViewerList {
         piece: &[u8],
     ) -> Result<Option<Reply>, AllocError>
         requires { length name.now ≤ u32.MAX }
+        ensures found { IfOk result (λ reply. is_some reply ≡ is_some (viewer_of self.old number)) }
         ensures absent { viewer_of self.old number ≡ None → result ≡ Ok None }
         ensures none { viewer_of self.old number ≡ None → self.new.pairs ≡ self.old.pairs }
         ensures reply { (v : KeptViewer) (before : List ℕ) → viewer_of self.old number ≡ Some v → v.heard ≡ rest before →
             IfOk result (λ reply. reply ≡ Some (heard_reply v.marks.width v.marks.height name.now before piece.now)) }
         ensures viewer { (v : KeptViewer) (before : List ℕ) → viewer_of self.old number ≡ Some v → v.heard ≡ rest before →
             OnOk result (self.new.pairs ≡ with_viewer self.old number (after_items v.marks.width v.marks.height (new_items before piece.now) (record v { heard = rest (before ++ piece.now) }))) }
+        ensures size { (w h : ℕ) → All (IsOfSize w h) (values_of self.old.pairs) → All (IsOfSize w h) (values_of self.new.pairs) }
         ensures err { OnErr result (self.new.pairs ≡ self.old.pairs) }
     {
         let reply = self.hear_viewer(number, name, piece)?;
@@ -344,12 +346,14 @@ impl ViewerList {
         piece: &[u8],
     ) -> Result<Option<Reply>, AllocError>
         requires { length name.now ≤ u32.MAX }
+        ensures found { IfOk result (λ reply. is_some reply ≡ is_some (viewer_of self.old number)) }
         ensures absent { viewer_of self.old number ≡ None → result ≡ Ok None }
         ensures none { viewer_of self.old number ≡ None → self.new.pairs ≡ self.old.pairs }
         ensures reply { (v : KeptViewer) (before : List ℕ) → viewer_of self.old number ≡ Some v → v.heard ≡ rest before →
             IfOk result (λ reply. reply ≡ Some (heard_reply v.marks.width v.marks.height name.now before piece.now)) }
         ensures viewer { (v : KeptViewer) (before : List ℕ) → viewer_of self.old number ≡ Some v → v.heard ≡ rest before →
             OnOk result (self.new.pairs ≡ with_viewer self.old number (after_items v.marks.width v.marks.height (new_items before piece.now) (record v { heard = rest (before ++ piece.now) }))) }
+        ensures size { (w h : ℕ) → All (IsOfSize w h) (values_of self.old.pairs) → All (IsOfSize w h) (values_of self.new.pairs) }
         ensures err { OnErr result (self.new.pairs ≡ self.old.pairs) }
     {
         let Some(lagging) = self.viewers.get_mut(number) else {

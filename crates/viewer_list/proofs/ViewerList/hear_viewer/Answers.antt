@@ -1,4 +1,5 @@
 use Rattle.std.proofs.Common.{◌≡◌, ◌∙◌, ◌++◌, sym, ap, subst, Some, List}
+use Rattle.std.specs.Prelude.{is_some}
 use Rattle.std.proofs.lemmas.Option.{same_Some, none-some}
 use Rattle.std.proofs.lemmas.Result.{err_from_is_err_and}
 use Rattle.client_list.specs.Connected.{index_of_number}
@@ -8,7 +9,7 @@ use Rattle.viewer.specs.declared.Reply.{Reply}
 use Rattle.viewer.specs.Hearing.{after_items, heard_reply}
 use Rattle.viewer.specs.Viewer.{KeptViewer}
 use Rattle.viewer_list.specs.Lagging.{caught_up, Fits}
-use Rattle.viewer_list.proofs.ListLemmas.{viewer-some, viewer-absent, viewer-set, viewer-same, all-numbered, all-set}
+use Rattle.viewer_list.proofs.ListLemmas.{viewer-some, viewer-absent, viewer-set, viewer-same, size-set, all-numbered, all-set}
 use Rattle.viewer_list.proofs.ViewerList.hear_viewer.Goals as goal
 
 pub returns-in_default-clause-reply : goal.returns-in_default-clause-reply
@@ -63,3 +64,21 @@ returns-clause-viewer c = λ v before is heard.
     let same : caught_up log c.in-Some.lagging.now ≡ v = same_Some (caught_up log c.in-Some.lagging.now) v (sym (viewer-some c.args.self.now c.self.inside.log.items c.self.inside.viewers.pairs _ c.args.number c.in-Some.lagging.now c.self.view_is c.in-Some.ensures.value) ∙ is) in
     let P : List LogEntry → KeptViewer → Type 0 = λ es w. w.heard ≡ rest before → caught_up es c.hear_one.new.lagging ≡ after_items w.marks.width w.marks.height (new_items before c.args.piece.now) (record w { heard = rest (before ++ c.args.piece.now) }) in
     viewer-set c.args.self.now log c.self.inside.viewers.pairs _ c.args.number c.hear_one.new.lagging _ c.self.view_is (subst (P log) same (subst (λ (es : List LogEntry). P es (caught_up es c.in-Some.lagging.now)) c.deref.ensures.value (c.in_ok-reply.ensures.viewer before)) heard)
+
+pub returns-in_default-clause-found : goal.returns-in_default-clause-found
+returns-in_default-clause-found c = ap is_some (sym (viewer-absent c.args.self.now c.self.inside.log.items c.self.inside.viewers.pairs _ c.args.number c.self.view_is c.in_default.ensures.value))
+
+pub returns-clause-found : goal.returns-clause-found
+returns-clause-found c = ap is_some (sym (viewer-some c.args.self.now c.self.inside.log.items c.self.inside.viewers.pairs _ c.args.number c.in-Some.lagging.now c.self.view_is c.in-Some.ensures.value))
+
+pub returns-in_err-reply-clause-size : goal.returns-in_err-reply-clause-size
+returns-in_err-reply-clause-size c = λ w h sized.
+    let P : List LogEntry → Type 0 = λ es. ((caught_up es c.hear_one.new.lagging).marks.width ≡ (caught_up es c.in-Some.lagging.now).marks.width) × ((caught_up es c.hear_one.new.lagging).marks.height ≡ (caught_up es c.in-Some.lagging.now).marks.height) in
+    let same : P c.self.inside.log.items = subst P c.deref.ensures.value (c.hear_one.ensures.width, c.hear_one.ensures.height) in
+    size-set c.args.self.now c.self.inside.log.items c.self.inside.viewers.pairs _ c.args.number c.in-Some.lagging.now c.hear_one.new.lagging c.self.view_is c.in-Some.ensures.value same.0 same.1 w h sized
+
+pub returns-clause-size : goal.returns-clause-size
+returns-clause-size c = λ w h sized.
+    let P : List LogEntry → Type 0 = λ es. ((caught_up es c.hear_one.new.lagging).marks.width ≡ (caught_up es c.in-Some.lagging.now).marks.width) × ((caught_up es c.hear_one.new.lagging).marks.height ≡ (caught_up es c.in-Some.lagging.now).marks.height) in
+    let same : P c.self.inside.log.items = subst P c.deref.ensures.value (c.hear_one.ensures.width, c.hear_one.ensures.height) in
+    size-set c.args.self.now c.self.inside.log.items c.self.inside.viewers.pairs _ c.args.number c.in-Some.lagging.now c.hear_one.new.lagging c.self.view_is c.in-Some.ensures.value same.0 same.1 w h sized
