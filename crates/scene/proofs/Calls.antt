@@ -19,6 +19,7 @@ use Rattle.viewer.specs.Sending.{sending_kept, with_update}
 use Rattle.scene.specs.Alone.{own_step, heard_answer, gives, refuses, nothing_to_say, some_bytes, Tells}
 use Rattle.viewer.specs.Hearing.{after_items}
 use Rattle.scene.specs.Answers.{viewer_of, SceneState, scene_after, answer_to}
+use Rattle.scene.specs.Held.{IsSized}
 use Rattle.scene.proofs.Owners.{one_of, replaced, answer-hit, state-has, state-close, answer-close, state-hear, answer-hear}
 use Rattle.scene.proofs.Arrivals.{state-connect}
 use Rattle.scene.proofs.Connected.{viewer_numbered, with_numbered, StandsFor, stands-for, stands-for_none, numbered-set}
@@ -50,16 +51,16 @@ answer-absent_cut c es v absent = answer-hit c v es (Cut v) refl ∙ ap (λ o. (
 
 -- ---- hearing
 
-pub hear-step : (c : Config) (es : List Event) (p : List ℕ) (pairs : List (ℕ × KeptViewer)) (v : ℕ) (old new : KeptViewer) (piece : List ℕ) → seen c p pairs ≡ scene_after c es → Some old ≡ viewer_numbered pairs v
-    → ((before : List ℕ) → old.heard ≡ rest before → new ≡ after_items c.width c.height (new_items before piece) (record old { heard = rest (before ++ piece) }))
-    → seen c p (with_numbered pairs v new) ≡ scene_after c (es ++ Hear v piece ∷ [])
-hear-step c es p pairs v old new piece h there viewer =
+pub hear-step : (c : Config) (es : List Event) (p : List ℕ) (pairs now : List (ℕ × KeptViewer)) (v : ℕ) (old : KeptViewer) (piece : List ℕ) → seen c p pairs ≡ scene_after c es → Some old ≡ viewer_numbered pairs v
+    → ((before : List ℕ) → old.heard ≡ rest before → now ≡ with_numbered pairs v (after_items c.width c.height (new_items before piece) (record old { heard = rest (before ++ piece) })))
+    → seen c p now ≡ scene_after c (es ++ Hear v piece ∷ [])
+hear-step c es p pairs now v old piece h there changes =
     let at = stands_there c es p pairs v old h there in
     let s : List ℕ → List (ℕ × Viewer Rest) → SceneState = λ q vs. record { config = c; picture = q; viewers = vs } in
     let ear : old.heard ≡ rest at.was.heard = sym (ap (λ (w : Viewer Rest). w.heard) at.as_kept) in
-    ap (s p) (numbered-set c es pairs v new (ap (λ (t : SceneState). t.viewers) h)
-    ∙ ap (λ w. map (replaced v w) (scene_after c es).viewers) (viewer at.was.heard ear ∙ sym (ap (λ (w : Viewer Rest). after_items c.width c.height (new_items at.was.heard piece) (record w { heard = rest (at.was.heard ++ piece) })) at.as_kept)))
-    ∙ ap (λ q. s q (map (replaced v (after_items c.width c.height (new_items at.was.heard piece) (record (kept at.was) { heard = rest (at.was.heard ++ piece) }))) (scene_after c es).viewers)) (ap (λ (t : SceneState). t.picture) h)
+    let new : Viewer Rest → Viewer Rest = λ w. after_items c.width c.height (new_items at.was.heard piece) (record w { heard = rest (at.was.heard ++ piece) }) in
+    ap (s p) (changes at.was.heard ear ∙ numbered-set c es pairs v (new old) (ap (λ (t : SceneState). t.viewers) h) ∙ ap (λ w. map (replaced v (new w)) (scene_after c es).viewers) (sym at.as_kept))
+    ∙ ap (λ q. s q (map (replaced v (new (kept at.was))) (scene_after c es).viewers)) (ap (λ (t : SceneState). t.picture) h)
     ∙ sym (state-hear c es v piece at.was at.there)
 
 pub hear-answer : (c : Config) (es : List Event) (p : List ℕ) (pairs : List (ℕ × KeptViewer)) (v : ℕ) (old : KeptViewer) (piece : List ℕ) → seen c p pairs ≡ scene_after c es → Some old ≡ viewer_numbered pairs v
@@ -91,6 +92,18 @@ cut-answer c es p pairs v old h there =
     answer-cut c es v at.was at.there
     ∙ ap (λ q. gives (sending_kept c.width c.height c.rects_per_update q (kept at.was)).0) (sym (ap (λ (t : SceneState). t.picture) h))
     ∙ ap (λ w. gives (sending_kept c.width c.height c.rects_per_update p w).0) at.as_kept
+
+-- a cut leaves the size of the viewer's marks
+pub cut-size : (c : Config) (w h limit : ℕ) (picture : List ℕ) (v : KeptViewer) → IsSized c v → IsSized c (sending_kept w h limit picture v).1
+cut-size c w h limit picture v was = go (is_open_rest v.heard) (pending v.marks)
+  where
+    sent : Sent
+    sent = record { copies = copies_of limit v.marks; offset = v.marks.offset; pixels = pixels_of limit v.marks; after = after_sending (copies_of limit v.marks) (pixels_of limit v.marks) v.marks }
+
+    go : (a b : Bool) → IsSized c (cond a (with_update w h picture v (cond b (Some sent) None)) ([], v)).1
+    go false b = was
+    go true true = record { width = was.width; height = was.height }
+    go true false = record { width = was.width; height = was.height }
 
 -- ---- connecting
 

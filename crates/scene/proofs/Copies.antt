@@ -1,5 +1,5 @@
 -- What a copy does to the picture and the viewers, by the rectangles that it moves colours to.
-use Rattle.std.proofs.Common.{◌≡◌, ◌≢◌, ℕ, ℤ, pos, ◌+◌, ◌*◌, ◌/◌, ◌%◌, ◌<◌, ◌≤◌, ◌⊎◌, inl, inr, Bool, true, false, cond, not, ◌||◌, List, [], ◌∷◌, map, All, refl, sym, ap, ◌∙◌, arith, mul_comm}
+use Rattle.std.proofs.Common.{◌≡◌, ◌≢◌, ℕ, ℤ, pos, ◌+◌, ◌*◌, ◌/◌, ◌%◌, ◌<◌, ◌≤◌, ◌⊎◌, inl, inr, Bool, true, false, cond, not, ◌||◌, List, [], ◌∷◌, map, All, refl, sym, ap, subst, ◌∙◌, arith, mul_comm}
 use Rattle.std.specs.Prelude.{nat_abs, ◌<ℤ◌, ◌-ℤ◌, ◌&&◌, slice_index_or}
 use Rattle.std.specs.List.{list_any, range_with_len}
 use Rattle.std.proofs.Math.Nat.{mul-le-mul_right}
@@ -10,11 +10,14 @@ use Rattle.std.proofs.lemmas.List.Folds.{list_any_at}
 use Rattle.region.specs.declared.Rect.{Rect}
 use Rattle.region.specs.Region.{in_rect, covers, on_screen}
 use Rattle.region.specs.Places.{some_place, cut_destination, IsOnScreen, same_offset}
-use Rattle.copy_schedule.specs.Marks.{IsCutTo, copied_by}
+use Rattle.region.specs.Held.{Held}
+use Rattle.copy_schedule.specs.Marks.{copied_by}
+use Rattle.copy_schedule.specs.Log.{IsCutEntry}
+use Rattle.copy_schedule.specs.declared.LogEntry.TheVariants.{Copy}
+use Rattle.viewer_list.specs.Viewers.{drawn}
 use Rattle.scene.specs.declared.Config.{Config}
 use Rattle.viewer.specs.Viewer.{KeptViewer, does_nothing, viewer_copied}
 use Rattle.scene.specs.Held.{IsSized}
-use Rattle.scene.specs.Entries.{viewer_with, marks_copied}
 
 -- ---- whether a copy does something
 
@@ -68,13 +71,13 @@ inside : (a b c : Bool) → (a && b && c) ≡ true → (b && c) ≡ true
 inside true b c e = e
 inside false b c e = absurd cc
 
-pub all-cut : (c : Config) (set : ℤ → ℤ → Bool) (by : ℤ × ℤ) (pieces : List Rect) (seats : List KeptViewer) → covers pieces ≡ cut_destination c.width c.height set by → All (IsSized c) seats
-    → All (λ s. IsCutTo s.marks.width s.marks.height by pieces) seats
-all-cut c set by pieces seats places sized = λ k d below x y is.
+pub all-cut : (c : Config) (set : ℤ → ℤ → Bool) (region : Held) (dx dy : ℤ) (seats : List KeptViewer) → covers region.list ≡ cut_destination c.width c.height set (dx, dy) → All (IsSized c) seats
+    → All (λ s. IsCutEntry s.marks.width s.marks.height (Copy region dx dy)) seats
+all-cut c set region dx dy seats places sized = λ k d below x y is.
     let size = sized k d below in
-    ap (λ w. on_screen w (slice_index_or seats k d).marks.height x y && on_screen w (slice_index_or seats k d).marks.height (x -ℤ by.0) (y -ℤ by.1)) size.width
-    ∙ ap (λ h. on_screen c.width h x y && on_screen c.width h (x -ℤ by.0) (y -ℤ by.1)) size.height
-    ∙ inside (set x y) (on_screen c.width c.height x y) (on_screen c.width c.height (x -ℤ by.0) (y -ℤ by.1)) (ap (λ (f : ℤ → ℤ → Bool). f x y) (sym places) ∙ is)
+    ap (λ w. on_screen w (slice_index_or seats k d).marks.height x y && on_screen w (slice_index_or seats k d).marks.height (x -ℤ dx) (y -ℤ dy)) size.width
+    ∙ ap (λ h. on_screen c.width h x y && on_screen c.width h (x -ℤ dx) (y -ℤ dy)) size.height
+    ∙ inside (set x y) (on_screen c.width c.height x y) (on_screen c.width c.height (x -ℤ dx) (y -ℤ dy)) (ap (λ (f : ℤ → ℤ → Bool). f x y) (sym places) ∙ is)
 
 -- ---- the viewers
 
@@ -83,16 +86,27 @@ pub viewer_still : (w h : ℕ) (set : ℤ → ℤ → Bool) (by : ℤ × ℤ) (s
 viewer_still w h set by s none = sym (ap (λ b. record s { marks = cond b s.marks (copied_by (cut_destination w h set by) by s.uses_copyrect s.marks) }) none)
 
 -- the copy is done
-pub viewer_moved : (w h : ℕ) (set : ℤ → ℤ → Bool) (by : ℤ × ℤ) (pieces : List Rect) (s : KeptViewer) → covers pieces ≡ cut_destination w h set by → does_nothing w h set by ≡ false
-    → viewer_with (marks_copied (covers pieces) by) s ≡ viewer_copied w h set by s
-viewer_moved w h set by pieces s places some =
-    ap (λ (f : ℤ → ℤ → Bool). record s { marks = copied_by f by s.uses_copyrect s.marks }) places
-    ∙ sym (ap (λ b. record s { marks = cond b s.marks (copied_by (cut_destination w h set by) by s.uses_copyrect s.marks) }) some)
+pub viewer_moved : (w h : ℕ) (set : ℤ → ℤ → Bool) (region : Held) (dx dy : ℤ) (s : KeptViewer) → covers region.list ≡ cut_destination w h set (dx, dy) → does_nothing w h set (dx, dy) ≡ false
+    → drawn (Copy region dx dy) s ≡ viewer_copied w h set (dx, dy) s
+viewer_moved w h set region dx dy s places some =
+    ap (λ (f : ℤ → ℤ → Bool). record s { marks = copied_by f (dx, dy) s.uses_copyrect s.marks }) places
+    ∙ sym (ap (λ b. record s { marks = cond b s.marks (copied_by (cut_destination w h set (dx, dy)) (dx, dy) s.uses_copyrect s.marks) }) some)
 
--- the marks of a copy are of the screen's size
-pub same_size : (set : ℤ → ℤ → Bool) (by : ℤ × ℤ) (s : KeptViewer) → ((marks_copied set by s).width ≡ s.marks.width) × ((marks_copied set by s).height ≡ s.marks.height)
-same_size set by s = go s.uses_copyrect
+-- ---- rectangles of a screen are rectangles of a larger one, and of one of the same size
+
+pub within : (w h : ℕ) (pieces now : List Rect) → w ≤ 8192 → h ≤ 8192 → now ≡ pieces → All (IsOnScreen w h) pieces → All (IsOnScreen 8192 8192) now
+within w h pieces now wide high same all = subst (All (IsOnScreen 8192 8192)) (sym same) (λ k d below. larger (slice_index_or pieces k d) (all k d below))
   where
-    go : (b : Bool) → ((copied_by set by b s.marks).width ≡ s.marks.width) × ((copied_by set by b s.marks).height ≡ s.marks.height)
-    go true = (refl, refl)
-    go false = (refl, refl)
+    larger : (r : Rect) → IsOnScreen w h r → IsOnScreen 8192 8192 r
+    larger r on = record {
+      left = on.left;
+      columns = on.columns;
+      right = (let right = on.right in omega (arith, ints, right, wide));
+      top = on.top;
+      rows = on.rows;
+      bottom = (let bottom = on.bottom in omega (arith, ints, bottom, high));
+    }
+
+pub alike : (w h v g : ℕ) (of : Rect → Rect) (pieces now : List Rect) → w ≡ v → h ≡ g → now ≡ pieces → All (λ r. IsOnScreen w h (of r)) pieces → All (λ r. IsOnScreen v g (of r)) now
+alike w h v g of pieces now wide high same all =
+    subst (All (λ r. IsOnScreen v g (of r))) (sym same) (subst (λ k. All (λ r. IsOnScreen v k (of r)) pieces) high (subst (λ k. All (λ r. IsOnScreen k h (of r)) pieces) wide all))

@@ -1,12 +1,17 @@
 -- What drawing calls do to a screen, by its viewers' seats.
-use Rattle.std.proofs.Common.{◌≡◌, ℕ, List, [], ◌∷◌, ◌++◌, map, All, None, refl, sym, ◌∙◌, ap, subst}
+use Rattle.std.proofs.Common.{◌≡◌, ℕ, Bool, true, false, List, [], ◌∷◌, ◌++◌, map, All, None, refl, sym, ◌∙◌, ap, subst}
 use Rattle.std.specs.Map.{values_of}
 use Rattle.std.proofs.lemmas.List.Elements.{All-map}
 use Rattle.messages.specs.Reading.{Rest, is_open_rest}
 use Rattle.client_list.specs.Connected.{changed}
+use Rattle.region.specs.Region.{covers}
+use Rattle.copy_schedule.specs.declared.LogEntry.{LogEntry}
+use Rattle.copy_schedule.specs.declared.LogEntry.TheVariants.{Mark, Copy}
+use Rattle.copy_schedule.specs.Marks.{copied_by}
 use Rattle.scene.specs.declared.Config.{Config}
 use Rattle.scene.specs.declared.Event.{Event}
 use Rattle.viewer.specs.Viewer.{KeptViewer, Viewer}
+use Rattle.viewer_list.specs.Viewers.{drawn as told_of}
 use Rattle.scene.specs.Alone.{drawing_refusal, drawn, shown_drawing, owner_of}
 use Rattle.scene.specs.Answers.{SceneState, scene_after}
 use Rattle.scene.specs.Held.{IsSized}
@@ -54,3 +59,19 @@ values-changed g (pair ∷ pairs) = ap (λ l. g pair.1 ∷ l) (values-changed g 
 -- seats whose marks keep their size
 pub sized-changed : (c : Config) (g : KeptViewer → KeptViewer) (pairs : List (ℕ × KeptViewer)) → ((s : KeptViewer) → IsSized c s → IsSized c (g s)) → All (IsSized c) (values_of pairs) → All (IsSized c) (values_of (changed g pairs))
 sized-changed c g pairs keeps all = subst (All (IsSized c)) (sym (values-changed g pairs)) (All-map (IsSized c) g (values_of pairs) (λ k d below. keeps _ (all k d below)))
+
+-- a drawing call leaves the size of a viewer's marks
+told-size : (c : Config) (call : LogEntry) (v : KeptViewer) → IsSized c v → IsSized c (told_of call v)
+told-size c (Mark region) v was = record { width = was.width; height = was.height }
+told-size c (Copy region dx dy) v was = go v.uses_copyrect
+  where
+    go : (b : Bool) → IsSized c (record v { marks = copied_by (covers region.list) (dx, dy) b v.marks })
+    go true = record { width = was.width; height = was.height }
+    go false = record { width = was.width; height = was.height }
+
+pub sized-told : (c : Config) (call : LogEntry) (pairs : List (ℕ × KeptViewer)) → All (IsSized c) (values_of pairs) → All (IsSized c) (values_of (changed (told_of call) pairs))
+sized-told c call pairs all = sized-changed c (told_of call) pairs (told-size c call) all
+
+-- a drawing call was prepared, and the viewers were told of it
+pub told-all : (call entry : LogEntry) (was between now : List (ℕ × KeptViewer)) → now ≡ changed (told_of call) between → call ≡ entry → between ≡ was → now ≡ changed (told_of entry) was
+told-all call entry was between now is same before = is ∙ ap (λ (e : LogEntry). changed (told_of e) between) same ∙ ap (changed (told_of entry)) before

@@ -1,20 +1,20 @@
--- What holds of each seat, and a seat that is put where it was.
-use Rattle.std.proofs.Common.{◌≡◌, ℕ, zero, suc, Bool, true, false, cond, List, [], ◌∷◌, ◌++◌, All, Some, refl, sym, ap, subst, arith}
+-- What holds of each seat.
+use Rattle.std.proofs.Common.{◌≡◌, ℕ, zero, suc, Bool, true, false, cond, List, [], ◌∷◌, ◌++◌, All, Some, sym, subst, arith}
 use Rattle.std.specs.Prelude.{◌==◌, filter}
-use Rattle.std.specs.Map.{keys_of, values_of}
+use Rattle.std.specs.Map.{values_of}
 use Rattle.std.proofs.lemmas.Option.{same_Some}
-use Rattle.client_list.specs.Connected.{index_of, set_value_at}
+use Rattle.client_list.specs.Connected.{set_value_at}
 use Rattle.viewer.specs.Viewer.{KeptViewer}
-use Rattle.scene.proofs.Connected.{viewer_numbered, with_numbered}
+use Rattle.scene.proofs.Connected.{viewer_numbered}
 
 all-cons : (P : KeptViewer → Type 0) (s : KeptViewer) (seats : List KeptViewer) → P s → All P seats → All P (s ∷ seats)
 all-cons P s seats here rest zero d below = here
 all-cons P s seats here rest (suc k) d below = rest k d (omega (arith, below))
 
-all-tail : (P : KeptViewer → Type 0) (s : KeptViewer) (seats : List KeptViewer) → All P (s ∷ seats) → All P seats
+pub all-tail : (P : KeptViewer → Type 0) (s : KeptViewer) (seats : List KeptViewer) → All P (s ∷ seats) → All P seats
 all-tail P s seats all = λ k d below. all (suc k) d (omega (arith, below))
 
-all-head : (P : KeptViewer → Type 0) (s : KeptViewer) (seats : List KeptViewer) → All P (s ∷ seats) → P s
+pub all-head : (P : KeptViewer → Type 0) (s : KeptViewer) (seats : List KeptViewer) → All P (s ∷ seats) → P s
 all-head P s seats all = all 0 s (omega arith)
 
 module _ (P : KeptViewer → Type 0) where
@@ -47,12 +47,3 @@ module _ (P : KeptViewer → Type 0) where
       go : (b : Bool) → Some old ≡ cond b (Some pair.1) (viewer_numbered pairs v) → (Some old ≡ viewer_numbered pairs v → P old) → P old
       go true e later = subst P (same_Some pair.1 old (sym e)) (all-head P pair.1 (values_of pairs) all)
       go false e later = later e
-
--- a seat in its own place changes nothing
-pub numbered-same : (pairs : List (ℕ × KeptViewer)) (v : ℕ) (old : KeptViewer) → Some old ≡ viewer_numbered pairs v → with_numbered pairs v old ≡ pairs
-numbered-same [] v old there = refl
-numbered-same (pair ∷ pairs) v old there = go (pair.0 == v) there (λ later. numbered-same pairs v old later)
-  where
-    go : (b : Bool) → Some old ≡ cond b (Some pair.1) (viewer_numbered pairs v) → (Some old ≡ viewer_numbered pairs v → with_numbered pairs v old ≡ pairs) → set_value_at (pair ∷ pairs) (cond b 0 (suc (index_of (keys_of pairs) v))) old ≡ pair ∷ pairs
-    go true e later = ap (λ (s : KeptViewer). (pair.0, s) ∷ pairs) (same_Some old pair.1 e)
-    go false e later = ap (λ (l : List (ℕ × KeptViewer)). pair ∷ l) (later e)

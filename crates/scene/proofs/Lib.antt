@@ -5,13 +5,12 @@ mod Alike
 mod Arrivals
 mod Connected
 mod Kept
+mod Found
 mod Sent
 mod Drawn
 mod Copies
 mod Calls
 mod Refused
-mod LoopLemmas
-mod Committed
 mod Owing
 mod Watched
 mod Told

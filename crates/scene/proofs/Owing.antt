@@ -1,8 +1,10 @@
 -- Places that are owed: those off the screen count for nothing, and a region's rectangles have their corners in order.
-use Rattle.std.proofs.Common.{◌≡◌, ℕ, suc, ℤ, pos, ◌*◌, ◌/◌, ◌%◌, ◌<◌, ◌≤◌, Bool, true, cond, ◌&&◌, List, [], ◌∷◌, map, All, refl, sym, ap, ◌∙◌, arith, mul_comm}
+use Rattle.std.proofs.Common.{◌≡◌, ℕ, ℤ, pos, ◌*◌, ◌/◌, ◌%◌, ◌<◌, ◌≤◌, Bool, true, cond, ◌&&◌, List, [], ◌∷◌, map, All, refl, sym, ap, ◌∙◌, arith, mul_comm}
 use Rattle.std.specs.Prelude.{◌-ℤ◌, ◌<ℤ◌}
 use Rattle.std.specs.Int.{int_min, int_max}
 use Rattle.std.specs.List.{range_with_len, AllByRecursion}
+use Rattle.std.specs.Map.{values_of}
+use Rattle.client_list.specs.Connected.{changed}
 use Rattle.std.proofs.Math.Nat.{mod-lt, div-lt_iff_lt-mul}
 use Rattle.std.proofs.lemmas.Bool.Decides.{nat_tests}
 use Rattle.std.proofs.lemmas.Int.{ints}
@@ -16,9 +18,9 @@ use Rattle.region.specs.Places.{cut_destination}
 use Rattle.copy_schedule.specs.Marks.{Marks, mark_at, marked}
 use Rattle.framebuffer.specs.Picture.{straight, union_of}
 use Rattle.scene.specs.declared.Config.{Config}
-use Rattle.viewer.specs.Viewer.{KeptViewer}
-use Rattle.scene.specs.Entries.{marks_owed}
+use Rattle.viewer.specs.Viewer.{KeptViewer, viewer_marked}
 use Rattle.scene.specs.Held.{IsSized}
+use Rattle.scene.proofs.Kept.{all-head, all-tail}
 
 on_it : (w h k : ℕ) → 0 < w → k < w * h → on_screen w h (pos (k % w)) (pos (k / w)) ≡ true
 on_it w h k some below = grind (arith, nat_tests, mod-lt k some, (div-lt_iff_lt-mul {k = w} {x = k} {y = h} some).1 (let e = mul_comm w h in omega (arith, e)))
@@ -46,14 +48,15 @@ cut-same w h set x y on =
     both : (b : Bool) → ((b && true) && true) ≡ b
     both b = elim b as (λ t. ((t && true) && true) ≡ t) [ true ↦ refl | _ ↦ refl ]
 
-pub owed-cut : (c : Config) (set cut : ℤ → ℤ → Bool) (seats : List KeptViewer) → 1 ≤ c.width → cut ≡ cut_destination c.width c.height set (pos 0, pos 0) → All (IsSized c) seats → map (marks_owed cut) seats ≡ map (marks_owed set) seats
+pub owed-cut : (c : Config) (set cut : ℤ → ℤ → Bool) (pairs : List (ℕ × KeptViewer)) → 1 ≤ c.width → cut ≡ cut_destination c.width c.height set (pos 0, pos 0) → All (IsSized c) (values_of pairs)
+    → changed (viewer_marked cut) pairs ≡ changed (viewer_marked set) pairs
 owed-cut c set cut [] some is sized = refl
-owed-cut c set cut (s ∷ seats) some is sized =
-    let size = sized 0 s (omega arith) in
-    ap (λ (m : Marks). m ∷ map (marks_owed cut) seats)
-    (marked-same s.marks cut set (omega (arith, size.width, some)) (λ x y on. ap (λ (f : ℤ → ℤ → Bool). f x y) is
-    ∙ cut-same c.width c.height set x y (sym (ap (λ w. on_screen w s.marks.height x y) size.width ∙ ap (λ h. on_screen c.width h x y) size.height) ∙ on)))
-    ∙ ap (λ (l : List Marks). marks_owed set s ∷ l) (owed-cut c set cut seats some is (λ k d below. sized (suc k) d (omega (arith, below))))
+owed-cut c set cut (pair ∷ pairs) some is sized =
+    let size = all-head (IsSized c) pair.1 (values_of pairs) sized in
+    ap (λ (m : Marks). (pair.0, record pair.1 { marks = m }) ∷ changed (viewer_marked cut) pairs)
+    (marked-same pair.1.marks cut set (omega (arith, size.width, some)) (λ x y on. ap (λ (f : ℤ → ℤ → Bool). f x y) is
+    ∙ cut-same c.width c.height set x y (sym (ap (λ w. on_screen w pair.1.marks.height x y) size.width ∙ ap (λ h. on_screen c.width h x y) size.height) ∙ on)))
+    ∙ ap (λ (l : List (ℕ × KeptViewer)). (pair.0, viewer_marked set pair.1) ∷ l) (owed-cut c set cut pairs some is (all-tail (IsSized c) pair.1 (values_of pairs) sized))
 
 -- ---- a region's rectangles
 

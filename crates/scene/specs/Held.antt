@@ -3,6 +3,7 @@ use Rattle.std.specs.Prelude.{◌≡◌, ◌*◌, ◌^◌, ◌≤◌, List, leng
 use Rattle.scene.specs.declared.Config.{Config}
 use Rattle.framebuffer.specs.Frame.{Frame}
 use Rattle.viewer.specs.Viewer.{KeptViewer}
+use Rattle.viewer_list.specs.Viewers.{IsOfSize}
 
 -- a screen's configuration is within the limits
 pub record IsAccepted (c : Config) : Type 0 where
@@ -16,9 +17,8 @@ pub record IsAccepted (c : Config) : Type 0 where
   pub rectangles : c.rects_per_update ≤ 1000
 
 -- a viewer's marks are of a screen's size
-pub record IsSized (c : Config) (v : KeptViewer) : Type 0 where
-  pub width : v.marks.width ≡ c.width
-  pub height : v.marks.height ≡ c.height
+abbrev pub IsSized : Config → KeptViewer → Type 0
+IsSized c v = IsOfSize c.width c.height v
 
 -- there is a colour for each place, and a mark of each viewer
 pub record IsHeld (c : Config) (picture : Frame) (viewers : List KeptViewer) : Type 0 where

@@ -5,7 +5,6 @@ pub mod Claims
 pub mod Shown
 pub mod Pictures
 pub mod Checked
-pub mod Entries
 pub mod Held
 pub mod Examples
 pub mod Drawing

@@ -2,27 +2,27 @@
 
 ghost use Rattle.std.specs.Prelude.{◌≡◌, None, ◌∷◌, ◌++◌, [], All, ◌≤◌, IfOk, OnOk, OnErr};
 ghost use Rattle.std.specs.Map.{values_of};
-ghost use Rattle.client_list.specs.Connected.{value_of};
 ghost use Rattle.messages.specs.Server.{server_version};
 ghost use Rattle.viewer.specs.Viewer.{new_viewer, kept};
+ghost use Rattle.viewer_list.specs.Viewers.{viewer_of};
 ghost use Rattle.scene.specs.Held.{IsSized};
 
 use crate::Config;
-use client_list::Clients;
 use listed::Listed;
 use messages::put_version;
 use std::alloc::{AllocError, Global};
 use viewer::Viewer;
+use viewer_list::ViewerList;
 
 /// A viewer that connects comes last; it is given the server's version. `AllocError` where memory is refused, since the number
 /// is no viewer's yet.
 pub fn let_in(
     alloc: Global,
     config: &Config,
-    viewers: &mut Clients<Viewer>,
+    viewers: &mut ViewerList,
     number: u64,
 ) -> Result<Listed<u8>, AllocError>
-    requires absent { value_of viewers.old number ≡ None }
+    requires absent { viewer_of viewers.old number ≡ None }
     requires some_columns { 1 ≤ config.now.width }
     requires columns { config.now.width ≤ 8192 }
     requires some_rows { 1 ≤ config.now.height }

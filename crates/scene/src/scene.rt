@@ -1,6 +1,6 @@
 //! The scene: each call is one event, and leaves it standing for the list of events so far with its own behind it.
 
-ghost use Rattle.std.specs.Prelude.{◌≡◌, ◌≢◌, ◌++◌, ◌∷◌, [], List, IfSome, IfOk, OnOk, OnErr, MatchOption, MatchResult, IsOk, IsOkUnless, IsSome, None, Some, length, slice_index, is_some, ◌↔◌, ◌<◌, ◌+◌, ◌*◌};
+ghost use Rattle.std.specs.Prelude.{◌≡◌, ◌≢◌, ◌++◌, ◌∷◌, [], List, IfSome, IfOk, OnOk, OnErr, MatchOption, MatchResult, IsOk, IsOkUnless, IsSome, None, Some, length, slice_index, is_some, ◌↔◌, ◌<◌, ◌≤◌, ◌+◌, ◌*◌};
 ghost use Rattle.std.specs.Map.{keys_of};
 ghost use Rattle.messages.specs.Reading.{fault_kept, is_open_rest};
 ghost use Rattle.messages.specs.Server.{server_version};
@@ -13,20 +13,17 @@ ghost use Rattle.scene.specs.Refusals.{viewer_at, absence, presence, refusal, Re
 
 use crate::answers::{settled, with_bytes, with_nothing, with_reply};
 use crate::arriving::let_in;
-use crate::drawing::{
-    commit_all, marks_with_copy, marks_with_rect, marks_with_rects, marks_with_region,
-    moves_nothing, ring_all, tell_all, texts,
-};
+use crate::drawing::{moves_nothing, owe_rects, region_of, region_of_rect, tell};
 use crate::limits::{checked, checked_text, refusal_of};
 use crate::{Answer, Config, Event, History, ScreenError};
-use client_list::Clients;
 use framebuffer::{Framebuffer, destinations};
 use listed::Listed;
 use messages::Fault;
 use region::{Rect, Region};
 use std::alloc::{AllocError, Global};
 use std::marker::Model;
-use viewer::{Update, Viewer};
+use viewer::{LogEntry, Update};
+use viewer_list::ViewerList;
 
 /// One framebuffer, drawn in by the application, and its viewers.
 #[derive(Drop)]
@@ -34,7 +31,7 @@ pub struct Scene {
     alloc: Global,
     config: Config,
     picture: Framebuffer,
-    viewers: Clients<Viewer>,
+    viewers: ViewerList,
 }
 
 impl Model for Scene {
@@ -65,7 +62,7 @@ impl Scene {
             alloc,
             config,
             picture,
-            viewers: Clients::new(alloc),
+            viewers: ViewerList::new(alloc),
         })
     }
 
@@ -105,26 +102,33 @@ impl Scene {
         self.viewers.len()
     }
 
+    /// How many entries of drawing stand in the log that the viewers share, at most 256.
+    pub fn log_len(&self) -> usize
+        ensures { result ≤ 256 }
+    {
+        self.viewers.log_len()
+    }
+
     /// The live viewers' numbers, in the order in which they connected.
     pub fn numbers(&self) -> Result<Listed<u64>, AllocError>
         ensures { IfOk result (λ numbers. numbers ≡ keys_of self.now.viewers) }
     {
-        Ok(Listed::from_vec(self.viewers.numbers(self.alloc)?))
+        Ok(Listed::from_vec(self.viewers.numbers()?))
     }
 
     /// Whether a live viewer has the number.
     pub fn is_live(&self, number: u64) -> bool
         ensures { result ≡ is_some (viewer_at self.now number) }
     {
-        self.viewers.get(number).is_some()
+        self.viewers.has(number)
     }
 
     /// Why a viewer is heard no further, if it met a fault. Refused as `NoViewer` where there is none with the number.
     pub fn fault(&self, number: u64) -> Result<Option<Fault>, ScreenError>
         ensures { MatchOption (viewer_at self.now number) (result ≡ Err ScreenError.NoViewer) (λ viewer. result ≡ Ok (fault_kept viewer.heard)) }
     {
-        match self.viewers.get(number) {
-            Some(viewer) => Ok(viewer.fault()),
+        match self.viewers.fault(number) {
+            Some(fault) => Ok(fault),
             None => Err(ScreenError::NoViewer),
         }
     }
@@ -134,8 +138,8 @@ impl Scene {
     pub fn is_open(&self, number: u64) -> Result<bool, ScreenError>
         ensures { MatchOption (viewer_at self.now number) (result ≡ Err ScreenError.NoViewer) (λ viewer. result ≡ Ok (is_open_rest viewer.heard)) }
     {
-        match self.viewers.get(number) {
-            Some(viewer) => Ok(viewer.is_open()),
+        match self.viewers.is_open(number) {
+            Some(open) => Ok(open),
             None => Err(ScreenError::NoViewer),
         }
     }
@@ -160,9 +164,10 @@ impl Scene {
     pub fn check_free(&self, number: u64) -> Result<(), ScreenError>
         ensures { MatchResult result (λ _. presence (viewer_at self.now number) ≡ None) (λ e. presence (viewer_at self.now number) ≡ Some e) }
     {
-        match self.viewers.get(number) {
-            Some(_) => Err(ScreenError::NumberInUse),
-            None => Ok(()),
+        if self.viewers.has(number) {
+            Err(ScreenError::NumberInUse)
+        } else {
+            Ok(())
         }
     }
 
@@ -170,9 +175,10 @@ impl Scene {
     pub fn check_live(&self, number: u64) -> Result<(), ScreenError>
         ensures { MatchResult result (λ _. absence (viewer_at self.now number) ≡ None) (λ e. absence (viewer_at self.now number) ≡ Some e) }
     {
-        match self.viewers.get(number) {
-            Some(_) => Ok(()),
-            None => Err(ScreenError::NoViewer),
+        if self.viewers.has(number) {
+            Ok(())
+        } else {
+            Err(ScreenError::NoViewer)
         }
     }
 
@@ -207,9 +213,10 @@ impl Scene {
         ensures err { OnErr result (self.new ≡ self.old) }
     {
         let block = checked(&self.config, rect, colours)?;
-        let marks = marks_with_rect(self.alloc, &self.viewers, rect)?;
+        let region = region_of_rect(self.alloc, rect)?;
+        let drawn = self.viewers.prepare(LogEntry::Mark(region))?;
         self.picture.write(block, colours)?;
-        commit_all(&mut self.viewers, marks);
+        self.viewers.commit(drawn);
         Ok(())
     }
 
@@ -237,8 +244,7 @@ impl Scene {
         ensures refused { IsOkUnless result ScreenError.OutOfMemory }
         ensures err { OnErr result (self.new ≡ self.old) }
     {
-        let marks = marks_with_rects(self.alloc, &self.config, &self.viewers, rects)?;
-        commit_all(&mut self.viewers, marks);
+        owe_rects(self.alloc, &self.config, &mut self.viewers, rects)?;
         Ok(())
     }
 
@@ -253,8 +259,8 @@ impl Scene {
         ensures err { OnErr result (self.new ≡ self.old) }
     {
         region.list_is_canonical();
-        let marks = marks_with_region(self.alloc, &self.viewers, region)?;
-        commit_all(&mut self.viewers, marks);
+        let region = region.try_clone(self.alloc)?;
+        tell(&mut self.viewers, LogEntry::Mark(region))?;
         Ok(())
     }
 
@@ -279,8 +285,8 @@ impl Scene {
         if moves_nothing(&pieces, (dx, dy)) {
             return Ok(());
         }
-        let marks = marks_with_copy(self.alloc, &self.viewers, &pieces, (dx, dy))?;
-        commit_all(&mut self.viewers, marks);
+        let region = region_of(self.alloc, &pieces)?;
+        tell(&mut self.viewers, LogEntry::Copy { region, dx, dy })?;
         Ok(())
     }
 
@@ -298,9 +304,10 @@ impl Scene {
         if moves_nothing(&pieces, (dx, dy)) {
             return Ok(());
         }
-        let marks = marks_with_copy(self.alloc, &self.viewers, &pieces, (dx, dy))?;
+        let region = region_of(self.alloc, &pieces)?;
+        let drawn = self.viewers.prepare(LogEntry::Copy { region, dx, dy })?;
         self.picture.move_colours(&pieces, (dx, dy))?;
-        commit_all(&mut self.viewers, marks);
+        self.viewers.commit(drawn);
         Ok(())
     }
 
@@ -314,7 +321,7 @@ impl Scene {
         ensures refused { IsOkUnless result ScreenError.OutOfMemory }
         ensures err { OnErr result (self.new ≡ self.old) }
     {
-        ring_all(&mut self.viewers);
+        self.viewers.ring();
         Ok(())
     }
 
@@ -329,8 +336,7 @@ impl Scene {
         ensures err { OnErr result (self.new ≡ self.old) }
     {
         checked_text(text)?;
-        let notices = texts(self.alloc, &self.viewers, text)?;
-        tell_all(&mut self.viewers, text, notices);
+        self.viewers.text(text)?;
         Ok(())
     }
 
@@ -345,7 +351,7 @@ impl Scene {
         ensures refused { Refuses result (presence (viewer_at self.old number)) }
         ensures err { OnErr result (self.new ≡ self.old) }
     {
-        if self.viewers.place_of(number).is_some() {
+        if self.viewers.has(number) {
             return Err(ScreenError::NumberInUse);
         }
         Ok(let_in(self.alloc, &self.config, &mut self.viewers, number)?)
@@ -378,10 +384,11 @@ impl Scene {
         ensures accepted { IfOk result (λ answer. answer.refused ≡ None) }
         ensures err { OnErr result (self.new ≡ self.old) }
     {
-        let Some(viewer) = self.viewers.get_mut(number) else {
+        let name = self.config.name.as_slice();
+        let heard = self.viewers.hear(number, name, piece)?;
+        let Some(reply) = heard else {
             return Err(ScreenError::NoViewer);
         };
-        let reply = viewer.hear(self.config.name.as_slice(), piece)?;
         Ok(with_reply(reply))
     }
 
@@ -392,10 +399,10 @@ impl Scene {
             result ≡ something_to_send (answer_to config list (Event.Cut number)) }
         ensures refused { MatchOption (absence (viewer_at self.now number)) (IsOk result) (λ e. result ≡ Err e) }
     {
-        let Some(viewer) = self.viewers.get(number) else {
+        let Some(pending) = self.viewers.is_pending(number) else {
             return Err(ScreenError::NoViewer);
         };
-        Ok(viewer.is_pending())
+        Ok(pending)
     }
 
     /// Cuts an update for a viewer: its rectangles, with their colours as they stand; None where there is
@@ -409,10 +416,12 @@ impl Scene {
         ensures refused { Refuses result (absence (viewer_at self.old number)) }
         ensures err { OnErr result (self.new ≡ self.old) }
     {
-        let Some(viewer) = self.viewers.get_mut(number) else {
+        let limit = self.config.rects_per_update;
+        let given = self.viewers.cut(number, &mut self.picture, limit)?;
+        let Some(update) = given else {
             return Err(ScreenError::NoViewer);
         };
-        Ok(viewer.cut(&mut self.picture, self.config.rects_per_update)?)
+        Ok(update)
     }
 
     /// The same, encoded before the viewer changes.
@@ -424,10 +433,11 @@ impl Scene {
         ensures refused { Refuses result (absence (viewer_at self.old number)) }
         ensures err { OnErr result (self.new ≡ self.old) }
     {
-        let Some(viewer) = self.viewers.get_mut(number) else {
+        let limit = self.config.rects_per_update;
+        let given = self.viewers.cut_bytes(number, &mut self.picture, limit)?;
+        let Some(bytes) = given else {
             return Err(ScreenError::NoViewer);
         };
-        let bytes = viewer.cut_bytes(&mut self.picture, self.config.rects_per_update)?;
         Ok(Listed::from_vec(bytes))
     }
 

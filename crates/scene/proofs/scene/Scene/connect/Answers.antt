@@ -1,27 +1,27 @@
 use Rattle.std.proofs.Common.{◌≡◌, ◌∷◌, [], ◌++◌, sym, ap, ◌∙◌, Ok, Err, None, refl}
 use Rattle.std.proofs.lemmas.Result.{err_from_is_err_and}
-use Rattle.client_list.proofs.NumberLemmas.{not_found, was_found}
 use Rattle.scene.specs.declared.Event.TheVariants.{Connect}
 use Rattle.scene.specs.declared.Answer.{Answer}
 use Rattle.scene.specs.declared.ScreenError.TheVariants as refusals
 use Rattle.scene.specs.Answers.{SceneState, scene_after, answer_to}
 use Rattle.scene.specs.Alone.{Tells, gives}
 use Rattle.scene.proofs.Connected.{viewer_numbered}
+use Rattle.scene.proofs.Found.{test-some, test-none}
 use Rattle.scene.proofs.Calls.{seen, at_config, connect-step, connect-answer, in_use-answer, tells-refused, tells-memory, tells-ok}
 use Rattle.scene.proofs.scene.Scene.connect.Goals as goal
 
-pub returns-then-is_some-clause-answer : goal.returns-then-is_some-clause-answer
-returns-then-is_some-clause-answer c = λ config list h.
+pub returns-then-has-clause-answer : goal.returns-then-has-clause-answer
+returns-then-has-clause-answer c = λ config list h.
     let here = c.self.inside in
-    let found = was_found here.viewers c.args.number c.place_of.result (sym c.is_some.ensures ∙ c.if-is_some.true) c.place_of.ensures.found in
+    let found = test-some (viewer_numbered here.viewers.pairs c.args.number) (sym c.has.ensures ∙ c.if-has.true) in
     at_config (λ k. Tells gives (Err refusals.NumberInUse) (answer_to k list (Connect c.args.number))) here.config config here.picture.colours here.viewers.pairs list (c.self.view_is ∙ h) (λ k.
-    tells-refused gives _ _ refusals.NumberInUse refl (in_use-answer here.config list here.picture.colours here.viewers.pairs c.args.number found.0 k (sym found.1)))
+    tells-refused gives _ _ refusals.NumberInUse refl (in_use-answer here.config list here.picture.colours here.viewers.pairs c.args.number found.0 k found.1))
 
 pub returns-in_err-let_in-clause-answer : goal.returns-in_err-let_in-clause-answer
 returns-in_err-let_in-clause-answer c = λ config list h.
     let here = c.self.inside in
     let error = err_from_is_err_and c.from_residual.result c.from_residual.ensures.1 in
-    let away : viewer_numbered here.viewers.pairs c.args.number ≡ None = not_found here.viewers c.args.number c.place_of.result (sym c.is_some.ensures ∙ c.if-is_some.false) c.place_of.ensures.found in
+    let away : viewer_numbered here.viewers.pairs c.args.number ≡ None = test-none (viewer_numbered here.viewers.pairs c.args.number) (sym c.has.ensures ∙ c.if-has.false) in
     at_config (λ k. Tells gives c.from_residual.result (answer_to k list (Connect c.args.number))) here.config config here.picture.colours here.viewers.pairs list (c.self.view_is ∙ h) (λ k.
     let answer = connect-answer here.config list here.picture.colours here.viewers.pairs c.args.number k away in
     tells-memory gives _ _ error.0 error.1 error.2 (ap (λ (a : Answer). a.refused) answer))
@@ -29,7 +29,7 @@ returns-in_err-let_in-clause-answer c = λ config list h.
 pub returns-clause-step : goal.returns-clause-step
 returns-clause-step c = λ config list h.
     let here = c.self.inside in
-    let away : viewer_numbered here.viewers.pairs c.args.number ≡ None = not_found here.viewers c.args.number c.place_of.result (sym c.is_some.ensures ∙ c.if-is_some.false) c.place_of.ensures.found in
+    let away : viewer_numbered here.viewers.pairs c.args.number ≡ None = test-none (viewer_numbered here.viewers.pairs c.args.number) (sym c.has.ensures ∙ c.if-has.false) in
     let after : SceneState = seen here.config here.picture.colours c.let_in.new.viewers.pairs in
     at_config (λ k. after ≡ scene_after k (list ++ Connect c.args.number ∷ [])) here.config config here.picture.colours here.viewers.pairs list (c.self.view_is ∙ h) (λ k.
     connect-step here.config list here.picture.colours here.viewers.pairs c.let_in.new.viewers.pairs c.args.number k away c.in_ok-let_in.ensures.entries)
@@ -37,13 +37,13 @@ returns-clause-step c = λ config list h.
 pub returns-clause-answer : goal.returns-clause-answer
 returns-clause-answer c = λ config list h.
     let here = c.self.inside in
-    let away : viewer_numbered here.viewers.pairs c.args.number ≡ None = not_found here.viewers c.args.number c.place_of.result (sym c.is_some.ensures ∙ c.if-is_some.false) c.place_of.ensures.found in
+    let away : viewer_numbered here.viewers.pairs c.args.number ≡ None = test-none (viewer_numbered here.viewers.pairs c.args.number) (sym c.has.ensures ∙ c.if-has.false) in
     at_config (λ k. Tells gives (Ok c.in_ok-let_in.field-0) (answer_to k list (Connect c.args.number))) here.config config here.picture.colours here.viewers.pairs list (c.self.view_is ∙ h) (λ k.
     let answer = connect-answer here.config list here.picture.colours here.viewers.pairs c.args.number k away in
     tells-ok gives _ _ c.in_ok-let_in.field-0 refl (ap (λ (a : Answer). a.refused) answer) (ap gives c.in_ok-let_in.ensures.version ∙ sym answer))
 
-pub returns-then-is_some-clause-refused : goal.returns-then-is_some-clause-refused
-returns-then-is_some-clause-refused c =
+pub returns-then-has-clause-refused : goal.returns-then-has-clause-refused
+returns-then-has-clause-refused c =
     let here = c.self.inside in
-    let found = was_found here.viewers c.args.number c.place_of.result (sym c.is_some.ensures ∙ c.if-is_some.true) c.place_of.ensures.found in
-    rw (← c.self.view_is, found.1) refl
+    let found = test-some (viewer_numbered here.viewers.pairs c.args.number) (sym c.has.ensures ∙ c.if-has.true) in
+    rw (← c.self.view_is, ← found.1) refl

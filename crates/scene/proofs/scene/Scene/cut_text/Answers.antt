@@ -1,22 +1,22 @@
 use Rattle.std.proofs.Common.{ap, ◌∙◌, List, refl}
 use Rattle.scene.specs.declared.Event.TheVariants.{CutText}
 use Rattle.viewer.specs.declared.notices.Notice.TheVariants as notice
+use Rattle.viewer_list.specs.Viewers.{viewer_noticed}
 use Rattle.scene.specs.Answers.{SceneState}
-use Rattle.scene.specs.Entries.{viewer_noticed}
 use Rattle.scene.proofs.Drawn.{state-drawn, sized-changed}
 use Rattle.scene.proofs.scene.Scene.cut_text.Goals as goal
 
-pub invariant_of-self : goal.invariant_of-self
-invariant_of-self c = record {
+pub invariant_of-self-2 : goal.invariant_of-self-2
+invariant_of-self-2 c = record {
   accepted = c.self.invariant.accepted;
   width = c.self.invariant.width;
   height = c.self.invariant.height;
-  sized = rw c.tell_all.ensures (sized-changed c.self.inside.config (viewer_noticed (notice.CutText c.args.text.now)) c.self.inside.viewers.pairs (λ s was. record { width = was.width; height = was.height }) c.self.invariant.sized);
+  sized = rw c.in_ok-text.ensures.ok (sized-changed c.self.inside.config (viewer_noticed (notice.CutText c.args.text.now)) c.self.inside.viewers.pairs (λ s was. record { width = was.width; height = was.height }) c.self.invariant.sized);
 }
 
 pub returns-clause-step : goal.returns-clause-step
 returns-clause-step c = λ config list h.
     let here = c.self.inside in
     let after : List _ → SceneState = λ pairs. record { config = here.config; picture = here.picture.colours; viewers = pairs } in
-    ap after c.tell_all.ensures
+    ap after c.in_ok-text.ensures.ok
     ∙ state-drawn config here.config here.picture.colours here.picture.colours here.viewers.pairs (viewer_noticed (notice.CutText c.args.text.now)) (CutText c.args.text.now) list refl c.in_ok-checked_text.ensures refl (λ s. refl) (c.self.view_is ∙ h)

@@ -1,22 +1,22 @@
-use Rattle.std.proofs.Common.{rules, ◌≡◌, ◌≢◌, ◌⊎◌, inl, inr, ℕ, ℤ, Bool, arith, true, false, ap, ◌∙◌, sym, map, All, List, [], refl, subst, pos}
+use Rattle.std.proofs.Common.{◌≡◌, ◌≢◌, ◌⊎◌, inl, inr, ℕ, ℤ, Bool, arith, true, false, ap, ◌∙◌, sym, All, List, [], refl, subst, pos}
 use Rattle.std.specs.Prelude.{FitsSigned}
 use Rattle.std.specs.Int.{w32}
 use Rattle.std.proofs.lemmas.Int.{to_z-of_z}
 use Rattle.region.specs.declared.Rect.{Rect}
 use Rattle.region.specs.Region.{covers}
-use Rattle.region.specs.Places.{cut_destination, same_offset}
-use Rattle.copy_schedule.specs.Marks.{Marks, IsCutTo}
+use Rattle.region.specs.Places.{cut_destination, same_offset, source_rect}
+use Rattle.copy_schedule.specs.Log.{IsCutEntry}
+use Rattle.copy_schedule.specs.declared.LogEntry.TheVariants.{Copy}
+use Rattle.viewer_list.specs.Viewers.{drawn}
 use Rattle.framebuffer.specs.Picture.{union_of, moved}
 use Rattle.framebuffer.proofs.PictureLemmas.{idle}
 use Rattle.scene.specs.declared.Event.TheVariants.{DoCopy}
 use Rattle.viewer.specs.Viewer.{KeptViewer}
 use Rattle.std.specs.Map.{values_of}
 use Rattle.scene.specs.Answers.{SceneState}
-use Rattle.scene.specs.Entries.{viewer_with, marks_copied}
 use Rattle.scene.proofs.Framed.{moved-on, wide-now, high-now, cut-on, inside-on, long-on}
-use Rattle.scene.proofs.Drawn.{state-drawn, state-unseen, sized-changed}
-use Rattle.scene.proofs.Committed.{with-made}
-use Rattle.scene.proofs.Copies.{nothing, something, viewer_still, viewer_moved, same_size, all-cut}
+use Rattle.scene.proofs.Drawn.{state-drawn, state-unseen, sized-told, told-all}
+use Rattle.scene.proofs.Copies.{nothing, something, viewer_still, viewer_moved, all-cut, within, alike}
 use Rattle.scene.proofs.scene.Scene.do_copy.Goals as goal
 
 none_left : (w h : ℕ) (rects : List Rect) (by : ℤ × ℤ) (pieces : List Rect) → covers pieces ≡ cut_destination w h (union_of rects) by → (same_offset by (pos 0, pos 0) ≡ true) ⊎ (pieces ≡ [])
@@ -38,31 +38,42 @@ returns-then-moves_nothing-clause-step c = λ config list h.
     (sym (idle here.config.width here.config.height (cut_destination here.config.width here.config.height (union_of c.args.rects.now) (c.args.dx, c.args.dy)) (c.args.dx, c.args.dy) here.picture.colours (omega (arith, c.self.invariant.accepted.some_columns)) (long-on here.config here.picture c.self.invariant.width c.self.invariant.height c.width-width.ensures.picture.places) (none_left here.config.width here.config.height c.args.rects.now (c.args.dx, c.args.dy) pieces places (subst (λ (l : List Rect). (same_offset (c.args.dx, c.args.dy) (pos 0, pos 0) ≡ true) ⊎ (l ≡ [])) c.deref.ensures.value why))))
     (λ s. viewer_still here.config.width here.config.height (union_of c.args.rects.now) (c.args.dx, c.args.dy) s quiet) (c.self.view_is ∙ h)
 
-pub marks_with_copy-requires : goal.marks_with_copy-requires
-marks_with_copy-requires c =
+pub region_of-requires : goal.region_of-requires
+region_of-requires c =
+    let here = c.self.inside in
+    within here.config.width here.config.height c.in_ok-pieces.pieces.items c.deref-2.result.now c.self.invariant.accepted.columns c.self.invariant.accepted.rows c.deref-2.ensures.value
+    (inside-on here.config here.picture c.self.invariant.width c.self.invariant.height c.width-width.result c.height-height.result c.width-width.ensures.value c.height-height.ensures.value c.in_ok-pieces.pieces.items c.in_ok-pieces.ensures.inside)
+
+pub move_colours-requires-clause-inside : goal.move_colours-requires-clause-inside
+move_colours-requires-clause-inside c = alike c.width-width.result c.height-height.result c.self.inside.picture.width c.self.inside.picture.height (λ r. r) c.in_ok-pieces.pieces.items c.deref-3.result.now c.width-width.ensures.value c.height-height.ensures.value c.deref-3.ensures.value c.in_ok-pieces.ensures.inside
+
+pub move_colours-requires-clause-sources : goal.move_colours-requires-clause-sources
+move_colours-requires-clause-sources c = alike c.width-width.result c.height-height.result c.self.inside.picture.width c.self.inside.picture.height (source_rect _) c.in_ok-pieces.pieces.items c.deref-3.result.now c.width-width.ensures.value c.height-height.ensures.value c.deref-3.ensures.value c.in_ok-pieces.ensures.sources
+
+pub prepare-requires : goal.prepare-requires
+prepare-requires c =
     let here = c.self.inside in
     let dx : FitsSigned w32 c.args.dx = c.ranges.dx in
     let dy : FitsSigned w32 c.args.dy = c.ranges.dy in
     let pieces : List Rect = c.in_ok-pieces.pieces.items in
     let places : covers pieces ≡ cut_destination here.config.width here.config.height (union_of c.args.rects.now) (c.args.dx, c.args.dy) =
     (simp to_z-of_z at c.in_ok-pieces.ensures.places) ∙ cut-on here.config here.picture c.self.invariant.width c.self.invariant.height c.width-width.result c.height-height.result c.width-width.ensures.value c.height-height.ensures.value (union_of c.args.rects.now) (c.args.dx, c.args.dy) in
-    let cut : All (λ (s : KeptViewer). IsCutTo s.marks.width s.marks.height (c.args.dx, c.args.dy) pieces) (values_of here.viewers.pairs) = all-cut here.config (union_of c.args.rects.now) (c.args.dx, c.args.dy) pieces (values_of here.viewers.pairs) places c.self.invariant.sized in
-    record { inside = search rules; cut = simp to_z-of_z (subst (λ (l : List Rect). All (λ (s : KeptViewer). IsCutTo s.marks.width s.marks.height (c.args.dx, c.args.dy) l) (values_of here.viewers.pairs)) (sym c.deref-2.ensures.value) cut) }
+    let region : covers c.in_ok-region.region.list ≡ cut_destination here.config.width here.config.height (union_of c.args.rects.now) (c.args.dx, c.args.dy) = c.in_ok-region.ensures ∙ ap covers c.deref-2.ensures.value ∙ places in
+    let cut : All (λ (s : KeptViewer). IsCutEntry s.marks.width s.marks.height (Copy c.in_ok-region.region c.args.dx c.args.dy)) (values_of here.viewers.pairs) = all-cut here.config (union_of c.args.rects.now) c.in_ok-region.region c.args.dx c.args.dy (values_of here.viewers.pairs) region c.self.invariant.sized in
+    record { cut = simp to_z-of_z cut }
 
 pub invariant_of-self-2 : goal.invariant_of-self-2
 invariant_of-self-2 c =
     let here = c.self.inside in
     let dx : FitsSigned w32 c.args.dx = c.ranges.dx in
     let dy : FitsSigned w32 c.args.dy = c.ranges.dy in
-    let pieces : List Rect = c.in_ok-pieces.pieces.items in
-    let marks_of : KeptViewer → Marks = marks_copied (covers pieces) (c.args.dx, c.args.dy) in
-    let all : c.in_ok-marks.marks.items ≡ map (marks_copied (covers c.deref-2.result.now) (c.args.dx, c.args.dy)) (values_of here.viewers.pairs) = simp to_z-of_z at c.in_ok-marks.ensures in
-    let made = c.commit_all.ensures ∙ with-made marks_of here.viewers.pairs c.in_ok-marks.marks.items (all ∙ ap (λ l. map (marks_copied (covers l) (c.args.dx, c.args.dy)) (values_of here.viewers.pairs)) c.deref-2.ensures.value) in
+    let entry : c.in_ok-drawn.drawn.entry ≡ Copy c.in_ok-region.region c.args.dx c.args.dy = simp to_z-of_z at c.in_ok-drawn.ensures.entry in
+    let told = told-all _ (Copy c.in_ok-region.region c.args.dx c.args.dy) here.viewers.pairs _ _ c.commit.ensures entry c.prepare.ensures.same in
     record {
       accepted = c.self.invariant.accepted;
       width = wide-now here.config here.picture c.self.invariant.width c.self.invariant.height c.move_colours.new.self _ c.in_ok-move_colours.ensures.ok;
       height = high-now here.config here.picture c.self.invariant.width c.self.invariant.height c.move_colours.new.self _ c.in_ok-move_colours.ensures.ok;
-      sized = rw made (sized-changed here.config (viewer_with marks_of) here.viewers.pairs (λ s was. let size = same_size (covers pieces) (c.args.dx, c.args.dy) s in record { width = size.0 ∙ was.width; height = size.1 ∙ was.height }) c.self.invariant.sized);
+      sized = rw told (sized-told here.config (Copy c.in_ok-region.region c.args.dx c.args.dy) here.viewers.pairs c.self.invariant.sized);
     }
 
 pub returns-clause-step : goal.returns-clause-step
@@ -73,14 +84,14 @@ returns-clause-step c = λ config list h.
     let pieces : List Rect = c.in_ok-pieces.pieces.items in
     let places : covers pieces ≡ cut_destination here.config.width here.config.height (union_of c.args.rects.now) (c.args.dx, c.args.dy) =
     (simp to_z-of_z at c.in_ok-pieces.ensures.places) ∙ cut-on here.config here.picture c.self.invariant.width c.self.invariant.height c.width-width.result c.height-height.result c.width-width.ensures.value c.height-height.ensures.value (union_of c.args.rects.now) (c.args.dx, c.args.dy) in
+    let region : covers c.in_ok-region.region.list ≡ cut_destination here.config.width here.config.height (union_of c.args.rects.now) (c.args.dx, c.args.dy) = c.in_ok-region.ensures ∙ ap covers c.deref-2.ensures.value ∙ places in
     let why : (same_offset (c.args.dx, c.args.dy) (pos 0, pos 0) ≡ false) × (c.deref.result.now ≢ []) = simp to_z-of_z at (c.moves_nothing.ensures.no c.if-moves_nothing.false) in
     let busy = something here.config.width here.config.height (union_of c.args.rects.now) (c.args.dx, c.args.dy) pieces places (inside-on here.config here.picture c.self.invariant.width c.self.invariant.height c.width-width.result c.height-height.result c.width-width.ensures.value c.height-height.ensures.value pieces c.in_ok-pieces.ensures.inside) (subst (λ (l : List Rect). (same_offset (c.args.dx, c.args.dy) (pos 0, pos 0) ≡ false) × (l ≢ [])) c.deref.ensures.value why) in
-    let marks_of : KeptViewer → Marks = marks_copied (covers pieces) (c.args.dx, c.args.dy) in
-    let all : c.in_ok-marks.marks.items ≡ map (marks_copied (covers c.deref-2.result.now) (c.args.dx, c.args.dy)) (values_of here.viewers.pairs) = simp to_z-of_z at c.in_ok-marks.ensures in
-    let made = c.commit_all.ensures ∙ with-made marks_of here.viewers.pairs c.in_ok-marks.marks.items (all ∙ ap (λ l. map (marks_copied (covers l) (c.args.dx, c.args.dy)) (values_of here.viewers.pairs)) c.deref-2.ensures.value) in
+    let entry : c.in_ok-drawn.drawn.entry ≡ Copy c.in_ok-region.region c.args.dx c.args.dy = simp to_z-of_z at c.in_ok-drawn.ensures.entry in
+    let told = told-all _ (Copy c.in_ok-region.region c.args.dx c.args.dy) here.viewers.pairs _ _ c.commit.ensures entry c.prepare.ensures.same in
     let picture : c.move_colours.new.self.colours ≡ moved here.config.width here.config.height (cut_destination here.config.width here.config.height (union_of c.args.rects.now) (c.args.dx, c.args.dy)) (c.args.dx, c.args.dy) here.picture.colours =
     moved-on here.config here.picture c.self.invariant.width c.self.invariant.height c.move_colours.new.self (covers c.deref-3.result.now) (c.args.dx, c.args.dy) (simp to_z-of_z at c.in_ok-move_colours.ensures.ok) ∙ ap (λ (f : ℤ → ℤ → Bool). moved here.config.width here.config.height f (c.args.dx, c.args.dy) here.picture.colours) (ap covers c.deref-3.ensures.value ∙ places) in
     let after : List (ℕ × KeptViewer) → SceneState = λ l. record { config = here.config; picture = c.move_colours.new.self.colours; viewers = l } in
-    ap after made
-    ∙ state-drawn config here.config here.picture.colours c.move_colours.new.self.colours here.viewers.pairs (viewer_with marks_of) (DoCopy c.args.rects.now c.args.dx c.args.dy) list refl refl picture
-    (λ s. viewer_moved here.config.width here.config.height (union_of c.args.rects.now) (c.args.dx, c.args.dy) pieces s places busy) (c.self.view_is ∙ h)
+    ap after told
+    ∙ state-drawn config here.config here.picture.colours c.move_colours.new.self.colours here.viewers.pairs (drawn (Copy c.in_ok-region.region c.args.dx c.args.dy)) (DoCopy c.args.rects.now c.args.dx c.args.dy) list refl refl picture
+    (λ s. viewer_moved here.config.width here.config.height (union_of c.args.rects.now) c.in_ok-region.region c.args.dx c.args.dy s region busy) (c.self.view_is ∙ h)
