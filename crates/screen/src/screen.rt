@@ -2,7 +2,7 @@
 //! now is a scene; here each call keeps its event beside it, where events are kept, in room that is made before anything
 //! changes.
 
-ghost use Rattle.std.specs.Prelude.{◌≡◌, ◌≢◌, ◌++◌, ◌∷◌, [], List, IfSome, IfOk, OnOk, OnErr, MatchOption, MatchResult, IsOk, IsOkUnless, IsSome, None, length, slice_index, is_some, option_map, ◌↔◌, ◌<◌, ◌+◌, ◌*◌};
+ghost use Rattle.std.specs.Prelude.{◌≡◌, ◌≢◌, ◌++◌, ◌∷◌, [], List, IfSome, IfOk, OnOk, OnErr, MatchOption, MatchResult, IsOk, IsOkUnless, IsSome, None, length, slice_index, is_some, option_map, ◌↔◌, ◌<◌, ◌≤◌, ◌+◌, ◌*◌};
 ghost use Rattle.std.specs.Map.{keys_of};
 ghost use Rattle.messages.specs.Reading.{fault_kept, is_open_rest};
 ghost use Rattle.messages.specs.Server.{server_version};
@@ -93,6 +93,13 @@ impl Screen {
         ensures { result ≡ length self.now.viewers }
     {
         self.scene.viewer_count()
+    }
+
+    /// How many entries of drawing stand in the log that the viewers share, at most 256.
+    pub fn log_len(&self) -> usize
+        ensures { result ≤ 256 }
+    {
+        self.scene.log_len()
     }
 
     /// The live viewers' numbers, in the order in which they connected.
