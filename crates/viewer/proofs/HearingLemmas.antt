@@ -15,6 +15,11 @@ use Rattle.messages.specs.declared.Fault.{Fault}
 use Rattle.messages.specs.Reading.{Rest, heard, new_items, fault_of}
 use Rattle.messages.specs.Server.{server_init, answers as greetings}
 use Rattle.viewer.specs.declared.Reply.{Reply}
+use Rattle.copy_schedule.specs.declared.LogEntry.{LogEntry}
+use Rattle.copy_schedule.specs.declared.LogEntry.TheVariants.{Mark, Copy}
+use Rattle.copy_schedule.specs.Marks.{Marks}
+use Rattle.copy_schedule.specs.Log.{after_entry, logged}
+use Rattle.std.specs.Prelude.{Bool}
 use Rattle.region.specs.Region.{in_rect}
 use Rattle.viewer.specs.Hearing.{input_of, after_items, heard_reply}
 use Rattle.viewer.specs.Viewer.{Viewer, KeptViewer, area_places, after_item}
@@ -98,3 +103,15 @@ reply-so w h w' h' name before piece p items bytes inputs fault wide high phase 
     ∙ ap (λ (q : Phase). greetings (server_init w' h' name) q items) phase ∙ ap (λ (is : List Item). greetings (server_init w' h' name) (heard before).phase is) same)
     ∙ ap (λ i. reply (greetings (server_init w' h' name) (heard before).phase (new_items before piece)) i fault) (told ∙ ap (λ (is : List Item). filter_map input_of is) same)
     ∙ ap (λ f. reply (greetings (server_init w' h' name) (heard before).phase (new_items before piece)) (filter_map input_of (new_items before piece)) f) fails
+
+entry-size : (uses : Bool) (e : LogEntry) (m : Marks) → ((after_entry uses e m).width ≡ m.width) × ((after_entry uses e m).height ≡ m.height)
+entry-size uses (Mark region) m = (refl, refl)
+entry-size true (Copy region dx dy) m = (refl, refl)
+entry-size false (Copy region dx dy) m = (refl, refl)
+
+-- drawing leaves the size of marks
+pub logged-size : (uses : Bool) (es : List LogEntry) (m : Marks) → ((logged uses es m).width ≡ m.width) × ((logged uses es m).height ≡ m.height)
+logged-size uses [] m = (refl, refl)
+logged-size uses (e ∷ es) m =
+    let first = entry-size uses e m in
+    let others = logged-size uses es (after_entry uses e m) in (others.0 ∙ first.0, others.1 ∙ first.1)

@@ -7,3 +7,4 @@ pub mod Updates
 pub mod Given
 pub mod Standings
 pub mod Left
+pub mod Told

@@ -1,19 +1,21 @@
 //! What a viewer's messages do to it, and what it is answered.
 
-ghost use Rattle.std.specs.Prelude.{◌≡◌, ◌&&◌, ◌||◌, ℕ, List, OnErr, ◌++◌, ◌<◌, ◌≤◌, ◌^◌, [], length, not, if◌then◌else◌, vec_len, vec_capacity, IfOk, OnOk};
+ghost use Rattle.std.specs.Prelude.{◌≡◌, ◌&&◌, ◌||◌, ℕ, List, All, OnErr, ◌++◌, ◌<◌, ◌≤◌, ◌^◌, [], length, not, if◌then◌else◌, vec_len, vec_capacity, IfOk, OnOk};
 ghost use Rattle.std.specs.List.{filter_map};
 ghost use Rattle.messages.specs.Reading.{rest, new_items, is_open_rest};
 ghost use Rattle.region.specs.Region.{in_rect};
 ghost use Rattle.copy_schedule.specs.Marks.{pending, requested, without_copyrect};
 ghost use Rattle.viewer.specs.Hearing.{input_of, after_items, heard_reply};
 ghost use Rattle.viewer.specs.Viewer.{none_wait, area_places, after_item, new_viewer, kept};
+ghost use Rattle.copy_schedule.specs.Log.{logged, IsCutEntry};
 ghost use Rattle.viewer.specs.Standings.{viewer_in, viewer_by};
+ghost use Rattle.viewer.specs.Told.{viewer_told};
 ghost use Rattle.viewer.specs.Given.{marks_put};
 
 use crate::Reply;
 use crate::notices::Notices;
 use crate::standing::{Draft, Standing, put_marks};
-use copy_schedule::Marks;
+use copy_schedule::{LogEntry, Marks, joined_log};
 use listed::Listed;
 use messages::{Desktop, Ear, Encoding, Input, Item, Prepared, greetings};
 use pixel_translate::{Area, PixelFormat};
@@ -41,16 +43,34 @@ fn clipped(width: u32, height: u32, area: Area) -> Rect
     }
 }
 
-/// A viewer's draft, before its messages change it.
-fn draft_of(standing: &Standing) -> Draft
-    ensures { viewer_by standing.now result ≡ viewer_in standing.now }
+/// A viewer's marks once they know the drawing of a log; None where the log has none.
+fn marks_after(
+    alloc: Global,
+    standing: &Standing,
+    log: &[LogEntry],
+) -> Result<Option<Marks>, AllocError>
+    requires cut { All (IsCutEntry standing.now.marks.width standing.now.marks.height) log.now }
+    ensures { IfOk result (λ marks. marks_put standing.now.marks marks ≡ logged standing.now.uses_copyrect log.now standing.now.marks) }
 {
-    Draft {
+    if log.is_empty() {
+        return Ok(None);
+    }
+    let joined = joined_log(alloc, log, standing.uses_copyrect)?;
+    let prepared = standing.marks.apply_log(&joined, standing.uses_copyrect)?;
+    Ok(Some(prepared.into_marks()))
+}
+
+/// A viewer's draft, which knows the drawing of a log, before its messages change it.
+fn draft_of(alloc: Global, standing: &Standing, log: &[LogEntry]) -> Result<Draft, AllocError>
+    requires cut { All (IsCutEntry standing.now.marks.width standing.now.marks.height) log.now }
+    ensures { IfOk result (λ draft. viewer_by standing.now draft ≡ viewer_told log.now (viewer_in standing.now)) }
+{
+    Ok(Draft {
         format: standing.format,
         encoding: standing.encoding,
         uses_copyrect: standing.uses_copyrect,
-        marks: None,
-    }
+        marks: marks_after(alloc, standing, log)?,
+    })
 }
 
 /// The marks that are changed already, or else a copy of the viewer's.
@@ -118,11 +138,18 @@ fn take_item(draft: &mut Draft, standing: &Standing, item: &Item) -> Result<(), 
     }
 }
 
-/// What messages make of a viewer. Its marks are copied at the first message that changes them.
-fn draft_after(standing: &Standing, items: &[Item]) -> Result<Draft, AllocError>
-    ensures { IfOk result (λ draft. viewer_by standing.now draft ≡ after_items standing.now.marks.width standing.now.marks.height items.now (viewer_in standing.now)) }
+/// What messages make of a viewer that knows the drawing of a log. Its marks are copied at the first message that changes them,
+/// where they aren't new already.
+fn draft_after(
+    alloc: Global,
+    standing: &Standing,
+    log: &[LogEntry],
+    items: &[Item],
+) -> Result<Draft, AllocError>
+    requires cut { All (IsCutEntry standing.now.marks.width standing.now.marks.height) log.now }
+    ensures { IfOk result (λ draft. viewer_by standing.now draft ≡ after_items standing.now.marks.width standing.now.marks.height items.now (viewer_told log.now (viewer_in standing.now))) }
 {
-    let mut draft = draft_of(standing);
+    let mut draft = draft_of(alloc, standing, log)?;
     for item in items {
         take_item(&mut draft, standing, item)?;
     }
@@ -172,18 +199,21 @@ fn put_draft(standing: &mut Standing, draft: Draft)
     put_marks(standing, draft.marks);
 }
 
-/// A viewer's piece is heard: what it is answered. All growths are made before the viewer changes.
+/// A viewer's piece is heard, once its marks know the drawing of a log: what it is answered. All growths are made before the
+/// viewer changes.
 pub fn hear_in(
     alloc: Global,
     standing: &mut Standing,
+    log: &[LogEntry],
     name: &[u8],
     piece: &[u8],
 ) -> Result<Reply, AllocError>
-    requires { length name.now ≤ u32.MAX }
+    requires cut { All (IsCutEntry standing.old.marks.width standing.old.marks.height) log.now }
+    requires name { length name.now ≤ u32.MAX }
     ensures reply { (before : List ℕ) → standing.old.ear ≡ rest before →
         IfOk result (λ reply. reply ≡ heard_reply standing.old.marks.width standing.old.marks.height name.now before piece.now) }
     ensures viewer { (before : List ℕ) → standing.old.ear ≡ rest before →
-        OnOk result (viewer_in standing.new ≡ after_items standing.old.marks.width standing.old.marks.height (new_items before piece.now) (record (viewer_in standing.old) { heard = rest (before ++ piece.now) })) }
+        OnOk result (viewer_in standing.new ≡ after_items standing.old.marks.width standing.old.marks.height (new_items before piece.now) (record (viewer_told log.now (viewer_in standing.old)) { heard = rest (before ++ piece.now) })) }
     ensures width { standing.new.marks.width ≡ standing.old.marks.width }
     ensures height { standing.new.marks.height ≡ standing.old.marks.height }
     ensures err { OnErr result (standing.new ≡ standing.old) }
@@ -197,7 +227,7 @@ pub fn hear_in(
     };
     let bytes = greetings(alloc, &desktop, standing.ear.phase(), &items)?;
     let room = Vec::with_capacity(alloc, items.len())?;
-    let draft = draft_after(standing, &items)?;
+    let draft = draft_after(alloc, standing, log, &items)?;
     put_draft(standing, draft);
     standing.ear.commit(change);
     Ok(Reply {

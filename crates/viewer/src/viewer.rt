@@ -3,13 +3,14 @@
 ghost use Rattle.std.specs.Prelude.{◌≡◌, ◌≢◌, ◌&&◌, ◌||◌, not, ℕ, List, ◌++◌, ◌≤◌, ◌<◌, ◌^◌, [], length, All, IfOk, IfSome, OnOk, OnErr};
 ghost use Rattle.messages.specs.Reading.{rest, new_items, is_open_rest, fault_kept};
 ghost use Rattle.region.specs.Region.{covers};
-ghost use Rattle.copy_schedule.specs.Marks.{marked, copied_by, has_asked, pending, IsCutTo};
+ghost use Rattle.copy_schedule.specs.Marks.{Marks, marked, copied_by, has_asked, pending, IsCutTo};
 ghost use Rattle.copy_schedule.specs.Log.{logged, IsCutEntry};
 ghost use Rattle.viewer.specs.Viewer.{none_wait, noticed, new_viewer, kept};
 ghost use Rattle.viewer.specs.Hearing.{after_items, heard_reply};
 ghost use Rattle.viewer.specs.Sending.{sending_kept};
 ghost use Rattle.viewer.specs.Given.{bytes_given, keeps_notices};
 ghost use Rattle.viewer.specs.Short.{IsShort};
+ghost use Rattle.viewer.specs.Told.{viewer_told};
 
 use crate::Reply;
 use crate::cutting::{cut_bytes_in, cut_in};
@@ -17,7 +18,7 @@ use crate::hearing::{hear_in, is_pending, new_standing};
 use crate::notices::Notice;
 use crate::standing::Standing;
 use crate::update::Update;
-use copy_schedule::{LogEntry, Prepared};
+use copy_schedule::{LogEntry, Prepared, joined_log};
 use framebuffer::Framebuffer;
 use messages::Fault;
 use region::Region;
@@ -69,7 +70,28 @@ impl Viewer {
         ensures height { self.new.marks.height ≡ self.old.marks.height }
         ensures err { OnErr result (self.new ≡ self.old) }
     {
-        hear_in(self.alloc, &mut self.standing, name, piece)
+        hear_in(self.alloc, &mut self.standing, &[], name, piece)
+    }
+
+    /// The same, once the viewer is told of the drawing that stands in a log, the first entry's first. After an `AllocError` it is
+    /// not told either. Its marks are made anew once, for the log and the piece.
+    pub fn hear_after(
+        &mut self,
+        log: &[LogEntry],
+        name: &[u8],
+        piece: &[u8],
+    ) -> Result<Reply, AllocError>
+        requires cut { All (IsCutEntry self.old.marks.width self.old.marks.height) log.now }
+        requires name { length name.now ≤ u32.MAX }
+        ensures reply { (before : List ℕ) → self.old.heard ≡ rest before →
+            IfOk result (λ reply. reply ≡ heard_reply self.old.marks.width self.old.marks.height name.now before piece.now) }
+        ensures viewer { (before : List ℕ) → self.old.heard ≡ rest before →
+            OnOk result (self.new ≡ after_items self.old.marks.width self.old.marks.height (new_items before piece.now) (record (viewer_told log.now self.old) { heard = rest (before ++ piece.now) })) }
+        ensures width { self.new.marks.width ≡ self.old.marks.width }
+        ensures height { self.new.marks.height ≡ self.old.marks.height }
+        ensures err { OnErr result (self.new ≡ self.old) }
+    {
+        hear_in(self.alloc, &mut self.standing, log, name, piece)
     }
 
     /// Whether an update that is cut now would have something to send (`FB_UPDATE_PENDING` of `rfb.h`, and the notices).
@@ -177,8 +199,24 @@ impl Viewer {
         self.standing.marks.has_asked()
     }
 
+    /// The drawing of a log in fewer entries, as it is for this viewer and for each that uses CopyRect as it does: neighbouring
+    /// marks are one region. `AllocError` where memory is refused.
+    pub fn joined_log(&self, log: &[LogEntry]) -> Result<Vec<LogEntry>, AllocError>
+        ensures same { IfOk result (λ joined. (m : Marks) → logged self.now.uses_copyrect joined.items m ≡ logged self.now.uses_copyrect log.now m) }
+        ensures cut { IfOk result (λ joined. (w h : ℕ) → All (IsCutEntry w h) log.now → All (IsCutEntry w h) joined.items) }
+    {
+        joined_log(self.alloc, log, self.standing.uses_copyrect)
+    }
+
+    /// Whether the viewer uses CopyRect (RFC 6143, 7.7.2).
+    pub fn uses_copyrect(&self) -> bool
+        ensures { result ≡ self.now.uses_copyrect }
+    {
+        self.standing.uses_copyrect
+    }
+
     /// The marks as they are once the drawing is known that stands in a log, the first entry's first; `commit` puts them in
-    /// place. `AllocError` where memory is refused.
+    /// place. Each entry makes new regions, so a long log is first made shorter by `joined_log`. `AllocError` where memory is refused.
     pub fn apply_log(&self, entries: &[LogEntry]) -> Result<Prepared, AllocError>
         requires cut { All (IsCutEntry self.now.marks.width self.now.marks.height) entries.now }
         ensures { IfOk result (λ prepared. prepared ≡ logged self.now.uses_copyrect entries.now self.now.marks) }
