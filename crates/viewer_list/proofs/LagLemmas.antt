@@ -10,7 +10,9 @@ use Rattle.copy_schedule.proofs.LogLemmas.{unasked_is_not_pending}
 use Rattle.messages.specs.Reading.{is_open_rest}
 use Rattle.viewer.specs.Viewer.{KeptViewer, none_wait}
 use Rattle.viewer_list.specs.declared.lagging.Lagging.{Lagging}
-use Rattle.viewer_list.specs.Lagging.{waiting, caught_up, up_to_date, told, IsCurrent, Fits}
+use Rattle.viewer_list.specs.declared.lagging.Shared.{Shared}
+use Rattle.viewer.specs.Told.{viewer_told}
+use Rattle.viewer_list.specs.Lagging.{waiting, caught_up, up_to_date, told, IsCurrent, Fits, IsShared, IsFor}
 use Rattle.viewer_list.specs.Viewers.{drawn, told_at_once, is_pending}
 
 -- what drawing leaves of marks
@@ -127,3 +129,18 @@ pending_same log l fits = go (has_asked l.viewer.marks) refl
 
     go : (b : Bool) → has_asked l.viewer.marks ≡ b → is_pending l.viewer ≡ is_pending (caught_up log l)
     go b asks = ap (λ (t : Bool). is_open_rest l.viewer.heard && (not (none_wait l.viewer.notices) || t)) (same b asks)
+
+-- What is shared.
+
+pub shared_is_cut : (log : List LogEntry) (l : Lagging) (s : Shared) → Fits log l → IsShared log s → IsFor l s → All (IsCutEntry l.viewer.marks.width l.viewer.marks.height) s.entries.items
+shared_is_cut log l s fits shared own =
+    shared.cut l.viewer.marks.width l.viewer.marks.height (subst (λ (n : ℕ). All (IsCutEntry l.viewer.marks.width l.viewer.marks.height) (drop (length log - n) log)) (sym own.waits) fits.cut)
+
+-- a viewer that takes it lacks nothing
+pub shared_taken : (log : List LogEntry) (l now : Lagging) (s : Shared) → IsShared log s → IsFor l s → now ≡ record { viewer = viewer_told s.entries.items l.viewer; waits = 0 } → now ≡ up_to_date log l
+shared_taken log l now s shared own is =
+    is ∙ ap (λ (m : Marks). record { viewer = record l.viewer { marks = m }; waits = 0 })
+    (ap (λ (u : Bool). logged u s.entries.items l.viewer.marks) (sym own.uses_copyrect)
+    ∙ shared.same l.viewer.marks
+    ∙ ap (λ (u : Bool). logged u (drop (length log - s.waits) log) l.viewer.marks) own.uses_copyrect
+    ∙ ap (λ (n : ℕ). logged l.viewer.uses_copyrect (drop (length log - n) log) l.viewer.marks) own.waits)

@@ -2,12 +2,13 @@
 use Rattle.std.specs.Prelude.{◌≡◌, ℕ, ◌≤◌, ◌+◌, ◌-◌, true, if◌then◌else◌, List, length, drop, map, All}
 use Rattle.std.specs.Map.{values_of}
 use Rattle.copy_schedule.specs.declared.LogEntry.{LogEntry}
-use Rattle.copy_schedule.specs.Marks.{has_asked}
+use Rattle.copy_schedule.specs.Marks.{Marks, has_asked}
 use Rattle.copy_schedule.specs.Log.{after_entry, logged, IsCutEntry}
 use Rattle.viewer.specs.Viewer.{KeptViewer}
 use Rattle.viewer.specs.declared.notices.Notice.{Notice}
 use Rattle.viewer_list.specs.Viewers.{viewer_noticed}
 use Rattle.viewer_list.specs.declared.lagging.Lagging.{Lagging}
+use Rattle.viewer_list.specs.declared.lagging.Shared.{Shared}
 
 -- the entries that a viewer's marks lack: the last ones of the log
 abbrev pub waiting : List LogEntry → Lagging → List LogEntry
@@ -47,3 +48,13 @@ told_of notice l = record l { viewer = viewer_noticed notice l.viewer }
 pub record AllFit (log : List LogEntry) (pairs : List (ℕ × Lagging)) : Type 0 where
   pub short : length log ≤ 256
   pub each : All (Fits log) (values_of pairs)
+
+-- entries that make of a viewer's marks what as many of the log's last ones make of them, where it uses CopyRect alike
+pub record IsShared (log : List LogEntry) (s : Shared) : Type 0 where
+  pub same : (m : Marks) → logged s.uses_copyrect s.entries.items m ≡ logged s.uses_copyrect (drop (length log - s.waits) log) m
+  pub cut : (w h : ℕ) → All (IsCutEntry w h) (drop (length log - s.waits) log) → All (IsCutEntry w h) s.entries.items
+
+-- it is such a viewer
+pub record IsFor (l : Lagging) (s : Shared) : Type 0 where
+  pub waits : s.waits ≡ l.waits
+  pub uses_copyrect : s.uses_copyrect ≡ l.viewer.uses_copyrect

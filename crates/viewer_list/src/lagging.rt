@@ -1,14 +1,17 @@
 //! One viewer that lags behind a log of drawing. Its marks catch up in one pass before they are needed.
 
-ghost use Rattle.std.specs.Prelude.{◌≡◌, ◌≢◌, ◌++◌, [], ℕ, List, ◌≤◌, length, IfOk, IfSome, OnOk, OnErr};
+ghost use Rattle.copy_schedule.specs.declared.LogEntry.{LogEntry};
+ghost use Rattle.std.specs.Prelude.{All, true, ◌≡◌, ◌≢◌, ◌++◌, [], ℕ, List, ◌≤◌, length, IfOk, IfSome, OnOk, OnErr};
 ghost use Rattle.messages.specs.Reading.{rest, new_items};
 ghost use Rattle.viewer.specs.Hearing.{after_items, heard_reply};
 ghost use Rattle.viewer.specs.Sending.{sending_kept};
 ghost use Rattle.viewer.specs.Given.{bytes_given};
-ghost use Rattle.viewer_list.specs.Lagging.{caught_up, up_to_date, Fits};
+ghost use Rattle.copy_schedule.specs.Log.{IsCutEntry};
+ghost use Rattle.viewer.specs.Told.{viewer_told};
+ghost use Rattle.viewer_list.specs.Lagging.{waiting, caught_up, up_to_date, Fits, IsShared, IsFor};
 
 use framebuffer::Framebuffer;
-use std::alloc::AllocError;
+use std::alloc::{AllocError, Global};
 use viewer::{LogEntry, Reply, Update, Viewer};
 
 /// A viewer, and how many of the log's last entries its marks lack.
@@ -16,6 +19,98 @@ use viewer::{LogEntry, Reply, Update, Viewer};
 pub struct Lagging {
     pub viewer: Viewer,
     pub waits: usize,
+}
+
+/// The entries that a viewer's marks lack.
+fn lacked<'a>(log: &'a [LogEntry], lagging: &Lagging) -> &'a [LogEntry]
+    requires { lagging.now.waits ≤ length log.now }
+    ensures { result.now ≡ waiting log.now lagging.now }
+{
+    &log[log.len() - lagging.waits..]
+}
+
+/// What a viewer lacks of a log, in fewer entries: the same for each that lacks as many and uses CopyRect as it does.
+#[derive(Drop)]
+pub struct Shared {
+    waits: usize,
+    uses_copyrect: bool,
+    entries: Vec<LogEntry>,
+}
+
+/// What nobody lacks.
+pub fn nothing_shared(alloc: Global) -> Shared
+    ensures { (log : List LogEntry) → IsShared log result }
+{
+    Shared {
+        waits: 0,
+        uses_copyrect: false,
+        entries: Vec::new(alloc),
+    }
+}
+
+/// What a viewer lacks.
+fn shared_for(log: &[LogEntry], lagging: &Lagging) -> Result<Shared, AllocError>
+    requires { Fits log.now lagging.now }
+    ensures shared { IfOk result (IsShared log.now) }
+    ensures own { IfOk result (IsFor lagging.now) }
+{
+    Ok(Shared {
+        waits: lagging.waits,
+        uses_copyrect: lagging.viewer.uses_copyrect(),
+        entries: lagging.viewer.joined_log(lacked(log, lagging))?,
+    })
+}
+
+fn is_for(shared: &Shared, lagging: &Lagging) -> bool
+    ensures { result ≡ true → IsFor lagging.now shared.now }
+{
+    shared.waits == lagging.waits && shared.uses_copyrect == lagging.viewer.uses_copyrect()
+}
+
+/// The viewer's marks take the entries, and lack nothing then. After an `AllocError` they are as they were.
+fn take(shared: &Shared, lagging: &mut Lagging) -> Result<(), AllocError>
+    requires cut { All (IsCutEntry lagging.old.viewer.marks.width lagging.old.viewer.marks.height) shared.now.entries.items }
+    ensures ok { OnOk result (lagging.new ≡ record { viewer = viewer_told shared.now.entries.items lagging.old.viewer; waits = 0 }) }
+    ensures err { OnErr result (lagging.new ≡ lagging.old) }
+{
+    let prepared = lagging.viewer.apply_log(&shared.entries)?;
+    lagging.viewer.commit(prepared);
+    lagging.waits = 0;
+    Ok(())
+}
+
+/// What is shared is what a viewer lacks from now on. After an `AllocError` it is what it was.
+fn share(log: &[LogEntry], shared: &mut Shared, lagging: &Lagging) -> Result<(), AllocError>
+    requires fits { Fits log.now lagging.now }
+    requires shared { IsShared log.now shared.old }
+    ensures shared { IsShared log.now shared.new }
+    ensures own { OnOk result (IsFor lagging.now shared.new) }
+{
+    if is_for(shared, lagging) {
+        return Ok(());
+    }
+    *shared = shared_for(log, lagging)?;
+    Ok(())
+}
+
+/// The viewer's marks take what they lack of the log, which may be shared with the viewer before it. After an `AllocError` they
+/// lack it still.
+pub fn catch_up_sharing(
+    log: &[LogEntry],
+    shared: &mut Shared,
+    lagging: &mut Lagging,
+) -> Result<(), AllocError>
+    requires fits { Fits log.now lagging.old }
+    requires shared { IsShared log.now shared.old }
+    ensures ok { OnOk result (lagging.new ≡ up_to_date log.now lagging.old) }
+    ensures err { OnErr result (lagging.new ≡ lagging.old) }
+    ensures shared { IsShared log.now shared.new }
+{
+    if lagging.waits > 0 {
+        share(log, shared, lagging)?;
+        take(shared, lagging)?;
+    }
+    Ok(())
 }
 
 /// The viewer's marks take what they lack of the log. After an `AllocError` they lack it still.
@@ -27,14 +122,11 @@ pub fn catch_up(lagging: &mut Lagging, log: &[LogEntry]) -> Result<(), AllocErro
     if lagging.waits == 0 {
         return Ok(());
     }
-    let from = log.len() - lagging.waits;
-    let prepared = lagging.viewer.apply_log(&log[from..])?;
-    lagging.viewer.commit(prepared);
-    lagging.waits = 0;
-    Ok(())
+    let shared = shared_for(log, lagging)?;
+    take(&shared, lagging)
 }
 
-/// A piece of the viewer's bytes is heard, once its marks have caught up.
+/// A piece of the viewer's bytes is heard, once its marks have caught up; they are made anew once for both.
 pub fn hear_one(
     lagging: &mut Lagging,
     log: &[LogEntry],
@@ -52,8 +144,10 @@ pub fn hear_one(
     ensures fits { Fits log.now lagging.new }
     ensures err { OnErr result (caught_up log.now lagging.new ≡ caught_up log.now lagging.old) }
 {
-    catch_up(lagging, log)?;
-    lagging.viewer.hear(name, piece)
+    let lacked = lacked(log, lagging);
+    let reply = lagging.viewer.hear_after(lacked, name, piece)?;
+    lagging.waits = 0;
+    Ok(reply)
 }
 
 /// An update is cut for the viewer, once its marks have caught up.

@@ -303,7 +303,7 @@ impl ViewerList {
         ensures ok { OnOk result (1 ≤ self.new.room) }
     {
         if self.log.len() >= MOST {
-            catch_up_all(&mut self.viewers, &self.log)?;
+            catch_up_all(self.alloc, &mut self.viewers, &self.log)?;
             self.log.clear();
         }
         self.log.reserve(1)

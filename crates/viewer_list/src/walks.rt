@@ -11,22 +11,28 @@ ghost use Rattle.viewer.specs.Short.{IsShort};
 ghost use Rattle.viewer_list.specs.Lagging.{up_to_date, seen, told, IsCurrent, Fits};
 ghost use Rattle.viewer_list.specs.Viewers.{told_at_once, viewer_noticed, text_for};
 
-use crate::lagging::{Lagging, catch_up};
+use crate::lagging::{Lagging, catch_up_sharing, nothing_shared};
 use client_list::Clients;
 use listed::Listed;
 use std::alloc::{AllocError, Global};
 use viewer::{LogEntry, Notice, Prepared};
 
-/// The marks of every viewer take what they lack of the log. After an `AllocError` some may have taken it.
-pub fn catch_up_all(viewers: &mut Clients<Lagging>, log: &[LogEntry]) -> Result<(), AllocError>
+/// The marks of every viewer take what they lack of the log; neighbours that lack as much share it. After an `AllocError` some may
+/// have taken it.
+pub fn catch_up_all(
+    alloc: Global,
+    viewers: &mut Clients<Lagging>,
+    log: &[LogEntry],
+) -> Result<(), AllocError>
     requires { All (Fits log.now) (values_of viewers.old.pairs) }
     ensures ok { OnOk result (viewers.new.pairs ≡ changed (up_to_date log.now) viewers.old.pairs) }
     ensures same { seen log.now viewers.new.pairs ≡ seen log.now viewers.old.pairs }
     ensures fits { All (Fits log.now) (values_of viewers.new.pairs) }
 {
+    let mut shared = nothing_shared(alloc);
     let mut place = viewers.first();
     while let Some(at) = place {
-        catch_up(viewers.at_mut(at), log)?;
+        catch_up_sharing(log, &mut shared, viewers.at_mut(at))?;
         place = viewers.next(at);
     }
     Ok(())

@@ -6,5 +6,5 @@ use Rattle.viewer.proofs.hearing.marks_after.Goals as goal
 pub apply_log-requires : goal.apply_log-requires
 apply_log-requires c = record {
   cut = subst (All (IsCutEntry c.args.standing.now.marks.width c.args.standing.now.marks.height)) (sym c.deref.ensures.value)
-    (c.in_ok-joined.ensures.cut c.args.standing.now.marks.width c.args.standing.now.marks.height c.requires.cut);
+      (c.in_ok-joined.ensures.cut c.args.standing.now.marks.width c.args.standing.now.marks.height c.requires.cut);
 }

@@ -1,21 +1,41 @@
-use Rattle.std.proofs.Common.{◌≡◌, ◌∙◌, sym, ap, subst, List, IfOk}
-use Rattle.messages.specs.Reading.{rest}
+use Rattle.std.proofs.Common.{◌≡◌, ◌∙◌, ◌++◌, ℕ, sym, ap, List, refl}
 use Rattle.copy_schedule.specs.declared.LogEntry.{LogEntry}
-use Rattle.viewer.specs.Hearing.{heard_reply}
+use Rattle.messages.specs.Reading.{rest, new_items}
+use Rattle.viewer.specs.Hearing.{after_items, heard_reply}
+use Rattle.viewer.specs.Told.{viewer_told}
+use Rattle.viewer.specs.Viewer.{KeptViewer}
 use Rattle.viewer_list.specs.declared.lagging.Lagging.{Lagging}
 use Rattle.viewer_list.specs.Lagging.{waiting, caught_up}
-use Rattle.viewer_list.proofs.LagLemmas.{logged-alike}
+use Rattle.viewer_list.proofs.LagLemmas.{logged-alike, current_viewer}
 use Rattle.viewer_list.proofs.lagging.hear_one.Goals as goal
 
 size-seen : (log : List LogEntry) (l : Lagging) → ((caught_up log l).marks.width ≡ l.viewer.marks.width) × ((caught_up log l).marks.height ≡ l.viewer.marks.height)
 size-seen log l = let alike = logged-alike l.viewer.uses_copyrect (waiting log l) l.viewer.marks in (alike.width, alike.height)
 
 pub returns-clause-reply : goal.returns-clause-reply
-returns-clause-reply c = λ before.
-    subst (λ (l : Lagging). l.viewer.heard ≡ rest before → IfOk c.hear.result (λ reply. reply ≡ heard_reply l.viewer.marks.width l.viewer.marks.height c.args.name.now before c.args.piece.now)) c.in_ok-catch_up.ensures.ok (c.hear.ensures.reply before)
+returns-clause-reply c = λ before h.
+    let name = c.args.name.now in
+    let piece = c.args.piece.now in
+    let size = size-seen c.args.log.now c.args.lagging.now in
+    c.in_ok-reply.ensures.reply before h
+    ∙ ap (λ (w : ℕ). heard_reply w c.args.lagging.now.viewer.marks.height name before piece) (sym size.0)
+    ∙ ap (λ (n : ℕ). heard_reply (caught_up c.args.log.now c.args.lagging.now).marks.width n name before piece) (sym size.1)
+
+pub returns-clause-viewer : goal.returns-clause-viewer
+returns-clause-viewer c = λ before h.
+    let l : Lagging = c.args.lagging.now in
+    let size = size-seen c.args.log.now l in
+    let told : KeptViewer = record (viewer_told (waiting c.args.log.now l) l.viewer) { heard = rest (before ++ c.args.piece.now) } in
+    current_viewer c.args.log.now (record { viewer = c.hear_after.new.self; waits = 0 }) refl
+    ∙ c.in_ok-reply.ensures.viewer before h
+    ∙ ap (λ (es : List LogEntry). after_items l.viewer.marks.width l.viewer.marks.height (new_items before c.args.piece.now) (record (viewer_told es l.viewer) { heard = rest (before ++ c.args.piece.now) })) c.lacked-lacked.ensures
+    ∙ ap (λ (w : ℕ). after_items w l.viewer.marks.height (new_items before c.args.piece.now) told) (sym size.0)
+    ∙ ap (λ (n : ℕ). after_items (caught_up c.args.log.now l).marks.width n (new_items before c.args.piece.now) told) (sym size.1)
 
 pub returns-clause-width : goal.returns-clause-width
-returns-clause-width c = (size-seen c.args.log.now (record c.catch_up.new.lagging { viewer = c.hear.new.self })).0 ∙ c.hear.ensures.width ∙ ap (λ (l : Lagging). l.viewer.marks.width) c.in_ok-catch_up.ensures.ok
+returns-clause-width c =
+    (size-seen c.args.log.now (record { viewer = c.hear_after.new.self; waits = 0 })).0 ∙ c.hear_after.ensures.width ∙ sym (size-seen c.args.log.now c.args.lagging.now).0
 
 pub returns-clause-height : goal.returns-clause-height
-returns-clause-height c = (size-seen c.args.log.now (record c.catch_up.new.lagging { viewer = c.hear.new.self })).1 ∙ c.hear.ensures.height ∙ ap (λ (l : Lagging). l.viewer.marks.height) c.in_ok-catch_up.ensures.ok
+returns-clause-height c =
+    (size-seen c.args.log.now (record { viewer = c.hear_after.new.self; waits = 0 })).1 ∙ c.hear_after.ensures.height ∙ sym (size-seen c.args.log.now c.args.lagging.now).1
