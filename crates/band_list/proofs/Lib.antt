@@ -1,0 +1,6 @@
+pub mod EachLemmas
+pub mod HasLemmas
+pub mod InsertLemmas
+pub mod SeenLemmas
+pub mod StepLemmas
+pub mod CallLemmas

@@ -1,0 +1,195 @@
+//! The bands of a region of places in linked spans, with a gap in which bands are put in and taken out where they stand.
+//! Contracts see them as plain lists: the bands above the gap and below it, from the top, and a row of intervals that is being
+//! made for the next band.
+//!
+//! `linked` has the changes of one list of spans of which the calls are made.
+#![tactic(auto)]
+
+ghost use Rattle.std.specs.Prelude.{◌≡◌, ◌≢◌, ◌≤◌, ◌+◌, ◌++◌, ◌∷◌, [], List, OnOk, slice_get, length};
+ghost use Rattle.std.specs.Option.{option_map};
+ghost use Rattle.std.specs.List.{last_or};
+ghost use Rattle.band_list.specs.Bands.{Band, nothing, rows_of, band_with, first_row};
+
+mod linked;
+
+use linked::{first_under, free, insert_span, last_before, new_list};
+use span_arena::{ListId, Span, SpanId, Spans};
+use std::alloc::{AllocError, Global};
+use std::marker::Model;
+
+/// The columns of pixels from `from` up to `to`, without `to`.
+#[derive(Clone, Copy, Debug, PartialEq, Eq)]
+pub struct Interval {
+    pub from: i32,
+    pub to: i32,
+}
+
+/// The rows of pixels from `top` down to `bottom`, without `bottom`.
+#[derive(Clone, Copy, Debug, PartialEq, Eq)]
+pub struct Rows {
+    pub top: i32,
+    pub bottom: i32,
+}
+
+// The lists of the arena that belong to no band: that of the bands, and that of the row in the making.
+#[derive(Clone, Copy, Debug)]
+struct Lists {
+    bands: ListId,
+    row: ListId,
+}
+
+/// Bands with a gap, and a row in the making. A band takes the room of two nodes and one more for each of its intervals.
+#[derive(Drop)]
+pub struct BandList {
+    spans: Spans,
+    lists: Option<Lists>,
+    gap: Option<SpanId>,
+    left: Option<SpanId>,
+}
+
+impl Model for BandList {
+    ghost use Rattle.band_list.specs.Bands.{Bands};
+
+    ghost Value = { Bands };
+
+    ghost use Rattle.band_list.specs.Held.{view_of, IsHeld};
+
+    ghost view = { λ a. view_of a.spans a.lists a.gap a.left };
+
+    ghost invariant = { λ a. IsHeld a.spans a.lists a.gap a.left };
+}
+
+impl BandList {
+    /// No bands, an empty row and no room. This takes no memory.
+    pub fn new(alloc: Global) -> Self
+        ensures { result ≡ nothing }
+    {
+        BandList {
+            spans: Spans::new(alloc),
+            lists: None,
+            gap: None,
+            left: None,
+        }
+    }
+
+    /// Makes room for so many nodes more. No band and no row changes, also where the room is refused.
+    pub fn reserve(&mut self, more: usize) -> Result<(), AllocError>
+        ensures room { OnOk result (more ≤ self.new.spare) }
+        ensures kept { self.old.spare ≤ self.new.spare }
+        ensures same { self.new ≡ record self.old { spare = self.new.spare } }
+    {
+        if self.lists.is_none() {
+            self.spans.reserve(2)?;
+            let bands = new_list(&mut self.spans);
+            let row = new_list(&mut self.spans);
+            self.lists = Some(Lists { bands, row });
+        }
+        self.spans.reserve(more)
+    }
+
+    /// Moves the gap before all bands.
+    pub fn rewind(&mut self)
+        ensures { let all = self.old.above ++ self.old.below in self.new ≡ record self.old { above = []; left = first_row all; below = all } }
+    {
+        if let Some(lists) = self.lists {
+            self.gap = self.spans.first(lists.bands);
+            self.left = first_under(&self.spans, self.gap);
+        }
+    }
+
+    /// Moves the gap behind all bands.
+    pub fn wind(&mut self)
+        ensures { self.new ≡ record self.old { above = self.old.above ++ self.old.below; left = []; below = [] } }
+    {
+        self.gap = None;
+        self.left = None;
+    }
+
+    /// The rows of the first band below the gap; `None` where there is no band below it.
+    pub fn first_rows(&self) -> Option<Rows>
+        ensures { result ≡ option_map rows_of (slice_get self.now.below 0) }
+    {
+        let span = self.spans.get(self.gap?);
+        Some(Rows {
+            top: span.start,
+            bottom: span.stop,
+        })
+    }
+
+    /// The rows of the last band above the gap; `None` where there is no band above it.
+    pub fn last_rows(&self) -> Option<Rows>
+        ensures { result ≡ option_map rows_of (last_or None self.now.above) }
+    {
+        let lists = self.lists?;
+        let at = last_before(&self.spans, lists.bands, self.gap)?;
+        let span = self.spans.get(at);
+        Some(Rows {
+            top: span.start,
+            bottom: span.stop,
+        })
+    }
+
+    /// Moves the gap below the first band below it.
+    pub fn advance(&mut self)
+        requires { self.old.below ≢ [] }
+        ensures { (first : Band) (rest : List Band) → self.old.below ≡ first ∷ rest → self.new ≡ record self.old { above = self.old.above ++ first ∷ []; left = first_row rest; below = rest } }
+    {
+        let Some(at) = self.gap else { unreachable!() };
+        self.gap = self.spans.next(at);
+        self.left = first_under(&self.spans, self.gap);
+    }
+
+    /// Puts an interval behind the row in the making.
+    pub fn push_interval(&mut self, interval: Interval)
+        requires { 1 ≤ self.old.spare }
+        ensures spare { self.old.spare ≤ self.new.spare + 1 }
+        ensures row { self.new ≡ record self.old { row = self.old.row ++ interval ∷ []; spare = self.new.spare } }
+    {
+        let Some(lists) = self.lists else {
+            unreachable!()
+        };
+        let span = Span {
+            start: interval.from,
+            stop: interval.to,
+            sub: None,
+        };
+        insert_span(&mut self.spans, lists.row, None, span);
+    }
+
+    /// Makes a band of the row in the making, and puts it last above the gap. The row is then empty.
+    pub fn put_row(&mut self, rows: Rows)
+        requires { 2 ≤ self.old.spare }
+        ensures spare { self.old.spare ≤ self.new.spare + 2 }
+        ensures band { self.new ≡ record self.old { above = self.old.above ++ band_with rows self.old.row ∷ []; row = []; spare = self.new.spare } }
+    {
+        let Some(lists) = self.lists else {
+            unreachable!()
+        };
+        let span = Span {
+            start: rows.top,
+            stop: rows.bottom,
+            sub: Some(lists.row),
+        };
+        insert_span(&mut self.spans, lists.bands, self.gap, span);
+        let row = new_list(&mut self.spans);
+        self.lists = Some(Lists {
+            bands: lists.bands,
+            row,
+        });
+    }
+
+    /// Empties the row in the making, and gives the room of its intervals back. This takes no memory.
+    pub fn drop_row(&mut self)
+        ensures spare { self.old.spare + length self.old.row ≤ self.new.spare }
+        ensures row { self.new ≡ record self.old { row = []; spare = self.new.spare } }
+    {
+        if let Some(lists) = self.lists {
+            free(&mut self.spans, lists.row);
+            let row = new_list(&mut self.spans);
+            self.lists = Some(Lists {
+                bands: lists.bands,
+                row,
+            });
+        }
+    }
+}
