@@ -1,18 +1,20 @@
 -- What a call leaves of the value that contracts see.
-use Rattle.std.proofs.Common.{◌≡◌, ℕ, List, [], ◌∷◌, ◌++◌, map, Bool, true, false, not, Option, Some, None, is_some, refl, subst, sym, ap, ◌∙◌}
+use Rattle.std.proofs.Common.{◌≡◌, ℕ, ℤ, inl, inr, List, [], ◌∷◌, ◌++◌, map, Bool, true, false, not, Option, Some, None, is_some, refl, subst, sym, ap, ◌∙◌}
 use Rattle.std.specs.Prelude.{slice_get, IfSome}
 use Rattle.std.specs.List.{last_or}
 use Rattle.std.proofs.lemmas.List.{append-nil}
 use Rattle.std.specs.Option.{option_map}
 use Rattle.std.proofs.lemmas.Option.{same_Some}
 use Rattle.span_arena.specs.declared.Span.{Span}
-use Rattle.span_arena.specs.Arena.{Arena, list_of, span_of, last_in}
+use Rattle.span_arena.specs.Arena.{Arena, list_of, span_of, last_in, IsSound}
 use Rattle.band_list.specs.declared.Lists.{Lists}
 use Rattle.band_list.specs.Bands.{Band, Bands, nothing, rows_of, first_row}
-use Rattle.band_list.specs.Held.{Each, Entry, at_of, band_of, placed_band, placed_interval, Has, first_under, view_of, IsOverList, Holds, Shows, IsHeld}
+use Rattle.band_list.specs.Held.{Each, Entry, at_of, band_of, placed_band, placed_interval, Placed, Has, Keeps, first_under, view_of, IsOverList, Holds, Shows, IsHeld}
 use Rattle.band_list.proofs.HasLemmas.{IsSpan}
 use Rattle.band_list.proofs.SeenLemmas.{shown, spans_below, holds_for, shows_for}
-use Rattle.band_list.proofs.EachLemmas.{last_or_last}
+use Rattle.band_list.specs.declared.Interval.{Interval}
+use Rattle.band_list.proofs.CutLemmas.{left_at, skipped, gap_over, reread, raised, stretched}
+use Rattle.band_list.proofs.EachLemmas.{last_cases, last_or_last}
 use Rattle.band_list.proofs.StepLemmas.{wound, roomier, advanced, advanced_over, last_above, none_above}
 
 pub wound_shows : (a : Arena) (lists : Option Lists) (gap left : Option ℕ) (v : Bands) → IsHeld a lists gap left → view_of a lists gap left ≡ v → Shows a lists None None (record v { above = v.above ++ v.below; left = []; below = [] })
@@ -166,3 +168,71 @@ pub ready_more : (a : Arena) (lists : Option Lists) (gap left : Option ℕ) (v :
 ready_more a lists gap left v ready b more =
     shows_for b lists gap left (record v { spare = b.spare }) ready.some ready.is
     (roomier a b more ready.some.bands ready.some.row gap left (record v { spare = a.spare }) ready.holds)
+
+module _ (a : Arena) (lists : Option Lists) (gap left : Option ℕ) (v : Bands) (held : IsHeld a lists gap left) (is : view_of a lists gap left ≡ v) where
+  -- there are lists where something is left to read
+  pub lists_left : (at : ℕ) → left ≡ Some at → (some : Lists) × (lists ≡ Some some)
+  lists_left at there = by lists (shown a lists gap left v held is)
+    where
+      by : (l : Option Lists) → Shows a l gap left v → (some : Lists) × (l ≡ Some some)
+      by None shows = absurd (let none = shows.1 in cc)
+      by (Some some) h = (some, refl)
+
+  pub left_live : (at : ℕ) → left ≡ Some at → is_some (span_of a at) ≡ true
+  left_live at there =
+      let some = lists_left at there in
+      ap is_some (left_at a some.0.bands some.0.row gap left v (holds_for a lists gap left v held is some.0 some.1) at there).span
+
+  pub left_is : (at : ℕ) → left ≡ Some at → (s : Span) → span_of a at ≡ Some s → Some (record { from = s.start; to = s.stop }) ≡ slice_get v.left 0
+  left_is at there s found =
+      let some = lists_left at there in
+      let l = left_at a some.0.bands some.0.row gap left v (holds_for a lists gap left v held is some.0 some.1) at there in
+      ap (λ (x : Span). Some (record { from = x.start; to = x.stop })) (same_Some s (placed_interval l.rest.p).1 (sym found ∙ l.span))
+      ∙ ap (λ (l : List Interval). slice_get l 0) (sym l.rest.xs_is)
+
+  pub skipped_shows : (at : ℕ) → left ≡ Some at → (left' : Option ℕ) → ((list : ℕ) (f b : List ℕ) → list_of a list ≡ Some (f ++ at ∷ b) → left' ≡ slice_get b 0) → (first : Interval) (rest : List Interval) → v.left ≡ first ∷ rest → Shows a lists gap left' (record v { left = rest })
+  skipped_shows at there left' next first rest left_is =
+      let some = lists_left at there in
+      shows_for a lists gap left' (record v { left = rest }) some.0 some.1
+      (skipped a some.0.bands some.0.row gap left v (holds_for a lists gap left v held is some.0 some.1) at there left' next first rest left_is)
+
+  pub reread_over : IfSome gap (IsOverList a)
+  reread_over = by lists (shown a lists gap left v held is)
+    where
+      by : (l : Option Lists) → Shows a l gap left v → IfSome gap (IsOverList a)
+      by None shows = let P : Option ℕ → Type 0 = λ o. IfSome o (IsOverList a) in subst P (sym shows.0) tt
+      by (Some some) h = gap_over a some.bands some.row gap left v h
+
+  pub reread_shows : (left' : Option ℕ) → left' ≡ first_under a gap → Shows a lists gap left' (record v { left = first_row v.below })
+  reread_shows left' leads = by lists (shown a lists gap left v held is)
+    where
+      by : (l : Option Lists) → Shows a l gap left v → Shows a l gap left' (record v { left = first_row v.below })
+      by None shows = (shows.0, leads ∙ ap (first_under a) shows.0, ap (λ (w : Bands). record w { left = first_row w.below }) shows.2)
+      by (Some some) h = reread a some.bands some.row gap left v h left' leads
+
+  -- a span that is changed
+  module _ (b : Arena) (sound : IsSound b) (spare : b.spare ≡ a.spare) (at : ℕ) (s t : Span) (found : span_of a at ≡ Some s) (set : (list : ℕ) (front : List Placed) (p : Placed) (back : List Placed) → Has a list (front ++ p ∷ back) → p.0 ≡ at → Has b list (front ++ (p.0, t) ∷ back)) (others : (list : ℕ) (front : List Placed) (p : Placed) (back : List Placed) → Has a list (front ++ p ∷ back) → p.0 ≡ at → Keeps a b list) where
+    pub raised_shows : (top : ℤ) → t ≡ record s { start = top } → gap ≡ Some at → (first : Band) (rest : List Band) → v.below ≡ first ∷ rest → Shows b lists gap left (record v { below = record first { top = top } ∷ rest })
+    raised_shows top t_is at_is first rest below =
+        let some = lists_at a lists gap left v held is at at_is in
+        shows_for b lists gap left (record v { below = record first { top = top } ∷ rest }) some.0 some.1
+        (raised a some.0.bands some.0.row gap left v (holds_for a lists gap left v held is some.0 some.1) b sound spare at s t found set others top t_is at_is first rest below)
+
+    pub stretched_shows : (some : Lists) → lists ≡ Some some → (bottom : ℤ) → t ≡ record s { stop = bottom } → (last : Option ℕ) (leads : (front back : List ℕ) → list_of a some.bands ≡ Some (front ++ back) → gap ≡ slice_get back 0 → last ≡ last_in front) → last ≡ Some at → (front : List Band) (band : Band) → v.above ≡ front ++ band ∷ [] → Shows b lists gap left (record v { above = front ++ record band { bottom = bottom } ∷ [] })
+    stretched_shows some there bottom t_is last leads at_is front band above =
+        shows_for b lists gap left (record v { above = front ++ record band { bottom = bottom } ∷ [] }) some there
+        (stretched a some.bands some.row gap left v (holds_for a lists gap left v held is some there) b sound spare at s t found set others bottom t_is last leads at_is front band above)
+
+-- a list that isn't empty has a last element
+pub last_there : (xs : List Band) → (xs ≡ [] → ⊥) → (front : List Band) × (last : Band) × (xs ≡ front ++ last ∷ [])
+last_there xs some =
+    elim (last_cases xs) [
+      | inl none ↦ absurd (some none)
+      | inr there ↦ there
+    ]
+
+-- the gap's span leads to a list
+pub has_sub : (a : Arena) (lists : Option Lists) (gap left : Option ℕ) (v : Bands) (held : IsHeld a lists gap left) (is : view_of a lists gap left ≡ v) (at : ℕ) (there : gap ≡ Some at) (s : Span) → span_of a at ≡ Some s → (list : ℕ) × (s.sub ≡ Some list)
+has_sub a lists gap left v held is at there s found =
+    let g = at_gap a lists gap left v held is at there in
+    (g.list, ap (λ (x : Span). x.sub) (same_Some s _ (sym found ∙ g.span)))

@@ -56,3 +56,15 @@ cons_cases x y xs there = by_index there.0 there.1 there.2
     by_index : (k : ℕ) → k < suc (length xs) → get_or (x ∷ xs) k y ≡ y → (x ≡ y) ⊎ Contains xs y
     by_index zero within found = inl found
     by_index (suc k) within found = inr (k, omega arith, found)
+
+-- lists that end alike
+pub last_same : {X : Type 0} (xs : List X) (x : X) (ys : List X) (y : X) → xs ++ x ∷ [] ≡ ys ++ y ∷ [] → (xs ≡ ys) × (x ≡ y)
+last_same [] x [] y is = (refl, cc)
+last_same [] x (z ∷ []) y is = absurd (cc)
+last_same [] x (z ∷ w ∷ ys) y is = absurd (cc)
+last_same (z ∷ []) x [] y is = absurd (cc)
+last_same (z ∷ w ∷ xs) x [] y is = absurd (cc)
+last_same (z ∷ xs) x (w ∷ ys) y is =
+    let more = last_same xs x ys y (cc) in
+    let tails = more.0 in
+    (cc, more.1)

@@ -12,7 +12,7 @@ ghost use Rattle.band_list.specs.Bands.{Band, nothing, rows_of, band_with, first
 
 mod linked;
 
-use linked::{first_under, free, insert_span, last_before, new_list};
+use linked::{first_under, free, insert_span, last_before, new_list, set_span, take_span};
 use span_arena::{ListId, Span, SpanId, Spans};
 use std::alloc::{AllocError, Global};
 use std::marker::Model;
@@ -191,5 +191,88 @@ impl BandList {
                 row,
             });
         }
+    }
+
+    /// Moves the gap above the last band above it.
+    pub fn retreat(&mut self)
+        requires { self.old.above ≢ [] }
+        ensures { (front : List Band) (last : Band) → self.old.above ≡ front ++ last ∷ [] → self.new ≡ record self.old { above = front; left = last.row; below = last ∷ self.old.below } }
+    {
+        let Some(lists) = self.lists else {
+            unreachable!()
+        };
+        self.gap = last_before(&self.spans, lists.bands, self.gap);
+        self.left = first_under(&self.spans, self.gap);
+    }
+
+    /// Gives the first band below the gap another top. What is left to read stays.
+    pub fn raise(&mut self, top: i32)
+        requires { self.old.below ≢ [] }
+        ensures { (first : Band) (rest : List Band) → self.old.below ≡ first ∷ rest → self.new ≡ record self.old { below = record first { top = top } ∷ rest } }
+    {
+        let Some(at) = self.gap else { unreachable!() };
+        let mut span = self.spans.get(at);
+        span.start = top;
+        set_span(&mut self.spans, at, span);
+    }
+
+    /// Gives the last band above the gap another bottom.
+    pub fn stretch(&mut self, bottom: i32)
+        requires { self.old.above ≢ [] }
+        ensures { (front : List Band) (last : Band) → self.old.above ≡ front ++ last ∷ [] → self.new ≡ record self.old { above = front ++ record last { bottom = bottom } ∷ [] } }
+    {
+        let Some(lists) = self.lists else {
+            unreachable!()
+        };
+        let Some(at) = last_before(&self.spans, lists.bands, self.gap) else {
+            unreachable!()
+        };
+        let mut span = self.spans.get(at);
+        span.stop = bottom;
+        set_span(&mut self.spans, at, span);
+    }
+
+    /// Takes the first band below the gap out, and gives its room and that of its intervals back. This takes no memory.
+    pub fn remove_first(&mut self)
+        requires { self.old.below ≢ [] }
+        ensures { (first : Band) (rest : List Band) → self.old.below ≡ first ∷ rest → self.new ≡ record self.old { left = first_row rest; below = rest; spare = self.old.spare + 2 + length first.row } }
+    {
+        let Some(lists) = self.lists else {
+            unreachable!()
+        };
+        let Some(at) = self.gap else { unreachable!() };
+        let next = self.spans.next(at);
+        let span = take_span(&mut self.spans, lists.bands, at);
+        let Some(list) = span.sub else { unreachable!() };
+        free(&mut self.spans, list);
+        self.gap = next;
+        self.left = first_under(&self.spans, self.gap);
+    }
+
+    /// The first interval that is left to read of the first band below the gap; `None` where none is left.
+    pub fn first_left(&self) -> Option<Interval>
+        ensures { result ≡ slice_get self.now.left 0 }
+    {
+        let span = self.spans.get(self.left?);
+        Some(Interval {
+            from: span.start,
+            to: span.stop,
+        })
+    }
+
+    /// Reads on past the first interval that is left.
+    pub fn skip_left(&mut self)
+        requires { self.old.left ≢ [] }
+        ensures { (first : Interval) (rest : List Interval) → self.old.left ≡ first ∷ rest → self.new ≡ record self.old { left = rest } }
+    {
+        let Some(at) = self.left else { unreachable!() };
+        self.left = self.spans.next(at);
+    }
+
+    /// Reads the first band below the gap from its first interval again.
+    pub fn reread(&mut self)
+        ensures { self.new ≡ record self.old { left = first_row self.old.below } }
+    {
+        self.left = first_under(&self.spans, self.gap);
     }
 }

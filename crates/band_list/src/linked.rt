@@ -42,6 +42,34 @@ pub fn insert_span(spans: &mut Spans, list: ListId, before: Option<SpanId>, span
     at
 }
 
+/// Takes a span out of a list.
+pub fn take_span(spans: &mut Spans, list: ListId, at: SpanId) -> Span
+    requires { (front : List Placed) × (p : Placed) × (back : List Placed) × Has spans.old list (front ++ p ∷ back) × (p.0 ≡ at) }
+    ensures span { span_of spans.old at ≡ Some result }
+    ensures taken { (front : List Placed) (p : Placed) (back : List Placed) → Has spans.old list (front ++ p ∷ back) → p.0 ≡ at → Has spans.new list (front ++ back) }
+    ensures others { Keeps spans.old spans.new list }
+    ensures spare { spans.new.spare ≡ spans.old.spare + 1 }
+    ensures sound { IsSound spans.new }
+{
+    spans.lists_are_sound();
+    let span = spans.remove(list, at);
+    spans.lists_are_sound();
+    span
+}
+
+/// Makes another span of the one with an id.
+pub fn set_span(spans: &mut Spans, at: SpanId, span: Span)
+    requires { IsSome (span_of spans.old at) }
+    ensures set { (list : ℕ) (front : List Placed) (p : Placed) (back : List Placed) → Has spans.old list (front ++ p ∷ back) → p.0 ≡ at → Has spans.new list (front ++ (p.0, span) ∷ back) }
+    ensures others { (list : ℕ) (front : List Placed) (p : Placed) (back : List Placed) → Has spans.old list (front ++ p ∷ back) → p.0 ≡ at → Keeps spans.old spans.new list }
+    ensures spare { spans.new.spare ≡ spans.old.spare }
+    ensures sound { IsSound spans.new }
+{
+    spans.lists_are_sound();
+    spans.set(at, span);
+    spans.lists_are_sound();
+}
+
 /// Frees a list and its spans.
 pub fn free(spans: &mut Spans, list: ListId)
     requires { IsSome (list_of spans.old list) }
