@@ -8,7 +8,7 @@ use Rattle.std.proofs.lemmas.Option.{same_Some}
 use Rattle.span_arena.specs.declared.Span.{Span}
 use Rattle.span_arena.specs.Arena.{Arena, list_of, span_of, last_in, IsSound}
 use Rattle.band_list.specs.declared.Lists.{Lists}
-use Rattle.band_list.specs.Bands.{Band, Bands, nothing, rows_of, first_row}
+use Rattle.band_list.specs.Bands.{Band, Bands, Reading, nothing, rows_of, first_row, reading_of}
 use Rattle.band_list.specs.Held.{Each, Entry, at_of, band_of, placed_band, placed_interval, Placed, Has, Keeps, first_under, view_of, IsOverList, Holds, Shows, IsHeld}
 use Rattle.band_list.proofs.HasLemmas.{IsSpan}
 use Rattle.band_list.proofs.SeenLemmas.{shown, spans_below, holds_for, shows_for}
@@ -236,3 +236,14 @@ pub has_sub : (a : Arena) (lists : Option Lists) (gap left : Option ℕ) (v : Ba
 has_sub a lists gap left v held is at there s found =
     let g = at_gap a lists gap left v held is at there in
     (g.list, ap (λ (x : Span). x.sub) (same_Some s _ (sym found ∙ g.span)))
+
+-- a reader's value, from all that its fields show
+module _ (a : Arena) (lists : Option Lists) (gap left : Option ℕ) (r : Reading) (is : reading_of (view_of a lists gap left) ≡ r) where
+  abbrev all_shown : Bands
+  all_shown = view_of a lists gap left
+
+  pub read_bands : all_shown.below ≡ r.bands
+  read_bands = ap (λ (x : Reading). x.bands) is
+
+  pub read_left : all_shown.left ≡ r.left
+  read_left = ap (λ (x : Reading). x.left) is

@@ -32,3 +32,14 @@ band_with rows row = record { top = rows.top; bottom = rows.bottom; row = row }
 abbrev pub first_row : List Band → List Interval
 first_row [] = []
 first_row (band ∷ rest) = band.row
+
+-- the bands that a reader still has to read, and what is left of the first one's intervals
+pub record Reading : Type 0 where
+  pub bands : List Band
+  pub left : List Interval
+
+abbrev pub reading : List Band → Reading
+reading bands = record { bands = bands; left = first_row bands }
+
+abbrev pub reading_of : Bands → Reading
+reading_of v = record { bands = v.below; left = v.left }

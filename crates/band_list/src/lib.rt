@@ -8,7 +8,7 @@
 ghost use Rattle.std.specs.Prelude.{◌≡◌, ◌≢◌, ◌≤◌, ◌+◌, ◌++◌, ◌∷◌, [], List, OnOk, slice_get, length};
 ghost use Rattle.std.specs.Option.{option_map};
 ghost use Rattle.std.specs.List.{last_or};
-ghost use Rattle.band_list.specs.Bands.{Band, nothing, rows_of, band_with, first_row};
+ghost use Rattle.band_list.specs.Bands.{Band, nothing, rows_of, band_with, first_row, reading};
 
 mod linked;
 
@@ -274,5 +274,93 @@ impl BandList {
         ensures { self.new ≡ record self.old { left = first_row self.old.below } }
     {
         self.left = first_under(&self.spans, self.gap);
+    }
+
+    /// Reads all bands from the top, with their intervals.
+    pub fn reader(&self) -> Reader<'_>
+        ensures { result ≡ reading (self.now.above ++ self.now.below) }
+    {
+        let mut reader = Reader {
+            spans: &self.spans,
+            lists: self.lists,
+            gap: None,
+            left: None,
+        };
+        if let Some(lists) = self.lists {
+            reader.gap = self.spans.first(lists.bands);
+            reader.left = first_under(&self.spans, reader.gap);
+        }
+        reader
+    }
+}
+
+/// Reads the bands of a list that isn't changed.
+pub struct Reader<'a> {
+    spans: &'a Spans,
+    // Whose bands are read, which only contracts ask.
+    lists: Option<Lists>,
+    gap: Option<SpanId>,
+    left: Option<SpanId>,
+}
+
+impl<'a> Model for Reader<'a> {
+    ghost use Rattle.band_list.specs.Bands.{Reading, reading_of};
+
+    ghost Value = { Reading };
+
+    ghost use Rattle.band_list.specs.Held.{view_of, IsHeld};
+
+    ghost view = { λ r. reading_of (view_of r.spans.now r.lists r.gap r.left) };
+
+    ghost invariant = { λ r. IsHeld r.spans.now r.lists r.gap r.left };
+}
+
+impl<'a> Reader<'a> {
+    /// The rows of the first band that is still to read; `None` where there is none.
+    pub fn first_rows(&self) -> Option<Rows>
+        ensures { result ≡ option_map rows_of (slice_get self.now.bands 0) }
+    {
+        let span = self.spans.get(self.gap?);
+        Some(Rows {
+            top: span.start,
+            bottom: span.stop,
+        })
+    }
+
+    /// Reads on past the first band.
+    pub fn advance(&mut self)
+        requires { self.old.bands ≢ [] }
+        ensures { (first : Band) (rest : List Band) → self.old.bands ≡ first ∷ rest → self.new ≡ reading rest }
+    {
+        let Some(at) = self.gap else { unreachable!() };
+        self.gap = self.spans.next(at);
+        self.left = first_under(self.spans, self.gap);
+    }
+
+    /// The first interval that is left to read of the first band; `None` where none is left.
+    pub fn first_left(&self) -> Option<Interval>
+        ensures { result ≡ slice_get self.now.left 0 }
+    {
+        let span = self.spans.get(self.left?);
+        Some(Interval {
+            from: span.start,
+            to: span.stop,
+        })
+    }
+
+    /// Reads on past the first interval that is left.
+    pub fn skip_left(&mut self)
+        requires { self.old.left ≢ [] }
+        ensures { (first : Interval) (rest : List Interval) → self.old.left ≡ first ∷ rest → self.new ≡ record self.old { left = rest } }
+    {
+        let Some(at) = self.left else { unreachable!() };
+        self.left = self.spans.next(at);
+    }
+
+    /// Reads the first band from its first interval again.
+    pub fn reread(&mut self)
+        ensures { self.new ≡ reading self.old.bands }
+    {
+        self.left = first_under(self.spans, self.gap);
     }
 }
