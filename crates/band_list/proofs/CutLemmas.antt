@@ -47,13 +47,13 @@ module _ (a : Arena) (bands rows : ℕ) (gap left : Option ℕ) (v : Bands) (h :
           spare_is = room;
         }
 
-  bands_at : (first : Band) (rest : List Band) (f : FirstBelow a bands rows gap left v h first rest) → Has a bands (map placed_band h.above ++ placed_band f.e ∷ map placed_band f.es)
+  pub bands_at : (first : Band) (rest : List Band) (f : FirstBelow a bands rows gap left v h first rest) → Has a bands (map placed_band h.above ++ placed_band f.e ∷ map placed_band f.es)
   bands_at first rest f = subst (λ (l : List Entry). Has a bands (map placed_band h.above ++ map placed_band l)) f.below_is h.has_bands
 
-  lists_at : (first : Band) (rest : List Band) (f : FirstBelow a bands rows gap left v h first rest) → IsDistinct eqb (bands ∷ rows ∷ (map list_in h.above ++ f.e.list ∷ map list_in f.es))
+  pub lists_at : (first : Band) (rest : List Band) (f : FirstBelow a bands rows gap left v h first rest) → IsDistinct eqb (bands ∷ rows ∷ (map list_in h.above ++ f.e.list ∷ map list_in f.es))
   lists_at first rest f = subst (λ (l : List Entry). IsDistinct eqb (bands ∷ rows ∷ (map list_in h.above ++ map list_in l))) f.below_is h.apart
 
-  rest_rows : (first : Band) (rest : List Band) (f : FirstBelow a bands rows gap left v h first rest) → Each (HasEntry a) f.es
+  pub rest_rows : (first : Band) (rest : List Band) (f : FirstBelow a bands rows gap left v h first rest) → Each (HasEntry a) f.es
   rest_rows first rest f = (subst (Each (HasEntry a)) f.below_is h.rows_below).1
 
   -- a span that is changed

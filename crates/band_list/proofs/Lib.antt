@@ -5,3 +5,5 @@ pub mod SeenLemmas
 pub mod StepLemmas
 pub mod CutLemmas
 pub mod CallLemmas
+pub mod AlikeLemmas
+pub mod RowLemmas

@@ -25,6 +25,9 @@ nothing = record { above = []; row = []; left = []; below = []; spare = 0 }
 abbrev pub rows_of : Band → Rows
 rows_of band = record { top = band.top; bottom = band.bottom }
 
+abbrev pub row_of : Band → List Interval
+row_of band = band.row
+
 abbrev pub band_with : Rows → List Interval → Band
 band_with rows row = record { top = rows.top; bottom = rows.bottom; row = row }
 

@@ -5,14 +5,16 @@
 //! `linked` has the changes of one list of spans of which the calls are made.
 #![tactic(auto)]
 
-ghost use Rattle.std.specs.Prelude.{◌≡◌, ◌≢◌, ◌≤◌, ◌+◌, ◌++◌, ◌∷◌, [], List, OnOk, slice_get, length};
+ghost use Rattle.std.specs.Prelude.{◌≡◌, ◌≢◌, ◌≤◌, ◌+◌, ◌++◌, ◌∷◌, ◌↔◌, [], List, IsTrue, OnOk, slice_get, length};
 ghost use Rattle.std.specs.Option.{option_map};
 ghost use Rattle.std.specs.List.{last_or};
-ghost use Rattle.band_list.specs.Bands.{Band, nothing, rows_of, band_with, first_row, reading};
+ghost use Rattle.band_list.specs.Bands.{Band, nothing, rows_of, row_of, band_with, first_row, reading};
 
 mod linked;
 
-use linked::{first_under, free, insert_span, last_before, new_list, set_span, take_span};
+use linked::{
+    first_under, free, insert_span, last_before, new_list, same_intervals, set_span, take_span,
+};
 use span_arena::{ListId, Span, SpanId, Spans};
 use std::alloc::{AllocError, Global};
 use std::marker::Model;
@@ -274,6 +276,67 @@ impl BandList {
         ensures { self.new ≡ record self.old { left = first_row self.old.below } }
     {
         self.left = first_under(&self.spans, self.gap);
+    }
+
+    /// Takes the first interval of the first band below the gap out, and gives its room back. What remains is left to read.
+    /// This takes no memory.
+    pub fn take_first_interval(&mut self) -> Interval
+        requires band { self.old.below ≢ [] }
+        requires interval { first_row self.old.below ≢ [] }
+        ensures interval { (row : List Interval) (interval : Interval) → first_row self.old.below ≡ interval ∷ row → result ≡ interval }
+        ensures taken { (first : Band) (rest : List Band) (row : List Interval) (interval : Interval) → self.old.below ≡ first ∷ rest → first.row ≡ interval ∷ row → self.new ≡ record self.old { left = row; below = record first { row = row } ∷ rest; spare = self.old.spare + 1 } }
+    {
+        let Some(at) = self.gap else { unreachable!() };
+        let span = self.spans.get(at);
+        let Some(list) = span.sub else { unreachable!() };
+        let Some(first) = self.spans.first(list) else {
+            unreachable!()
+        };
+        let taken = take_span(&mut self.spans, list, first);
+        self.left = first_under(&self.spans, self.gap);
+        Interval {
+            from: taken.start,
+            to: taken.stop,
+        }
+    }
+
+    /// Takes the last interval of the first band below the gap out, and gives its room back. What remains is left to read.
+    /// This takes no memory.
+    pub fn take_last_interval(&mut self) -> Interval
+        requires band { self.old.below ≢ [] }
+        requires interval { first_row self.old.below ≢ [] }
+        ensures interval { (row : List Interval) (interval : Interval) → first_row self.old.below ≡ row ++ interval ∷ [] → result ≡ interval }
+        ensures taken { (first : Band) (rest : List Band) (row : List Interval) (interval : Interval) → self.old.below ≡ first ∷ rest → first.row ≡ row ++ interval ∷ [] → self.new ≡ record self.old { left = row; below = record first { row = row } ∷ rest; spare = self.old.spare + 1 } }
+    {
+        let Some(at) = self.gap else { unreachable!() };
+        let span = self.spans.get(at);
+        let Some(list) = span.sub else { unreachable!() };
+        let Some(last) = self.spans.last(list) else {
+            unreachable!()
+        };
+        let taken = take_span(&mut self.spans, list, last);
+        self.left = first_under(&self.spans, self.gap);
+        Interval {
+            from: taken.start,
+            to: taken.stop,
+        }
+    }
+
+    /// Whether there is a last band above the gap whose intervals are those of the row in the making.
+    pub fn row_is_as_last(&self) -> bool
+        ensures { IsTrue result ↔ (option_map row_of (last_or None self.now.above) ≡ Some self.now.row) }
+    {
+        let Some(lists) = self.lists else {
+            return false;
+        };
+        let Some(at) = last_before(&self.spans, lists.bands, self.gap) else {
+            return false;
+        };
+        let span = self.spans.get(at);
+        let Some(list) = span.sub else {
+            return false;
+        };
+        same_intervals(&self.spans, list, lists.row)
     }
 
     /// Reads all bands from the top, with their intervals.

@@ -1,8 +1,8 @@
 //! Changes of one list of spans, seen as its spans with their ids: every other list stays as it was.
 
-ghost use Rattle.std.specs.Prelude.{◌≡◌, ◌≢◌, ◌≤◌, ◌+◌, ◌++◌, ◌∷◌, [], ℕ, List, IsSome, IfSome, Some, None, slice_get, length};
-ghost use Rattle.span_arena.specs.Arena.{list_of, span_of, last_in, IsSound};
-ghost use Rattle.band_list.specs.Held.{Placed, Has, Keeps, IsOverList, ids_in, first_under as first_under_lem};
+ghost use Rattle.std.specs.Prelude.{◌≡◌, ◌≢◌, ◌≤◌, ◌+◌, ◌++◌, ◌∷◌, ◌↔◌, [], ℕ, List, map, IsTrue, IsSome, IfSome, Some, None, slice_get, length};
+ghost use Rattle.span_arena.specs.Arena.{list_of, ids_of, span_of, last_in, IsSound};
+ghost use Rattle.band_list.specs.Held.{Placed, Has, Keeps, IsOverList, ids_in, interval_at, first_under as first_under_lem};
 
 use span_arena::{ListId, Span, SpanId, Spans};
 
@@ -101,4 +101,27 @@ pub fn last_before(spans: &Spans, list: ListId, before: Option<SpanId>) -> Optio
         Some(at) => spans.prev(at),
         None => spans.last(list),
     }
+}
+
+/// Whether two lists have the same spans, but for the lists below them.
+pub fn same_intervals(spans: &Spans, one: ListId, other: ListId) -> bool
+    requires one { IsSome (list_of spans.now one) }
+    requires other { IsSome (list_of spans.now other) }
+    ensures { IsTrue result ↔ (map (interval_at spans.now) (ids_of spans.now one) ≡ map (interval_at spans.now) (ids_of spans.now other)) }
+{
+    spans.lists_are_sound();
+    let mut left = spans.first(one);
+    let mut right = spans.first(other);
+    while let Some(a) = left {
+        let Some(b) = right else {
+            return false;
+        };
+        let (x, y) = (spans.get(a), spans.get(b));
+        if x.start != y.start || x.stop != y.stop {
+            return false;
+        }
+        left = spans.next(a);
+        right = spans.next(b);
+    }
+    right.is_none()
 }
