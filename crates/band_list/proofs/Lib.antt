@@ -7,3 +7,4 @@ pub mod CutLemmas
 pub mod CallLemmas
 pub mod AlikeLemmas
 pub mod RowLemmas
+pub mod ClearLemmas

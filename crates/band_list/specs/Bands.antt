@@ -1,5 +1,5 @@
 -- What contracts see of a list of bands.
-use Rattle.std.specs.Prelude.{ℕ, ℤ, List, [], ◌∷◌}
+use Rattle.std.specs.Prelude.{ℕ, ◌+◌, ℤ, List, [], ◌∷◌, length}
 use Rattle.band_list.specs.declared.Interval.{Interval}
 use Rattle.band_list.specs.declared.Rows.{Rows}
 
@@ -35,6 +35,11 @@ band_with rows row = record { top = rows.top; bottom = rows.bottom; row = row }
 abbrev pub first_row : List Band → List Interval
 first_row [] = []
 first_row (band ∷ rest) = band.row
+
+-- how many nodes the bands take
+abbrev pub nodes_in : List Band → ℕ
+nodes_in [] = 0
+nodes_in (band ∷ rest) = 2 + length band.row + nodes_in rest
 
 -- the bands that a reader still has to read, and what is left of the first one's intervals
 pub record Reading : Type 0 where

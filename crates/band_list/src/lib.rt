@@ -8,7 +8,7 @@
 ghost use Rattle.std.specs.Prelude.{◌≡◌, ◌≢◌, ◌≤◌, ◌+◌, ◌++◌, ◌∷◌, ◌↔◌, [], List, IsTrue, OnOk, slice_get, length};
 ghost use Rattle.std.specs.Option.{option_map};
 ghost use Rattle.std.specs.List.{last_or};
-ghost use Rattle.band_list.specs.Bands.{Band, nothing, rows_of, row_of, band_with, first_row, reading};
+ghost use Rattle.band_list.specs.Bands.{Band, nothing, rows_of, row_of, band_with, first_row, nodes_in, reading};
 
 mod linked;
 
@@ -136,8 +136,10 @@ impl BandList {
         requires { self.old.below ≢ [] }
         ensures { (first : Band) (rest : List Band) → self.old.below ≡ first ∷ rest → self.new ≡ record self.old { above = self.old.above ++ first ∷ []; left = first_row rest; below = rest } }
     {
-        let Some(at) = self.gap else { unreachable!() };
-        self.gap = self.spans.next(at);
+        let Some(first) = self.gap else {
+            unreachable!()
+        };
+        self.gap = self.spans.next(first);
         self.left = first_under(&self.spans, self.gap);
     }
 
@@ -337,6 +339,18 @@ impl BandList {
             return false;
         };
         same_intervals(&self.spans, list, lists.row)
+    }
+
+    /// Frees all bands and the row in the making, and gives their room back. This takes no memory.
+    pub fn clear(&mut self)
+        ensures spare { self.old.spare + nodes_in self.old.above + nodes_in self.old.below + length self.old.row ≤ self.new.spare }
+        ensures cleared { self.new ≡ record nothing { spare = self.new.spare } }
+    {
+        self.rewind();
+        'bands: while self.first_rows().is_some() {
+            self.remove_first();
+        }
+        self.drop_row();
     }
 
     /// Reads all bands from the top, with their intervals.
