@@ -160,6 +160,16 @@ impl BandList {
         insert_span(&mut self.spans, lists.row, None, span);
     }
 
+    /// Whether the row in the making has no interval.
+    pub fn row_is_empty(&self) -> bool
+        ensures { IsTrue result ↔ (self.now.row ≡ []) }
+    {
+        let Some(lists) = self.lists else {
+            return true;
+        };
+        self.spans.first(lists.row).is_none()
+    }
+
     /// Makes a band of the row in the making, and puts it last above the gap. The row is then empty.
     pub fn put_row(&mut self, rows: Rows)
         requires { 2 ≤ self.old.spare }

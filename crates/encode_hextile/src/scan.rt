@@ -8,6 +8,7 @@ ghost use Rattle.encode_rre.specs.Subrectangles.{stretch, subrectangles_in, subr
 ghost use Rattle.encode_hextile.specs.Hextile.{subrectangle_bytes};
 
 use arrayvec::ArrayVec;
+use encode_rre::lines::{Lines, Values};
 use encode_rre::rows::Rows;
 use encode_rre::{Subrectangle, subrectangle_at};
 use pixel_translate::bytes::{bytes_8, bytes_16, bytes_32};
@@ -102,15 +103,20 @@ fn put_row(
     requires rows { pixels.now.height ≤ 16 }
     ensures { list.new.items ≡ list.old.items ++ flat_map (subrectangle_bytes format.now coloured) (subrectangles_in background (rows_in pixels.now) y) }
 {
-    if pixels.repeats(y) {
+    let lines = Lines {
+        values: Values::Whole(pixels.values),
+        width: pixels.width,
+        height: pixels.height,
+    };
+    if lines.repeats(y) {
         return;
     }
-    let row = pixels.row(y);
+    let row = lines.row(y);
     let widths = widths_of(row);
     let mut x = 0;
     while x < pixels.width {
         let w = width_at(row, &widths, x);
-        if let Some(sub) = subrectangle_at(pixels, background, y, x, w) {
+        if let Some(sub) = subrectangle_at(&lines, background, y, x, w) {
             put_subrectangle(list, format, coloured, sub);
         }
         x += w;

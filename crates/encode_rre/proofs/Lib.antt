@@ -1,4 +1,5 @@
 pub mod Starts
+pub mod Apart
 pub mod Ends
 pub mod Early
 pub mod Lengths

@@ -4,19 +4,8 @@ use Rattle.std.proofs.lemmas.Bool.{cases_lt}
 use Rattle.std.proofs.lemmas.Bool.Decides.{eqb_tells}
 use Rattle.std.proofs.lemmas.List.{get_or-set_same, get_or-set_other}
 use Rattle.encode_rre.specs.Subrectangles.{stretch}
-use Rattle.encode_rre.specs.Starts.{AreRuns}
+use Rattle.encode_rre.specs.Starts.{AreRuns, Found}
 use Rattle.encode_rre.specs.Scans.{stretch_is}
-
--- the runs that begin before x are found: all but the last of them end, and the pixels from where that one begins are one
-pub record Found (row starts : List ℕ) (count x : ℕ) : Type 0 where
-  pub some : 0 < count
-  pub few : count ≤ x
-  pub within : x ≤ length row
-  pub first : get_or starts 0 0 ≡ 0
-  pub inside : (k : ℕ) → k < count → get_or starts k 0 < x
-  pub grows : (k : ℕ) → k + 1 < count → get_or starts k 0 < get_or starts (k + 1) 0
-  pub steps : (k : ℕ) → k + 1 < count → get_or starts (k + 1) 0 ≡ get_or starts k 0 + stretch row (get_or starts k 0)
-  pub same : (k : ℕ) → get_or starts (count - 1) 0 ≤ k → k < x → get_or row k 0 ≡ get_or row (get_or starts (count - 1) 0) 0
 
 set_here : (starts : List ℕ) (i x : ℕ) → i < length starts → get_or (set starts i x) i 0 ≡ x
 set_here starts i x lt = get_or-set_same starts i x 0 lt
@@ -141,3 +130,36 @@ found_all row starts count f room = record {
 
     here : (k : ℕ) → k ≡ count → get_or (set starts count (length row)) k 0 ≡ length row
     here k e = ap (λ (i : ℕ). get_or (set starts count (length row)) i 0) e ∙ set_here starts count (length row) room
+
+-- pixels that go on with the last run begin none
+pub found_far : (row starts : List ℕ) (count x far : ℕ) → Found row starts count x → x ≤ far → far ≤ length row → ((k : ℕ) → x ≤ k → k < far → get_or row k 0 ≡ get_or row (x - 1) 0)
+    → Found row starts count far
+found_far row starts count x far f on within alike = record {
+  some = f.some;
+  few = omega (arith, f.few);
+  within = within;
+  first = f.first;
+  grows = f.grows;
+  steps = f.steps;
+  inside = λ k le. omega (arith, f.inside k le);
+  same = λ k le below. elim (cases_lt k x) [
+    | inl less ↦ f.same k le less
+    | inr more ↦ alike k more below ∙ f.same (x - 1) (omega (arith, low)) (omega (arith, low))
+  ];
+}
+  where
+    low : get_or starts (count - 1) 0 < x
+    low = f.inside (count - 1) (omega (arith, f.some))
+
+-- the first run begins at the row's first place
+pub found_first : (row starts : List ℕ) → 0 < length row → get_or starts 0 0 ≡ 0 → Found row starts 1 1
+found_first row starts some first = record {
+  some = omega arith;
+  few = omega arith;
+  within = some;
+  first = first;
+  inside = λ k le. omega (arith, ap (λ (i : ℕ). get_or starts i 0) (let q : k ≡ 0 = omega arith in q), first);
+  grows = λ k le. absurd (omega (arith, le));
+  steps = λ k le. absurd (omega (arith, le));
+  same = λ k le below. ap (λ (i : ℕ). get_or row i 0) (let q : k ≡ get_or starts 0 0 = omega (arith, first, below) in q);
+}

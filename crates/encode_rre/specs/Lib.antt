@@ -2,6 +2,8 @@ pub mod Rre
 pub mod Begins
 pub mod Subrectangles
 pub mod Rows
+pub mod Laid
+pub mod Lines
 pub mod Starts
 pub mod Breaks
 pub mod Counted

@@ -6,9 +6,9 @@ ghost use Rattle.std.specs.HashMap as hash;
 ghost use Rattle.std.specs.Option.{unwrap_or};
 ghost use Rattle.encode_rre.specs.Counted.{count_in, IsBestOf};
 ghost use Rattle.encode_rre.specs.Subrectangles.{background_of, times, row_at};
-ghost use Rattle.encode_rre.specs.Rows.{rows_in};
+ghost use Rattle.encode_rre.specs.Lines.{values_in, lines_in};
 
-use crate::rows::Rows;
+use crate::lines::Lines;
 use crate::scan::stretch_from;
 use std::alloc::{AllocError, Global};
 use std::collections::HashMap;
@@ -26,26 +26,48 @@ pub fn is_better(pixel: u32, count: usize, best: u32, most: usize) -> bool
     }
 }
 
+/// A pixel that may be the most frequent one, and by how many votes it is ahead.
+#[derive(Drop)]
+struct Guess {
+    pixel: u32,
+    votes: usize,
+}
+
+/// One pixel has a vote.
+fn vote(guess: &mut Guess, pixel: u32) {
+    if pixel == guess.pixel {
+        guess.votes = guess.votes.saturating_add(1);
+    } else if guess.votes == 0 {
+        guess.pixel = pixel;
+        guess.votes = 1;
+    } else {
+        guess.votes -= 1;
+    }
+}
+
+/// One in 128 pixels of a row has a vote, from a place on, but none that is `beside`.
+fn vote_in_row(guess: &mut Guess, row: &[u32], first: usize, beside: Option<u32>)
+    requires { length row.now < 2 ^ 16 }
+{
+    let mut x = first;
+    while x < row.len() {
+        let pixel = row[x];
+        if beside != Some(pixel) {
+            vote(guess, pixel);
+        }
+        x += 128;
+    }
+}
+
 /// A pixel that may be the most frequent one, or the most frequent beside another: one in 128 pixels
 /// has a vote, and a pixel that more than half of them have wins. It is only a guess.
-fn likely(pixels: &[u32], beside: Option<u32>) -> u32 {
-    let mut best = 0;
-    let mut votes = 0usize;
-    for k in 0..pixels.len() / 128 {
-        let pixel = pixels[128 * k + k % 127];
-        if beside == Some(pixel) {
-            continue;
-        }
-        if pixel == best {
-            votes = votes.saturating_add(1);
-        } else if votes == 0 {
-            best = pixel;
-            votes = 1;
-        } else {
-            votes -= 1;
-        }
+fn likely(pixels: &Lines, beside: Option<u32>) -> u32 {
+    let mut guess = Guess { pixel: 0, votes: 0 };
+    let some = pixels.width.min(128);
+    for y in 0..pixels.height {
+        vote_in_row(&mut guess, pixels.row(y), 37 * y % some, beside);
     }
-    best
+    guess.pixel
 }
 
 /// How often a pixel stands there. This has no branch in its loop, so that many places are looked
@@ -61,33 +83,30 @@ pub fn times(pixels: &[u32], pixel: u32) -> usize
     count as usize
 }
 
-/// How often a pixel stands there, counted 4096 places at a time, and no further once there are more
-/// than `enough`.
-fn times_until(pixels: &[u32], pixel: u32, enough: usize) -> usize
-    requires { length pixels.now < 2 ^ 32 }
-    ensures some { result ≤ times pixel pixels.now }
-    ensures all { result ≤ enough → result ≡ times pixel pixels.now }
+/// How often a pixel stands there, counted row by row, and no further once there are more than
+/// `enough`.
+fn times_until(pixels: &Lines, pixel: u32, enough: usize) -> usize
+    ensures some { result ≤ times pixel (values_in pixels.now) }
+    ensures all { result ≤ enough → result ≡ times pixel (values_in pixels.now) }
 {
     let mut count = 0;
-    let mut seen = 0;
-    while seen < pixels.len() && count <= enough {
-        let end = pixels.len().min(seen + 4096);
-        count += times(&pixels[seen..end], pixel);
-        seen = end;
+    let mut y = 0;
+    while y < pixels.height && count <= enough {
+        count += times(pixels.row(y), pixel);
+        y += 1;
     }
     count
 }
 
 /// The better background of two pixels, where no other can be as frequent as the one of them that
 /// stands there more often: all others together have fewer places.
-fn best_of_two(pixels: &[u32], one: u32, ones: usize, other: u32) -> Option<u32>
-    requires some { 0 < length pixels.now }
-    requires few { length pixels.now < 2 ^ 32 }
-    requires counted { ones ≡ times one pixels.now }
-    ensures { IfSome result (λ b. b ≡ background_of pixels.now) }
+fn best_of_two(pixels: &Lines, one: u32, ones: usize, other: u32) -> Option<u32>
+    requires { ones ≡ times one (values_in pixels.now) }
+    ensures { IfSome result (λ b. b ≡ background_of (values_in pixels.now)) }
 {
-    let others = times(pixels, other);
-    if one == other || ones + others + ones.max(others) <= pixels.len() {
+    let places = pixels.width * pixels.height;
+    let others = times_until(pixels, other, places);
+    if one == other || ones + others + ones.max(others) <= places {
         return None;
     }
     if is_better(one, ones, other, others) {
@@ -143,11 +162,11 @@ fn count_row(counter: &mut Counter, row: &[u32], rows: usize) -> Result<(), Allo
 }
 
 /// How many rows from `top` on are like the one there.
-fn rows_like(pixels: &Rows, top: usize) -> usize
+fn rows_like(pixels: &Lines, top: usize) -> usize
     requires inside { top < pixels.now.height }
     ensures some { 0 < result }
     ensures within { top + result ≤ pixels.now.height }
-    ensures same { (k : ℕ) → k < result → row_at (rows_in pixels.now) (top + k) ≡ row_at (rows_in pixels.now) top }
+    ensures same { (k : ℕ) → k < result → row_at (lines_in pixels.now) (top + k) ≡ row_at (lines_in pixels.now) top }
 {
     let row = pixels.row(top);
     for y in top + 1..pixels.height {
@@ -160,12 +179,12 @@ fn rows_like(pixels: &Rows, top: usize) -> usize
 
 /// The most frequent pixel, of several the smallest, counted row by row; rows that are alike are
 /// counted at once.
-fn counted_background(alloc: Global, pixels: &Rows) -> Result<u32, AllocError>
-    ensures { IfOk result (λ b. b ≡ background_of pixels.now.values.now) }
+fn counted_background(alloc: Global, pixels: &Lines) -> Result<u32, AllocError>
+    ensures { IfOk result (λ b. b ≡ background_of (values_in pixels.now)) }
 {
     let mut counter = Counter {
         counts: HashMap::new(alloc),
-        best: pixels.values[0],
+        best: 0,
         most: 0,
     };
     let mut y = 0;
@@ -180,17 +199,17 @@ fn counted_background(alloc: Global, pixels: &Rows) -> Result<u32, AllocError>
 /// The most frequent pixel, of several the smallest. Where a pixel that seems likely has more than
 /// half of the places, it is the one, and where two have enough of them, it is one of these; else
 /// all pixels are counted.
-pub(crate) fn background_of(alloc: Global, pixels: &Rows) -> Result<u32, AllocError>
-    ensures { IfOk result (λ b. b ≡ background_of pixels.now.values.now) }
+pub(crate) fn background_of(alloc: Global, pixels: &Lines) -> Result<u32, AllocError>
+    ensures { IfOk result (λ b. b ≡ background_of (values_in pixels.now)) }
 {
-    let guess = likely(pixels.values, None);
-    let half = pixels.values.len() / 2;
-    let count = times_until(pixels.values, guess, half);
+    let guess = likely(pixels, None);
+    let half = pixels.width * pixels.height / 2;
+    let count = times_until(pixels, guess, half);
     if half < count {
         return Ok(guess);
     }
-    let other = likely(pixels.values, Some(guess));
-    match best_of_two(pixels.values, guess, count, other) {
+    let other = likely(pixels, Some(guess));
+    match best_of_two(pixels, guess, count, other) {
         Some(best) => Ok(best),
         None => counted_background(alloc, pixels),
     }

@@ -8,9 +8,9 @@
 ghost use Rattle.std.specs.Prelude.{◌≡◌, ℕ, ◌+◌, ◌*◌, ◌^◌, ◌<◌, ◌≤◌, true, length, slice_index};
 ghost use Rattle.encode_rre.specs.Breaks.{breaks, breaks_like};
 ghost use Rattle.encode_rre.specs.Subrectangles.{subrectangles};
-ghost use Rattle.encode_rre.specs.Rows.{rows_in};
+ghost use Rattle.encode_rre.specs.Lines.{lines_in};
 
-use crate::rows::Rows;
+use crate::lines::Lines;
 
 /// How many places of a row differ from the one before them and from the one above them. This has
 /// no branch in its loop, so that many places are looked at in one step.
@@ -60,8 +60,8 @@ fn most_of(buckets: &[usize; 251]) -> usize
 
 /// Whether more than `limit` such places are left when those with the background's pixel are left
 /// out, of which there are at most as many as in the fullest bucket.
-fn has_too_many_kinds(pixels: &Rows, limit: usize) -> bool
-    ensures { result ≡ true → (b : ℕ) → limit < length (subrectangles b (rows_in pixels.now)) }
+fn has_too_many_kinds(pixels: &Lines, limit: usize) -> bool
+    ensures { result ≡ true → (b : ℕ) → limit < length (subrectangles b (lines_in pixels.now)) }
 {
     let mut buckets = [0usize; 251];
     let mut count = 0;
@@ -75,7 +75,7 @@ fn has_too_many_kinds(pixels: &Rows, limit: usize) -> bool
 
 /// Whether there may be enough such places to be too many: there are few rows, or in one row of 16
 /// there are more than half as many as would be too many there. It is only a guess.
-fn may_have_too_many(pixels: &Rows, limit: usize) -> bool {
+fn may_have_too_many(pixels: &Lines, limit: usize) -> bool {
     if pixels.height < 64 {
         return true;
     }
@@ -91,9 +91,9 @@ fn may_have_too_many(pixels: &Rows, limit: usize) -> bool {
 /// Whether there are more than `limit` subrectangles for certain: where a part of the rows has many
 /// such places, first with the half of each row left out, and then, where such places are enough, by
 /// their pixels.
-pub(crate) fn has_too_many(pixels: &Rows, limit: usize) -> bool
+pub(crate) fn has_too_many(pixels: &Lines, limit: usize) -> bool
     requires limited { limit < 2 ^ 32 }
-    ensures { result ≡ true → (b : ℕ) → limit < length (subrectangles b (rows_in pixels.now)) }
+    ensures { result ≡ true → (b : ℕ) → limit < length (subrectangles b (lines_in pixels.now)) }
 {
     if !may_have_too_many(pixels, limit) {
         return false;

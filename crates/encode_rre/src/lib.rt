@@ -17,27 +17,29 @@
 //! rectangle is written to the output itself, whose room is made at once.
 #![tactic(auto)]
 
-ghost use Rattle.std.specs.Prelude.{◌≡◌, ℕ, ◌*◌, ◌<◌, ◌≤◌, ◌++◌, true, length, map, slice_index, IfOk, MatchOption, OnOk, OnErr};
-ghost use Rattle.pixel_translate.specs.Pixel.{pixel};
+ghost use Rattle.std.specs.Prelude.{◌≡◌, ℕ, ◌+◌, ◌*◌, ◌<◌, ◌≤◌, ◌^◌, ◌++◌, true, length, map, flat_map, slice_index, All, IfOk, MatchOption, OnOk, OnErr};
+ghost use Rattle.pixel_translate.specs.Pixel.{pixel, colour_bytes};
 ghost use Rattle.encode_raw.specs.Raw.{raw};
 ghost use Rattle.encode_rre.specs.Claims.{rre_reads_back};
 ghost use Rattle.encode_rre.specs.Rre.{rre, IsCodingOf};
 ghost use Rattle.encode_rre.specs.Begins.{BeginsWith};
+ghost use Rattle.encode_rre.specs.Lines.{values_in};
 ghost use Rattle.encode_rre.specs.Subrectangles.{ListsTheSubrectangles, ListsInOrder, FindsTheBackground};
 
 mod background;
 mod breaks;
 mod bytes;
+pub mod lines;
 pub mod rows;
 mod scan;
 
 use crate::background::background_of;
 use crate::breaks::has_too_many;
 use crate::bytes::put_rre;
-use crate::rows::Rows;
+use crate::lines::{Lines, Values};
 use crate::scan::subrectangles_within;
 pub use background::{is_better, times};
-use encode_raw::{encode_raw_with_table, raw_is_read_back};
+use encode_raw::{put_raw_pixels, raw_is_read_back, rect_header};
 use pixel_translate::{Table, server_pixels_are_colours};
 pub use pixel_translate::{Area, PixelFormat};
 pub use scan::{stretch_from, subrectangle_at};
@@ -65,28 +67,50 @@ fn greatest(colours: &[u32]) -> u32
     greatest
 }
 
-/// Whether each colour is its own pixel: the format has the server's components, and no colour has
-/// a top byte.
-fn are_pixels(colours: &[u32], format: &PixelFormat) -> bool
-    ensures { result ≡ true → colours.now ≡ map (pixel format.now) colours.now }
+/// Whether no colour has a top byte.
+fn are_low(colours: &Lines) -> bool
+    ensures { result ≡ true → (k : ℕ) → k < length (values_in colours.now) → slice_index (values_in colours.now) k < 2 ^ 24 }
 {
-    server_pixels_are_colours();
-    format.has_server_components() && greatest(colours) < 1 << 24
+    for y in 0..colours.height {
+        if greatest(colours.row(y)) >= 1 << 24 {
+            return false;
+        }
+    }
+    true
 }
 
-/// The pixel of each colour. A colour that is the one before it isn't translated again.
-fn pixels_of(alloc: Global, colours: &[u32], table: &Table) -> Result<Vec<u32>, AllocError>
-    ensures { IfOk result (λ pixels. pixels.items ≡ map (pixel table.now) colours.now) }
+/// Whether each colour is its own pixel: the format has the server's components, and no colour has
+/// a top byte.
+fn are_pixels(colours: &Lines, format: &PixelFormat) -> bool
+    ensures { result ≡ true → values_in colours.now ≡ map (pixel format.now) (values_in colours.now) }
 {
-    let mut pixels = Vec::with_capacity(alloc, colours.len())?;
+    server_pixels_are_colours();
+    format.has_server_components() && are_low(colours)
+}
+
+/// Appends the pixel of each colour of a row. A colour that is the one before it isn't translated again.
+fn put_pixels_of(pixels: &mut Vec<u32>, row: &[u32], table: &Table) -> Result<(), AllocError>
+    ensures { OnOk result (pixels.new.items ≡ pixels.old.items ++ map (pixel table.now) row.now) }
+{
     let mut last = 0;
     let mut pixel = table.translate(last);
-    for colour in colours {
+    for colour in row {
         if *colour != last {
             last = *colour;
             pixel = table.translate(last);
         }
         pixels.push(pixel)?;
+    }
+    Ok(())
+}
+
+/// The pixel of each colour.
+fn pixels_of(alloc: Global, colours: &Lines, table: &Table) -> Result<Vec<u32>, AllocError>
+    ensures { IfOk result (λ pixels. pixels.items ≡ map (pixel table.now) (values_in colours.now)) }
+{
+    let mut pixels = Vec::with_capacity(alloc, colours.width * colours.height)?;
+    for y in 0..colours.height {
+        put_pixels_of(&mut pixels, colours.row(y), table)?;
     }
     Ok(pixels)
 }
@@ -102,29 +126,24 @@ pub(crate) struct Coding {
 fn coding_of(
     alloc: Global,
     area: Area,
-    colours: &[u32],
-    pixels: &[u32],
+    colours: &Lines,
+    pixels: &Lines,
     format: &PixelFormat,
 ) -> Result<Option<Coding>, AllocError>
-    requires wide { 1 ≤ area.w }
-    requires high { 1 ≤ area.h }
-    requires whole { length colours.now ≡ area.w * area.h }
-    requires translated { pixels.now ≡ map (pixel format.now) colours.now }
-    ensures { IfOk result (λ found. MatchOption found (rre format.now area colours.now ≡ raw format.now area colours.now) (λ coding. IsCodingOf format.now area colours.now coding.background coding.subs.items)) }
+    requires width { pixels.now.width ≡ area.w }
+    requires height { pixels.now.height ≡ area.h }
+    requires translated { values_in pixels.now ≡ map (pixel format.now) (values_in colours.now) }
+    ensures { IfOk result (λ found. MatchOption found (rre format.now area (values_in colours.now) ≡ raw format.now area (values_in colours.now)) (λ coding. IsCodingOf format.now area (values_in colours.now) coding.background coding.subs.items)) }
 {
+    let _ = colours.width;
     let pixel_len = format.bytes_per_pixel();
-    let raw_len = colours.len() * pixel_len;
+    let raw_len = pixels.width * pixels.height * pixel_len;
     let limit = raw_len / (pixel_len + 8);
-    let rows = Rows {
-        values: pixels,
-        width: usize::from(area.w),
-        height: usize::from(area.h),
-    };
-    if has_too_many(&rows, limit) {
+    if has_too_many(pixels, limit) {
         return Ok(None);
     }
-    let background = background_of(alloc, &rows)?;
-    let Some(subs) = subrectangles_within(alloc, &rows, background, limit)? else {
+    let background = background_of(alloc, pixels)?;
+    let Some(subs) = subrectangles_within(alloc, pixels, background, limit)? else {
         return Ok(None);
     };
     if 4 + pixel_len + subs.len() * (pixel_len + 8) >= raw_len {
@@ -133,26 +152,39 @@ fn coding_of(
     Ok(Some(Coding { background, subs }))
 }
 
+/// Appends a rectangle in Raw, row by row, in room that is made at once.
+fn put_raw(out: &mut Vec<u8>, area: Area, colours: &Lines, table: &Table) -> Result<(), AllocError>
+    ensures ok { OnOk result (out.new.items ≡ out.old.items ++ raw table.now area (values_in colours.now)) }
+    ensures err { OnErr result (BeginsWith out.old.items out.new.items) }
+{
+    let body = colours.width * colours.height * table.format().bytes_per_pixel();
+    out.reserve(12 + body)?;
+    rect_header(out, area, 0)?;
+    for y in 0..colours.height {
+        put_raw_pixels(out, colours.row(y), table)?;
+    }
+    Ok(())
+}
+
 /// Appends a rectangle, from the pixels of its colours, in RRE where its data is shorter, and else in Raw.
 fn put_shorter(
     out: &mut Vec<u8>,
     area: Area,
-    colours: &[u32],
-    pixels: &[u32],
+    colours: &Lines,
+    pixels: &Lines,
     table: &Table,
 ) -> Result<(), AllocError>
-    requires wide { 1 ≤ area.w }
-    requires high { 1 ≤ area.h }
-    requires whole { length colours.now ≡ area.w * area.h }
-    requires translated { pixels.now ≡ map (pixel table.now) colours.now }
-    ensures ok { OnOk result (out.new.items ≡ out.old.items ++ rre table.now area colours.now) }
+    requires width { pixels.now.width ≡ area.w }
+    requires height { pixels.now.height ≡ area.h }
+    requires translated { values_in pixels.now ≡ map (pixel table.now) (values_in colours.now) }
+    ensures ok { OnOk result (out.new.items ≡ out.old.items ++ rre table.now area (values_in colours.now)) }
     ensures err { OnErr result (BeginsWith out.old.items out.new.items) }
 {
     let format = table.format();
     let alloc = *out.allocator();
     match coding_of(alloc, area, colours, pixels, &format)? {
         Some(coding) => put_rre(out, area, &format, coding.background, &coding.subs),
-        None => encode_raw_with_table(out, area, colours, table),
+        None => put_raw(out, area, colours, table),
     }
 }
 
@@ -160,20 +192,45 @@ fn put_shorter(
 fn put_rectangle(
     out: &mut Vec<u8>,
     area: Area,
-    colours: &[u32],
+    colours: &Lines,
     table: &Table,
 ) -> Result<(), AllocError>
-    requires wide { 1 ≤ area.w }
-    requires high { 1 ≤ area.h }
-    requires whole { length colours.now ≡ area.w * area.h }
-    ensures ok { OnOk result (out.new.items ≡ out.old.items ++ rre table.now area colours.now) }
+    requires width { colours.now.width ≡ area.w }
+    requires height { colours.now.height ≡ area.h }
+    ensures ok { OnOk result (out.new.items ≡ out.old.items ++ rre table.now area (values_in colours.now)) }
     ensures err { OnErr result (BeginsWith out.old.items out.new.items) }
 {
     if are_pixels(colours, &table.format()) {
-        return put_shorter(out, area, colours, colours, table);
+        let pixels = *colours;
+        return put_shorter(out, area, colours, &pixels, table);
     }
     let pixels = pixels_of(*out.allocator(), colours, table)?;
+    let pixels = Lines {
+        values: Values::Whole(&pixels),
+        width: colours.width,
+        height: colours.height,
+    };
     put_shorter(out, area, colours, &pixels, table)
+}
+
+/// Appends a rectangle. Where memory is refused, nothing is appended.
+fn put_or_nothing(
+    out: &mut Vec<u8>,
+    area: Area,
+    colours: &Lines,
+    table: &Table,
+) -> Result<(), AllocError>
+    requires width { colours.now.width ≡ area.w }
+    requires height { colours.now.height ≡ area.h }
+    ensures ok { OnOk result (out.new.items ≡ out.old.items ++ rre table.now area (values_in colours.now)) }
+    ensures err { OnErr result (out.new.items ≡ out.old.items) }
+{
+    let before = out.len();
+    let done = put_rectangle(out, area, colours, table);
+    if done.is_err() {
+        out.truncate(before);
+    }
+    done
 }
 
 /// Appends a rectangle in RRE (RFC 6143, 7.7.3), or in Raw where RRE's data is no shorter: the
@@ -208,12 +265,35 @@ pub fn encode_rre_with_table(
     ensures ok { OnOk result (out.new.items ≡ out.old.items ++ rre table.now area colours.now) }
     ensures err { OnErr result (out.new.items ≡ out.old.items) }
 {
-    let before = out.len();
-    let done = put_rectangle(out, area, colours, table);
-    if done.is_err() {
-        out.truncate(before);
-    }
-    done
+    let lines = Lines {
+        values: Values::Whole(colours),
+        width: usize::from(area.w),
+        height: usize::from(area.h),
+    };
+    put_or_nothing(out, area, &lines, table)
+}
+
+/// Appends the same rectangle, whose rows of colours stand each in a list of its own, from the top, as many as the area is
+/// high, each with as many colours as it is wide.
+pub fn encode_rre_by_rows(
+    out: &mut Vec<u8>,
+    area: Area,
+    rows: &[&[u32]],
+    table: &Table,
+) -> Result<(), AllocError>
+    requires wide { 1 ≤ area.w }
+    requires high { 1 ≤ area.h }
+    requires count { length rows.now ≡ area.h }
+    requires each { All (λ row. length row.now ≡ area.w) rows.now }
+    ensures ok { OnOk result (out.new.items ≡ out.old.items ++ rre table.now area (flat_map (λ row. row.now) rows.now)) }
+    ensures err { OnErr result (out.new.items ≡ out.old.items) }
+{
+    let lines = Lines {
+        values: Values::Apart(rows),
+        width: usize::from(area.w),
+        height: usize::from(area.h),
+    };
+    put_or_nothing(out, area, &lines, table)
 }
 
 /// The subrectangles listed for a rectangle are exactly the runs that the row above and the row

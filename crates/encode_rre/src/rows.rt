@@ -17,9 +17,9 @@ pub struct Rows<'a> {
 }
 
 impl<'a> Rows<'a> {
-    ghost use Rattle.std.specs.Prelude.{◌≡◌, ◌<◌, ℕ, [], true, length};
+    ghost use Rattle.std.specs.Prelude.{◌≡◌, ◌<◌, length};
     ghost use Rattle.encode_rre.specs.Rows.{rows_in};
-    ghost use Rattle.encode_rre.specs.Subrectangles.{row_at, subrectangles_in};
+    ghost use Rattle.encode_rre.specs.Subrectangles.{row_at};
 
     /// The row at `y`.
     #[inline(always)]
@@ -30,14 +30,5 @@ impl<'a> Rows<'a> {
     {
         let start = y * self.width;
         &self.values[start..start + self.width]
-    }
-
-    /// Whether the row at `y` is the one above it, so that no subrectangle begins in it.
-    #[inline(always)]
-    pub fn repeats(&self, y: usize) -> bool
-        requires { y < self.now.height }
-        ensures { result ≡ true → (b : ℕ) → subrectangles_in b (rows_in self.now) y ≡ [] }
-    {
-        0 < y && self.row(y) == self.row(y - 1)
     }
 }

@@ -2,12 +2,12 @@
 
 ghost use Rattle.std.specs.Prelude.{◌≡◌, ℕ, ◌+◌, ◌*◌, ◌<◌, ◌≤◌, ◌^◌, ◌++◌, true, false, length, drop, slice_index, IfOk, IfSome, MatchOption, OnOk};
 ghost use Rattle.std.specs.List.{prefix_len};
-ghost use Rattle.encode_rre.specs.Starts.{AreRuns};
-ghost use Rattle.encode_rre.specs.Rows.{rows_in};
+ghost use Rattle.encode_rre.specs.Starts.{AreRuns, Found};
+ghost use Rattle.encode_rre.specs.Lines.{lines_in};
 ghost use Rattle.encode_rre.specs.Subrectangles.{row_at, stretch, has_run, begins_run, begins_subrectangle, subrectangle_from, run_at, subrectangles_in, subrectangles};
 
 use crate::Subrectangle;
-use crate::rows::Rows;
+use crate::lines::Lines;
 use std::alloc::{AllocError, Global};
 
 /// A maximal stretch of one row with one pixel.
@@ -110,12 +110,12 @@ fn has_run(row: &[u32], run: Run) -> bool
 
 /// How many rows from `top` on have the run, which the one there has.
 #[inline]
-fn rows_with(pixels: &Rows, top: usize, run: Run) -> usize
+fn rows_with(pixels: &Lines, top: usize, run: Run) -> usize
     requires inside { top < pixels.now.height }
     requires some { 0 < run.w }
     requires within { run.x + run.w ≤ pixels.now.width }
-    requires has { has_run run (row_at (rows_in pixels.now) top) ≡ true }
-    ensures rows { result ≡ prefix_len (has_run run) (drop top (rows_in pixels.now)) }
+    requires has { has_run run (row_at (lines_in pixels.now) top) ≡ true }
+    ensures rows { result ≡ prefix_len (has_run run) (drop top (lines_in pixels.now)) }
     ensures within { top + result ≤ pixels.now.height }
 {
     for y in top + 1..pixels.height {
@@ -128,13 +128,13 @@ fn rows_with(pixels: &Rows, top: usize, run: Run) -> usize
 
 /// Whether a subrectangle begins with a run of the row at `y`.
 #[inline(always)]
-fn begins_with(pixels: &Rows, background: u32, y: usize, run: Run) -> bool
+fn begins_with(pixels: &Lines, background: u32, y: usize, run: Run) -> bool
     requires inside { y < pixels.now.height }
     requires some { 0 < run.w }
     requires within { run.x + run.w ≤ pixels.now.width }
-    requires begins { begins_run (row_at (rows_in pixels.now) y) run.x ≡ true }
-    requires is { run ≡ run_at (row_at (rows_in pixels.now) y) run.x }
-    ensures { result ≡ begins_subrectangle background (rows_in pixels.now) y run.x }
+    requires begins { begins_run (row_at (lines_in pixels.now) y) run.x ≡ true }
+    requires is { run ≡ run_at (row_at (lines_in pixels.now) y) run.x }
+    ensures { result ≡ begins_subrectangle background (lines_in pixels.now) y run.x }
 {
     run.pixel != background && !(0 < y && has_run(pixels.row(y - 1), run))
 }
@@ -143,18 +143,18 @@ fn begins_with(pixels: &Rows, background: u32, y: usize, run: Run) -> bool
 /// none does, since the run is of the background or is in the row above too.
 #[inline(always)]
 pub fn subrectangle_at(
-    pixels: &Rows,
+    pixels: &Lines,
     background: u32,
     y: usize,
     x: usize,
     w: usize,
 ) -> Option<Subrectangle>
     requires inside { y < pixels.now.height }
-    requires begins { begins_run (row_at (rows_in pixels.now) y) x ≡ true }
-    requires run { w ≡ stretch (row_at (rows_in pixels.now) y) x }
+    requires begins { begins_run (row_at (lines_in pixels.now) y) x ≡ true }
+    requires run { w ≡ stretch (row_at (lines_in pixels.now) y) x }
     requires some { 0 < w }
     requires within { x + w ≤ pixels.now.width }
-    ensures found { MatchOption result (begins_subrectangle background (rows_in pixels.now) y x ≡ false) (λ sub. (begins_subrectangle background (rows_in pixels.now) y x ≡ true) × (sub ≡ subrectangle_from (rows_in pixels.now) y x)) }
+    ensures found { MatchOption result (begins_subrectangle background (lines_in pixels.now) y x ≡ false) (λ sub. (begins_subrectangle background (lines_in pixels.now) y x ≡ true) × (sub ≡ subrectangle_from (lines_in pixels.now) y x)) }
     ensures within { IfSome result (λ sub. y + sub.h ≤ pixels.now.height) }
 {
     let run = Run {
@@ -175,8 +175,37 @@ pub fn subrectangle_at(
     })
 }
 
-/// Writes where the runs of a row begin, and where the last one ends, and tells how many there are.
-/// This has no branch in its loop, so runs of any lengths take the same time.
+/// Goes on from a place up to another with where the runs of a row begin: so many begin before it, and one more is written for
+/// each that begins from there on. How many begin before `end`. This has no branch in its loop, so runs of any lengths take the
+/// same time.
+fn find_runs_between(
+    starts: &mut [u16],
+    begun: usize,
+    row: &[u32],
+    from: usize,
+    end: usize,
+) -> usize
+    requires found { Found row.now starts.old begun from }
+    requires within { from ≤ end }
+    requires inside { end ≤ length row.now }
+    requires columns { length row.now < 2 ^ 16 }
+    requires room { length row.now < length starts.old }
+    ensures found { Found row.now starts.new result end }
+    ensures len { length starts.new ≡ length starts.old }
+{
+    let mut count = begun;
+    let mut before = row[from - 1];
+    for x in from..end {
+        let here = row[x];
+        starts[count] = x as u16;
+        count += usize::from(before != here);
+        before = here;
+    }
+    count
+}
+
+/// Writes where the runs of a row begin, and where the last one ends, and tells how many there are. Blocks that go on with the
+/// run before them are passed over at once.
 fn find_runs(starts: &mut [u16], row: &[u32]) -> usize
     requires some { 0 < length row.now }
     requires columns { length row.now < 2 ^ 16 }
@@ -186,12 +215,12 @@ fn find_runs(starts: &mut [u16], row: &[u32]) -> usize
 {
     starts[0] = 0;
     let mut count = 1;
-    let mut before = row[0];
-    for x in 1..row.len() {
-        let here = row[x];
-        starts[count] = x as u16;
-        count += usize::from(before != here);
-        before = here;
+    let mut x = 1;
+    while x < row.len() {
+        let same = blocks_end(row, x, row[x - 1]);
+        let end = row.len().min(same + 16);
+        count = find_runs_between(starts, count, row, same, end);
+        x = end;
     }
     starts[count] = row.len() as u16;
     count
@@ -202,13 +231,13 @@ fn find_runs(starts: &mut [u16], row: &[u32]) -> usize
 fn push_row(
     subs: &mut Vec<Subrectangle>,
     starts: &mut [u16],
-    pixels: &Rows,
+    pixels: &Lines,
     background: u32,
     y: usize,
 ) -> Result<(), AllocError>
     requires inside { y < pixels.now.height }
     requires room { pixels.now.width < length starts.old }
-    ensures found { OnOk result (subs.new.items ≡ subs.old.items ++ subrectangles_in background (rows_in pixels.now) y) }
+    ensures found { OnOk result (subs.new.items ≡ subs.old.items ++ subrectangles_in background (lines_in pixels.now) y) }
     ensures len { length starts.new ≡ length starts.old }
 {
     if pixels.repeats(y) {
@@ -229,11 +258,11 @@ fn push_row(
 /// The subrectangles by y and then by x, or nothing where there are more than `limit`.
 pub(crate) fn subrectangles_within(
     alloc: Global,
-    pixels: &Rows,
+    pixels: &Lines,
     background: u32,
     limit: usize,
 ) -> Result<Option<Vec<Subrectangle>>, AllocError>
-    ensures { IfOk result (λ found. MatchOption found (limit < length (subrectangles background (rows_in pixels.now))) (λ subs. subs.items ≡ subrectangles background (rows_in pixels.now))) }
+    ensures { IfOk result (λ found. MatchOption found (limit < length (subrectangles background (lines_in pixels.now))) (λ subs. subs.items ≡ subrectangles background (lines_in pixels.now))) }
 {
     let mut starts = vec![in alloc; 0u16; pixels.width + 1]?;
     let mut subs = Vec::new(alloc);

@@ -1,6 +1,6 @@
 //! A framebuffer: a picture that is drawn in, with its size; and snapshots of its blocks.
 
-ghost use Rattle.std.specs.Prelude.{◌≡◌, ◌+◌, ◌*◌, ◌<◌, ◌≤◌, ◌↔◌, All, length, take, drop, slice_index, IfOk, IfSome, IsSome, OnOk, OnErr, [], ◌∷◌, pos};
+ghost use Rattle.std.specs.Prelude.{◌≡◌, ◌+◌, ◌*◌, ◌<◌, ◌≤◌, ◌↔◌, All, length, take, drop, slice_index, flat_map, IfOk, IfSome, IsSome, OnOk, OnErr, [], ◌∷◌, pos};
 ghost use Rattle.region.specs.Region.{covers};
 ghost use Rattle.region.specs.Copies.{InOrder};
 ghost use Rattle.region.specs.Places.{IsOnScreen, source_rect};
@@ -12,8 +12,8 @@ ghost use Rattle.framebuffer.specs.Moves.{rows_copied};
 use crate::blocks::{Block, block_within};
 use crate::moves::{first_source, in_copy_order, move_pieces, own_pieces, whole_rows};
 use crate::rows::{
-    Row, blank_rows, colours_of, gather, is_own_row, own_rows, put_rows, rows_with, share_rows,
-    write_rows,
+    Row, blank_rows, colours_of, gather, is_own_row, own_rows, parts, put_rows, rows_with,
+    share_rows, write_rows,
 };
 use region::Rect;
 use std::alloc::{AllocError, Global};
@@ -279,6 +279,15 @@ impl Snapshot {
         ensures { result.now ≡ take self.now.width (drop (y * self.now.width) self.now.colours) }
     {
         &colours_of(&self.rows[y])[self.left..self.left + self.columns]
+    }
+
+    /// The colours of each row, from the top: none is copied.
+    pub fn lines(&self) -> Result<Vec<&[u32]>, AllocError>
+        ensures flat { IfOk result (λ lines. flat_map (λ line. line.now) lines.items ≡ self.now.colours) }
+        ensures count { IfOk result (λ lines. length lines.items ≡ self.now.height) }
+        ensures even { IfOk result (λ lines. All (λ line. length line.now ≡ self.now.width) lines.items) }
+    {
+        parts(self.alloc, &self.rows, self.left, self.columns)
     }
 
     /// The colours, row by row, in one list.

@@ -209,6 +209,25 @@ pub fn gather(
     Ok(colours)
 }
 
+/// The same colours, each row as it stands: none is copied.
+pub fn parts(
+    alloc: Global,
+    rows: &[Row],
+    left: usize,
+    columns: usize,
+) -> Result<Vec<&[u32]>, AllocError>
+    requires { All (λ r. left + columns ≤ length (row_colours r)) rows.now }
+    ensures flat { IfOk result (λ parts. flat_map (λ p. p.now) parts.items ≡ parts_of_rows left columns rows.now) }
+    ensures count { IfOk result (λ parts. length parts.items ≡ length rows.now) }
+    ensures even { IfOk result (λ parts. All (λ p. length p.now ≡ columns) parts.items) }
+{
+    let mut parts = Vec::with_capacity(alloc, rows.len())?;
+    for row in rows {
+        parts.push(&colours_of(row)[left..left + columns])?;
+    }
+    Ok(parts)
+}
+
 /// A row of 0.
 fn blank_row(alloc: Global, width: usize) -> Result<Row, AllocError>
     ensures { IfOk result (λ row. row_colours row ≡ replicate width 0) }

@@ -1,6 +1,7 @@
 -- What the calls of one viewer's events do and answer, by the seats.
-use Rattle.std.proofs.Common.{◌≡◌, ℕ, Bool, true, false, cond, List, [], ◌∷◌, ◌++◌, map, Option, Some, None, Result, Ok, Err, refl, sym, ◌∙◌, ap, subst}
+use Rattle.std.proofs.Common.{◌≡◌, ℕ, ◌*◌, Bool, true, false, cond, List, [], ◌∷◌, ◌++◌, map, Option, Some, None, Result, Ok, Err, refl, sym, ◌∙◌, ap, subst}
 use Rattle.std.specs.List.{list_any}
+use Rattle.std.proofs.lemmas.List.FromFn.{length-map-range_with_len}
 use Rattle.std.specs.Prelude.{◌==◌, is_some, filter, not, ◌&&◌, ◌||◌, MatchOption, MatchResult}
 use Rattle.messages.specs.Reading.{Rest, rest, new_items}
 use Rattle.messages.specs.Server.{server_version}
@@ -102,8 +103,8 @@ cut-size c w h limit picture v was = go (is_open_rest v.heard) (pending v.marks)
 
     go : (a b : Bool) → IsSized c (cond a (with_update w h picture v (cond b (Some sent) None)) ([], v)).1
     go false b = was
-    go true true = record { width = was.width; height = was.height }
-    go true false = record { width = was.width; height = was.height }
+    go true true = record { width = was.width; height = was.height; whole = length-map-range_with_len _ 0 (v.marks.width * v.marks.height); heard = was.heard }
+    go true false = record { width = was.width; height = was.height; whole = was.whole; heard = was.heard }
 
 -- ---- connecting
 

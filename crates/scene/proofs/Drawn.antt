@@ -1,17 +1,15 @@
 -- What drawing calls do to a screen, by its viewers' seats.
-use Rattle.std.proofs.Common.{◌≡◌, ℕ, Bool, true, false, List, [], ◌∷◌, ◌++◌, map, All, None, refl, sym, ◌∙◌, ap, subst}
+use Rattle.std.proofs.Common.{◌≡◌, ℕ, List, [], ◌∷◌, ◌++◌, map, All, None, refl, sym, ◌∙◌, ap, subst}
 use Rattle.std.specs.Map.{values_of}
 use Rattle.std.proofs.lemmas.List.Elements.{All-map}
 use Rattle.messages.specs.Reading.{Rest, is_open_rest}
 use Rattle.client_list.specs.Connected.{changed}
-use Rattle.region.specs.Region.{covers}
 use Rattle.copy_schedule.specs.declared.LogEntry.{LogEntry}
-use Rattle.copy_schedule.specs.declared.LogEntry.TheVariants.{Mark, Copy}
-use Rattle.copy_schedule.specs.Marks.{copied_by}
 use Rattle.scene.specs.declared.Config.{Config}
 use Rattle.scene.specs.declared.Event.{Event}
 use Rattle.viewer.specs.Viewer.{KeptViewer, Viewer}
 use Rattle.viewer_list.specs.Viewers.{drawn as told_of}
+use Rattle.viewer_list.proofs.SizeLemmas.{drawn_size}
 use Rattle.scene.specs.Alone.{drawing_refusal, drawn, shown_drawing, owner_of}
 use Rattle.scene.specs.Answers.{SceneState, scene_after}
 use Rattle.scene.specs.Held.{IsSized}
@@ -39,6 +37,16 @@ state-drawn config kept_config picture new_picture pairs g e es everyone accepte
     ∙ ap (λ (was : SceneState). record { config = was.config; picture = drawn config e was.picture; viewers = map (redrawn config e) was.viewers }) h
     ∙ sym (state-drawing config es e (everyone, ap (λ c. drawing_refusal c e) (sym same) ∙ accepted))
 
+-- the same where there is no viewer
+pub state-nobody : (config kept_config : Config) (picture new_picture : List ℕ) (pairs : List (ℕ × KeptViewer)) (e : Event) (es : List Event) → pairs ≡ [] → owner_of e ≡ None → drawing_refusal kept_config e ≡ None
+    → new_picture ≡ drawn kept_config e picture
+    → record { config = kept_config; picture = picture; viewers = pairs } ≡ scene_after config es
+    → record { config = kept_config; picture = new_picture; viewers = pairs } ≡ scene_after config (es ++ e ∷ [])
+state-nobody config kept_config picture new_picture pairs e es nobody everyone accepted painted h =
+    let s : List ℕ → List (ℕ × KeptViewer) → SceneState = λ p vs. record { config = kept_config; picture = p; viewers = vs } in
+    ap (s new_picture) nobody
+    ∙ state-drawn config kept_config picture new_picture [] (λ v. shown_drawing kept_config e (is_open_rest v.heard) v) e es everyone accepted painted (λ v. refl) (ap (s picture) (sym nobody) ∙ h)
+
 -- the same where no seat changes
 pub state-unseen : (config kept_config : Config) (picture new_picture : List ℕ) (pairs : List (ℕ × KeptViewer)) (e : Event) (es : List Event) → owner_of e ≡ None → drawing_refusal kept_config e ≡ None
     → new_picture ≡ drawn kept_config e picture → IsShown kept_config e (λ s. s)
@@ -61,16 +69,8 @@ pub sized-changed : (c : Config) (g : KeptViewer → KeptViewer) (pairs : List (
 sized-changed c g pairs keeps all = subst (All (IsSized c)) (sym (values-changed g pairs)) (All-map (IsSized c) g (values_of pairs) (λ k d below. keeps _ (all k d below)))
 
 -- a drawing call leaves the size of a viewer's marks
-told-size : (c : Config) (call : LogEntry) (v : KeptViewer) → IsSized c v → IsSized c (told_of call v)
-told-size c (Mark region) v was = record { width = was.width; height = was.height }
-told-size c (Copy region dx dy) v was = go v.uses_copyrect
-  where
-    go : (b : Bool) → IsSized c (record v { marks = copied_by (covers region.list) (dx, dy) b v.marks })
-    go true = record { width = was.width; height = was.height }
-    go false = record { width = was.width; height = was.height }
-
 pub sized-told : (c : Config) (call : LogEntry) (pairs : List (ℕ × KeptViewer)) → All (IsSized c) (values_of pairs) → All (IsSized c) (values_of (changed (told_of call) pairs))
-sized-told c call pairs all = sized-changed c (told_of call) pairs (told-size c call) all
+sized-told c call pairs all = sized-changed c (told_of call) pairs (drawn_size c.width c.height call) all
 
 -- a drawing call was prepared, and the viewers were told of it
 pub told-all : (call entry : LogEntry) (was between now : List (ℕ × KeptViewer)) → now ≡ changed (told_of call) between → call ≡ entry → between ≡ was → now ≡ changed (told_of entry) was

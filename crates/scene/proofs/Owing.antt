@@ -1,5 +1,5 @@
 -- Places that are owed: those off the screen count for nothing, and a region's rectangles have their corners in order.
-use Rattle.std.proofs.Common.{◌≡◌, ℕ, ℤ, pos, ◌*◌, ◌/◌, ◌%◌, ◌<◌, ◌≤◌, Bool, true, cond, ◌&&◌, List, [], ◌∷◌, map, All, refl, sym, ap, ◌∙◌, arith, mul_comm}
+use Rattle.std.proofs.Common.{◌≡◌, ℕ, ℤ, pos, ◌*◌, ◌/◌, ◌%◌, ◌<◌, ◌≤◌, Bool, true, cond, ◌&&◌, List, [], ◌∷◌, map, All, refl, sym, ap, ◌∙◌, arith, mul_comm, false}
 use Rattle.std.specs.Prelude.{◌-ℤ◌, ◌<ℤ◌}
 use Rattle.std.specs.Int.{int_min, int_max}
 use Rattle.std.specs.List.{range_with_len, AllByRecursion}
@@ -19,6 +19,8 @@ use Rattle.copy_schedule.specs.Marks.{Marks, mark_at, marked}
 use Rattle.framebuffer.specs.Picture.{straight, union_of}
 use Rattle.scene.specs.declared.Config.{Config}
 use Rattle.viewer.specs.Viewer.{KeptViewer, viewer_marked}
+use Rattle.viewer_list.specs.Viewers.{IsWhole}
+use Rattle.viewer_list.proofs.SizeLemmas.{marked_none}
 use Rattle.scene.specs.Held.{IsSized}
 use Rattle.scene.proofs.Kept.{all-head, all-tail}
 
@@ -48,15 +50,33 @@ cut-same w h set x y on =
     both : (b : Bool) → ((b && true) && true) ≡ b
     both b = elim b as (λ t. ((t && true) && true) ≡ t) [ true ↦ refl | _ ↦ refl ]
 
-pub owed-cut : (c : Config) (set cut : ℤ → ℤ → Bool) (pairs : List (ℕ × KeptViewer)) → 1 ≤ c.width → cut ≡ cut_destination c.width c.height set (pos 0, pos 0) → All (IsSized c) (values_of pairs)
+-- a set that is as another on the screen
+pub owed-same : (c : Config) (set cut : ℤ → ℤ → Bool) (pairs : List (ℕ × KeptViewer)) → 1 ≤ c.width → ((x y : ℤ) → on_screen c.width c.height x y ≡ true → cut x y ≡ set x y) → All (IsSized c) (values_of pairs)
     → changed (viewer_marked cut) pairs ≡ changed (viewer_marked set) pairs
-owed-cut c set cut [] some is sized = refl
-owed-cut c set cut (pair ∷ pairs) some is sized =
+owed-same c set cut [] some same sized = refl
+owed-same c set cut (pair ∷ pairs) some same sized =
     let size = all-head (IsSized c) pair.1 (values_of pairs) sized in
     ap (λ (m : Marks). (pair.0, record pair.1 { marks = m }) ∷ changed (viewer_marked cut) pairs)
-    (marked-same pair.1.marks cut set (omega (arith, size.width, some)) (λ x y on. ap (λ (f : ℤ → ℤ → Bool). f x y) is
-    ∙ cut-same c.width c.height set x y (sym (ap (λ w. on_screen w pair.1.marks.height x y) size.width ∙ ap (λ h. on_screen c.width h x y) size.height) ∙ on)))
-    ∙ ap (λ (l : List (ℕ × KeptViewer)). (pair.0, viewer_marked set pair.1) ∷ l) (owed-cut c set cut pairs some is (all-tail (IsSized c) pair.1 (values_of pairs) sized))
+    (marked-same pair.1.marks cut set (omega (arith, size.width, some)) (λ x y on. same x y (sym (ap (λ w. on_screen w pair.1.marks.height x y) size.width ∙ ap (λ h. on_screen c.width h x y) size.height) ∙ on)))
+    ∙ ap (λ (l : List (ℕ × KeptViewer)). (pair.0, viewer_marked set pair.1) ∷ l) (owed-same c set cut pairs some same (all-tail (IsSized c) pair.1 (values_of pairs) sized))
+
+pub owed-cut : (c : Config) (set cut : ℤ → ℤ → Bool) (pairs : List (ℕ × KeptViewer)) → 1 ≤ c.width → cut ≡ cut_destination c.width c.height set (pos 0, pos 0) → All (IsSized c) (values_of pairs)
+    → changed (viewer_marked cut) pairs ≡ changed (viewer_marked set) pairs
+owed-cut c set cut pairs some is sized = owed-same c set cut pairs some (λ x y on. ap (λ (f : ℤ → ℤ → Bool). f x y) is ∙ cut-same c.width c.height set x y on) sized
+
+-- a region that is cut to the screen
+pub cut-region : (w h : ℕ) (here : ℤ → ℤ → Bool) (cut : ℤ → ℤ → Bool) → ((x y : ℤ) → cut x y ≡ (here x y && on_screen w h x y)) → (x y : ℤ) → on_screen w h x y ≡ true → cut x y ≡ here x y
+cut-region w h here cut is x y on = is x y ∙ ap (λ b. here x y && b) on ∙ and_true (here x y)
+  where
+    and_true : (b : Bool) → (b && true) ≡ b
+    and_true b = elim b as (λ t. (t && true) ≡ t) [ true ↦ refl | _ ↦ refl ]
+
+-- a set with no place
+pub unmarked : (set : ℤ → ℤ → Bool) (pairs : List (ℕ × KeptViewer)) → ((x y : ℤ) → set x y ≡ false) → All IsWhole (values_of pairs) → changed (viewer_marked set) pairs ≡ pairs
+unmarked set [] none whole = refl
+unmarked set (pair ∷ pairs) none whole =
+    ap (λ (m : Marks). (pair.0, record pair.1 { marks = m }) ∷ changed (viewer_marked set) pairs) (marked_none set pair.1.marks none (all-head IsWhole pair.1 (values_of pairs) whole))
+    ∙ ap (λ (l : List (ℕ × KeptViewer)). pair ∷ l) (unmarked set pairs none (all-tail IsWhole pair.1 (values_of pairs) whole))
 
 -- ---- a region's rectangles
 

@@ -16,7 +16,7 @@ pub record IsAccepted (c : Config) : Type 0 where
   pub some_rectangles : 1 ≤ c.rects_per_update
   pub rectangles : c.rects_per_update ≤ 1000
 
--- a viewer's marks are of a screen's size
+-- a viewer's marks are of a screen's size, one for each place
 abbrev pub IsSized : Config → KeptViewer → Type 0
 IsSized c v = IsOfSize c.width c.height v
 

@@ -3,16 +3,16 @@
 //! A drawing call is prepared for the viewers first, then changes the picture, and is then told to the viewers by steps that take
 //! no memory. Of its places it makes one region, for all viewers.
 
-ghost use Rattle.std.specs.Prelude.{◌≡◌, ◌≢◌, ◌⊎◌, true, false, pos, ◌≤◌, [], All, IfOk, OnOk, OnErr};
+ghost use Rattle.std.specs.Prelude.{◌≡◌, ◌≢◌, ◌⊎◌, true, false, pos, ◌≤◌, ℤ, [], All, IfOk, OnOk, OnErr};
 ghost use Rattle.std.specs.Map.{values_of};
 ghost use Rattle.client_list.specs.Connected.{changed};
-ghost use Rattle.region.specs.Region.{covers, in_rect};
+ghost use Rattle.region.specs.Region.{covers, in_rect, on_screen};
 ghost use Rattle.region.specs.Held.{in_range};
 ghost use Rattle.region.specs.Places.{same_offset, IsOnScreen};
 ghost use Rattle.copy_schedule.specs.Log.{IsCutEntry};
 ghost use Rattle.framebuffer.specs.Picture.{union_of};
 ghost use Rattle.viewer.specs.Viewer.{viewer_marked};
-ghost use Rattle.viewer_list.specs.Viewers.{drawn};
+ghost use Rattle.viewer_list.specs.Viewers.{drawn, IsWhole};
 ghost use Rattle.scene.specs.Held.{IsSized};
 
 use crate::Config;
@@ -57,6 +57,18 @@ pub fn tell(viewers: &mut ViewerList, call: LogEntry) -> Result<(), AllocError>
     Ok(())
 }
 
+/// The places of a region are owed to each viewer. Where it has none, nothing changes.
+fn owe(viewers: &mut ViewerList, region: Region) -> Result<(), AllocError>
+    requires whole { All IsWhole (values_of viewers.old.pairs) }
+    ensures ok { OnOk result (viewers.new.pairs ≡ changed (viewer_marked (covers region.list)) viewers.old.pairs) }
+    ensures err { OnErr result (viewers.new.pairs ≡ viewers.old.pairs) }
+{
+    if region.is_empty() {
+        return Ok(());
+    }
+    tell(viewers, LogEntry::Mark(region))
+}
+
 /// The places of rectangles, as far as they are on the screen, are owed to each viewer. Corners may stand in the wrong order,
 /// anywhere.
 pub fn owe_rects(
@@ -77,5 +89,61 @@ pub fn owe_rects(
     }
     let pieces = destinations(alloc, rects, 0, 0, config.width, config.height)?;
     let region = region_of(alloc, &pieces)?;
-    tell(viewers, LogEntry::Mark(region))
+    owe(viewers, region)
+}
+
+/// Whether no place of a region is off the screen, for certain.
+fn is_on_screen(config: &Config, region: &Region) -> bool
+    requires columns { config.now.width ≤ 8192 }
+    requires rows { config.now.height ≤ 8192 }
+{
+    match region.bbox() {
+        Some(rect) => {
+            0 <= rect.x1
+                && 0 <= rect.y1
+                && rect.x2 <= config.width as i32
+                && rect.y2 <= config.height as i32
+        }
+        None => true,
+    }
+}
+
+/// A region with the places of another that are on the screen. It is a plain copy where its box is on the screen.
+fn cut_to_screen(alloc: Global, config: &Config, region: &Region) -> Result<Region, AllocError>
+    requires columns { config.now.width ≤ 8192 }
+    requires rows { config.now.height ≤ 8192 }
+    ensures { IfOk result (λ cut. (x y : ℤ) → on_screen config.now.width config.now.height x y ≡ true → covers cut.list x y ≡ covers region.now.list x y) }
+{
+    if is_on_screen(config, region) {
+        return region.try_clone(alloc);
+    }
+    let screen = Rect {
+        x1: 0,
+        y1: 0,
+        x2: config.width as i32,
+        y2: config.height as i32,
+    };
+    let screen = region_of_rect(alloc, screen)?;
+    region.intersection(&screen)
+}
+
+/// The places of a region, as far as they are on the screen, are owed to each viewer.
+pub fn owe_region(
+    alloc: Global,
+    config: &Config,
+    viewers: &mut ViewerList,
+    region: &Region,
+) -> Result<(), AllocError>
+    requires some_columns { 1 ≤ config.now.width }
+    requires columns { config.now.width ≤ 8192 }
+    requires rows { config.now.height ≤ 8192 }
+    requires sized { All (IsSized config.now) (values_of viewers.old.pairs) }
+    ensures ok { OnOk result (viewers.new.pairs ≡ changed (viewer_marked (covers region.now.list)) viewers.old.pairs) }
+    ensures err { OnErr result (viewers.new.pairs ≡ viewers.old.pairs) }
+{
+    if viewers.is_empty() {
+        return Ok(());
+    }
+    let cut = cut_to_screen(alloc, config, region)?;
+    owe(viewers, cut)
 }

@@ -13,7 +13,7 @@ ghost use Rattle.scene.specs.Refusals.{viewer_at, absence, presence, refusal, Re
 
 use crate::answers::{settled, with_bytes, with_nothing, with_reply};
 use crate::arriving::let_in;
-use crate::drawing::{moves_nothing, owe_rects, region_of, region_of_rect, tell};
+use crate::drawing::{moves_nothing, owe_rects, owe_region, region_of, region_of_rect, tell};
 use crate::limits::{checked, checked_text, refusal_of};
 use crate::{Answer, Config, Event, History, ScreenError};
 use framebuffer::{Framebuffer, destinations};
@@ -213,6 +213,10 @@ impl Scene {
         ensures err { OnErr result (self.new ≡ self.old) }
     {
         let block = checked(&self.config, rect, colours)?;
+        if self.viewers.is_empty() {
+            self.picture.write(block, colours)?;
+            return Ok(());
+        }
         let region = region_of_rect(self.alloc, rect)?;
         let drawn = self.viewers.prepare(LogEntry::Mark(region))?;
         self.picture.write(block, colours)?;
@@ -259,8 +263,7 @@ impl Scene {
         ensures err { OnErr result (self.new ≡ self.old) }
     {
         region.list_is_canonical();
-        let region = region.try_clone(self.alloc)?;
-        tell(&mut self.viewers, LogEntry::Mark(region))?;
+        owe_region(self.alloc, &self.config, &mut self.viewers, region)?;
         Ok(())
     }
 
@@ -274,6 +277,9 @@ impl Scene {
         ensures refused { IsOkUnless result ScreenError.OutOfMemory }
         ensures err { OnErr result (self.new ≡ self.old) }
     {
+        if self.viewers.is_empty() {
+            return Ok(());
+        }
         let pieces = destinations(
             self.alloc,
             rects,
@@ -302,6 +308,10 @@ impl Scene {
         let (width, height) = (self.picture.width(), self.picture.height());
         let pieces = destinations(self.alloc, rects, dx, dy, width, height)?;
         if moves_nothing(&pieces, (dx, dy)) {
+            return Ok(());
+        }
+        if self.viewers.is_empty() {
+            self.picture.move_colours(&pieces, (dx, dy))?;
             return Ok(());
         }
         let region = region_of(self.alloc, &pieces)?;

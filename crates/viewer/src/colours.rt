@@ -1,6 +1,6 @@
 //! The colours of an update's rectangle: copied, or in rows that are shared with the picture until it is drawn over.
 
-ghost use Rattle.std.specs.Prelude.{◌≡◌, ◌+◌, ◌*◌, ◌^◌, ◌≤◌, ◌<◌, ◌↔◌, ◌++◌, IsTrue, length, take, drop, flat_map, IfOk, OnOk, OnErr};
+ghost use Rattle.std.specs.Prelude.{◌≡◌, ◌+◌, ◌*◌, ◌^◌, ◌≤◌, ◌<◌, ◌↔◌, ◌++◌, IsTrue, true, length, take, drop, flat_map, IfOk, OnOk, OnErr};
 ghost use Rattle.pixel_translate.specs.Pixel.{colour_bytes};
 ghost use Rattle.encode_raw.specs.Raw.{raw};
 ghost use Rattle.framebuffer.specs.Blocks.{block_colours};
@@ -8,7 +8,7 @@ ghost use Rattle.viewer.specs.Sending.{encoded};
 
 use encode_hextile::encode_hextile_with_table;
 use encode_raw::{encode_raw_with_table, put_raw_pixels, rect_header};
-use encode_rre::encode_rre_with_table;
+use encode_rre::{encode_rre_by_rows, encode_rre_with_table};
 use framebuffer::{Block, Framebuffer, Snapshot};
 use messages::Encoding;
 use pixel_translate::{Area, Table};
@@ -75,6 +75,36 @@ fn put_whole(
         Encoding::Rre => encode_rre_with_table(out, area, colours, table),
         Encoding::Hextile => encode_hextile_with_table(out, area, colours, table),
     }
+}
+
+/// Whether a snapshot has as many columns and rows as an area.
+fn is_of_size(snapshot: &Snapshot, area: Area) -> bool
+    ensures width { result ≡ true → snapshot.now.width ≡ area.w }
+    ensures height { result ≡ true → snapshot.now.height ≡ area.h }
+{
+    snapshot.width() == usize::from(area.w) && snapshot.height() == usize::from(area.h)
+}
+
+/// Appends a rectangle of shared colours in RRE or Hextile. RRE takes the rows as they stand; for Hextile they are gathered.
+fn put_shared(
+    out: &mut Vec<u8>,
+    area: Area,
+    snapshot: &Snapshot,
+    encoding: Encoding,
+    table: &Table,
+) -> Result<(), AllocError>
+    requires wide { 1 ≤ area.w }
+    requires high { 1 ≤ area.h }
+    requires whole { length snapshot.now.colours ≡ area.w * area.h }
+    ensures ok { OnOk result (out.new.items ≡ out.old.items ++ encoded encoding table.now area snapshot.now.colours) }
+    ensures err { OnErr result (out.new.items ≡ out.old.items) }
+{
+    if encoding == Encoding::Rre && is_of_size(snapshot, area) {
+        let lines = snapshot.lines()?;
+        return encode_rre_by_rows(out, area, &lines, table);
+    }
+    let colours = snapshot.colours()?;
+    put_whole(out, area, &colours, encoding, table)
 }
 
 impl Colours {
@@ -149,7 +179,7 @@ impl Colours {
         Ok(())
     }
 
-    /// Appends them as a rectangle in RRE or Hextile. Shared ones are gathered first.
+    /// Appends them as a rectangle in RRE or Hextile.
     pub fn put_gathered(
         &self,
         out: &mut Vec<u8>,
@@ -165,14 +195,11 @@ impl Colours {
     {
         match &self.held {
             Held::Copied(colours) => put_whole(out, area, colours, encoding, table),
-            Held::Shared(snapshot) => {
-                let colours = snapshot.colours()?;
-                put_whole(out, area, &colours, encoding, table)
-            }
+            Held::Shared(snapshot) => put_shared(out, area, snapshot, encoding, table),
         }
     }
 
-    /// Appends them as a rectangle in the viewer's encoding and format. Shared ones are gathered for RRE and Hextile alone.
+    /// Appends them as a rectangle in the viewer's encoding and format.
     pub fn put(
         &self,
         out: &mut Vec<u8>,

@@ -1,18 +1,19 @@
 -- One viewer that lags: what it lacks, and what a drawing call adds.
-use Rattle.std.proofs.Common.{◌≡◌, ℕ, zero, suc, ◌+◌, ◌-◌, ◌≤◌, Bool, true, false, cond, ◌||◌, ◌&&◌, not, List, [], ◌∷◌, ◌++◌, length, drop, All, Some, None, true≢false, refl, sym, subst, ◌∙◌, ap, arith}
+use Rattle.std.proofs.Common.{◌≡◌, ℕ, zero, suc, ◌+◌, ◌≤◌, Bool, true, false, cond, ◌||◌, ◌&&◌, not, List, [], ◌∷◌, ◌++◌, length, drop, All, Some, None, true≢false, refl, sym, subst, ◌∙◌, ap, arith}
 use Rattle.std.proofs.lemmas.List.{drop_all, length-append}
 use Rattle.std.proofs.lemmas.List.Elements.{All-append}
 use Rattle.copy_schedule.specs.declared.LogEntry.{LogEntry}
 use Rattle.copy_schedule.specs.declared.LogEntry.TheVariants.{Mark, Copy}
-use Rattle.copy_schedule.specs.Marks.{Marks, has_asked, pending}
+use Rattle.copy_schedule.specs.Marks.{Marks, Sent, has_asked, pending, copies_of, pixels_of, after_sending}
 use Rattle.copy_schedule.specs.Log.{after_entry, logged, IsCutEntry}
 use Rattle.copy_schedule.proofs.LogLemmas.{unasked_is_not_pending}
 use Rattle.messages.specs.Reading.{is_open_rest}
+use Rattle.viewer.specs.Sending.{sending_kept, with_update}
 use Rattle.viewer.specs.Viewer.{KeptViewer, none_wait}
 use Rattle.viewer_list.specs.declared.lagging.Lagging.{Lagging}
 use Rattle.viewer_list.specs.declared.lagging.Shared.{Shared}
 use Rattle.viewer.specs.Told.{viewer_told}
-use Rattle.viewer_list.specs.Lagging.{waiting, caught_up, up_to_date, told, IsCurrent, Fits, IsShared, IsFor}
+use Rattle.viewer_list.specs.Lagging.{waiting, caught_up, up_to_date, at_start, told, IsCurrent, AsksNothing, Fits, IsShared, IsFor}
 use Rattle.viewer_list.specs.Viewers.{drawn, told_at_once, is_pending}
 
 -- what drawing leaves of marks
@@ -44,22 +45,26 @@ drop-last (suc n) (y ∷ xs) x within = drop-last n xs x (omega (arith, within))
 
 -- A viewer whose marks lack nothing.
 
-pub nothing_waits : (log : List LogEntry) (l : Lagging) → IsCurrent l → waiting log l ≡ []
-nothing_waits log l current = drop_all (length log - l.waits) log (omega (arith, current))
+pub nothing_waits : (log : List LogEntry) (l : Lagging) → IsCurrent log l → waiting log l ≡ []
+nothing_waits log l current = drop_all l.taken log (omega (arith, current))
 
-pub current_viewer : (log : List LogEntry) (l : Lagging) → IsCurrent l → caught_up log l ≡ l.viewer
+pub current_viewer : (log : List LogEntry) (l : Lagging) → IsCurrent log l → caught_up log l ≡ l.viewer
 current_viewer log l current = ap (λ (es : List LogEntry). record l.viewer { marks = logged l.viewer.uses_copyrect es l.viewer.marks }) (nothing_waits log l current)
 
-pub current_fits : (log : List LogEntry) (l : Lagging) → IsCurrent l → Fits log l
+pub current_fits : (log : List LogEntry) (l : Lagging) → IsCurrent log l → Fits log l
 current_fits log l current = record {
   stands = omega (arith, current);
   asks = λ _. current;
   cut = subst (All (IsCutEntry l.viewer.marks.width l.viewer.marks.height)) (sym (nothing_waits log l current)) (λ k d below. absurd (omega (arith, below)));
 }
 
--- in any log alike
-pub current_alike : (log other : List LogEntry) (l : Lagging) → IsCurrent l → caught_up log l ≡ caught_up other l
-current_alike log other l current = current_viewer log l current ∙ sym (current_viewer other l current)
+-- at the start of an empty log it is the same
+pub started_same : (log : List LogEntry) (l : Lagging) → IsCurrent log l → caught_up [] (at_start l) ≡ caught_up log l
+started_same log l current = current_viewer [] (at_start l) refl ∙ sym (current_viewer log l current)
+
+pub current_is_up_to_date : (log : List LogEntry) (l : Lagging) → IsCurrent log l → l ≡ up_to_date log l
+current_is_up_to_date log l current =
+    ap (λ (n : ℕ). record l { taken = n }) current ∙ ap (λ (v : KeptViewer). record { viewer = v; taken = length log }) (sym (current_viewer log l current))
 
 -- Catching up changes no viewer.
 
@@ -73,20 +78,21 @@ asked_same log l =
     let alike = logged-alike l.viewer.uses_copyrect (waiting log l) l.viewer.marks in
     ap (λ (bs : List Bool). has_asked (record l.viewer.marks { asked = bs })) alike.asked
 
-more_waits : (log : List LogEntry) (e : LogEntry) (l : Lagging) → Fits log l → waiting (log ++ e ∷ []) (record l { waits = l.waits + 1 }) ≡ waiting log l ++ e ∷ []
-more_waits log e l fits =
-    let count : length (log ++ e ∷ []) - (l.waits + 1) ≡ length log - l.waits = omega (arith, length-append log (e ∷ [])) in
-    ap (λ (n : ℕ). drop n (log ++ e ∷ [])) count ∙ drop-last (length log - l.waits) log e (omega arith)
+more_waits : (log : List LogEntry) (e : LogEntry) (l : Lagging) → Fits log l → waiting (log ++ e ∷ []) l ≡ waiting log l ++ e ∷ []
+more_waits log e l fits = drop-last l.taken log e fits.stands
 
 -- told at once
 abbrev at_once : LogEntry → Lagging → Lagging
-at_once e l = record l { viewer = record l.viewer { marks = after_entry l.viewer.uses_copyrect e l.viewer.marks } }
+at_once e l = record l { viewer = record l.viewer { marks = after_entry l.viewer.uses_copyrect e l.viewer.marks }; taken = l.taken + 1 }
+
+at_once_current : (log : List LogEntry) (e : LogEntry) (l : Lagging) → IsCurrent log l → IsCurrent (log ++ e ∷ []) (at_once e l)
+at_once_current log e l current = omega (arith, current, length-append log (e ∷ []))
 
 pub told_viewer : (log : List LogEntry) (e : LogEntry) (l : Lagging) → Fits log l → caught_up (log ++ e ∷ []) (told e l) ≡ drawn e (caught_up log l)
 told_viewer log e l fits = go (has_asked l.viewer.marks) refl
   where
-    go : (b : Bool) → has_asked l.viewer.marks ≡ b → caught_up (log ++ e ∷ []) (cond b (at_once e l) (record l { waits = l.waits + 1 })) ≡ drawn e (caught_up log l)
-    go true asks = current_viewer (log ++ e ∷ []) (at_once e l) (fits.asks asks) ∙ ap (drawn e) (sym (current_viewer log l (fits.asks asks)))
+    go : (b : Bool) → has_asked l.viewer.marks ≡ b → caught_up (log ++ e ∷ []) (cond b (at_once e l) l) ≡ drawn e (caught_up log l)
+    go true asks = current_viewer (log ++ e ∷ []) (at_once e l) (at_once_current log e l (fits.asks asks)) ∙ ap (drawn e) (sym (current_viewer log l (fits.asks asks)))
     go false asks =
         ap (λ (es : List LogEntry). record l.viewer { marks = logged l.viewer.uses_copyrect es l.viewer.marks }) (more_waits log e l fits)
         ∙ ap (λ (m : Marks). record l.viewer { marks = m }) (logged-last l.viewer.uses_copyrect (waiting log l) e l.viewer.marks)
@@ -94,8 +100,8 @@ told_viewer log e l fits = go (has_asked l.viewer.marks) refl
 pub told_fits : (log : List LogEntry) (e : LogEntry) (l : Lagging) → Fits log l → IsCutEntry l.viewer.marks.width l.viewer.marks.height e → Fits (log ++ e ∷ []) (told e l)
 told_fits log e l fits cut = go (has_asked l.viewer.marks) refl
   where
-    go : (b : Bool) → has_asked l.viewer.marks ≡ b → Fits (log ++ e ∷ []) (cond b (at_once e l) (record l { waits = l.waits + 1 }))
-    go true asks = current_fits (log ++ e ∷ []) (at_once e l) (fits.asks asks)
+    go : (b : Bool) → has_asked l.viewer.marks ≡ b → Fits (log ++ e ∷ []) (cond b (at_once e l) l)
+    go true asks = current_fits (log ++ e ∷ []) (at_once e l) (at_once_current log e l (fits.asks asks))
     go false asks = record {
       stands = let stands = fits.stands in omega (arith, stands, length-append log (e ∷ []));
       asks = λ is. absurd (true≢false (sym is ∙ asks));
@@ -118,6 +124,44 @@ told_same log e l fits = go (has_asked l.viewer.marks) refl
         ap (λ b. cond b (Some (after_entry (caught_up log l).uses_copyrect e (caught_up log l).marks)) None) (asked_same log l ∙ asks)
         ∙ sym (ap (λ b. cond b (Some (after_entry l.viewer.uses_copyrect e l.viewer.marks)) None) asks)
 
+-- where none asks, none is told at once
+pub untold_asks_nothing : (e : LogEntry) (l : Lagging) → told_at_once e l.viewer ≡ None → AsksNothing l
+untold_asks_nothing e l none = go (has_asked l.viewer.marks) none
+  where
+    go : (b : Bool) → cond b (Some (after_entry l.viewer.uses_copyrect e l.viewer.marks)) None ≡ None → b ≡ false
+    go true is = absurd (cc)
+    go false is = refl
+
+pub unasked_told : (e : LogEntry) (l : Lagging) → AsksNothing l → told e l ≡ l
+unasked_told e l nothing = ap (λ b. cond b (at_once e l) l) nothing
+
+pub unasked_untold : (e : LogEntry) (l : Lagging) → AsksNothing l → told_at_once e l.viewer ≡ None
+unasked_untold e l nothing = ap (λ b. cond b (Some (after_entry l.viewer.uses_copyrect e l.viewer.marks)) None) nothing
+
+-- it asks for nothing once it is told, and once it has caught up
+pub unasked_told_asks_nothing : (e : LogEntry) (l : Lagging) → AsksNothing l → AsksNothing (told e l)
+unasked_told_asks_nothing e l nothing = subst AsksNothing (sym (unasked_told e l nothing)) nothing
+
+pub alike_asks_nothing : (log : List LogEntry) (l other : Lagging) → caught_up log l ≡ caught_up log other → AsksNothing other → AsksNothing l
+alike_asks_nothing log l other same nothing =
+    sym (asked_same log l) ∙ ap (λ (v : KeptViewer). has_asked v.marks) same ∙ asked_same log other ∙ nothing
+
+-- what an update leaves asks for nothing, where nothing was asked for
+pub unasked_sent : (w h limit : ℕ) (picture : List ℕ) (v : KeptViewer) → has_asked v.marks ≡ false → has_asked (sending_kept w h limit picture v).1.marks ≡ false
+unasked_sent w h limit picture v nothing = go (is_open_rest v.heard) (pending v.marks) (unasked_is_not_pending v.marks nothing)
+  where
+    sent : Sent
+    sent = record { copies = copies_of limit v.marks; offset = v.marks.offset; pixels = pixels_of limit v.marks; after = after_sending (copies_of limit v.marks) (pixels_of limit v.marks) v.marks }
+
+    go : (a b : Bool) → b ≡ false → has_asked (cond a (with_update w h picture v (cond b (Some sent) None)) ([], v)).1.marks ≡ false
+    go true true is = absurd (true≢false is)
+    go true false is = nothing
+    go false b is = nothing
+
+pub sent_asks_nothing : (log : List LogEntry) (w h limit : ℕ) (picture : List ℕ) (was now : Lagging) → caught_up log now ≡ (sending_kept w h limit picture (caught_up log was)).1 → AsksNothing was → AsksNothing now
+sent_asks_nothing log w h limit picture was now is nothing =
+    sym (asked_same log now) ∙ ap (λ (v : KeptViewer). has_asked v.marks) is ∙ unasked_sent w h limit picture (caught_up log was) (asked_same log was ∙ nothing)
+
 -- Whether something is to be sent doesn't hang on what waits.
 
 pub pending_same : (log : List LogEntry) (l : Lagging) → Fits log l → is_pending l.viewer ≡ is_pending (caught_up log l)
@@ -134,13 +178,13 @@ pending_same log l fits = go (has_asked l.viewer.marks) refl
 
 pub shared_is_cut : (log : List LogEntry) (l : Lagging) (s : Shared) → Fits log l → IsShared log s → IsFor l s → All (IsCutEntry l.viewer.marks.width l.viewer.marks.height) s.entries.items
 shared_is_cut log l s fits shared own =
-    shared.cut l.viewer.marks.width l.viewer.marks.height (subst (λ (n : ℕ). All (IsCutEntry l.viewer.marks.width l.viewer.marks.height) (drop (length log - n) log)) (sym own.waits) fits.cut)
+    shared.cut l.viewer.marks.width l.viewer.marks.height (subst (λ (n : ℕ). All (IsCutEntry l.viewer.marks.width l.viewer.marks.height) (drop n log)) (sym own.taken) fits.cut)
 
 -- a viewer that takes it lacks nothing
-pub shared_taken : (log : List LogEntry) (l now : Lagging) (s : Shared) → IsShared log s → IsFor l s → now ≡ record { viewer = viewer_told s.entries.items l.viewer; waits = 0 } → now ≡ up_to_date log l
+pub shared_taken : (log : List LogEntry) (l now : Lagging) (s : Shared) → IsShared log s → IsFor l s → now ≡ record { viewer = viewer_told s.entries.items l.viewer; taken = length log } → now ≡ up_to_date log l
 shared_taken log l now s shared own is =
-    is ∙ ap (λ (m : Marks). record { viewer = record l.viewer { marks = m }; waits = 0 })
+    is ∙ ap (λ (m : Marks). record { viewer = record l.viewer { marks = m }; taken = length log })
     (ap (λ (u : Bool). logged u s.entries.items l.viewer.marks) (sym own.uses_copyrect)
     ∙ shared.same l.viewer.marks
-    ∙ ap (λ (u : Bool). logged u (drop (length log - s.waits) log) l.viewer.marks) own.uses_copyrect
-    ∙ ap (λ (n : ℕ). logged l.viewer.uses_copyrect (drop (length log - n) log) l.viewer.marks) own.waits)
+    ∙ ap (λ (u : Bool). logged u (drop s.taken log) l.viewer.marks) own.uses_copyrect
+    ∙ ap (λ (n : ℕ). logged l.viewer.uses_copyrect (drop n log) l.viewer.marks) own.taken)

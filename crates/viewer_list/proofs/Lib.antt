@@ -1,2 +1,3 @@
 mod LagLemmas
 mod ListLemmas
+pub mod SizeLemmas

@@ -1,11 +1,12 @@
 -- The viewers one by one.
-use Rattle.std.proofs.Common.{◌≡◌, ℕ, zero, suc, ◌+◌, Bool, true, false, cond, not, List, [], ◌∷◌, ◌++◌, length, take, drop, reverse, All, Option, Some, None, refl, sym, subst, ◌∙◌, ap, arith}
+use Rattle.std.proofs.Common.{◌≡◌, ℕ, zero, suc, ◌+◌, Bool, true, false, cond, not, List, [], ◌∷◌, ◌++◌, length, take, drop, reverse, All, Option, Some, None, true≢false, refl, sym, subst, ◌∙◌, ap, arith}
 use Rattle.std.specs.Prelude.{◌==◌, slice_get}
 use Rattle.std.specs.List.{filter_map, cons_option, filter}
 use Rattle.std.specs.Map.{keys_of, values_of, lookup}
 use Rattle.std.specs.Option.{option_map}
 use Rattle.std.proofs.lemmas.Option.{same_Some, slice_get-map}
-use Rattle.std.proofs.lemmas.List.{take_all, length-map, reverse-append, reverse-reverse, append-nil}
+use Rattle.std.proofs.lemmas.Bool.Decides.{nat_tests}
+use Rattle.std.proofs.lemmas.List.{nil_from_length, take_all, length-map, reverse-append, reverse-reverse, append-nil}
 use Rattle.std.proofs.lemmas.List.Elements.{All-append, filter_map-append}
 use Rattle.client_list.proofs.Walks.{take_next, drop_next}
 use Rattle.client_list.specs.Connected.{Connected, IsListed, changed, set_value_at, index_of, value_at, passed}
@@ -16,9 +17,9 @@ use Rattle.copy_schedule.specs.Log.{IsCutEntry}
 use Rattle.viewer.specs.declared.notices.Notice.{Notice}
 use Rattle.viewer.specs.Viewer.{KeptViewer}
 use Rattle.viewer_list.specs.declared.lagging.Lagging.{Lagging}
-use Rattle.viewer_list.specs.Lagging.{waiting, caught_up, up_to_date, seen, told, told_of, IsCurrent, Fits}
+use Rattle.viewer_list.specs.Lagging.{waiting, caught_up, up_to_date, seen, told, told_of, at_start, IsCurrent, AsksNothing, Fits, AllFit}
 use Rattle.viewer_list.specs.Viewers.{Viewers, IsOfSize, viewer_of, with_viewer, drawn, told_at_once, viewer_noticed}
-use Rattle.viewer_list.proofs.LagLemmas.{caught_up_again, current_fits, current_alike, told_viewer, told_fits, told_same, logged-alike}
+use Rattle.viewer_list.proofs.LagLemmas.{caught_up_again, current_fits, alike_asks_nothing, started_same, untold_asks_nothing, unasked_told, unasked_untold, told_viewer, told_fits, told_same, logged-alike}
 
 module _ {T : Type 0} (P : T → Type 0) where
   pub all-cons : (x : T) (xs : List T) → P x → All P xs → All P (x ∷ xs)
@@ -81,6 +82,17 @@ module _ {T : Type 0} (P : T → Type 0) (f : T → T) (each : (x : T) → P x �
   all-partly (pair ∷ pairs) zero all = all
   all-partly (pair ∷ pairs) (suc n) all = all-cons P (f pair.1) (values_of (take n (changed f pairs) ++ drop n pairs)) (each pair.1 (all-head P pair.1 (values_of pairs) all)) (all-partly pairs n (all-tail P pair.1 (values_of pairs) all))
 
+-- a list that counts none
+pub none-counted : {T : Type 0} (xs : List T) (n : ℕ) → n ≡ length xs → (n == 0) ≡ true → xs ≡ []
+none-counted xs n count none = nil_from_length xs (sym count ∙ zero_is n none)
+  where
+    zero_is : (n : ℕ) → (n == 0) ≡ true → n ≡ 0
+    zero_is n is = grind (arith, nat_tests)
+
+pub none-told : {T : Type 0} (xs : List T) (n : ℕ) (is_none : Bool) → n ≡ length xs → is_none ≡ (n == 0) → not is_none ≡ false → xs ≡ []
+none-told xs n true count is none = none-counted xs n count (sym is)
+none-told xs n false count is none = absurd (true≢false none)
+
 -- ---- what is seen
 
 -- the first ones have caught up
@@ -98,16 +110,30 @@ seen-changed log (pair ∷ pairs) =
     ap (λ (v : KeptViewer). (pair.0, v) ∷ seen log (changed (up_to_date log) pairs)) (caught_up_again log pair.1)
     ∙ ap (λ (l : List (ℕ × KeptViewer)). (pair.0, caught_up log pair.1) ∷ l) (seen-changed log pairs)
 
--- where nothing waits, by any log
-pub seen-current : (log other : List LogEntry) (pairs : List (ℕ × Lagging)) → All IsCurrent (values_of pairs) → seen log pairs ≡ seen other pairs
-seen-current log other [] all = refl
-seen-current log other (pair ∷ pairs) all =
-    ap (λ (v : KeptViewer). (pair.0, v) ∷ seen log pairs) (current_alike log other pair.1 (all-head IsCurrent pair.1 (values_of pairs) all))
-    ∙ ap (λ (l : List (ℕ × KeptViewer)). (pair.0, caught_up other pair.1) ∷ l) (seen-current log other pairs (all-tail IsCurrent pair.1 (values_of pairs) all))
+-- viewers that are seen alike ask alike
+pub quiet-same : (log : List LogEntry) (now old : List (ℕ × Lagging)) → seen log now ≡ seen log old → All AsksNothing (values_of old) → All AsksNothing (values_of now)
+quiet-same log [] old same all = λ k d below. absurd (omega (arith, below))
+quiet-same log (pair ∷ now) [] same all = absurd (cc)
+quiet-same log (pair ∷ now) (was ∷ old) same all =
+    let later : seen log now ≡ seen log old = cc in
+    let heads : (pair.0, caught_up log pair.1) ≡ (was.0, caught_up log was.1) = cc in
+    let here : caught_up log pair.1 ≡ caught_up log was.1 = ap (λ (p : ℕ × KeptViewer). p.1) heads in
+    all-cons AsksNothing pair.1 (values_of now) (alike_asks_nothing log pair.1 was.1 here (all-head AsksNothing was.1 (values_of old) all))
+    (quiet-same log now old later (all-tail AsksNothing was.1 (values_of old) all))
 
-pub fit-current : (log : List LogEntry) (pairs : List (ℕ × Lagging)) → All IsCurrent (values_of pairs) → All (Fits log) (values_of pairs)
-fit-current log [] all = λ k d below. absurd (omega (arith, below))
-fit-current log (pair ∷ pairs) all = all-cons (Fits log) pair.1 (values_of pairs) (current_fits log pair.1 (all-head IsCurrent pair.1 (values_of pairs) all)) (fit-current log pairs (all-tail IsCurrent pair.1 (values_of pairs) all))
+-- where nothing waits, at the start of an empty log
+pub seen-started : (log : List LogEntry) (pairs : List (ℕ × Lagging)) → All (IsCurrent log) (values_of pairs) → seen [] (changed at_start pairs) ≡ seen log pairs
+seen-started log [] all = refl
+seen-started log (pair ∷ pairs) all =
+    ap (λ (v : KeptViewer). (pair.0, v) ∷ seen [] (changed at_start pairs)) (started_same log pair.1 (all-head (IsCurrent log) pair.1 (values_of pairs) all))
+    ∙ ap (λ (l : List (ℕ × KeptViewer)). (pair.0, caught_up log pair.1) ∷ l) (seen-started log pairs (all-tail (IsCurrent log) pair.1 (values_of pairs) all))
+
+pub fit-started : (pairs : List (ℕ × Lagging)) (some_may_ask : Bool) → (some_may_ask ≡ false → All AsksNothing (values_of pairs)) → AllFit [] some_may_ask (changed at_start pairs)
+fit-started pairs some_may_ask quiet = record {
+  short = omega arith;
+  each = all-changed (λ (l : Lagging). Unit {0}) (Fits []) at_start (λ l any. current_fits [] (at_start l) refl) pairs (λ k d below. tt);
+  quiet = λ none. all-changed AsksNothing AsksNothing at_start (λ l nothing. nothing) pairs (quiet none);
+}
 
 -- a drawing call
 pub seen-told : (log : List LogEntry) (e : LogEntry) (pairs : List (ℕ × Lagging)) → All (Fits log) (values_of pairs) → seen (log ++ e ∷ []) (changed (told e) pairs) ≡ changed (drawn e) (seen log pairs)
@@ -140,6 +166,28 @@ told-seen log e (pair ∷ pairs) all =
     ap (λ (o : Option Marks). cons_option o (filter_map (told_at_once e) (values_of (seen log pairs)))) (told_same log e pair.1 (all-head (Fits log) pair.1 (values_of pairs) all))
     ∙ ap (cons_option (told_at_once e pair.1.viewer)) (told-seen log e pairs (all-tail (Fits log) pair.1 (values_of pairs) all))
 
+-- where the marks of none are made, nobody asks
+pub untold-asks-nothing : (e : LogEntry) (pairs : List (ℕ × Lagging)) → filter_map (λ l. told_at_once e l.viewer) (values_of pairs) ≡ [] → All AsksNothing (values_of pairs)
+untold-asks-nothing e [] none = λ k d below. absurd (omega (arith, below))
+untold-asks-nothing e (pair ∷ pairs) none = go (told_at_once e pair.1.viewer) refl (untold-asks-nothing e pairs) none
+  where
+    go : (o : Option Marks) → told_at_once e pair.1.viewer ≡ o → (filter_map (λ l. told_at_once e l.viewer) (values_of pairs) ≡ [] → All AsksNothing (values_of pairs)) → cons_option o (filter_map (λ l. told_at_once e l.viewer) (values_of pairs)) ≡ [] → All AsksNothing (pair.1 ∷ values_of pairs)
+    go None is others rest = all-cons AsksNothing pair.1 (values_of pairs) (untold_asks_nothing e pair.1 is) (others rest)
+    go (Some m) is others rest = absurd (cc)
+
+-- and where nobody asks, the marks of none are made, and each stays
+pub unasked-untold : (e : LogEntry) (pairs : List (ℕ × Lagging)) → All AsksNothing (values_of pairs) → filter_map (λ l. told_at_once e l.viewer) (values_of pairs) ≡ []
+unasked-untold e [] all = refl
+unasked-untold e (pair ∷ pairs) all =
+    ap (λ (o : Option Marks). cons_option o (filter_map (λ l. told_at_once e l.viewer) (values_of pairs))) (unasked_untold e pair.1 (all-head AsksNothing pair.1 (values_of pairs) all))
+    ∙ unasked-untold e pairs (all-tail AsksNothing pair.1 (values_of pairs) all)
+
+pub unasked-told : (e : LogEntry) (pairs : List (ℕ × Lagging)) → All AsksNothing (values_of pairs) → changed (told e) pairs ≡ pairs
+unasked-told e [] all = refl
+unasked-told e (pair ∷ pairs) all =
+    ap (λ (l : Lagging). (pair.0, l) ∷ changed (told e) pairs) (unasked_told e pair.1 (all-head AsksNothing pair.1 (values_of pairs) all))
+    ∙ ap (λ (l : List (ℕ × Lagging)). pair ∷ l) (unasked-told e pairs (all-tail AsksNothing pair.1 (values_of pairs) all))
+
 -- a notice
 pub seen-noticed : (log : List LogEntry) (notice : Notice) (pairs : List (ℕ × Lagging)) → seen log (changed (told_of notice) pairs) ≡ changed (viewer_noticed notice) (seen log pairs)
 seen-noticed log notice [] = refl
@@ -147,6 +195,9 @@ seen-noticed log notice (pair ∷ pairs) = ap (λ (l : List (ℕ × KeptViewer))
 
 pub fit-noticed : (log : List LogEntry) (notice : Notice) (pairs : List (ℕ × Lagging)) → All (Fits log) (values_of pairs) → All (Fits log) (values_of (changed (told_of notice) pairs))
 fit-noticed log notice pairs all = all-changed (Fits log) (Fits log) (told_of notice) (λ l fits. record { stands = fits.stands; asks = fits.asks; cut = fits.cut }) pairs all
+
+pub quiet-noticed : (notice : Notice) (pairs : List (ℕ × Lagging)) → All AsksNothing (values_of pairs) → All AsksNothing (values_of (changed (told_of notice) pairs))
+quiet-noticed notice pairs all = all-changed AsksNothing AsksNothing (told_of notice) (λ l nothing. nothing) pairs all
 
 -- one more, and one less
 pub seen-last : (log : List LogEntry) (pairs : List (ℕ × Lagging)) (number : ℕ) (l : Lagging) → seen log (pairs ++ (number, l) ∷ []) ≡ seen log pairs ++ (number, caught_up log l) ∷ []
@@ -214,12 +265,10 @@ viewer-same s log pairs room number was l is there same =
 
 -- one of the same size in another's place
 pub size-set : (s : Viewers) (log : List LogEntry) (pairs : List (ℕ × Lagging)) (room number : ℕ) (was l : Lagging) → record { pairs = seen log pairs; room = room } ≡ s → Some was ≡ lookup (λ n. n == number) pairs
-    → (caught_up log l).marks.width ≡ (caught_up log was).marks.width → (caught_up log l).marks.height ≡ (caught_up log was).marks.height
-    → (w h : ℕ) → All (IsOfSize w h) (values_of s.pairs) → All (IsOfSize w h) (values_of (seen log (set_value_at pairs (index_of (keys_of pairs) number) l)))
-size-set s log pairs room number was l is there width height w h sized =
-    let old : IsOfSize w h (caught_up log was) = all-numbered (IsOfSize w h) s.pairs number (caught_up log was) sized (sym (viewer-some s log pairs room number was is there)) in
+    → (w h : ℕ) → (IsOfSize w h (caught_up log was) → IsOfSize w h (caught_up log l)) → All (IsOfSize w h) (values_of s.pairs) → All (IsOfSize w h) (values_of (seen log (set_value_at pairs (index_of (keys_of pairs) number) l)))
+size-set s log pairs room number was l is there w h keeps sized =
     subst (λ (ps : List (ℕ × KeptViewer)). All (IsOfSize w h) (values_of ps)) (sym (viewer-set s log pairs room number l (caught_up log l) is refl))
-    (all-set (IsOfSize w h) s.pairs (index_of (keys_of s.pairs) number) (caught_up log l) sized (record { width = width ∙ old.width; height = height ∙ old.height }))
+    (all-set (IsOfSize w h) s.pairs (index_of (keys_of s.pairs) number) (caught_up log l) sized (keeps (all-numbered (IsOfSize w h) s.pairs number (caught_up log was) sized (sym (viewer-some s log pairs room number was is there)))))
 
 -- ---- a walk over the viewers
 
@@ -240,16 +289,6 @@ module _ (c : Connected Lagging) where
       ap (λ (o : Option ℕ). take (passed c o) (values_of c.pairs)) is
       ∙ take_all (length c.places) (values_of c.pairs) (omega (arith, length-map c.pairs (λ e. e.1), listed.as_many))
 
-  one-current : (v : Lagging) → IsCurrent v → All IsCurrent (v ∷ [])
-  one-current v is = all-cons IsCurrent v [] is (λ k d below. absurd (omega (arith, below)))
-
-  pub current-step : (here next : Option ℕ) (place : ℕ) (v : Lagging) → All IsCurrent (take (passed c here) (values_of c.pairs)) → here ≡ Some place → value_at c place ≡ Some v → IsCurrent v → passed c next ≡ index_of c.places place + 1 → All IsCurrent (take (passed c next) (values_of c.pairs))
-  current-step here next place v so_far is value current step =
-      subst (All IsCurrent) (sym (passed-next here next place v is value step)) (All-append IsCurrent (take (passed c here) (values_of c.pairs)) (v ∷ []) so_far (one-current v current))
-
-  pub current-end : (here : Option ℕ) → IsListed c → All IsCurrent (take (passed c here) (values_of c.pairs)) → here ≡ None → All IsCurrent (values_of c.pairs)
-  current-end here listed so_far is = subst (All IsCurrent) (all-passed here listed is) so_far
-
   module _ {X : Type 0} (g : Lagging → Option X) where
     pub picked-step : (made : List X) (here next : Option ℕ) (place : ℕ) (v : Lagging) → made ≡ filter_map g (take (passed c here) (values_of c.pairs)) → here ≡ Some place → value_at c place ≡ Some v → passed c next ≡ index_of c.places place + 1 → made ++ cons_option (g v) [] ≡ filter_map g (take (passed c next) (values_of c.pairs))
     picked-step made here next place v so_far is value step =
@@ -259,6 +298,17 @@ module _ (c : Connected Lagging) where
 
     pub picked-end : (made : List X) (here : Option ℕ) → IsListed c → made ≡ filter_map g (take (passed c here) (values_of c.pairs)) → here ≡ None → made ≡ filter_map g (values_of c.pairs)
     picked-end made here listed so_far is = so_far ∙ ap (filter_map g) (all-passed here listed is)
+
+  module _ (log : List LogEntry) where
+    one-current : (v : Lagging) → IsCurrent log v → All (IsCurrent log) (v ∷ [])
+    one-current v is = all-cons (IsCurrent log) v [] is (λ k d below. absurd (omega (arith, below)))
+
+    pub current-step : (here next : Option ℕ) (place : ℕ) (v : Lagging) → All (IsCurrent log) (take (passed c here) (values_of c.pairs)) → here ≡ Some place → value_at c place ≡ Some v → IsCurrent log v → passed c next ≡ index_of c.places place + 1 → All (IsCurrent log) (take (passed c next) (values_of c.pairs))
+    current-step here next place v so_far is value current step =
+        subst (All (IsCurrent log)) (sym (passed-next here next place v is value step)) (All-append (IsCurrent log) (take (passed c here) (values_of c.pairs)) (v ∷ []) so_far (one-current v current))
+
+    pub current-end : (here : Option ℕ) → IsListed c → All (IsCurrent log) (take (passed c here) (values_of c.pairs)) → here ≡ None → All (IsCurrent log) (values_of c.pairs)
+    current-end here listed so_far is = subst (All (IsCurrent log)) (all-passed here listed is) so_far
 
 -- ---- marks that are taken from the end of a list, turned round
 

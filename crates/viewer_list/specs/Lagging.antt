@@ -1,5 +1,5 @@
 -- One viewer that lags behind a log of drawing, and what it stands for.
-use Rattle.std.specs.Prelude.{◌≡◌, ℕ, ◌≤◌, ◌+◌, ◌-◌, true, if◌then◌else◌, List, length, drop, map, All}
+use Rattle.std.specs.Prelude.{◌≡◌, ℕ, ◌≤◌, ◌+◌, Bool, true, false, if◌then◌else◌, List, length, drop, map, All}
 use Rattle.std.specs.Map.{values_of}
 use Rattle.copy_schedule.specs.declared.LogEntry.{LogEntry}
 use Rattle.copy_schedule.specs.Marks.{Marks, has_asked}
@@ -10,9 +10,9 @@ use Rattle.viewer_list.specs.Viewers.{viewer_noticed}
 use Rattle.viewer_list.specs.declared.lagging.Lagging.{Lagging}
 use Rattle.viewer_list.specs.declared.lagging.Shared.{Shared}
 
--- the entries that a viewer's marks lack: the last ones of the log
+-- the entries that a viewer's marks lack: the log's, but for the first ones, which they have taken
 abbrev pub waiting : List LogEntry → Lagging → List LogEntry
-waiting log l = drop (length log - l.waits) log
+waiting log l = drop l.taken log
 
 -- a viewer with its waiting entries applied, the first one first
 abbrev pub caught_up : List LogEntry → Lagging → KeptViewer
@@ -20,41 +20,50 @@ caught_up log l = record l.viewer { marks = logged l.viewer.uses_copyrect (waiti
 
 -- the same viewer, whose marks lack nothing
 abbrev pub up_to_date : List LogEntry → Lagging → Lagging
-up_to_date log l = record { viewer = caught_up log l; waits = 0 }
+up_to_date log l = record { viewer = caught_up log l; taken = length log }
+
+-- the same viewer at the start of a log
+abbrev pub at_start : Lagging → Lagging
+at_start l = record l { taken = 0 }
 
 -- the pairs of number and viewer
 abbrev pub seen : List LogEntry → List (ℕ × Lagging) → List (ℕ × KeptViewer)
 seen log pairs = map (λ pair. (pair.0, caught_up log pair.1)) pairs
 
 -- a viewer's marks lack nothing
-abbrev pub IsCurrent : Lagging → Type 0
-IsCurrent l = l.waits ≡ 0
+abbrev pub IsCurrent : List LogEntry → Lagging → Type 0
+IsCurrent log l = l.taken ≡ length log
 
--- the entries that a viewer lacks stand in the log, each copy is on its screen, and a viewer that asks lacks none
+-- a viewer asks for nothing
+abbrev pub AsksNothing : Lagging → Type 0
+AsksNothing l = has_asked l.viewer.marks ≡ false
+
+-- a viewer's place is in the log, each copy that it lacks is on its screen, and where it asks it lacks none
 pub record Fits (log : List LogEntry) (l : Lagging) : Type 0 where
-  pub stands : l.waits ≤ length log
-  pub asks : has_asked l.viewer.marks ≡ true → l.waits ≡ 0
+  pub stands : l.taken ≤ length log
+  pub asks : has_asked l.viewer.marks ≡ true → IsCurrent log l
   pub cut : All (IsCutEntry l.viewer.marks.width l.viewer.marks.height) (waiting log l)
 
--- a viewer that is told of a drawing call: at once where it asks, and elsewhere it lacks one entry more
+-- a viewer that is told of a drawing call: at once where it asks, and elsewhere it stays, and lacks one entry more of the log
 abbrev pub told : LogEntry → Lagging → Lagging
-told entry l = if has_asked l.viewer.marks then record l { viewer = record l.viewer { marks = after_entry l.viewer.uses_copyrect entry l.viewer.marks } } else record l { waits = l.waits + 1 }
+told entry l = if has_asked l.viewer.marks then record l { viewer = record l.viewer { marks = after_entry l.viewer.uses_copyrect entry l.viewer.marks }; taken = l.taken + 1 } else l
 
 -- a viewer that keeps a notice, where it is open
 abbrev pub told_of : Notice → Lagging → Lagging
 told_of notice l = record l { viewer = viewer_noticed notice l.viewer }
 
--- the log has at most 256 entries, and holds what the viewers lack
-pub record AllFit (log : List LogEntry) (pairs : List (ℕ × Lagging)) : Type 0 where
+-- the log has at most 256 entries, and holds what the viewers lack; where some_may_ask is false, nobody asks
+pub record AllFit (log : List LogEntry) (some_may_ask : Bool) (pairs : List (ℕ × Lagging)) : Type 0 where
   pub short : length log ≤ 256
   pub each : All (Fits log) (values_of pairs)
+  pub quiet : some_may_ask ≡ false → All AsksNothing (values_of pairs)
 
--- entries that make of a viewer's marks what as many of the log's last ones make of them, where it uses CopyRect alike
+-- entries that make of a viewer's marks what the log's from a place on make of them, where it uses CopyRect alike
 pub record IsShared (log : List LogEntry) (s : Shared) : Type 0 where
-  pub same : (m : Marks) → logged s.uses_copyrect s.entries.items m ≡ logged s.uses_copyrect (drop (length log - s.waits) log) m
-  pub cut : (w h : ℕ) → All (IsCutEntry w h) (drop (length log - s.waits) log) → All (IsCutEntry w h) s.entries.items
+  pub same : (m : Marks) → logged s.uses_copyrect s.entries.items m ≡ logged s.uses_copyrect (drop s.taken log) m
+  pub cut : (w h : ℕ) → All (IsCutEntry w h) (drop s.taken log) → All (IsCutEntry w h) s.entries.items
 
 -- it is such a viewer
 pub record IsFor (l : Lagging) (s : Shared) : Type 0 where
-  pub waits : s.waits ≡ l.waits
+  pub taken : s.taken ≡ l.taken
   pub uses_copyrect : s.uses_copyrect ≡ l.viewer.uses_copyrect

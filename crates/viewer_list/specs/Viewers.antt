@@ -1,12 +1,12 @@
 -- What a contract sees of the viewers of a screen, and of a drawing call for them.
-use Rattle.std.specs.Prelude.{◌≡◌, ℕ, ◌≤◌, ◌==◌, ◌&&◌, ◌||◌, not, Bool, if◌then◌else◌, List, All, Option, Some, None}
+use Rattle.std.specs.Prelude.{◌≡◌, ℕ, ◌*◌, ◌≤◌, ◌==◌, ◌&&◌, ◌||◌, not, Bool, if◌then◌else◌, List, All, length, Option, Some, None}
 use Rattle.std.specs.List.{filter_map}
 use Rattle.std.specs.Map.{keys_of, values_of, lookup}
 use Rattle.client_list.specs.Connected.{index_of, set_value_at}
 use Rattle.copy_schedule.specs.declared.LogEntry.{LogEntry}
 use Rattle.copy_schedule.specs.Marks.{Marks, has_asked, pending}
 use Rattle.copy_schedule.specs.Log.{after_entry, IsCutEntry}
-use Rattle.messages.specs.Reading.{is_open_rest}
+use Rattle.messages.specs.Reading.{is_open_rest, rest}
 use Rattle.viewer.specs.declared.notices.Notice.{Notice}
 use Rattle.viewer.specs.declared.notices.Notice.TheVariants as notice
 use Rattle.viewer.specs.Given.{keeps_notices}
@@ -26,10 +26,16 @@ viewer_of s number = lookup (λ n. n == number) s.pairs
 abbrev pub with_viewer : Viewers → ℕ → KeptViewer → List (ℕ × KeptViewer)
 with_viewer s number viewer = set_value_at s.pairs (index_of (keys_of s.pairs) number) viewer
 
--- a viewer's marks are of a size
+-- a viewer's marks are one for each place
+abbrev pub IsWhole : KeptViewer → Type 0
+IsWhole v = length v.marks.marks ≡ v.marks.width * v.marks.height
+
+-- a viewer's marks are of a size, one for each place, and what is kept of its bytes is that of some bytes
 pub record IsOfSize (w h : ℕ) (v : KeptViewer) : Type 0 where
   pub width : v.marks.width ≡ w
   pub height : v.marks.height ≡ h
+  pub whole : IsWhole v
+  pub heard : (before : List ℕ) × (v.heard ≡ rest before)
 
 -- a viewer that was told of a drawing call
 abbrev pub drawn : LogEntry → KeptViewer → KeptViewer

@@ -1,48 +1,55 @@
 //! One viewer that lags behind a log of drawing. Its marks catch up in one pass before they are needed.
 
 ghost use Rattle.copy_schedule.specs.declared.LogEntry.{LogEntry};
-ghost use Rattle.std.specs.Prelude.{All, true, ◌≡◌, ◌≢◌, ◌++◌, [], ℕ, List, ◌≤◌, length, IfOk, IfSome, OnOk, OnErr};
+ghost use Rattle.std.specs.Prelude.{All, true, false, ◌≡◌, ◌≢◌, ◌++◌, [], ℕ, List, ◌≤◌, length, IfOk, IfSome, OnOk, OnErr};
 ghost use Rattle.messages.specs.Reading.{rest, new_items};
 ghost use Rattle.viewer.specs.Hearing.{after_items, heard_reply};
 ghost use Rattle.viewer.specs.Sending.{sending_kept};
 ghost use Rattle.viewer.specs.Given.{bytes_given};
 ghost use Rattle.copy_schedule.specs.Log.{IsCutEntry};
 ghost use Rattle.viewer.specs.Told.{viewer_told};
-ghost use Rattle.viewer_list.specs.Lagging.{waiting, caught_up, up_to_date, Fits, IsShared, IsFor};
+ghost use Rattle.viewer_list.specs.Lagging.{waiting, caught_up, up_to_date, IsCurrent, Fits, IsShared, IsFor};
 
 use framebuffer::Framebuffer;
 use std::alloc::{AllocError, Global};
 use viewer::{LogEntry, Reply, Update, Viewer};
 
-/// A viewer, and how many of the log's last entries its marks lack.
+/// A viewer, and its place in the log: how many of the log's first entries its marks have taken. They lack the others.
 #[derive(Drop)]
 pub struct Lagging {
     pub viewer: Viewer,
-    pub waits: usize,
+    pub taken: usize,
 }
 
 /// The entries that a viewer's marks lack.
 fn lacked<'a>(log: &'a [LogEntry], lagging: &Lagging) -> &'a [LogEntry]
-    requires { lagging.now.waits ≤ length log.now }
+    requires { lagging.now.taken ≤ length log.now }
     ensures { result.now ≡ waiting log.now lagging.now }
 {
-    &log[log.len() - lagging.waits..]
+    &log[lagging.taken..]
 }
 
-/// What a viewer lacks of a log, in fewer entries: the same for each that lacks as many and uses CopyRect as it does.
+/// Whether a viewer's marks lack an entry.
+pub fn lags(log: &[LogEntry], lagging: &Lagging) -> bool
+    ensures { result ≡ false → IsCurrent log.now lagging.now }
+{
+    lagging.taken != log.len()
+}
+
+/// What a viewer lacks of a log, in fewer entries: the same for each that has the same place and uses CopyRect as it does.
 #[derive(Drop)]
 pub struct Shared {
-    waits: usize,
+    taken: usize,
     uses_copyrect: bool,
     entries: Vec<LogEntry>,
 }
 
 /// What nobody lacks.
-pub fn nothing_shared(alloc: Global) -> Shared
-    ensures { (log : List LogEntry) → IsShared log result }
+pub fn nothing_shared(alloc: Global, log: &[LogEntry]) -> Shared
+    ensures { IsShared log.now result }
 {
     Shared {
-        waits: 0,
+        taken: log.len(),
         uses_copyrect: false,
         entries: Vec::new(alloc),
     }
@@ -55,7 +62,7 @@ fn shared_for(log: &[LogEntry], lagging: &Lagging) -> Result<Shared, AllocError>
     ensures own { IfOk result (IsFor lagging.now) }
 {
     Ok(Shared {
-        waits: lagging.waits,
+        taken: lagging.taken,
         uses_copyrect: lagging.viewer.uses_copyrect(),
         entries: lagging.viewer.joined_log(lacked(log, lagging))?,
     })
@@ -64,18 +71,18 @@ fn shared_for(log: &[LogEntry], lagging: &Lagging) -> Result<Shared, AllocError>
 fn is_for(shared: &Shared, lagging: &Lagging) -> bool
     ensures { result ≡ true → IsFor lagging.now shared.now }
 {
-    shared.waits == lagging.waits && shared.uses_copyrect == lagging.viewer.uses_copyrect()
+    shared.taken == lagging.taken && shared.uses_copyrect == lagging.viewer.uses_copyrect()
 }
 
 /// The viewer's marks take the entries, and lack nothing then. After an `AllocError` they are as they were.
-fn take(shared: &Shared, lagging: &mut Lagging) -> Result<(), AllocError>
+fn take(log: &[LogEntry], shared: &Shared, lagging: &mut Lagging) -> Result<(), AllocError>
     requires cut { All (IsCutEntry lagging.old.viewer.marks.width lagging.old.viewer.marks.height) shared.now.entries.items }
-    ensures ok { OnOk result (lagging.new ≡ record { viewer = viewer_told shared.now.entries.items lagging.old.viewer; waits = 0 }) }
+    ensures ok { OnOk result (lagging.new ≡ record { viewer = viewer_told shared.now.entries.items lagging.old.viewer; taken = length log.now }) }
     ensures err { OnErr result (lagging.new ≡ lagging.old) }
 {
     let prepared = lagging.viewer.apply_log(&shared.entries)?;
     lagging.viewer.commit(prepared);
-    lagging.waits = 0;
+    lagging.taken = log.len();
     Ok(())
 }
 
@@ -106,9 +113,9 @@ pub fn catch_up_sharing(
     ensures err { OnErr result (lagging.new ≡ lagging.old) }
     ensures shared { IsShared log.now shared.new }
 {
-    if lagging.waits > 0 {
+    if lags(log, lagging) {
         share(log, shared, lagging)?;
-        take(shared, lagging)?;
+        take(log, shared, lagging)?;
     }
     Ok(())
 }
@@ -119,11 +126,11 @@ pub fn catch_up(lagging: &mut Lagging, log: &[LogEntry]) -> Result<(), AllocErro
     ensures ok { OnOk result (lagging.new ≡ up_to_date log.now lagging.old) }
     ensures err { OnErr result (lagging.new ≡ lagging.old) }
 {
-    if lagging.waits == 0 {
+    if !lags(log, lagging) {
         return Ok(());
     }
     let shared = shared_for(log, lagging)?;
-    take(&shared, lagging)
+    take(log, &shared, lagging)
 }
 
 /// A piece of the viewer's bytes is heard, once its marks have caught up; they are made anew once for both.
@@ -146,7 +153,7 @@ pub fn hear_one(
 {
     let lacked = lacked(log, lagging);
     let reply = lagging.viewer.hear_after(lacked, name, piece)?;
-    lagging.waits = 0;
+    lagging.taken = log.len();
     Ok(reply)
 }
 

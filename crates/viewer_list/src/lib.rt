@@ -2,7 +2,8 @@
 //!
 //! A viewer's marks are needed where it asks for places, and only then: one that asks is told of each drawing call at once.
 //! One that asks for nothing only lags: the call appends an entry to the log, which stands there once for all of them, and the
-//! viewer catches up before its next bytes are heard or an update is cut for it. Contracts see each viewer as it would be had it
+//! viewer, which keeps its place in the log, catches up before its next bytes are heard or an update is cut for it. Where nobody
+//! asks, a drawing call visits no viewer, however many there are. Contracts see each viewer as it would be had it
 //! been told of all drawing at once; the log is in no clause. It has at most 256 entries: before a further one comes, all
 //! viewers catch up and the log is emptied. It is emptied, too, when no viewer lags.
 //!
@@ -10,6 +11,7 @@
 #![tactic(auto)]
 
 ghost use Rattle.std.specs.Prelude.{◌≡◌, ◌≢◌, ◌++◌, ◌∷◌, [], ℕ, List, All, ◌≤◌, ◌^◌, ◌==◌, not, filter, length, IsTrue, ◌↔◌, IfOk, IfSome, OnOk, OnErr, MatchOption, MatchResult, IsOkUnless, is_some, None, Some};
+ghost use Rattle.std.specs.List.{filter_map};
 ghost use Rattle.std.specs.Map.{keys_of, values_of};
 ghost use Rattle.std.specs.Option.{option_map};
 ghost use Rattle.client_list.specs.Connected.{changed};
@@ -21,7 +23,7 @@ ghost use Rattle.viewer.specs.Hearing.{after_items, heard_reply};
 ghost use Rattle.viewer.specs.Sending.{sending_kept};
 ghost use Rattle.viewer.specs.Given.{bytes_given};
 ghost use Rattle.viewer.specs.Viewer.{KeptViewer};
-ghost use Rattle.viewer_list.specs.Viewers.{viewer_of, with_viewer, drawn, is_pending, IsReady, IsOfSize, viewer_noticed};
+ghost use Rattle.viewer_list.specs.Viewers.{viewer_of, with_viewer, drawn, told_at_once, is_pending, IsReady, IsOfSize, viewer_noticed};
 
 mod lagging;
 mod notices;
@@ -36,7 +38,7 @@ use notices::{keep_texts, ring_all, texts};
 use std::alloc::{AllocError, Global};
 use std::marker::Model;
 use viewer::{LogEntry, Prepared, Reply, Update, Viewer};
-use walks::{catch_up_all, marks_of_all, some_lags, tell_all};
+use walks::{catch_up_all, marks_of_all, some_lags, start_anew, tell_all};
 
 /// How many entries the log has at most.
 const MOST: usize = 256;
@@ -47,6 +49,8 @@ pub struct ViewerList {
     alloc: Global,
     viewers: Clients<Lagging>,
     log: Vec<LogEntry>,
+    // false only where no viewer asks
+    some_may_ask: bool,
 }
 
 impl Model for ViewerList {
@@ -59,7 +63,7 @@ impl Model for ViewerList {
 
     ghost view = { λ a. record { pairs = seen a.log.items a.viewers.pairs; room = min (vec_capacity a.log) 256 - vec_len a.log } };
 
-    ghost invariant = { λ a. AllFit a.log.items a.viewers.pairs };
+    ghost invariant = { λ a. AllFit a.log.items a.some_may_ask a.viewers.pairs };
 }
 
 /// A drawing call that was prepared for the viewers: what it drew, and the marks of those that ask.
@@ -86,6 +90,7 @@ impl ViewerList {
             alloc,
             viewers: Clients::new(alloc),
             log: Vec::new(alloc),
+            some_may_ask: false,
         }
     }
 
@@ -165,7 +170,9 @@ impl ViewerList {
         ensures refused { MatchOption (viewer_of self.old number) (IsOkUnless result OutOfMemory) (λ _. result ≡ Err NumberInUse) }
         ensures err { OnErr result (self.new ≡ self.old) }
     {
-        self.viewers.connect(number, Lagging { viewer, waits: 0 })
+        self.some_may_ask |= viewer.has_asked();
+        let taken = self.log.len();
+        self.viewers.connect(number, Lagging { viewer, taken })
     }
 
     /// Takes out the viewer with a number; the others stay in their order. `NoViewer` where no viewer has it, and then nothing
@@ -208,7 +215,7 @@ impl ViewerList {
         ensures entry { IfOk result (λ drawn. drawn.entry ≡ entry) }
     {
         self.make_room()?;
-        let marks = marks_of_all(self.alloc, &self.viewers, &entry)?;
+        let marks = self.marks_of_asking(&entry)?;
         Ok(Drawn { entry, marks })
     }
 
@@ -305,8 +312,23 @@ impl ViewerList {
         if self.log.len() >= MOST {
             catch_up_all(self.alloc, &mut self.viewers, &self.log)?;
             self.log.clear();
+            start_anew(&mut self.viewers);
         }
         self.log.reserve(1)
+    }
+
+    // The marks of each viewer that asks, once it is told of a drawing call. There is no walk where nobody asks since the last one.
+    fn marks_of_asking(&mut self, entry: &LogEntry) -> Result<Vec<Prepared>, AllocError>
+        requires cut { All (λ v. IsCutEntry v.marks.width v.marks.height entry.now) (values_of self.old.pairs) }
+        ensures same { self.new ≡ self.old }
+        ensures marks { IfOk result (λ marks. marks.items ≡ filter_map (told_at_once entry.now) (values_of self.old.pairs)) }
+    {
+        if !self.some_may_ask {
+            return Ok(Vec::new(self.alloc));
+        }
+        let marks = marks_of_all(self.alloc, &self.viewers, entry)?;
+        self.some_may_ask = !marks.is_empty();
+        Ok(marks)
     }
 
     // The log has a drawing call more, and the viewers that ask are told of it at once.
@@ -323,8 +345,12 @@ impl ViewerList {
     fn tidy(&mut self)
         ensures { self.new.pairs ≡ self.old.pairs }
     {
-        if !some_lags(&self.viewers) {
+        if self.log.is_empty() {
+            return;
+        }
+        if !some_lags(&self.log, &self.viewers) {
             self.log.clear();
+            start_anew(&mut self.viewers);
         }
     }
 
@@ -360,6 +386,7 @@ impl ViewerList {
             return Ok(None);
         };
         let reply = hear_one(lagging, &self.log, name, piece)?;
+        self.some_may_ask |= lagging.viewer.has_asked();
         Ok(Some(reply))
     }
 

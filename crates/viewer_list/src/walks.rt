@@ -8,10 +8,10 @@ ghost use Rattle.copy_schedule.specs.Marks.{Marks};
 ghost use Rattle.copy_schedule.specs.Log.{IsCutEntry};
 ghost use Rattle.viewer.specs.declared.notices.Notice.{Notice};
 ghost use Rattle.viewer.specs.Short.{IsShort};
-ghost use Rattle.viewer_list.specs.Lagging.{up_to_date, seen, told, IsCurrent, Fits};
+ghost use Rattle.viewer_list.specs.Lagging.{up_to_date, at_start, seen, told, IsCurrent, Fits};
 ghost use Rattle.viewer_list.specs.Viewers.{told_at_once, viewer_noticed, text_for};
 
-use crate::lagging::{Lagging, catch_up_sharing, nothing_shared};
+use crate::lagging::{Lagging, catch_up_sharing, lags, nothing_shared};
 use client_list::Clients;
 use listed::Listed;
 use std::alloc::{AllocError, Global};
@@ -29,7 +29,7 @@ pub fn catch_up_all(
     ensures same { seen log.now viewers.new.pairs ≡ seen log.now viewers.old.pairs }
     ensures fits { All (Fits log.now) (values_of viewers.new.pairs) }
 {
-    let mut shared = nothing_shared(alloc);
+    let mut shared = nothing_shared(alloc, log);
     let mut place = viewers.first();
     while let Some(at) = place {
         catch_up_sharing(log, &mut shared, viewers.at_mut(at))?;
@@ -38,24 +38,29 @@ pub fn catch_up_all(
     Ok(())
 }
 
-fn lags(lagging: &Lagging) -> bool
-    ensures { result ≡ false → IsCurrent lagging.now }
-{
-    lagging.waits != 0
-}
-
-/// Whether some viewer's marks lack an entry.
-pub fn some_lags(viewers: &Clients<Lagging>) -> bool
-    ensures { result ≡ false → All IsCurrent (values_of viewers.now.pairs) }
+/// Whether some viewer's marks lack an entry. The walk ends at the first one's.
+pub fn some_lags(log: &[LogEntry], viewers: &Clients<Lagging>) -> bool
+    ensures { result ≡ false → All (IsCurrent log.now) (values_of viewers.now.pairs) }
 {
     let mut place = viewers.first();
     while let Some(at) = place {
-        if lags(viewers.at(at)) {
+        if lags(log, viewers.at(at)) {
             return true;
         }
         place = viewers.next(at);
     }
     false
+}
+
+/// Each viewer stands at the start of a log that is empty now.
+pub fn start_anew(viewers: &mut Clients<Lagging>)
+    ensures { viewers.new.pairs ≡ changed at_start viewers.old.pairs }
+{
+    let mut place = viewers.first();
+    while let Some(at) = place {
+        viewers.at_mut(at).taken = 0;
+        place = viewers.next(at);
+    }
 }
 
 /// The marks of a viewer that asks, once it is told of a drawing call.
@@ -94,26 +99,26 @@ pub fn marks_of_all(
     Ok(all)
 }
 
-/// A viewer is told of a drawing call: its marks, if it asks, are the last ones of the list; if not, it lacks one entry more.
+/// A viewer is told of a drawing call: its marks, if it asks, are the last ones of the list, and have taken the entry; if not, it
+/// lacks one entry more.
 fn tell_one(lagging: &mut Lagging, entry: &LogEntry, all: &mut Vec<Prepared>)
     requires asked { (m : Marks) → told_at_once entry.now lagging.old.viewer ≡ Some m → (rest : List Marks) × (all.old.items ≡ rest ++ m ∷ []) }
-    requires waits { lagging.old.waits < 256 }
+    requires taken { lagging.old.taken < 256 }
     ensures viewer { lagging.new ≡ told entry.now lagging.old }
     ensures rest { all.old.items ≡ all.new.items ++ cons_option (told_at_once entry.now lagging.old.viewer) [] }
 {
     if lagging.viewer.has_asked() {
         if let Some(marks) = all.pop() {
             lagging.viewer.commit(marks);
+            lagging.taken += 1;
         }
-    } else {
-        lagging.waits += 1;
     }
 }
 
-/// Each viewer is told of a drawing call. This takes no memory.
-pub fn tell_all(viewers: &mut Clients<Lagging>, entry: &LogEntry, mut all: Vec<Prepared>)
+// A walk that tells each viewer.
+fn tell_each(viewers: &mut Clients<Lagging>, entry: &LogEntry, mut all: Vec<Prepared>)
     requires marks { all.items ≡ filter_map (λ l. told_at_once entry.now l.viewer) (values_of viewers.old.pairs) }
-    requires waits { All (λ l. l.waits < 256) (values_of viewers.old.pairs) }
+    requires taken { All (λ l. l.taken < 256) (values_of viewers.old.pairs) }
     ensures { viewers.new.pairs ≡ changed (told entry.now) viewers.old.pairs }
 {
     all.reverse();
@@ -121,5 +126,16 @@ pub fn tell_all(viewers: &mut Clients<Lagging>, entry: &LogEntry, mut all: Vec<P
     while let Some(at) = place {
         tell_one(viewers.at_mut(at), entry, &mut all);
         place = viewers.next(at);
+    }
+}
+
+/// Each viewer is told of a drawing call. This takes no memory, and no walk where nobody asks.
+pub fn tell_all(viewers: &mut Clients<Lagging>, entry: &LogEntry, all: Vec<Prepared>)
+    requires marks { all.items ≡ filter_map (λ l. told_at_once entry.now l.viewer) (values_of viewers.old.pairs) }
+    requires taken { All (λ l. l.taken < 256) (values_of viewers.old.pairs) }
+    ensures { viewers.new.pairs ≡ changed (told entry.now) viewers.old.pairs }
+{
+    if !all.is_empty() {
+        tell_each(viewers, entry, all);
     }
 }

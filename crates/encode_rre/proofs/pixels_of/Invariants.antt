@@ -1,10 +1,8 @@
-use Rattle.std.proofs.Common.{◌≡◌, take, map}
+use Rattle.std.proofs.Common.{◌≡◌, ◌*◌, take, map}
 use Rattle.pixel_translate.specs.Pixel.{pixel}
+use Rattle.encode_rre.specs.Lines.{values_in}
 use Rattle.encode_rre.proofs.pixels_of.Given as goal
 
--- the colours passed are translated, and so is the last of them
-abbrev pub invariant-loop-colour : goal.invariant-loop-colour
-invariant-loop-colour l = record {
-  translated : l.pixels.items ≡ map (pixel l.table) (take l.colour-index l.colours);
-  again : l.pixel ≡ pixel l.table l.last;
-}
+-- the colours of the rows passed are translated
+abbrev pub invariant-loop-y : goal.invariant-loop-y
+invariant-loop-y l = l.pixels.items ≡ map (pixel l.table) (take (l.y * l.colours.width) (values_in l.colours))

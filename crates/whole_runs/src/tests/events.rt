@@ -396,9 +396,20 @@ fn mark_five(rt: &impl Abort, screen: &mut Screen) {
     }
 }
 
-/// The viewer asks for what changed, and is sent these five.
-fn expect_five(rt: &impl Abort, screen: &mut Screen, viewer: u64) {
+/// That is done sixty times.
+fn mark_often(rt: &impl Abort, screen: &mut Screen) {
+    for _ in 0..60u8 {
+        mark_five(rt, screen);
+    }
+}
+
+/// The viewer asks for what changed.
+fn ask_nine(rt: &impl Abort, screen: &mut Screen, viewer: u64) {
     again!(rt, screen.hear(viewer, &request(true, 0, 0, 9, 1)));
+}
+
+/// The viewer is sent these five.
+fn cut_five(rt: &impl Abort, screen: &mut Screen, viewer: u64) {
     let update = again!(rt, screen.cut(viewer)).expect(rt, "an update");
     let bytes = again!(rt, update.encode());
     assert_eq!(rt; bytes.as_slice(), FIVE_BLACK);
@@ -407,10 +418,26 @@ fn expect_five(rt: &impl Abort, screen: &mut Screen, viewer: u64) {
 #[test]
 fn many_marks_whichever_allocation_is_refused(rt: HostRuntime) {
     if let Ok(mut screen) = two_that_show_black(rt.alloc()) {
-        for _ in 0..60u8 {
-            mark_five(&rt, &mut screen);
-        }
-        expect_five(&rt, &mut screen, 1);
-        expect_five(&rt, &mut screen, 2);
+        mark_often(&rt, &mut screen);
+        assert_eq!(rt; screen.log_len(), 44);
+        ask_nine(&rt, &mut screen, 1);
+        cut_five(&rt, &mut screen, 1);
+        assert_eq!(rt; screen.log_len(), 44);
+        ask_nine(&rt, &mut screen, 2);
+        assert_eq!(rt; screen.log_len(), 0);
+        cut_five(&rt, &mut screen, 2);
+    }
+}
+
+#[test]
+fn many_marks_while_one_asks(rt: HostRuntime) {
+    if let Ok(mut screen) = two_that_show_black(rt.alloc()) {
+        ask_nine(&rt, &mut screen, 1);
+        mark_often(&rt, &mut screen);
+        assert_eq!(rt; screen.log_len(), 44);
+        cut_five(&rt, &mut screen, 1);
+        ask_nine(&rt, &mut screen, 2);
+        assert_eq!(rt; screen.log_len(), 0);
+        cut_five(&rt, &mut screen, 2);
     }
 }

@@ -3,13 +3,13 @@ use Rattle.std.proofs.Math.Nat.{mul_comm}
 use Rattle.std.proofs.Math.Seq.{take-length}
 use Rattle.encode_rre.specs.Counted.{count_in}
 use Rattle.encode_rre.specs.Subrectangles.{times}
-use Rattle.encode_rre.specs.Rows.{some_values}
 use Rattle.encode_rre.specs.Counts.{best_is, rows_alike}
+use Rattle.encode_rre.specs.Lines.{values_in, some_values}
 use Rattle.encode_rre.proofs.background.counted_background.Goals as goal
 
 pub loop-y-preserved : goal.loop-y-preserved
 loop-y-preserved c =
-    let ps : List ℕ = c.args.pixels.now.values.now in
+    let ps : List ℕ = values_in c.args.pixels.now in
     let n : ℕ = c.rows_like-rows.result in
     record {
       within = c.rows_like-rows.ensures.within;
@@ -22,7 +22,7 @@ loop-y-preserved c =
 
 pub returns : goal.returns
 returns c =
-    let ps : List ℕ = c.args.pixels.now.values.now in
+    let ps : List ℕ = values_in c.args.pixels.now in
     let last : c.loop-y.y ≡ c.args.pixels.now.height = omega (arith, c.loop-y.invariant.within) in
     let whole : c.loop-y.y * c.args.pixels.now.width ≡ length ps = ap (λ (k : ℕ). k * c.args.pixels.now.width) last ∙ mul_comm c.args.pixels.now.height c.args.pixels.now.width ∙ sym c.args.pixels.now.whole in
     best_is ps (count_in c.loop-y.counter) c.loop-y.counter.best c.loop-y.counter.most

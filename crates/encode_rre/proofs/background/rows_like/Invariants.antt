@@ -1,8 +1,8 @@
 use Rattle.std.proofs.Common.{◌≡◌, ℕ, ◌<◌, ◌≤◌}
-use Rattle.encode_rre.specs.Rows.{rows_in}
 use Rattle.encode_rre.specs.Subrectangles.{row_at}
+use Rattle.encode_rre.specs.Lines.{lines_in}
 use Rattle.encode_rre.proofs.background.rows_like.Given as goal
 
 -- the rows passed are like the first
 abbrev pub invariant-loop-y : goal.invariant-loop-y
-invariant-loop-y l = (k : ℕ) → l.top ≤ k → k < l.y → row_at (rows_in l.pixels) k ≡ row_at (rows_in l.pixels) l.top
+invariant-loop-y l = (k : ℕ) → l.top ≤ k → k < l.y → row_at (lines_in l.pixels) k ≡ row_at (lines_in l.pixels) l.top

@@ -1,19 +1,19 @@
-use Rattle.std.proofs.Common.{◌≡◌, ℕ, ◌+◌, ◌-◌, List, take, drop, arith, ap}
-use Rattle.std.proofs.lemmas.List.{length-drop, length-take-le}
-use Rattle.encode_rre.specs.Subrectangles.{times}
-use Rattle.encode_rre.specs.Counts.{times_more, times_few}
+use Rattle.std.proofs.Common.{◌≡◌, ◌+◌, ◌*◌, ℕ, List, arith, ap, ◌∙◌}
+use Rattle.encode_rre.specs.Subrectangles.{times, row_at}
+use Rattle.encode_rre.specs.Lines.{lines_in, values_in}
+use Rattle.encode_rre.specs.Counts.{rows_alike, times_few}
 use Rattle.encode_rre.proofs.background.times_until.Goals as goal
 
-pub loop-seen-preserved : goal.loop-seen-preserved
-loop-seen-preserved c =
-    let ps : List ℕ = c.args.pixels.now in
-    let s : ℕ = c.loop-seen.seen in
-    let n : ℕ = c.min-end.result - s in
-    let e : s + n ≡ c.min-end.result = omega (arith, c.min-end.ensures, c.loop-seen-test.true) in
-    let more = times_more ps c.args.pixel s n in
-    let there : times c.args.pixel (take (s + n) ps) ≡ times c.args.pixel (take c.min-end.result ps) = ap (λ (k : ℕ). times c.args.pixel (take k ps)) e in
+pub loop-y-preserved : goal.loop-y-preserved
+loop-y-preserved c =
+    let ps : List ℕ = values_in c.args.pixels.now in
+    let w : ℕ = c.args.pixels.now.width in
+    let one = rows_alike w c.args.pixels.now.height ps c.loop-y.y 1 c.args.pixel (omega arith) (λ k lt. ap (row_at (lines_in c.args.pixels.now)) (let e : c.loop-y.y + k ≡ c.loop-y.y = omega (arith, lt) in e)) in
+    let here : c.times-count.result ≡ times c.args.pixel (row_at (lines_in c.args.pixels.now) c.loop-y.y) = c.times-count.ensures ∙ ap (times c.args.pixel) c.row.ensures.row in
+    let few = times_few c.args.pixel c.row.result.now in
+    let next : (c.loop-y.y + 1) * w ≡ c.loop-y.y * w + w = omega arith in
     record {
-      within = omega (arith, c.min-end.ensures);
-      counted = omega (arith, c.loop-seen.invariant.counted, c.times-count.ensures, more, there);
-      small = omega (arith, c.loop-seen.invariant.small, c.times-count.ensures, times_few c.args.pixel (take n (drop s ps)), length-take-le n (drop s ps) (omega (arith, length-drop s ps, e, c.min-end.ensures)), e);
+      within = omega arith;
+      counted = omega (arith, c.loop-y.invariant.counted, here, one);
+      small = omega (arith, c.loop-y.invariant.small, c.times-count.ensures, few, c.row.ensures.len, next);
     }

@@ -1,10 +1,15 @@
-use Rattle.std.proofs.Common.{◌≡◌, ◌≤◌, ◌-◌, length, take}
+use Rattle.std.proofs.Common.{◌≡◌, ◌≤◌, ◌-◌, ◌*◌, take}
 use Rattle.encode_rre.specs.Subrectangles.{times}
+use Rattle.encode_rre.specs.Lines.{values_in}
 use Rattle.encode_rre.proofs.background.times_until.Given as goal
 
--- the pixels passed are counted
-abbrev pub invariant-loop-seen : goal.invariant-loop-seen
-invariant-loop-seen l = record { within : l.seen ≤ length l.pixels; counted : l.count ≡ times l.pixel (take l.seen l.pixels); small : l.count ≤ l.seen }
+-- the rows passed are counted
+abbrev pub invariant-loop-y : goal.invariant-loop-y
+invariant-loop-y l = record {
+  within : l.y ≤ l.pixels.height;
+  counted : l.count ≡ times l.pixel (take (l.y * l.pixels.width) (values_in l.pixels));
+  small : l.count ≤ l.y * l.pixels.width;
+}
 
-abbrev pub decreases-loop-seen : goal.decreases-loop-seen
-decreases-loop-seen l = length l.pixels - l.seen
+abbrev pub decreases-loop-y : goal.decreases-loop-y
+decreases-loop-y l = l.pixels.height - l.y

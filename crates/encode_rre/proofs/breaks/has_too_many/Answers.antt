@@ -1,9 +1,9 @@
 use Rattle.std.proofs.Common.{◌≡◌, ℕ, ◌+◌, ◌-◌, ◌*◌, ◌^◌, ◌≤◌, List, length, arith, ap, sym, subst, ◌∙◌}
 use Rattle.std.specs.List.{flat_map, range_with_len}
 use Rattle.std.proofs.Math.Nat.{mul-le-mul}
-use Rattle.encode_rre.specs.Rows.{rows_in}
 use Rattle.encode_rre.specs.Breaks.{breaks}
 use Rattle.encode_rre.specs.Subrectangles.{row_at, subrectangles_in}
+use Rattle.encode_rre.specs.Lines.{lines_in, values_in}
 use Rattle.encode_rre.proofs.Early.{breaks_small, rows_breaks, enough}
 use Rattle.encode_rre.specs.Scans.{rows_count, fewer_rows}
 use Rattle.encode_rre.proofs.breaks.has_too_many.Goals as goal
@@ -16,21 +16,21 @@ overflow_add-count c =
 
 pub returns-then-limit-y : goal.returns-then-limit-y
 returns-then-limit-y c t b =
-    let rows : List (List ℕ) = rows_in c.args.pixels.now in
+    let rows : List (List ℕ) = lines_in c.args.pixels.now in
     let row : c.row-row.result.now ≡ row_at rows c.loop-y.y = c.row-row.ensures.row in
     let wide : length (row_at rows c.loop-y.y) ≡ c.args.pixels.now.width = sym (ap (length {A = ℕ}) row) ∙ c.row-row.ensures.len in
     let found : c.breaks_in-count.result ≡ breaks (row_at rows c.loop-y.y) (row_at rows (c.loop-y.y - 1)) c.args.pixels.now.width =
     c.breaks_in-count.ensures ∙ ap (breaks c.row-row.result.now c.row.result.now) c.row-row.ensures.len
     ∙ ap (λ (r : List ℕ). breaks r c.row.result.now c.args.pixels.now.width) row ∙ ap (λ (r : List ℕ). breaks (row_at rows c.loop-y.y) r c.args.pixels.now.width) c.row.ensures.row in
     let more = rows_breaks b rows c.loop-y.y c.args.pixels.now.width c.loop-y.count c.breaks_in-count.result wide found (c.loop-y.invariant.certain b) in
-    let e : c.loop-y.y + 1 + (length rows - (c.loop-y.y + 1)) ≡ length rows = omega (arith, rows_count c.args.pixels.now.width c.args.pixels.now.height c.args.pixels.now.values.now) in
+    let e : c.loop-y.y + 1 + (length rows - (c.loop-y.y + 1)) ≡ length rows = omega (arith, rows_count c.args.pixels.now.width c.args.pixels.now.height (values_in c.args.pixels.now)) in
     let fewer = fewer_rows (subrectangles_in b rows) (c.loop-y.y + 1) (length rows - (c.loop-y.y + 1)) in
     enough c.args.limit ((c.loop-y.y + 1) * c.args.pixels.now.width) (c.loop-y.count + c.breaks_in-count.result) _ _ c.if-limit-y.true more
     (subst (λ (n : ℕ). length (flat_map (subrectangles_in b rows) (range_with_len 0 (c.loop-y.y + 1))) ≤ length (flat_map (subrectangles_in b rows) (range_with_len 0 n))) e fewer)
 
 pub loop-y-preserved : goal.loop-y-preserved
 loop-y-preserved c =
-    let rows : List (List ℕ) = rows_in c.args.pixels.now in
+    let rows : List (List ℕ) = lines_in c.args.pixels.now in
     let row : c.row-row.result.now ≡ row_at rows c.loop-y.y = c.row-row.ensures.row in
     let wide : length (row_at rows c.loop-y.y) ≡ c.args.pixels.now.width = sym (ap (length {A = ℕ}) row) ∙ c.row-row.ensures.len in
     let found : c.breaks_in-count.result ≡ breaks (row_at rows c.loop-y.y) (row_at rows (c.loop-y.y - 1)) c.args.pixels.now.width =

@@ -3,9 +3,9 @@ use Rattle.std.specs.List.{flat_map, range_with_len}
 use Rattle.std.proofs.lemmas.Bool.{ltb-true}
 use Rattle.std.proofs.Math.Nat.{mul-le-mul}
 use Rattle.std.proofs.lemmas.List.{get_or-replicate}
-use Rattle.encode_rre.specs.Rows.{rows_in}
 use Rattle.encode_rre.specs.Breaks.{breaks, breaks_like}
 use Rattle.encode_rre.specs.Subrectangles.{row_at, subrectangles_in}
+use Rattle.encode_rre.specs.Lines.{lines_in, values_in}
 use Rattle.encode_rre.proofs.Early.{breaks_small, like_small, rows_kinds}
 use Rattle.encode_rre.specs.Scans.{rows_count, fewer_rows}
 use Rattle.encode_rre.proofs.breaks.has_too_many_kinds.Goals as goal
@@ -28,7 +28,7 @@ overflow_add-count c =
 
 pub loop-y-preserved : goal.loop-y-preserved
 loop-y-preserved c =
-    let rows : List (List ℕ) = rows_in c.args.pixels.now in
+    let rows : List (List ℕ) = lines_in c.args.pixels.now in
     let row : c.row-row.result.now ≡ row_at rows c.loop-y.y = c.row-row.ensures.row in
     let above : c.row-above.result.now ≡ row_at rows (c.loop-y.y - 1) = c.row-above.ensures.row in
     let found : c.add_breaks-count.result ≡ breaks (row_at rows c.loop-y.y) (row_at rows (c.loop-y.y - 1)) (length (row_at rows c.loop-y.y)) =
@@ -58,9 +58,9 @@ loop-y-preserved c =
 
 pub returns : goal.returns
 returns c most b =
-    let rows : List (List ℕ) = rows_in c.args.pixels.now in
+    let rows : List (List ℕ) = lines_in c.args.pixels.now in
     let lt : b % 251 < 251 = omega arith in
-    let e : c.loop-y.y + (length rows - c.loop-y.y) ≡ length rows = omega (arith, rows_count c.args.pixels.now.width c.args.pixels.now.height c.args.pixels.now.values.now) in
+    let e : c.loop-y.y + (length rows - c.loop-y.y) ≡ length rows = omega (arith, rows_count c.args.pixels.now.width c.args.pixels.now.height (values_in c.args.pixels.now)) in
     let fewer = fewer_rows (subrectangles_in b rows) c.loop-y.y (length rows - c.loop-y.y) in
     let all = subst (λ (n : ℕ). length (flat_map (subrectangles_in b rows) (range_with_len 0 c.loop-y.y)) ≤ length (flat_map (subrectangles_in b rows) (range_with_len 0 n))) e fewer in
     omega (arith, all, c.loop-y.invariant.certain b, c.most_of.ensures (b % 251) lt, c.saturating_sub.ensures, ltb-true _ _ most)

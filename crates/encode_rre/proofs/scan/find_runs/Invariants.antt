@@ -1,5 +1,5 @@
-use Rattle.std.proofs.Common.{◌≡◌, ◌-◌, length, get_or}
-use Rattle.encode_rre.proofs.Starts.{Found}
+use Rattle.std.proofs.Common.{◌≡◌, ◌-◌, length}
+use Rattle.encode_rre.specs.Starts.{Found}
 use Rattle.encode_rre.proofs.scan.find_runs.Given as goal
 
 -- the runs that begin in the places passed are found
@@ -7,5 +7,7 @@ abbrev pub invariant-loop-x : goal.invariant-loop-x
 invariant-loop-x l = record {
   found : Found l.row l.starts l.count l.x;
   len : length l.starts ≡ length l.fn.starts;
-  last : l.before ≡ get_or l.row (l.x - 1) 0;
 }
+
+abbrev pub decreases-loop-x : goal.decreases-loop-x
+decreases-loop-x l = length l.row - l.x

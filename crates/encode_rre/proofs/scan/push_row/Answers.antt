@@ -1,15 +1,15 @@
 use Rattle.std.proofs.Common.{◌≡◌, ◌≤◌, ◌<◌, ◌++◌, ℕ, ◌+◌, ◌-◌, List, length, arith, sym, ap, ◌∙◌, get_or, subst, Vec, Global}
-use Rattle.encode_rre.specs.Rows.{rows_in}
 use Rattle.encode_rre.specs.Starts.{AreRuns}
 use Rattle.encode_rre.specs.Subrectangles.{row_at, stretch, begins_run}
 use Rattle.encode_rre.specs.declared.Subrectangle.{Subrectangle}
 use Rattle.encode_rre.specs.Scans.{Step, found_before, scan_step, found_yes, found_no}
+use Rattle.encode_rre.specs.Lines.{lines_in}
 use Rattle.encode_rre.proofs.scan.push_row.Goals as goal
 use Rattle.encode_rre.proofs.scan.push_row.Goals.{in-Some+in_ok-push, in_default}
 
 pub loop-k-preserved : goal.loop-k-preserved
 loop-k-preserved c =
-    let rows : List (List ℕ) = rows_in c.args.pixels.now in
+    let rows : List (List ℕ) = lines_in c.args.pixels.now in
     let row : c.row-row.result.now ≡ row_at rows c.args.y = c.row-row.ensures.row in
     let starts : List ℕ = c.find_runs-count.new.starts in
     let runs : AreRuns (row_at rows c.args.y) starts c.find_runs-count.result = subst (λ (r : List ℕ). AreRuns r starts c.find_runs-count.result) row c.find_runs-count.ensures.runs in

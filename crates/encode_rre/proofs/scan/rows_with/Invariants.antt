@@ -1,8 +1,8 @@
 use Rattle.std.proofs.Common.{◌≡◌, ℕ, ◌<◌, ◌≤◌, true}
-use Rattle.encode_rre.specs.Rows.{rows_in}
 use Rattle.encode_rre.specs.Subrectangles.{row_at, has_run}
+use Rattle.encode_rre.specs.Lines.{lines_in}
 use Rattle.encode_rre.proofs.scan.rows_with.Given as goal
 
 -- the rows passed have the run
 abbrev pub invariant-loop-y : goal.invariant-loop-y
-invariant-loop-y l = (k : ℕ) → l.top ≤ k → k < l.y → has_run l.run (row_at (rows_in l.pixels) k) ≡ true
+invariant-loop-y l = (k : ℕ) → l.top ≤ k → k < l.y → has_run l.run (row_at (lines_in l.pixels) k) ≡ true

@@ -8,9 +8,10 @@ use Rattle.client_list.specs.Connected.{changed}
 use Rattle.copy_schedule.specs.declared.LogEntry.{LogEntry}
 use Rattle.copy_schedule.specs.Log.{IsCutEntry}
 use Rattle.viewer_list.specs.declared.lagging.Lagging.{Lagging}
-use Rattle.viewer_list.specs.Lagging.{seen, Fits}
+use Rattle.viewer_list.specs.Lagging.{seen, told, AsksNothing, Fits}
 use Rattle.viewer_list.specs.Viewers.{Viewers, Drawn, told_at_once, drawn}
-use Rattle.viewer_list.proofs.ListLemmas.{cut-seen, told-seen, fit-told, seen-told}
+use Rattle.viewer_list.proofs.LagLemmas.{unasked_told_asks_nothing}
+use Rattle.viewer_list.proofs.ListLemmas.{all-changed, cut-seen, told-seen, fit-told, seen-told}
 use Rattle.viewer_list.proofs.ViewerList.append.Goals as goal
 
 pub tell_all-requires-clause-marks : goal.tell_all-requires-clause-marks
@@ -40,6 +41,7 @@ invariant_of-self c =
       each =
           subst (λ (es : List LogEntry). All (Fits es) (values_of c.tell_all.new.viewers.pairs)) (sym c.push_reserved.ensures.items)
           (subst (λ (ps : List (ℕ × Lagging)). All (Fits (log ++ e ∷ [])) (values_of ps)) (sym c.tell_all.ensures) (fit-told log e pairs c.self.invariant.each (cut-seen log e pairs cut)));
+      quiet = λ none. subst (λ (ps : List (ℕ × Lagging)). All AsksNothing (values_of ps)) (sym c.tell_all.ensures) (all-changed AsksNothing AsksNothing (told e) (unasked_told_asks_nothing e) pairs (c.self.invariant.quiet none));
     }
 
 pub returns : goal.returns

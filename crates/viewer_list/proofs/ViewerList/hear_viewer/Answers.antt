@@ -1,5 +1,6 @@
-use Rattle.std.proofs.Common.{◌≡◌, ◌∙◌, ◌++◌, sym, ap, subst, Some, List}
+use Rattle.std.proofs.Common.{◌≡◌, ◌∙◌, ◌++◌, sym, ap, subst, Some, List, All}
 use Rattle.std.specs.Prelude.{is_some}
+use Rattle.std.proofs.lemmas.Bool.{or_parts}
 use Rattle.std.proofs.lemmas.Option.{same_Some, none-some}
 use Rattle.std.proofs.lemmas.Result.{err_from_is_err_and}
 use Rattle.client_list.specs.Connected.{index_of_number}
@@ -8,8 +9,12 @@ use Rattle.messages.specs.Reading.{rest, new_items}
 use Rattle.viewer.specs.declared.Reply.{Reply}
 use Rattle.viewer.specs.Hearing.{after_items, heard_reply}
 use Rattle.viewer.specs.Viewer.{KeptViewer}
-use Rattle.viewer_list.specs.Lagging.{caught_up, Fits}
+use Rattle.viewer_list.specs.Lagging.{caught_up, AsksNothing, Fits}
+use Rattle.viewer_list.proofs.LagLemmas.{alike_asks_nothing}
 use Rattle.viewer_list.proofs.ListLemmas.{viewer-some, viewer-absent, viewer-set, viewer-same, size-set, all-numbered, all-set}
+use Rattle.viewer_list.specs.Viewers.{Viewers, IsOfSize}
+use Rattle.std.specs.Map.{values_of}
+use Rattle.viewer_list.proofs.SizeLemmas.{heard_size}
 use Rattle.viewer_list.proofs.ViewerList.hear_viewer.Goals as goal
 
 pub returns-in_default-clause-reply : goal.returns-in_default-clause-reply
@@ -25,12 +30,14 @@ pub invariant_of-self-in_err-reply : goal.invariant_of-self-in_err-reply
 invariant_of-self-in_err-reply c = record {
   short = c.self.invariant.short;
   each = all-set (Fits c.self.inside.log.items) c.self.inside.viewers.pairs (index_of_number c.self.inside.viewers c.args.number) c.hear_one.new.lagging c.self.invariant.each (subst (λ (es : List LogEntry). Fits es c.hear_one.new.lagging) c.deref.ensures.value c.hear_one.ensures.fits);
+  quiet = λ none. all-set AsksNothing c.self.inside.viewers.pairs (index_of_number c.self.inside.viewers c.args.number) c.hear_one.new.lagging (c.self.invariant.quiet none) (alike_asks_nothing c.self.inside.log.items c.hear_one.new.lagging c.in-Some.lagging.now (subst (λ (es : List LogEntry). caught_up es c.hear_one.new.lagging ≡ caught_up es c.in-Some.lagging.now) c.deref.ensures.value c.in_err-reply.ensures.err) (all-numbered AsksNothing c.self.inside.viewers.pairs c.args.number c.in-Some.lagging.now (c.self.invariant.quiet none) c.in-Some.ensures.value));
 }
 
 pub invariant_of-self-2 : goal.invariant_of-self-2
 invariant_of-self-2 c = record {
   short = c.self.invariant.short;
   each = all-set (Fits c.self.inside.log.items) c.self.inside.viewers.pairs (index_of_number c.self.inside.viewers c.args.number) c.hear_one.new.lagging c.self.invariant.each (subst (λ (es : List LogEntry). Fits es c.hear_one.new.lagging) c.deref.ensures.value c.hear_one.ensures.fits);
+  quiet = λ none. let parts = or_parts c.self.inside.some_may_ask c.has_asked.result none in all-set AsksNothing c.self.inside.viewers.pairs (index_of_number c.self.inside.viewers c.args.number) c.hear_one.new.lagging (c.self.invariant.quiet parts.0) (sym c.has_asked.ensures ∙ parts.1);
 }
 
 pub returns-in_err-reply-clause-absent : goal.returns-in_err-reply-clause-absent
@@ -73,12 +80,16 @@ returns-clause-found c = ap is_some (sym (viewer-some c.args.self.now c.self.ins
 
 pub returns-in_err-reply-clause-size : goal.returns-in_err-reply-clause-size
 returns-in_err-reply-clause-size c = λ w h sized.
-    let P : List LogEntry → Type 0 = λ es. ((caught_up es c.hear_one.new.lagging).marks.width ≡ (caught_up es c.in-Some.lagging.now).marks.width) × ((caught_up es c.hear_one.new.lagging).marks.height ≡ (caught_up es c.in-Some.lagging.now).marks.height) in
-    let same : P c.self.inside.log.items = subst P c.deref.ensures.value (c.hear_one.ensures.width, c.hear_one.ensures.height) in
-    size-set c.args.self.now c.self.inside.log.items c.self.inside.viewers.pairs _ c.args.number c.in-Some.lagging.now c.hear_one.new.lagging c.self.view_is c.in-Some.ensures.value same.0 same.1 w h sized
+    let log = c.self.inside.log.items in
+    let same : caught_up log c.hear_one.new.lagging ≡ caught_up log c.in-Some.lagging.now = subst (λ (es : List LogEntry). caught_up es c.hear_one.new.lagging ≡ caught_up es c.in-Some.lagging.now) c.deref.ensures.value c.in_err-reply.ensures.err in
+    size-set c.args.self.now log c.self.inside.viewers.pairs _ c.args.number c.in-Some.lagging.now c.hear_one.new.lagging c.self.view_is c.in-Some.ensures.value w h (subst (IsOfSize w h) (sym same)) sized
 
 pub returns-clause-size : goal.returns-clause-size
 returns-clause-size c = λ w h sized.
-    let P : List LogEntry → Type 0 = λ es. ((caught_up es c.hear_one.new.lagging).marks.width ≡ (caught_up es c.in-Some.lagging.now).marks.width) × ((caught_up es c.hear_one.new.lagging).marks.height ≡ (caught_up es c.in-Some.lagging.now).marks.height) in
-    let same : P c.self.inside.log.items = subst P c.deref.ensures.value (c.hear_one.ensures.width, c.hear_one.ensures.height) in
-    size-set c.args.self.now c.self.inside.log.items c.self.inside.viewers.pairs _ c.args.number c.in-Some.lagging.now c.hear_one.new.lagging c.self.view_is c.in-Some.ensures.value same.0 same.1 w h sized
+    let log = c.self.inside.log.items in
+    let P : List LogEntry → Type 0 = λ es. IsOfSize w h (caught_up es c.in-Some.lagging.now) → IsOfSize w h (caught_up es c.hear_one.new.lagging) in
+    let keeps : P log = subst P c.deref.ensures.value (heard_size w h c.args.piece.now (caught_up c.deref.result.now c.in-Some.lagging.now) (caught_up c.deref.result.now c.hear_one.new.lagging) c.in_ok-reply.ensures.viewer) in
+    size-set c.args.self.now log c.self.inside.viewers.pairs _ c.args.number c.in-Some.lagging.now c.hear_one.new.lagging c.self.view_is c.in-Some.ensures.value w h keeps sized
+
+pub returns-in_default-clause-size : goal.returns-in_default-clause-size
+returns-in_default-clause-size c = λ w h sized. subst (λ (s : Viewers). All (IsOfSize w h) (values_of s.pairs)) (sym c.self.view_is) sized

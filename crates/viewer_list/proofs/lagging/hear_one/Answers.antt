@@ -1,4 +1,4 @@
-use Rattle.std.proofs.Common.{◌≡◌, ◌∙◌, ◌++◌, ℕ, sym, ap, List, refl}
+use Rattle.std.proofs.Common.{◌≡◌, ◌∙◌, ◌++◌, ℕ, sym, ap, List, length, refl}
 use Rattle.copy_schedule.specs.declared.LogEntry.{LogEntry}
 use Rattle.messages.specs.Reading.{rest, new_items}
 use Rattle.viewer.specs.Hearing.{after_items, heard_reply}
@@ -26,7 +26,7 @@ returns-clause-viewer c = λ before h.
     let l : Lagging = c.args.lagging.now in
     let size = size-seen c.args.log.now l in
     let told : KeptViewer = record (viewer_told (waiting c.args.log.now l) l.viewer) { heard = rest (before ++ c.args.piece.now) } in
-    current_viewer c.args.log.now (record { viewer = c.hear_after.new.self; waits = 0 }) refl
+    current_viewer c.args.log.now (record { viewer = c.hear_after.new.self; taken = length c.args.log.now }) refl
     ∙ c.in_ok-reply.ensures.viewer before h
     ∙ ap (λ (es : List LogEntry). after_items l.viewer.marks.width l.viewer.marks.height (new_items before c.args.piece.now) (record (viewer_told es l.viewer) { heard = rest (before ++ c.args.piece.now) })) c.lacked-lacked.ensures
     ∙ ap (λ (w : ℕ). after_items w l.viewer.marks.height (new_items before c.args.piece.now) told) (sym size.0)
@@ -34,8 +34,8 @@ returns-clause-viewer c = λ before h.
 
 pub returns-clause-width : goal.returns-clause-width
 returns-clause-width c =
-    (size-seen c.args.log.now (record { viewer = c.hear_after.new.self; waits = 0 })).0 ∙ c.hear_after.ensures.width ∙ sym (size-seen c.args.log.now c.args.lagging.now).0
+    (size-seen c.args.log.now (record { viewer = c.hear_after.new.self; taken = length c.args.log.now })).0 ∙ c.hear_after.ensures.width ∙ sym (size-seen c.args.log.now c.args.lagging.now).0
 
 pub returns-clause-height : goal.returns-clause-height
 returns-clause-height c =
-    (size-seen c.args.log.now (record { viewer = c.hear_after.new.self; waits = 0 })).1 ∙ c.hear_after.ensures.height ∙ sym (size-seen c.args.log.now c.args.lagging.now).1
+    (size-seen c.args.log.now (record { viewer = c.hear_after.new.self; taken = length c.args.log.now })).1 ∙ c.hear_after.ensures.height ∙ sym (size-seen c.args.log.now c.args.lagging.now).1

@@ -9,7 +9,7 @@ use Rattle.viewer_list.proofs.walks.some_lags.Given as goal
 abbrev pub invariant-loop-place : goal.invariant-loop-place
 invariant-loop-place l = record {
   place : IfSome l.place (IsPlace l.viewers);
-  current : All IsCurrent (take (passed l.viewers l.place) (values_of l.viewers.pairs));
+  current : All (IsCurrent l.log) (take (passed l.viewers l.place) (values_of l.viewers.pairs));
 }
 
 abbrev pub decreases-loop-place : goal.decreases-loop-place

@@ -11,7 +11,7 @@ invariant_of-self c = record {
   accepted = c.self.invariant.accepted;
   width = c.self.invariant.width;
   height = c.self.invariant.height;
-  sized = rw c.ring.ensures (sized-changed c.self.inside.config (viewer_noticed notice.Bell) c.self.inside.viewers.pairs (λ s was. record { width = was.width; height = was.height }) c.self.invariant.sized);
+  sized = rw c.ring.ensures (sized-changed c.self.inside.config (viewer_noticed notice.Bell) c.self.inside.viewers.pairs (λ s was. record { width = was.width; height = was.height; whole = was.whole; heard = was.heard }) c.self.invariant.sized);
 }
 
 pub returns-clause-step : goal.returns-clause-step

@@ -47,3 +47,11 @@ returns-then-has-clause-refused c =
     let here = c.self.inside in
     let found = test-some (viewer_numbered here.viewers.pairs c.args.number) (sym c.has.ensures ∙ c.if-has.true) in
     rw (← c.self.view_is, ← found.1) refl
+
+pub invariant_of-self-2 : goal.invariant_of-self-2
+invariant_of-self-2 c = record {
+  accepted = c.self.invariant.accepted;
+  width = c.self.invariant.width;
+  height = c.self.invariant.height;
+  sized = c.let_in.ensures.sized c.self.invariant.sized;
+}

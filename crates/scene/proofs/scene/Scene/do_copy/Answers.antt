@@ -15,7 +15,7 @@ use Rattle.viewer.specs.Viewer.{KeptViewer}
 use Rattle.std.specs.Map.{values_of}
 use Rattle.scene.specs.Answers.{SceneState}
 use Rattle.scene.proofs.Framed.{moved-on, wide-now, high-now, cut-on, inside-on, long-on}
-use Rattle.scene.proofs.Drawn.{state-drawn, state-unseen, sized-told, told-all}
+use Rattle.scene.proofs.Drawn.{state-drawn, state-nobody, state-unseen, sized-told, told-all}
 use Rattle.scene.proofs.Copies.{nothing, something, viewer_still, viewer_moved, all-cut, within, alike}
 use Rattle.scene.proofs.scene.Scene.do_copy.Goals as goal
 
@@ -45,10 +45,16 @@ region_of-requires c =
     (inside-on here.config here.picture c.self.invariant.width c.self.invariant.height c.width-width.result c.height-height.result c.width-width.ensures.value c.height-height.ensures.value c.in_ok-pieces.pieces.items c.in_ok-pieces.ensures.inside)
 
 pub move_colours-requires-clause-inside : goal.move_colours-requires-clause-inside
-move_colours-requires-clause-inside c = alike c.width-width.result c.height-height.result c.self.inside.picture.width c.self.inside.picture.height (λ r. r) c.in_ok-pieces.pieces.items c.deref-3.result.now c.width-width.ensures.value c.height-height.ensures.value c.deref-3.ensures.value c.in_ok-pieces.ensures.inside
+move_colours-requires-clause-inside c = alike c.width-width.result c.height-height.result c.self.inside.picture.width c.self.inside.picture.height (λ r. r) c.in_ok-pieces.pieces.items c.deref-then-is_empty.result.now c.width-width.ensures.value c.height-height.ensures.value c.deref-then-is_empty.ensures.value c.in_ok-pieces.ensures.inside
 
 pub move_colours-requires-clause-sources : goal.move_colours-requires-clause-sources
-move_colours-requires-clause-sources c = alike c.width-width.result c.height-height.result c.self.inside.picture.width c.self.inside.picture.height (source_rect _) c.in_ok-pieces.pieces.items c.deref-3.result.now c.width-width.ensures.value c.height-height.ensures.value c.deref-3.ensures.value c.in_ok-pieces.ensures.sources
+move_colours-requires-clause-sources c = alike c.width-width.result c.height-height.result c.self.inside.picture.width c.self.inside.picture.height (source_rect _) c.in_ok-pieces.pieces.items c.deref-then-is_empty.result.now c.width-width.ensures.value c.height-height.ensures.value c.deref-then-is_empty.ensures.value c.in_ok-pieces.ensures.sources
+
+pub move_colours-requires-2-clause-inside : goal.move_colours-requires-2-clause-inside
+move_colours-requires-2-clause-inside c = alike c.width-width.result c.height-height.result c.self.inside.picture.width c.self.inside.picture.height (λ r. r) c.in_ok-pieces.pieces.items c.deref-3.result.now c.width-width.ensures.value c.height-height.ensures.value c.deref-3.ensures.value c.in_ok-pieces.ensures.inside
+
+pub move_colours-requires-2-clause-sources : goal.move_colours-requires-2-clause-sources
+move_colours-requires-2-clause-sources c = alike c.width-width.result c.height-height.result c.self.inside.picture.width c.self.inside.picture.height (source_rect _) c.in_ok-pieces.pieces.items c.deref-3.result.now c.width-width.ensures.value c.height-height.ensures.value c.deref-3.ensures.value c.in_ok-pieces.ensures.sources
 
 pub prepare-requires : goal.prepare-requires
 prepare-requires c =
@@ -71,8 +77,8 @@ invariant_of-self-2 c =
     let told = told-all _ (Copy c.in_ok-region.region c.args.dx c.args.dy) here.viewers.pairs _ _ c.commit.ensures entry c.prepare.ensures.same in
     record {
       accepted = c.self.invariant.accepted;
-      width = wide-now here.config here.picture c.self.invariant.width c.self.invariant.height c.move_colours.new.self _ c.in_ok-move_colours.ensures.ok;
-      height = high-now here.config here.picture c.self.invariant.width c.self.invariant.height c.move_colours.new.self _ c.in_ok-move_colours.ensures.ok;
+      width = wide-now here.config here.picture c.self.invariant.width c.self.invariant.height c.move_colours-2.new.self _ c.in_ok-move_colours-2.ensures.ok;
+      height = high-now here.config here.picture c.self.invariant.width c.self.invariant.height c.move_colours-2.new.self _ c.in_ok-move_colours-2.ensures.ok;
       sized = rw told (sized-told here.config (Copy c.in_ok-region.region c.args.dx c.args.dy) here.viewers.pairs c.self.invariant.sized);
     }
 
@@ -89,9 +95,21 @@ returns-clause-step c = λ config list h.
     let busy = something here.config.width here.config.height (union_of c.args.rects.now) (c.args.dx, c.args.dy) pieces places (inside-on here.config here.picture c.self.invariant.width c.self.invariant.height c.width-width.result c.height-height.result c.width-width.ensures.value c.height-height.ensures.value pieces c.in_ok-pieces.ensures.inside) (subst (λ (l : List Rect). (same_offset (c.args.dx, c.args.dy) (pos 0, pos 0) ≡ false) × (l ≢ [])) c.deref.ensures.value why) in
     let entry : c.in_ok-drawn.drawn.entry ≡ Copy c.in_ok-region.region c.args.dx c.args.dy = simp to_z-of_z at c.in_ok-drawn.ensures.entry in
     let told = told-all _ (Copy c.in_ok-region.region c.args.dx c.args.dy) here.viewers.pairs _ _ c.commit.ensures entry c.prepare.ensures.same in
-    let picture : c.move_colours.new.self.colours ≡ moved here.config.width here.config.height (cut_destination here.config.width here.config.height (union_of c.args.rects.now) (c.args.dx, c.args.dy)) (c.args.dx, c.args.dy) here.picture.colours =
-    moved-on here.config here.picture c.self.invariant.width c.self.invariant.height c.move_colours.new.self (covers c.deref-3.result.now) (c.args.dx, c.args.dy) (simp to_z-of_z at c.in_ok-move_colours.ensures.ok) ∙ ap (λ (f : ℤ → ℤ → Bool). moved here.config.width here.config.height f (c.args.dx, c.args.dy) here.picture.colours) (ap covers c.deref-3.ensures.value ∙ places) in
-    let after : List (ℕ × KeptViewer) → SceneState = λ l. record { config = here.config; picture = c.move_colours.new.self.colours; viewers = l } in
+    let picture : c.move_colours-2.new.self.colours ≡ moved here.config.width here.config.height (cut_destination here.config.width here.config.height (union_of c.args.rects.now) (c.args.dx, c.args.dy)) (c.args.dx, c.args.dy) here.picture.colours =
+    moved-on here.config here.picture c.self.invariant.width c.self.invariant.height c.move_colours-2.new.self (covers c.deref-3.result.now) (c.args.dx, c.args.dy) (simp to_z-of_z at c.in_ok-move_colours-2.ensures.ok) ∙ ap (λ (f : ℤ → ℤ → Bool). moved here.config.width here.config.height f (c.args.dx, c.args.dy) here.picture.colours) (ap covers c.deref-3.ensures.value ∙ places) in
+    let after : List (ℕ × KeptViewer) → SceneState = λ l. record { config = here.config; picture = c.move_colours-2.new.self.colours; viewers = l } in
     ap after told
-    ∙ state-drawn config here.config here.picture.colours c.move_colours.new.self.colours here.viewers.pairs (drawn (Copy c.in_ok-region.region c.args.dx c.args.dy)) (DoCopy c.args.rects.now c.args.dx c.args.dy) list refl refl picture
+    ∙ state-drawn config here.config here.picture.colours c.move_colours-2.new.self.colours here.viewers.pairs (drawn (Copy c.in_ok-region.region c.args.dx c.args.dy)) (DoCopy c.args.rects.now c.args.dx c.args.dy) list refl refl picture
     (λ s. viewer_moved here.config.width here.config.height (union_of c.args.rects.now) c.in_ok-region.region c.args.dx c.args.dy s region busy) (c.self.view_is ∙ h)
+
+pub returns-then-is_empty-clause-step : goal.returns-then-is_empty-clause-step
+returns-then-is_empty-clause-step c = λ config list h.
+    let here = c.self.inside in
+    let dx : FitsSigned w32 c.args.dx = c.ranges.dx in
+    let dy : FitsSigned w32 c.args.dy = c.ranges.dy in
+    let pieces : List Rect = c.in_ok-pieces.pieces.items in
+    let places : covers pieces ≡ cut_destination here.config.width here.config.height (union_of c.args.rects.now) (c.args.dx, c.args.dy) =
+    (simp to_z-of_z at c.in_ok-pieces.ensures.places) ∙ cut-on here.config here.picture c.self.invariant.width c.self.invariant.height c.width-width.result c.height-height.result c.width-width.ensures.value c.height-height.ensures.value (union_of c.args.rects.now) (c.args.dx, c.args.dy) in
+    let picture : c.move_colours.new.self.colours ≡ moved here.config.width here.config.height (cut_destination here.config.width here.config.height (union_of c.args.rects.now) (c.args.dx, c.args.dy)) (c.args.dx, c.args.dy) here.picture.colours =
+    moved-on here.config here.picture c.self.invariant.width c.self.invariant.height c.move_colours.new.self (covers c.deref-then-is_empty.result.now) (c.args.dx, c.args.dy) (simp to_z-of_z at c.in_ok-move_colours.ensures.ok) ∙ ap (λ (f : ℤ → ℤ → Bool). moved here.config.width here.config.height f (c.args.dx, c.args.dy) here.picture.colours) (ap covers c.deref-then-is_empty.ensures.value ∙ places) in
+    state-nobody config here.config here.picture.colours c.move_colours.new.self.colours here.viewers.pairs (DoCopy c.args.rects.now c.args.dx c.args.dy) list (c.is_empty.ensures.0 c.if-is_empty.true) refl refl picture (c.self.view_is ∙ h)

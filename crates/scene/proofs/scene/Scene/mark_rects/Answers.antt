@@ -3,6 +3,7 @@ use Rattle.scene.specs.declared.Event.TheVariants.{Mark}
 use Rattle.viewer.specs.Viewer.{KeptViewer, viewer_marked}
 use Rattle.scene.specs.Answers.{SceneState}
 use Rattle.framebuffer.specs.Picture.{union_of}
+use Rattle.viewer_list.proofs.SizeLemmas.{marked_size}
 use Rattle.scene.proofs.Drawn.{state-drawn, sized-changed}
 use Rattle.scene.proofs.scene.Scene.mark_rects.Goals as goal
 
@@ -11,7 +12,7 @@ invariant_of-self-2 c = record {
   accepted = c.self.invariant.accepted;
   width = c.self.invariant.width;
   height = c.self.invariant.height;
-  sized = rw c.in_ok-owe_rects.ensures.ok (sized-changed c.self.inside.config (viewer_marked (union_of c.args.rects.now)) c.self.inside.viewers.pairs (λ s was. record { width = was.width; height = was.height }) c.self.invariant.sized);
+  sized = rw c.in_ok-owe_rects.ensures.ok (sized-changed c.self.inside.config (viewer_marked (union_of c.args.rects.now)) c.self.inside.viewers.pairs (marked_size c.self.inside.config.width c.self.inside.config.height (union_of c.args.rects.now)) c.self.invariant.sized);
 }
 
 pub returns-clause-step : goal.returns-clause-step

@@ -1,12 +1,11 @@
 use Rattle.std.proofs.Common.{ℕ, sym, ap, ◌∙◌, List, refl}
 use Rattle.region.specs.Region.{covers}
 use Rattle.scene.specs.declared.Event.TheVariants.{Mark}
-use Rattle.copy_schedule.specs.declared.LogEntry.TheVariants as entry
 use Rattle.viewer.specs.Viewer.{KeptViewer, viewer_marked}
-use Rattle.viewer_list.specs.Viewers.{drawn}
+use Rattle.viewer_list.proofs.SizeLemmas.{marked_size}
 use Rattle.scene.specs.Answers.{SceneState}
 use Rattle.scene.proofs.Owing.{region-straight}
-use Rattle.scene.proofs.Drawn.{state-drawn, sized-told}
+use Rattle.scene.proofs.Drawn.{state-drawn, sized-changed}
 use Rattle.scene.proofs.scene.Scene.mark_region.Goals as goal
 
 pub invariant_of-self-2 : goal.invariant_of-self-2
@@ -14,13 +13,13 @@ invariant_of-self-2 c = record {
   accepted = c.self.invariant.accepted;
   width = c.self.invariant.width;
   height = c.self.invariant.height;
-  sized = rw c.in_ok-tell.ensures.ok (sized-told c.self.inside.config (entry.Mark c.in_ok-region.region) c.self.inside.viewers.pairs c.self.invariant.sized);
+  sized = rw c.in_ok-owe_region.ensures.ok (sized-changed c.self.inside.config (viewer_marked (covers c.args.region.now.list)) c.self.inside.viewers.pairs (marked_size c.self.inside.config.width c.self.inside.config.height (covers c.args.region.now.list)) c.self.invariant.sized);
 }
 
 pub returns-clause-step : goal.returns-clause-step
 returns-clause-step c = λ config list h.
     let here = c.self.inside in
     let after : List (ℕ × KeptViewer) → SceneState = λ pairs. record { config = here.config; picture = here.picture.colours; viewers = pairs } in
-    ap after c.in_ok-tell.ensures.ok
-    ∙ state-drawn config here.config here.picture.colours here.picture.colours here.viewers.pairs (drawn (entry.Mark c.in_ok-region.region)) (Mark c.args.region.now.list) list refl refl refl
-    (λ s. ap (λ set. viewer_marked set s) (ap covers c.in_ok-region.ensures ∙ sym (region-straight c.args.region.now.list c.list_is_canonical.ensures))) (c.self.view_is ∙ h)
+    ap after c.in_ok-owe_region.ensures.ok
+    ∙ state-drawn config here.config here.picture.colours here.picture.colours here.viewers.pairs (viewer_marked (covers c.args.region.now.list)) (Mark c.args.region.now.list) list refl refl refl
+    (λ s. ap (λ set. viewer_marked set s) (sym (region-straight c.args.region.now.list c.list_is_canonical.ensures))) (c.self.view_is ∙ h)

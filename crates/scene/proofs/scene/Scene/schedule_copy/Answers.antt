@@ -14,7 +14,7 @@ use Rattle.scene.specs.declared.Event.TheVariants.{ScheduleCopy}
 use Rattle.viewer.specs.Viewer.{KeptViewer}
 use Rattle.std.specs.Map.{values_of}
 use Rattle.scene.specs.Answers.{SceneState}
-use Rattle.scene.proofs.Drawn.{state-drawn, state-unseen, sized-told}
+use Rattle.scene.proofs.Drawn.{state-drawn, state-nobody, state-unseen, sized-told}
 use Rattle.scene.proofs.Copies.{nothing, something, viewer_still, viewer_moved, all-cut, within}
 use Rattle.scene.proofs.scene.Scene.schedule_copy.Goals as goal
 
@@ -72,3 +72,8 @@ returns-clause-step c = λ config list h.
     ap after told
     ∙ state-drawn config here.config here.picture.colours here.picture.colours here.viewers.pairs (drawn (Copy c.in_ok-region.region c.args.dx c.args.dy)) (ScheduleCopy c.args.rects.now c.args.dx c.args.dy) list refl refl refl
     (λ s. viewer_moved here.config.width here.config.height (union_of c.args.rects.now) c.in_ok-region.region c.args.dx c.args.dy s region busy) (c.self.view_is ∙ h)
+
+pub returns-then-is_empty-clause-step : goal.returns-then-is_empty-clause-step
+returns-then-is_empty-clause-step c = λ config list h.
+    let here = c.self.inside in
+    sym c.self.view_is ∙ state-nobody config here.config here.picture.colours here.picture.colours here.viewers.pairs (ScheduleCopy c.args.rects.now c.args.dx c.args.dy) list (c.is_empty.ensures.0 c.if-is_empty.true) refl refl refl (c.self.view_is ∙ h)

@@ -6,7 +6,7 @@ use Rattle.client_list.proofs.Walks.{IsWalk}
 use Rattle.viewer_list.specs.declared.lagging.Lagging.{Lagging}
 use Rattle.viewer_list.specs.Lagging.{told}
 use Rattle.viewer_list.specs.Viewers.{told_at_once}
-use Rattle.viewer_list.proofs.walks.tell_all.Given as goal
+use Rattle.viewer_list.proofs.walks.tell_each.Given as goal
 
 -- the viewers that were passed are told, and the marks of the others are left, the last one's first
 abbrev pub invariant-loop-place : goal.invariant-loop-place

@@ -1,0 +1,3 @@
+pub mod SetLemmas
+pub mod StripLemmas
+pub mod KeepLemmas

@@ -1,0 +1,35 @@
+-- Sets of places as bands of rows.
+use Rattle.std.specs.Prelude.{◌≡◌, ◌≢◌, Bool, ◌&&◌, List, [], ◌∷◌, ℤ, ◌<ℤ◌, ◌≤ℤ◌, int_lt, int_le}
+use Rattle.std.specs.List.{list_any, AllByRecursion}
+use Rattle.band_list.specs.declared.Rows.{Rows}
+use Rattle.band_list.specs.Bands.{Band, rows_of}
+use Rattle.row_walks.specs.Rows.{IsRow, row_has}
+
+-- whether y is among the rows
+abbrev pub in_rows : Rows → ℤ → Bool
+in_rows rows y = int_le rows.top y && int_lt y rows.bottom
+
+-- whether the place is in one of the bands
+abbrev pub has : List Band → ℤ → ℤ → Bool
+has bands x y = list_any (λ b. in_rows (rows_of b) y && row_has b.row x) bands
+
+-- a band has a row at least, and in it a row of maximal intervals, not empty
+pub record IsBand (b : Band) : Type 0 where
+  pub some : b.top <ℤ b.bottom
+  pub row : IsRow b.row
+  pub columns : b.row ≢ []
+
+-- the second band stands below the first, with another row where they touch
+pub record Follows (b c : Band) : Type 0 where
+  pub order : b.bottom ≤ℤ c.top
+  pub apart : b.bottom ≡ c.top → b.row ≢ c.row
+
+-- maximal bands, from the top
+abbrev pub AreBands : List Band → Type 0
+AreBands [] = Unit {0}
+AreBands (b ∷ []) = IsBand b
+AreBands (b ∷ c ∷ rest) = IsBand b × Follows b c × AreBands (c ∷ rest)
+
+-- each band ends at y or above it
+abbrev pub EndBy : ℤ → List Band → Type 0
+EndBy y bands = AllByRecursion (λ b. b.bottom ≤ℤ y) bands

@@ -1,0 +1,4 @@
+pub mod RowLemmas
+pub mod StepLemmas
+pub mod WalkLemmas
+pub mod MakeLemmas

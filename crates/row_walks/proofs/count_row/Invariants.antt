@@ -1,0 +1,10 @@
+use Rattle.std.specs.Prelude.{pos, ◌-ℤ◌}
+use borrow.Author.Differences.{up}
+use Rattle.row_walks.proofs.MakeLemmas.{Counted}
+use Rattle.row_walks.proofs.count_row.Given as goal
+
+abbrev pub invariant-loop-step : goal.invariant-loop-step
+invariant-loop-step l = Counted l.keep l.fn.first l.fn.second l.first l.second l.is_open l.x l.count
+
+abbrev pub decreases-loop-step : goal.decreases-loop-step
+decreases-loop-step l = up (pos 2147483648 -ℤ l.x)

@@ -1,0 +1,10 @@
+use Rattle.std.specs.Prelude.{pos, ◌-ℤ◌}
+use borrow.Author.Differences.{up}
+use Rattle.row_walks.proofs.MakeLemmas.{Made}
+use Rattle.row_walks.proofs.make_row.Given as goal
+
+abbrev pub invariant-loop-step : goal.invariant-loop-step
+invariant-loop-step l = Made l.keep l.fn.bands l.bands l.fn.other l.other l.is_open l.from l.x
+
+abbrev pub decreases-loop-step : goal.decreases-loop-step
+decreases-loop-step l = up (pos 2147483648 -ℤ l.x)

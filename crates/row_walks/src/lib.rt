@@ -1,0 +1,132 @@
+//! Rows of maximal intervals walked at once: what is kept of two rows is made or counted, and a row is copied.
+//!
+//! `steps` has one step of the walk.
+#![tactic(auto)]
+
+ghost use Rattle.std.specs.Prelude.{◌≡◌, ◌≤◌, ◌+◌, [], List, true, length, cond};
+ghost use Rattle.band_list.specs.declared.Interval.{Interval};
+ghost use Rattle.row_walks.specs.Rows.{IsRow, IsKept, kept};
+ghost use Rattle.row_walks.specs.Steps.{closed};
+
+mod steps;
+
+use band_list::{BandList, Interval, Reader};
+use steps::{next_step, rows_start, skip_ended, skip_ended_of};
+
+/// Which places of two sets are kept.
+#[derive(Clone, Copy, Debug, PartialEq, Eq)]
+pub enum Keep {
+    /// Those in either.
+    Either,
+    /// Those in both.
+    Both,
+    /// Those in the first and not in the second.
+    FirstAlone,
+}
+
+impl Keep {
+    /// Whether a place is kept.
+    pub fn keeps(self, in_first: bool, in_second: bool) -> bool
+        ensures { result ≡ kept self in_first in_second }
+    {
+        match self {
+            Keep::Either => in_first || in_second,
+            Keep::Both => in_first && in_second,
+            Keep::FirstAlone => in_first && !in_second,
+        }
+    }
+}
+
+// Puts the interval that was open behind the row in the making, if one was.
+fn close(bands: &mut BandList, is_open: bool, interval: Interval)
+    requires { is_open ≡ true → 1 ≤ bands.old.spare }
+    ensures spare { bands.old.spare ≤ bands.new.spare + cond is_open 1 0 }
+    ensures row { bands.new ≡ record bands.old { row = closed is_open interval bands.old.row; spare = bands.new.spare } }
+{
+    if is_open {
+        bands.push_interval(interval);
+    }
+}
+
+/// Makes the row in the making: the columns that are kept of what is left of the first band below the gap, and of what is
+/// left of the reader's first band. Both are read to their rows' ends.
+pub fn make_row(bands: &mut BandList, other: &mut Reader, keep: Keep)
+    requires empty { bands.old.row ≡ [] }
+    requires first_row { IsRow bands.old.left }
+    requires second_row { IsRow other.old.left }
+    requires room { (row : List Interval) → IsKept keep bands.old.left other.old.left row → length row ≤ bands.old.spare }
+    ensures kept { IsKept keep bands.old.left other.old.left bands.new.row }
+    ensures spare { bands.old.spare ≤ bands.new.spare + length bands.new.row }
+    ensures same { bands.new ≡ record bands.old { row = bands.new.row; left = []; spare = bands.new.spare } }
+    ensures read { other.new ≡ record other.old { left = [] } }
+{
+    let mut x = rows_start(bands.first_left(), other.first_left());
+    let mut from = x;
+    let mut is_open = false;
+    while let Some(step) = next_step(bands.first_left(), other.first_left(), x) {
+        let keeps = keep.keeps(step.in_first, step.in_second);
+        if keeps != is_open {
+            close(bands, is_open, Interval { from, to: x });
+            from = x;
+            is_open = keeps;
+        }
+        skip_ended(bands, step.edge);
+        skip_ended_of(other, step.edge);
+        x = step.edge;
+    }
+    let last = Interval { from, to: x };
+    close(bands, is_open, last);
+}
+
+/// How many intervals `make_row` would make of what is left of the two readers' first bands. Both are read to their rows'
+/// ends.
+pub fn count_row(first: &mut Reader, second: &mut Reader, keep: Keep) -> usize
+    requires first_row { IsRow first.old.left }
+    requires second_row { IsRow second.old.left }
+    ensures count { (row : List Interval) → IsKept keep first.old.left second.old.left row → result ≡ length row }
+    ensures first_read { first.new ≡ record first.old { left = [] } }
+    ensures second_read { second.new ≡ record second.old { left = [] } }
+{
+    let mut x = rows_start(first.first_left(), second.first_left());
+    let mut is_open = false;
+    let mut count = 0;
+    while let Some(step) = next_step(first.first_left(), second.first_left(), x) {
+        let keeps = keep.keeps(step.in_first, step.in_second);
+        // An interval counts where it ends.
+        if is_open && !keeps {
+            count += 1;
+        }
+        is_open = keeps;
+        skip_ended_of(first, step.edge);
+        skip_ended_of(second, step.edge);
+        x = step.edge;
+    }
+    if is_open { count + 1 } else { count }
+}
+
+/// Copies what is left of the first band below the gap into the row in the making, and reads it to its end.
+pub fn copy_left(bands: &mut BandList)
+    requires empty { bands.old.row ≡ [] }
+    requires room { length bands.old.left ≤ bands.old.spare }
+    ensures spare { bands.old.spare ≤ bands.new.spare + length bands.new.row }
+    ensures copied { bands.new ≡ record bands.old { row = bands.old.left; left = []; spare = bands.new.spare } }
+{
+    while let Some(interval) = bands.first_left() {
+        bands.skip_left();
+        bands.push_interval(interval);
+    }
+}
+
+/// Copies what is left of the reader's first band into the row in the making, and reads it to its end.
+pub fn copy_other(bands: &mut BandList, other: &mut Reader)
+    requires empty { bands.old.row ≡ [] }
+    requires room { length other.old.left ≤ bands.old.spare }
+    ensures spare { bands.old.spare ≤ bands.new.spare + length bands.new.row }
+    ensures copied { bands.new ≡ record bands.old { row = other.old.left; spare = bands.new.spare } }
+    ensures read { other.new ≡ record other.old { left = [] } }
+{
+    while let Some(interval) = other.first_left() {
+        other.skip_left();
+        bands.push_interval(interval);
+    }
+}

@@ -1,0 +1,95 @@
+//! One step of a walk over two rows.
+
+ghost use Rattle.std.specs.Prelude.{◌≡◌, int_le};
+ghost use Rattle.row_walks.specs.Steps.{edge_of, next_step, later, nearer, start_of};
+
+use band_list::{BandList, Interval, Reader};
+
+/// How far both rows are the same, and whether they have the columns up to there.
+#[derive(Clone, Copy, Debug)]
+pub(crate) struct Step {
+    pub edge: i32,
+    pub in_first: bool,
+    pub in_second: bool,
+}
+
+fn nearer(a: i32, b: i32) -> i32
+    ensures { result ≡ nearer a b }
+{
+    if a < b { a } else { b }
+}
+
+fn has_begun(interval: Interval, x: i32) -> bool
+    ensures { result ≡ int_le interval.from x }
+{
+    interval.from <= x
+}
+
+/// Where the interval begins, or where it ends if it has begun by x.
+fn edge_of(interval: Interval, x: i32) -> i32
+    ensures { result ≡ edge_of x interval }
+{
+    if interval.from <= x {
+        interval.to
+    } else {
+        interval.from
+    }
+}
+
+/// The step from x on, of two rows by their first intervals; `None` where both have ended.
+pub(crate) fn next_step(first: Option<Interval>, second: Option<Interval>, x: i32) -> Option<Step>
+    ensures { result ≡ next_step x first second }
+{
+    match (first, second) {
+        (Some(a), Some(b)) => Some(Step {
+            edge: nearer(edge_of(a, x), edge_of(b, x)),
+            in_first: has_begun(a, x),
+            in_second: has_begun(b, x),
+        }),
+        (Some(a), None) => Some(Step {
+            edge: edge_of(a, x),
+            in_first: has_begun(a, x),
+            in_second: false,
+        }),
+        (None, Some(b)) => Some(Step {
+            edge: edge_of(b, x),
+            in_first: false,
+            in_second: has_begun(b, x),
+        }),
+        (None, None) => None,
+    }
+}
+
+/// Where the first of two rows begins, by their first intervals; 0 where both have ended.
+pub(crate) fn rows_start(first: Option<Interval>, second: Option<Interval>) -> i32
+    ensures { result ≡ start_of first second }
+{
+    match (first, second) {
+        (Some(a), Some(b)) => nearer(a.from, b.from),
+        (Some(a), None) => a.from,
+        (None, Some(b)) => b.from,
+        (None, None) => 0,
+    }
+}
+
+/// Reads on past the first interval that is left, if it ends by the edge.
+pub(crate) fn skip_ended(bands: &mut BandList, edge: i32)
+    ensures { bands.new ≡ record bands.old { left = later edge bands.old.left } }
+{
+    if let Some(interval) = bands.first_left() {
+        if interval.to <= edge {
+            bands.skip_left();
+        }
+    }
+}
+
+/// Reads on past the first interval that is left, if it ends by the edge.
+pub(crate) fn skip_ended_of(reader: &mut Reader, edge: i32)
+    ensures { reader.new ≡ record reader.old { left = later edge reader.old.left } }
+{
+    if let Some(interval) = reader.first_left() {
+        if interval.to <= edge {
+            reader.skip_left();
+        }
+    }
+}
