@@ -8,3 +8,4 @@ pub mod CallLemmas
 pub mod AlikeLemmas
 pub mod RowLemmas
 pub mod ClearLemmas
+pub mod SeamLemmas

@@ -5,7 +5,7 @@
 //! `linked` has the changes of one list of spans of which the calls are made.
 #![tactic(auto)]
 
-ghost use Rattle.std.specs.Prelude.{◌≡◌, ◌≢◌, ◌≤◌, ◌+◌, ◌++◌, ◌∷◌, ◌↔◌, [], List, IsTrue, OnOk, slice_get, length};
+ghost use Rattle.std.specs.Prelude.{◌≡◌, ◌≢◌, ◌≤◌, ◌+◌, ◌++◌, ◌∷◌, ◌↔◌, [], List, IsTrue, OnOk, true, false, slice_get, length};
 ghost use Rattle.std.specs.Option.{option_map};
 ghost use Rattle.std.specs.List.{last_or};
 ghost use Rattle.band_list.specs.Bands.{Band, nothing, rows_of, row_of, band_with, first_row, nodes_in, reading};
@@ -351,6 +351,31 @@ impl BandList {
         same_intervals(&self.spans, list, lists.row)
     }
 
+    /// Whether the first band below the gap has the intervals of the last band above it; false where either is missing.
+    pub fn first_is_as_last(&self) -> bool
+        ensures yes { result ≡ true → (front : List Band) × (last : Band) × (first : Band) × (rest : List Band) × (self.now.above ≡ front ++ last ∷ []) × (self.now.below ≡ first ∷ rest) × (last.row ≡ first.row) }
+        ensures no { result ≡ false → (front : List Band) (last first : Band) (rest : List Band) → self.now.above ≡ front ++ last ∷ [] → self.now.below ≡ first ∷ rest → last.row ≢ first.row }
+    {
+        let Some(lists) = self.lists else {
+            return false;
+        };
+        let Some(above) = last_before(&self.spans, lists.bands, self.gap) else {
+            return false;
+        };
+        let Some(below) = self.gap else {
+            return false;
+        };
+        let last = self.spans.get(above);
+        let first = self.spans.get(below);
+        let Some(one) = last.sub else {
+            return false;
+        };
+        let Some(other) = first.sub else {
+            return false;
+        };
+        same_intervals(&self.spans, one, other)
+    }
+
     /// Frees all bands and the row in the making, and gives their room back. This takes no memory.
     pub fn clear(&mut self)
         ensures spare { self.old.spare + nodes_in self.old.above + nodes_in self.old.below + length self.old.row ≤ self.new.spare }
@@ -382,6 +407,7 @@ impl BandList {
 }
 
 /// Reads the bands of a list that isn't changed.
+#[derive(Drop)]
 pub struct Reader<'a> {
     spans: &'a Spans,
     // Whose bands are read, which only contracts ask.
@@ -422,6 +448,18 @@ impl<'a> Reader<'a> {
         let Some(at) = self.gap else { unreachable!() };
         self.gap = self.spans.next(at);
         self.left = first_under(self.spans, self.gap);
+    }
+
+    /// A second reader, at the same place.
+    pub fn again(&self) -> Reader<'a>
+        ensures { result ≡ self.now }
+    {
+        Reader {
+            spans: self.spans,
+            lists: self.lists,
+            gap: self.gap,
+            left: self.left,
+        }
     }
 
     /// The first interval that is left to read of the first band; `None` where none is left.

@@ -9,7 +9,7 @@ use Rattle.band_list.proofs.EachLemmas.{last_cases, last_or_last, last_same}
 use Rattle.std.proofs.lemmas.Int.{ints}
 use Rattle.band_list.specs.declared.Interval.{Interval}
 use Rattle.band_list.specs.declared.Rows.{Rows}
-use Rattle.band_list.specs.Bands.{Band, Bands, rows_of, row_of, band_with}
+use Rattle.band_list.specs.Bands.{Band, Bands, rows_of, row_of, band_with, nodes_in}
 use Rattle.row_walks.specs.Rows.{IsRow, row_has}
 use Rattle.band_walks.specs.Sets.{in_rows, has, IsBand, AreBands, EndBy}
 
@@ -28,6 +28,10 @@ in_band b x y = in_rows (rows_of b) y && row_has b.row x
 pub has-append : (bs : List Band) (q : Band) (x y : ℤ) → has (bs ++ q ∷ []) x y ≡ (has bs x y || in_band q x y)
 has-append [] q x y = or_false (in_band q x y)
 has-append (b ∷ bs) q x y = ap (λ t. in_band b x y || t) (has-append bs q x y) ∙ or_assoc (in_band b x y) (has bs x y) (in_band q x y)
+
+pub nodes_join : (above below : List Band) → nodes_in (above ++ below) ≡ nodes_in above + nodes_in below
+nodes_join [] below = omega arith
+nodes_join (b ∷ above) below = omega (arith, nodes_join above below)
 
 pub end_later : (y z : ℤ) (bs : List Band) → y ≤ℤ z → EndBy y bs → EndBy z bs
 end_later y z [] h e = tt
@@ -178,7 +182,7 @@ row_stretched bs new rows row front last h e some is touch same new_is =
 
 pub stretched_makes : (old mid new : Bands) (rows : Rows) (front : List Band) (last : Band) → AreBands old.above → EndBy rows.top old.above → rows.top <ℤ rows.bottom → old.above ≡ front ++ last ∷ [] → last.bottom ≡ rows.top → last.row ≡ old.row
     → mid ≡ record old { above = front ++ longer last rows.bottom ∷ [] } → mid.spare + length mid.row ≤ new.spare → new ≡ record mid { row = []; spare = new.spare }
-    → AreBands new.above × EndBy rows.bottom new.above × ((x y : ℤ) → has new.above x y ≡ (has old.above x y || (in_rows rows y && row_has old.row x))) × (new ≡ record old { above = new.above; row = []; spare = new.spare }) × (old.spare ≤ new.spare + 2)
+    → AreBands new.above × EndBy rows.bottom new.above × ((x y : ℤ) → has new.above x y ≡ (has old.above x y || (in_rows rows y && row_has old.row x))) × (new ≡ record old { above = new.above; row = []; spare = new.spare }) × (old.spare + nodes_in old.above + length old.row ≤ new.spare + nodes_in new.above)
 stretched_makes old mid new rows front last h e some is touch same mid_is spare new_is =
     let new_above : new.above ≡ front ++ longer last rows.bottom ∷ [] = ap (λ (u : Bands). u.above) new_is ∙ ap (λ (u : Bands). u.above) mid_is in
     let made = row_stretched old.above new.above rows old.row front last h e some is touch same new_above in
@@ -187,12 +191,12 @@ stretched_makes old mid new rows front last h e some is touch same mid_is spare 
       made.1,
       made.2,
       new_is ∙ ap (λ (u : Bands). record u { row = []; spare = new.spare }) mid_is ∙ ap (λ l. record old { above = l; row = []; spare = new.spare }) (sym new_above),
-      omega (arith, old_spare, spare),
+      omega (arith, old_spare, spare, ap (λ (u : Bands). length u.row) mid_is, ap nodes_in new_above, ap nodes_in is, nodes_join front (last ∷ []), nodes_join front (longer last rows.bottom ∷ [])),
     )
 
 pub put_makes : (old new : Bands) (rows : Rows) → AreBands old.above → EndBy rows.top old.above → rows.top <ℤ rows.bottom → IsRow old.row → old.row ≢ [] → Parts old.above (band_with rows old.row)
     → old.spare ≤ new.spare + 2 → new ≡ record old { above = old.above ++ band_with rows old.row ∷ []; row = []; spare = new.spare }
-    → AreBands new.above × EndBy rows.bottom new.above × ((x y : ℤ) → has new.above x y ≡ (has old.above x y || (in_rows rows y && row_has old.row x))) × (new ≡ record old { above = new.above; row = []; spare = new.spare }) × (old.spare ≤ new.spare + 2)
+    → AreBands new.above × EndBy rows.bottom new.above × ((x y : ℤ) → has new.above x y ≡ (has old.above x y || (in_rows rows y && row_has old.row x))) × (new ≡ record old { above = new.above; row = []; spare = new.spare }) × (old.spare + nodes_in old.above + length old.row ≤ new.spare + nodes_in new.above)
 put_makes old new rows h e some is_row columns parts spare new_is =
     let new_above : new.above ≡ old.above ++ band_with rows old.row ∷ [] = ap (λ (u : Bands). u.above) new_is in
     let made = row_put old.above rows old.row h e some is_row columns parts in (
@@ -200,7 +204,7 @@ put_makes old new rows h e some is_row columns parts spare new_is =
       subst (EndBy rows.bottom) (sym new_above) made.1,
       λ x y. ap (λ l. has l x y) new_above ∙ has-append old.above (band_with rows old.row) x y,
       new_is ∙ ap (λ l. record old { above = l; row = []; spare = new.spare }) (sym new_above),
-      spare,
+      omega (arith, spare, ap nodes_in new_above, nodes_join old.above (band_with rows old.row ∷ [])),
     )
 
 pub empty_row : (row : List Interval) (b : Bool) → IsTrue b ↔ (row ≡ []) → b ≡ true → row ≡ []

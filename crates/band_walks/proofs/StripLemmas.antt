@@ -1,15 +1,13 @@
 -- One step over two lists of bands: the edge up to which both are the same, and what is left below it.
-use Rattle.std.proofs.Common.{◌≡◌, ℕ, ◌+◌, ◌*◌, ◌≤◌, ◌<◌, Bool, true, false, cond, ◌&&◌, List, [], ◌∷◌, length, refl, sym, ◌∙◌, ap, subst, arith, Option, Some, None, ◌⊎◌, inl, inr}
-use Rattle.std.specs.Prelude.{ℤ, ◌<ℤ◌, ◌≤ℤ◌, int_lt, int_le, ◌||◌, slice_get}
-use Rattle.std.specs.Option.{option_map}
+use Rattle.std.proofs.Common.{◌≡◌, ℕ, ◌+◌, ◌*◌, ◌≤◌, ◌<◌, Bool, true, false, cond, ◌&&◌, List, [], ◌∷◌, length, refl, sym, ◌∙◌, ap, subst, arith, Some, None, ◌⊎◌, inl, inr}
+use Rattle.std.specs.Prelude.{ℤ, ◌<ℤ◌, ◌≤ℤ◌, int_lt, int_le, ◌||◌}
 use Rattle.std.proofs.lemmas.Int.{ints, by_lt_z}
 use Rattle.std.proofs.lemmas.Option.{same_Some}
-use Rattle.band_list.specs.declared.Rows.{Rows}
 use Rattle.band_list.specs.Bands.{Band, rows_of, first_row}
 use Rattle.row_walks.specs.Rows.{row_has}
 use Rattle.band_walks.specs.declared.strips.Strip.{Strip}
 use Rattle.band_walks.specs.Sets.{in_rows, has, IsBand, AreBands}
-use Rattle.band_walks.specs.Strips.{edge_of, nearer, next_strip, start_of, later, widest}
+use Rattle.band_walks.specs.Strips.{edge_of, nearer, next_strip, start_of, later, first_rows_of}
 
 pub first_band : (b : Band) (bs : List Band) → AreBands (b ∷ bs) → IsBand b
 first_band b [] h = h
@@ -87,10 +85,10 @@ pub record IsStrip (y : ℤ) (a b : List Band) (s : Strip) : Type 0 where
   pub edge_b : IsEdge y s.bottom s.in_second b
   pub own : OwnEdge y s.bottom a ⊎ OwnEdge y s.bottom b
 
-not_yet : (b : Band) (z : ℤ) → z <ℤ b.top → int_le b.top z ≡ false
+pub not_yet : (b : Band) (z : ℤ) → z <ℤ b.top → int_le b.top z ≡ false
 not_yet b z less = grind (arith, ints)
 
-has_begun : (b : Band) (z : ℤ) → b.top ≤ℤ z → int_le b.top z ≡ true
+pub has_begun : (b : Band) (z : ℤ) → b.top ≤ℤ z → int_le b.top z ≡ true
 has_begun b z more = grind (arith, ints)
 
 own_edge : (b : Band) (bs : List Band) (y : ℤ) → AreBands (b ∷ bs) → y <ℤ b.bottom → IsEdge y (edge_of y (rows_of b)) (int_le b.top y) (b ∷ bs)
@@ -130,9 +128,6 @@ nearer_is a b = by_lt_z a b (λ less. inl (first a b less, less)) (λ more. inr 
 
     second : (a b : ℤ) → b ≤ℤ a → nearer a b ≡ b
     second a b more = let e : int_lt a b ≡ false = grind (arith, ints) in ap (λ t. cond t a b) e
-
-abbrev pub first_rows_of : List Band → Option Rows
-first_rows_of bs = option_map rows_of (slice_get bs 0)
 
 pub strip_is : (y : ℤ) (a b : List Band) (s : Strip) → AreBands a → AreBands b → Ahead y a → Ahead y b → next_strip y (first_rows_of a) (first_rows_of b) ≡ Some s → IsStrip y a b s
 strip_is y [] [] s h k ahead ahead' e = absurd (cc)
@@ -208,7 +203,6 @@ pub record IsLater (edge : ℤ) (bs later : List Band) : Type 0 where
   pub same : (x z : ℤ) → edge ≤ℤ z → has later x z ≡ has bs x z
   pub at_most : (y : ℤ) → y ≤ℤ edge → edges_left edge later ≤ edges_left y bs
   pub less : (y : ℤ) → y <ℤ edge → OwnEdge y edge bs → edges_left edge later < edges_left y bs
-  pub wide : widest later ≤ widest bs
 
 some_test : (b : Bool) → 1 ≤ cond b 1 2
 some_test true = omega arith
@@ -238,7 +232,6 @@ gone edge b bs h reaches ended = record {
   same = λ x z low. sym (has_below b bs x z (omega (arith, ints, ended, low)));
   at_most = λ y low. omega (arith, edges_most edge bs);
   less = λ y low own. omega (arith, edges_most edge bs, some_test (int_le b.top y));
-  wide = omega arith;
 }
 
 stays : (edge : ℤ) (b : Band) (bs : List Band) → AreBands (b ∷ bs) → edge <ℤ b.bottom → IsLater edge (b ∷ bs) (b ∷ bs)
@@ -253,14 +246,13 @@ stays edge b bs h ahead = record {
       let e : int_le b.top edge ≡ true = has_begun b edge (omega (arith, ints, at)) in
       let f : int_le b.top y ≡ false = not_yet b y before in rw (e, f) (omega arith))
       (λ more. absurd (no edge b.bottom ahead (own ∙ ap (λ t. cond t b.bottom b.top) (has_begun b y more))));
-  wide = omega arith;
 }
   where
     no : (a b : ℤ) → a <ℤ b → a ≡ b → ⊥
     no a b less e = omega (arith, ints, less, e)
 
 pub later_is : (edge : ℤ) (bs : List Band) → AreBands bs → Reaches edge bs → IsLater edge bs (later edge bs)
-later_is edge [] h reaches = record { are_bands = tt; ahead = tt; same = λ x z low. refl; at_most = λ y low. omega arith; less = λ y low own. absurd own; wide = omega arith }
+later_is edge [] h reaches = record { are_bands = tt; ahead = tt; same = λ x z low. refl; at_most = λ y low. omega arith; less = λ y low own. absurd own }
 later_is edge (b ∷ bs) h reaches = by_lt_z edge b.bottom
     (λ less. let P : Bool → Type 0 = λ t. IsLater edge (b ∷ bs) (cond t bs (b ∷ bs)) in subst P (sym (after b edge less)) (stays edge b bs h less))
     (λ more. let P : Bool → Type 0 = λ t. IsLater edge (b ∷ bs) (cond t bs (b ∷ bs)) in subst P (sym (ended b edge more)) (gone edge b bs h reaches more))

@@ -1,9 +1,11 @@
 -- Sets of places as bands of rows.
-use Rattle.std.specs.Prelude.{◌≡◌, ◌≢◌, Bool, ◌&&◌, List, [], ◌∷◌, ℤ, ◌<ℤ◌, ◌≤ℤ◌, int_lt, int_le}
+use Rattle.std.specs.Prelude.{◌≡◌, ◌≢◌, ◌+◌, ℕ, Bool, ◌&&◌, List, [], ◌∷◌, length, ℤ, ◌<ℤ◌, ◌≤ℤ◌, int_lt, int_le}
 use Rattle.std.specs.List.{list_any, AllByRecursion}
+use Rattle.band_list.specs.declared.Interval.{Interval}
 use Rattle.band_list.specs.declared.Rows.{Rows}
 use Rattle.band_list.specs.Bands.{Band, rows_of}
-use Rattle.row_walks.specs.Rows.{IsRow, row_has}
+use Rattle.row_walks.specs.declared.Keep.{Keep}
+use Rattle.row_walks.specs.Rows.{IsRow, row_has, kept}
 
 -- whether y is among the rows
 abbrev pub in_rows : Rows → ℤ → Bool
@@ -33,3 +35,14 @@ AreBands (b ∷ c ∷ rest) = IsBand b × Follows b c × AreBands (c ∷ rest)
 -- each band ends at y or above it
 abbrev pub EndBy : ℤ → List Band → Type 0
 EndBy y bands = AllByRecursion (λ b. b.bottom ≤ℤ y) bands
+
+-- the bands have the places that are kept of two lists of bands
+pub record IsKept (keep : Keep) (a b bands : List Band) : Type 0 where
+  pub are_bands : AreBands bands
+  pub has : (x y : ℤ) → has bands x y ≡ kept keep (has a x y) (has b x y)
+
+-- the nodes that a row takes behind the row above it: none if it has no columns, or goes on that one
+pub record Counts (above row : List Interval) (nodes : ℕ) : Type 0 where
+  pub none : row ≡ [] → nodes ≡ 0
+  pub goes_on : row ≡ above → nodes ≡ 0
+  pub new : row ≢ [] → row ≢ above → nodes ≡ 2 + length row

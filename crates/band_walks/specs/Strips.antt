@@ -1,7 +1,11 @@
 -- One step of a walk over two lists of bands.
-use Rattle.std.specs.Prelude.{ℕ, max, length, false, cond, List, [], ◌∷◌, ℤ, pos, int_lt, int_le, Option, Some, None}
+use Rattle.std.specs.Prelude.{◌≡◌, ◌≢◌, Bool, true, false, ◌&&◌, cond, List, [], ◌∷◌, ◌++◌, ℤ, pos, int_lt, int_le, ◌≤ℤ◌, Option, Some, None, slice_get}
+use Rattle.std.specs.Option.{option_map}
+use Rattle.band_list.specs.declared.Interval.{Interval}
 use Rattle.band_list.specs.declared.Rows.{Rows}
-use Rattle.band_list.specs.Bands.{Band}
+use Rattle.band_list.specs.Bands.{Band, rows_of}
+use Rattle.row_walks.specs.declared.Keep.{Keep}
+use Rattle.row_walks.specs.Rows.{IsRow, row_has, kept}
 use Rattle.band_walks.specs.declared.strips.Strip.{Strip}
 
 -- where the rows begin, or where they end if they have begun by y
@@ -30,7 +34,22 @@ abbrev pub later : ℤ → List Band → List Band
 later edge [] = []
 later edge (b ∷ rest) = cond (int_le b.bottom edge) rest (b ∷ rest)
 
--- how many intervals the longest row has
-abbrev pub widest : List Band → ℕ
-widest [] = 0
-widest (b ∷ rest) = max (length b.row) (widest rest)
+abbrev pub first_rows_of : List Band → Option Rows
+first_rows_of bands = option_map rows_of (slice_get bands 0)
+
+-- the first band has these rows
+abbrev pub FirstIs : Rows → List Band → Type 0
+FirstIs rows bands = first_rows_of bands ≡ Some rows
+
+-- the row has the columns that are kept of a strip, which is in a band of row a, in one of row b, in both or in neither
+pub record IsStripRow (keep : Keep) (in_a in_b : Bool) (a b row : List Interval) : Type 0 where
+  pub is_row : IsRow row
+  pub has : (x : ℤ) → row_has row x ≡ kept keep (in_a && row_has a x) (in_b && row_has b x)
+
+-- from y on the bands below stay: there are no others, and the first is kept, whole, with another row than the last one above
+-- where they touch
+pub record Rests (keep : Keep) (y : ℤ) (above below others : List Band) : Type 0 where
+  pub over : others ≡ []
+  pub stays : (first : Band) (rest : List Band) → below ≡ first ∷ rest → kept keep true false ≡ true
+  pub whole : (first : Band) (rest : List Band) → below ≡ first ∷ rest → y ≤ℤ first.top
+  pub apart : (front : List Band) (last first : Band) (rest : List Band) → above ≡ front ++ last ∷ [] → below ≡ first ∷ rest → last.bottom ≡ first.top → last.row ≢ first.row

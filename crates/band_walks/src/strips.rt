@@ -1,10 +1,11 @@
 //! One step of a walk over two lists of bands.
 
-ghost use Rattle.std.specs.Prelude.{◌≡◌, ◌≤◌, int_le};
-ghost use Rattle.band_list.specs.Bands.{first_row, reading};
+ghost use Rattle.std.specs.Prelude.{◌≡◌, ◌≤◌, ◌+◌, [], cond, int_le};
+ghost use Rattle.band_list.specs.Bands.{first_row, nodes_in, reading};
 ghost use Rattle.band_walks.specs.Strips.{edge_of, nearer, next_strip, start_of, later};
 
 use band_list::{BandList, Reader, Rows};
+use row_walks::skip_row;
 
 /// How far down both lists are the same, and whether they have rows up to there.
 #[derive(Clone, Copy, Debug)]
@@ -72,7 +73,7 @@ pub(crate) fn bands_start(first: Option<Rows>, second: Option<Rows>) -> i32
 /// Takes the first band below the gap out, if it ends by the edge.
 pub(crate) fn drop_ended(bands: &mut BandList, edge: i32)
     requires { bands.old.left ≡ first_row bands.old.below }
-    ensures spare { bands.old.spare ≤ bands.new.spare }
+    ensures spare { bands.old.spare + nodes_in bands.old.below ≤ bands.new.spare + nodes_in bands.new.below }
     ensures ended { bands.new ≡ record bands.old { left = first_row (later edge bands.old.below); below = later edge bands.old.below; spare = bands.new.spare } }
 {
     if let Some(rows) = bands.first_rows() {
@@ -92,4 +93,21 @@ pub(crate) fn pass_ended(reader: &mut Reader, edge: i32)
             reader.advance();
         }
     }
+}
+
+/// Leaves what is left of the reader's first band to be read where that band is in a strip, and nothing of it elsewhere.
+pub(crate) fn enter_strip(reader: &mut Reader, is_in: bool)
+    ensures { reader.new ≡ record reader.old { left = cond is_in reader.old.left [] } }
+{
+    if !is_in {
+        skip_row(reader);
+    }
+}
+
+/// Reads the first band from its first interval again, or on past that band if it ends by the edge.
+pub(crate) fn leave_strip(reader: &mut Reader, edge: i32)
+    ensures { reader.new ≡ reading (later edge reader.old.bands) }
+{
+    reader.reread();
+    pass_ended(reader, edge);
 }

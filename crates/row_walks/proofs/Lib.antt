@@ -2,3 +2,4 @@ pub mod RowLemmas
 pub mod StepLemmas
 pub mod WalkLemmas
 pub mod MakeLemmas
+pub mod SameLemmas

@@ -1,5 +1,5 @@
 -- What the loops over rows have made, counted and copied so far.
-use Rattle.std.proofs.Common.{◌≡◌, ◌≢◌, ℕ, ◌+◌, ◌≤◌, ◌<◌, Bool, true, false, cond, List, [], ◌∷◌, ◌++◌, length, refl, sym, ◌∙◌, ap, subst, arith, Option, Some, None}
+use Rattle.std.proofs.Common.{◌≡◌, ◌≢◌, ℕ, ◌+◌, ◌*◌, ◌≤◌, ◌<◌, Bool, true, false, cond, List, [], ◌∷◌, ◌++◌, length, refl, sym, ◌∙◌, ap, subst, arith, Option, Some, None, is_some}
 use borrow.Author.Differences.{up, down}
 use Rattle.std.specs.Prelude.{ℤ, pos, negsuc, ◌+ℤ◌, ◌-ℤ◌, ◌<ℤ◌, ◌≤ℤ◌, slice_get, not, ◌&&◌}
 use Rattle.std.proofs.lemmas.Int.{ints}
@@ -119,6 +119,22 @@ module _ (k : Keep) (old now : Bands) (other left : Reading) (on : Bool) (from x
 
 -- ---- the count
 
+stay_few : (keeps on : Bool) (from x e : ℤ) (n m : ℕ) → keeps ≡ on → x <ℤ e → m ≤ n → pos (2 * n) ≤ℤ (cond on from x +ℤ pos 2147483648) → pos (2 * m) ≤ℤ (cond keeps from e +ℤ pos 2147483648)
+stay_few true true from x e n m same after is few = omega (arith, ints, is, few)
+stay_few false false from x e n m same after is few = omega (arith, ints, after, is, few)
+stay_few true false from x e n m same after is few = absurd (let clash : true ≡ false = same in cc)
+stay_few false true from x e n m same after is few = absurd (let clash : false ≡ true = same in cc)
+
+turn_few : (keeps on : Bool) (from x e : ℤ) (n m : ℕ) → keeps ≢ on → x <ℤ e → (on ≡ true → from <ℤ x) → m ≤ n + cond on 1 0 → pos (2 * n) ≤ℤ (cond on from x +ℤ pos 2147483648) → pos (2 * m) ≤ℤ (cond keeps x e +ℤ pos 2147483648)
+turn_few true true from x e n m other after some is few = absurd (other refl)
+turn_few false false from x e n m other after some is few = absurd (other refl)
+turn_few true false from x e n m other after some is few = omega (arith, ints, is, few)
+turn_few false true from x e n m other after some is few = let open_before : from <ℤ x = some refl in omega (arith, ints, open_before, after, is, few)
+
+end_few : (on : Bool) (from x : ℤ) (n m : ℕ) → (on ≡ true → from <ℤ x) → x ≤ℤ pos 2147483647 → m ≡ n + cond on 1 0 → pos (2 * n) ≤ℤ (cond on from x +ℤ pos 2147483648) → m ≤ 2147483648
+end_few true from x n m some room is few = let open_before : from <ℤ x = some refl in omega (arith, ints, open_before, room, is, few)
+end_few false from x n m some room is few = omega (arith, ints, room, is, few)
+
 pub record Counted (k : Keep) (a b left right : Reading) (on : Bool) (x : ℤ) (count : ℕ) : Type 0 where
   pub row : List Interval
   pub from : ℤ
@@ -126,6 +142,8 @@ pub record Counted (k : Keep) (a b left right : Reading) (on : Bool) (x : ℤ) (
   pub is : count ≡ length row
   -- each interval that counts has a column before x
   pub few : pos count ≤ℤ (x +ℤ pos 2147483648)
+  -- and with the column behind it two
+  pub fewer : pos (2 * count) ≤ℤ (cond on from x +ℤ pos 2147483648)
   pub left_is : left ≡ record a { left = left.left }
   pub right_is : right ≡ record b { left = right.left }
 
@@ -139,6 +157,7 @@ counted_begins k a b x count row_a row_b is low none =
       state = subst P (sym is) (row_begins k a.left b.left (start_of (slice_get a.left 0) (slice_get b.left 0)) row_a row_b start.0 start.1);
       is = none;
       few = omega (arith, ints, low, none);
+      fewer = omega (arith, ints, low, none);
       left_is = refl;
       right_is = refl;
     }
@@ -170,6 +189,7 @@ module _ (k : Keep) (a b left right : Reading) (on : Bool) (x : ℤ) (count : �
             (stepped_on k a.left b.left counted.row on counted.from x left.left right.left counted.state s step same);
         is = omega (arith, n_is, counted.is, none (kept k s.in_first s.in_second) on same);
         few = let after : x <ℤ s.edge = step.edge_a.after in omega (arith, ints, n_is, counted.few, none (kept k s.in_first s.in_second) on same);
+        fewer = stay_few (kept k s.in_first s.in_second) on counted.from x s.edge count n' same step.edge_a.after (omega (arith, n_is, none (kept k s.in_first s.in_second) on same)) counted.fewer;
         left_is = ap (λ (u : Reading). record u { left = later s.edge left.left }) counted.left_is;
         right_is = ap (λ (u : Reading). record u { left = later s.edge right.left }) counted.right_is;
       })
@@ -179,6 +199,7 @@ module _ (k : Keep) (a b left right : Reading) (on : Bool) (x : ℤ) (count : �
         state = stepped_turn k a.left b.left counted.row on counted.from x left.left right.left counted.state s step other;
         is = omega (arith, n_is, counted.is, some (kept k s.in_first s.in_second) on other, length-closed on (span counted.from x) counted.row);
         few = let after : x <ℤ s.edge = step.edge_a.after in omega (arith, ints, n_is, counted.few, some (kept k s.in_first s.in_second) on other, most on);
+        fewer = turn_few (kept k s.in_first s.in_second) on counted.from x s.edge count n' other step.edge_a.after (λ is_on. (counted.state.ends_on is_on).0) (omega (arith, n_is, some (kept k s.in_first s.in_second) on other)) counted.fewer;
         left_is = ap (λ (u : Reading). record u { left = later s.edge left.left }) counted.left_is;
         right_is = ap (λ (u : Reading). record u { left = later s.edge right.left }) counted.right_is;
       }))
@@ -212,6 +233,9 @@ module _ (k : Keep) (a b left right : Reading) (on : Bool) (x : ℤ) (count : �
         counted.left_is ∙ ap (λ l. record a { left = l }) ends.0,
         counted.right_is ∙ ap (λ l. record b { left = l }) ends.1,
       )
+
+pub counted_few : (k : Keep) (a b left right : Reading) (on : Bool) (x : ℤ) (count : ℕ) → Counted k a b left right on x count → x ≤ℤ pos 2147483647 → (n : ℕ) → n ≡ count + cond on 1 0 → n ≤ 2147483648
+counted_few k a b left right on x count counted room n is = end_few on counted.from x count n (λ is_on. (counted.state.ends_on is_on).0) room is counted.fewer
 
 pub goes_on : (on keeps : Bool) → keeps ≡ true → (on && not keeps) ≡ false
 goes_on true keeps e = ap not e
@@ -334,3 +358,25 @@ module _ (old now : Bands) (copied : Copied old now) where
       let none : now.left ≡ [] = none_there now.left first e f in
       let row_is : now.row ≡ old.left = sym (append-nil now.row) ∙ ap (λ l. now.row ++ l) (sym none) ∙ copied.all in
       copied.same ∙ ap (λ l. record old { row = l; left = now.left; spare = now.spare }) row_is ∙ ap (λ l. record old { row = old.left; left = l; spare = now.spare }) none
+
+-- ---- the row that is passed
+
+pub skip_more : (old now next : Reading) (first : Option Interval) (b : Bool) → now ≡ record old { left = now.left } → first ≡ slice_get now.left 0 → b ≡ is_some first → b ≡ true → ((x : Interval) (rest : List Interval) → now.left ≡ x ∷ rest → next ≡ record now { left = rest })
+    → (next ≡ record old { left = next.left }) × (length next.left < length now.left)
+skip_more old now next first b same e f g skipped = go now.left refl
+  where
+    go : (l : List Interval) → now.left ≡ l → (next ≡ record old { left = next.left }) × (length next.left < length now.left)
+    go [] is = absurd (let clash : true ≡ false = sym g ∙ f ∙ ap is_some (e ∙ ap (λ l. slice_get l 0) is) in cc)
+    go (x ∷ rest) is =
+        let made = skipped x rest is in
+        let left : next.left ≡ rest = ap (λ (u : Reading). u.left) made in (
+          made ∙ ap (λ (u : Reading). record u { left = rest }) same ∙ ap (λ l. record old { left = l }) (sym left),
+          omega (arith, ap length left, ap length is),
+        )
+
+pub skip_done : (old now : Reading) (first : Option Interval) (b : Bool) → now ≡ record old { left = now.left } → first ≡ slice_get now.left 0 → b ≡ is_some first → b ≡ false → now ≡ record old { left = [] }
+skip_done old now first b same e f g = same ∙ ap (λ l. record old { left = l }) (go now.left refl)
+  where
+    go : (l : List Interval) → now.left ≡ l → l ≡ []
+    go [] is = refl
+    go (x ∷ rest) is = absurd (let clash : true ≡ false = sym (sym g ∙ f ∙ ap is_some (e ∙ ap (λ l. slice_get l 0) is)) in cc)

@@ -57,11 +57,11 @@ own_edge r rs x h ahead = by_lt_z x r.from
       flat = λ z low high. has_inside r rs z (omega (arith, ints)) high ∙ sym (has_inside r rs x more ahead);
     }))
 
-no_edge : (x e : ℤ) → x <ℤ e → IsEdge x e []
+pub no_edge : (x e : ℤ) → x <ℤ e → IsEdge x e []
 no_edge x e h = record { after = h; reaches = tt; flat = λ z low high. refl }
 
 -- an edge before another is one too
-nearer_edge : (rs : List Interval) (x e a : ℤ) → IsEdge x e rs → x <ℤ a → a ≤ℤ e → IsEdge x a rs
+pub nearer_edge : (rs : List Interval) (x e a : ℤ) → IsEdge x e rs → x <ℤ a → a ≤ℤ e → IsEdge x a rs
 nearer_edge rs x e a h after near = record {
   after = after;
   reaches = go rs h.reaches;
@@ -72,7 +72,7 @@ nearer_edge rs x e a h after near = record {
     go [] r = tt
     go (q ∷ qs) r = omega (arith, ints, r, near)
 
-nearer_is : (a b : ℤ) → ((nearer a b ≡ a) × (a <ℤ b)) ⊎ ((nearer a b ≡ b) × (b ≤ℤ a))
+pub nearer_is : (a b : ℤ) → ((nearer a b ≡ a) × (a <ℤ b)) ⊎ ((nearer a b ≡ b) × (b ≤ℤ a))
 nearer_is a b = by_lt_z a b (λ less. inl (first a b less, less)) (λ more. inr (second a b more, more))
   where
     first : (a b : ℤ) → a <ℤ b → nearer a b ≡ a
@@ -135,7 +135,7 @@ pub record IsStart (n : ℤ) (rs : List Interval) : Type 0 where
 start_of_row : (r : Interval) (rs : List Interval) → IsRow (r ∷ rs) → IsStart r.from (r ∷ rs)
 start_of_row r rs h = record { ahead = some_first r rs h; before = λ z less. none_before r rs z h less }
 
-earlier_start : (rs : List Interval) (n m : ℤ) → IsStart n rs → m ≤ℤ n → IsStart m rs
+pub earlier_start : (rs : List Interval) (n m : ℤ) → IsStart n rs → m ≤ℤ n → IsStart m rs
 earlier_start rs n m h less = record { ahead = go rs h.ahead; before = λ z below. h.before z (omega (arith, ints)) }
   where
     go : (rs : List Interval) → Ahead n rs → Ahead m rs

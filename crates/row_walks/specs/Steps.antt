@@ -1,7 +1,11 @@
 -- One step of a walk over two rows.
-use Rattle.std.specs.Prelude.{Bool, true, false, cond, List, [], ◌∷◌, ◌++◌, ℤ, pos, int_lt, int_le, Option, Some, None}
+use Rattle.std.specs.Prelude.{Bool, true, false, not, cond, List, [], ◌∷◌, ◌++◌, ℤ, pos, int_lt, int_le, Option, Some, None}
+use mathlib.Core.Bool.{beq}
 use Rattle.band_list.specs.declared.Interval.{Interval}
+use Rattle.row_walks.specs.declared.Keep.{Keep}
 use Rattle.row_walks.specs.declared.steps.Step.{Step}
+use Rattle.row_walks.specs.declared.steps.Common.{Common}
+use Rattle.row_walks.specs.Rows.{kept}
 
 -- where the interval begins, or where it ends if it has begun by x
 abbrev pub edge_of : ℤ → Interval → ℤ
@@ -33,3 +37,10 @@ later edge (i ∷ rest) = cond (int_le i.to edge) rest (i ∷ rest)
 abbrev pub closed : Bool → Interval → List Interval → List Interval
 closed true i row = row ++ i ∷ []
 closed false i row = row
+
+-- the step from x on of two pairs of rows, by each pair's step: how far all four are the same, and whether the pairs agree there
+abbrev pub common_step : Keep → Option Step → Option Step → Option Common
+common_step keep None None = None
+common_step keep (Some s) None = Some (record { edge = s.edge; agrees = not (kept keep s.in_first s.in_second) })
+common_step keep None (Some t) = Some (record { edge = t.edge; agrees = not (kept keep t.in_first t.in_second) })
+common_step keep (Some s) (Some t) = Some (record { edge = nearer s.edge t.edge; agrees = beq (kept keep s.in_first s.in_second) (kept keep t.in_first t.in_second) })

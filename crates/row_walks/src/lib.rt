@@ -3,15 +3,15 @@
 //! `steps` has one step of the walk.
 #![tactic(auto)]
 
-ghost use Rattle.std.specs.Prelude.{◌≡◌, ◌≤◌, ◌+◌, [], List, true, length, cond};
+ghost use Rattle.std.specs.Prelude.{◌≡◌, ◌≢◌, ◌≤◌, ◌+◌, [], List, true, false, length, cond, ℤ};
 ghost use Rattle.band_list.specs.declared.Interval.{Interval};
-ghost use Rattle.row_walks.specs.Rows.{IsRow, IsKept, kept};
+ghost use Rattle.row_walks.specs.Rows.{IsRow, IsKept, row_has, kept};
 ghost use Rattle.row_walks.specs.Steps.{closed};
 
 mod steps;
 
 use band_list::{BandList, Interval, Reader};
-use steps::{next_step, rows_start, skip_ended, skip_ended_of};
+use steps::{common_step, nearer, next_step, rows_start, skip_ended, skip_ended_of};
 
 /// Which places of two sets are kept.
 #[derive(Clone, Copy, Debug, PartialEq, Eq)]
@@ -84,6 +84,7 @@ pub fn count_row(first: &mut Reader, second: &mut Reader, keep: Keep) -> usize
     requires first_row { IsRow first.old.left }
     requires second_row { IsRow second.old.left }
     ensures count { (row : List Interval) → IsKept keep first.old.left second.old.left row → result ≡ length row }
+    ensures few { result ≤ 2147483648 }
     ensures first_read { first.new ≡ record first.old { left = [] } }
     ensures second_read { second.new ≡ record second.old { left = [] } }
 {
@@ -102,6 +103,55 @@ pub fn count_row(first: &mut Reader, second: &mut Reader, keep: Keep) -> usize
         x = step.edge;
     }
     if is_open { count + 1 } else { count }
+}
+
+/// Whether what is kept of what is left of the first two readers' first bands is the same as of the other two's. The four are
+/// read as far as it takes.
+pub fn same_kept(
+    first: &mut Reader,
+    second: &mut Reader,
+    third: &mut Reader,
+    fourth: &mut Reader,
+    keep: Keep,
+) -> bool
+    requires first_row { IsRow first.old.left }
+    requires second_row { IsRow second.old.left }
+    requires third_row { IsRow third.old.left }
+    requires fourth_row { IsRow fourth.old.left }
+    ensures yes { result ≡ true → (x : ℤ) → kept keep (row_has first.old.left x) (row_has second.old.left x) ≡ kept keep (row_has third.old.left x) (row_has fourth.old.left x) }
+    ensures no { result ≡ false → (x : ℤ) × (kept keep (row_has first.old.left x) (row_has second.old.left x) ≢ kept keep (row_has third.old.left x) (row_has fourth.old.left x)) }
+    ensures first_read { first.new.bands ≡ first.old.bands }
+    ensures second_read { second.new.bands ≡ second.old.bands }
+    ensures third_read { third.new.bands ≡ third.old.bands }
+    ensures fourth_read { fourth.new.bands ≡ fourth.old.bands }
+{
+    let one = rows_start(first.first_left(), second.first_left());
+    let other = rows_start(third.first_left(), fourth.first_left());
+    let mut x = nearer(one, other);
+    while let Some(step) = common_step(
+        keep,
+        next_step(first.first_left(), second.first_left(), x),
+        next_step(third.first_left(), fourth.first_left(), x),
+    ) {
+        if !step.agrees {
+            return false;
+        }
+        skip_ended_of(first, step.edge);
+        skip_ended_of(second, step.edge);
+        skip_ended_of(third, step.edge);
+        skip_ended_of(fourth, step.edge);
+        x = step.edge;
+    }
+    true
+}
+
+/// Reads what is left of the reader's first band to its end.
+pub fn skip_row(reader: &mut Reader)
+    ensures { reader.new ≡ record reader.old { left = [] } }
+{
+    'row: while reader.first_left().is_some() {
+        reader.skip_left();
+    }
 }
 
 /// Copies what is left of the first band below the gap into the row in the making, and reads it to its end.

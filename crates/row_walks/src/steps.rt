@@ -1,8 +1,9 @@
 //! One step of a walk over two rows.
 
 ghost use Rattle.std.specs.Prelude.{◌≡◌, int_le};
-ghost use Rattle.row_walks.specs.Steps.{edge_of, next_step, later, nearer, start_of};
+ghost use Rattle.row_walks.specs.Steps.{edge_of, next_step, later, nearer, start_of, common_step};
 
+use crate::Keep;
 use band_list::{BandList, Interval, Reader};
 
 /// How far both rows are the same, and whether they have the columns up to there.
@@ -13,7 +14,8 @@ pub(crate) struct Step {
     pub in_second: bool,
 }
 
-fn nearer(a: i32, b: i32) -> i32
+/// The lesser of two edges.
+pub(crate) fn nearer(a: i32, b: i32) -> i32
     ensures { result ≡ nearer a b }
 {
     if a < b { a } else { b }
@@ -91,5 +93,33 @@ pub(crate) fn skip_ended_of(reader: &mut Reader, edge: i32)
         if interval.to <= edge {
             reader.skip_left();
         }
+    }
+}
+
+/// How far two pairs of rows are the same, and whether what is kept of both pairs is the same up to there.
+#[derive(Clone, Copy, Debug)]
+pub(crate) struct Common {
+    pub edge: i32,
+    pub agrees: bool,
+}
+
+/// The step of two pairs of rows, by each pair's step; `None` where all four have ended.
+pub(crate) fn common_step(keep: Keep, one: Option<Step>, other: Option<Step>) -> Option<Common>
+    ensures { result ≡ common_step keep one other }
+{
+    match (one, other) {
+        (Some(s), Some(t)) => Some(Common {
+            edge: nearer(s.edge, t.edge),
+            agrees: keep.keeps(s.in_first, s.in_second) == keep.keeps(t.in_first, t.in_second),
+        }),
+        (Some(s), None) => Some(Common {
+            edge: s.edge,
+            agrees: !keep.keeps(s.in_first, s.in_second),
+        }),
+        (None, Some(t)) => Some(Common {
+            edge: t.edge,
+            agrees: !keep.keeps(t.in_first, t.in_second),
+        }),
+        (None, None) => None,
     }
 }

@@ -1,6 +1,6 @@
 use Rattle.std.specs.Prelude.{◌+◌}
 use Rattle.band_walks.proofs.StripLemmas.{edges_left}
-use Rattle.band_walks.proofs.KeepLemmas.{Kept}
+use Rattle.band_walks.proofs.StayLemmas.{Kept}
 use Rattle.band_walks.proofs.keep_bands.Given as goal
 
 abbrev pub invariant-loop-strip : goal.invariant-loop-strip

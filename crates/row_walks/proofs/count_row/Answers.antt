@@ -3,7 +3,7 @@ use Rattle.std.specs.Int.{w32}
 use Rattle.std.proofs.lemmas.Int.{ints}
 use Rattle.row_walks.specs.Rows.{kept}
 use Rattle.row_walks.specs.Steps.{later}
-use Rattle.row_walks.proofs.MakeLemmas.{counted_begins, counted_after, counted_more, counted_done, nearer_end, from_firsts, start_from, goes_on, begins_or_none, added_one, added_none, not_counted}
+use Rattle.row_walks.proofs.MakeLemmas.{counted_begins, counted_after, counted_more, counted_done, nearer_end, from_firsts, start_from, goes_on, begins_or_none, added_one, added_none, not_counted, counted_few}
 use Rattle.row_walks.proofs.count_row.Goals as goal
 use Rattle.row_walks.proofs.count_row.Goals.{then-is_open+then-not-keeps, else-is_open, else-is_open-via-then-is_open+else-not-keeps, else-is_open-via-else-is_open}
 
@@ -57,3 +57,13 @@ returns-else-is_open-2-clause-count c =
     (counted_done c.args.keep c.args.first.now c.args.second.now c.loop-step.first c.loop-step.second c.loop-step.is_open x c.loop-step.count c.loop-step.invariant
     (from_firsts x c.loop-step.first.left c.loop-step.second.left c.first_left-in-loop-step.result c.first_left-in-loop-step-2.result c.next_step.result _ c.first_left-in-loop-step.ensures c.first_left-in-loop-step-2.ensures c.next_step.ensures c.in_default.is)
     c.loop-step.count (not_counted c.loop-step.count c.loop-step.is_open c.if-is_open-2.false)).0
+
+pub returns-then-is_open-2-clause-few : goal.returns-then-is_open-2-clause-few
+returns-then-is_open-2-clause-few c =
+    let x = to_z w32 c.loop-step.x-bits in
+    counted_few c.args.keep c.args.first.now c.args.second.now c.loop-step.first c.loop-step.second c.loop-step.is_open x c.loop-step.count c.loop-step.invariant (omega (arith, ints)) _ (ap (λ b. c.loop-step.count + cond b 1 0) (sym c.if-is_open-2.true))
+
+pub returns-else-is_open-2-clause-few : goal.returns-else-is_open-2-clause-few
+returns-else-is_open-2-clause-few c =
+    let x = to_z w32 c.loop-step.x-bits in
+    counted_few c.args.keep c.args.first.now c.args.second.now c.loop-step.first c.loop-step.second c.loop-step.is_open x c.loop-step.count c.loop-step.invariant (omega (arith, ints)) c.loop-step.count (not_counted c.loop-step.count c.loop-step.is_open c.if-is_open-2.false)

@@ -1,4 +1,4 @@
-use Rattle.std.proofs.Common.{◌≡◌, ℕ, List, [], ◌∷◌, map, Option, Some, None, Bool, true, false, sym, ap, ◌∙◌, ◌↔◌, refl}
+use Rattle.std.proofs.Common.{◌≡◌, ℕ, List, [], ◌∷◌, map, Option, Some, Bool, true, false, sym, ap, ◌∙◌, ◌↔◌, refl}
 use Rattle.std.specs.Prelude.{slice_get, is_some, not, IsTrue}
 use Rattle.span_arena.specs.Arena.{Arena, ids_of}
 use Rattle.band_list.specs.declared.Interval.{Interval}
