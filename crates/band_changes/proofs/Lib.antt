@@ -1,0 +1,5 @@
+pub mod CopyLemmas
+pub mod SeamLemmas
+pub mod EndLemmas
+pub mod MoveLemmas
+pub mod MovedLemmas

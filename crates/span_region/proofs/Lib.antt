@@ -1,0 +1,4 @@
+pub mod RectLemmas
+pub mod CallLemmas
+pub mod ListLemmas
+pub mod PopLemmas

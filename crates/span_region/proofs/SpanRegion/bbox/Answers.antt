@@ -1,0 +1,13 @@
+use Rattle.std.proofs.Common.{◌≡◌, [], ◌++◌, ap, subst, None}
+use Rattle.std.specs.Prelude.{◌↔◌, IfSome}
+use Rattle.band_queries.specs.Queries.{IsBounds}
+use Rattle.span_region.proofs.SpanRegion.bbox.Goals as goal
+use Rattle.span_region.proofs.CallLemmas.{boxed_none, boxed_some}
+
+pub returns-clause-none : goal.returns-clause-none
+returns-clause-none c = boxed_none (c.self.inside.bands.above ++ c.self.inside.bands.below) c.bounds.result c.rect_of_bounds.result c.args.self.now.list c.self.invariant.bands (ap (λ v. v.list) c.self.view_is)
+    (subst (λ r. (c.bounds.result ≡ None) ↔ (r.bands ≡ [])) c.reader.ensures c.bounds.ensures.none) c.rect_of_bounds.ensures
+
+pub returns-clause-some : goal.returns-clause-some
+returns-clause-some c = boxed_some (c.self.inside.bands.above ++ c.self.inside.bands.below) c.bounds.result c.rect_of_bounds.result c.args.self.now.list (ap (λ v. v.list) c.self.view_is)
+    (subst (λ r. IfSome c.bounds.result (λ b. IsBounds b r.bands)) c.reader.ensures c.bounds.ensures.some) c.rect_of_bounds.ensures

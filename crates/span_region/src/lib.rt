@@ -1,0 +1,294 @@
+//! Sets of places in linked spans.
+#![tactic(auto)]
+
+ghost use Rattle.std.specs.Prelude.{◌≡◌, ◌≢◌, [], List, ◌++◌, IsTrue, ◌↔◌, IfSome, None, length, ◌+◌, ◌≤◌, ◌∷◌, ◌&&◌, ◌<ℤ◌, int_lt, ℤ, true, false, IfOk, OnOk, OnErr, not, ◌||◌};
+ghost use Rattle.region.specs.Region.{covers, in_rect, IsCanonical};
+ghost use Rattle.region.specs.Held.{in_range, SharePlace, IsBox};
+ghost use Rattle.region.specs.Pops.{IsFirst, IsWithout};
+ghost use Rattle.band_list.specs.Bands.{Band, nothing, nodes_in};
+ghost use Rattle.row_walks.specs.Rows.{kept};
+ghost use Rattle.band_walks.specs.Sets.{AreBands, IsKept};
+ghost use Rattle.span_region.specs.Rects.{band_of, AreRectBands};
+
+mod listing;
+
+use band_list::{BandList, Interval, Rows};
+use band_walks::{count_kept, keep_bands};
+use listing::{push_rects, rect_of_bounds};
+use region::Rect;
+use row_walks::Keep;
+use std::alloc::{AllocError, Global};
+use std::marker::Model;
+
+/// A set of places.
+#[derive(Drop)]
+pub struct SpanRegion {
+    bands: BandList,
+    room: usize,
+}
+
+impl Model for SpanRegion {
+    ghost use Rattle.std.specs.Prelude.{◌++◌};
+    ghost use Rattle.region.specs.Held.{Held};
+    ghost use Rattle.span_region.specs.Rects.{rects_in, IsHeld};
+
+    ghost Value = { Held };
+
+    ghost view = { λ a. record { list = rects_in (a.bands.above ++ a.bands.below); room = a.room } };
+
+    ghost invariant = { λ a. IsHeld a.bands a.room };
+}
+
+// The band of a rectangle, which has places.
+fn band_of_rect(alloc: Global, rect: Rect) -> Result<BandList, AllocError>
+    requires columns { rect.x1 <ℤ rect.x2 }
+    requires rows { rect.y1 <ℤ rect.y2 }
+    ensures { IfOk result (λ bands. bands ≡ record nothing { above = band_of rect ∷ []; spare = bands.spare }) }
+{
+    let mut bands = BandList::new(alloc);
+    bands.reserve(3)?;
+    let columns = Interval {
+        from: rect.x1,
+        to: rect.x2,
+    };
+    bands.push_interval(columns);
+    let rows = Rows {
+        top: rect.y1,
+        bottom: rect.y2,
+    };
+    bands.put_row(rows);
+    Ok(bands)
+}
+
+fn has_places(rect: Rect) -> bool
+    ensures { result ≡ (int_lt rect.x1 rect.x2 && int_lt rect.y1 rect.y2) }
+{
+    rect.x1 < rect.x2 && rect.y1 < rect.y2
+}
+
+// The bands of a rectangle.
+fn bands_of_rect(alloc: Global, rect: Rect) -> Result<BandList, AllocError>
+    ensures { IfOk result (λ bands. AreRectBands rect bands) }
+{
+    if has_places(rect) {
+        band_of_rect(alloc, rect)
+    } else {
+        Ok(BandList::new(alloc))
+    }
+}
+
+// Makes the bands of the places that are kept of two lists of bands, in room that is there.
+fn put_kept(bands: &mut BandList, other: &BandList, keep: Keep)
+    requires first { AreBands (bands.old.above ++ bands.old.below) }
+    requires second { AreBands (other.now.above ++ other.now.below) }
+    requires empty { bands.old.row ≡ [] }
+    requires room { (result : List Band) → IsKept keep (bands.old.above ++ bands.old.below) (other.now.above ++ other.now.below) result → nodes_in result + nodes_in result ≤ bands.old.spare }
+    ensures kept { IsKept keep (bands.old.above ++ bands.old.below) (other.now.above ++ other.now.below) (bands.new.above ++ bands.new.below) }
+    ensures row { bands.new.row ≡ [] }
+{
+    bands.rewind();
+    keep_bands(bands, &mut other.reader(), keep);
+}
+
+// How many nodes the bands take of the places that are kept of two lists of bands.
+fn count_nodes_kept(first: &BandList, second: &BandList, keep: Keep) -> usize
+    requires first { AreBands (first.now.above ++ first.now.below) }
+    requires second { AreBands (second.now.above ++ second.now.below) }
+    ensures { (bands : List Band) → IsKept keep (first.now.above ++ first.now.below) (second.now.above ++ second.now.below) bands → result ≡ nodes_in bands }
+{
+    count_kept(&mut first.reader(), &mut second.reader(), keep)
+}
+
+// Makes room in which what is kept of two lists of bands can be made in the first. No band changes, also where the room is
+// refused.
+fn make_room(bands: &mut BandList, other: &BandList, keep: Keep) -> Result<(), AllocError>
+    requires first { AreBands (bands.old.above ++ bands.old.below) }
+    requires second { AreBands (other.now.above ++ other.now.below) }
+    ensures ok { OnOk result ((result : List Band) → IsKept keep (bands.old.above ++ bands.old.below) (other.now.above ++ other.now.below) result → nodes_in result + nodes_in result ≤ bands.new.spare) }
+    ensures kept { bands.old.spare ≤ bands.new.spare }
+    ensures same { bands.new ≡ record bands.old { spare = bands.new.spare } }
+{
+    let nodes = count_nodes_kept(bands, other, keep);
+    match nodes.checked_mul(2) {
+        Some(room) => bands.reserve(room),
+        None => Err(AllocError),
+    }
+}
+
+impl SpanRegion {
+    /// No places. This takes no memory.
+    pub fn new(alloc: Global) -> SpanRegion
+        ensures { result.list ≡ [] }
+    {
+        SpanRegion {
+            bands: BandList::new(alloc),
+            room: 0,
+        }
+    }
+
+    /// The places of a rectangle whose coordinates are from -2^20 to 2^20; none where x1 >= x2 or y1 >= y2.
+    pub fn from_rect_in_range(alloc: Global, rect: Rect) -> Result<SpanRegion, AllocError>
+        requires { in_range rect ≡ true }
+        ensures { IfOk result (λ region. (x y : ℤ) → covers region.list x y ≡ in_rect rect x y) }
+    {
+        let bands = bands_of_rect(alloc, rect)?;
+        Ok(SpanRegion { bands, room: 0 })
+    }
+
+    /// Whether there are no places.
+    pub fn is_empty(&self) -> bool
+        ensures { IsTrue result ↔ (self.now.list ≡ []) }
+    {
+        self.bands.reader().first_rows().is_none()
+    }
+
+    /// Whether the place (x, y) is in the region.
+    pub fn contains(&self, x: i32, y: i32) -> bool
+        ensures { result ≡ covers self.now.list x y }
+    {
+        band_queries::contains(&mut self.bands.reader(), x, y)
+    }
+
+    /// Whether the regions share a place. This takes no memory.
+    pub fn meets(&self, other: &SpanRegion) -> bool
+        ensures { IsTrue result ↔ SharePlace self.now.list other.now.list }
+    {
+        band_queries::meets(&mut self.bands.reader(), &mut other.bands.reader())
+    }
+
+    /// How many rectangles the canonical list has.
+    pub fn count_rects(&self) -> usize
+        ensures { result ≡ length self.now.list }
+    {
+        band_queries::count_intervals(&mut self.bands.reader())
+    }
+
+    /// The least rectangle that holds the region; None where there are no places.
+    pub fn bbox(&self) -> Option<Rect>
+        ensures none { (result ≡ None) ↔ (self.now.list ≡ []) }
+        ensures some { IfSome result (λ rect. IsBox rect self.now.list) }
+    {
+        rect_of_bounds(band_queries::bounds(&mut self.bands.reader()))
+    }
+
+    /// A region with the same places.
+    pub fn try_clone(&self, alloc: Global) -> Result<SpanRegion, AllocError>
+        ensures { IfOk result (λ region. region.list ≡ self.now.list) }
+    {
+        let mut bands = BandList::new(alloc);
+        bands.reserve(band_queries::count_nodes(&mut self.bands.reader()))?;
+        band_changes::copy_bands(&mut bands, &mut self.bands.reader());
+        Ok(SpanRegion { bands, room: 0 })
+    }
+
+    /// The canonical list: bands top to bottom, the intervals of each left to right.
+    pub fn rects(&self, alloc: Global) -> Result<Vec<Rect>, AllocError>
+        ensures { IfOk result (λ list. list.items ≡ self.now.list) }
+    {
+        let mut list = Vec::new(alloc);
+        push_rects(&mut list, &mut self.bands.reader())?;
+        Ok(list)
+    }
+
+    /// Takes in the places of `other`. After an `AllocError` the region is as it was, and so is the room that was made in it.
+    pub fn or(&mut self, other: &SpanRegion) -> Result<(), AllocError>
+        ensures ok { IfOk result (λ _. (x y : ℤ) → covers self.new.list x y ≡ (covers self.old.list x y || covers other.now.list x y)) }
+        ensures err { OnErr result (self.new ≡ self.old) }
+    {
+        self.keep_with(other, Keep::Either)
+    }
+
+    /// Leaves the places that are in `other` too, and tells whether there are any. After an `AllocError` the region is as it
+    /// was.
+    pub fn and(&mut self, other: &SpanRegion) -> Result<bool, AllocError>
+        ensures ok { IfOk result (λ _. (x y : ℤ) → covers self.new.list x y ≡ (covers self.old.list x y && covers other.now.list x y)) }
+        ensures left { IfOk result (λ left. IsTrue left ↔ (self.new.list ≢ [])) }
+        ensures err { OnErr result (self.new ≡ self.old) }
+    {
+        self.keep_with(other, Keep::Both)?;
+        Ok(!self.is_empty())
+    }
+
+    /// Takes out the places of `other`, and tells whether any are left. After an `AllocError` the region is as it was.
+    pub fn subtract(&mut self, other: &SpanRegion) -> Result<bool, AllocError>
+        ensures ok { IfOk result (λ _. (x y : ℤ) → covers self.new.list x y ≡ (covers self.old.list x y && not (covers other.now.list x y))) }
+        ensures left { IfOk result (λ left. IsTrue left ↔ (self.new.list ≢ [])) }
+        ensures err { OnErr result (self.new ≡ self.old) }
+    {
+        self.keep_with(other, Keep::FirstAlone)?;
+        Ok(!self.is_empty())
+    }
+
+    /// The places of either region, as a region of its own.
+    pub fn union(&self, other: &SpanRegion, alloc: Global) -> Result<SpanRegion, AllocError>
+        ensures { IfOk result (λ region. (x y : ℤ) → covers region.list x y ≡ (covers self.now.list x y || covers other.now.list x y)) }
+    {
+        self.kept_with(other, Keep::Either, alloc)
+    }
+
+    /// The places of both regions, as a region of its own.
+    pub fn intersection(&self, other: &SpanRegion, alloc: Global) -> Result<SpanRegion, AllocError>
+        ensures { IfOk result (λ region. (x y : ℤ) → covers region.list x y ≡ (covers self.now.list x y && covers other.now.list x y)) }
+    {
+        self.kept_with(other, Keep::Both, alloc)
+    }
+
+    /// The region's places that are not in `other`, as a region of its own.
+    pub fn difference(&self, other: &SpanRegion, alloc: Global) -> Result<SpanRegion, AllocError>
+        ensures { IfOk result (λ region. (x y : ℤ) → covers region.list x y ≡ (covers self.now.list x y && not (covers other.now.list x y))) }
+    {
+        self.kept_with(other, Keep::FirstAlone, alloc)
+    }
+
+    // What is kept of two regions, as a region of its own.
+    fn kept_with(
+        &self,
+        other: &SpanRegion,
+        keep: Keep,
+        alloc: Global,
+    ) -> Result<SpanRegion, AllocError>
+        ensures { IfOk result (λ region. (x y : ℤ) → covers region.list x y ≡ kept keep (covers self.now.list x y) (covers other.now.list x y)) }
+    {
+        let mut region = self.try_clone(alloc)?;
+        region.keep_with(other, keep)?;
+        Ok(region)
+    }
+
+    // Leaves what is kept of two regions.
+    fn keep_with(&mut self, other: &SpanRegion, keep: Keep) -> Result<(), AllocError>
+        ensures ok { IfOk result (λ _. (x y : ℤ) → covers self.new.list x y ≡ kept keep (covers self.old.list x y) (covers other.now.list x y)) }
+        ensures err { OnErr result (self.new ≡ self.old) }
+    {
+        make_room(&mut self.bands, &other.bands, keep)?;
+        put_kept(&mut self.bands, &other.bands, keep);
+        self.room = 0;
+        Ok(())
+    }
+
+    /// Gives the first rectangle of the canonical list, its bands top to bottom or bottom to top where `reverse_y`, the intervals
+    /// of each left to right or right to left where `reverse_x`, and takes its places out; None where there are no places. This
+    /// takes no memory.
+    pub fn pop_rect(&mut self, reverse_x: bool, reverse_y: bool) -> Option<Rect>
+        ensures none { (result ≡ None) ↔ (self.old.list ≡ []) }
+        ensures unchanged { result ≡ None → self.new ≡ self.old }
+        ensures first { IfSome result (λ rect. IsFirst reverse_x reverse_y self.old.list rect) }
+        ensures places { IfSome result (λ rect. IsWithout rect self.old.list self.new.list) }
+    {
+        rect_of_bounds(band_changes::pop(&mut self.bands, reverse_x, reverse_y))
+    }
+
+    /// Takes every place out. This takes no memory.
+    pub fn clear(&mut self)
+        ensures { self.new.list ≡ [] }
+    {
+        self.room = 0;
+        self.bands.clear();
+    }
+
+    /// A law: the list that contracts see of a region is canonical, so that equal places are equal lists.
+    pub fn list_is_canonical(&self)
+        ensures { IsCanonical self.now.list }
+    {
+        let _ = &self.bands;
+    }
+}
