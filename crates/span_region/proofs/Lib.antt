@@ -2,3 +2,4 @@ pub mod RectLemmas
 pub mod CallLemmas
 pub mod ListLemmas
 pub mod PopLemmas
+pub mod RangeLemmas

@@ -27,11 +27,11 @@ pub record ListedBands (old new : List Rect) (start now : Reading) : Type 0 wher
 abbrev pub left_is : List Interval → Reading → Reading
 left_is l r = record r { left = l }
 
-first_there : {X : Type 0} (l : List X) (x : X) → slice_get l 0 ≡ Some x → (rest : List X) × (l ≡ x ∷ rest)
+pub first_there : {X : Type 0} (l : List X) (x : X) → slice_get l 0 ≡ Some x → (rest : List X) × (l ≡ x ∷ rest)
 first_there [] x e = absurd (cc)
 first_there (y ∷ rest) x e = (rest, ap (λ z. z ∷ rest) (same_Some y x e))
 
-none_there : {X : Type 0} (l : List X) → slice_get l 0 ≡ None → l ≡ []
+pub none_there : {X : Type 0} (l : List X) → slice_get l 0 ≡ None → l ≡ []
 none_there [] e = refl
 none_there (y ∷ rest) e = absurd (cc)
 

@@ -1,9 +1,11 @@
 //! Sets of places in linked spans.
 #![tactic(auto)]
 
-ghost use Rattle.std.specs.Prelude.{◌≡◌, ◌≢◌, [], List, ◌++◌, IsTrue, ◌↔◌, IfSome, None, length, ◌+◌, ◌≤◌, ◌∷◌, ◌&&◌, ◌<ℤ◌, int_lt, ℤ, true, false, IfOk, OnOk, OnErr, not, ◌||◌};
+ghost use Rattle.std.specs.Prelude.{◌≡◌, ◌≢◌, [], List, ◌++◌, IsTrue, ◌↔◌, IfSome, None, length, ◌+◌, ◌≤◌, ◌∷◌, ◌&&◌, ◌<ℤ◌, int_lt, ℤ, true, false, IfOk, IsOk, OnOk, OnErr, ◌+ℤ◌, not, ◌||◌};
+ghost use Rattle.std.specs.List.{list_any};
 ghost use Rattle.region.specs.Region.{covers, in_rect, IsCanonical};
-ghost use Rattle.region.specs.Held.{in_range, SharePlace, IsBox};
+ghost use Rattle.region.specs.Held.{in_range, leaves_range, SharePlace, IsBox};
+ghost use Rattle.region.specs.declared.RegionError.TheVariants.{OutOfRange};
 ghost use Rattle.region.specs.Pops.{IsFirst, IsWithout};
 ghost use Rattle.band_list.specs.Bands.{Band, nothing, nodes_in};
 ghost use Rattle.row_walks.specs.Rows.{kept};
@@ -11,11 +13,13 @@ ghost use Rattle.band_walks.specs.Sets.{AreBands, IsKept};
 ghost use Rattle.span_region.specs.Rects.{band_of, AreRectBands};
 
 mod listing;
+mod moves;
 
 use band_list::{BandList, Interval, Rows};
 use band_walks::{count_kept, keep_bands};
 use listing::{push_rects, rect_of_bounds};
-use region::Rect;
+use moves::{Offset, are_out_of_range, is_in_range, some_leave_range};
+use region::{Rect, RegionError};
 use row_walks::Keep;
 use std::alloc::{AllocError, Global};
 use std::marker::Model;
@@ -115,6 +119,23 @@ fn make_room(bands: &mut BandList, other: &BandList, keep: Keep) -> Result<(), A
     }
 }
 
+// The places of the rectangles: those of either half of them, taken together.
+fn union_of(alloc: Global, rects: &[Rect]) -> Result<SpanRegion, AllocError>
+    ensures { IfOk result (λ region. (x y : ℤ) → covers region.list x y ≡ covers rects.now x y) }
+{
+    match rects {
+        [] => Ok(SpanRegion::new(alloc)),
+        [rect] => SpanRegion::of_rect(alloc, *rect),
+        _ => {
+            let (first, second) = rects.split_at(rects.len() / 2);
+            let mut region = union_of(alloc, first)?;
+            let other = union_of(alloc, second)?;
+            region.or(&other)?;
+            Ok(region)
+        }
+    }
+}
+
 impl SpanRegion {
     /// No places. This takes no memory.
     pub fn new(alloc: Global) -> SpanRegion
@@ -126,9 +147,52 @@ impl SpanRegion {
         }
     }
 
-    /// The places of a rectangle whose coordinates are from -2^20 to 2^20; none where x1 >= x2 or y1 >= y2.
+    /// The places of a rectangle; none where x1 >= x2 or y1 >= y2. `OutOfRange` where a coordinate is not from -2^20 to
+    /// 2^20.
+    pub fn from_rect(alloc: Global, rect: Rect) -> Result<SpanRegion, RegionError>
+        ensures ok { IfOk result (λ region. (x y : ℤ) → covers region.list x y ≡ in_rect rect x y) }
+        ensures refused { in_range rect ≡ false → result ≡ Err OutOfRange }
+        ensures accepted { in_range rect ≡ true → result ≢ Err OutOfRange }
+    {
+        if !is_in_range(rect) {
+            return Err(RegionError::OutOfRange);
+        }
+        let region = SpanRegion::from_rect_in_range(alloc, rect)?;
+        Ok(region)
+    }
+
+    /// The same of a rectangle whose coordinates are known to be from -2^20 to 2^20.
     pub fn from_rect_in_range(alloc: Global, rect: Rect) -> Result<SpanRegion, AllocError>
         requires { in_range rect ≡ true }
+        ensures { IfOk result (λ region. (x y : ℤ) → covers region.list x y ≡ in_rect rect x y) }
+    {
+        SpanRegion::of_rect(alloc, rect)
+    }
+
+    /// The places of all of the rectangles, which may overlap and stand in any order; one with x1 >= x2 or y1 >= y2 has
+    /// none. `OutOfRange` where a coordinate of one is not from -2^20 to 2^20.
+    pub fn from_rects(alloc: Global, rects: &[Rect]) -> Result<SpanRegion, RegionError>
+        ensures ok { IfOk result (λ region. (x y : ℤ) → covers region.list x y ≡ covers rects.now x y) }
+        ensures refused { list_any (λ r. not (in_range r)) rects.now ≡ true → result ≡ Err OutOfRange }
+        ensures accepted { list_any (λ r. not (in_range r)) rects.now ≡ false → result ≢ Err OutOfRange }
+    {
+        if are_out_of_range(rects) {
+            return Err(RegionError::OutOfRange);
+        }
+        let region = SpanRegion::from_rects_in_range(alloc, rects)?;
+        Ok(region)
+    }
+
+    /// The same of rectangles whose coordinates are known to be from -2^20 to 2^20.
+    pub fn from_rects_in_range(alloc: Global, rects: &[Rect]) -> Result<SpanRegion, AllocError>
+        requires { list_any (λ r. not (in_range r)) rects.now ≡ false }
+        ensures { IfOk result (λ region. (x y : ℤ) → covers region.list x y ≡ covers rects.now x y) }
+    {
+        union_of(alloc, rects)
+    }
+
+    // The places of a rectangle.
+    fn of_rect(alloc: Global, rect: Rect) -> Result<SpanRegion, AllocError>
         ensures { IfOk result (λ region. (x y : ℤ) → covers region.list x y ≡ in_rect rect x y) }
     {
         let bands = bands_of_rect(alloc, rect)?;
@@ -262,6 +326,21 @@ impl SpanRegion {
         make_room(&mut self.bands, &other.bands, keep)?;
         put_kept(&mut self.bands, &other.bands, keep);
         self.room = 0;
+        Ok(())
+    }
+
+    /// Moves each place by (dx, dy); `OutOfRange`, and nothing moves, where a rectangle would leave -2^20 to 2^20. This takes
+    /// no memory.
+    pub fn offset(&mut self, dx: i32, dy: i32) -> Result<(), RegionError>
+        ensures ok { IfOk result (λ _. (x y : ℤ) → covers self.new.list (x +ℤ dx) (y +ℤ dy) ≡ covers self.old.list x y) }
+        ensures refused { leaves_range dx dy self.old.list ≡ true → result ≡ Err OutOfRange }
+        ensures accepted { leaves_range dx dy self.old.list ≡ false → IsOk result }
+        ensures err { OnErr result (self.new ≡ self.old) }
+    {
+        if some_leave_range(&mut self.bands.reader(), Offset { dx, dy }) {
+            return Err(RegionError::OutOfRange);
+        }
+        band_changes::offset(&mut self.bands, dx, dy);
         Ok(())
     }
 

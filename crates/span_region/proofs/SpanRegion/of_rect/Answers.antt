@@ -1,5 +1,5 @@
 use Rattle.std.proofs.Common.{◌++◌, ◌∙◌}
-use Rattle.span_region.proofs.SpanRegion.from_rect_in_range.Goals as goal
+use Rattle.span_region.proofs.SpanRegion.of_rect.Goals as goal
 use Rattle.span_region.proofs.RectLemmas.{covers_has}
 
 pub returns : goal.returns

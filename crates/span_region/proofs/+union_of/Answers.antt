@@ -1,0 +1,14 @@
+use Rattle.std.proofs.Common.{◌+◌, ◌/◌, length, ◌∙◌, ap, sym}
+use Rattle.std.specs.Prelude.{◌||◌, take, drop}
+use Rattle.std.proofs.lemmas.List.{take-append-drop}
+use Rattle.std.proofs.lemmas.List.Folds.{list_any-append}
+use Rattle.region.specs.Region.{in_rect, covers}
+use Rattle.span_region.proofs.+union_of.Goals as goal
+
+pub returns-in_ok-or-in_default : goal.returns-in_ok-or-in_default
+returns-in_ok-or-in_default t c = λ x y.
+    c.in_ok-or-in_default.ensures.ok x y
+    ∙ ap (λ b. b || covers c.in_ok-other-in_default.other.list x y) (c.in_ok-region-in_default.ensures x y ∙ ap (λ l. covers l x y) c.split_at.ensures.front)
+    ∙ ap (λ b. covers (take (length c.args.rects.now / 2) c.args.rects.now) x y || b) (c.in_ok-other-in_default.ensures x y ∙ ap (λ l. covers l x y) c.split_at.ensures.back)
+    ∙ sym (list_any-append (λ r. in_rect r x y) (take (length c.args.rects.now / 2) c.args.rects.now) (drop (length c.args.rects.now / 2) c.args.rects.now))
+    ∙ ap (λ l. covers l x y) (take-append-drop (length c.args.rects.now / 2) c.args.rects.now)
