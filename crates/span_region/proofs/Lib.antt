@@ -3,3 +3,5 @@ pub mod CallLemmas
 pub mod ListLemmas
 pub mod PopLemmas
 pub mod RangeLemmas
+pub mod OrderLemmas
+pub mod RoomLemmas

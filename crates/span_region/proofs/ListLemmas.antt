@@ -1,5 +1,5 @@
 -- The rectangles that were put into a list while bands were read.
-use Rattle.std.proofs.Common.{◌≡◌, ◌<◌, length, List, [], ◌∷◌, ◌++◌, map, refl, sym, ◌∙◌, ap, subst, arith, Option, Some, None}
+use Rattle.std.proofs.Common.{◌≡◌, ◌<◌, length, Bool, List, [], ◌∷◌, ◌++◌, map, refl, sym, ◌∙◌, ap, subst, arith, Option, Some, None}
 use Rattle.std.specs.Prelude.{slice_get}
 use Rattle.std.specs.Option.{option_map}
 use Rattle.std.proofs.lemmas.Option.{same_Some}
@@ -8,7 +8,8 @@ use Rattle.region.specs.declared.Rect.{Rect}
 use Rattle.band_list.specs.declared.Interval.{Interval}
 use Rattle.band_list.specs.declared.Rows.{Rows}
 use Rattle.band_list.specs.Bands.{Band, Reading, reading, rows_of, first_row}
-use Rattle.span_region.specs.Rects.{rect_of, rects_of_band, rects_in}
+use Rattle.region.specs.Region.{reversed_if}
+use Rattle.span_region.specs.Rects.{rect_of, rects_of_band, lines_in}
 
 -- the intervals read so far of a row with these rows were put behind the list
 pub record Listed (rows : Rows) (old new : List Rect) (start now : Reading) : Type 0 where
@@ -17,11 +18,11 @@ pub record Listed (rows : Rows) (old new : List Rect) (start now : Reading) : Ty
   pub is : new ≡ old ++ map (rect_of rows) front
   pub same : now ≡ record start { left = now.left }
 
--- the bands read so far were put behind the list
-pub record ListedBands (old new : List Rect) (start now : Reading) : Type 0 where
+-- the bands read so far were put behind the list, each from the right where reverse_x
+pub record ListedBands (reverse_x : Bool) (old new : List Rect) (start now : Reading) : Type 0 where
   pub front : List Band
   pub was : start.bands ≡ front ++ now.bands
-  pub is : new ≡ old ++ rects_in front
+  pub is : new ≡ old ++ lines_in reverse_x front
   pub begun : now ≡ reading now.bands
 
 abbrev pub left_is : List Interval → Reading → Reading
@@ -67,18 +68,21 @@ listed_all rows old list start now h found e none = (
     ended : now.left ≡ []
     ended = none_there now.left (sym e ∙ none)
 
-pub bands_more : (old list longer : List Rect) (start now passed after : Reading) → ListedBands old list start now → (rows : Rows) (found : Option Rows) → found ≡ option_map rows_of (slice_get now.bands 0) → found ≡ Some rows
-    → longer ≡ list ++ map (rect_of rows) now.left → passed ≡ record now { left = [] } → ((f : Band) (rest : List Band) → passed.bands ≡ f ∷ rest → after ≡ reading rest)
-    → ListedBands old longer start after × (length after.bands < length now.bands)
-bands_more old list longer start now passed after h rows found e some put read advance = go now.bands refl
+pub bands_more : (reverse_x : Bool) (old list longer : List Rect) (start now passed after : Reading) → ListedBands reverse_x old list start now → (rows : Rows) (found : Option Rows) → found ≡ option_map rows_of (slice_get now.bands 0) → found ≡ Some rows
+    → longer ≡ list ++ reversed_if reverse_x (map (rect_of rows) now.left) → passed ≡ record now { left = [] } → ((f : Band) (rest : List Band) → passed.bands ≡ f ∷ rest → after ≡ reading rest)
+    → ListedBands reverse_x old longer start after × (length after.bands < length now.bands)
+bands_more reverse_x old list longer start now passed after h rows found e some put read advance = go now.bands refl
   where
-    go : (bands : List Band) → now.bands ≡ bands → ListedBands old longer start after × (length after.bands < length now.bands)
+    go : (bands : List Band) → now.bands ≡ bands → ListedBands reverse_x old longer start after × (length after.bands < length now.bands)
     go [] none = absurd (let no : None ≡ Some rows = sym (e ∙ ap (λ l. option_map rows_of (slice_get l 0)) none) ∙ some in cc)
     go (b ∷ rest) is = (
       record {
         front = h.front ++ b ∷ [];
         was = h.was ∙ ap (λ l. h.front ++ l) is ∙ one_more h.front b rest ∙ ap (λ r. (h.front ++ b ∷ []) ++ r.bands) (sym past);
-        is = put ∙ ap (λ l. l ++ map (rect_of rows) now.left) h.is ∙ append_assoc old (rects_in h.front) (map (rect_of rows) now.left) ∙ ap (λ l. old ++ (rects_in h.front ++ l)) row ∙ ap (λ l. old ++ l) (sym (more h.front));
+        is =
+            put ∙ ap (λ l. l ++ reversed_if reverse_x (map (rect_of rows) now.left)) h.is
+            ∙ append_assoc old (lines_in reverse_x h.front) (reversed_if reverse_x (map (rect_of rows) now.left))
+            ∙ ap (λ l. old ++ (lines_in reverse_x h.front ++ reversed_if reverse_x l)) row ∙ ap (λ l. old ++ l) (sym (more h.front));
         begun = past ∙ ap reading (sym (ap (λ r. r.bands) past));
       },
       subst (λ r. length r.bands < length now.bands) (sym past) (subst (λ l. length rest < length l) (sym is) (omega arith)),
@@ -93,6 +97,8 @@ bands_more old list longer start now passed after h rows found e some put read a
         row : map (rect_of rows) now.left ≡ rects_of_band b
         row = ap (λ r. map (rect_of rows) r.left) h.begun ∙ ap (λ l. map (rect_of rows) (first_row l)) is ∙ ap (λ r. map (rect_of r) b.row) same
 
-        more : (front : List Band) → rects_in (front ++ b ∷ []) ≡ rects_in front ++ rects_of_band b
-        more [] = append-nil (rects_of_band b)
-        more (c ∷ front) = ap (λ l. rects_of_band c ++ l) (more front) ∙ sym (append_assoc (rects_of_band c) (rects_in front) (rects_of_band b))
+        more : (front : List Band) → lines_in reverse_x (front ++ b ∷ []) ≡ lines_in reverse_x front ++ reversed_if reverse_x (rects_of_band b)
+        more [] = append-nil (reversed_if reverse_x (rects_of_band b))
+        more (c ∷ front) =
+            ap (λ l. reversed_if reverse_x (rects_of_band c) ++ l) (more front)
+            ∙ sym (append_assoc (reversed_if reverse_x (rects_of_band c)) (lines_in reverse_x front) (reversed_if reverse_x (rects_of_band b)))

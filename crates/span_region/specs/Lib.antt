@@ -1,1 +1,2 @@
 pub mod Rects
+pub mod Room

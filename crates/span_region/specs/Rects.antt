@@ -1,7 +1,7 @@
 -- The rectangles of bands in linked spans.
-use Rattle.std.specs.Prelude.{◌≡◌, ℕ, ◌≤◌, ℤ, List, [], ◌∷◌, ◌++◌, map, flat_map}
+use Rattle.std.specs.Prelude.{◌≡◌, ℕ, ◌≤◌, ℤ, List, [], ◌∷◌, ◌++◌, map, flat_map, Bool}
 use Rattle.region.specs.declared.Rect.{Rect}
-use Rattle.region.specs.Region.{in_rect}
+use Rattle.region.specs.Region.{in_rect, reversed_if}
 use Rattle.band_list.specs.declared.Interval.{Interval}
 use Rattle.band_list.specs.declared.Rows.{Rows}
 use Rattle.band_list.specs.Bands.{Band, Bands, rows_of}
@@ -20,6 +20,10 @@ rects_of_band b = map (rect_of (rows_of b)) b.row
 -- bands top to bottom, intervals left to right
 abbrev pub rects_in : List Band → List Rect
 rects_in bands = flat_map rects_of_band bands
+
+-- the same, the intervals right to left where reverse_x
+abbrev pub lines_in : Bool → List Band → List Rect
+lines_in reverse_x bands = flat_map (λ b. reversed_if reverse_x (rects_of_band b)) bands
 
 -- the band of a rectangle
 abbrev pub band_of : Rect → Band

@@ -1,9 +1,9 @@
 //! Sets of places in linked spans.
 #![tactic(auto)]
 
-ghost use Rattle.std.specs.Prelude.{◌≡◌, ◌≢◌, [], List, ◌++◌, IsTrue, ◌↔◌, IfSome, None, length, ◌+◌, ◌≤◌, ◌∷◌, ◌&&◌, ◌<ℤ◌, int_lt, ℤ, true, false, IfOk, IsOk, OnOk, OnErr, ◌+ℤ◌, not, ◌||◌};
+ghost use Rattle.std.specs.Prelude.{◌≡◌, ◌≢◌, [], List, ◌++◌, IsTrue, ◌↔◌, IfSome, None, length, ◌+◌, ◌≤◌, ◌∷◌, ◌&&◌, ◌<ℤ◌, int_lt, ℤ, true, false, ◌*◌, ◌<◌, IfOk, IsOk, OnOk, OnErr, ◌+ℤ◌, not, ◌||◌};
 ghost use Rattle.std.specs.List.{list_any};
-ghost use Rattle.region.specs.Region.{covers, in_rect, IsCanonical};
+ghost use Rattle.region.specs.Region.{covers, in_rect, in_order, IsCanonical};
 ghost use Rattle.region.specs.Held.{in_range, leaves_range, SharePlace, IsBox};
 ghost use Rattle.region.specs.declared.RegionError.TheVariants.{OutOfRange};
 ghost use Rattle.region.specs.Pops.{IsFirst, IsWithout};
@@ -11,13 +11,15 @@ ghost use Rattle.band_list.specs.Bands.{Band, nothing, nodes_in};
 ghost use Rattle.row_walks.specs.Rows.{kept};
 ghost use Rattle.band_walks.specs.Sets.{AreBands, IsKept};
 ghost use Rattle.span_region.specs.Rects.{band_of, AreRectBands};
+ghost use Rattle.span_region.specs.Room.{IsRoomFor};
 
 mod listing;
 mod moves;
 
 use band_list::{BandList, Interval, Rows};
 use band_walks::{count_kept, keep_bands};
-use listing::{push_rects, rect_of_bounds};
+use listed::Listed;
+use listing::{push_rects, rect_of_bounds, reverse_if};
 use moves::{Offset, are_out_of_range, is_in_range, some_leave_range};
 use region::{Rect, RegionError};
 use row_walks::Keep;
@@ -27,6 +29,7 @@ use std::marker::Model;
 /// A set of places.
 #[derive(Drop)]
 pub struct SpanRegion {
+    alloc: Global,
     bands: BandList,
     room: usize,
 }
@@ -103,6 +106,16 @@ fn count_nodes_kept(first: &BandList, second: &BandList, keep: Keep) -> usize
     count_kept(&mut first.reader(), &mut second.reader(), keep)
 }
 
+// Twice as many nodes as the bands take of the places that are kept of two lists of bands; None where that is no usize.
+fn room_to_keep(first: &BandList, second: &BandList, keep: Keep) -> Option<usize>
+    requires first { AreBands (first.now.above ++ first.now.below) }
+    requires second { AreBands (second.now.above ++ second.now.below) }
+    ensures some { IfSome result (λ room. (bands : List Band) → IsKept keep (first.now.above ++ first.now.below) (second.now.above ++ second.now.below) bands → room ≡ 2 * nodes_in bands) }
+    ensures none { result ≡ None → (bands : List Band) → IsKept keep (first.now.above ++ first.now.below) (second.now.above ++ second.now.below) bands → usize.MAX < 2 * nodes_in bands }
+{
+    count_nodes_kept(first, second, keep).checked_mul(2)
+}
+
 // Makes room in which what is kept of two lists of bands can be made in the first. No band changes, also where the room is
 // refused.
 fn make_room(bands: &mut BandList, other: &BandList, keep: Keep) -> Result<(), AllocError>
@@ -112,8 +125,7 @@ fn make_room(bands: &mut BandList, other: &BandList, keep: Keep) -> Result<(), A
     ensures kept { bands.old.spare ≤ bands.new.spare }
     ensures same { bands.new ≡ record bands.old { spare = bands.new.spare } }
 {
-    let nodes = count_nodes_kept(bands, other, keep);
-    match nodes.checked_mul(2) {
+    match room_to_keep(bands, other, keep) {
         Some(room) => bands.reserve(room),
         None => Err(AllocError),
     }
@@ -142,6 +154,7 @@ impl SpanRegion {
         ensures { result.list ≡ [] }
     {
         SpanRegion {
+            alloc,
             bands: BandList::new(alloc),
             room: 0,
         }
@@ -196,7 +209,11 @@ impl SpanRegion {
         ensures { IfOk result (λ region. (x y : ℤ) → covers region.list x y ≡ in_rect rect x y) }
     {
         let bands = bands_of_rect(alloc, rect)?;
-        Ok(SpanRegion { bands, room: 0 })
+        Ok(SpanRegion {
+            alloc,
+            bands,
+            room: 0,
+        })
     }
 
     /// Whether there are no places.
@@ -242,16 +259,23 @@ impl SpanRegion {
         let mut bands = BandList::new(alloc);
         bands.reserve(band_queries::count_nodes(&mut self.bands.reader()))?;
         band_changes::copy_bands(&mut bands, &mut self.bands.reader());
-        Ok(SpanRegion { bands, room: 0 })
+        Ok(SpanRegion {
+            alloc,
+            bands,
+            room: 0,
+        })
     }
 
-    /// The canonical list: bands top to bottom, the intervals of each left to right.
-    pub fn rects(&self, alloc: Global) -> Result<Vec<Rect>, AllocError>
-        ensures { IfOk result (λ list. list.items ≡ self.now.list) }
+    /// The canonical list: bands top to bottom, or bottom to top where `reverse_y`; the intervals of each left to right, or
+    /// right to left where `reverse_x`.
+    pub fn rects(&self, reverse_x: bool, reverse_y: bool) -> Result<Listed<Rect>, AllocError>
+        ensures order { IfOk result (λ list. list ≡ in_order reverse_x reverse_y self.now.list) }
+        ensures canonical { IsCanonical self.now.list }
     {
-        let mut list = Vec::new(alloc);
-        push_rects(&mut list, &mut self.bands.reader())?;
-        Ok(list)
+        let mut list = Vec::new(self.alloc);
+        push_rects(&mut list, &mut self.bands.reader(), reverse_x != reverse_y)?;
+        reverse_if(&mut list, reverse_y);
+        Ok(Listed::from_vec(list))
     }
 
     /// Takes in the places of `other`. After an `AllocError` the region is as it was, and so is the room that was made in it.
@@ -260,6 +284,40 @@ impl SpanRegion {
         ensures err { OnErr result (self.new ≡ self.old) }
     {
         self.keep_with(other, Keep::Either)
+    }
+
+    /// Makes room for `or_reserved` with `other`, whatever becomes of memory until then. No place changes; after an
+    /// `AllocError` the room is as it was.
+    pub fn reserve_or(&mut self, other: &SpanRegion) -> Result<(), AllocError>
+        ensures same { self.new.list ≡ self.old.list }
+        ensures ok { OnOk result (IsRoomFor self.new other.now) }
+        ensures err { OnErr result (self.new ≡ self.old) }
+    {
+        let Some(room) = room_to_keep(&self.bands, &other.bands, Keep::Either) else {
+            return Err(AllocError);
+        };
+        if self.room < room {
+            self.bands.reserve(room)?;
+            self.room = room;
+        }
+        Ok(())
+    }
+
+    /// Whether there is room for `or_reserved` with `other`: always after `reserve_or` with a region of these places, as long
+    /// as neither changed.
+    pub fn is_reserved_for(&self, other: &SpanRegion) -> bool
+        ensures { IsTrue result ↔ (IsRoomFor self.now other.now) }
+    {
+        count_nodes_kept(&self.bands, &other.bands, Keep::Either) <= self.room / 2
+    }
+
+    /// Takes in the places of `other`, in the room that was made for them. This takes no memory, and can't fail.
+    pub fn or_reserved(&mut self, other: &SpanRegion)
+        requires { IsRoomFor self.old other.now }
+        ensures { (x y : ℤ) → covers self.new.list x y ≡ (covers self.old.list x y || covers other.now.list x y) }
+    {
+        put_kept(&mut self.bands, &other.bands, Keep::Either);
+        self.room = 0;
     }
 
     /// Leaves the places that are in `other` too, and tells whether there are any. After an `AllocError` the region is as it

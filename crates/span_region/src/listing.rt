@@ -1,9 +1,10 @@
 //! The rectangles of bands, as a list.
 
-ghost use Rattle.std.specs.Prelude.{◌≡◌, ◌++◌, [], OnOk, map, length};
+ghost use Rattle.std.specs.Prelude.{◌≡◌, ◌≤◌, ◌++◌, [], OnOk, map, length, take, drop};
 ghost use Rattle.band_list.specs.Bands.{reading, first_row};
 ghost use Rattle.std.specs.Option.{option_map};
-ghost use Rattle.span_region.specs.Rects.{rect_of, rect_in, rects_in};
+ghost use Rattle.region.specs.Region.{reversed_if};
+ghost use Rattle.span_region.specs.Rects.{rect_of, rect_in, lines_in};
 
 use band_list::{Interval, Reader, Rows};
 use band_queries::Rectangle;
@@ -41,13 +42,51 @@ fn push_band(out: &mut Vec<Rect>, bands: &mut Reader, rows: Rows) -> Result<(), 
     Ok(())
 }
 
-/// Puts the rectangles of all bands that are to be read behind the others, band by band from the top, each from the left.
-pub(crate) fn push_rects(out: &mut Vec<Rect>, bands: &mut Reader) -> Result<(), AllocError>
+/// Turns the list around where `reverse`.
+pub(crate) fn reverse_if(rects: &mut [Rect], reverse: bool)
+    ensures { rects.new ≡ reversed_if reverse rects.old }
+{
+    if reverse {
+        rects.reverse();
+    }
+}
+
+// Turns what stands from an index on around where `reverse`.
+fn reverse_from(rects: &mut [Rect], start: usize, reverse: bool)
+    requires { start ≤ length rects.old }
+    ensures { rects.new ≡ take start rects.old ++ reversed_if reverse (drop start rects.old) }
+{
+    reverse_if(&mut rects[start..], reverse);
+}
+
+// The same as `push_band`, from the right where `reverse_x`.
+fn push_line(
+    out: &mut Vec<Rect>,
+    bands: &mut Reader,
+    rows: Rows,
+    reverse_x: bool,
+) -> Result<(), AllocError>
+    ensures rects { OnOk result (out.new.items ≡ out.old.items ++ reversed_if reverse_x (map (rect_of rows) bands.old.left)) }
+    ensures read { OnOk result (bands.new ≡ record bands.old { left = [] }) }
+{
+    let start = out.len();
+    push_band(out, bands, rows)?;
+    reverse_from(out, start, reverse_x);
+    Ok(())
+}
+
+/// Puts the rectangles of all bands that are to be read behind the others, band by band from the top, each from the left, or
+/// from the right where `reverse_x`.
+pub(crate) fn push_rects(
+    out: &mut Vec<Rect>,
+    bands: &mut Reader,
+    reverse_x: bool,
+) -> Result<(), AllocError>
     requires { bands.old.left ≡ first_row bands.old.bands }
-    ensures { OnOk result (out.new.items ≡ out.old.items ++ rects_in bands.old.bands) }
+    ensures { OnOk result (out.new.items ≡ out.old.items ++ lines_in reverse_x bands.old.bands) }
 {
     while let Some(rows) = bands.first_rows() {
-        push_band(out, bands, rows)?;
+        push_line(out, bands, rows, reverse_x)?;
         bands.advance();
     }
     Ok(())

@@ -1,4 +1,4 @@
-use Rattle.std.proofs.Common.{◌+◌, ◌/◌, length, ◌∙◌, ap, sym}
+use Rattle.std.proofs.Common.{◌/◌, length, ◌∙◌, ap, sym}
 use Rattle.std.specs.Prelude.{◌||◌, take, drop}
 use Rattle.std.proofs.lemmas.List.{take-append-drop}
 use Rattle.std.proofs.lemmas.List.Folds.{list_any-append}

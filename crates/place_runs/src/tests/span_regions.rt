@@ -1,0 +1,95 @@
+//! Regions in linked spans beside worked examples: the orders of a canonical list, and a union in room that was made before.
+
+use region::Rect;
+use span_region::SpanRegion;
+use std::alloc::{AllocError, Global};
+use std::test::Fail;
+
+const TOP: Rect = Rect {
+    x1: 0,
+    y1: 0,
+    x2: 4,
+    y2: 1,
+};
+
+const LEFT: Rect = Rect {
+    x1: 0,
+    y1: 1,
+    x2: 1,
+    y2: 3,
+};
+
+const RIGHT: Rect = Rect {
+    x1: 3,
+    y1: 1,
+    x2: 4,
+    y2: 3,
+};
+
+const BOTTOM: Rect = Rect {
+    x1: 0,
+    y1: 3,
+    x2: 4,
+    y2: 4,
+};
+
+const MIDDLE: Rect = Rect {
+    x1: 1,
+    y1: 1,
+    x2: 3,
+    y2: 3,
+};
+
+const WHOLE: Rect = Rect {
+    x1: 0,
+    y1: 0,
+    x2: 4,
+    y2: 4,
+};
+
+fn region_of(alloc: Global, rect: Rect) -> Result<SpanRegion, AllocError> {
+    SpanRegion::from_rect(alloc, rect).map_err(|_| AllocError)
+}
+
+/// The whole without its middle.
+fn frame(alloc: Global) -> Result<SpanRegion, AllocError> {
+    let mut region = region_of(alloc, WHOLE)?;
+    let middle = region_of(alloc, MIDDLE)?;
+    region.subtract(&middle)?;
+    Ok(region)
+}
+
+fn is_list(
+    region: &SpanRegion,
+    reverse_x: bool,
+    reverse_y: bool,
+    list: &[Rect],
+) -> Result<bool, AllocError> {
+    let rects = region.rects(reverse_x, reverse_y)?;
+    Ok(rects.as_slice() == list)
+}
+
+#[test]
+fn a_frame_in_four_orders(rt: HostRuntime) -> Result<(), Fail> {
+    let region = frame(rt.alloc())?;
+    assert!(rt; is_list(&region, false, false, &[TOP, LEFT, RIGHT, BOTTOM])?);
+    assert!(rt; is_list(&region, true, false, &[TOP, RIGHT, LEFT, BOTTOM])?);
+    assert!(rt; is_list(&region, false, true, &[BOTTOM, LEFT, RIGHT, TOP])?);
+    assert!(rt; is_list(&region, true, true, &[BOTTOM, RIGHT, LEFT, TOP])?);
+    Ok(())
+}
+
+#[test]
+fn a_union_in_room(rt: HostRuntime) -> Result<(), Fail> {
+    let mut region = frame(rt.alloc())?;
+    let middle = region_of(rt.alloc(), MIDDLE)?;
+    assert!(rt; !region.is_reserved_for(&middle));
+    region.reserve_or(&middle)?;
+    assert!(rt; region.is_reserved_for(&middle));
+    assert!(rt; is_list(&region, false, false, &[TOP, LEFT, RIGHT, BOTTOM])?);
+    if region.is_reserved_for(&middle) {
+        region.or_reserved(&middle);
+    }
+    assert!(rt; is_list(&region, false, false, &[WHOLE])?);
+    Ok(())
+}
