@@ -12,8 +12,8 @@ ghost use Rattle.framebuffer.specs.Moves.{rows_copied};
 use crate::blocks::{Block, block_within};
 use crate::moves::{first_source, in_copy_order, move_pieces, own_pieces, whole_rows};
 use crate::rows::{
-    Row, blank_rows, colours_of, gather, is_own_row, own_rows, parts, put_rows, rows_with,
-    share_rows, write_rows,
+    Row, blank_rows, colours_of, gather, is_own_row, make_room, own_rows, parts, put_rows,
+    rows_with, share_rows, write_rows,
 };
 use region::Rect;
 use std::alloc::{AllocError, Global};
@@ -21,13 +21,15 @@ use std::marker::Model;
 
 /// A picture of 1 to 8192 columns and rows: the colours `0x00RRGGBB` of its places, row by row from the top.
 /// It keeps the allocator that it was made with. A row is shared with the snapshots that were taken of it, until it is drawn
-/// over.
+/// over. Where new rows took the place of others, these are kept, at most one for each of the picture's rows: as soon as no
+/// snapshot holds them, later ones are written in their memory. What they hold is no part of the picture.
 #[derive(Drop)]
 pub struct Framebuffer {
     alloc: Global,
     width: u32,
     height: u32,
     rows: Vec<Row>,
+    retired: Vec<Row>,
 }
 
 impl Model for Framebuffer {
@@ -76,6 +78,7 @@ impl Framebuffer {
             width,
             height,
             rows,
+            retired: Vec::new(alloc),
         })
     }
 
@@ -158,7 +161,8 @@ impl Framebuffer {
         !rows.iter().all(is_own_row)
     }
 
-    /// The same as `write` at a block of whole rows, by new rows in place of the old ones.
+    /// The same as `write` at a block of whole rows, by new rows in place of the old ones, which retire. A new row is in the
+    /// memory of the one that was retired in its place before, if nobody else holds that one.
     fn put_whole_rows(&mut self, block: Block, colours: &[u32]) -> Result<(), AllocError>
         requires left { block.left ≡ 0 }
         requires wide { block.columns ≡ self.old.width }
@@ -167,8 +171,10 @@ impl Framebuffer {
         ensures ok { OnOk result (self.new ≡ record self.old { colours = written self.old.width self.old.height (rect_of block) colours.now self.old.colours }) }
         ensures err { OnErr result (self.new ≡ self.old) }
     {
-        let rows = rows_with(self.alloc, block.columns, block.rows, colours)?;
-        put_rows(&mut self.rows, block.top, rows);
+        make_room(self.alloc, &mut self.retired, block.top + block.rows)?;
+        let spare = &mut self.retired[block.top..block.top + block.rows];
+        let rows = rows_with(self.alloc, spare, block.columns, block.rows, colours)?;
+        put_rows(&mut self.rows, &mut self.retired, block.top, rows);
         Ok(())
     }
 
@@ -228,8 +234,9 @@ impl Framebuffer {
         ensures ok { OnOk result (self.new ≡ record self.old { colours = rows_copied self.old.width from to count self.old.colours }) }
         ensures err { OnErr result (self.new ≡ self.old) }
     {
+        make_room(self.alloc, &mut self.retired, to + count)?;
         let rows = share_rows(self.alloc, &mut self.rows, from, count)?;
-        put_rows(&mut self.rows, to, rows);
+        put_rows(&mut self.rows, &mut self.retired, to, rows);
         Ok(())
     }
 

@@ -249,24 +249,52 @@ pub fn blank_rows(alloc: Global, width: usize, height: usize) -> Result<Vec<Row>
     Ok(rows)
 }
 
-/// A row of these colours; their top bytes are cleared.
-fn row_with(alloc: Global, colours: &[u32]) -> Result<Row, AllocError>
+/// The places of a retired row that nobody else holds. One that a snapshot holds still is let go.
+fn released(row: Row) -> Option<Vec<u32>> {
+    match row {
+        Row::Own(places) => Some(places),
+        Row::Shared(places) => match Arc::try_unwrap(places) {
+            Ok(places) => Some(places),
+            Err(_) => None,
+        },
+    }
+}
+
+/// So many places to write over, whatever they hold: those of a retired row, if there are as many and nobody else holds them, or
+/// else fresh ones. A retired row's memory is there already, where the system would have to find that of fresh places.
+fn places_from(alloc: Global, retired: &mut Row, count: usize) -> Result<Vec<u32>, AllocError>
+    ensures { IfOk result (λ places. length places.items ≡ count) }
+{
+    match released(mem::replace(retired, Row::Own(Vec::new(alloc)))) {
+        Some(places) if places.len() == count => Ok(places),
+        _ => {
+            let places = vec![in alloc; 0u32; count]?;
+            Ok(places)
+        }
+    }
+}
+
+/// A row of these colours, whose top bytes are cleared, in the memory of a retired row where that can be had.
+fn row_with(alloc: Global, retired: &mut Row, colours: &[u32]) -> Result<Row, AllocError>
     ensures own { IfOk result (λ row. is_own row ≡ true) }
     ensures colours { IfOk result (λ row. row_colours row ≡ map (λ c. c % 2 ^ 24) colours.now) }
 {
-    let mut places = vec![in alloc; 0u32; colours.len()]?;
+    let mut places = places_from(alloc, retired, colours.len())?;
     write_places(&mut places, colours);
     Ok(Row::Own(places))
 }
 
-/// Rows of so many places each, as many as asked, of these colours; their top bytes are cleared.
+/// Rows of so many places each, as many as asked, of these colours; their top bytes are cleared. Each is in the memory of a
+/// retired row where that can be had.
 pub fn rows_with(
     alloc: Global,
+    retired: &mut [Row],
     width: usize,
     height: usize,
     colours: &[u32],
 ) -> Result<Vec<Row>, AllocError>
-    requires { length colours.now ≡ height * width }
+    requires room { height ≤ length retired.old }
+    requires whole { length colours.now ≡ height * width }
     ensures count { IfOk result (λ rows. length rows.items ≡ height) }
     ensures wide { IfOk result (λ rows. All (IsOfWidth width) rows.items) }
     ensures colours { IfOk result (λ rows. colours_of_rows rows.items ≡ map (λ c. c % 2 ^ 24) colours.now) }
@@ -274,16 +302,28 @@ pub fn rows_with(
     let mut rows = Vec::with_capacity(alloc, height)?;
     for i in 0..height {
         let from = i * width;
-        rows.push(row_with(alloc, &colours[from..from + width])?)?;
+        rows.push(row_with(alloc, &mut retired[i], &colours[from..from + width])?)?;
     }
     Ok(rows)
 }
 
-/// Puts rows in the place of as many others, from one on.
-pub fn put_rows(rows: &mut [Row], top: usize, mut others: Vec<Row>)
-    requires { top + length others.items ≤ length rows.old }
+/// Room for as many retired rows as asked. A retired row that there is none of yet has no places.
+pub fn make_room(alloc: Global, retired: &mut Vec<Row>, count: usize) -> Result<(), AllocError>
+    ensures { IfOk result (λ _. count ≤ length retired.new.items) }
+{
+    for _i in retired.len()..count {
+        retired.push(Row::Own(Vec::new(alloc)))?;
+    }
+    Ok(())
+}
+
+/// Puts rows in the place of as many others, from one on. The others retire, in the place of as many that were retired before.
+pub fn put_rows(rows: &mut [Row], retired: &mut [Row], top: usize, mut others: Vec<Row>)
+    requires fits { top + length others.items ≤ length rows.old }
+    requires room { top + length others.items ≤ length retired.old }
     ensures { rows.new ≡ take top rows.old ++ (others.items ++ drop (top + length others.items) rows.old) }
 {
     let end = top + others.len();
     rows[top..end].swap_with_slice(&mut others);
+    retired[top..end].swap_with_slice(&mut others);
 }

@@ -1,4 +1,4 @@
-use Rattle.std.proofs.Common.{◌≡◌, ℕ, List, All, length, take}
+use Rattle.std.proofs.Common.{◌≡◌, All, length, take}
 use Rattle.std.specs.List.{flat_map}
 use Rattle.framebuffer.specs.Rows.{parts_of_rows}
 use Rattle.framebuffer.proofs.rows.parts.Given as goal

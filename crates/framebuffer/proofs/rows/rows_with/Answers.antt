@@ -12,7 +12,7 @@ loop-i-preserved c =
     let rows = c.loop-i.rows.items in
     let row = c.in_ok-row_with.field-0 in
     let colours = c.args.colours.now in
-    let given = row_given c.args.height w i _ c.requires c.loop-i-test.true in
+    let given = row_given c.args.height w i _ c.requires.whole c.loop-i-test.true in
     let part : List ℕ = take (i * w + w - i * w) (drop (i * w) colours) in
     let size : length part ≡ w = simp (length-take, length-drop) (omega (arith, given)) in
     record {
