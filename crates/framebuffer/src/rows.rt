@@ -1,6 +1,6 @@
 //! Rows of a picture's colours: each is held by the picture alone, or shared with snapshots until it is drawn over.
 
-ghost use Rattle.std.specs.Prelude.{◌≡◌, ℕ, ◌+◌, ◌*◌, ◌%◌, ◌^◌, ◌<◌, ◌≤◌, ◌++◌, All, length, map, flat_map, take, drop, slice_index, replicate, true, IfOk, IfErr};
+ghost use Rattle.std.specs.Prelude.{◌≡◌, ℕ, ◌+◌, ◌*◌, ◌%◌, ◌^◌, ◌<◌, ◌≤◌, ◌++◌, All, length, map, flat_map, take, drop, slice_index, replicate, true, IfOk, IfErr, IfSome};
 ghost use Rattle.framebuffer.specs.Picture.{blank};
 ghost use Rattle.framebuffer.specs.Blocks.{colour_written};
 ghost use Rattle.framebuffer.specs.Rows.{row_colours, shared_colours, colours_of_rows, parts_of_rows, is_own, IsOfWidth, AreOwn, StayOwn, row_written};
@@ -260,28 +260,50 @@ fn released(row: Row) -> Option<Vec<u32>> {
     }
 }
 
-/// So many places to write over, whatever they hold: those of a retired row, if there are as many and nobody else holds them, or
-/// else fresh ones. A retired row's memory is there already, where the system would have to find that of fresh places.
-fn places_from(alloc: Global, retired: &mut Row, count: usize) -> Result<Vec<u32>, AllocError>
-    ensures { IfOk result (λ places. length places.items ≡ count) }
+/// The places of a retired row, whatever they hold, if there are as many as asked and nobody else holds them. None is retired in
+/// its place then.
+fn reclaimed(alloc: Global, retired: &mut Row, count: usize) -> Option<Vec<u32>>
+    ensures { IfSome result (λ places. length places.items ≡ count) }
 {
     match released(mem::replace(retired, Row::Own(Vec::new(alloc)))) {
-        Some(places) if places.len() == count => Ok(places),
-        _ => {
-            let places = vec![in alloc; 0u32; count]?;
-            Ok(places)
-        }
+        Some(places) if places.len() == count => Some(places),
+        _ => None,
     }
 }
 
-/// A row of these colours, whose top bytes are cleared, in the memory of a retired row where that can be had.
+/// Clears the top bytes of colours.
+fn clear_top_bytes(places: &mut [u32])
+    ensures { (k : ℕ) → k < length places.old → slice_index places.new k ≡ slice_index places.old k % 2 ^ 24 }
+{
+    for i in 0..places.len() {
+        places[i] %= 1 << 24;
+    }
+}
+
+/// A row of these colours, whose top bytes are cleared, in fresh memory.
+fn fresh_row(alloc: Global, colours: &[u32]) -> Result<Row, AllocError>
+    ensures own { IfOk result (λ row. is_own row ≡ true) }
+    ensures colours { IfOk result (λ row. row_colours row ≡ map (λ c. c % 2 ^ 24) colours.now) }
+{
+    let mut places = Vec::with_capacity(alloc, colours.len())?;
+    places.extend_from_slice(colours)?;
+    clear_top_bytes(&mut places);
+    Ok(Row::Own(places))
+}
+
+/// A row of these colours, whose top bytes are cleared. It is in the memory of a retired row where that can be had, since the
+/// system would have to find fresh memory page by page.
 fn row_with(alloc: Global, retired: &mut Row, colours: &[u32]) -> Result<Row, AllocError>
     ensures own { IfOk result (λ row. is_own row ≡ true) }
     ensures colours { IfOk result (λ row. row_colours row ≡ map (λ c. c % 2 ^ 24) colours.now) }
 {
-    let mut places = places_from(alloc, retired, colours.len())?;
-    write_places(&mut places, colours);
-    Ok(Row::Own(places))
+    match reclaimed(alloc, retired, colours.len()) {
+        Some(mut places) => {
+            write_places(&mut places, colours);
+            Ok(Row::Own(places))
+        }
+        None => fresh_row(alloc, colours),
+    }
 }
 
 /// Rows of so many places each, as many as asked, of these colours; their top bytes are cleared. Each is in the memory of a
