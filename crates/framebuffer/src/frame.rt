@@ -186,9 +186,11 @@ impl Framebuffer {
         ensures ok { OnOk result (self.new ≡ record self.old { colours = written self.old.width self.old.height (rect_of block) colours.now self.old.colours }) }
         ensures err { OnErr result (self.new ≡ self.old) }
     {
+        make_room(self.alloc, &mut self.retired, block.top + block.rows)?;
         own_rows(
             self.alloc,
             &mut self.rows,
+            &mut self.retired,
             block.top,
             block.top + block.rows,
         )?;
@@ -250,7 +252,8 @@ impl Framebuffer {
         ensures err { OnErr result (self.new ≡ self.old) }
     {
         let mut buffer = vec![in self.alloc; 0u32; self.width as usize]?;
-        own_pieces(self.alloc, &mut self.rows, pieces)?;
+        make_room(self.alloc, &mut self.retired, self.height as usize)?;
+        own_pieces(self.alloc, &mut self.rows, &mut self.retired, pieces)?;
         move_pieces(
             &mut self.rows,
             self.width,

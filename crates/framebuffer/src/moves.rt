@@ -55,23 +55,35 @@ pub fn first_source(piece: Rect, offset: (i32, i32), height: u32) -> usize
 }
 
 /// The picture holds the rows of a rectangle alone from now on, with their colours as they are.
-fn own_piece(alloc: Global, rows: &mut [Row], piece: Rect) -> Result<(), AllocError>
-    requires { IsOnScreen 8192 (length rows.old) piece }
+fn own_piece(
+    alloc: Global,
+    rows: &mut [Row],
+    retired: &mut [Row],
+    piece: Rect,
+) -> Result<(), AllocError>
+    requires inside { IsOnScreen 8192 (length rows.old) piece }
+    requires room { length rows.old ≤ length retired.old }
     ensures same { map row_colours rows.new ≡ map row_colours rows.old }
     ensures stay { StayOwn rows.old rows.new }
     ensures own { IfOk result (λ _. AreOwn (nat_abs piece.y1) (nat_abs piece.y2) rows.new) }
 {
-    own_rows(alloc, rows, piece.y1 as usize, piece.y2 as usize)
+    own_rows(alloc, rows, retired, piece.y1 as usize, piece.y2 as usize)
 }
 
 /// The same for the rows of rectangles.
-pub fn own_pieces(alloc: Global, rows: &mut [Row], pieces: &[Rect]) -> Result<(), AllocError>
-    requires { All (IsOnScreen 8192 (length rows.old)) pieces.now }
+pub fn own_pieces(
+    alloc: Global,
+    rows: &mut [Row],
+    retired: &mut [Row],
+    pieces: &[Rect],
+) -> Result<(), AllocError>
+    requires inside { All (IsOnScreen 8192 (length rows.old)) pieces.now }
+    requires room { length rows.old ≤ length retired.old }
     ensures same { map row_colours rows.new ≡ map row_colours rows.old }
     ensures own { IfOk result (λ _. AreOwnIn pieces.now rows.new) }
 {
     for piece in pieces {
-        own_piece(alloc, rows, *piece)?;
+        own_piece(alloc, rows, retired, *piece)?;
     }
     Ok(())
 }

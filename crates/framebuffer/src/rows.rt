@@ -37,23 +37,74 @@ pub fn is_own_row(row: &Row) -> bool
     }
 }
 
-/// The colours of a row that snapshots may hold, for the picture alone: they are copied only where a snapshot holds them
-/// still.
-fn taken_back(alloc: Global, places: Arc<Vec<u32>>) -> Result<Vec<u32>, AllocFailed<Arc<Vec<u32>>>>
+/// The places of a retired row that nobody else holds. One that a snapshot holds still is let go.
+fn released(row: Row) -> Option<Vec<u32>> {
+    match row {
+        Row::Own(places) => Some(places),
+        Row::Shared(places) => match Arc::try_unwrap(places) {
+            Ok(places) => Some(places),
+            Err(_) => None,
+        },
+    }
+}
+
+/// The places of a retired row, whatever they hold, if there are as many as asked and nobody else holds them. None is retired in
+/// its place then.
+fn reclaimed(alloc: Global, retired: &mut Row, count: usize) -> Option<Vec<u32>>
+    ensures { IfSome result (λ places. length places.items ≡ count) }
+{
+    match released(mem::replace(retired, Row::Own(Vec::new(alloc)))) {
+        Some(places) if places.len() == count => Some(places),
+        _ => None,
+    }
+}
+
+/// A copy of colours in fresh memory.
+fn fresh_copy(alloc: Global, colours: &[u32]) -> Result<Vec<u32>, AllocError>
+    ensures { IfOk result (λ places. places.items ≡ colours.now) }
+{
+    let mut places = Vec::with_capacity(alloc, colours.len())?;
+    places.extend_from_slice(colours)?;
+    Ok(places)
+}
+
+/// A copy of colours, in the memory of a retired row where that can be had.
+fn copied(alloc: Global, retired: &mut Row, colours: &[u32]) -> Result<Vec<u32>, AllocError>
+    ensures { IfOk result (λ places. places.items ≡ colours.now) }
+{
+    match reclaimed(alloc, retired, colours.len()) {
+        Some(mut places) => {
+            places.copy_from_slice(colours);
+            Ok(places)
+        }
+        None => fresh_copy(alloc, colours),
+    }
+}
+
+/// The colours of a row that snapshots may hold, for the picture alone. They are copied only where a snapshot holds them still,
+/// and then the row that it holds is retired, in the place of the one that was.
+fn taken_back(
+    alloc: Global,
+    retired: &mut Row,
+    places: Arc<Vec<u32>>,
+) -> Result<Vec<u32>, AllocFailed<Arc<Vec<u32>>>>
     ensures ok { IfOk result (λ own. own.items ≡ shared_colours places) }
     ensures err { IfErr result (λ e. shared_colours e.value ≡ shared_colours places) }
 {
     match Arc::try_unwrap(places) {
         Ok(own) => Ok(own),
-        Err(shared) => match shared.as_slice().to_vec(alloc) {
-            Ok(own) => Ok(own),
+        Err(shared) => match copied(alloc, retired, shared.as_slice()) {
+            Ok(own) => {
+                *retired = Row::Shared(shared);
+                Ok(own)
+            }
             Err(_) => Err(AllocFailed { value: shared }),
         },
     }
 }
 
 /// The picture holds the row alone from now on, with its colours as they are.
-fn make_own(alloc: Global, row: &mut Row) -> Result<(), AllocError>
+fn make_own(alloc: Global, row: &mut Row, retired: &mut Row) -> Result<(), AllocError>
     ensures same { row_colours row.new ≡ row_colours row.old }
     ensures stays { is_own row.old ≡ true → is_own row.new ≡ true }
     ensures own { IfOk result (λ _. is_own row.new ≡ true) }
@@ -66,7 +117,7 @@ fn make_own(alloc: Global, row: &mut Row) -> Result<(), AllocError>
             *row = Row::Own(places);
             Ok(())
         }
-        Row::Shared(places) => match taken_back(alloc, places) {
+        Row::Shared(places) => match taken_back(alloc, retired, places) {
             Ok(places) => {
                 *row = Row::Own(places);
                 Ok(())
@@ -141,14 +192,21 @@ pub fn copy_in_row(row: &mut Row, left: usize, colours: &[u32])
 }
 
 /// The picture holds the rows from one to below another alone from now on, with their colours as they are.
-pub fn own_rows(alloc: Global, rows: &mut [Row], from: usize, to: usize) -> Result<(), AllocError>
-    requires { to ≤ length rows.old }
+pub fn own_rows(
+    alloc: Global,
+    rows: &mut [Row],
+    retired: &mut [Row],
+    from: usize,
+    to: usize,
+) -> Result<(), AllocError>
+    requires fits { to ≤ length rows.old }
+    requires room { to ≤ length retired.old }
     ensures same { map row_colours rows.new ≡ map row_colours rows.old }
     ensures stay { StayOwn rows.old rows.new }
     ensures own { IfOk result (λ _. AreOwn from to rows.new) }
 {
     for i in from..to {
-        make_own(alloc, &mut rows[i])?;
+        make_own(alloc, &mut rows[i], &mut retired[i])?;
     }
     Ok(())
 }
@@ -249,28 +307,6 @@ pub fn blank_rows(alloc: Global, width: usize, height: usize) -> Result<Vec<Row>
     Ok(rows)
 }
 
-/// The places of a retired row that nobody else holds. One that a snapshot holds still is let go.
-fn released(row: Row) -> Option<Vec<u32>> {
-    match row {
-        Row::Own(places) => Some(places),
-        Row::Shared(places) => match Arc::try_unwrap(places) {
-            Ok(places) => Some(places),
-            Err(_) => None,
-        },
-    }
-}
-
-/// The places of a retired row, whatever they hold, if there are as many as asked and nobody else holds them. None is retired in
-/// its place then.
-fn reclaimed(alloc: Global, retired: &mut Row, count: usize) -> Option<Vec<u32>>
-    ensures { IfSome result (λ places. length places.items ≡ count) }
-{
-    match released(mem::replace(retired, Row::Own(Vec::new(alloc)))) {
-        Some(places) if places.len() == count => Some(places),
-        _ => None,
-    }
-}
-
 /// Clears the top bytes of colours.
 fn clear_top_bytes(places: &mut [u32])
     ensures { (k : ℕ) → k < length places.old → slice_index places.new k ≡ slice_index places.old k % 2 ^ 24 }
@@ -285,8 +321,7 @@ fn fresh_row(alloc: Global, colours: &[u32]) -> Result<Row, AllocError>
     ensures own { IfOk result (λ row. is_own row ≡ true) }
     ensures colours { IfOk result (λ row. row_colours row ≡ map (λ c. c % 2 ^ 24) colours.now) }
 {
-    let mut places = Vec::with_capacity(alloc, colours.len())?;
-    places.extend_from_slice(colours)?;
+    let mut places = fresh_copy(alloc, colours)?;
     clear_top_bytes(&mut places);
     Ok(Row::Own(places))
 }

@@ -4,11 +4,17 @@ use Rattle.std.specs.Int.{w32}
 use Rattle.std.proofs.lemmas.Int.{ints, to_z-of_z}
 use Rattle.framebuffer.proofs.moves.own_piece.Goals as goal
 
-pub own_rows-requires : goal.own_rows-requires
-own_rows-requires c =
+pub own_rows-requires-clause-fits : goal.own_rows-requires-clause-fits
+own_rows-requires-clause-fits c =
     let y2 : FitsSigned w32 c.args.piece.y2 = search rules in
-    let inside = c.requires in
+    let inside = c.requires.inside in
     simp to_z-of_z (omega (arith, ints, inside.top, inside.rows, inside.bottom))
+
+pub own_rows-requires-clause-room : goal.own_rows-requires-clause-room
+own_rows-requires-clause-room c =
+    let y2 : FitsSigned w32 c.args.piece.y2 = search rules in
+    let inside = c.requires.inside in
+    simp to_z-of_z (omega (arith, ints, inside.top, inside.rows, inside.bottom, c.requires.room))
 
 pub returns-clause-own : goal.returns-clause-own
 returns-clause-own c =

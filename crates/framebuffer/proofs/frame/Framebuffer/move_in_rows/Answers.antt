@@ -11,8 +11,8 @@ use Rattle.framebuffer.proofs.RowLemmas.{wide_same, flat_same}
 use Rattle.framebuffer.proofs.FrameLemmas.{rows_kept, frame_kept, rows_sized, frame_moved, on_err}
 use Rattle.framebuffer.proofs.frame.Framebuffer.move_in_rows.Goals as goal
 
-pub invariant_of-self : goal.invariant_of-self
-invariant_of-self c =
+pub invariant_of-self-in_err-own_pieces : goal.invariant_of-self-in_err-own_pieces
+invariant_of-self-in_err-own_pieces c =
     subst (HasRows c.self.inside.width c.self.inside.height) (sym (take_at c.own_pieces.new.rows (drop (length c.own_pieces.new.rows) c.self.inside.rows.items) _ (c.own_pieces.auto.rows ∙ c.deref_mut.ensures.len)))
     (rows_kept c.self.inside.width c.self.inside.height c.self.inside.rows.items c.own_pieces.new.rows (c.own_pieces.ensures.same ∙ ap (map row_colours) c.deref_mut.ensures.value) c.self.invariant)
 
@@ -24,20 +24,20 @@ returns-in_err-own_pieces-clause-err c =
 pub move_pieces-requires-clause-wide : goal.move_pieces-requires-clause-wide
 move_pieces-requires-clause-wide c =
     let w = c.self.inside.width in
-    let own : c.deref_mut-2.result.now ≡ c.own_pieces.new.rows = c.deref_mut-2.ensures.value ∙ take_at c.own_pieces.new.rows (drop (length c.own_pieces.new.rows) c.self.inside.rows.items) _ (c.own_pieces.auto.rows ∙ c.deref_mut.ensures.len) in
-    wide_same w c.deref_mut-2.result.now c.self.inside.rows.items (ap (map row_colours) own ∙ c.own_pieces.ensures.same ∙ ap (map row_colours) c.deref_mut.ensures.value) c.self.invariant.wide
+    let own : c.deref_mut-3.result.now ≡ c.own_pieces.new.rows = c.deref_mut-3.ensures.value ∙ take_at c.own_pieces.new.rows (drop (length c.own_pieces.new.rows) c.self.inside.rows.items) _ (c.own_pieces.auto.rows ∙ c.deref_mut.ensures.len) in
+    wide_same w c.deref_mut-3.result.now c.self.inside.rows.items (ap (map row_colours) own ∙ c.own_pieces.ensures.same ∙ ap (map row_colours) c.deref_mut.ensures.value) c.self.invariant.wide
 
 pub returns-clause-ok : goal.returns-clause-ok
 returns-clause-ok c =
     let w = c.self.inside.width in
     let h = c.self.inside.height in
     let old = c.self.inside.rows.items in
-    let own : c.deref_mut-2.result.now ≡ c.own_pieces.new.rows = c.deref_mut-2.ensures.value ∙ take_at c.own_pieces.new.rows (drop (length c.own_pieces.new.rows) old) _ (c.own_pieces.auto.rows ∙ c.deref_mut.ensures.len) in
-    let same : map row_colours c.deref_mut-2.result.now ≡ map row_colours old = ap (map row_colours) own ∙ c.own_pieces.ensures.same ∙ ap (map row_colours) c.deref_mut.ensures.value in
-    let flat : colours_of_rows c.deref_mut-2.result.now ≡ colours_of_rows old = flat_same row_colours 0 c.deref_mut-2.result.now old same in
+    let own : c.deref_mut-3.result.now ≡ c.own_pieces.new.rows = c.deref_mut-3.ensures.value ∙ take_at c.own_pieces.new.rows (drop (length c.own_pieces.new.rows) old) _ (c.own_pieces.auto.rows ∙ c.deref_mut.ensures.len) in
+    let same : map row_colours c.deref_mut-3.result.now ≡ map row_colours old = ap (map row_colours) own ∙ c.own_pieces.ensures.same ∙ ap (map row_colours) c.deref_mut.ensures.value in
+    let flat : colours_of_rows c.deref_mut-3.result.now ≡ colours_of_rows old = flat_same row_colours 0 c.deref_mut-3.result.now old same in
     let count : length c.move_pieces.new.rows ≡ length old = c.move_pieces.auto.rows ∙ ap length own ∙ c.own_pieces.auto.rows ∙ ap length c.deref_mut.ensures.value in
     let has : HasRows w h c.move_pieces.new.rows = rows_sized w h old c.move_pieces.new.rows c.self.invariant count c.move_pieces.ensures.wide in
-    ap (frame_of w h) (take_at c.move_pieces.new.rows (drop (length c.move_pieces.new.rows) _) _ (c.move_pieces.auto.rows ∙ c.deref_mut-2.ensures.len))
+    ap (frame_of w h) (take_at c.move_pieces.new.rows (drop (length c.move_pieces.new.rows) _) _ (c.move_pieces.auto.rows ∙ c.deref_mut-3.ensures.len))
     ∙ frame_moved w h c.args.pieces.now c.args.offset old c.move_pieces.new.rows c.self.invariant has
     (λ y x top left. c.move_pieces.ensures.colours y x top left ∙ ap (λ l. colour_moved w h c.args.pieces.now c.args.offset (λ row. true) l y x) flat)
     ∙ ap (moved_in c.args.pieces.now c.args.offset) c.self.view_is
