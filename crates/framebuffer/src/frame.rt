@@ -12,8 +12,8 @@ ghost use Rattle.framebuffer.specs.Moves.{rows_copied};
 use crate::blocks::{Block, block_within};
 use crate::moves::{first_source, in_copy_order, move_pieces, own_pieces, whole_rows};
 use crate::rows::{
-    Row, blank_rows, colours_of, gather, is_own_row, make_room, own_rows, parts, put_rows,
-    rows_with, share_rows, write_rows,
+    Row, blank_rows, colours_of, exchange_rows, gather, is_own_row, make_room, own_rows, parts,
+    put_rows, rows_with, share_rows, write_rows,
 };
 use region::Rect;
 use std::alloc::{AllocError, Global};
@@ -174,7 +174,7 @@ impl Framebuffer {
         make_room(self.alloc, &mut self.retired, block.top + block.rows)?;
         let spare = &mut self.retired[block.top..block.top + block.rows];
         let rows = rows_with(self.alloc, spare, block.columns, block.rows, colours)?;
-        put_rows(&mut self.rows, &mut self.retired, block.top, rows);
+        exchange_rows(&mut self.rows, &mut self.retired, block.top, rows);
         Ok(())
     }
 
@@ -229,16 +229,16 @@ impl Framebuffer {
         self.copy_rows(from, to.top, to.rows)
     }
 
-    /// So many rows from one on get the colours of as many others, in rows that both share: no colour is copied.
+    /// So many rows from one on get the colours of as many others, in rows that both share: no colour is copied. The rows that
+    /// were there are let go: retired, they would keep the picture from taking back those of them that it has in other places.
     fn copy_rows(&mut self, from: usize, to: usize, count: usize) -> Result<(), AllocError>
         requires from { from + count ≤ self.old.height }
         requires to { to + count ≤ self.old.height }
         ensures ok { OnOk result (self.new ≡ record self.old { colours = rows_copied self.old.width from to count self.old.colours }) }
         ensures err { OnErr result (self.new ≡ self.old) }
     {
-        make_room(self.alloc, &mut self.retired, to + count)?;
         let rows = share_rows(self.alloc, &mut self.rows, from, count)?;
-        put_rows(&mut self.rows, &mut self.retired, to, rows);
+        put_rows(&mut self.rows, to, rows);
         Ok(())
     }
 

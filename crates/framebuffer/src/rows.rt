@@ -374,8 +374,17 @@ pub fn make_room(alloc: Global, retired: &mut Vec<Row>, count: usize) -> Result<
     Ok(())
 }
 
-/// Puts rows in the place of as many others, from one on. The others retire, in the place of as many that were retired before.
-pub fn put_rows(rows: &mut [Row], retired: &mut [Row], top: usize, mut others: Vec<Row>)
+/// Puts rows in the place of as many others, from one on.
+pub fn put_rows(rows: &mut [Row], top: usize, mut others: Vec<Row>)
+    requires { top + length others.items ≤ length rows.old }
+    ensures { rows.new ≡ take top rows.old ++ (others.items ++ drop (top + length others.items) rows.old) }
+{
+    let end = top + others.len();
+    rows[top..end].swap_with_slice(&mut others);
+}
+
+/// The same, and the rows that were there retire, in the place of as many that were retired before.
+pub fn exchange_rows(rows: &mut [Row], retired: &mut [Row], top: usize, mut others: Vec<Row>)
     requires fits { top + length others.items ≤ length rows.old }
     requires room { top + length others.items ≤ length retired.old }
     ensures { rows.new ≡ take top rows.old ++ (others.items ++ drop (top + length others.items) rows.old) }

@@ -8,8 +8,8 @@ use Rattle.framebuffer.proofs.FrameLemmas.{rows_kept, frame_kept, rows_put, part
 use Rattle.framebuffer.proofs.ScrollLemmas.{rows_shared}
 use Rattle.framebuffer.proofs.frame.Framebuffer.copy_rows.Goals as goal
 
-pub invariant_of-self-in_err-rows : goal.invariant_of-self-in_err-rows
-invariant_of-self-in_err-rows c =
+pub invariant_of-self : goal.invariant_of-self
+invariant_of-self c =
     subst (HasRows c.self.inside.width c.self.inside.height) (sym (take_at c.share_rows.new.rows (drop (length c.share_rows.new.rows) c.self.inside.rows.items) _ (c.share_rows.auto.rows ∙ c.deref_mut.ensures.len)))
     (rows_kept c.self.inside.width c.self.inside.height c.self.inside.rows.items c.share_rows.new.rows (c.share_rows.ensures.same ∙ ap (map row_colours) c.deref_mut.ensures.value) c.self.invariant)
 
