@@ -3,7 +3,7 @@
 ghost use Rattle.std.specs.Prelude.{◌≡◌, ◌*◌, length, flat_map};
 ghost use Rattle.pixel_translate.specs.Pixel.{colour_bytes, bytes_per_pixel};
 
-use pixel_translate::{PixelFormat, Table, bytes, server_pixel};
+use pixel_translate::{Table, bytes, server_pixel, server_pixels_are_colours};
 
 /// Writes a pixel for each colour, in places of just their size.
 pub fn write_pixels(places: &mut [u8], colours: &[u32], table: &Table)
@@ -11,8 +11,9 @@ pub fn write_pixels(places: &mut [u8], colours: &[u32], table: &Table)
     ensures { places.new ≡ flat_map (colour_bytes table.now) colours.now }
 {
     let format = table.format();
-    if format == PixelFormat::server() {
-        bytes::write_pixels(places, colours, &PixelFormat::server(), server_pixel);
+    server_pixels_are_colours();
+    if format.has_server_components() {
+        bytes::write_pixels(places, colours, &format, server_pixel);
     } else {
         bytes::write_pixels(places, colours, &format, |colour| table.translate(colour));
     }

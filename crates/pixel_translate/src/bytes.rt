@@ -1,6 +1,7 @@
 //! Pixels as bytes in a format's order: one of them, or many at once in places that are there already.
 
 ghost use Rattle.std.specs.Prelude.{◌≡◌, ℕ, ◌*◌, ◌++◌, length, flat_map, OnOk, OnErr};
+ghost use Rattle.std.specs.Int.{w16, w32, to_be_bytes, to_le_bytes};
 ghost use Rattle.pixel_translate.specs.Pixel.{pixel_bytes, bytes_per_pixel};
 ghost use Rattle.pixel_translate.specs.Bytes.{Gives, bytes_by};
 
@@ -65,27 +66,77 @@ fn write_8<F: Fn(u32) -> u32>(places: &mut [u8], values: &[u32], format: &PixelF
     }
 }
 
-/// Writes the pixel of each value in a format of 16 bits.
+/// Writes the pixel of each value in 16 bits, the lowest byte first.
+fn write_16_little<F: Fn(u32) -> u32>(places: &mut [u8], values: &[u32], pixel_of: F)
+    requires callable { F.IsAlwaysCallable pixel_of }
+    requires room { length places.old ≡ 2 * length values.now }
+    ensures { (number : ℕ → ℕ) → Gives (F.post pixel_of) number → places.new ≡ flat_map (λ value. to_le_bytes w16 (number value)) values.now }
+{
+    for i in 0..values.len() {
+        let [_, _, b1, b0] = pixel_of(values[i]).to_be_bytes();
+        places[2 * i..2 * i + 2].copy_from_slice(&[b0, b1]);
+    }
+}
+
+/// Writes the pixel of each value in 16 bits, the highest byte first.
+fn write_16_big<F: Fn(u32) -> u32>(places: &mut [u8], values: &[u32], pixel_of: F)
+    requires callable { F.IsAlwaysCallable pixel_of }
+    requires room { length places.old ≡ 2 * length values.now }
+    ensures { (number : ℕ → ℕ) → Gives (F.post pixel_of) number → places.new ≡ flat_map (λ value. to_be_bytes w16 (number value)) values.now }
+{
+    for i in 0..values.len() {
+        let [_, _, b1, b0] = pixel_of(values[i]).to_be_bytes();
+        places[2 * i..2 * i + 2].copy_from_slice(&[b1, b0]);
+    }
+}
+
+/// Writes the pixel of each value in a format of 16 bits. The order of bytes is looked at once for all of them.
 fn write_16<F: Fn(u32) -> u32>(places: &mut [u8], values: &[u32], format: &PixelFormat, pixel_of: F)
     requires callable { F.IsAlwaysCallable pixel_of }
     requires bits { format.now.bits ≡ BitsPerPixel.Sixteen }
     requires room { length places.old ≡ 2 * length values.now }
     ensures { (number : ℕ → ℕ) → Gives (F.post pixel_of) number → places.new ≡ flat_map (bytes_by format.now number) values.now }
 {
-    for i in 0..values.len() {
-        places[2 * i..2 * i + 2].copy_from_slice(&bytes_16(format, pixel_of(values[i])));
+    if format.big_endian {
+        write_16_big(places, values, pixel_of);
+    } else {
+        write_16_little(places, values, pixel_of);
     }
 }
 
-/// Writes the pixel of each value in a format of 32 bits.
+/// Writes the pixel of each value in 32 bits, the lowest byte first.
+fn write_32_little<F: Fn(u32) -> u32>(places: &mut [u8], values: &[u32], pixel_of: F)
+    requires callable { F.IsAlwaysCallable pixel_of }
+    requires room { length places.old ≡ 4 * length values.now }
+    ensures { (number : ℕ → ℕ) → Gives (F.post pixel_of) number → places.new ≡ flat_map (λ value. to_le_bytes w32 (number value)) values.now }
+{
+    for i in 0..values.len() {
+        places[4 * i..4 * i + 4].copy_from_slice(&pixel_of(values[i]).to_le_bytes());
+    }
+}
+
+/// Writes the pixel of each value in 32 bits, the highest byte first.
+fn write_32_big<F: Fn(u32) -> u32>(places: &mut [u8], values: &[u32], pixel_of: F)
+    requires callable { F.IsAlwaysCallable pixel_of }
+    requires room { length places.old ≡ 4 * length values.now }
+    ensures { (number : ℕ → ℕ) → Gives (F.post pixel_of) number → places.new ≡ flat_map (λ value. to_be_bytes w32 (number value)) values.now }
+{
+    for i in 0..values.len() {
+        places[4 * i..4 * i + 4].copy_from_slice(&pixel_of(values[i]).to_be_bytes());
+    }
+}
+
+/// Writes the pixel of each value in a format of 32 bits. The order of bytes is looked at once for all of them.
 fn write_32<F: Fn(u32) -> u32>(places: &mut [u8], values: &[u32], format: &PixelFormat, pixel_of: F)
     requires callable { F.IsAlwaysCallable pixel_of }
     requires bits { format.now.bits ≡ BitsPerPixel.ThirtyTwo }
     requires room { length places.old ≡ 4 * length values.now }
     ensures { (number : ℕ → ℕ) → Gives (F.post pixel_of) number → places.new ≡ flat_map (bytes_by format.now number) values.now }
 {
-    for i in 0..values.len() {
-        places[4 * i..4 * i + 4].copy_from_slice(&bytes_32(format, pixel_of(values[i])));
+    if format.big_endian {
+        write_32_big(places, values, pixel_of);
+    } else {
+        write_32_little(places, values, pixel_of);
     }
 }
 

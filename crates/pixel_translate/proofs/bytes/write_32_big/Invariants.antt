@@ -1,0 +1,9 @@
+use Rattle.std.proofs.Common.{ℕ}
+use Rattle.std.specs.Int.{w32, to_be_bytes}
+use Rattle.pixel_translate.specs.Bytes.{Gives}
+use Rattle.pixel_translate.proofs.Blocks.{AreWritten}
+use Rattle.pixel_translate.proofs.bytes.write_32_big.Given as goal
+
+-- the first i pixels are written
+abbrev pub invariant-loop-i : goal.invariant-loop-i
+invariant-loop-i g l = (number : ℕ → ℕ) → Gives (goal.F-post g l.pixel_of) number → AreWritten (λ value. to_be_bytes w32 (number value)) 4 l.values l.fn.places l.i l.places
