@@ -30,6 +30,7 @@ mod background;
 mod breaks;
 mod bytes;
 pub mod lines;
+mod pixels;
 pub mod rows;
 mod scan;
 
@@ -37,6 +38,7 @@ use crate::background::background_of;
 use crate::breaks::has_too_many;
 use crate::bytes::put_rre;
 use crate::lines::{Lines, Values};
+use crate::pixels::write_piece;
 use crate::scan::subrectangles_within;
 pub use background::{is_better, times};
 use encode_raw::{put_raw_pixels, raw_is_read_back, rect_header};
@@ -44,6 +46,9 @@ use pixel_translate::{Table, server_pixels_are_colours};
 pub use pixel_translate::{Area, PixelFormat};
 pub use scan::{stretch_from, subrectangle_at};
 use std::alloc::{AllocError, Global};
+
+/// How many colours of a row are translated at a time: so few that their places are still near when they are written.
+const PIECE: usize = 256;
 
 /// A subrectangle of one pixel: its place relative to the rectangle that it belongs to, and its
 /// size, in pixels.
@@ -88,18 +93,30 @@ fn are_pixels(colours: &Lines, format: &PixelFormat) -> bool
     format.has_server_components() && are_low(colours)
 }
 
-/// Appends the pixel of each colour of a row. A colour that is the one before it isn't translated again.
+/// Appends the pixel of each colour of a piece of a row. Their places are made first, and then written.
+fn put_piece(pixels: &mut Vec<u32>, piece: &[u32], table: &Table) -> Result<(), AllocError>
+    requires some { 0 < length piece.now }
+    requires columns { length piece.now < 2 ^ 16 }
+    ensures { OnOk result (pixels.new.items ≡ pixels.old.items ++ map (pixel table.now) piece.now) }
+{
+    let start = pixels.len();
+    let Some(end) = start.checked_add(piece.len()) else {
+        return Err(AllocError);
+    };
+    pixels.resize(end, 0)?;
+    write_piece(&mut pixels[start..], piece, table);
+    Ok(())
+}
+
+/// Appends the pixel of each colour of a row, a piece of it at a time.
 fn put_pixels_of(pixels: &mut Vec<u32>, row: &[u32], table: &Table) -> Result<(), AllocError>
     ensures { OnOk result (pixels.new.items ≡ pixels.old.items ++ map (pixel table.now) row.now) }
 {
-    let mut last = 0;
-    let mut pixel = table.translate(last);
-    for colour in row {
-        if *colour != last {
-            last = *colour;
-            pixel = table.translate(last);
-        }
-        pixels.push(pixel)?;
+    let mut from = 0;
+    while from < row.len() {
+        let end = from + (row.len() - from).min(PIECE);
+        put_piece(pixels, &row[from..end], table)?;
+        from = end;
     }
     Ok(())
 }

@@ -34,6 +34,7 @@ fn are_all(pixels: &[u32], pixel: u32) -> bool
 
 /// Where the last block of 16 pixels that are all one ends, of those one behind another from `from`
 /// on.
+#[inline(always)]
 fn blocks_end(row: &[u32], from: usize, pixel: u32) -> usize
     requires { from ≤ length row.now }
     ensures before { from ≤ result }
