@@ -1,4 +1,5 @@
-//! Regions in linked spans beside worked examples: the orders of a canonical list, and a union in room that was made before.
+//! Regions in linked spans beside worked examples: the orders of a canonical list, and a union in room that was made before. Room
+//! that is refused is asked for again.
 
 use region::Rect;
 use span_region::SpanRegion;
@@ -79,17 +80,32 @@ fn a_frame_in_four_orders(rt: HostRuntime) -> Result<(), Fail> {
     Ok(())
 }
 
+/// Room for the union, made again where it is refused; whether there is none after a refusal, and then enough.
+fn has_new_room(region: &mut SpanRegion, other: &SpanRegion) -> Result<bool, AllocError> {
+    let had_room = region.is_reserved_for(other);
+    if region.reserve_or(other).is_ok() {
+        return Ok(!had_room && region.is_reserved_for(other));
+    }
+    let is_refused = !region.is_reserved_for(other);
+    region.reserve_or(other)?;
+    Ok(!had_room && is_refused && region.is_reserved_for(other))
+}
+
+fn or_in_room(region: &mut SpanRegion, other: &SpanRegion) -> bool {
+    let has_room = region.is_reserved_for(other);
+    if has_room {
+        region.or_reserved(other);
+    }
+    has_room
+}
+
 #[test]
 fn a_union_in_room(rt: HostRuntime) -> Result<(), Fail> {
-    let mut region = frame(rt.alloc())?;
-    let middle = region_of(rt.alloc(), MIDDLE)?;
-    assert!(rt; !region.is_reserved_for(&middle));
-    region.reserve_or(&middle)?;
-    assert!(rt; region.is_reserved_for(&middle));
-    assert!(rt; is_list(&region, false, false, &[TOP, LEFT, RIGHT, BOTTOM])?);
-    if region.is_reserved_for(&middle) {
-        region.or_reserved(&middle);
-    }
+    let mut region = region_of(rt.alloc(), MIDDLE)?;
+    let frame = frame(rt.alloc())?;
+    assert!(rt; has_new_room(&mut region, &frame)?);
+    assert!(rt; is_list(&region, false, false, &[MIDDLE])?);
+    assert!(rt; or_in_room(&mut region, &frame));
     assert!(rt; is_list(&region, false, false, &[WHOLE])?);
     Ok(())
 }
