@@ -342,36 +342,31 @@ impl SpanRegion {
     }
 
     /// The places of either region, as a region of its own.
-    pub fn union(&self, other: &SpanRegion, alloc: Global) -> Result<SpanRegion, AllocError>
+    pub fn union(&self, other: &SpanRegion) -> Result<SpanRegion, AllocError>
         ensures { IfOk result (λ region. (x y : ℤ) → covers region.list x y ≡ (covers self.now.list x y || covers other.now.list x y)) }
     {
-        self.kept_with(other, Keep::Either, alloc)
+        self.kept_with(other, Keep::Either)
     }
 
     /// The places of both regions, as a region of its own.
-    pub fn intersection(&self, other: &SpanRegion, alloc: Global) -> Result<SpanRegion, AllocError>
+    pub fn intersection(&self, other: &SpanRegion) -> Result<SpanRegion, AllocError>
         ensures { IfOk result (λ region. (x y : ℤ) → covers region.list x y ≡ (covers self.now.list x y && covers other.now.list x y)) }
     {
-        self.kept_with(other, Keep::Both, alloc)
+        self.kept_with(other, Keep::Both)
     }
 
     /// The region's places that are not in `other`, as a region of its own.
-    pub fn difference(&self, other: &SpanRegion, alloc: Global) -> Result<SpanRegion, AllocError>
+    pub fn difference(&self, other: &SpanRegion) -> Result<SpanRegion, AllocError>
         ensures { IfOk result (λ region. (x y : ℤ) → covers region.list x y ≡ (covers self.now.list x y && not (covers other.now.list x y))) }
     {
-        self.kept_with(other, Keep::FirstAlone, alloc)
+        self.kept_with(other, Keep::FirstAlone)
     }
 
     // What is kept of two regions, as a region of its own.
-    fn kept_with(
-        &self,
-        other: &SpanRegion,
-        keep: Keep,
-        alloc: Global,
-    ) -> Result<SpanRegion, AllocError>
+    fn kept_with(&self, other: &SpanRegion, keep: Keep) -> Result<SpanRegion, AllocError>
         ensures { IfOk result (λ region. (x y : ℤ) → covers region.list x y ≡ kept keep (covers self.now.list x y) (covers other.now.list x y)) }
     {
-        let mut region = self.try_clone(alloc)?;
+        let mut region = self.try_clone(self.alloc)?;
         region.keep_with(other, keep)?;
         Ok(region)
     }
