@@ -1,5 +1,5 @@
 -- What is left of an update, and that a part of it has bytes.
-use Rattle.std.proofs.Common.{◌≡◌, ◌+◌, ◌-◌, ◌/◌, ◌<◌, ◌≤◌, ◌↔◌, ℕ, Bool, true, false, List, [], ◌∷◌, ◌++◌, length, take, drop, map, get_or, Option, None, Some, subst, Result, Ok, Err, refl, sym, ap, ◌∙◌, arith, append_assoc}
+use Rattle.std.proofs.Common.{◌≡◌, ◌+◌, ◌-◌, ◌*◌, ◌/◌, ◌<◌, ◌≤◌, ◌↔◌, ℕ, Bool, true, false, List, [], ◌∷◌, ◌++◌, length, take, drop, map, get_or, Option, None, Some, subst, Result, Ok, Err, refl, sym, ap, ◌∙◌, arith, append_assoc}
 use Rattle.std.specs.Prelude.{if◌then◌else◌, IsTrue, OnOk}
 use Rattle.std.specs.List.{flat_map}
 use Rattle.std.proofs.Math.Dec.{leb}
@@ -37,6 +37,22 @@ some_pixels f [] some = absurd (omega arith)
 some_pixels f (c ∷ colours) some =
     let long : length (colour_bytes f c ++ flat_map (colour_bytes f) colours) ≡ length (colour_bytes f c) + length (flat_map (colour_bytes f) colours) = length-append (colour_bytes f c) (flat_map (colour_bytes f) colours) in
     omega (arith, long, pixel_length f (pixel f c), some_byte f.bits)
+
+few_bytes : (b : BitsPerPixel) → bit_count b / 8 ≤ 4
+few_bytes Eight = omega arith
+few_bytes Sixteen = omega arith
+few_bytes ThirtyTwo = omega arith
+
+-- a pixel has at most four bytes
+few_pixels : (f : PixelFormat) (colours : List ℕ) → length (flat_map (colour_bytes f) colours) ≤ 4 * length colours
+few_pixels f [] = omega arith
+few_pixels f (c ∷ colours) =
+    let long : length (colour_bytes f c ++ flat_map (colour_bytes f) colours) ≡ length (colour_bytes f c) + length (flat_map (colour_bytes f) colours) = length-append (colour_bytes f c) (flat_map (colour_bytes f) colours) in
+    omega (arith, long, pixel_length f (pixel f c), few_bytes f.bits, few_pixels f colours)
+
+-- a run of pixels that is appended
+pub few_added : (f : PixelFormat) (old new run : List ℕ) → new ≡ old ++ flat_map (colour_bytes f) run → length run ≤ 8192 → length new ≤ length old + 32768
+few_added f old new run e few = omega (arith, ap (λ (l : List ℕ). length l) e, length-append old (flat_map (colour_bytes f) run), few_pixels f run, few)
 
 -- more is there once bytes are appended
 pub longer : (old new added : List ℕ) → new ≡ old ++ added → 0 < length added → length old < length new

@@ -1,9 +1,10 @@
 //! What of an update is still to be encoded, part by part.
 
-ghost use Rattle.std.specs.Prelude.{◌≡◌, ◌≢◌, ◌*◌, ◌^◌, ◌<◌, ◌++◌, ◌↔◌, [], All, IsTrue, IfOk, IfSome, OnOk, OnErr, length};
+ghost use Rattle.std.specs.Prelude.{◌≡◌, ◌≢◌, ◌+◌, ◌*◌, ◌^◌, ◌<◌, ◌≤◌, ◌++◌, ◌↔◌, [], All, IsTrue, true, false, IfOk, IfSome, OnOk, OnErr, length};
 ghost use Rattle.viewer.specs.Short.{IsShort};
 ghost use Rattle.viewer.specs.Updates.{coloured_bytes, rectangles_bytes, all_bytes};
 ghost use Rattle.viewer.specs.declared.left.Begun.TheVariants as begun;
+ghost use Rattle.viewer.specs.declared.left.Reached.TheVariants as so_far;
 ghost use Rattle.viewer.specs.Left.{rest_of, reached_after, left_of, IsBegun, IsWithin};
 
 use crate::notices::{Notice, put_notice};
@@ -84,7 +85,8 @@ fn begin_rectangle(
     }
 }
 
-/// Goes on with a rectangle in Raw, by one run of its colours. How far it is encoded then, where not all of it is.
+/// Goes on with a rectangle in Raw, by one run of its colours: at most 32,768 bytes. How far it is encoded then, where not all of
+/// it is. Where memory is refused, nothing is appended.
 fn go_on_in_raw(
     out: &mut Vec<u8>,
     rectangle: &Coloured,
@@ -94,7 +96,9 @@ fn go_on_in_raw(
     requires { done < length rectangle.now.colours }
     ensures bytes { IfOk result (λ next. out.new.items ++ rest_of table.now rectangle.now next ≡ out.old.items ++ rest_of table.now rectangle.now (Some (begun.Colours done))) }
     ensures more { OnOk result (length out.old.items < length out.new.items) }
+    ensures bound { OnOk result (length out.new.items ≤ length out.old.items + 32768) }
     ensures within { IfOk result (λ next. IfSome next (λ b. IsBegun b rectangle.now)) }
+    ensures err { OnErr result (out.new.items ≡ out.old.items) }
 {
     let run = rectangle.colours.run_from(done);
     put_raw_pixels(out, run, table)?;
@@ -214,6 +218,26 @@ fn put_next(
     }
 }
 
+/// Appends the next run of the pixels of a rectangle in Raw, of which so many are encoded: at most 32,768 bytes. What is reached
+/// then. Where memory is refused, nothing is appended.
+fn put_run(
+    out: &mut Vec<u8>,
+    rectangles: &Rectangles,
+    table: &Table,
+    next: usize,
+    done: usize,
+) -> Result<Reached, AllocError>
+    requires { IsWithin rectangles.now.coloured.items (so_far.Within next (begun.Colours done)) }
+    ensures bytes { IfOk result (λ r. out.new.items ++ left_of rectangles.now table.now r ≡ out.old.items ++ left_of rectangles.now table.now (so_far.Within next (begun.Colours done))) }
+    ensures more { OnOk result (length out.old.items < length out.new.items) }
+    ensures bound { OnOk result (length out.new.items ≤ length out.old.items + 32768) }
+    ensures within { IfOk result (λ r. IsWithin rectangles.now.coloured.items r) }
+    ensures err { OnErr result (out.new.items ≡ out.old.items) }
+{
+    let begun = go_on_in_raw(out, &rectangles.coloured[next], table, done)?;
+    Ok(reached_after(next, begun))
+}
+
 impl RectanglesLeft {
     /// All of an update's rectangles.
     pub fn new(alloc: Global, rectangles: Rectangles) -> RectanglesLeft
@@ -247,6 +271,23 @@ impl RectanglesLeft {
     {
         self.reached = put_next(self.alloc, out, &self.rectangles, &self.table, self.reached)?;
         Ok(())
+    }
+
+    /// Appends the next part where it is some of the pixels of a rectangle in Raw, which are at most 32,768 bytes. Whether it is.
+    pub fn put_run(&mut self, out: &mut Vec<u8>) -> Result<bool, AllocError>
+        ensures bytes { OnOk result (out.new.items ++ self.new ≡ out.old.items ++ self.old) }
+        ensures more { result ≡ Ok true → length out.old.items < length out.new.items }
+        ensures bound { OnOk result (length out.new.items ≤ length out.old.items + 32768) }
+        ensures other { result ≡ Ok false → out.new.items ≡ out.old.items }
+        ensures same { result ≡ Ok false → self.new ≡ self.old }
+        ensures err { OnErr result (out.new.items ≡ out.old.items) }
+        ensures kept { OnErr result (self.new ≡ self.old) }
+    {
+        let Reached::Within(next, Begun::Colours(done)) = self.reached else {
+            return Ok(false);
+        };
+        self.reached = put_run(out, &self.rectangles, &self.table, next, done)?;
+        Ok(true)
     }
 }
 
@@ -314,6 +355,22 @@ impl UpdateLeft {
         match &mut self.rectangles {
             Some(rectangles) => rectangles.put_part(out),
             None => Ok(()),
+        }
+    }
+
+    /// Appends the next part where it is some of the pixels of a rectangle in Raw, which are at most 32,768 bytes. Whether it is.
+    pub fn put_run(&mut self, out: &mut Vec<u8>) -> Result<bool, AllocError>
+        ensures bytes { OnOk result (out.new.items ++ self.new ≡ out.old.items ++ self.old) }
+        ensures more { result ≡ Ok true → length out.old.items < length out.new.items }
+        ensures bound { OnOk result (length out.new.items ≤ length out.old.items + 32768) }
+        ensures other { result ≡ Ok false → out.new.items ≡ out.old.items }
+        ensures same { result ≡ Ok false → self.new ≡ self.old }
+        ensures err { OnErr result (out.new.items ≡ out.old.items) }
+        ensures kept { OnErr result (self.new ≡ self.old) }
+    {
+        match &mut self.rectangles {
+            Some(rectangles) if self.told >= self.notices.len() => rectangles.put_run(out),
+            _ => Ok(false),
         }
     }
 }

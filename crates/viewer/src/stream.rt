@@ -11,8 +11,8 @@ pub const PIECE: usize = 32_768;
 
 /// An update on its way to a viewer, piece by piece. Contracts see it as the bytes that are still to come.
 ///
-/// No more is made at once, in a vector that the stream keeps, than a row in Raw, a row of tiles in Hextile, a rectangle in
-/// RRE, or a notice.
+/// Pixels in Raw are appended as they are made. Of other parts no more is made at once, in a vector that the stream keeps, than
+/// a row of tiles in Hextile, a rectangle in RRE, or a notice.
 #[derive(Drop)]
 pub struct Stream {
     left: UpdateLeft,
@@ -74,6 +74,9 @@ impl Stream {
         ensures kept { OnErr result (self.new ≡ self.old) }
     {
         if self.given >= self.made.len() {
+            if self.left.put_run(out)? {
+                return Ok(());
+            }
             self.given = 0;
             make_part(&mut self.made, &mut self.left)?;
         }

@@ -2,7 +2,7 @@ use Rattle.std.proofs.Common.{arith}
 use Rattle.pixel_translate.specs.Pixel.{colour_bytes}
 use Rattle.std.specs.List.{flat_map}
 use Rattle.viewer.proofs.RunLemmas.{run_on}
-use Rattle.viewer.proofs.LeftLemmas.{some_pixels, longer}
+use Rattle.viewer.proofs.LeftLemmas.{some_pixels, few_added, longer}
 use Rattle.viewer.proofs.left.go_on_in_raw.Goals as goal
 
 pub returns-then-goes_on-clause-bytes : goal.returns-then-goes_on-clause-bytes
@@ -18,3 +18,11 @@ pub returns-else-goes_on-clause-more : goal.returns-else-goes_on-clause-more
 returns-else-goes_on-clause-more c =
     longer c.args.out.now.items c.put_raw_pixels.new.out.items (flat_map (colour_bytes c.args.table.now) c.run_from-run.result.now) c.in_ok-put_raw_pixels.ensures.ok
     (some_pixels c.args.table.now c.run_from-run.result.now (omega (arith, c.run_from-run.ensures.some)))
+
+pub returns-then-goes_on-clause-bound : goal.returns-then-goes_on-clause-bound
+returns-then-goes_on-clause-bound c =
+    few_added c.args.table.now c.args.out.now.items c.put_raw_pixels.new.out.items c.run_from-run.result.now c.in_ok-put_raw_pixels.ensures.ok (omega (arith, c.run_from-run.ensures.few))
+
+pub returns-else-goes_on-clause-bound : goal.returns-else-goes_on-clause-bound
+returns-else-goes_on-clause-bound c =
+    few_added c.args.table.now c.args.out.now.items c.put_raw_pixels.new.out.items c.run_from-run.result.now c.in_ok-put_raw_pixels.ensures.ok (omega (arith, c.run_from-run.ensures.few))
