@@ -1,19 +1,23 @@
 -- One viewer that lags: what it lacks, and what a drawing call adds.
-use Rattle.std.proofs.Common.{◌≡◌, ℕ, zero, suc, ◌+◌, ◌≤◌, Bool, true, false, cond, ◌||◌, ◌&&◌, not, List, [], ◌∷◌, ◌++◌, length, drop, All, Some, None, true≢false, refl, sym, subst, ◌∙◌, ap, arith}
-use Rattle.std.proofs.lemmas.List.{drop_all, length-append}
-use Rattle.std.proofs.lemmas.List.Elements.{All-append}
+use Rattle.std.proofs.Common.{◌≡◌, ℕ, zero, suc, ◌+◌, ◌≤◌, ◌<◌, Bool, true, false, cond, ◌||◌, ◌&&◌, not, List, [], ◌∷◌, ◌++◌, length, take, drop, All, Some, None, true≢false, refl, sym, subst, ◌∙◌, ap, arith}
+use Rattle.std.specs.Prelude.{min, nat_le}
+use Rattle.std.proofs.lemmas.Bool.Decides.{nat_tests}
+use Rattle.std.proofs.lemmas.List.{nil_from_length, drop_all, length-append, length-take-le, take-append-drop, drop-append-le}
+use Rattle.std.proofs.lemmas.List.Elements.{All-append, All-head, All-tail}
+use Rattle.region.specs.Held.{Held}
+use Rattle.region.specs.Region.{covers}
 use Rattle.copy_schedule.specs.declared.LogEntry.{LogEntry}
 use Rattle.copy_schedule.specs.declared.LogEntry.TheVariants.{Mark, Copy}
-use Rattle.copy_schedule.specs.Marks.{Marks, Sent, has_asked, pending, copies_of, pixels_of, after_sending}
+use Rattle.copy_schedule.specs.Marks.{Marks, Sent, marked, has_asked, pending, copies_of, pixels_of, after_sending}
 use Rattle.copy_schedule.specs.Log.{after_entry, logged, IsCutEntry}
-use Rattle.copy_schedule.proofs.LogLemmas.{unasked_is_not_pending}
+use Rattle.copy_schedule.proofs.LogLemmas.{unasked_is_not_pending, logged_append, cut_append, front_is_cut}
 use Rattle.messages.specs.Reading.{is_open_rest}
 use Rattle.viewer.specs.Sending.{sending_kept, with_update}
 use Rattle.viewer.specs.Viewer.{KeptViewer, none_wait}
 use Rattle.viewer_list.specs.declared.lagging.Lagging.{Lagging}
 use Rattle.viewer_list.specs.declared.lagging.Shared.{Shared}
 use Rattle.viewer.specs.Told.{viewer_told}
-use Rattle.viewer_list.specs.Lagging.{waiting, caught_up, up_to_date, at_start, told, IsCurrent, AsksNothing, Fits, IsShared, IsFor}
+use Rattle.viewer_list.specs.Lagging.{waiting, caught_up, up_to_date, brought_up, within_end, told, IsCurrent, AsksNothing, Fits, IsShared, IsFor, IsMark, IsJoined}
 use Rattle.viewer_list.specs.Viewers.{drawn, told_at_once, is_pending}
 
 -- what drawing leaves of marks
@@ -59,8 +63,14 @@ current_fits log l current = record {
 }
 
 -- at the start of an empty log it is the same
-pub started_same : (log : List LogEntry) (l : Lagging) → IsCurrent log l → caught_up [] (at_start l) ≡ caught_up log l
-started_same log l current = current_viewer [] (at_start l) refl ∙ sym (current_viewer log l current)
+starts : (l : Lagging) → IsCurrent [] (within_end 0 l)
+starts l = omega arith
+
+pub started_same : (log : List LogEntry) (l : Lagging) → IsCurrent log l → caught_up [] (within_end 0 l) ≡ caught_up log l
+started_same log l current = current_viewer [] (within_end 0 l) (starts l) ∙ sym (current_viewer log l current)
+
+pub started_fits : (l : Lagging) → Fits [] (within_end 0 l)
+started_fits l = current_fits [] (within_end 0 l) (starts l)
 
 pub current_is_up_to_date : (log : List LogEntry) (l : Lagging) → IsCurrent log l → l ≡ up_to_date log l
 current_is_up_to_date log l current =
@@ -68,8 +78,122 @@ current_is_up_to_date log l current =
 
 -- Catching up changes no viewer.
 
-pub caught_up_again : (log : List LogEntry) (l : Lagging) → caught_up log (up_to_date log l) ≡ caught_up log l
-caught_up_again log l = current_viewer log (up_to_date log l) refl
+le_true : (a b : ℕ) → a ≤ b → nat_le a b ≡ true
+le_true a b below = grind (arith, nat_tests)
+
+le_false : (a b : ℕ) → b < a → nat_le a b ≡ false
+le_false a b above = grind (arith, nat_tests)
+
+above_of : (a b : ℕ) → nat_le a b ≡ false → b < a
+above_of a b is = grind (arith, nat_tests)
+
+pub brought_up_is : (log : List LogEntry) (least : ℕ) (l : Lagging) → least ≤ l.taken → brought_up log least l ≡ up_to_date log l
+brought_up_is log least l enough = ap (λ (b : Bool). cond b (up_to_date log l) l) (le_true least l.taken enough)
+
+pub brought_up_stays : (log : List LogEntry) (least : ℕ) (l : Lagging) → l.taken < least → brought_up log least l ≡ l
+brought_up_stays log least l few = ap (λ (b : Bool). cond b (up_to_date log l) l) (le_false least l.taken few)
+
+pub brought_up_same : (log : List LogEntry) (least : ℕ) (l : Lagging) → caught_up log (brought_up log least l) ≡ caught_up log l
+brought_up_same log least l = go (nat_le least l.taken)
+  where
+    go : (b : Bool) → caught_up log (cond b (up_to_date log l) l) ≡ caught_up log l
+    go true = current_viewer log (up_to_date log l) refl
+    go false = refl
+
+pub brought_up_fits : (log : List LogEntry) (least : ℕ) (l : Lagging) → Fits log l → Fits log (brought_up log least l)
+brought_up_fits log least l fits = go (nat_le least l.taken)
+  where
+    go : (b : Bool) → Fits log (cond b (up_to_date log l) l)
+    go true = current_fits log (up_to_date log l) refl
+    go false = fits
+
+-- where all are brought up, each lacks nothing then
+pub brought_up_current : (log : List LogEntry) (l : Lagging) → IsCurrent log (brought_up log 0 l)
+brought_up_current log l = subst (IsCurrent log) (sym (brought_up_is log 0 l (omega arith))) refl
+
+-- Entries that are joined.
+
+module _ (log : List LogEntry) (place end : ℕ) (region : Held) (within : place < length log) (ends : end ≡ place + 1) (joins : IsJoined (drop place log) region) where
+  -- the log then
+  abbrev pub joined_log : List LogEntry
+  joined_log = take place log ++ Mark region ∷ []
+
+  joined_length : length joined_log ≡ end
+  joined_length = omega (arith, ends, length-append (take place log) (Mark region ∷ []), length-take-le place log (omega (arith, within)))
+
+  -- a viewer that was brought up stands at its end
+  ends_current : (l : Lagging) → IsCurrent log l → IsCurrent joined_log (within_end end l)
+  ends_current l current = omega (arith, within, ends, current, joined_length)
+
+  module _ (l : Lagging) (before : l.taken ≤ place) where
+    -- another one stays, and lacks one entry for those that were joined
+    stays : min l.taken end ≡ l.taken
+    stays = omega (arith, before, ends)
+
+    waited : drop l.taken log ≡ drop l.taken (take place log) ++ drop place log
+    waited =
+        ap (drop l.taken) (sym (take-append-drop place log))
+        ∙ drop-append-le l.taken (take place log) (drop place log) (omega (arith, before, length-take-le place log (omega (arith, within))))
+
+    waits : waiting joined_log (within_end end l) ≡ drop l.taken (take place log) ++ Mark region ∷ []
+    waits =
+        ap (λ (n : ℕ). drop n joined_log) stays
+        ∙ drop-append-le l.taken (take place log) (Mark region ∷ []) (omega (arith, before, length-take-le place log (omega (arith, within))))
+
+    stays_same : caught_up joined_log (within_end end l) ≡ caught_up log l
+    stays_same =
+        let u : Bool = l.viewer.uses_copyrect in
+        let front : List LogEntry = drop l.taken (take place log) in
+        ap (λ (es : List LogEntry). record l.viewer { marks = logged u es l.viewer.marks }) waits
+        ∙ ap (λ (m : Marks). record l.viewer { marks = m })
+        (logged-last u front (Mark region) l.viewer.marks
+        ∙ joins.same u (logged u front l.viewer.marks)
+        ∙ sym (logged_append u front (drop place log) l.viewer.marks)
+        ∙ ap (λ (es : List LogEntry). logged u es l.viewer.marks) (sym waited))
+
+    stays_fit : Fits log l → Fits joined_log (within_end end l)
+    stays_fit fits = record {
+      stands = omega (arith, joined_length);
+      asks = λ is. let current : l.taken ≡ length log = fits.asks is in absurd (omega (arith, current, before, within));
+      cut =
+          let w : ℕ = l.viewer.marks.width in
+          let h : ℕ = l.viewer.marks.height in
+          subst (All (IsCutEntry w h)) (sym waits)
+          (cut_append w h (drop l.taken (take place log)) (Mark region) (front_is_cut w h (drop l.taken (take place log)) (drop place log) (subst (All (IsCutEntry w h)) waited fits.cut)) tt);
+    }
+
+  pub joined_same : (l : Lagging) → caught_up joined_log (within_end end (brought_up log (place + 1) l)) ≡ caught_up log l
+  joined_same l = go (nat_le (place + 1) l.taken) refl
+    where
+      stood : nat_le (place + 1) l.taken ≡ false → l.taken ≤ place
+      stood is = omega (arith, above_of (place + 1) l.taken is)
+
+      go : (b : Bool) → nat_le (place + 1) l.taken ≡ b → caught_up joined_log (within_end end (cond b (up_to_date log l) l)) ≡ caught_up log l
+      go true is = current_viewer joined_log (within_end end (up_to_date log l)) (ends_current (up_to_date log l) refl)
+      go false is = stays_same l (stood is)
+
+  pub joined_fits : (l : Lagging) → Fits log l → Fits joined_log (within_end end (brought_up log (place + 1) l))
+  joined_fits l fits = go (nat_le (place + 1) l.taken) refl
+    where
+      stood : nat_le (place + 1) l.taken ≡ false → l.taken ≤ place
+      stood is = omega (arith, above_of (place + 1) l.taken is)
+
+      go : (b : Bool) → nat_le (place + 1) l.taken ≡ b → Fits joined_log (within_end end (cond b (up_to_date log l) l))
+      go true is = current_fits joined_log (within_end end (up_to_date log l)) (ends_current (up_to_date log l) refl)
+      go false is = stays_fit l (stood is) fits
+
+-- marks alone do the same to a viewer that uses CopyRect and to another
+pub marks_alike : (u : Bool) (es : List LogEntry) → All IsMark es → (m : Marks) → logged false es m ≡ logged u es m
+marks_alike u [] all m = refl
+marks_alike u (Mark region ∷ es) all m = marks_alike u es (All-tail IsMark (Mark region) es all) (marked (covers region.list) m)
+marks_alike u (Copy region dx dy ∷ es) all m = absurd (true≢false (sym (All-head IsMark (Copy region dx dy) es all)))
+
+-- what marks alone are joined to, where that is one entry
+pub joined_is : (entries out front : List LogEntry) (region : Held) → All IsMark entries → ((m : Marks) → logged false out m ≡ logged false entries m) → out ≡ front ++ Mark region ∷ [] → length out ≡ 1 → IsJoined entries region
+joined_is entries out front region all same is one = record { same = λ u m. sym (ap (λ (es : List LogEntry). logged false es m) alone) ∙ same m ∙ marks_alike u entries all m }
+  where
+    alone : out ≡ Mark region ∷ []
+    alone = is ∙ ap (λ (es : List LogEntry). es ++ Mark region ∷ []) (nil_from_length front (omega (arith, one, ap length is, length-append front (Mark region ∷ []))))
 
 -- A further drawing call.
 
@@ -142,9 +266,12 @@ unasked_untold e l nothing = ap (λ b. cond b (Some (after_entry l.viewer.uses_c
 pub unasked_told_asks_nothing : (e : LogEntry) (l : Lagging) → AsksNothing l → AsksNothing (told e l)
 unasked_told_asks_nothing e l nothing = subst AsksNothing (sym (unasked_told e l nothing)) nothing
 
+pub seen_asks_nothing : (log was : List LogEntry) (l other : Lagging) → caught_up log l ≡ caught_up was other → AsksNothing other → AsksNothing l
+seen_asks_nothing log was l other same nothing =
+    sym (asked_same log l) ∙ ap (λ (v : KeptViewer). has_asked v.marks) same ∙ asked_same was other ∙ nothing
+
 pub alike_asks_nothing : (log : List LogEntry) (l other : Lagging) → caught_up log l ≡ caught_up log other → AsksNothing other → AsksNothing l
-alike_asks_nothing log l other same nothing =
-    sym (asked_same log l) ∙ ap (λ (v : KeptViewer). has_asked v.marks) same ∙ asked_same log other ∙ nothing
+alike_asks_nothing log l other same nothing = seen_asks_nothing log log l other same nothing
 
 -- what an update leaves asks for nothing, where nothing was asked for
 pub unasked_sent : (w h limit : ℕ) (picture : List ℕ) (v : KeptViewer) → has_asked v.marks ≡ false → has_asked (sending_kept w h limit picture v).1.marks ≡ false

@@ -1,6 +1,6 @@
 -- The viewers one by one.
-use Rattle.std.proofs.Common.{◌≡◌, ℕ, zero, suc, ◌+◌, Bool, true, false, cond, not, List, [], ◌∷◌, ◌++◌, length, take, drop, reverse, All, Option, Some, None, true≢false, refl, sym, subst, ◌∙◌, ap, arith}
-use Rattle.std.specs.Prelude.{◌==◌, slice_get}
+use Rattle.std.proofs.Common.{◌≡◌, ℕ, zero, suc, ◌+◌, ◌<◌, Bool, true, false, cond, not, List, [], ◌∷◌, ◌++◌, length, take, drop, reverse, All, Option, Some, None, true≢false, refl, sym, subst, ◌∙◌, ap, arith}
+use Rattle.std.specs.Prelude.{◌==◌, ◌≤◌, max, nat_le, slice_get}
 use Rattle.std.specs.List.{filter_map, cons_option, filter}
 use Rattle.std.specs.Map.{keys_of, values_of, lookup}
 use Rattle.std.specs.Option.{option_map}
@@ -11,15 +11,17 @@ use Rattle.std.proofs.lemmas.List.Elements.{All-append, filter_map-append}
 use Rattle.client_list.proofs.Walks.{take_next, drop_next}
 use Rattle.client_list.specs.Connected.{Connected, IsListed, changed, set_value_at, index_of, value_at, passed}
 use Rattle.client_list.proofs.CallerLemmas.{lookup-mapped, keys-mapped, mapped-set_value_at}
+use Rattle.region.specs.Held.{Held}
 use Rattle.copy_schedule.specs.declared.LogEntry.{LogEntry}
+use Rattle.copy_schedule.specs.declared.LogEntry.TheVariants.{Mark}
 use Rattle.copy_schedule.specs.Marks.{Marks}
 use Rattle.copy_schedule.specs.Log.{IsCutEntry}
 use Rattle.viewer.specs.declared.notices.Notice.{Notice}
 use Rattle.viewer.specs.Viewer.{KeptViewer}
 use Rattle.viewer_list.specs.declared.lagging.Lagging.{Lagging}
-use Rattle.viewer_list.specs.Lagging.{waiting, caught_up, up_to_date, seen, told, told_of, at_start, IsCurrent, AsksNothing, Fits, AllFit}
+use Rattle.viewer_list.specs.Lagging.{waiting, caught_up, brought_up, within_end, seen, told, told_of, IsCurrent, AsksNothing, Fits, IsJoined, IsBounded, AllFit, place_within, last_place}
 use Rattle.viewer_list.specs.Viewers.{Viewers, IsOfSize, viewer_of, with_viewer, drawn, told_at_once, viewer_noticed}
-use Rattle.viewer_list.proofs.LagLemmas.{caught_up_again, current_fits, alike_asks_nothing, started_same, untold_asks_nothing, unasked_told, unasked_untold, told_viewer, told_fits, told_same, logged-alike}
+use Rattle.viewer_list.proofs.LagLemmas.{brought_up_same, brought_up_current, seen_asks_nothing, started_same, started_fits, joined_same, joined_fits, untold_asks_nothing, unasked_told, unasked_untold, told_viewer, told_fits, told_same, logged-alike}
 
 module _ {T : Type 0} (P : T → Type 0) where
   pub all-cons : (x : T) (xs : List T) → P x → All P xs → All P (x ∷ xs)
@@ -95,44 +97,71 @@ none-told xs n false count is none = absurd (true≢false none)
 
 -- ---- what is seen
 
--- the first ones have caught up
-pub seen-partly : (log : List LogEntry) (pairs : List (ℕ × Lagging)) (n : ℕ) → seen log (take n (changed (up_to_date log) pairs) ++ drop n pairs) ≡ seen log pairs
-seen-partly log [] zero = refl
-seen-partly log [] (suc n) = refl
-seen-partly log (pair ∷ pairs) zero = refl
-seen-partly log (pair ∷ pairs) (suc n) =
-    ap (λ (v : KeptViewer). (pair.0, v) ∷ seen log (take n (changed (up_to_date log) pairs) ++ drop n pairs)) (caught_up_again log pair.1)
-    ∙ ap (λ (l : List (ℕ × KeptViewer)). (pair.0, caught_up log pair.1) ∷ l) (seen-partly log pairs n)
+module _ (f : Lagging → Lagging) (log now : List LogEntry) (P : Lagging → Type 0) (each : (l : Lagging) → P l → caught_up now (f l) ≡ caught_up log l) where
+  -- each is changed, and seen as before
+  pub seen-changed : (pairs : List (ℕ × Lagging)) → All P (values_of pairs) → seen now (changed f pairs) ≡ seen log pairs
+  seen-changed [] all = refl
+  seen-changed (pair ∷ pairs) all =
+      ap (λ (v : KeptViewer). (pair.0, v) ∷ seen now (changed f pairs)) (each pair.1 (all-head P pair.1 (values_of pairs) all))
+      ∙ ap (λ (l : List (ℕ × KeptViewer)). (pair.0, caught_up log pair.1) ∷ l) (seen-changed pairs (all-tail P pair.1 (values_of pairs) all))
 
-pub seen-changed : (log : List LogEntry) (pairs : List (ℕ × Lagging)) → seen log (changed (up_to_date log) pairs) ≡ seen log pairs
-seen-changed log [] = refl
-seen-changed log (pair ∷ pairs) =
-    ap (λ (v : KeptViewer). (pair.0, v) ∷ seen log (changed (up_to_date log) pairs)) (caught_up_again log pair.1)
-    ∙ ap (λ (l : List (ℕ × KeptViewer)). (pair.0, caught_up log pair.1) ∷ l) (seen-changed log pairs)
+module _ (log : List LogEntry) (least : ℕ) where
+  -- the first ones have caught up
+  pub seen-partly : (pairs : List (ℕ × Lagging)) (n : ℕ) → seen log (take n (changed (brought_up log least) pairs) ++ drop n pairs) ≡ seen log pairs
+  seen-partly [] zero = refl
+  seen-partly [] (suc n) = refl
+  seen-partly (pair ∷ pairs) zero = refl
+  seen-partly (pair ∷ pairs) (suc n) =
+      ap (λ (v : KeptViewer). (pair.0, v) ∷ seen log (take n (changed (brought_up log least) pairs) ++ drop n pairs)) (brought_up_same log least pair.1)
+      ∙ ap (λ (l : List (ℕ × KeptViewer)). (pair.0, caught_up log pair.1) ∷ l) (seen-partly pairs n)
+
+  pub seen-brought_up : (pairs : List (ℕ × Lagging)) → All (Fits log) (values_of pairs) → seen log (changed (brought_up log least) pairs) ≡ seen log pairs
+  seen-brought_up pairs all = seen-changed (brought_up log least) log log (Fits log) (λ l fits. brought_up_same log least l) pairs all
 
 -- viewers that are seen alike ask alike
-pub quiet-same : (log : List LogEntry) (now old : List (ℕ × Lagging)) → seen log now ≡ seen log old → All AsksNothing (values_of old) → All AsksNothing (values_of now)
-quiet-same log [] old same all = λ k d below. absurd (omega (arith, below))
-quiet-same log (pair ∷ now) [] same all = absurd (cc)
-quiet-same log (pair ∷ now) (was ∷ old) same all =
-    let later : seen log now ≡ seen log old = cc in
-    let heads : (pair.0, caught_up log pair.1) ≡ (was.0, caught_up log was.1) = cc in
-    let here : caught_up log pair.1 ≡ caught_up log was.1 = ap (λ (p : ℕ × KeptViewer). p.1) heads in
-    all-cons AsksNothing pair.1 (values_of now) (alike_asks_nothing log pair.1 was.1 here (all-head AsksNothing was.1 (values_of old) all))
-    (quiet-same log now old later (all-tail AsksNothing was.1 (values_of old) all))
+pub quiet-same : (log was : List LogEntry) (now old : List (ℕ × Lagging)) → seen log now ≡ seen was old → All AsksNothing (values_of old) → All AsksNothing (values_of now)
+quiet-same log was [] old same all = λ k d below. absurd (omega (arith, below))
+quiet-same log was (pair ∷ now) [] same all = absurd (cc)
+quiet-same log was (pair ∷ now) (other ∷ old) same all =
+    let later : seen log now ≡ seen was old = cc in
+    let heads : (pair.0, caught_up log pair.1) ≡ (other.0, caught_up was other.1) = cc in
+    let here : caught_up log pair.1 ≡ caught_up was other.1 = ap (λ (p : ℕ × KeptViewer). p.1) heads in
+    all-cons AsksNothing pair.1 (values_of now) (seen_asks_nothing log was pair.1 other.1 here (all-head AsksNothing other.1 (values_of old) all))
+    (quiet-same log was now old later (all-tail AsksNothing other.1 (values_of old) all))
 
 -- where nothing waits, at the start of an empty log
-pub seen-started : (log : List LogEntry) (pairs : List (ℕ × Lagging)) → All (IsCurrent log) (values_of pairs) → seen [] (changed at_start pairs) ≡ seen log pairs
-seen-started log [] all = refl
-seen-started log (pair ∷ pairs) all =
-    ap (λ (v : KeptViewer). (pair.0, v) ∷ seen [] (changed at_start pairs)) (started_same log pair.1 (all-head (IsCurrent log) pair.1 (values_of pairs) all))
-    ∙ ap (λ (l : List (ℕ × KeptViewer)). (pair.0, caught_up log pair.1) ∷ l) (seen-started log pairs (all-tail (IsCurrent log) pair.1 (values_of pairs) all))
+pub seen-started : (log : List LogEntry) (pairs : List (ℕ × Lagging)) → All (IsCurrent log) (values_of pairs) → seen [] (changed (within_end 0) pairs) ≡ seen log pairs
+seen-started log pairs all = seen-changed (within_end 0) log [] (IsCurrent log) (started_same log) pairs all
 
-pub fit-started : (pairs : List (ℕ × Lagging)) (some_may_ask : Bool) → (some_may_ask ≡ false → All AsksNothing (values_of pairs)) → AllFit [] some_may_ask (changed at_start pairs)
-fit-started pairs some_may_ask quiet = record {
-  short = omega arith;
-  each = all-changed (λ (l : Lagging). Unit {0}) (Fits []) at_start (λ l any. current_fits [] (at_start l) refl) pairs (λ k d below. tt);
-  quiet = λ none. all-changed AsksNothing AsksNothing at_start (λ l nothing. nothing) pairs (quiet none);
+pub fit-started : (log : List LogEntry) (pairs : List (ℕ × Lagging)) → All (IsCurrent log) (values_of pairs) → All (Fits []) (values_of (changed (within_end 0) pairs))
+fit-started log pairs all = all-changed (IsCurrent log) (Fits []) (within_end 0) (λ l any. started_fits l) pairs all
+
+pub current-brought_up : (log : List LogEntry) (pairs : List (ℕ × Lagging)) → All (Fits log) (values_of pairs) → All (IsCurrent log) (values_of (changed (brought_up log 0) pairs))
+current-brought_up log pairs all = all-changed (Fits log) (IsCurrent log) (brought_up log 0) (λ l fits. brought_up_current log l) pairs all
+
+-- of viewers, each changed twice
+changed-twice : (f g : Lagging → Lagging) (pairs : List (ℕ × Lagging)) → changed g (changed f pairs) ≡ changed (λ l. g (f l)) pairs
+changed-twice f g [] = refl
+changed-twice f g (pair ∷ pairs) = ap (λ (ps : List (ℕ × Lagging)). (pair.0, g (f pair.1)) ∷ ps) (changed-twice f g pairs)
+
+-- some entries are joined
+module _ (log : List LogEntry) (place end : ℕ) (region : Held) (within : place < length log) (ends : end ≡ place + 1) (joins : IsJoined (drop place log) region) (pairs : List (ℕ × Lagging)) (all : All (Fits log) (values_of pairs)) where
+  pub seen-joined : seen (take place log ++ Mark region ∷ []) (changed (within_end end) (changed (brought_up log (place + 1)) pairs)) ≡ seen log pairs
+  seen-joined =
+      ap (seen (take place log ++ Mark region ∷ [])) (changed-twice (brought_up log (place + 1)) (within_end end) pairs)
+      ∙ seen-changed (λ l. within_end end (brought_up log (place + 1) l)) log (take place log ++ Mark region ∷ []) (Fits log) (λ l fits. joined_same log place end region within ends joins l) pairs all
+
+  pub fit-joined : All (Fits (take place log ++ Mark region ∷ [])) (values_of (changed (within_end end) (changed (brought_up log (place + 1)) pairs)))
+  fit-joined =
+      subst (λ (ps : List (ℕ × Lagging)). All (Fits (take place log ++ Mark region ∷ [])) (values_of ps)) (sym (changed-twice (brought_up log (place + 1)) (within_end end) pairs))
+      (all-changed (Fits log) (Fits (take place log ++ Mark region ∷ [])) (λ l. within_end end (brought_up log (place + 1) l)) (joined_fits log place end region within ends joins) pairs all)
+
+-- viewers that are seen as before fit where each does
+pub fit-same : (log was : List LogEntry) (joined : ℕ) (some_may_ask : Bool) (now old : List (ℕ × Lagging)) → IsBounded log joined → All (Fits log) (values_of now) → seen log now ≡ seen was old → (some_may_ask ≡ false → All AsksNothing (values_of old)) → AllFit log joined some_may_ask now
+fit-same log was joined some_may_ask now old short each same quiet = record {
+  short = short;
+  each = each;
+  quiet = λ none. quiet-same log was now old same (quiet none);
 }
 
 -- a drawing call
@@ -299,16 +328,47 @@ module _ (c : Connected Lagging) where
     pub picked-end : (made : List X) (here : Option ℕ) → IsListed c → made ≡ filter_map g (take (passed c here) (values_of c.pairs)) → here ≡ None → made ≡ filter_map g (values_of c.pairs)
     picked-end made here listed so_far is = so_far ∙ ap (filter_map g) (all-passed here listed is)
 
-  module _ (log : List LogEntry) where
-    one-current : (v : Lagging) → IsCurrent log v → All (IsCurrent log) (v ∷ [])
-    one-current v is = all-cons (IsCurrent log) v [] is (λ k d below. absurd (omega (arith, below)))
+  module _ (P : Lagging → Type 0) where
+    one : (v : Lagging) → P v → All P (v ∷ [])
+    one v is = all-cons P v [] is (λ k d below. absurd (omega (arith, below)))
 
-    pub current-step : (here next : Option ℕ) (place : ℕ) (v : Lagging) → All (IsCurrent log) (take (passed c here) (values_of c.pairs)) → here ≡ Some place → value_at c place ≡ Some v → IsCurrent log v → passed c next ≡ index_of c.places place + 1 → All (IsCurrent log) (take (passed c next) (values_of c.pairs))
-    current-step here next place v so_far is value current step =
-        subst (All (IsCurrent log)) (sym (passed-next here next place v is value step)) (All-append (IsCurrent log) (take (passed c here) (values_of c.pairs)) (v ∷ []) so_far (one-current v current))
+    pub all-step : (here next : Option ℕ) (place : ℕ) (v : Lagging) → All P (take (passed c here) (values_of c.pairs)) → here ≡ Some place → value_at c place ≡ Some v → P v → passed c next ≡ index_of c.places place + 1 → All P (take (passed c next) (values_of c.pairs))
+    all-step here next place v so_far is value holds step =
+        subst (All P) (sym (passed-next here next place v is value step)) (All-append P (take (passed c here) (values_of c.pairs)) (v ∷ []) so_far (one v holds))
 
-    pub current-end : (here : Option ℕ) → IsListed c → All (IsCurrent log) (take (passed c here) (values_of c.pairs)) → here ≡ None → All (IsCurrent log) (values_of c.pairs)
-    current-end here listed so_far is = subst (All (IsCurrent log)) (all-passed here listed is) so_far
+    pub all-end : (here : Option ℕ) → IsListed c → All P (take (passed c here) (values_of c.pairs)) → here ≡ None → All P (values_of c.pairs)
+    all-end here listed so_far is = subst (All P) (all-passed here listed is) so_far
+
+  module _ (end : ℕ) where
+    last-append : (ls : List Lagging) (v : Lagging) → last_place end (ls ++ v ∷ []) ≡ max (last_place end ls) (place_within end v)
+    last-append [] v = refl
+    last-append (l ∷ ls) v = ap (λ (n : ℕ). max n (place_within end l)) (last-append ls v) ∙ turn (last_place end ls) (place_within end v) (place_within end l)
+      where
+        turn : (i j k : ℕ) → max (max i j) k ≡ max (max i k) j
+        turn i j k = omega arith
+
+    last-within : (ls : List Lagging) → last_place end ls ≤ end
+    last-within [] = omega arith
+    last-within (l ∷ ls) = go (nat_le l.taken end) refl (last-within ls)
+      where
+        taken_within : nat_le l.taken end ≡ true → l.taken ≤ end
+        taken_within is = grind (arith, nat_tests)
+
+        go : (b : Bool) → nat_le l.taken end ≡ b → last_place end ls ≤ end → max (last_place end ls) (cond b l.taken 0) ≤ end
+        go true is rest = omega (arith, taken_within is, rest)
+        go false is rest = omega (arith, rest)
+
+    pub last-step : (last : ℕ) (here next : Option ℕ) (place : ℕ) (v : Lagging) → last ≡ last_place end (take (passed c here) (values_of c.pairs)) → here ≡ Some place → value_at c place ≡ Some v → passed c next ≡ index_of c.places place + 1 → max last (place_within end v) ≡ last_place end (take (passed c next) (values_of c.pairs))
+    last-step last here next place v so_far is value step =
+        ap (λ (n : ℕ). max n (place_within end v)) so_far
+        ∙ sym (last-append (take (passed c here) (values_of c.pairs)) v)
+        ∙ sym (ap (last_place end) (passed-next here next place v is value step))
+
+    pub last-end : (last : ℕ) (here : Option ℕ) → IsListed c → last ≡ last_place end (take (passed c here) (values_of c.pairs)) → here ≡ None → last ≡ last_place end (values_of c.pairs)
+    last-end last here listed so_far is = so_far ∙ ap (last_place end) (all-passed here listed is)
+
+    pub last-is_within : (last : ℕ) (ls : List Lagging) → last ≡ last_place end ls → last ≤ end
+    last-is_within last ls is = subst (λ (n : ℕ). n ≤ end) (sym is) (last-within ls)
 
 -- ---- marks that are taken from the end of a list, turned round
 

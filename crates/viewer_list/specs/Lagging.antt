@@ -1,8 +1,11 @@
 -- One viewer that lags behind a log of drawing, and what it stands for.
-use Rattle.std.specs.Prelude.{◌≡◌, ℕ, ◌≤◌, ◌+◌, Bool, true, false, if◌then◌else◌, List, length, drop, map, All}
+use Rattle.std.specs.Prelude.{◌≡◌, ℕ, ◌≤◌, ◌+◌, min, max, Bool, true, false, nat_le, if◌then◌else◌, List, [], ◌∷◌, length, drop, map, All}
 use Rattle.std.specs.Map.{values_of}
+use Rattle.region.specs.Held.{Held}
+use Rattle.region.specs.Region.{covers}
 use Rattle.copy_schedule.specs.declared.LogEntry.{LogEntry}
-use Rattle.copy_schedule.specs.Marks.{Marks, has_asked}
+use Rattle.copy_schedule.specs.declared.LogEntry.TheVariants.{Mark, Copy}
+use Rattle.copy_schedule.specs.Marks.{Marks, has_asked, marked}
 use Rattle.copy_schedule.specs.Log.{after_entry, logged, IsCutEntry}
 use Rattle.viewer.specs.Viewer.{KeptViewer}
 use Rattle.viewer.specs.declared.notices.Notice.{Notice}
@@ -22,9 +25,13 @@ caught_up log l = record l.viewer { marks = logged l.viewer.uses_copyrect (waiti
 abbrev pub up_to_date : List LogEntry → Lagging → Lagging
 up_to_date log l = record { viewer = caught_up log l; taken = length log }
 
--- the same viewer at the start of a log
-abbrev pub at_start : Lagging → Lagging
-at_start l = record l { taken = 0 }
+-- the same viewer, whose marks lack nothing where they have taken at least so many entries
+abbrev pub brought_up : List LogEntry → ℕ → Lagging → Lagging
+brought_up log least l = if nat_le least l.taken then up_to_date log l else l
+
+-- the same viewer, at the end of a log of so many entries where it stood behind that
+abbrev pub within_end : ℕ → Lagging → Lagging
+within_end end l = record l { taken = min l.taken end }
 
 -- the pairs of number and viewer
 abbrev pub seen : List LogEntry → List (ℕ × Lagging) → List (ℕ × KeptViewer)
@@ -52,9 +59,15 @@ told entry l = if has_asked l.viewer.marks then record l { viewer = record l.vie
 abbrev pub told_of : Notice → Lagging → Lagging
 told_of notice l = record l { viewer = viewer_noticed notice l.viewer }
 
--- the log has at most 256 entries, and holds what the viewers lack; where some_may_ask is false, nobody asks
-pub record AllFit (log : List LogEntry) (some_may_ask : Bool) (pairs : List (ℕ × Lagging)) : Type 0 where
-  pub short : length log ≤ 256
+-- the log's first entries are joined ones, at most 64, and it has at most 256 others
+pub record IsBounded (log : List LogEntry) (joined : ℕ) : Type 0 where
+  pub within : joined ≤ length log
+  pub few : joined ≤ 64
+  pub others : length log ≤ joined + 256
+
+-- the log is short, and holds what the viewers lack; where some_may_ask is false, nobody asks
+pub record AllFit (log : List LogEntry) (joined : ℕ) (some_may_ask : Bool) (pairs : List (ℕ × Lagging)) : Type 0 where
+  pub short : IsBounded log joined
   pub each : All (Fits log) (values_of pairs)
   pub quiet : some_may_ask ≡ false → All AsksNothing (values_of pairs)
 
@@ -67,3 +80,24 @@ pub record IsShared (log : List LogEntry) (s : Shared) : Type 0 where
 pub record IsFor (l : Lagging) (s : Shared) : Type 0 where
   pub taken : s.taken ≡ l.taken
   pub uses_copyrect : s.uses_copyrect ≡ l.viewer.uses_copyrect
+
+-- an entry is a mark
+abbrev pub is_mark : LogEntry → Bool
+is_mark (Mark region) = true
+is_mark (Copy region dx dy) = false
+
+abbrev pub IsMark : LogEntry → Type 0
+IsMark entry = is_mark entry ≡ true
+
+-- a region that, once it is marked, makes of each viewer's marks what the entries make of them
+pub record IsJoined (entries : List LogEntry) (region : Held) : Type 0 where
+  pub same : (uses_copyrect : Bool) (m : Marks) → marked (covers region.list) m ≡ logged uses_copyrect entries m
+
+-- a viewer's place, if it is at most `end`
+abbrev pub place_within : ℕ → Lagging → ℕ
+place_within end l = if nat_le l.taken end then l.taken else 0
+
+-- the last place of the log at which a viewer stands, of those up to `end`; 0 where nobody stands there
+abbrev pub last_place : ℕ → List Lagging → ℕ
+last_place end [] = 0
+last_place end (l ∷ ls) = max (last_place end ls) (place_within end l)

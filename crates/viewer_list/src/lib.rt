@@ -4,10 +4,17 @@
 //! One that asks for nothing only lags: the call appends an entry to the log, which stands there once for all of them, and the
 //! viewer, which keeps its place in the log, catches up before its next bytes are heard or an update is cut for it. Where nobody
 //! asks, a drawing call visits no viewer, however many there are. Contracts see each viewer as it would be had it
-//! been told of all drawing at once; the log is in no clause. It has at most 256 entries: before a further one comes, all
-//! viewers catch up and the log is emptied. It is emptied, too, when no viewer lags.
+//! been told of all drawing at once; the log is in no clause.
 //!
-//! `lagging` is one viewer, `walks` what is done for each viewer in turn, and `notices` their bells and texts.
+//! The log has at most 256 entries besides joined ones, which are its first. Before a further one comes, they are joined as well:
+//! where all are marks, one region takes their place, and a viewer that lacked them all lacks one entry in their place. Nobody's
+//! marks are made anew for that but those of viewers that stand among the joined entries, since they connected, were heard or had
+//! an update cut since the last time. So viewers that ask for nothing add nothing to what a drawing call costs, however many they
+//! are. Joined entries between which no viewer stands become one. Where 64 of them stand, or where a copy is among the entries,
+//! all viewers catch up in place of that, and the log is emptied. It is emptied, too, when no viewer lags.
+//!
+//! `lagging` is one viewer, `walks` what is done for each viewer in turn, `joining` how the log stays short, and `notices` are the
+//! viewers' bells and texts.
 #![tactic(auto)]
 
 ghost use Rattle.std.specs.Prelude.{◌≡◌, ◌≢◌, ◌++◌, ◌∷◌, [], ℕ, List, All, ◌≤◌, ◌^◌, ◌==◌, not, filter, length, IsTrue, ◌↔◌, IfOk, IfSome, OnOk, OnErr, MatchOption, MatchResult, IsOkUnless, is_some, None, Some};
@@ -25,12 +32,14 @@ ghost use Rattle.viewer.specs.Given.{bytes_given};
 ghost use Rattle.viewer.specs.Viewer.{KeptViewer};
 ghost use Rattle.viewer_list.specs.Viewers.{viewer_of, with_viewer, drawn, told_at_once, is_pending, IsReady, IsOfSize, viewer_noticed};
 
+mod joining;
 mod lagging;
 mod notices;
 mod walks;
 
 use client_list::{Clients, ConnectError, NoViewer};
 use framebuffer::Framebuffer;
+use joining::{join_entries, start_anew};
 use lagging::{Lagging, catch_up, cut_bytes_one, cut_one, hear_one};
 use listed::Listed;
 use messages::Fault;
@@ -38,9 +47,9 @@ use notices::{keep_texts, ring_all, texts};
 use std::alloc::{AllocError, Global};
 use std::marker::Model;
 use viewer::{LogEntry, Prepared, Reply, Update, Viewer};
-use walks::{catch_up_all, marks_of_all, some_lags, start_anew, tell_all};
+use walks::{marks_of_all, some_lags, tell_all};
 
-/// How many entries the log has at most.
+/// How many entries the log has at most besides joined ones.
 const MOST: usize = 256;
 
 /// The viewers of a screen by number, in their order of connecting.
@@ -49,21 +58,23 @@ pub struct ViewerList {
     alloc: Global,
     viewers: Clients<Lagging>,
     log: Vec<LogEntry>,
+    // how many of the log's first entries are joined ones
+    joined: usize,
     // false only where no viewer asks
     some_may_ask: bool,
 }
 
 impl Model for ViewerList {
-    ghost use Rattle.std.specs.Prelude.{min, vec_len, vec_capacity, ◌-◌};
+    ghost use Rattle.std.specs.Prelude.{min, vec_len, vec_capacity, ◌+◌, ◌-◌};
     ghost use Rattle.viewer_list.specs.Viewers.{Viewers};
 
     ghost Value = { Viewers };
 
     ghost use Rattle.viewer_list.specs.Lagging.{seen, AllFit};
 
-    ghost view = { λ a. record { pairs = seen a.log.items a.viewers.pairs; room = min (vec_capacity a.log) 256 - vec_len a.log } };
+    ghost view = { λ a. record { pairs = seen a.log.items a.viewers.pairs; room = min (vec_capacity a.log) (a.joined + 256) - vec_len a.log } };
 
-    ghost invariant = { λ a. AllFit a.log.items a.some_may_ask a.viewers.pairs };
+    ghost invariant = { λ a. AllFit a.log.items a.joined a.some_may_ask a.viewers.pairs };
 }
 
 /// A drawing call that was prepared for the viewers: what it drew, and the marks of those that ask.
@@ -90,6 +101,7 @@ impl ViewerList {
             alloc,
             viewers: Clients::new(alloc),
             log: Vec::new(alloc),
+            joined: 0,
             some_may_ask: false,
         }
     }
@@ -108,11 +120,11 @@ impl ViewerList {
         self.viewers.is_empty()
     }
 
-    /// How many entries of drawing the log has, at most 256.
+    /// How many entries of drawing the log has besides joined ones, at most 256.
     pub fn log_len(&self) -> usize
         ensures { result ≤ 256 }
     {
-        self.log.len()
+        self.log.len() - self.joined
     }
 
     /// The viewers' numbers, in the order in which they connected.
@@ -304,15 +316,13 @@ impl ViewerList {
         Ok(bytes)
     }
 
-    // Room for one entry more. Where 256 stand, all viewers catch up first, and the log is emptied.
+    // Room for one entry more. Where 256 stand besides joined ones, they are joined first.
     fn make_room(&mut self) -> Result<(), AllocError>
         ensures same { self.new.pairs ≡ self.old.pairs }
         ensures ok { OnOk result (1 ≤ self.new.room) }
     {
-        if self.log.len() >= MOST {
-            catch_up_all(self.alloc, &mut self.viewers, &self.log)?;
-            self.log.clear();
-            start_anew(&mut self.viewers);
+        if self.log.len() - self.joined >= MOST {
+            self.joined = join_entries(self.alloc, &mut self.viewers, &mut self.log, self.joined)?;
         }
         self.log.reserve(1)
     }
@@ -349,8 +359,8 @@ impl ViewerList {
             return;
         }
         if !some_lags(&self.log, &self.viewers) {
-            self.log.clear();
-            start_anew(&mut self.viewers);
+            start_anew(&mut self.viewers, &mut self.log);
+            self.joined = 0;
         }
     }
 

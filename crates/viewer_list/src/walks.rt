@@ -1,6 +1,6 @@
 //! What is done for each viewer in turn.
 
-ghost use Rattle.std.specs.Prelude.{◌≡◌, ◌++◌, ◌∷◌, [], ◌+◌, ◌≤◌, ◌<◌, ◌^◌, List, All, map, true, false, if◌then◌else◌, length, IfOk, OnOk, Some, None};
+ghost use Rattle.std.specs.Prelude.{◌≡◌, ◌++◌, ◌∷◌, [], ◌+◌, ◌≤◌, ◌<◌, ◌^◌, max, List, All, map, true, false, if◌then◌else◌, length, IfOk, OnOk, OnErr, Some, None};
 ghost use Rattle.std.specs.List.{filter_map, cons_option};
 ghost use Rattle.std.specs.Map.{values_of};
 ghost use Rattle.client_list.specs.Connected.{changed};
@@ -8,31 +8,51 @@ ghost use Rattle.copy_schedule.specs.Marks.{Marks};
 ghost use Rattle.copy_schedule.specs.Log.{IsCutEntry};
 ghost use Rattle.viewer.specs.declared.notices.Notice.{Notice};
 ghost use Rattle.viewer.specs.Short.{IsShort};
-ghost use Rattle.viewer_list.specs.Lagging.{up_to_date, at_start, seen, told, IsCurrent, Fits};
+ghost use Rattle.viewer_list.specs.Lagging.{brought_up, within_end, seen, told, IsCurrent, Fits, IsShared, place_within, last_place};
 ghost use Rattle.viewer_list.specs.Viewers.{told_at_once, viewer_noticed, text_for};
 
-use crate::lagging::{Lagging, catch_up_sharing, lags, nothing_shared};
+use crate::lagging::{Lagging, Shared, catch_up_sharing, lags, nothing_shared};
 use client_list::Clients;
 use listed::Listed;
 use std::alloc::{AllocError, Global};
 use viewer::{LogEntry, Notice, Prepared};
 
-/// The marks of every viewer take what they lack of the log; neighbours that lack as much share it. After an `AllocError` some may
-/// have taken it.
-pub fn catch_up_all(
+/// A viewer's marks take what they lack of the log where they have taken at least so many entries; any other viewer stays.
+fn bring_up(
+    log: &[LogEntry],
+    least: usize,
+    shared: &mut Shared,
+    lagging: &mut Lagging,
+) -> Result<(), AllocError>
+    requires fits { Fits log.now lagging.old }
+    requires shared { IsShared log.now shared.old }
+    ensures ok { OnOk result (lagging.new ≡ brought_up log.now least lagging.old) }
+    ensures err { OnErr result (lagging.new ≡ lagging.old) }
+    ensures shared { IsShared log.now shared.new }
+{
+    if lagging.taken < least {
+        return Ok(());
+    }
+    catch_up_sharing(log, shared, lagging)
+}
+
+/// The marks of every viewer that has taken at least so many entries take what they lack of the log; neighbours that lack as much
+/// share it. After an `AllocError` some may have taken it.
+pub fn catch_up_from(
     alloc: Global,
     viewers: &mut Clients<Lagging>,
     log: &[LogEntry],
+    least: usize,
 ) -> Result<(), AllocError>
     requires { All (Fits log.now) (values_of viewers.old.pairs) }
-    ensures ok { OnOk result (viewers.new.pairs ≡ changed (up_to_date log.now) viewers.old.pairs) }
+    ensures ok { OnOk result (viewers.new.pairs ≡ changed (brought_up log.now least) viewers.old.pairs) }
     ensures same { seen log.now viewers.new.pairs ≡ seen log.now viewers.old.pairs }
     ensures fits { All (Fits log.now) (values_of viewers.new.pairs) }
 {
     let mut shared = nothing_shared(alloc, log);
     let mut place = viewers.first();
     while let Some(at) = place {
-        catch_up_sharing(log, &mut shared, viewers.at_mut(at))?;
+        bring_up(log, least, &mut shared, viewers.at_mut(at))?;
         place = viewers.next(at);
     }
     Ok(())
@@ -52,13 +72,47 @@ pub fn some_lags(log: &[LogEntry], viewers: &Clients<Lagging>) -> bool
     false
 }
 
-/// Each viewer stands at the start of a log that is empty now.
-pub fn start_anew(viewers: &mut Clients<Lagging>)
-    ensures { viewers.new.pairs ≡ changed at_start viewers.old.pairs }
+/// The later of a place and a viewer's, if that is at most `end`.
+fn later(place: usize, lagging: &Lagging, end: usize) -> usize
+    ensures { result ≡ max place (place_within end lagging.now) }
+{
+    if lagging.taken <= end && place < lagging.taken {
+        lagging.taken
+    } else {
+        place
+    }
+}
+
+/// The last place of the log at which a viewer stands, of those up to `end`; 0 where nobody stands there.
+pub fn last_place(viewers: &Clients<Lagging>, end: usize) -> usize
+    ensures last { result ≡ last_place end (values_of viewers.now.pairs) }
+    ensures within { result ≤ end }
+{
+    let mut last = 0;
+    let mut place = viewers.first();
+    while let Some(at) = place {
+        last = later(last, viewers.at(at), end);
+        place = viewers.next(at);
+    }
+    last
+}
+
+/// A viewer that stood behind the end of a log that has become so short stands there.
+fn move_within(lagging: &mut Lagging, end: usize)
+    ensures { lagging.new ≡ within_end end lagging.old }
+{
+    if lagging.taken > end {
+        lagging.taken = end;
+    }
+}
+
+/// Each viewer that stood behind the end of a log that has become so short stands there.
+pub fn move_all_within(viewers: &mut Clients<Lagging>, end: usize)
+    ensures { viewers.new.pairs ≡ changed (within_end end) viewers.old.pairs }
 {
     let mut place = viewers.first();
     while let Some(at) = place {
-        viewers.at_mut(at).taken = 0;
+        move_within(viewers.at_mut(at), end);
         place = viewers.next(at);
     }
 }
@@ -103,7 +157,7 @@ pub fn marks_of_all(
 /// lacks one entry more.
 fn tell_one(lagging: &mut Lagging, entry: &LogEntry, all: &mut Vec<Prepared>)
     requires asked { (m : Marks) → told_at_once entry.now lagging.old.viewer ≡ Some m → (rest : List Marks) × (all.old.items ≡ rest ++ m ∷ []) }
-    requires taken { lagging.old.taken < 256 }
+    requires taken { lagging.old.taken ≤ 320 }
     ensures viewer { lagging.new ≡ told entry.now lagging.old }
     ensures rest { all.old.items ≡ all.new.items ++ cons_option (told_at_once entry.now lagging.old.viewer) [] }
 {
@@ -118,7 +172,7 @@ fn tell_one(lagging: &mut Lagging, entry: &LogEntry, all: &mut Vec<Prepared>)
 // A walk that tells each viewer.
 fn tell_each(viewers: &mut Clients<Lagging>, entry: &LogEntry, mut all: Vec<Prepared>)
     requires marks { all.items ≡ filter_map (λ l. told_at_once entry.now l.viewer) (values_of viewers.old.pairs) }
-    requires taken { All (λ l. l.taken < 256) (values_of viewers.old.pairs) }
+    requires taken { All (λ l. l.taken ≤ 320) (values_of viewers.old.pairs) }
     ensures { viewers.new.pairs ≡ changed (told entry.now) viewers.old.pairs }
 {
     all.reverse();
@@ -132,7 +186,7 @@ fn tell_each(viewers: &mut Clients<Lagging>, entry: &LogEntry, mut all: Vec<Prep
 /// Each viewer is told of a drawing call. This takes no memory, and no walk where nobody asks.
 pub fn tell_all(viewers: &mut Clients<Lagging>, entry: &LogEntry, all: Vec<Prepared>)
     requires marks { all.items ≡ filter_map (λ l. told_at_once entry.now l.viewer) (values_of viewers.old.pairs) }
-    requires taken { All (λ l. l.taken < 256) (values_of viewers.old.pairs) }
+    requires taken { All (λ l. l.taken ≤ 320) (values_of viewers.old.pairs) }
     ensures { viewers.new.pairs ≡ changed (told entry.now) viewers.old.pairs }
 {
     if !all.is_empty() {

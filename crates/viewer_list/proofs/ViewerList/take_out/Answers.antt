@@ -16,7 +16,7 @@ invariant_of-self c = elim c.match-remove.branch [
     each = rw w.in-Ok.ensures.others (all-some (Fits c.self.inside.log.items) (λ pair. not (pair.0 == c.args.number)) c.self.inside.viewers.pairs c.self.invariant.each);
     quiet = λ none. rw w.in-Ok.ensures.others (all-some AsksNothing (λ pair. not (pair.0 == c.args.number)) c.self.inside.viewers.pairs (c.self.invariant.quiet none));
   }
-  | in-Err w ↦ subst (λ (l : Connected Lagging). AllFit c.self.inside.log.items c.self.inside.some_may_ask l.pairs) (sym w.in-Err.ensures.err) c.self.invariant
+  | in-Err w ↦ subst (λ (l : Connected Lagging). AllFit c.self.inside.log.items c.self.inside.joined c.self.inside.some_may_ask l.pairs) (sym w.in-Err.ensures.err) c.self.invariant
 ]
 
 pub returns-clause-ok : goal.returns-clause-ok

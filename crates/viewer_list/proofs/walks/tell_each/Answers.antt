@@ -1,4 +1,4 @@
-use Rattle.std.proofs.Common.{◌≡◌, ◌∙◌, ◌++◌, ◌+◌, ◌<◌, [], ℕ, suc, sym, ap, arith, drop, reverse, List, Option}
+use Rattle.std.proofs.Common.{◌≡◌, ◌∙◌, ◌++◌, ◌+◌, ◌≤◌, [], ℕ, suc, sym, ap, arith, drop, reverse, List, Option}
 use Rattle.std.specs.List.{filter_map, cons_option}
 use Rattle.std.specs.Map.{values_of}
 use Rattle.client_list.specs.Connected.{Connected, changed, passed, index_of}
@@ -23,7 +23,7 @@ tell_one-requires-clause-asked c = λ m is.
 pub tell_one-requires-clause-taken : goal.tell_one-requires-clause-taken
 tell_one-requires-clause-taken c =
     let start : Connected Lagging = c.args.viewers.now in
-    all-at (λ (l : Lagging). l.taken < 256) start.pairs (index_of start.places c.in-Some.at) c.at_mut.result.now c.requires.taken
+    all-at (λ (l : Lagging). l.taken ≤ 320) start.pairs (index_of start.places c.in-Some.at) c.at_mut.result.now c.requires.taken
     (sym (walk_value start (changed (told c.args.entry.now) start.pairs) c.loop-place.viewers c.loop-place.place c.in-Some.at (keys-changed (told c.args.entry.now) start.pairs) c.loop-place.invariant.walk c.in-Some.is) ∙ c.at_mut.ensures.value)
 
 pub loop-place-preserved : goal.loop-place-preserved

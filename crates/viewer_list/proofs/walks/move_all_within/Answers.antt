@@ -1,22 +1,21 @@
-use Rattle.std.proofs.Common.{refl}
 use Rattle.client_list.proofs.Walks.{change_step}
-use Rattle.viewer_list.specs.Lagging.{at_start}
-use Rattle.viewer_list.proofs.walks.start_anew.Goals as goal
+use Rattle.viewer_list.specs.Lagging.{within_end}
+use Rattle.viewer_list.proofs.walks.move_all_within.Goals as goal
 
 pub loop-place-preserved : goal.loop-place-preserved
 loop-place-preserved c =
     change_step
-    at_start
+    (within_end c.args.end)
     c.args.viewers.now
     c.loop-place.viewers
     c.loop-place.place
     c.next-place.result
     c.in-Some.at
     c.at_mut.result.now
-    (at_start c.at_mut.result.now)
+    c.move_within.new.lagging
     c.loop-place.invariant
     c.in-Some.is
     c.at_mut.ensures.value
-    refl
+    c.move_within.ensures
     c.next-place.ensures.place
     c.next-place.ensures.passed

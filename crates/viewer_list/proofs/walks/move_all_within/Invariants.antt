@@ -1,15 +1,12 @@
 use Rattle.std.proofs.Common.{◌-◌, length}
 use Rattle.client_list.specs.Connected.{changed, passed}
 use Rattle.client_list.proofs.Walks.{IsWalk}
-use Rattle.viewer_list.specs.Lagging.{up_to_date, IsShared}
-use Rattle.viewer_list.proofs.walks.catch_up_all.Given as goal
+use Rattle.viewer_list.specs.Lagging.{within_end}
+use Rattle.viewer_list.proofs.walks.move_all_within.Given as goal
 
--- the viewers that were passed have caught up
+-- the viewers that were passed stand within the log
 abbrev pub invariant-loop-place : goal.invariant-loop-place
-invariant-loop-place l = record {
-  walk : IsWalk l.fn.viewers (changed (up_to_date l.log) l.fn.viewers.pairs) l.viewers l.place;
-  shared : IsShared l.log l.shared;
-}
+invariant-loop-place l = IsWalk l.fn.viewers (changed (within_end l.end) l.fn.viewers.pairs) l.viewers l.place
 
 abbrev pub decreases-loop-place : goal.decreases-loop-place
 decreases-loop-place l = length l.viewers.places - passed l.viewers l.place
