@@ -102,7 +102,7 @@ impl Scene {
         self.viewers.len()
     }
 
-    /// How many entries of drawing stand in the log that the viewers share, at most 256.
+    /// How many entries of drawing stand in the log that the viewers share, besides those that were joined: at most 256.
     pub fn log_len(&self) -> usize
         ensures { result ≤ 256 }
     {
