@@ -1,4 +1,6 @@
-//! Sets of places as bands of rows, combined by one walk over both lists.
+//! Sets of places as bands of rows, combined by one walk over both lists, from where they differ on.
+//!
+//! `strips` has one step of the walk, `gaps` moves the gap to where it begins, and `counts` says how much room is enough for it.
 #![tactic(auto)]
 
 ghost use Rattle.std.specs.Prelude.{◌≡◌, ◌≢◌, ◌↔◌, ◌≤◌, ◌+◌, ◌||◌, ◌&&◌, [], ◌∷◌, ◌++◌, List, length, IsTrue, Some, None, true, false, ℤ, ◌<ℤ◌, ◌≤ℤ◌};
