@@ -1,6 +1,6 @@
 -- The room that a walk over two lists of bands takes, strip by strip.
 use Rattle.std.proofs.Common.{◌≡◌, ◌≢◌, ℕ, ◌+◌, ◌*◌, ◌≤◌, ◌<◌, Bool, true, false, cond, ◌&&◌, List, [], ◌∷◌, length, refl, sym, ◌∙◌, ap, subst, arith, Option, Some, None, ◌⊎◌, inl, inr}
-use Rattle.std.specs.Prelude.{ℤ, pos, ◌<ℤ◌, ◌≤ℤ◌, ◌+ℤ◌, int_lt, int_le, ◌||◌}
+use Rattle.std.specs.Prelude.{ℤ, pos, ◌<ℤ◌, ◌≤ℤ◌, ◌+ℤ◌, int_lt, int_le, ◌||◌, not}
 use Rattle.std.proofs.lemmas.Int.{ints, by_lt_z}
 use Rattle.std.proofs.lemmas.Option.{same_Some}
 use Rattle.band_list.specs.declared.Interval.{Interval}
@@ -13,7 +13,7 @@ use Rattle.row_walks.proofs.WalkLemmas.{kept-none}
 use Rattle.band_walks.specs.declared.strips.Strip.{Strip}
 use Rattle.band_walks.specs.Sets.{in_rows, has, AreBands, EndBy}
 use Rattle.band_walks.specs.Strips.{next_strip, start_of, later, first_rows_of, FirstIs, IsStripRow, edge_of}
-use Rattle.band_walks.specs.Room.{IsWhole, HoldsStrip, is_over, strip_to_count, Enough, start}
+use Rattle.band_walks.specs.Room.{IsWhole, HoldsStrip, is_over, keeps_nothing, strip_to_count, Enough, start}
 use Rattle.band_walks.specs.Room.Enough.{over, strip}
 use Rattle.band_walks.proofs.StripLemmas.{first_band, band_tail, tail_from, From, not_yet, has_begun, IsStrip, strip_is, no_strip, IsStart, starts, Ahead, later_is, edges_left, edges_less}
 use Rattle.band_walks.proofs.KeepLemmas.{row_of_first}
@@ -104,16 +104,44 @@ le_false a b h = grind (arith, ints)
 true_le : (a b : ℤ) → int_le a b ≡ true → a ≤ℤ b
 true_le a b e = grind (arith, ints)
 
-over_from : (n : ℤ) (bs : List Band) → From n bs → is_over n (first_rows_of bs) None ≡ true
-over_from n [] from = refl
-over_from n (b ∷ bs) from = le_true n b.top from
+over_from : (k : Keep) (n : ℤ) (bs : List Band) → From n bs → is_over k n (first_rows_of bs) None ≡ true
+over_from k n [] from = refl
+over_from k n (b ∷ bs) from = le_true n b.top from
+
+over_after : (k : Keep) (n : ℤ) (bs : List Band) → not (kept k false true) ≡ true → is_over k n None (first_rows_of bs) ≡ true
+over_after k n [] out = refl
+over_after k n (b ∷ bs) out = out
+
+not_true : (b : Bool) → not b ≡ true → b ≡ false
+not_true true e = absurd (true_false (sym e))
+not_true false e = refl
+
+pub kept_behind : (k : Keep) (t : Bool) → kept k false true ≡ false → kept k false t ≡ false
+kept_behind k true is = is
+kept_behind k false is = kept-none k
+
+nothing_kept : (k : Keep) (in_a in_b : Bool) (a b row : List Interval) → keeps_nothing k in_a in_b ≡ true → IsStripRow k in_a in_b a b row → row ≡ []
+nothing_kept k true true a b row e r = absurd (true_false (sym e))
+nothing_kept k true false a b row e r = empty_row row r.is_row (λ x. r.has x ∙ kept_out k (row_has a x) (not_true (kept k true false) e))
+nothing_kept k false true a b row e r = empty_row row r.is_row (λ x. r.has x ∙ kept_behind k (row_has b x) (not_true (kept k false true) e))
+nothing_kept k false false a b row e r = empty_row row r.is_row (λ x. r.has x ∙ kept-none k)
+
+pub holds_nothing : (k : Keep) (in_a in_b : Bool) (rows : Rows) (below : List Band) (a b : List Interval) → keeps_nothing k in_a in_b ≡ true → HoldsStrip k in_a in_b rows below a b 0
+holds_nothing k in_a in_b rows below a b e = λ part row r some. absurd (some (nothing_kept k in_a in_b a b row e r))
 
 between : (a b : ℤ) → b ≤ℤ a → a ≤ℤ b → b ≡ a
 between a b h k = omega (arith, ints, h, k)
 
-over_step : (k : Keep) (y : ℤ) (a b : List Band) (room : ℕ) (s : Strip) → AreBands a → is_over y (first_rows_of a) (first_rows_of b) ≡ true → next_strip y (first_rows_of a) (first_rows_of b) ≡ Some s → Step k y a b room s
+over_step : (k : Keep) (y : ℤ) (a b : List Band) (room : ℕ) (s : Strip) → AreBands a → is_over k y (first_rows_of a) (first_rows_of b) ≡ true → next_strip y (first_rows_of a) (first_rows_of b) ≡ Some s → Step k y a b room s
 over_step k y [] [] room s h o is = absurd (let none : None ≡ Some s = is in cc)
-over_step k y [] (j ∷ js) room s h o is = absurd (true_false (sym o))
+over_step k y [] (j ∷ js) room s h o is =
+    subst (Step k y [] (j ∷ js) room) (same_Some _ s is) (record {
+      taken = 0;
+      rest = room;
+      holds = λ part row r columns. absurd (columns (empty_row row r.is_row (λ x. r.has x ∙ kept_behind k (int_le j.top y && row_has j.row x) (not_true (kept k false true) o))));
+      enough = over (edge_of y (rows_of j)) [] (later (edge_of y (rows_of j)) (j ∷ js)) room (over_after k (edge_of y (rows_of j)) (later (edge_of y (rows_of j)) (j ∷ js)) o);
+      fits = omega arith;
+    })
 over_step k y (i ∷ rest) (j ∷ js) room s h o is = absurd (true_false (sym o))
 over_step k y (i ∷ rest) [] room s h o is =
     let some : i.top <ℤ i.bottom = (first_band i rest h).some in
@@ -135,7 +163,7 @@ over_step k y (i ∷ rest) [] room s h o is =
       taken = 0;
       rest = room;
       holds = λ part row r columns. absurd (part (refl, refl, ap (λ n. Some (record { top = n; bottom = i.bottom })) (between y i.top more low)));
-      enough = subst L (sym (le_true i.bottom i.bottom (omega (arith, ints)))) (over i.bottom rest [] room (over_from i.bottom rest (tail_from i rest h)));
+      enough = subst L (sym (le_true i.bottom i.bottom (omega (arith, ints)))) (over i.bottom rest [] room (over_from k i.bottom rest (tail_from i rest h)));
       fits = omega arith;
     })))
 
@@ -187,26 +215,26 @@ count_begins k a b y first second h h' e e' f f' is low =
     none_before : (n : ℕ) → n ≡ 0 + n
     none_before n = omega arith
 
-to_next : (y : ℤ) (first second : Option Rows) (s : Strip) → strip_to_count y first second ≡ Some s → next_strip y first second ≡ Some s
-to_next y first second s is = by (is_over y first second) is
+to_next : (k : Keep) (y : ℤ) (first second : Option Rows) (s : Strip) → strip_to_count k y first second ≡ Some s → next_strip y first second ≡ Some s
+to_next k y first second s is = by (is_over k y first second) is
   where
     by : (t : Bool) → cond t None (next_strip y first second) ≡ Some s → next_strip y first second ≡ Some s
     by true e = absurd (cc)
     by false e = e
 
-to_over : (y : ℤ) (a b : List Band) → strip_to_count y (first_rows_of a) (first_rows_of b) ≡ None → is_over y (first_rows_of a) (first_rows_of b) ≡ true
-to_over y a b is = by (is_over y (first_rows_of a) (first_rows_of b)) refl is
+to_over : (k : Keep) (y : ℤ) (a b : List Band) → strip_to_count k y (first_rows_of a) (first_rows_of b) ≡ None → is_over k y (first_rows_of a) (first_rows_of b) ≡ true
+to_over k y a b is = by (is_over k y (first_rows_of a) (first_rows_of b)) refl is
   where
-    by : (t : Bool) → is_over y (first_rows_of a) (first_rows_of b) ≡ t → cond t None (next_strip y (first_rows_of a) (first_rows_of b)) ≡ None → is_over y (first_rows_of a) (first_rows_of b) ≡ true
+    by : (t : Bool) → is_over k y (first_rows_of a) (first_rows_of b) ≡ t → cond t None (next_strip y (first_rows_of a) (first_rows_of b)) ≡ None → is_over k y (first_rows_of a) (first_rows_of b) ≡ true
     by true e none = e
-    by false e none = let ends = no_strip y a b none in ap (λ l. is_over y (first_rows_of l) (first_rows_of b)) ends.0 ∙ ap (λ l. is_over y None (first_rows_of l)) ends.1
+    by false e none = let ends = no_strip y a b none in ap (λ l. is_over k y (first_rows_of l) (first_rows_of b)) ends.0 ∙ ap (λ l. is_over k y None (first_rows_of l)) ends.1
 
-module _ (k : Keep) (whole_a whole_b a b : Reading) (y : ℤ) (count : ℕ) (h : Counted k whole_a whole_b a b y count) (first second : Option Rows) (found : Option Strip) (f : first ≡ first_rows_of a.bands) (f' : second ≡ first_rows_of b.bands) (g : found ≡ strip_to_count y first second) where
-  found_is : found ≡ strip_to_count y (first_rows_of a.bands) (first_rows_of b.bands)
-  found_is = g ∙ ap (λ u. strip_to_count y u second) f ∙ ap (strip_to_count y (first_rows_of a.bands)) f'
+module _ (k : Keep) (whole_a whole_b a b : Reading) (y : ℤ) (count : ℕ) (h : Counted k whole_a whole_b a b y count) (first second : Option Rows) (found : Option Strip) (f : first ≡ first_rows_of a.bands) (f' : second ≡ first_rows_of b.bands) (g : found ≡ strip_to_count k y first second) where
+  found_is : found ≡ strip_to_count k y (first_rows_of a.bands) (first_rows_of b.bands)
+  found_is = g ∙ ap (λ u. strip_to_count k y u second) f ∙ ap (strip_to_count k y (first_rows_of a.bands)) f'
 
   pub count_done : found ≡ None → Enough k (start whole_a.bands whole_b.bands) whole_a.bands whole_b.bands count
-  count_done is = subst (Enough k (start whole_a.bands whole_b.bands) whole_a.bands whole_b.bands) (all count) (h.enough 0 (over y a.bands b.bands 0 (to_over y a.bands b.bands (sym found_is ∙ is))))
+  count_done is = subst (Enough k (start whole_a.bands whole_b.bands) whole_a.bands whole_b.bands) (all count) (h.enough 0 (over y a.bands b.bands 0 (to_over k y a.bands b.bands (sym found_is ∙ is))))
     where
       all : (n : ℕ) → n + 0 ≡ n
       all n = omega arith
@@ -219,7 +247,7 @@ module _ (k : Keep) (whole_a whole_b a b : Reading) (y : ℤ) (count : ℕ) (h :
 
   module _ (s : Strip) (is : found ≡ Some s) (bottom : ℤ) (bottom_is : bottom ≡ s.bottom) (a' b' : Reading) (a'_is : a' ≡ reading (later bottom a.bands)) (b'_is : b' ≡ reading (later bottom b.bands)) where
     next_is : next_strip y (first_rows_of a.bands) (first_rows_of b.bands) ≡ Some s
-    next_is = to_next y (first_rows_of a.bands) (first_rows_of b.bands) s (sym found_is ∙ is)
+    next_is = to_next k y (first_rows_of a.bands) (first_rows_of b.bands) s (sym found_is ∙ is)
 
     strip_there : IsStrip y a.bands b.bands s
     strip_there = strip_is y a.bands b.bands s h.bands_a h.bands_b h.ahead_a h.ahead_b next_is

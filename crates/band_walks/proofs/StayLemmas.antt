@@ -12,7 +12,7 @@ use Rattle.row_walks.specs.Rows.{row_has, kept}
 use Rattle.row_walks.proofs.WalkLemmas.{kept-none}
 use Rattle.band_walks.specs.declared.strips.Strip.{Strip}
 use Rattle.band_walks.specs.Sets.{in_rows, has, IsBand, Follows, AreBands, EndBy, IsKept}
-use Rattle.band_walks.specs.Strips.{next_strip, start_of, later, first_rows_of, FirstIs, IsStripRow, Rests}
+use Rattle.band_walks.specs.Strips.{next_strip, start_of, later, first_rows_of, FirstIs, IsStripRow, NoneKept, Rests}
 use Rattle.band_walks.proofs.SetLemmas.{longer, nodes_join, in_band, end_later, end-append, has-append, has_nothing, bands_longer, row_stretched}
 use Rattle.band_walks.proofs.StripLemmas.{first_band, none_above, IsStrip, strip_is, no_strip, IsStart, starts, edges_left, edges_less}
 use Rattle.band_walks.proofs.KeepLemmas.{BandState, state_begins, state_more, state_done, none_under}
@@ -20,7 +20,7 @@ use Rattle.band_walks.proofs.CutLemmas.{cut_few, row_few}
 use Rattle.band_walks.specs.Room.{IsGap, IsRoom, IsWhole, HoldsStrip, Enough, start}
 use Rattle.band_walks.proofs.WholeLemmas.{whole_bands}
 use Rattle.band_walks.proofs.GapLemmas.{has_join, kept_alone, kept_out, state_enters}
-use Rattle.band_walks.proofs.RoomLemmas.{later_few, spare_left, enough_step, enough_more}
+use Rattle.band_walks.proofs.RoomLemmas.{kept_behind, later_few, spare_left, enough_step, enough_more}
 
 pub not_true : (b : Bool) → not b ≡ true → b ≡ false
 not_true true e = absurd (cc)
@@ -63,6 +63,16 @@ rest_kept k whole_a whole_b above y (first ∷ rest) b state rests =
           ∙ sym (ap (kept k (has whole_a x z)) (sym (state.same_b x z more) ∙ ap (λ l. has l x z) rests.over) ∙ kept_alone k (has whole_a x z) (rests.stays first rest refl)));
     }
 
+pub none_kept : (k : Keep) (whole_a whole_b above : List Band) (y : ℤ) (a b : List Band) → BandState k whole_a whole_b above y a b → NoneKept k a → IsKept k whole_a whole_b (above ++ a)
+none_kept k whole_a whole_b above y a b state none =
+    subst (IsKept k whole_a whole_b) (sym (ap (λ l. above ++ l) none.over ∙ append-nil above)) (record {
+      are_bands = state.are_bands;
+      has = λ x z. by_lt_z z y
+          (λ less. state.so_far x z less)
+          (λ more. none_under x z y above state.ends more ∙ sym (
+          ap (λ t. kept k t (has whole_b x z)) (sym (state.same_a x z more) ∙ ap (λ l. has l x z) none.over) ∙ kept_behind k (has whole_b x z) none.out));
+    })
+
 -- ---- the walk
 
 pub from_firsts : (y : ℤ) (a b : List Band) (first second : Option Rows) (found t : Option Strip) → first ≡ first_rows_of a → second ≡ first_rows_of b → found ≡ next_strip y first second → found ≡ t → next_strip y (first_rows_of a) (first_rows_of b) ≡ t
@@ -81,19 +91,19 @@ no_rests k y above below others is =
     none : (first : Band) (rest : List Band) → [] ≡ first ∷ rest → ⊥
     none first rest e = cc
 
+pub no_first : (bs : List Band) → first_rows_of bs ≡ None → bs ≡ []
+no_first [] e = refl
+no_first (b ∷ bs) e = absurd (let gone : Some (rows_of b) ≡ None = e in cc)
+
 -- the first band begins at y or below it, and there are no others
 pub rests_for : (k : Keep) (y : ℤ) (above below others : List Band) (rows : Rows) (first second : Option Rows) → first ≡ first_rows_of below → first ≡ Some rows → second ≡ first_rows_of others → second ≡ None → y ≤ℤ rows.top → kept k true false ≡ true
     → ((front : List Band) (last first : Band) (rest : List Band) → above ≡ front ++ last ∷ [] → below ≡ first ∷ rest → last.bottom ≡ first.top → last.row ≢ first.row) → Rests k y above below others
 rests_for k y above below others rows first second e f g h low stays apart = record {
-  over = none others (sym g ∙ h);
+  over = no_first others (sym g ∙ h);
   stays = λ band rest is. stays;
   whole = λ band rest is. let top : band.top ≡ rows.top = ap (λ (r : Rows). r.top) (same_Some (rows_of band) rows (ap first_rows_of (sym is) ∙ sym e ∙ f)) in omega (arith, ints, low, top);
   apart = apart;
 }
-  where
-    none : (bs : List Band) → first_rows_of bs ≡ None → bs ≡ []
-    none [] e = refl
-    none (b ∷ bs) e = absurd (let gone : Some (rows_of b) ≡ None = e in cc)
 
 pub record Kept (k : Keep) (old now : Bands) (other left : Reading) (y : ℤ) : Type 0 where
   pub state : BandState k (old.above ++ old.below) other.bands now.above y now.below left.bands
@@ -199,8 +209,9 @@ module _ (k : Keep) (old now : Bands) (other left : Reading) (y : ℤ) (h : Kept
         read = rest ∙ ap reading (sym bands);
       }
 
-  pub kept_done : Rests k y now.above now.below left.bands → IsKept k (old.above ++ old.below) other.bands (now.above ++ now.below)
-  kept_done rests = rest_kept k (old.above ++ old.below) other.bands now.above y now.below left.bands h.state rests
+  pub kept_done : Rests k y now.above now.below left.bands ⊎ NoneKept k now.below → IsKept k (old.above ++ old.below) other.bands (now.above ++ now.below)
+  kept_done (inl rests) = rest_kept k (old.above ++ old.below) other.bands now.above y now.below left.bands h.state rests
+  kept_done (inr none) = none_kept k (old.above ++ old.below) other.bands now.above y now.below left.bands h.state none
 
   pub kept_spare : old.spare + nodes_in (old.above ++ old.below) ≤ now.spare + nodes_in (now.above ++ now.below)
   kept_spare = omega (arith, h.spare, nodes_join old.above old.below, nodes_join now.above now.below)

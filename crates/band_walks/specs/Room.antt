@@ -1,5 +1,5 @@
 -- Where a walk over two lists of bands begins, and the room that it takes.
-use Rattle.std.specs.Prelude.{◌≡◌, ◌≢◌, ℕ, ◌+◌, ◌≤◌, Bool, true, false, cond, ◌⊎◌, List, [], ◌∷◌, ◌++◌, length, ℤ, int_lt, int_le, Option, Some, None}
+use Rattle.std.specs.Prelude.{◌≡◌, ◌≢◌, ℕ, ◌+◌, ◌≤◌, Bool, true, false, not, ◌&&◌, cond, ◌⊎◌, List, [], ◌∷◌, ◌++◌, length, ℤ, int_lt, int_le, Option, Some, None}
 use Rattle.band_list.specs.declared.Interval.{Interval}
 use Rattle.band_list.specs.declared.Rows.{Rows}
 use Rattle.band_list.specs.Bands.{Band, Bands, first_row, nodes_in}
@@ -43,20 +43,24 @@ IsWhole in_a in_b rows below = (in_a ≡ true) × (in_b ≡ false) × FirstIs ro
 abbrev pub HoldsStrip : Keep → Bool → Bool → Rows → List Band → List Interval → List Interval → ℕ → Type 0
 HoldsStrip keep in_a in_b rows below a b room = (IsWhole in_a in_b rows below → ⊥) → (row : List Interval) → IsStripRow keep in_a in_b a b row → row ≢ [] → 2 + length row ≤ room
 
--- whether from y on there are no bands but whole ones of the first list
-abbrev pub is_over : ℤ → Option Rows → Option Rows → Bool
-is_over y None None = true
-is_over y (Some r) None = int_le y r.top
-is_over y None (Some s) = false
-is_over y (Some r) (Some s) = false
+-- whether from y on there are no bands but whole ones of the first list, or none but such of the second as aren't kept
+abbrev pub is_over : Keep → ℤ → Option Rows → Option Rows → Bool
+is_over keep y None None = true
+is_over keep y (Some r) None = int_le y r.top
+is_over keep y None (Some s) = not (kept keep false true)
+is_over keep y (Some r) (Some s) = false
 
 -- the strip from y on for which there is to be room
-abbrev pub strip_to_count : ℤ → Option Rows → Option Rows → Option Strip
-strip_to_count y first second = cond (is_over y first second) None (next_strip y first second)
+abbrev pub strip_to_count : Keep → ℤ → Option Rows → Option Rows → Option Strip
+strip_to_count keep y first second = cond (is_over keep y first second) None (next_strip y first second)
 
--- room for what is kept from y on: for each strip, down to where nothing is left but whole bands of the first list
+-- whether nothing is kept of a strip, which is not in bands of both lists
+abbrev pub keeps_nothing : Keep → Bool → Bool → Bool
+keeps_nothing keep in_a in_b = not (in_a && in_b) && not (kept keep in_a in_b)
+
+-- room for what is kept from y on: for each strip, down to where nothing is left that is made
 pub data Enough (keep : Keep) : ℤ → List Band → List Band → ℕ → Type 0 where
-  over : (y : ℤ) (below others : List Band) (room : ℕ) → is_over y (first_rows_of below) (first_rows_of others) ≡ true → Enough keep y below others room
+  over : (y : ℤ) (below others : List Band) (room : ℕ) → is_over keep y (first_rows_of below) (first_rows_of others) ≡ true → Enough keep y below others room
   strip : (y : ℤ) (below others : List Band) (room : ℕ) (s : Strip) (taken rest : ℕ)
       → next_strip y (first_rows_of below) (first_rows_of others) ≡ Some s
       → HoldsStrip keep s.in_first s.in_second (record { top = y; bottom = s.bottom }) below (first_row below) (first_row others) taken

@@ -4,32 +4,45 @@ ghost use Rattle.std.specs.Prelude.{◌≡◌, ◌≤◌};
 ghost use Rattle.band_list.specs.Bands.{first_row};
 ghost use Rattle.row_walks.specs.Rows.{IsRow};
 ghost use Rattle.band_walks.specs.Sets.{AreBands};
-ghost use Rattle.band_walks.specs.Room.{is_over, start, strip_to_count, Enough, HoldsStrip};
+ghost use Rattle.band_walks.specs.Room.{is_over, keeps_nothing, start, strip_to_count, Enough, HoldsStrip};
 
 use crate::is_whole;
 use crate::strips::{Strip, bands_start, enter_strip, leave_strip, next_strip};
 use band_list::{Reader, Rows};
 use row_walks::{Keep, count_row};
 
-fn is_over(first: Option<Rows>, second: Option<Rows>, y: i32) -> bool
-    ensures { result ≡ is_over y first second }
+fn is_over(keep: Keep, first: Option<Rows>, second: Option<Rows>, y: i32) -> bool
+    ensures { result ≡ is_over keep y first second }
 {
     match (first, second) {
         (Some(rows), None) => y <= rows.top,
         (None, None) => true,
-        (_, Some(_)) => false,
+        (None, Some(_)) => !keep.keeps(false, true),
+        (Some(_), Some(_)) => false,
     }
 }
 
-// The strip from y on for which there is to be room; `None` where nothing is left but whole bands of the first list.
-fn strip_to_count(first: Option<Rows>, second: Option<Rows>, y: i32) -> Option<Strip>
-    ensures { result ≡ strip_to_count y first second }
+// The strip from y on for which there is to be room; `None` where nothing is left that is made.
+fn strip_to_count(
+    keep: Keep,
+    first: Option<Rows>,
+    second: Option<Rows>,
+    y: i32,
+) -> Option<Strip>
+    ensures { result ≡ strip_to_count keep y first second }
 {
-    if is_over(first, second, y) {
+    if is_over(keep, first, second, y) {
         None
     } else {
         next_strip(first, second, y)
     }
+}
+
+// Whether nothing is kept of a strip, which is not in bands of both lists.
+fn keeps_nothing(keep: Keep, in_first: bool, in_second: bool) -> bool
+    ensures { result ≡ keeps_nothing keep in_first in_second }
+{
+    !(in_first && in_second) && !keep.keeps(in_first, in_second)
 }
 
 // How much room is enough for what is kept of a strip of rows.
@@ -46,6 +59,9 @@ fn count_strip_room(
     ensures room { HoldsStrip keep in_first in_second rows first.now.bands first.now.left second.now.left result }
     ensures few { result ≤ 2147483650 }
 {
+    if keeps_nothing(keep, in_first, in_second) {
+        return 0;
+    }
     if is_whole(first.first_rows(), rows, in_first, in_second) {
         return 0;
     }
@@ -57,7 +73,7 @@ fn count_strip_room(
 }
 
 /// How much room is enough for `keep_bands` with the bands that both readers still have to read: the first's are those below
-/// the gap. Nothing is read behind the second's end but the rest of a band. This takes no memory.
+/// the gap. Nothing is read behind the place from which on nothing is made. This takes no memory.
 pub fn count_room(first: &mut Reader, second: &mut Reader, keep: Keep) -> usize
     requires first { AreBands first.old.bands }
     requires second { AreBands second.old.bands }
@@ -67,7 +83,7 @@ pub fn count_room(first: &mut Reader, second: &mut Reader, keep: Keep) -> usize
 {
     let mut top = bands_start(first.first_rows(), second.first_rows());
     let mut count = 0;
-    while let Some(strip) = strip_to_count(first.first_rows(), second.first_rows(), top) {
+    while let Some(strip) = strip_to_count(keep, first.first_rows(), second.first_rows(), top) {
         let rows = Rows {
             top,
             bottom: strip.bottom,

@@ -3,7 +3,7 @@
 //! `strips` has one step of the walk, `gaps` moves the gap to where it begins, and `counts` says how much room is enough for it.
 #![tactic(auto)]
 
-ghost use Rattle.std.specs.Prelude.{◌≡◌, ◌≢◌, ◌↔◌, ◌≤◌, ◌+◌, ◌||◌, ◌&&◌, [], ◌∷◌, ◌++◌, List, length, IsTrue, Some, None, true, false, ℤ, ◌<ℤ◌, ◌≤ℤ◌};
+ghost use Rattle.std.specs.Prelude.{◌≡◌, ◌≢◌, ◌↔◌, ◌≤◌, ◌+◌, ◌||◌, ◌&&◌, ◌⊎◌, [], ◌∷◌, ◌++◌, List, length, IsTrue, Some, None, true, false, ℤ, ◌<ℤ◌, ◌≤ℤ◌};
 ghost use Rattle.std.specs.List.{last_or};
 ghost use Rattle.std.specs.Option.{option_map};
 ghost use Rattle.std.specs.Ordering.{int_eq};
@@ -11,7 +11,7 @@ ghost use Rattle.band_list.specs.declared.Interval.{Interval};
 ghost use Rattle.band_list.specs.Bands.{Band, Bands, rows_of, first_row, nodes_in, reading};
 ghost use Rattle.row_walks.specs.Rows.{IsRow, IsKept as IsRowKept, row_has, kept};
 ghost use Rattle.band_walks.specs.Sets.{AreBands, Counts, EndBy, IsKept, has, in_rows};
-ghost use Rattle.band_walks.specs.Strips.{IsStripRow, FirstIs, Rests, first_rows_of, later, next_strip as strip_below};
+ghost use Rattle.band_walks.specs.Strips.{IsStripRow, FirstIs, NoneKept, Rests, first_rows_of, later, next_strip as strip_below};
 ghost use Rattle.band_walks.specs.Room.{IsGap, IsRoom, IsWhole, GapMoved, Enough, HoldsStrip, start};
 
 mod counts;
@@ -222,12 +222,13 @@ fn is_by(a: i32, b: i32) -> bool
 }
 
 // Whether the bands below the gap stay as they are from y on: the reader has ended, nothing of the first band is above y, and
-// it stays.
+// it stays; or there are none, and nothing is kept of the reader's.
 fn rest_stays(bands: &BandList, other: &Reader, keep: Keep, y: i32) -> bool
-    ensures { result ≡ true → Rests keep y bands.now.above bands.now.below other.now.bands }
+    ensures { result ≡ true → Rests keep y bands.now.above bands.now.below other.now.bands ⊎ NoneKept keep bands.now.below }
 {
     match (bands.first_rows(), other.first_rows()) {
         (Some(rows), None) => is_by(y, rows.top) && first_stays(bands, keep),
+        (None, Some(_)) => !keep.keeps(false, true),
         _ => false,
     }
 }
@@ -235,7 +236,7 @@ fn rest_stays(bands: &BandList, other: &Reader, keep: Keep, y: i32) -> bool
 // The strip from y on that is to be kept next; `None` where the bands below the gap stay as they are.
 fn strip_to_keep(bands: &BandList, other: &Reader, keep: Keep, y: i32) -> Option<Strip>
     ensures some { (strip : Strip) → result ≡ Some strip → strip_below y (first_rows_of bands.now.below) (first_rows_of other.now.bands) ≡ Some strip }
-    ensures none { result ≡ None → Rests keep y bands.now.above bands.now.below other.now.bands }
+    ensures none { result ≡ None → Rests keep y bands.now.above bands.now.below other.now.bands ⊎ NoneKept keep bands.now.below }
 {
     if rest_stays(bands, other, keep, y) {
         None

@@ -16,6 +16,7 @@ ghost use Rattle.span_region.specs.Room.{IsRoomFor};
 
 mod listing;
 mod moves;
+mod sizes;
 
 use band_list::{BandList, Interval, Reader, Rows};
 use band_walks::{count_kept, count_room, keep_bands, move_gap};
@@ -24,6 +25,7 @@ use listing::{push_rects, rect_of_bounds, reverse_if};
 use moves::{Offset, are_out_of_range, is_in_range, some_leave_range};
 use region::{Rect, RegionError};
 use row_walks::Keep;
+use sizes::has_fewer;
 use std::alloc::{AllocError, Global};
 use std::marker::Model;
 
@@ -331,7 +333,11 @@ impl SpanRegion {
         ensures left { IfOk result (λ left. IsTrue left ↔ (self.new.list ≢ [])) }
         ensures err { OnErr result (self.new ≡ self.old) }
     {
-        self.keep_with(other, Keep::Both)?;
+        if has_fewer(&mut other.bands.reader(), &mut self.bands.reader()) {
+            self.keep_shared(other)?;
+        } else {
+            self.keep_with(other, Keep::Both)?;
+        }
         Ok(!self.is_empty())
     }
 
@@ -364,6 +370,17 @@ impl SpanRegion {
         ensures { IfOk result (λ region. (x y : ℤ) → covers region.list x y ≡ (covers self.now.list x y && not (covers other.now.list x y))) }
     {
         self.kept_with(other, Keep::FirstAlone)
+    }
+
+    // Leaves the places that are in `other` too, in a copy of `other`, which takes no longer than that is large.
+    fn keep_shared(&mut self, other: &SpanRegion) -> Result<(), AllocError>
+        ensures ok { IfOk result (λ _. (x y : ℤ) → covers self.new.list x y ≡ (covers self.old.list x y && covers other.now.list x y)) }
+        ensures err { OnErr result (self.new ≡ self.old) }
+    {
+        let mut shared = other.try_clone(self.alloc)?;
+        shared.keep_with(self, Keep::Both)?;
+        std::mem::swap(self, &mut shared);
+        Ok(())
     }
 
     // What is kept of two regions, as a region of its own.
