@@ -1,18 +1,18 @@
 -- The bands on both sides of the gap, and a gap that moves.
-use Rattle.std.proofs.Common.{◌≡◌, ◌≢◌, ℕ, ◌+◌, ◌≤◌, ◌<◌, Bool, true, false, ◌&&◌, List, [], ◌∷◌, ◌++◌, length, refl, sym, ◌∙◌, ap, subst, arith, append_assoc, Option, Some, None, inl, inr}
-use Rattle.std.specs.Prelude.{ℤ, ◌<ℤ◌, ◌≤ℤ◌, int_lt, int_le, ◌||◌, slice_get}
+use Rattle.std.proofs.Common.{◌≡◌, ◌≢◌, ◌<◌, Bool, true, false, List, [], ◌∷◌, ◌++◌, length, refl, sym, ◌∙◌, ap, subst, arith, append_assoc, Option, Some, None, inl, inr}
+use Rattle.std.specs.Prelude.{ℤ, ◌<ℤ◌, ◌≤ℤ◌, int_lt, int_le, ◌||◌}
 use Rattle.std.specs.List.{last_or}
 use Rattle.std.specs.Option.{option_map}
-use Rattle.std.proofs.lemmas.Int.{ints, by_lt_z}
+use Rattle.std.proofs.lemmas.Int.{ints}
 use Rattle.std.proofs.lemmas.List.{length-append}
 use Rattle.band_list.specs.declared.Rows.{Rows}
 use Rattle.band_list.specs.Bands.{Band, Bands, rows_of, first_row}
 use Rattle.band_list.proofs.EachLemmas.{last_cases, last_or_last}
 use Rattle.row_walks.specs.declared.Keep.{Keep}
-use Rattle.row_walks.specs.Rows.{row_has, kept}
+use Rattle.row_walks.specs.Rows.{kept}
 use Rattle.row_walks.proofs.WalkLemmas.{kept-none}
-use Rattle.band_walks.specs.Sets.{in_rows, has, IsBand, Follows, AreBands, EndBy}
-use Rattle.band_walks.specs.Strips.{start_of, first_rows_of}
+use Rattle.band_walks.specs.Sets.{has, AreBands, EndBy}
+use Rattle.band_walks.specs.Strips.{first_rows_of}
 use Rattle.band_walks.specs.Room.{StayAbove, IsGap, GapMoved, ends_below, ends_by, start}
 use Rattle.band_walks.proofs.SetLemmas.{in_band, end_later, end-append}
 use Rattle.band_walks.proofs.StripLemmas.{first_band, band_tail, IsStart, starts, nearer_is}
@@ -92,8 +92,8 @@ state_enters k (c ∷ above) below others y (inr stay) h h' is =
       are_bands = bands_front (c ∷ above) below h;
       ends = ends;
       so_far = λ x z less. sym (
-        ap (λ t. kept k t (has others x z)) (has_join (c ∷ above) below x z ∙ ap (λ t. has (c ∷ above) x z || t) (start_a.before x z less) ∙ or_false (has (c ∷ above) x z))
-        ∙ ap (kept k (has (c ∷ above) x z)) (start_b.before x z less) ∙ kept_alone k (has (c ∷ above) x z) stay.stays);
+          ap (λ t. kept k t (has others x z)) (has_join (c ∷ above) below x z ∙ ap (λ t. has (c ∷ above) x z || t) (start_a.before x z less) ∙ or_false (has (c ∷ above) x z))
+          ∙ ap (kept k (has (c ∷ above) x z)) (start_b.before x z less) ∙ kept_alone k (has (c ∷ above) x z) stay.stays);
     }
 
 -- ---- the gap moves

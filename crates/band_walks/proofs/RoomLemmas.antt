@@ -1,13 +1,13 @@
 -- The room that a walk over two lists of bands takes, strip by strip.
-use Rattle.std.proofs.Common.{◌≡◌, ◌≢◌, ℕ, ◌+◌, ◌*◌, ◌≤◌, ◌<◌, Bool, true, false, cond, ◌&&◌, List, [], ◌∷◌, length, refl, sym, ◌∙◌, ap, subst, arith, Option, Some, None, ◌⊎◌, inl, inr}
-use Rattle.std.specs.Prelude.{ℤ, pos, ◌<ℤ◌, ◌≤ℤ◌, ◌+ℤ◌, int_lt, int_le, ◌||◌, not}
+use Rattle.std.proofs.Common.{◌≡◌, ℕ, ◌+◌, ◌*◌, ◌≤◌, ◌<◌, Bool, true, false, cond, ◌&&◌, List, [], ◌∷◌, length, refl, sym, ◌∙◌, ap, subst, arith, Option, Some, None, ◌⊎◌, inl, inr}
+use Rattle.std.specs.Prelude.{ℤ, pos, ◌<ℤ◌, ◌≤ℤ◌, ◌+ℤ◌, int_le, ◌||◌, not}
 use Rattle.std.proofs.lemmas.Int.{ints, by_lt_z}
 use Rattle.std.proofs.lemmas.Option.{same_Some}
 use Rattle.band_list.specs.declared.Interval.{Interval}
 use Rattle.band_list.specs.declared.Rows.{Rows}
 use Rattle.band_list.specs.Bands.{Band, Bands, Reading, rows_of, first_row, nodes_in, reading}
 use Rattle.row_walks.specs.declared.Keep.{Keep}
-use Rattle.row_walks.specs.Rows.{IsRow, row_has, kept, IsKept as IsRowKept}
+use Rattle.row_walks.specs.Rows.{IsRow, row_has, kept}
 use Rattle.row_walks.proofs.RowLemmas.{true_false, only_row}
 use Rattle.row_walks.proofs.WalkLemmas.{kept-none}
 use Rattle.band_walks.specs.declared.strips.Strip.{Strip}
@@ -15,7 +15,7 @@ use Rattle.band_walks.specs.Sets.{in_rows, has, AreBands, EndBy}
 use Rattle.band_walks.specs.Strips.{next_strip, start_of, later, first_rows_of, FirstIs, IsStripRow, edge_of}
 use Rattle.band_walks.specs.Room.{IsWhole, HoldsStrip, is_over, keeps_nothing, strip_to_count, Enough, start}
 use Rattle.band_walks.specs.Room.Enough.{over, strip}
-use Rattle.band_walks.proofs.StripLemmas.{first_band, band_tail, tail_from, From, not_yet, has_begun, IsStrip, strip_is, no_strip, IsStart, starts, Ahead, later_is, edges_left, edges_less}
+use Rattle.band_walks.proofs.StripLemmas.{first_band, tail_from, From, not_yet, has_begun, IsStrip, strip_is, no_strip, IsStart, starts, Ahead, later_is, edges_left, edges_less}
 use Rattle.band_walks.proofs.KeepLemmas.{row_of_first}
 use Rattle.band_walks.proofs.CutLemmas.{column, same_few}
 use Rattle.band_walks.proofs.WholeLemmas.{same_row, same_number, part, row_is_kept, add}

@@ -9,13 +9,12 @@ use Rattle.band_list.specs.declared.Rows.{Rows}
 use Rattle.band_list.specs.Bands.{Band, Bands, Reading, rows_of, first_row, nodes_in, reading}
 use Rattle.row_walks.specs.declared.Keep.{Keep}
 use Rattle.row_walks.specs.Rows.{row_has, kept}
-use Rattle.row_walks.proofs.WalkLemmas.{kept-none}
 use Rattle.band_walks.specs.declared.strips.Strip.{Strip}
 use Rattle.band_walks.specs.Sets.{in_rows, has, IsBand, Follows, AreBands, EndBy, IsKept}
 use Rattle.band_walks.specs.Strips.{next_strip, start_of, later, first_rows_of, FirstIs, IsStripRow, NoneKept, Rests}
-use Rattle.band_walks.proofs.SetLemmas.{longer, nodes_join, in_band, end_later, end-append, has-append, has_nothing, bands_longer, row_stretched}
-use Rattle.band_walks.proofs.StripLemmas.{first_band, none_above, IsStrip, strip_is, no_strip, IsStart, starts, edges_left, edges_less}
-use Rattle.band_walks.proofs.KeepLemmas.{BandState, state_begins, state_more, state_done, none_under}
+use Rattle.band_walks.proofs.SetLemmas.{longer, nodes_join, end_later, end-append, has-append, has_nothing, bands_longer, row_stretched}
+use Rattle.band_walks.proofs.StripLemmas.{first_band, none_above, IsStrip, strip_is, no_strip, edges_left, edges_less}
+use Rattle.band_walks.proofs.KeepLemmas.{BandState, state_more, state_done, none_under}
 use Rattle.band_walks.proofs.CutLemmas.{cut_few, row_few}
 use Rattle.band_walks.specs.Room.{IsGap, IsRoom, IsWhole, HoldsStrip, Enough, start}
 use Rattle.band_walks.proofs.WholeLemmas.{whole_bands}
@@ -121,7 +120,7 @@ kept_begins k old other y first second gap h h' e e' room f f' is =
       state = state_enters k old.above old.below other.bands y gap h h' at;
       spare = omega arith;
       fewer = omega arith;
-      room = elim room [ | inl enough ↦ inl (subst (λ n. Enough k n old.below other.bands old.spare) (sym at) enough) | inr whole ↦ inr whole ];
+      room = elim room [ inl enough ↦ inl (subst (λ n. Enough k n old.below other.bands old.spare) (sym at) enough) | inr whole ↦ inr whole ];
       same = ap (λ l. record old { left = l }) e;
       read = ap (λ l. record other { left = l }) e';
     }
@@ -203,7 +202,7 @@ module _ (k : Keep) (old now : Bands) (other left : Reading) (y : ℤ) (h : Kept
         state = subst U (sym y_is) (subst T (sym bands) (subst S (sym below) state));
         spare = omega (arith, h.spare, spare);
         fewer = omega (arith, h.fewer, ap nodes_in below, later_few e now.below);
-        room = elim h.room [ | inl enough ↦ inl (more enough) | inr room ↦ inr room ];
+        room = elim h.room [ inl enough ↦ inl (more enough) | inr room ↦ inr room ];
         same = whole ∙ ap (λ (u : Bands). record u { above = w.above; left = first_row (later e now.below); below = later e now.below; spare = w.spare }) h.same
             ∙ ap (λ l. record old { above = w.above; left = first_row l; below = l; spare = w.spare }) (sym below);
         read = rest ∙ ap reading (sym bands);

@@ -23,12 +23,7 @@ fn is_over(keep: Keep, first: Option<Rows>, second: Option<Rows>, y: i32) -> boo
 }
 
 // The strip from y on for which there is to be room; `None` where nothing is left that is made.
-fn strip_to_count(
-    keep: Keep,
-    first: Option<Rows>,
-    second: Option<Rows>,
-    y: i32,
-) -> Option<Strip>
+fn strip_to_count(keep: Keep, first: Option<Rows>, second: Option<Rows>, y: i32) -> Option<Strip>
     ensures { result ≡ strip_to_count keep y first second }
 {
     if is_over(keep, first, second, y) {

@@ -19,9 +19,9 @@ mod gaps;
 mod strips;
 
 use band_list::{BandList, Reader, Rows};
-use row_walks::{Keep, copy_left, copy_other, count_row, make_row, same_kept, skip_row};
 pub use counts::count_room;
 pub use gaps::move_gap;
+use row_walks::{Keep, copy_left, copy_other, count_row, make_row, same_kept, skip_row};
 use strips::{Strip, bands_start, drop_ended, enter_strip, leave_strip, next_strip, pass_ended};
 
 fn is_same(a: i32, b: i32) -> bool

@@ -1,5 +1,5 @@
 -- Which of two lists of bands is the shorter one.
-use Rattle.std.proofs.Common.{◌≡◌, ◌≢◌, ℕ, ◌+◌, ◌<◌, Bool, true, false, List, [], ◌∷◌, length, refl, sym, ◌∙◌, ap, arith, Option, Some, None}
+use Rattle.std.proofs.Common.{◌≡◌, ◌≢◌, ℕ, ◌+◌, ◌<◌, Bool, true, false, List, [], ◌∷◌, length, refl, sym, ◌∙◌, ap, arith, Option}
 use Rattle.std.specs.Prelude.{IsTrue, ◌↔◌, not, slice_get}
 use Rattle.std.specs.Option.{option_map, is_some}
 use Rattle.band_list.specs.declared.Rows.{Rows}

@@ -1,7 +1,6 @@
-use Rattle.std.proofs.Common.{◌≡◌, ◌≤◌, [], ◌++◌, sym, ◌∙◌, ap, subst, arith}
-use Rattle.std.specs.Prelude.{OnOk}
+use Rattle.std.proofs.Common.{◌≡◌, ◌++◌, sym, ◌∙◌, ap, subst, arith}
 use Rattle.std.proofs.lemmas.Result.{on_ok_weaker}
-use Rattle.band_list.specs.Bands.{Bands, Reading, first_row, reading}
+use Rattle.band_list.specs.Bands.{Bands, Reading, first_row}
 use Rattle.band_walks.specs.Sets.{AreBands}
 use Rattle.band_walks.specs.Room.{Enough, IsGap, start}
 use Rattle.band_walks.proofs.GapLemmas.{still_bands, bands_back}

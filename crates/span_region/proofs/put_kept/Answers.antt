@@ -1,5 +1,5 @@
-use Rattle.std.proofs.Common.{◌≡◌, ◌+◌, ◌≤◌, [], ◌++◌, List, sym, ◌∙◌, ap, subst, arith, inr}
-use Rattle.band_list.specs.Bands.{Band, Bands, Reading, first_row, nodes_in, reading}
+use Rattle.std.proofs.Common.{◌≡◌, ◌++◌, sym, ◌∙◌, ap, subst, arith, inr}
+use Rattle.band_list.specs.Bands.{Bands, Reading, first_row}
 use Rattle.band_walks.specs.Sets.{AreBands, IsKept}
 use Rattle.band_walks.proofs.GapLemmas.{still_bands}
 use Rattle.span_region.proofs.put_kept.Goals as goal

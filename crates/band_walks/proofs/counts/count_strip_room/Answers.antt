@@ -1,4 +1,4 @@
-use Rattle.std.proofs.Common.{◌≡◌, ◌+◌, ◌≤◌, Bool, true, false, cond, ◌&&◌, List, [], length, refl, sym, ◌∙◌, ap, arith}
+use Rattle.std.proofs.Common.{◌≡◌, Bool, true, false, cond, ◌&&◌, List, [], length, refl, sym, ◌∙◌, ap, arith}
 use Rattle.std.specs.Prelude.{ℤ}
 use Rattle.band_list.specs.declared.Interval.{Interval}
 use Rattle.band_list.specs.Bands.{Reading}
@@ -26,8 +26,8 @@ returns-clause-room c = λ whole row r some.
     let made : IsRowKept k one other row = record {
       is_row = r.is_row;
       has = λ x. r.has x ∙ sym (
-        ap (λ l. kept k (row_has l x) (row_has other x)) one_is ∙ ap (λ t. kept k t (row_has other x)) (part_has c.args.in_first first x)
-        ∙ ap (λ l. kept k (c.args.in_first && row_has first x) (row_has l x)) other_is ∙ ap (kept k (c.args.in_first && row_has first x)) (part_has c.args.in_second second x));
+          ap (λ l. kept k (row_has l x) (row_has other x)) one_is ∙ ap (λ t. kept k t (row_has other x)) (part_has c.args.in_first first x)
+          ∙ ap (λ l. kept k (c.args.in_first && row_has first x) (row_has l x)) other_is ∙ ap (kept k (c.args.in_first && row_has first x)) (part_has c.args.in_second second x));
     } in
     let count : c.count_row.result ≡ length row = c.count_row.ensures.count row made in
     omega (arith, count)

@@ -1,5 +1,4 @@
-use Rattle.std.proofs.Common.{◌&&◌, ◌≡◌, ◌∙◌, Bool, true, false, refl, ap, sym}
-use Rattle.row_walks.specs.declared.Keep.TheVariants.{Both}
+use Rattle.std.proofs.Common.{◌&&◌, ◌≡◌, ◌∙◌, Bool, true, false, refl, ap}
 use Rattle.region.specs.Region.{covers}
 use Rattle.span_region.proofs.SpanRegion.keep_shared.Goals as goal
 

@@ -1,4 +1,4 @@
-use Rattle.std.proofs.Common.{◌≡◌, [], ◌++◌, ◌∙◌, ap, refl, sym, subst, inl}
+use Rattle.std.proofs.Common.{◌++◌, ◌∙◌, ap, refl, sym, subst, inl}
 use Rattle.band_list.specs.Bands.{Reading, first_row}
 use Rattle.band_walks.specs.Sets.{AreBands, IsKept}
 use Rattle.span_region.specs.Rects.{rects_in}

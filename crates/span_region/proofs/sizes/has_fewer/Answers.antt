@@ -1,5 +1,4 @@
-use Rattle.std.proofs.Common.{◌≡◌, ◌∙◌, Bool, true, false, refl, ap, sym}
-use Rattle.std.specs.Prelude.{not}
+use Rattle.std.proofs.Common.{true, false, refl}
 use Rattle.span_region.proofs.SizeLemmas.{some_left, is_left, none_left, not_none, is_none, alike_more, not_fewer, whether_fewer}
 use Rattle.span_region.proofs.sizes.has_fewer.Goals as goal
 
