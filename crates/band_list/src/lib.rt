@@ -388,6 +388,19 @@ impl BandList {
         self.drop_row();
     }
 
+    /// Reads the bands below the gap, with their intervals.
+    pub fn reader_below(&self) -> Reader<'_>
+        ensures { result ≡ reading self.now.below }
+    {
+        let left = first_under(&self.spans, self.gap);
+        Reader {
+            spans: &self.spans,
+            lists: self.lists,
+            gap: self.gap,
+            left,
+        }
+    }
+
     /// Reads all bands from the top, with their intervals.
     pub fn reader(&self) -> Reader<'_>
         ensures { result ≡ reading (self.now.above ++ self.now.below) }

@@ -3,5 +3,7 @@ pub mod StripLemmas
 pub mod KeepLemmas
 pub mod CutLemmas
 pub mod WholeLemmas
+pub mod GapLemmas
+pub mod RoomLemmas
 pub mod StayLemmas
 pub mod CountLemmas

@@ -1,5 +1,5 @@
 -- What a walk over two lists of bands keeps of the room, and of the bands that stay.
-use Rattle.std.proofs.Common.{◌≡◌, ◌≢◌, ℕ, ◌+◌, ◌≤◌, ◌<◌, Bool, true, false, not, cond, ◌&&◌, List, [], ◌∷◌, ◌++◌, length, refl, sym, ◌∙◌, ap, subst, arith, Option, Some, None}
+use Rattle.std.proofs.Common.{◌≡◌, ◌≢◌, ℕ, ◌+◌, ◌≤◌, ◌<◌, Bool, true, false, not, cond, ◌&&◌, List, [], ◌∷◌, ◌++◌, length, refl, sym, ◌∙◌, ap, subst, arith, Option, Some, None, ◌⊎◌, inl, inr}
 use Rattle.std.specs.Prelude.{ℤ, ◌<ℤ◌, ◌≤ℤ◌, int_le, ◌||◌}
 use Rattle.std.proofs.lemmas.Int.{ints, by_lt_z}
 use Rattle.std.proofs.lemmas.List.{append-nil}
@@ -9,15 +9,17 @@ use Rattle.band_list.specs.declared.Rows.{Rows}
 use Rattle.band_list.specs.Bands.{Band, Bands, Reading, rows_of, first_row, nodes_in, reading}
 use Rattle.row_walks.specs.declared.Keep.{Keep}
 use Rattle.row_walks.specs.Rows.{row_has, kept}
-use Rattle.row_walks.proofs.WalkLemmas.{kept-none}
 use Rattle.band_walks.specs.declared.strips.Strip.{Strip}
 use Rattle.band_walks.specs.Sets.{in_rows, has, IsBand, Follows, AreBands, EndBy, IsKept}
-use Rattle.band_walks.specs.Strips.{next_strip, start_of, later, first_rows_of, FirstIs, IsStripRow, Rests}
-use Rattle.band_walks.proofs.SetLemmas.{longer, nodes_join, in_band, end_later, end-append, has-append, has_nothing, bands_longer, row_stretched}
-use Rattle.band_walks.proofs.StripLemmas.{first_band, none_above, IsStrip, strip_is, no_strip, IsStart, starts, edges_left, edges_less}
-use Rattle.band_walks.proofs.KeepLemmas.{BandState, state_begins, state_more, state_done, none_under}
+use Rattle.band_walks.specs.Strips.{next_strip, start_of, later, first_rows_of, FirstIs, IsStripRow, NoneKept, Rests}
+use Rattle.band_walks.proofs.SetLemmas.{longer, nodes_join, end_later, end-append, has-append, has_nothing, bands_longer, row_stretched}
+use Rattle.band_walks.proofs.StripLemmas.{first_band, none_above, IsStrip, strip_is, no_strip, edges_left, edges_less}
+use Rattle.band_walks.proofs.KeepLemmas.{BandState, state_more, state_done, none_under}
 use Rattle.band_walks.proofs.CutLemmas.{cut_few, row_few}
+use Rattle.band_walks.specs.Room.{IsGap, IsRoom, IsWhole, HoldsStrip, Enough, start}
 use Rattle.band_walks.proofs.WholeLemmas.{whole_bands}
+use Rattle.band_walks.proofs.GapLemmas.{has_join, kept_alone, kept_out, state_enters}
+use Rattle.band_walks.proofs.RoomLemmas.{kept_behind, later_few, spare_left, enough_step, enough_more}
 
 pub not_true : (b : Bool) → not b ≡ true → b ≡ false
 not_true true e = absurd (cc)
@@ -31,24 +33,7 @@ or_false : (b : Bool) → (b || false) ≡ b
 or_false true = refl
 or_false false = refl
 
--- places of the first alone are all kept, or none is
-pub kept_alone : (k : Keep) (t : Bool) → kept k true false ≡ true → kept k t false ≡ t
-kept_alone k true is = is
-kept_alone k false is = kept-none k
-
-pub kept_out : (k : Keep) (t : Bool) → kept k true false ≡ false → kept k t false ≡ false
-kept_out k true is = is
-kept_out k false is = kept-none k
-
 -- ---- bands above the gap and below it
-
-has_join : (above below : List Band) (x z : ℤ) → has (above ++ below) x z ≡ (has above x z || has below x z)
-has_join [] below x z = refl
-has_join (b ∷ above) below x z = ap (λ t. in_band b x z || t) (has_join above below x z) ∙ or_assoc (in_band b x z) (has above x z) (has below x z)
-  where
-    or_assoc : (a b c : Bool) → (a || (b || c)) ≡ ((a || b) || c)
-    or_assoc true b c = refl
-    or_assoc false b c = refl
 
 bands_join : (above : List Band) (first : Band) (rest : List Band) → AreBands above → AreBands (first ∷ rest) → ((front : List Band) (last : Band) → above ≡ front ++ last ∷ [] → Follows last first) → AreBands (above ++ first ∷ rest)
 bands_join [] first rest h k follows = k
@@ -77,6 +62,16 @@ rest_kept k whole_a whole_b above y (first ∷ rest) b state rests =
           ∙ sym (ap (kept k (has whole_a x z)) (sym (state.same_b x z more) ∙ ap (λ l. has l x z) rests.over) ∙ kept_alone k (has whole_a x z) (rests.stays first rest refl)));
     }
 
+pub none_kept : (k : Keep) (whole_a whole_b above : List Band) (y : ℤ) (a b : List Band) → BandState k whole_a whole_b above y a b → NoneKept k a → IsKept k whole_a whole_b (above ++ a)
+none_kept k whole_a whole_b above y a b state none =
+    subst (IsKept k whole_a whole_b) (sym (ap (λ l. above ++ l) none.over ∙ append-nil above)) (record {
+      are_bands = state.are_bands;
+      has = λ x z. by_lt_z z y
+          (λ less. state.so_far x z less)
+          (λ more. none_under x z y above state.ends more ∙ sym (
+          ap (λ t. kept k t (has whole_b x z)) (sym (state.same_a x z more) ∙ ap (λ l. has l x z) none.over) ∙ kept_behind k (has whole_b x z) none.out));
+    })
+
 -- ---- the walk
 
 pub from_firsts : (y : ℤ) (a b : List Band) (first second : Option Rows) (found t : Option Strip) → first ≡ first_rows_of a → second ≡ first_rows_of b → found ≡ next_strip y first second → found ≡ t → next_strip y (first_rows_of a) (first_rows_of b) ≡ t
@@ -95,46 +90,37 @@ no_rests k y above below others is =
     none : (first : Band) (rest : List Band) → [] ≡ first ∷ rest → ⊥
     none first rest e = cc
 
+pub no_first : (bs : List Band) → first_rows_of bs ≡ None → bs ≡ []
+no_first [] e = refl
+no_first (b ∷ bs) e = absurd (let gone : Some (rows_of b) ≡ None = e in cc)
+
 -- the first band begins at y or below it, and there are no others
 pub rests_for : (k : Keep) (y : ℤ) (above below others : List Band) (rows : Rows) (first second : Option Rows) → first ≡ first_rows_of below → first ≡ Some rows → second ≡ first_rows_of others → second ≡ None → y ≤ℤ rows.top → kept k true false ≡ true
     → ((front : List Band) (last first : Band) (rest : List Band) → above ≡ front ++ last ∷ [] → below ≡ first ∷ rest → last.bottom ≡ first.top → last.row ≢ first.row) → Rests k y above below others
 rests_for k y above below others rows first second e f g h low stays apart = record {
-  over = none others (sym g ∙ h);
+  over = no_first others (sym g ∙ h);
   stays = λ band rest is. stays;
   whole = λ band rest is. let top : band.top ≡ rows.top = ap (λ (r : Rows). r.top) (same_Some (rows_of band) rows (ap first_rows_of (sym is) ∙ sym e ∙ f)) in omega (arith, ints, low, top);
   apart = apart;
 }
-  where
-    none : (bs : List Band) → first_rows_of bs ≡ None → bs ≡ []
-    none [] e = refl
-    none (b ∷ bs) e = absurd (let gone : Some (rows_of b) ≡ None = e in cc)
-
-later_few : (edge : ℤ) (bs : List Band) → nodes_in (later edge bs) ≤ nodes_in bs
-later_few edge [] = omega arith
-later_few edge (b ∷ bs) = by (int_le b.bottom edge)
-  where
-    by : (t : Bool) → nodes_in (cond t bs (b ∷ bs)) ≤ nodes_in (b ∷ bs)
-    by true = omega arith
-    by false = omega arith
 
 pub record Kept (k : Keep) (old now : Bands) (other left : Reading) (y : ℤ) : Type 0 where
-  pub state : BandState k old.below other.bands now.above y now.below left.bands
-  pub spare : old.spare + nodes_in old.below ≤ now.spare + nodes_in now.above + nodes_in now.below
+  pub state : BandState k (old.above ++ old.below) other.bands now.above y now.below left.bands
+  pub spare : old.spare + nodes_in old.above + nodes_in old.below ≤ now.spare + nodes_in now.above + nodes_in now.below
   pub fewer : nodes_in now.below ≤ nodes_in old.below
+  pub room : Enough k y now.below left.bands now.spare ⊎ ((result : List Band) → IsKept k (old.above ++ old.below) other.bands result → nodes_in result + nodes_in result ≤ old.spare)
   pub same : now ≡ record old { above = now.above; left = first_row now.below; below = now.below; spare = now.spare }
   pub read : left ≡ reading left.bands
 
-pub kept_begins : (k : Keep) (old : Bands) (other : Reading) (y : ℤ) (first second : Option Rows) → old.above ≡ [] → AreBands old.below → AreBands other.bands → old.left ≡ first_row old.below → other.left ≡ first_row other.bands
-    → first ≡ first_rows_of old.below → second ≡ first_rows_of other.bands → y ≡ start_of first second → Kept k old old other other y
-kept_begins k old other y first second none h h' e e' f f' is =
-    let at : y ≡ start_of (first_rows_of old.below) (first_rows_of other.bands) = is ∙ ap (λ u. start_of u second) f ∙ ap (start_of (first_rows_of old.below)) f' in
-    let start = starts old.below other.bands h h' in
-    let S : List Band → Type 0 = λ l. BandState k old.below other.bands l y old.below other.bands in
-    let begins = state_begins k old.below other.bands y h h' (subst (λ n. IsStart n old.below) (sym at) start.0) (subst (λ n. IsStart n other.bands) (sym at) start.1) in
+pub kept_begins : (k : Keep) (old : Bands) (other : Reading) (y : ℤ) (first second : Option Rows) → IsGap k old.above other.bands → AreBands (old.above ++ old.below) → AreBands other.bands → old.left ≡ first_row old.below → other.left ≡ first_row other.bands
+    → IsRoom k old.above old.below other.bands old.spare → first ≡ first_rows_of old.below → second ≡ first_rows_of other.bands → y ≡ start_of first second → Kept k old old other other y
+kept_begins k old other y first second gap h h' e e' room f f' is =
+    let at : y ≡ start old.below other.bands = is ∙ ap (λ u. start_of u second) f ∙ ap (start_of (first_rows_of old.below)) f' in
     record {
-      state = subst S (sym none) begins;
+      state = state_enters k old.above old.below other.bands y gap h h' at;
       spare = omega arith;
       fewer = omega arith;
+      room = elim room [ inl enough ↦ inl (subst (λ n. Enough k n old.below other.bands old.spare) (sym at) enough) | inr whole ↦ inr whole ];
       same = ap (λ l. record old { left = l }) e;
       read = ap (λ l. record other { left = l }) e';
     }
@@ -153,19 +139,31 @@ module _ (k : Keep) (old now : Bands) (other left : Reading) (y : ℤ) (h : Kept
   row_empty e = ap (λ (u : Bands). u.row) h.same ∙ e
 
   -- the room of the result is enough for what is made, and for the row of a strip
-  pub strip_room : AreBands old.below → AreBands other.bands → ((result : List Band) → IsKept k old.below other.bands result → nodes_in result + nodes_in result ≤ old.spare)
+  result_room : AreBands (old.above ++ old.below) → AreBands other.bands → ((result : List Band) → IsKept k (old.above ++ old.below) other.bands result → nodes_in result + nodes_in result ≤ old.spare)
       → (s : Strip) → next_strip y (first_rows_of now.below) (first_rows_of left.bands) ≡ Some s
-      → (row : List Interval) → IsStripRow k s.in_first s.in_second now.left left.left row → row ≢ [] → 2 + length row ≤ now.spare
-  strip_room bands_a bands_b room s is row r some =
-      let whole = whole_bands k old.below other.bands bands_a bands_b in
+      → (row : List Interval) → IsStripRow k s.in_first s.in_second (first_row now.below) (first_row left.bands) row → row ≢ [] → 2 + length row ≤ now.spare
+  result_room bands_a bands_b room s is row r some =
+      let all = old.above ++ old.below in
+      let whole = whole_bands k all other.bands bands_a bands_b in
       let strip = strip_at s is in
       let after : y <ℤ s.bottom = strip.edge_a.after in
       let low : y ≤ℤ y = omega (arith, ints) in
       let made = cut_few y now.above whole.0 h.state.are_bands whole.1.are_bands h.state.ends (λ x z less. h.state.so_far x z less ∙ sym (whole.1.has x z)) in
-      let in_a : (x : ℤ) → has old.below x y ≡ (s.in_first && row_has now.left x) = λ x. sym (h.state.same_a x y low) ∙ strip.edge_a.flat x y low after ∙ ap (λ l. s.in_first && row_has l x) (sym left_now) in
-      let in_b : (x : ℤ) → has other.bands x y ≡ (s.in_second && row_has left.left x) = λ x. sym (h.state.same_b x y low) ∙ strip.edge_b.flat x y low after ∙ ap (λ l. s.in_second && row_has l x) (sym left_other) in
-      let one = row_few y row whole.0 whole.1.are_bands r.is_row some (λ x. whole.1.has x y ∙ ap (λ t. kept k t (has other.bands x y)) (in_a x) ∙ ap (kept k (s.in_first && row_has now.left x)) (in_b x) ∙ sym (r.has x)) in
+      let in_a : (x : ℤ) → has all x y ≡ (s.in_first && row_has (first_row now.below) x) = λ x. sym (h.state.same_a x y low) ∙ strip.edge_a.flat x y low after in
+      let in_b : (x : ℤ) → has other.bands x y ≡ (s.in_second && row_has (first_row left.bands) x) = λ x. sym (h.state.same_b x y low) ∙ strip.edge_b.flat x y low after in
+      let one = row_few y row whole.0 whole.1.are_bands r.is_row some (λ x. whole.1.has x y ∙ ap (λ t. kept k t (has other.bands x y)) (in_a x) ∙ ap (kept k (s.in_first && row_has (first_row now.below) x)) (in_b x) ∙ sym (r.has x)) in
       omega (arith, made, one, room whole.0 whole.1, h.spare, h.fewer)
+
+  pub strip_room : AreBands (old.above ++ old.below) → AreBands other.bands → (s : Strip) (rows : Rows) → next_strip y (first_rows_of now.below) (first_rows_of left.bands) ≡ Some s → rows ≡ record { top = y; bottom = s.bottom }
+      → HoldsStrip k s.in_first s.in_second rows now.below now.left left.left now.spare
+  strip_room bands_a bands_b s rows is rows_is = λ part row r some.
+      let r' : IsStripRow k s.in_first s.in_second (first_row now.below) (first_row left.bands) row =
+      subst (λ l. IsStripRow k s.in_first s.in_second (first_row now.below) l row) left_other (subst (λ l. IsStripRow k s.in_first s.in_second l left.left row) left_now r) in
+      let part' : IsWhole s.in_first s.in_second (record { top = y; bottom = s.bottom }) now.below → ⊥ = subst (λ q. IsWhole s.in_first s.in_second q now.below → ⊥) rows_is part in
+      elim h.room [
+        | inl enough ↦ let step = enough_step k y now.below left.bands now.spare s h.state.bands_a enough is in omega (arith, step.holds part' row r' some, step.fits)
+        | inr room ↦ result_room bands_a bands_b room s is row r' some
+      ]
 
   pub kept_more : (s : Strip) (rows : Rows) (w : Bands) (r p : Reading) (y' : ℤ) → next_strip y (first_rows_of now.below) (first_rows_of left.bands) ≡ Some s → rows ≡ record { top = y; bottom = s.bottom } → y' ≡ s.bottom
       → AreBands w.above → EndBy rows.bottom w.above
@@ -180,29 +178,42 @@ module _ (k : Keep) (old now : Bands) (other left : Reading) (y : ℤ) (h : Kept
       has_is x z ∙ ap (λ l. has now.above x z || (in_rows rows z && kept k (s.in_first && row_has l x) (s.in_second && row_has left.left x))) left_now
       ∙ ap (λ l. has now.above x z || (in_rows rows z && kept k (s.in_first && row_has (first_row now.below) x) (s.in_second && row_has l x))) left_other in
       let bottom : rows.bottom ≡ s.bottom = ap (λ (q : Rows). q.bottom) rows_is in
-      let state = state_more k old.below other.bands now.above y now.below left.bands s w.above rows h.state strip rows_is are_bands (subst (λ n. EndBy n w.above) bottom ends) has_more in
+      let state = state_more k (old.above ++ old.below) other.bands now.above y now.below left.bands s w.above rows h.state strip rows_is are_bands (subst (λ n. EndBy n w.above) bottom ends) has_more in
       let whole : w ≡ record now { above = w.above; left = first_row (later e now.below); below = later e now.below; spare = w.spare } =
       w_is ∙ ap (λ n. record now { above = w.above; left = first_row (later n now.below); below = later n now.below; spare = w.spare }) bottom in
       let rest : p ≡ reading (later e left.bands) = p_is ∙ ap (λ (u : Reading). reading (later y' u.bands)) r_is ∙ ap (λ n. reading (later n left.bands)) y_is in
       let below : w.below ≡ later e now.below = ap (λ (u : Bands). u.below) whole in
       let bands : p.bands ≡ later e left.bands = ap (λ (u : Reading). u.bands) rest in
-      let S : List Band → Type 0 = λ l. BandState k old.below other.bands w.above e l (later e left.bands) in
-      let T : List Band → Type 0 = λ l. BandState k old.below other.bands w.above e w.below l in
-      let U : ℤ → Type 0 = λ n. BandState k old.below other.bands w.above n w.below p.bands in
+      let all = old.above ++ old.below in
+      let S : List Band → Type 0 = λ l. BandState k all other.bands w.above e l (later e left.bands) in
+      let T : List Band → Type 0 = λ l. BandState k all other.bands w.above e w.below l in
+      let U : ℤ → Type 0 = λ n. BandState k all other.bands w.above n w.below p.bands in
+      let top : rows.top ≡ y = ap (λ (q : Rows). q.top) rows_is in
+      let after : y <ℤ s.bottom = strip.edge_a.after in
+      let left_over = spare_left k now w left.bands s.in_first s.in_second rows h.state.are_bands (subst (λ n. EndBy n now.above) (sym top) h.state.ends) (omega (arith, ints, top, bottom, after)) h.state.bands_a h.state.bands_b
+      are_bands has_more spare (ap (λ (u : Bands). u.below) w_is) in
+      let more : (Enough k y now.below left.bands now.spare → Enough k y' w.below p.bands w.spare) = λ enough.
+      let step = enough_step k y now.below left.bands now.spare s h.state.bands_a enough is in
+      let holds : HoldsStrip k s.in_first s.in_second rows now.below (first_row now.below) (first_row left.bands) step.taken = subst (λ q. HoldsStrip k s.in_first s.in_second q now.below (first_row now.below) (first_row left.bands) step.taken) (sym rows_is) step.holds in
+      let fits : step.rest ≤ w.spare = omega (arith, left_over step.taken holds, step.fits) in
+      let here = enough_more k e (later e now.below) (later e left.bands) step.rest w.spare step.enough fits in
+      subst (λ n. Enough k n w.below p.bands w.spare) (sym y_is) (subst (λ l. Enough k e w.below l w.spare) (sym bands) (subst (λ l. Enough k e l (later e left.bands) w.spare) (sym below) here)) in
       record {
         state = subst U (sym y_is) (subst T (sym bands) (subst S (sym below) state));
         spare = omega (arith, h.spare, spare);
         fewer = omega (arith, h.fewer, ap nodes_in below, later_few e now.below);
+        room = elim h.room [ inl enough ↦ inl (more enough) | inr room ↦ inr room ];
         same = whole ∙ ap (λ (u : Bands). record u { above = w.above; left = first_row (later e now.below); below = later e now.below; spare = w.spare }) h.same
             ∙ ap (λ l. record old { above = w.above; left = first_row l; below = l; spare = w.spare }) (sym below);
         read = rest ∙ ap reading (sym bands);
       }
 
-  pub kept_done : Rests k y now.above now.below left.bands → IsKept k old.below other.bands (now.above ++ now.below)
-  kept_done rests = rest_kept k old.below other.bands now.above y now.below left.bands h.state rests
+  pub kept_done : Rests k y now.above now.below left.bands ⊎ NoneKept k now.below → IsKept k (old.above ++ old.below) other.bands (now.above ++ now.below)
+  kept_done (inl rests) = rest_kept k (old.above ++ old.below) other.bands now.above y now.below left.bands h.state rests
+  kept_done (inr none) = none_kept k (old.above ++ old.below) other.bands now.above y now.below left.bands h.state none
 
-  pub kept_spare : old.spare + nodes_in old.below ≤ now.spare + nodes_in (now.above ++ now.below)
-  kept_spare = omega (arith, h.spare, nodes_join now.above now.below)
+  pub kept_spare : old.spare + nodes_in (old.above ++ old.below) ≤ now.spare + nodes_in (now.above ++ now.below)
+  kept_spare = omega (arith, h.spare, nodes_join old.above old.below, nodes_join now.above now.below)
 
   pub kept_fewer : (s : Strip) (rows : Rows) (w : Bands) (r p : Reading) (y' : ℤ) → next_strip y (first_rows_of now.below) (first_rows_of left.bands) ≡ Some s → rows.bottom ≡ s.bottom → y' ≡ s.bottom
       → w ≡ record now { above = w.above; left = first_row (later rows.bottom now.below); below = later rows.bottom now.below; spare = w.spare } → r ≡ reading left.bands → p ≡ reading (later y' r.bands)

@@ -120,7 +120,7 @@ nearer_edge bs y e a inside h after near = record {
     go [] r = tt
     go (q ∷ qs) r = omega (arith, ints, r, near)
 
-nearer_is : (a b : ℤ) → ((nearer a b ≡ a) × (a <ℤ b)) ⊎ ((nearer a b ≡ b) × (b ≤ℤ a))
+pub nearer_is : (a b : ℤ) → ((nearer a b ≡ a) × (a <ℤ b)) ⊎ ((nearer a b ≡ b) × (b ≤ℤ a))
 nearer_is a b = by_lt_z a b (λ less. inl (first a b less, less)) (λ more. inr (second a b more, more))
   where
     first : (a b : ℤ) → a <ℤ b → nearer a b ≡ a

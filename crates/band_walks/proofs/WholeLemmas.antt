@@ -1,10 +1,10 @@
 -- That there are bands of the places that are kept of any two lists of bands.
-use Rattle.std.proofs.Common.{◌≡◌, ◌≢◌, ℕ, zero, suc, ◌+◌, ◌≤◌, ◌<◌, Bool, true, false, cond, ◌&&◌, List, [], ◌∷◌, ◌++◌, refl, sym, ◌∙◌, ap, arith, Option, Some, None, ◌⊎◌, inl, inr}
+use Rattle.std.proofs.Common.{◌≡◌, ◌≢◌, ℕ, zero, suc, ◌+◌, ◌≤◌, ◌<◌, Bool, true, false, cond, ◌&&◌, List, [], ◌∷◌, ◌++◌, length, refl, sym, ◌∙◌, ap, arith, Option, Some, None, ◌⊎◌, inl, inr}
 use Rattle.std.specs.Prelude.{ℤ, ◌<ℤ◌, ◌≤ℤ◌, ◌||◌, slice_get}
 use Rattle.std.proofs.lemmas.Int.{ints, by_lt_z}
 use Rattle.band_list.specs.declared.Interval.{Interval}
 use Rattle.band_list.specs.declared.Rows.{Rows}
-use Rattle.band_list.specs.Bands.{Band, band_with, first_row}
+use Rattle.band_list.specs.Bands.{Band, band_with, first_row, nodes_in}
 use Rattle.band_list.proofs.EachLemmas.{last_cases, last_same}
 use Rattle.row_walks.specs.declared.Keep.{Keep}
 use Rattle.row_walks.specs.Rows.{IsRow, row_has, kept, IsKept as IsRowKept}
@@ -14,13 +14,13 @@ use Rattle.row_walks.proofs.WalkLemmas.{row_begins, whole as whole_row}
 use Rattle.band_walks.specs.declared.strips.Strip.{Strip}
 use Rattle.band_walks.specs.Sets.{in_rows, has, AreBands, EndBy, IsKept}
 use Rattle.band_walks.specs.Strips.{next_strip, start_of, later, first_rows_of, IsStripRow}
-use Rattle.band_walks.proofs.SetLemmas.{Parts, end_later, row_put, row_stretched, has_nothing, longer, has-append}
+use Rattle.band_walks.proofs.SetLemmas.{Parts, nodes_join, end_later, row_put, row_stretched, has_nothing, longer, has-append}
 use Rattle.band_walks.proofs.StripLemmas.{IsStrip, strip_is, no_strip, edges_left, edges_less, starts}
 use Rattle.band_walks.proofs.KeepLemmas.{BandState, state_begins, state_more, state_done, row_of_first}
 
 -- ---- whether rows are the same
 
-same_number : (a b : ℤ) → (a ≡ b) ⊎ (a ≢ b)
+pub same_number : (a b : ℤ) → (a ≡ b) ⊎ (a ≢ b)
 same_number a b = by_lt_z a b
     (λ less. inr (λ e. less_other a b less e))
     (λ more. by_lt_z b a (λ less. inr (λ e. less_other b a less (sym e))) (λ more'. inl (between a b more more')))
@@ -87,11 +87,13 @@ module _ (k : Keep) (a b row : List Interval) where
 
 -- ---- the bands with one more row
 
-record Added (bs : List Band) (rows : Rows) (row : List Interval) : Type 0 where
-  new : List Band
-  are_bands : AreBands new
-  ends : EndBy rows.bottom new
-  places : (x y : ℤ) → has new x y ≡ (has bs x y || (in_rows rows y && row_has row x))
+pub record Added (bs : List Band) (rows : Rows) (row : List Interval) : Type 0 where
+  pub new : List Band
+  pub are_bands : AreBands new
+  pub ends : EndBy rows.bottom new
+  pub places : (x y : ℤ) → has new x y ≡ (has bs x y || (in_rows rows y && row_has row x))
+  pub few : nodes_in new ≤ nodes_in bs + (2 + length row)
+  pub none : row ≡ [] → nodes_in new ≤ nodes_in bs
 
 pub none_behind : (front : List Band) (last : Band) → [] ≡ front ++ last ∷ [] → ⊥
 none_behind [] last e = cc
@@ -100,11 +102,18 @@ none_behind (b ∷ front) last e = cc
 add_put : (bs : List Band) (rows : Rows) (row : List Interval) → AreBands bs → EndBy rows.top bs → rows.top <ℤ rows.bottom → IsRow row → row ≢ [] → Parts bs (band_with rows row) → Added bs rows row
 add_put bs rows row h e some is_row columns parts =
     let made = row_put bs rows row h e some is_row columns parts in
-    record { new = bs ++ band_with rows row ∷ []; are_bands = made.0; ends = made.1; places = λ x y. has-append bs (band_with rows row) x y }
+    record {
+      new = bs ++ band_with rows row ∷ [];
+      are_bands = made.0;
+      ends = made.1;
+      places = λ x y. has-append bs (band_with rows row) x y;
+      few = omega (arith, nodes_join bs (band_with rows row ∷ []));
+      none = λ none. absurd (columns none);
+    }
 
-add : (bs : List Band) (rows : Rows) (row : List Interval) → AreBands bs → EndBy rows.top bs → rows.top <ℤ rows.bottom → IsRow row → Added bs rows row
+pub add : (bs : List Band) (rows : Rows) (row : List Interval) → AreBands bs → EndBy rows.top bs → rows.top <ℤ rows.bottom → IsRow row → Added bs rows row
 add bs rows row h e some is_row = elim (same_row row []) [
-  | inl none ↦ record { new = bs; are_bands = h; ends = end_later rows.top rows.bottom bs (omega (arith, ints, some)) e; places = λ x y. has_nothing bs rows row x y none }
+  | inl none ↦ record { new = bs; are_bands = h; ends = end_later rows.top rows.bottom bs (omega (arith, ints, some)) e; places = λ x y. has_nothing bs rows row x y none; few = omega arith; none = λ none. omega arith }
   | inr columns ↦ elim (last_cases bs) [
     | inl none ↦ add_put bs rows row h e some is_row columns (λ front last is touch same. none_behind front last (sym none ∙ is))
     | inr there ↦ elim (same_number there.1.bottom rows.top) [
@@ -112,7 +121,8 @@ add bs rows row h e some is_row = elim (same_row row []) [
         | inl same ↦
             let new = there.0 ++ longer there.1 rows.bottom ∷ [] in
             let made = row_stretched bs new rows row there.0 there.1 h e some there.2 touch same refl in
-            record { new = new; are_bands = made.0; ends = made.1; places = made.2 }
+            let as_many : nodes_in new ≡ nodes_in bs = omega (arith, ap nodes_in there.2, nodes_join there.0 (there.1 ∷ []), nodes_join there.0 (longer there.1 rows.bottom ∷ [])) in
+            record { new = new; are_bands = made.0; ends = made.1; places = made.2; few = omega (arith, as_many); none = λ none. omega (arith, as_many) }
         | inr other ↦ add_put bs rows row h e some is_row columns (λ front last is touch' same. other (ap (λ (b : Band). b.row) (last_same there.0 there.1 front last (sym there.2 ∙ is)).1 ∙ same))
       ]
       | inr apart ↦ add_put bs rows row h e some is_row columns (λ front last is touch same. apart (ap (λ (b : Band). b.bottom) (last_same there.0 there.1 front last (sym there.2 ∙ is)).1 ∙ touch))

@@ -46,6 +46,11 @@ pub record IsStripRow (keep : Keep) (in_a in_b : Bool) (a b row : List Interval)
   pub is_row : IsRow row
   pub has : (x : ℤ) → row_has row x ≡ kept keep (in_a && row_has a x) (in_b && row_has b x)
 
+-- no bands are left below, and the places of the others alone aren't kept
+pub record NoneKept (keep : Keep) (below : List Band) : Type 0 where
+  pub over : below ≡ []
+  pub out : kept keep false true ≡ false
+
 -- from y on the bands below stay: there are no others, and the first is kept, whole, with another row than the last one above
 -- where they touch
 pub record Rests (keep : Keep) (y : ℤ) (above below others : List Band) : Type 0 where

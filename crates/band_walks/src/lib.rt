@@ -1,7 +1,9 @@
-//! Sets of places as bands of rows, combined by one walk over both lists.
+//! Sets of places as bands of rows, combined by one walk over both lists, from where they differ on.
+//!
+//! `strips` has one step of the walk, `gaps` moves the gap to where it begins, and `counts` says how much room is enough for it.
 #![tactic(auto)]
 
-ghost use Rattle.std.specs.Prelude.{◌≡◌, ◌≢◌, ◌↔◌, ◌≤◌, ◌+◌, ◌||◌, ◌&&◌, [], ◌∷◌, ◌++◌, List, length, IsTrue, Some, None, true, false, ℤ, ◌<ℤ◌, ◌≤ℤ◌};
+ghost use Rattle.std.specs.Prelude.{◌≡◌, ◌≢◌, ◌↔◌, ◌≤◌, ◌+◌, ◌||◌, ◌&&◌, ◌⊎◌, [], ◌∷◌, ◌++◌, List, length, IsTrue, Some, None, true, false, ℤ, ◌<ℤ◌, ◌≤ℤ◌};
 ghost use Rattle.std.specs.List.{last_or};
 ghost use Rattle.std.specs.Option.{option_map};
 ghost use Rattle.std.specs.Ordering.{int_eq};
@@ -9,11 +11,16 @@ ghost use Rattle.band_list.specs.declared.Interval.{Interval};
 ghost use Rattle.band_list.specs.Bands.{Band, Bands, rows_of, first_row, nodes_in, reading};
 ghost use Rattle.row_walks.specs.Rows.{IsRow, IsKept as IsRowKept, row_has, kept};
 ghost use Rattle.band_walks.specs.Sets.{AreBands, Counts, EndBy, IsKept, has, in_rows};
-ghost use Rattle.band_walks.specs.Strips.{IsStripRow, FirstIs, Rests, first_rows_of, later, next_strip as strip_below};
+ghost use Rattle.band_walks.specs.Strips.{IsStripRow, FirstIs, NoneKept, Rests, first_rows_of, later, next_strip as strip_below};
+ghost use Rattle.band_walks.specs.Room.{IsGap, IsRoom, IsWhole, GapMoved, Enough, HoldsStrip, start};
 
+mod counts;
+mod gaps;
 mod strips;
 
 use band_list::{BandList, Reader, Rows};
+pub use counts::count_room;
+pub use gaps::move_gap;
 use row_walks::{Keep, copy_left, copy_other, count_row, make_row, same_kept, skip_row};
 use strips::{Strip, bands_start, drop_ended, enter_strip, leave_strip, next_strip, pass_ended};
 
@@ -155,12 +162,12 @@ fn are_same(a: Rows, b: Rows) -> bool
     a.top == b.top && a.bottom == b.bottom
 }
 
-// Whether the first band below the gap has these rows.
-fn is_first(bands: &BandList, rows: Rows) -> bool
-    ensures { result ≡ true → FirstIs rows bands.now.below }
+// Whether the rows of a strip are the whole first band, and nothing of the other list is in them.
+pub(crate) fn is_whole(first: Option<Rows>, rows: Rows, in_first: bool, in_second: bool) -> bool
+    ensures { IsTrue result ↔ ((in_first ≡ true) × (in_second ≡ false) × (first ≡ Some rows)) }
 {
-    match bands.first_rows() {
-        Some(first) => are_same(first, rows),
+    match first {
+        Some(band) => in_first && !in_second && are_same(band, rows),
         None => false,
     }
 }
@@ -183,7 +190,7 @@ fn keep_next(
     requires some { rows.top <ℤ rows.bottom }
     requires are_bands { AreBands bands.old.above }
     requires ends { EndBy rows.top bands.old.above }
-    requires room { (row : List Interval) → IsStripRow keep in_first in_second bands.old.left other.old.left row → row ≢ [] → 2 + length row ≤ bands.old.spare }
+    requires room { HoldsStrip keep in_first in_second rows bands.old.below bands.old.left other.old.left bands.old.spare }
     ensures are_bands { AreBands bands.new.above }
     ensures ends { EndBy rows.bottom bands.new.above }
     ensures has { (x y : ℤ) → has bands.new.above x y ≡ (has bands.old.above x y || (in_rows rows y && kept keep (in_first && row_has bands.old.left x) (in_second && row_has other.old.left x))) }
@@ -191,7 +198,7 @@ fn keep_next(
     ensures same { bands.new ≡ record bands.old { above = bands.new.above; left = first_row (later rows.bottom bands.old.below); below = later rows.bottom bands.old.below; spare = bands.new.spare } }
     ensures read { other.new ≡ reading other.old.bands }
 {
-    if in_first && !in_second && is_first(bands, rows) {
+    if is_whole(bands.first_rows(), rows, in_first, in_second) {
         keep_first(bands, keep, rows);
     } else {
         keep_strip(bands, other, keep, rows, in_first, in_second);
@@ -215,12 +222,13 @@ fn is_by(a: i32, b: i32) -> bool
 }
 
 // Whether the bands below the gap stay as they are from y on: the reader has ended, nothing of the first band is above y, and
-// it stays.
+// it stays; or there are none, and nothing is kept of the reader's.
 fn rest_stays(bands: &BandList, other: &Reader, keep: Keep, y: i32) -> bool
-    ensures { result ≡ true → Rests keep y bands.now.above bands.now.below other.now.bands }
+    ensures { result ≡ true → Rests keep y bands.now.above bands.now.below other.now.bands ⊎ NoneKept keep bands.now.below }
 {
     match (bands.first_rows(), other.first_rows()) {
         (Some(rows), None) => is_by(y, rows.top) && first_stays(bands, keep),
+        (None, Some(_)) => !keep.keeps(false, true),
         _ => false,
     }
 }
@@ -228,7 +236,7 @@ fn rest_stays(bands: &BandList, other: &Reader, keep: Keep, y: i32) -> bool
 // The strip from y on that is to be kept next; `None` where the bands below the gap stay as they are.
 fn strip_to_keep(bands: &BandList, other: &Reader, keep: Keep, y: i32) -> Option<Strip>
     ensures some { (strip : Strip) → result ≡ Some strip → strip_below y (first_rows_of bands.now.below) (first_rows_of other.now.bands) ≡ Some strip }
-    ensures none { result ≡ None → Rests keep y bands.now.above bands.now.below other.now.bands }
+    ensures none { result ≡ None → Rests keep y bands.now.above bands.now.below other.now.bands ⊎ NoneKept keep bands.now.below }
 {
     if rest_stays(bands, other, keep, y) {
         None
@@ -237,20 +245,20 @@ fn strip_to_keep(bands: &BandList, other: &Reader, keep: Keep, y: i32) -> Option
     }
 }
 
-/// Makes the bands of the places that are kept of the bands below the gap and of those that the reader still has to read. A
-/// band that the reader's bands don't reach, and whose places are kept, stays where it is; the gap is then below what
+/// Makes the bands of the places that are kept of the bands and of those that the reader still has to read, from the gap on.
+/// A band that the reader's bands don't reach, and whose places are kept, stays where it is; the gap is then below what
 /// changed.
 pub fn keep_bands(bands: &mut BandList, other: &mut Reader, keep: Keep)
-    requires above { bands.old.above ≡ [] }
+    requires gap { IsGap keep bands.old.above other.old.bands }
     requires empty { bands.old.row ≡ [] }
-    requires first { AreBands bands.old.below }
+    requires first { AreBands (bands.old.above ++ bands.old.below) }
     requires second { AreBands other.old.bands }
     requires first_left { bands.old.left ≡ first_row bands.old.below }
     requires second_left { other.old.left ≡ first_row other.old.bands }
-    requires room { (result : List Band) → IsKept keep bands.old.below other.old.bands result → nodes_in result + nodes_in result ≤ bands.old.spare }
-    ensures kept { IsKept keep bands.old.below other.old.bands (bands.new.above ++ bands.new.below) }
+    requires room { IsRoom keep bands.old.above bands.old.below other.old.bands bands.old.spare }
+    ensures kept { IsKept keep (bands.old.above ++ bands.old.below) other.old.bands (bands.new.above ++ bands.new.below) }
     ensures row { bands.new.row ≡ [] }
-    ensures spare { bands.old.spare + nodes_in bands.old.below ≤ bands.new.spare + nodes_in (bands.new.above ++ bands.new.below) }
+    ensures spare { bands.old.spare + nodes_in (bands.old.above ++ bands.old.below) ≤ bands.new.spare + nodes_in (bands.new.above ++ bands.new.below) }
 {
     let mut top = bands_start(bands.first_rows(), other.first_rows());
     while let Some(strip) = strip_to_keep(bands, other, keep, top) {

@@ -5,3 +5,4 @@ pub mod PopLemmas
 pub mod RangeLemmas
 pub mod OrderLemmas
 pub mod RoomLemmas
+pub mod SizeLemmas

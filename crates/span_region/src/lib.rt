@@ -7,22 +7,25 @@ ghost use Rattle.region.specs.Region.{covers, in_rect, in_order, IsCanonical};
 ghost use Rattle.region.specs.Held.{in_range, leaves_range, SharePlace, IsBox};
 ghost use Rattle.region.specs.declared.RegionError.TheVariants.{OutOfRange};
 ghost use Rattle.region.specs.Pops.{IsFirst, IsWithout};
-ghost use Rattle.band_list.specs.Bands.{Band, nothing, nodes_in};
+ghost use Rattle.band_list.specs.Bands.{Band, first_row, nothing, nodes_in};
 ghost use Rattle.row_walks.specs.Rows.{kept};
 ghost use Rattle.band_walks.specs.Sets.{AreBands, IsKept};
+ghost use Rattle.band_walks.specs.Room.{start, Enough, IsGap};
 ghost use Rattle.span_region.specs.Rects.{band_of, AreRectBands};
 ghost use Rattle.span_region.specs.Room.{IsRoomFor};
 
 mod listing;
 mod moves;
+mod sizes;
 
-use band_list::{BandList, Interval, Rows};
-use band_walks::{count_kept, keep_bands};
+use band_list::{BandList, Interval, Reader, Rows};
+use band_walks::{count_kept, count_room, keep_bands, move_gap};
 use listed::Listed;
 use listing::{push_rects, rect_of_bounds, reverse_if};
 use moves::{Offset, are_out_of_range, is_in_range, some_leave_range};
 use region::{Rect, RegionError};
 use row_walks::Keep;
+use sizes::has_fewer;
 use std::alloc::{AllocError, Global};
 use std::marker::Model;
 
@@ -93,8 +96,9 @@ fn put_kept(bands: &mut BandList, other: &BandList, keep: Keep)
     ensures kept { IsKept keep (bands.old.above ++ bands.old.below) (other.now.above ++ other.now.below) (bands.new.above ++ bands.new.below) }
     ensures row { bands.new.row ≡ [] }
 {
-    bands.rewind();
-    keep_bands(bands, &mut other.reader(), keep);
+    let mut reader = other.reader();
+    move_gap(bands, &reader, keep);
+    keep_bands(bands, &mut reader, keep);
 }
 
 // How many nodes the bands take of the places that are kept of two lists of bands.
@@ -116,19 +120,21 @@ fn room_to_keep(first: &BandList, second: &BandList, keep: Keep) -> Option<usize
     count_nodes_kept(first, second, keep).checked_mul(2)
 }
 
-// Makes room in which what is kept of two lists of bands can be made in the first. No band changes, also where the room is
-// refused.
-fn make_room(bands: &mut BandList, other: &BandList, keep: Keep) -> Result<(), AllocError>
+// Moves the gap to where `keep_bands` may begin, and makes room for it. No band changes, also where the room is refused.
+fn make_room(bands: &mut BandList, other: &Reader, keep: Keep) -> Result<(), AllocError>
     requires first { AreBands (bands.old.above ++ bands.old.below) }
-    requires second { AreBands (other.now.above ++ other.now.below) }
-    ensures ok { OnOk result ((result : List Band) → IsKept keep (bands.old.above ++ bands.old.below) (other.now.above ++ other.now.below) result → nodes_in result + nodes_in result ≤ bands.new.spare) }
+    requires second { AreBands other.now.bands }
+    requires second_left { other.now.left ≡ first_row other.now.bands }
+    ensures gap { IsGap keep bands.new.above other.now.bands }
+    ensures left { bands.new.left ≡ first_row bands.new.below }
+    ensures ok { OnOk result (Enough keep (start bands.new.below other.now.bands) bands.new.below other.now.bands bands.new.spare) }
     ensures kept { bands.old.spare ≤ bands.new.spare }
-    ensures same { bands.new ≡ record bands.old { spare = bands.new.spare } }
+    ensures same { bands.new.above ++ bands.new.below ≡ bands.old.above ++ bands.old.below }
+    ensures row { bands.new.row ≡ bands.old.row }
 {
-    match room_to_keep(bands, other, keep) {
-        Some(room) => bands.reserve(room),
-        None => Err(AllocError),
-    }
+    move_gap(bands, other, keep);
+    let room = count_room(&mut bands.reader_below(), &mut other.again(), keep);
+    bands.reserve(room)
 }
 
 // The places of the rectangles: those of either half of them, taken together.
@@ -327,7 +333,11 @@ impl SpanRegion {
         ensures left { IfOk result (λ left. IsTrue left ↔ (self.new.list ≢ [])) }
         ensures err { OnErr result (self.new ≡ self.old) }
     {
-        self.keep_with(other, Keep::Both)?;
+        if has_fewer(&mut other.bands.reader(), &mut self.bands.reader()) {
+            self.keep_shared(other)?;
+        } else {
+            self.keep_with(other, Keep::Both)?;
+        }
         Ok(!self.is_empty())
     }
 
@@ -362,6 +372,17 @@ impl SpanRegion {
         self.kept_with(other, Keep::FirstAlone)
     }
 
+    // Leaves the places that are in `other` too, in a copy of `other`, which takes no longer than that is large.
+    fn keep_shared(&mut self, other: &SpanRegion) -> Result<(), AllocError>
+        ensures ok { IfOk result (λ _. (x y : ℤ) → covers self.new.list x y ≡ (covers self.old.list x y && covers other.now.list x y)) }
+        ensures err { OnErr result (self.new ≡ self.old) }
+    {
+        let mut shared = other.try_clone(self.alloc)?;
+        shared.keep_with(self, Keep::Both)?;
+        std::mem::swap(self, &mut shared);
+        Ok(())
+    }
+
     // What is kept of two regions, as a region of its own.
     fn kept_with(&self, other: &SpanRegion, keep: Keep) -> Result<SpanRegion, AllocError>
         ensures { IfOk result (λ region. (x y : ℤ) → covers region.list x y ≡ kept keep (covers self.now.list x y) (covers other.now.list x y)) }
@@ -376,8 +397,9 @@ impl SpanRegion {
         ensures ok { IfOk result (λ _. (x y : ℤ) → covers self.new.list x y ≡ kept keep (covers self.old.list x y) (covers other.now.list x y)) }
         ensures err { OnErr result (self.new ≡ self.old) }
     {
-        make_room(&mut self.bands, &other.bands, keep)?;
-        put_kept(&mut self.bands, &other.bands, keep);
+        let mut reader = other.bands.reader();
+        make_room(&mut self.bands, &reader, keep)?;
+        keep_bands(&mut self.bands, &mut reader, keep);
         self.room = 0;
         Ok(())
     }

@@ -10,7 +10,7 @@ pub loop-strip-init : goal.loop-strip-init
 loop-strip-init c =
     let y = to_z w32 (of_z w32 c.bands_start-top.result) in
     let same : y ≡ c.bands_start-top.result = omega (arith, ints) in
-    kept_begins c.args.keep c.args.bands.now c.args.other.now y c.first_rows.result c.first_rows-2.result c.requires.above c.requires.first c.requires.second c.requires.first_left c.requires.second_left
+    kept_begins c.args.keep c.args.bands.now c.args.other.now y c.first_rows.result c.first_rows-2.result c.requires.gap c.requires.first c.requires.second c.requires.first_left c.requires.second_left c.requires.room
     c.first_rows.ensures c.first_rows-2.ensures (same ∙ c.bands_start-top.ensures)
 
 pub keep_next-requires-clause-some : goal.keep_next-requires-clause-some
@@ -25,8 +25,11 @@ keep_next-requires-clause-some c =
 pub keep_next-requires-clause-room : goal.keep_next-requires-clause-room
 keep_next-requires-clause-room c =
     let y = to_z w32 c.loop-strip.top-bits in
+    let bottom = to_z w32 (of_z w32 c.in-Some.strip.bottom) in
+    let same : bottom ≡ c.in-Some.strip.bottom = omega (arith, ints) in
+    let rows : Rows = record { top = y; bottom = bottom } in
     let found = c.strip_to_keep.ensures.some c.in-Some.strip c.in-Some.is in
-    strip_room c.args.keep c.args.bands.now c.loop-strip.bands c.args.other.now c.loop-strip.other y c.loop-strip.invariant c.requires.first c.requires.second c.requires.room c.in-Some.strip found
+    strip_room c.args.keep c.args.bands.now c.loop-strip.bands c.args.other.now c.loop-strip.other y c.loop-strip.invariant c.requires.first c.requires.second c.in-Some.strip rows found (ap (λ n. record { top = y; bottom = n }) same)
 
 pub loop-strip-smaller : goal.loop-strip-smaller
 loop-strip-smaller c =

@@ -1,0 +1,10 @@
+use Rattle.std.specs.Prelude.{◌+◌}
+use Rattle.band_walks.proofs.StripLemmas.{edges_left}
+use Rattle.band_walks.proofs.RoomLemmas.{Counted}
+use Rattle.band_walks.proofs.counts.count_room.Given as goal
+
+abbrev pub invariant-loop-strip : goal.invariant-loop-strip
+invariant-loop-strip l = Counted l.keep l.fn.first l.fn.second l.first l.second l.top l.count
+
+abbrev pub decreases-loop-strip : goal.decreases-loop-strip
+decreases-loop-strip l = edges_left l.top l.first.bands + edges_left l.top l.second.bands
