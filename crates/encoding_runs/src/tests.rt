@@ -1,4 +1,5 @@
 mod hextile;
+mod pixel_bytes;
 mod pixels;
 mod raw;
 mod rre;

@@ -1,6 +1,7 @@
 use pixel_translate::{
     BitsPerPixel, Component, FormatFault, PixelFormat, Table, put_pixel, translate,
 };
+use std::process::Abort;
 use std::test::Fail;
 
 /// The sixteen bytes of the server's format.
@@ -103,27 +104,31 @@ fn colours_become_pixels(rt: HostRuntime) -> Result<(), Fail> {
     Ok(())
 }
 
+/// What sixteen bytes say is as wanted.
+fn expect_format(rt: &impl Abort, bytes: &[u8; 16], want: Result<PixelFormat, FormatFault>) {
+    assert_eq!(rt; PixelFormat::from_bytes(bytes), want, "{bytes:?}");
+}
+
 #[test]
 fn sixteen_bytes_are_a_format_or_a_fault(rt: HostRuntime) {
-    assert_eq!(rt; PixelFormat::server().to_bytes(), SERVER);
-    assert_eq!(rt; PixelFormat::from_bytes(&SERVER), Ok(PixelFormat::server()));
+    let server = PixelFormat::server();
+    assert_eq!(rt; server.to_bytes(), SERVER);
+    expect_format(&rt, &SERVER, Ok(server));
     let mut bytes = SERVER;
     bytes[2] = 7;
-    let big_endian = PixelFormat::from_bytes(&bytes).map(|format| format.big_endian);
-    assert_eq!(rt; big_endian, Ok(true));
+    let big_endian = true;
+    expect_format(
+        &rt,
+        &bytes,
+        Ok(PixelFormat {
+            big_endian,
+            ..server
+        }),
+    );
     bytes[0] = 24;
-    assert_eq!(rt;
-        PixelFormat::from_bytes(&bytes),
-        Err(FormatFault::BadBitsPerPixel)
-    );
+    expect_format(&rt, &bytes, Err(FormatFault::BadBitsPerPixel));
     bytes[3] = 0;
-    assert_eq!(rt;
-        PixelFormat::from_bytes(&bytes),
-        Err(FormatFault::BadBitsPerPixel)
-    );
+    expect_format(&rt, &bytes, Err(FormatFault::BadBitsPerPixel));
     bytes[0] = 8;
-    assert_eq!(rt;
-        PixelFormat::from_bytes(&bytes),
-        Err(FormatFault::ColourMapUnsupported)
-    );
+    expect_format(&rt, &bytes, Err(FormatFault::ColourMapUnsupported));
 }

@@ -1,7 +1,7 @@
 //! Worked rectangles, each byte written out from RFC 6143, and pictures that a slow encoder, straight
 //! from the definition, codes too.
 
-ghost use Rattle.std.specs.Prelude.{◌≡◌, ◌*◌, ◌≤◌, length};
+ghost use Rattle.std.specs.Prelude.{◌≤◌};
 
 mod pictures;
 mod slow;
@@ -14,6 +14,19 @@ use std::alloc::{AllocError, Global};
 use std::process::Abort;
 use std::test::Fail;
 
+/// The server's: 32 bits a pixel, the lowest byte first, and eight bits a component.
+const SERVER: PixelFormat = PixelFormat {
+    bits: pixel_translate::BitsPerPixel::ThirtyTwo,
+    depth: 24,
+    big_endian: false,
+    red: pixel_translate::Component {
+        max: 255,
+        shift: 16,
+    },
+    green: pixel_translate::Component { max: 255, shift: 8 },
+    blue: pixel_translate::Component { max: 255, shift: 0 },
+};
+
 const RGB565: PixelFormat = PixelFormat {
     bits: pixel_translate::BitsPerPixel::Sixteen,
     depth: 16,
@@ -23,117 +36,92 @@ const RGB565: PixelFormat = PixelFormat {
     blue: pixel_translate::Component { max: 31, shift: 0 },
 };
 
-/// Whether a rectangle at (1, 2) is appended as its size, its encoding and its data.
-fn is_coded(
-    alloc: Global,
+/// A rectangle: its columns and rows, its colours row by row, and what is appended behind its place.
+struct Example {
+    says: &'static str,
     size: (u16, u16),
-    colours: &[u32],
-    format: &PixelFormat,
-    tail: &[u8],
-) -> Result<bool, AllocError>
-    requires wide { 1 ≤ size.0 }
-    requires high { 1 ≤ size.1 }
-    requires whole { length colours.now ≡ size.0 * size.1 }
-{
-    let area = Area {
-        x: 1,
-        y: 2,
-        w: size.0,
-        h: size.1,
-    };
-    let mut out = Vec::new(alloc);
-    out.push(7)?;
-    encode_rre(&mut out, area, colours, format)?;
-    Ok(out.len() >= 5 && &out[..5] == [7, 0, 1, 0, 2].as_slice() && &out[5..] == tail)
+    colours: &'static [u32],
+    format: PixelFormat,
+    tail: &'static [u8],
 }
 
-#[test]
-fn one_colour_is_a_background_alone(rt: HostRuntime) -> Result<(), Fail> {
-    let coded = is_coded(
-        rt.alloc(),
-        (4, 4),
-        &[0x112233; 16],
-        &PixelFormat::server(),
-        &[0, 4, 0, 4, 0, 0, 0, 2, 0, 0, 0, 0, 0x33, 0x22, 0x11, 0],
-    )?;
-    assert!(rt; coded);
-    Ok(())
-}
-
-#[test]
-fn runs_are_joined_over_rows(rt: HostRuntime) -> Result<(), Fail> {
-    let coded = is_coded(
-        rt.alloc(),
-        (3, 2),
-        &[1, 2, 1, 1, 2, 1],
-        &PixelFormat::server(),
-        &[
+const EXAMPLES: &[Example] = &[
+    Example {
+        says: "one colour is a background alone",
+        size: (4, 4),
+        colours: &[0x112233; 16],
+        format: SERVER,
+        tail: &[0, 4, 0, 4, 0, 0, 0, 2, 0, 0, 0, 0, 0x33, 0x22, 0x11, 0],
+    },
+    Example {
+        says: "runs are joined over rows",
+        size: (3, 2),
+        colours: &[1, 2, 1, 1, 2, 1],
+        format: SERVER,
+        tail: &[
             0, 3, 0, 2, 0, 0, 0, 2, 0, 0, 0, 1, 1, 0, 0, 0, 2, 0, 0, 0, 0, 1, 0, 0, 0, 1, 0, 2,
         ],
-    )?;
-    assert!(rt; coded);
-    Ok(())
-}
-
-#[test]
-fn data_as_long_as_raw_is_raw(rt: HostRuntime) -> Result<(), Fail> {
-    let pair = is_coded(
-        rt.alloc(),
-        (2, 1),
-        &[0x112233; 2],
-        &PixelFormat::server(),
-        &[
+    },
+    Example {
+        says: "8 bytes either way are raw",
+        size: (2, 1),
+        colours: &[0x112233; 2],
+        format: SERVER,
+        tail: &[
             0, 2, 0, 1, 0, 0, 0, 0, 0x33, 0x22, 0x11, 0, 0x33, 0x22, 0x11, 0,
         ],
-    )?;
-    assert!(rt; pair, "8 bytes either way");
-    let four = is_coded(
-        rt.alloc(),
-        (2, 2),
-        &[1, 2, 3, 4],
-        &PixelFormat::server(),
-        &[
+    },
+    Example {
+        says: "data that are longer than raw are raw",
+        size: (2, 2),
+        colours: &[1, 2, 3, 4],
+        format: SERVER,
+        tail: &[
             0, 2, 0, 2, 0, 0, 0, 0, 1, 0, 0, 0, 2, 0, 0, 0, 3, 0, 0, 0, 4, 0, 0, 0,
         ],
-    )?;
-    assert!(rt; four);
-    Ok(())
-}
-
-#[test]
-fn of_several_most_frequent_pixels_the_smallest_is_the_background(
-    rt: HostRuntime,
-) -> Result<(), Fail> {
-    let coded = is_coded(
-        rt.alloc(),
-        (6, 2),
-        &[
+    },
+    Example {
+        says: "of several most frequent pixels the smallest is the background",
+        size: (6, 2),
+        colours: &[
             0xffffff, 0xffffff, 0xffffff, 0, 0, 0, 0xffffff, 0xffffff, 0xffffff, 0, 0, 0,
         ],
-        &RGB565,
-        &[
+        format: RGB565,
+        tail: &[
             0, 6, 0, 2, 0, 0, 0, 2, 0, 0, 0, 1, 0, 0, 0xff, 0xff, 0, 0, 0, 0, 0, 3, 0, 2,
         ],
-    )?;
-    assert!(rt; coded);
-    Ok(())
-}
-
-#[test]
-fn ragged_runs_stand_apart_by_row_and_place(rt: HostRuntime) -> Result<(), Fail> {
-    let coded = is_coded(
-        rt.alloc(),
-        (8, 3),
-        &[
+    },
+    Example {
+        says: "ragged runs stand apart by row and place",
+        size: (8, 3),
+        colours: &[
             1, 2, 2, 1, 1, 1, 1, 1, 1, 2, 2, 2, 1, 1, 1, 1, 1, 2, 2, 2, 1, 1, 1, 1,
         ],
-        &PixelFormat::server(),
-        &[
+        format: SERVER,
+        tail: &[
             0, 8, 0, 3, 0, 0, 0, 2, 0, 0, 0, 2, 1, 0, 0, 0, 2, 0, 0, 0, 0, 1, 0, 0, 0, 2, 0, 1, 2,
             0, 0, 0, 0, 1, 0, 1, 0, 3, 0, 2,
         ],
-    )?;
-    assert!(rt; coded);
+    },
+];
+
+/// Whether a rectangle at (1, 2) is appended as its size, its encoding and its data.
+fn is_coded(alloc: Global, example: &Example) -> Result<bool, AllocError> {
+    let (w, h) = example.size;
+    if w == 0 || h == 0 || example.colours.len() != usize::from(w) * usize::from(h) {
+        return Ok(false);
+    }
+    let area = Area { x: 1, y: 2, w, h };
+    let mut out = Vec::from_slice(alloc, &[7])?;
+    encode_rre(&mut out, area, example.colours, &example.format)?;
+    Ok(out.len() >= 5 && &out[..5] == [7, 0, 1, 0, 2].as_slice() && &out[5..] == example.tail)
+}
+
+#[test]
+fn worked_rectangles(rt: HostRuntime) -> Result<(), Fail> {
+    for example in EXAMPLES {
+        assert!(rt; is_coded(rt.alloc(), example)?, "{}", example.says);
+    }
     Ok(())
 }
 

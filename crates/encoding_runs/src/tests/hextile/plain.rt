@@ -3,9 +3,10 @@
 
 ghost use Rattle.std.specs.Prelude.{◌≡◌, ◌*◌, ◌≤◌, length};
 
+use super::super::pixel_bytes::append_pixel;
 use super::{LOWEST, RGB565};
 use encode_hextile::encode_hextile;
-use pixel_translate::{Area, BitsPerPixel, PixelFormat, translate};
+use pixel_translate::{Area, PixelFormat, translate};
 use std::alloc::{AllocError, Global};
 use std::test::Fail;
 
@@ -140,18 +141,6 @@ fn byte(number: u32) -> u8 {
     b0
 }
 
-/// Appends a pixel.
-fn put(out: &mut Vec<u8>, format: &PixelFormat, pixel: u32) -> Result<(), AllocError> {
-    let [b3, b2, b1, b0] = pixel.to_be_bytes();
-    match (format.bits, format.big_endian) {
-        (BitsPerPixel::Eight, _) => out.extend_from_slice(&[b0]),
-        (BitsPerPixel::Sixteen, true) => out.extend_from_slice(&[b1, b0]),
-        (BitsPerPixel::Sixteen, false) => out.extend_from_slice(&[b0, b1]),
-        (BitsPerPixel::ThirtyTwo, true) => out.extend_from_slice(&[b3, b2, b1, b0]),
-        (BitsPerPixel::ThirtyTwo, false) => out.extend_from_slice(&[b0, b1, b2, b3]),
-    }
-}
-
 /// Appends the number of subrectangles, and each of them.
 fn put_list(
     out: &mut Vec<u8>,
@@ -162,7 +151,7 @@ fn put_list(
     out.push(byte((subs.len() % 256) as u32))?;
     for sub in subs {
         if coloured {
-            put(out, format, sub.run.pixel)?;
+            append_pixel(out, format, sub.run.pixel)?;
         }
         let high = sub.run.x.wrapping_mul(16);
         out.push(byte(high.wrapping_add(sub.y)))?;
@@ -192,7 +181,7 @@ fn put_tile(
     let mut data = Vec::new(*out.allocator());
     if pair.background != Some(background) {
         bits = bits.wrapping_add(2);
-        put(&mut data, format, background)?;
+        append_pixel(&mut data, format, background)?;
     }
     let mut left = Pair {
         background: Some(background),
@@ -205,7 +194,7 @@ fn put_tile(
         if alike {
             if pair.foreground != Some(other) {
                 bits = bits.wrapping_add(4);
-                put(&mut data, format, other)?;
+                append_pixel(&mut data, format, other)?;
             }
             left.foreground = Some(other);
         } else {
@@ -216,7 +205,7 @@ fn put_tile(
     }
     let mut raw = Vec::new(*out.allocator());
     for pixel in &tile.pixels {
-        put(&mut raw, format, *pixel)?;
+        append_pixel(&mut raw, format, *pixel)?;
     }
     if data.len() < raw.len() {
         out.push(byte(bits))?;

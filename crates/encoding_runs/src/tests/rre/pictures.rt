@@ -24,31 +24,44 @@ fn colour_of(number: u32) -> u32 {
     number.wrapping_mul(0x9e3779b1) >> 8
 }
 
+/// 3-3-2, 5-6-5 and 8-8-8.
+const FORMATS: [PixelFormat; 3] = [
+    PixelFormat {
+        bits: BitsPerPixel::Eight,
+        depth: 24,
+        big_endian: false,
+        red: Component { max: 7, shift: 5 },
+        green: Component { max: 7, shift: 2 },
+        blue: Component { max: 3, shift: 0 },
+    },
+    PixelFormat {
+        bits: BitsPerPixel::Sixteen,
+        depth: 24,
+        big_endian: false,
+        red: Component { max: 31, shift: 11 },
+        green: Component { max: 63, shift: 5 },
+        blue: Component { max: 31, shift: 0 },
+    },
+    PixelFormat {
+        bits: BitsPerPixel::ThirtyTwo,
+        depth: 24,
+        big_endian: false,
+        red: Component {
+            max: 255,
+            shift: 16,
+        },
+        green: Component { max: 255, shift: 8 },
+        blue: Component { max: 255, shift: 0 },
+    },
+];
+
 /// A format of 8, 16 or 32 bits, and its pixels' order of bytes.
 pub(crate) fn format_of(numbers: &mut Numbers) -> PixelFormat {
     let kind = next(numbers, 3);
     let big_endian = next(numbers, 2) == 1;
-    let (bits, red, green, blue) = match kind {
-        0 => (BitsPerPixel::Eight, (7, 5), (7, 2), (3, 0)),
-        1 => (BitsPerPixel::Sixteen, (31, 11), (63, 5), (31, 0)),
-        _ => (BitsPerPixel::ThirtyTwo, (255, 16), (255, 8), (255, 0)),
-    };
     PixelFormat {
-        bits,
-        depth: 24,
         big_endian,
-        red: Component {
-            max: red.0,
-            shift: red.1,
-        },
-        green: Component {
-            max: green.0,
-            shift: green.1,
-        },
-        blue: Component {
-            max: blue.0,
-            shift: blue.1,
-        },
+        ..FORMATS[kind as usize]
     }
 }
 

@@ -1,6 +1,7 @@
 //! RRE straight from its definition, with no care for time, to compare the encoder with.
 
-use pixel_translate::{Area, BitsPerPixel, PixelFormat, translate};
+use super::super::pixel_bytes::append_pixel;
+use pixel_translate::{Area, PixelFormat, translate};
 use std::alloc::{AllocError, Global};
 
 /// A rectangle's pixels.
@@ -51,18 +52,6 @@ fn has_run(picture: &Picture, y: u16, x: u16, end: u16, pixel: u32) -> bool {
     (x == 0 || at(picture, x - 1, y) != pixel) && (end == picture.w || at(picture, end, y) != pixel)
 }
 
-/// Appends a pixel.
-fn put_pixel(out: &mut Vec<u8>, format: &PixelFormat, pixel: u32) -> Result<(), AllocError> {
-    let [b3, b2, b1, b0] = pixel.to_be_bytes();
-    match (format.bits, format.big_endian) {
-        (BitsPerPixel::Eight, _) => out.extend_from_slice(&[b0]),
-        (BitsPerPixel::Sixteen, true) => out.extend_from_slice(&[b1, b0]),
-        (BitsPerPixel::Sixteen, false) => out.extend_from_slice(&[b0, b1]),
-        (BitsPerPixel::ThirtyTwo, true) => out.extend_from_slice(&[b3, b2, b1, b0]),
-        (BitsPerPixel::ThirtyTwo, false) => out.extend_from_slice(&[b0, b1, b2, b3]),
-    }
-}
-
 /// Appends a number of two bytes.
 fn put_short(out: &mut Vec<u8>, number: u16) -> Result<(), AllocError> {
     out.extend_from_slice(&number.to_be_bytes())
@@ -94,7 +83,7 @@ fn put_subrectangle(
             below = k;
         }
     }
-    put_pixel(out, format, pixel)?;
+    append_pixel(out, format, pixel)?;
     for number in [x, y, end.wrapping_sub(x), below.wrapping_sub(y)] {
         put_short(out, number)?;
     }
@@ -114,7 +103,7 @@ fn rre_data(alloc: Global, picture: &Picture, format: &PixelFormat) -> Result<Ve
         }
     }
     let mut data = Vec::from_slice(alloc, &count.to_be_bytes())?;
-    put_pixel(&mut data, format, background)?;
+    append_pixel(&mut data, format, background)?;
     data.extend_from_slice(&subs)?;
     Ok(data)
 }
@@ -135,7 +124,7 @@ pub(crate) fn slow_rre(
     for colour in colours {
         let pixel = translate(format, *colour);
         picture.pixels.push(pixel)?;
-        put_pixel(&mut raw, format, pixel)?;
+        append_pixel(&mut raw, format, pixel)?;
     }
     let coded = rre_data(alloc, &picture, format)?;
     let (encoding, data) = if coded.len() < raw.len() {
