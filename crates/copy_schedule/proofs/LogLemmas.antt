@@ -1,10 +1,11 @@
 -- Marks that are joined, marks of no place, and places that are asked for.
-use Rattle.std.proofs.Common.{◌≡◌, ℕ, suc, zero, ◌+◌, ◌*◌, ◌/◌, ◌%◌, ◌<◌, zero-add, Bool, true, false, cond, ◌||◌, ◌&&◌, not, List, [], ◌∷◌, get_or, replicate, refl, sym, ◌∙◌, ap, arith}
+use Rattle.std.proofs.Common.{◌≡◌, ℕ, suc, zero, ◌+◌, ◌*◌, ◌/◌, ◌%◌, ◌<◌, zero-add, Bool, true, false, cond, ◌||◌, ◌&&◌, not, List, [], ◌∷◌, get_or, replicate, reverse, refl, sym, subst, ◌∙◌, ap, arith}
 use Rattle.std.specs.Prelude.{ℤ, pos, nat_abs}
 use Rattle.std.specs.List.{All, list_any}
 use Rattle.std.proofs.lemmas.Int.{ints}
 use Rattle.std.proofs.lemmas.Nat.{mul-add-lt}
 use Rattle.std.proofs.lemmas.List.FromFn.{get_or-map-range_with_len, length-map-range_with_len}
+use Rattle.std.proofs.lemmas.List.{reverse-append}
 use Rattle.std.proofs.lemmas.List.Folds.{list_any_at, list_any_none}
 use Rattle.region.specs.declared.Rect.{Rect}
 use Rattle.region.specs.Region.{covers, in_rect, on_screen, IsCanonical}
@@ -50,23 +51,32 @@ pub front_is_cut : (w h : ℕ) (xs ys : List LogEntry) → All (IsCutEntry w h) 
 front_is_cut w h [] ys all = All-nil (IsCutEntry w h)
 front_is_cut w h (x ∷ xs) ys all = All-cons (IsCutEntry w h) x xs (All-head (IsCutEntry w h) x (xs ++ ys) all) (front_is_cut w h xs ys (All-tail (IsCutEntry w h) x (xs ++ ys) all))
 
--- a mark that is joined to the last one
-pub joins_mark : (uses : Bool) (front old now : List LogEntry) (before region both : Held) (m : Marks) → old ≡ front ++ Mark before ∷ []
-    → ((x y : ℤ) → covers both.list x y ≡ (covers before.list x y || covers region.list x y)) → now ≡ front ++ Mark both ∷ []
-    → logged uses now m ≡ marked (covers region.list) (logged uses old m)
-joins_mark uses front old now before region both m was each is =
-    ap (λ (xs : List LogEntry). logged uses xs m) is
-    ∙ logged_append uses front (Mark both ∷ []) m
-    ∙ marked_twice (logged uses front m) (covers before.list) (covers region.list) (covers both.list) each
-    ∙ sym (ap (λ (xs : List LogEntry). marked (covers region.list) (logged uses xs m)) was ∙ ap (marked (covers region.list)) (logged_append uses front (Mark before ∷ []) m))
+-- an entry before others, which stand from the last to the first
+pub logged_before : (uses : Bool) (others now : List LogEntry) (entry : LogEntry) (m : Marks) → now ≡ others ++ entry ∷ []
+    → logged uses (reverse now) m ≡ logged uses (reverse others) (after_entry uses entry m)
+logged_before uses others now entry m is =
+    ap (λ (xs : List LogEntry). logged uses (reverse xs) m) is ∙ ap (λ (xs : List LogEntry). logged uses xs m) (reverse-append others (entry ∷ []))
 
--- a mark behind others
-pub joins_last : (uses : Bool) (old now : List LogEntry) (region copy : Held) (m : Marks) → now ≡ old ++ Mark copy ∷ [] → copy.list ≡ region.list
-    → logged uses now m ≡ marked (covers region.list) (logged uses old m)
-joins_last uses old now region copy m is same =
-    ap (λ (xs : List LogEntry). logged uses xs m) is
-    ∙ logged_append uses old (Mark copy ∷ []) m
-    ∙ ap (λ (rs : List Rect). marked (covers rs) (logged uses old m)) same
+-- entries on a screen, from the last to the first
+pub reversed_is_cut : (w h : ℕ) (xs : List LogEntry) → All (IsCutEntry w h) xs → All (IsCutEntry w h) (reverse xs)
+reversed_is_cut w h [] all = All-nil (IsCutEntry w h)
+reversed_is_cut w h (x ∷ xs) all =
+    subst (All (IsCutEntry w h)) (sym (reverse-append (x ∷ []) xs)) (cut_append w h (reverse xs) x (reversed_is_cut w h xs (All-tail (IsCutEntry w h) x xs all)) (All-head (IsCutEntry w h) x xs all))
+
+-- a mark that is joined to the one behind it
+pub joins_mark : (uses : Bool) (others old now : List LogEntry) (next region both : Held) (m : Marks) → old ≡ others ++ Mark next ∷ []
+    → ((x y : ℤ) → covers both.list x y ≡ (covers region.list x y || covers next.list x y)) → now ≡ others ++ Mark both ∷ []
+    → logged uses (reverse now) m ≡ logged uses (reverse old) (marked (covers region.list) m)
+joins_mark uses others old now next region both m was each is =
+    logged_before uses others now (Mark both) m is
+    ∙ ap (logged uses (reverse others)) (marked_twice m (covers region.list) (covers next.list) (covers both.list) each)
+    ∙ sym (logged_before uses others old (Mark next) (marked (covers region.list) m) was)
+
+-- a mark before others
+pub comes_before : (uses : Bool) (old now : List LogEntry) (region copy : Held) (m : Marks) → now ≡ old ++ Mark copy ∷ [] → copy.list ≡ region.list
+    → logged uses (reverse now) m ≡ logged uses (reverse old) (marked (covers region.list) m)
+comes_before uses old now region copy m is same =
+    logged_before uses old now (Mark copy) m is ∙ ap (λ (rs : List Rect). logged uses (reverse old) (marked (covers rs) m)) same
 
 -- a copy of the same region by the same offset
 pub joins_copy : (uses : Bool) (copy region : Held) (d e dx dy : ℤ) (entry : LogEntry) (m : Marks) → copy.list ≡ region.list → d ≡ dx → e ≡ dy → entry ≡ Copy region dx dy

@@ -1,6 +1,6 @@
 //! Drawing that a viewer's marks lack yet.
 
-ghost use Rattle.std.specs.Prelude.{◌≡◌, ℕ, Bool, All, IfOk, OnOk};
+ghost use Rattle.std.specs.Prelude.{◌≡◌, ℕ, Bool, All, reverse, IfOk, OnOk};
 ghost use Rattle.region.specs.Region.{covers};
 ghost use Rattle.copy_schedule.specs.Marks.{Marks, marked};
 ghost use Rattle.copy_schedule.specs.Log.{after_entry, logged, IsCutEntry};
@@ -10,20 +10,19 @@ use crate::marks::Marks;
 use region::Region;
 use std::alloc::{AllocError, Global};
 
-/// A region that is marked comes last, in one with what was marked just before it.
-fn join_mark(out: &mut Vec<LogEntry>, region: &Region) -> Result<(), AllocError>
-    ensures same { OnOk result ((uses_copyrect : Bool) (m : Marks) → logged uses_copyrect out.new.items m ≡ marked (covers region.now.list) (logged uses_copyrect out.old.items m)) }
+/// A region that is marked comes before the entries, which stand from the last to the first: in one with what is marked next.
+fn mark_before(out: &mut Vec<LogEntry>, region: &Region) -> Result<(), AllocError>
+    ensures same { OnOk result ((uses_copyrect : Bool) (m : Marks) → logged uses_copyrect (reverse out.new.items) m ≡ logged uses_copyrect (reverse out.old.items) (marked (covers region.now.list) m)) }
     ensures cut { OnOk result ((w h : ℕ) → All (IsCutEntry w h) out.old.items → All (IsCutEntry w h) out.new.items) }
 {
     let alloc = *out.allocator();
     match out.pop() {
-        Some(LogEntry::Mark(before)) => {
-            let mut both = before;
-            both.or(region)?;
+        Some(LogEntry::Mark(next)) => {
+            let both = region.union(&next)?;
             out.push(LogEntry::Mark(both))?;
         }
-        Some(last) => {
-            out.push(last)?;
+        Some(next) => {
+            out.push(next)?;
             out.push(LogEntry::Mark(region.try_clone(alloc)?))?;
         }
         None => out.push(LogEntry::Mark(region.try_clone(alloc)?))?,
@@ -31,16 +30,21 @@ fn join_mark(out: &mut Vec<LogEntry>, region: &Region) -> Result<(), AllocError>
     Ok(())
 }
 
-/// An entry comes last, as it is for a viewer that uses CopyRect or for another.
-fn join(out: &mut Vec<LogEntry>, entry: &LogEntry, uses_copyrect: bool) -> Result<(), AllocError>
-    ensures same { OnOk result ((m : Marks) → logged uses_copyrect out.new.items m ≡ after_entry uses_copyrect entry.now (logged uses_copyrect out.old.items m)) }
+/// An entry comes before the others, which stand from the last to the first, as it is for a viewer that uses CopyRect or for
+/// another.
+fn put_before(
+    out: &mut Vec<LogEntry>,
+    entry: &LogEntry,
+    uses_copyrect: bool,
+) -> Result<(), AllocError>
+    ensures same { OnOk result ((m : Marks) → logged uses_copyrect (reverse out.new.items) m ≡ logged uses_copyrect (reverse out.old.items) (after_entry uses_copyrect entry.now m)) }
     ensures cut { OnOk result ((w h : ℕ) → All (IsCutEntry w h) out.old.items → IsCutEntry w h entry.now → All (IsCutEntry w h) out.new.items) }
 {
     match entry {
-        LogEntry::Mark(region) => join_mark(out, region),
+        LogEntry::Mark(region) => mark_before(out, region),
         LogEntry::Copy { region, dx, dy } => {
             if !uses_copyrect {
-                return join_mark(out, region);
+                return mark_before(out, region);
             }
             let region = region.try_clone(*out.allocator())?;
             out.push(LogEntry::Copy {
@@ -53,7 +57,8 @@ fn join(out: &mut Vec<LogEntry>, entry: &LogEntry, uses_copyrect: bool) -> Resul
     }
 }
 
-/// The same drawing for a viewer that uses CopyRect, or for another, in fewer entries: neighbouring marks are one region.
+/// The same drawing for a viewer that uses CopyRect, or for another, in fewer entries: neighbouring marks are one region. They are
+/// joined from the last to the first, so that a large region that stands before many small ones is gone through once.
 pub fn joined_log(
     alloc: Global,
     entries: &[LogEntry],
@@ -63,9 +68,12 @@ pub fn joined_log(
     ensures cut { IfOk result (λ out. (w h : ℕ) → All (IsCutEntry w h) entries.now → All (IsCutEntry w h) out.items) }
 {
     let mut out = Vec::new(alloc);
-    for entry in entries {
-        join(&mut out, entry, uses_copyrect)?;
+    let mut left = entries.len();
+    while left > 0 {
+        left -= 1;
+        put_before(&mut out, &entries[left], uses_copyrect)?;
     }
+    out.reverse();
     Ok(out)
 }
 

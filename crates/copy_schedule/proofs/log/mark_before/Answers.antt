@@ -4,14 +4,14 @@ use Rattle.std.specs.Option.{option_to_list}
 use Rattle.copy_schedule.specs.declared.LogEntry.{LogEntry}
 use Rattle.copy_schedule.specs.declared.LogEntry.TheVariants.{Mark}
 use Rattle.copy_schedule.specs.Log.{IsCutEntry}
-use Rattle.copy_schedule.proofs.LogLemmas.{joins_mark, joins_last, front_is_cut, cut_append}
-use Rattle.copy_schedule.proofs.log.join_mark.Goals as goal
+use Rattle.copy_schedule.proofs.LogLemmas.{joins_mark, comes_before, front_is_cut, cut_append}
+use Rattle.copy_schedule.proofs.log.mark_before.Goals as goal
 
 pub returns-in_ok-push-in-Some-Mark-clause-same : goal.returns-in_ok-push-in-Some-Mark-clause-same
 returns-in_ok-push-in-Some-Mark-clause-same c uses m =
-    joins_mark uses c.pop.new.self.items c.args.out.now.items c.push.new.self.items c.in-Some-Mark.before c.args.region.now c.or.new.self m
+    joins_mark uses c.pop.new.self.items c.args.out.now.items c.push.new.self.items c.in-Some-Mark.next c.args.region.now c.in_ok-both-in-Some-Mark.both m
     (c.pop.ensures.items ∙ ap (λ (r : Option LogEntry). c.pop.new.self.items ++ option_to_list r) c.in-Some-Mark.is ∙ ap (λ (e : LogEntry). c.pop.new.self.items ++ e ∷ []) c.in-Some-Mark.field-0-is)
-    c.in_ok-or-in-Some-Mark.ensures.ok c.in_ok-push-in-Some-Mark.ensures.items
+    c.in_ok-both-in-Some-Mark.ensures c.in_ok-push-in-Some-Mark.ensures.items
 
 pub returns-in_ok-push-in-Some-Mark-clause-cut : goal.returns-in_ok-push-in-Some-Mark-clause-cut
 returns-in_ok-push-in-Some-Mark-clause-cut c w h all =
@@ -19,6 +19,6 @@ returns-in_ok-push-in-Some-Mark-clause-cut c w h all =
 
 pub returns-in_ok-push-in-Some-2-clause-same : goal.returns-in_ok-push-in-Some-2-clause-same
 returns-in_ok-push-in-Some-2-clause-same c uses m =
-    joins_last uses c.args.out.now.items c.push-in-Some-2.new.self.items c.args.region.now c.in_ok-try_clone-in-Some.field-0 m
+    comes_before uses c.args.out.now.items c.push-in-Some-2.new.self.items c.args.region.now c.in_ok-try_clone-in-Some.field-0 m
     (c.in_ok-push-in-Some-2.ensures.items ∙ ap (λ (xs : List LogEntry). xs ++ Mark c.in_ok-try_clone-in-Some.field-0 ∷ []) (c.in_ok-push-in-Some.ensures.items ∙ sym (c.pop.ensures.items ∙ ap (λ (r : Option LogEntry). c.pop.new.self.items ++ option_to_list r) c.in-Some.is)))
     c.in_ok-try_clone-in-Some.ensures
