@@ -71,7 +71,7 @@ fn ear_behind(alloc: Global, front: &[u8]) -> Result<Ear, AllocError> {
 const OPENED: &str = "Version(V38);Choice;Init { shared: true };";
 
 /// Bytes behind the opening, the items that they say, and their fault.
-const MESSAGES: [(&[u8], &str, Option<Fault>); 12] = [
+const MESSAGES: &[(&[u8], &str, Option<Fault>)] = &[
     (b"", "", None),
     // A SetPixelFormat of 16 bits, 5-6-5.
     (
@@ -157,7 +157,7 @@ fn is_heard(
 fn messages_in_any_pieces(rt: HostRuntime) -> Result<(), Fail> {
     for (messages, said, fault) in MESSAGES {
         let bytes = opened(rt.alloc(), messages)?;
-        let expected = (format!(in rt.alloc(); "{OPENED}{said}")?, fault);
+        let expected = (format!(in rt.alloc(); "{OPENED}{said}")?, *fault);
         assert!(rt; is_heard(rt.alloc(), &bytes, &expected)?, "{messages:?}");
     }
     Ok(())
@@ -165,7 +165,7 @@ fn messages_in_any_pieces(rt: HostRuntime) -> Result<(), Fail> {
 
 #[test]
 fn openings(rt: HostRuntime) -> Result<(), Fail> {
-    let table: [(&[u8], &str, Option<Fault>); 9] = [
+    let table: &[(&[u8], &str, Option<Fault>)] = &[
         (
             b"RFB 003.003\n\x00",
             "Version(V33);Init { shared: false };",
@@ -193,10 +193,10 @@ fn openings(rt: HostRuntime) -> Result<(), Fail> {
         ),
     ];
     for (bytes, said, fault) in table {
-        for length in [99, 1] {
-            let (items, found) = heard_by(rt.alloc(), bytes, length)?;
-            assert_eq!(rt; items.as_str(), said, "{bytes:?}");
-            assert_eq!(rt; found, fault, "{bytes:?}");
+        for length in &[99, 1] {
+            let (items, found) = heard_by(rt.alloc(), bytes, *length)?;
+            assert_eq!(rt; items.as_str(), *said, "{bytes:?}");
+            assert_eq!(rt; found, *fault, "{bytes:?}");
         }
     }
     Ok(())
@@ -239,8 +239,8 @@ fn keeps_so_much(alloc: Global, length: u32, kept: u32) -> Result<bool, AllocErr
 
 #[test]
 fn long_texts(rt: HostRuntime) -> Result<(), Fail> {
-    for (length, kept) in [(262_143, 262_143), (262_144, 262_144), (262_145, 262_144)] {
-        assert!(rt; keeps_so_much(rt.alloc(), length, kept)?, "of {length}");
+    for (length, kept) in &[(262_143, 262_143), (262_144, 262_144), (262_145, 262_144)] {
+        assert!(rt; keeps_so_much(rt.alloc(), *length, *kept)?, "of {length}");
     }
     Ok(())
 }
@@ -286,7 +286,7 @@ fn clones_and_getters(rt: HostRuntime) -> Result<(), Fail> {
     assert_eq!(rt; ear.phase(), Phase::Version);
     assert!(rt; !ear.is_open());
     // In the midst of a request, of a list of encodings and of a text, and behind a fault.
-    let table: [(&[u8], &[u8], bool); 4] = [
+    let table: &[(&[u8], &[u8], bool)] = &[
         (b"\x03\x01\x00\x01\x00", b"\x02\x00\x04\x00\x03\x01", true),
         (
             b"\x02\x00\x00\x02\x00\x00\x00\x05\x00",
@@ -301,7 +301,7 @@ fn clones_and_getters(rt: HostRuntime) -> Result<(), Fail> {
         (b"\x07", b"\x05\x01\x00\x01\x00\x01", false),
     ];
     for (front, back, is_open) in table {
-        assert!(rt; is_cloned(rt.alloc(), front, back, is_open)?, "{front:?}");
+        assert!(rt; is_cloned(rt.alloc(), front, back, *is_open)?, "{front:?}");
     }
     Ok(())
 }
@@ -329,7 +329,7 @@ fn prepared(
 #[test]
 fn prepared_and_put_in_place(rt: HostRuntime) -> Result<(), Fail> {
     // In the midst of a request and of a text, at a text's end, and behind a fault: what a piece says, and its fault.
-    let table: [(&[u8], &[u8], &str, Option<Fault>); 4] = [
+    let table: &[(&[u8], &[u8], &str, Option<Fault>)] = &[
         (b"\x03\x01\x00\x01\x00", b"\x02\x00\x04", "", None),
         (b"\x06\x00\x00\x00\x00\x00\x00\x03a", b"b", "", None),
         (
@@ -342,8 +342,8 @@ fn prepared_and_put_in_place(rt: HostRuntime) -> Result<(), Fail> {
     ];
     for (front, piece, said, fault) in table {
         let (items, found, is_same) = prepared(rt.alloc(), front, piece)?;
-        assert_eq!(rt; items.as_str(), said, "{front:?}");
-        assert_eq!(rt; found, fault, "{front:?}");
+        assert_eq!(rt; items.as_str(), *said, "{front:?}");
+        assert_eq!(rt; found, *fault, "{front:?}");
         assert!(rt; is_same, "{front:?}");
     }
     Ok(())
@@ -358,7 +358,7 @@ fn answers_in_the_opening(rt: HostRuntime) -> Result<(), Fail> {
     };
     let init =
         b"\x00\x04\x00\x03\x20\x18\x00\x01\x00\xff\x00\xff\x00\xff\x10\x08\x00\x00\x00\x00\x00\x00\x00\x04demo";
-    let table: [(&[u8], &[u8]); 3] = [
+    let table: &[(&[u8], &[u8])] = &[
         (b"RFB 003.003\n\x01\x07", b"\x00\x00\x00\x01"),
         (b"RFB 003.007\n\x01\x01", b"\x01\x01"),
         (b"RFB 003.008\n\x01\x01", b"\x01\x01\x00\x00\x00\x00"),

@@ -64,10 +64,10 @@ fn a_full_queue_gives_the_input_back(rt: HostRuntime) -> Result<(), Fail> {
 
 #[test]
 fn capacities_are_1_to_65_536(rt: HostRuntime) -> Result<(), Fail> {
-    for (capacity, made) in [(0usize, false), (1, true), (65_536, true), (65_537, false)] {
+    for (capacity, made) in &[(0usize, false), (1, true), (65_536, true), (65_537, false)] {
         assert_eq!(rt;
-            InputHub::new(rt.alloc(), capacity).is_ok(),
-            made,
+            InputHub::new(rt.alloc(), *capacity).is_ok(),
+            *made,
             "{capacity}"
         );
     }

@@ -16,7 +16,7 @@ const FORMAT_AND_NAME: &[u8] =
 const NOTHING: u32 = 0xdead_beef;
 
 /// A screen's size, messages, and what its places show then, row by row.
-const PICTURES: [(u8, u8, &[u8], &[u32]); 17] = [
+const PICTURES: &[(u8, u8, &[u8], &[u32])] = &[
     // Two copies whose sources are drawn from in turn.
     (
         6,
@@ -169,7 +169,7 @@ const PICTURES: [(u8, u8, &[u8], &[u32]); 17] = [
 ];
 
 /// Messages to a screen of 33 by 3, what is wrong with them, and how many of their bytes stand before it.
-const WRONG: [(&[u8], FaultKind, u64); 26] = [
+const WRONG: &[(&[u8], FaultKind, u64)] = &[
     // No message has this type.
     (b"\x09", FaultKind::Message, 0),
     // A map of colours, where pixels need none.
@@ -390,7 +390,7 @@ fn shows_in_any_pieces(
 #[test]
 fn pictures(rt: HostRuntime) -> Result<(), Fail> {
     for (columns, rows, messages, pixels) in PICTURES {
-        let right = shows_in_any_pieces(rt.alloc(), (columns, rows), messages, pixels)?;
+        let right = shows_in_any_pieces(rt.alloc(), (*columns, *rows), messages, pixels)?;
         assert!(rt; right, "{messages:?}");
     }
     Ok(())
@@ -423,14 +423,14 @@ const WHITE: &[u8] =
 #[test]
 fn wrong_messages(rt: HostRuntime) -> Result<(), Fail> {
     for (messages, kind, at) in WRONG {
-        let right = is_refused(rt.alloc(), messages, kind, at)?;
+        let right = is_refused(rt.alloc(), messages, *kind, *at)?;
         assert!(rt; right, "{kind:?} {messages:?}");
     }
     Ok(())
 }
 
 /// A viewer's version, what it is told, and what is wrong with it.
-const OPENINGS: [(Version, &[u8], Option<(FaultKind, u64)>); 18] = [
+const OPENINGS: &[(Version, &[u8], Option<(FaultKind, u64)>)] = &[
     (
         Version::V33,
         b"\x52\x46\x42\x20\x30\x30\x33\x2e\x30\x30\x38\x0a\x00\x00\x00\x01\x00\x04\x00\x03\x20\x18\x00\x01\x00\xff\x00\xff\x00\xff\x10\x08\x00\x00\x00\x00\x00\x00\x00\x00",
@@ -526,9 +526,9 @@ const OPENINGS: [(Version, &[u8], Option<(FaultKind, u64)>); 18] = [
 #[test]
 fn openings(rt: HostRuntime) -> Result<(), Fail> {
     for (version, bytes, wrong) in OPENINGS {
-        let mut viewer = Shown::new(rt.alloc(), version);
+        let mut viewer = Shown::new(rt.alloc(), *version);
         let answer = viewer.told(bytes);
-        let wanted = match wrong {
+        let wanted = match *wrong {
             Some((kind, at)) => Err(Fault { kind, at }),
             None => Ok(()),
         };
@@ -624,7 +624,7 @@ fn formats_in_an_update(rt: HostRuntime) -> Result<(), Fail> {
 }
 
 /// Behind so many of these bytes: whether the opening was read whole, and how many updates and texts were.
-const COUNTS: [(usize, (bool, u64, u64)); 10] = [
+const COUNTS: &[(usize, (bool, u64, u64))] = &[
     (43, (false, 0, 0)),
     (44, (true, 0, 0)),
     (53, (true, 0, 0)),
@@ -647,11 +647,11 @@ fn what_was_read_whole(rt: HostRuntime) -> Result<(), Fail> {
     bytes.extend_from_slice(b"\x00\x00\x00\x00\x03\x00\x00\x00\x00\x00\x00\x00")?;
     assert_eq!(rt; bytes.len(), 98);
     for (at, wanted) in COUNTS {
-        let (front, _) = bytes.split_at(at.min(bytes.len()));
+        let (front, _) = bytes.split_at(bytes.len().min(*at));
         let (viewer, _) = told_in(rt.alloc(), front, 1);
         assert_eq!(rt;
             (viewer.is_open(), viewer.updates(), viewer.texts()),
-            wanted,
+            *wanted,
             "{at}"
         );
     }
