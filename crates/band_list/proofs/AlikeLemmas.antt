@@ -7,7 +7,7 @@ use Rattle.std.proofs.lemmas.List.{append_assoc, map-append}
 use Rattle.std.proofs.lemmas.Option.{same_Some}
 use Rattle.span_arena.specs.Arena.{Arena, list_of, ids_of, span_of, IsSound}
 use Rattle.span_arena.specs.declared.Span.{Span}
-use Rattle.span_arena.proofs.ViewLemmas.{ids_are, ids_there}
+use Rattle.span_arena.specs.ViewLemmas.{ids_are, ids_there}
 use Rattle.band_list.specs.declared.Interval.{Interval}
 use Rattle.band_list.specs.Held.{ids_from, interval_at}
 use Rattle.band_list.proofs.SeenLemmas.{from_cut}

@@ -14,7 +14,7 @@ use Rattle.band_list.proofs.HasLemmas.{IsSpan}
 use Rattle.band_list.proofs.SeenLemmas.{shown, spans_below, holds_for, shows_for}
 use Rattle.band_list.specs.declared.Interval.{Interval}
 use Rattle.band_list.proofs.CutLemmas.{left_at, skipped, gap_over, reread, raised, stretched}
-use Rattle.band_list.proofs.EachLemmas.{last_cases, last_or_last}
+use Rattle.band_list.specs.EachLemmas.{last_cases, last_or_last}
 use Rattle.band_list.proofs.StepLemmas.{wound, roomier, advanced, advanced_over, last_above, none_above}
 
 pub wound_shows : (a : Arena) (lists : Option Lists) (gap left : Option ℕ) (v : Bands) → IsHeld a lists gap left → view_of a lists gap left ≡ v → Shows a lists None None (record v { above = v.above ++ v.below; left = []; below = [] })

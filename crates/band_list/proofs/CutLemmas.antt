@@ -8,11 +8,11 @@ use Rattle.std.proofs.lemmas.Map.Keys.{IsDistinct-tail}
 use Rattle.std.proofs.lemmas.Option.{same_Some}
 use Rattle.span_arena.specs.Arena.{Arena, list_of, span_of, last_in, IsSound}
 use Rattle.span_arena.specs.declared.Span.{Span}
-use Rattle.span_arena.proofs.DistinctLemmas.{here, apart_from_first, distinct_between, distinct_right, distinct_without}
+use Rattle.span_arena.specs.DistinctLemmas.{here, apart_from_first, distinct_between, distinct_right, distinct_without}
 use Rattle.band_list.specs.declared.Interval.{Interval}
 use Rattle.band_list.specs.Bands.{Band, Bands, first_row}
 use Rattle.band_list.specs.Held.{Each, Placed, PlacedInterval, Has, Keeps, HasRow, Entry, at_of, list_in, band_of, placed_band, placed_interval, ids_in, intervals_in, first_under, IsRest, IsLeft, IsOverList, Holds}
-use Rattle.band_list.proofs.EachLemmas.{each_right, each_weaker, each_join, contains_mapped, later, map_moved, last_same}
+use Rattle.band_list.specs.EachLemmas.{each_right, each_weaker, each_join, contains_mapped, later, map_moved, last_same}
 use Rattle.band_list.proofs.HasLemmas.{IsSpan, ids_split, list_there}
 use Rattle.band_list.proofs.SeenLemmas.{row_list, spans_below}
 use Rattle.band_list.proofs.StepLemmas.{HasEntry, FirstBelow, first_below, LastAbove, last_above, none_above, regap_first, over_cut, left_first, over_list, rows_kept, row_apart}

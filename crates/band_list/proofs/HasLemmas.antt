@@ -6,9 +6,9 @@ use Rattle.std.proofs.lemmas.List.{map-append}
 use Rattle.std.proofs.lemmas.Option.{same_Some}
 use Rattle.span_arena.specs.Arena.{Arena, list_of, span_of, IsIn, IsSound, SetsList, SetsSpan, SameLists, SpansGone}
 use Rattle.span_arena.specs.declared.Span.{Span}
-use Rattle.span_arena.proofs.DistinctLemmas.{here, distinct_right, distinct_between, apart_from_first, split_at}
+use Rattle.span_arena.specs.DistinctLemmas.{here, distinct_right, distinct_between, apart_from_first, split_at}
 use Rattle.band_list.specs.Held.{Each, Placed, Has, Keeps, ids_in}
-use Rattle.band_list.proofs.EachLemmas.{each_join, each_left, each_right, each_weaker, contains_mapped}
+use Rattle.band_list.specs.EachLemmas.{each_join, each_left, each_right, each_weaker, contains_mapped}
 
 abbrev pub IsSpan : Arena → Placed → Type 0
 IsSpan a p = span_of a p.0 ≡ Some p.1

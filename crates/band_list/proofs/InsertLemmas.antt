@@ -6,7 +6,7 @@ use Rattle.std.proofs.lemmas.List.{append-nil}
 use Rattle.std.proofs.lemmas.Option.{same_Some}
 use Rattle.span_arena.specs.Arena.{Arena, list_of, ids_of, span_of, last_in, IsIn, IsSound, SetsList, SetsSpan}
 use Rattle.span_arena.specs.declared.Span.{Span}
-use Rattle.span_arena.proofs.ViewLemmas.{ids_are}
+use Rattle.span_arena.specs.ViewLemmas.{ids_are}
 use Rattle.band_list.specs.Held.{Placed, Has, Keeps, ids_in}
 use Rattle.band_list.proofs.HasLemmas.{first_of, list_split, in_list, inserted, inserted_keeps}
 

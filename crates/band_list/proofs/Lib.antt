@@ -1,4 +1,3 @@
-pub mod EachLemmas
 pub mod HasLemmas
 pub mod InsertLemmas
 pub mod SeenLemmas

@@ -10,12 +10,12 @@ use Rattle.std.proofs.lemmas.Option.{same_Some}
 use Rattle.std.specs.List.{IsDistinct}
 use Rattle.span_arena.specs.Arena.{Arena, list_of, ids_of, span_of, last_in, IsSound}
 use Rattle.span_arena.specs.declared.Span.{Span}
-use Rattle.span_arena.proofs.DistinctLemmas.{here, apart_from_first, distinct_between, distinct_right}
-use Rattle.span_arena.proofs.ViewLemmas.{ids_are}
+use Rattle.span_arena.specs.DistinctLemmas.{here, apart_from_first, distinct_between, distinct_right}
+use Rattle.span_arena.specs.ViewLemmas.{ids_are}
 use Rattle.band_list.specs.declared.Interval.{Interval}
 use Rattle.band_list.specs.Bands.{Band, Bands, first_row, row_of}
 use Rattle.band_list.specs.Held.{Each, Placed, PlacedInterval, Has, Keeps, HasRow, list_in, band_of, placed_band, placed_interval, ids_in, intervals_in, first_under, interval_at, view_of, IsOverList, Holds, Shows, IsHeld}
-use Rattle.band_list.proofs.EachLemmas.{each_right, later, last_cases, last_or_last, last_same}
+use Rattle.band_list.specs.EachLemmas.{each_right, later, last_cases, last_or_last, last_same}
 use Rattle.band_list.proofs.HasLemmas.{IsSpan, list_there, span_in}
 use Rattle.band_list.proofs.SeenLemmas.{row_list, row_read, below_ids, holds_for, shows_for}
 use Rattle.band_list.proofs.StepLemmas.{HasEntry, FirstBelow, first_below, LastAbove, last_above, none_above, over_list, rows_kept, last_in_last}

@@ -4,11 +4,11 @@ use Rattle.std.specs.Prelude.{slice_get}
 use Rattle.std.proofs.lemmas.Option.{same_Some}
 use Rattle.span_arena.specs.Arena.{Arena, list_of, ids_of, span_of, last_in}
 use Rattle.span_arena.specs.declared.Span.{Span}
-use Rattle.span_arena.proofs.ViewLemmas.{ids_are}
+use Rattle.span_arena.specs.ViewLemmas.{ids_are}
 use Rattle.band_list.specs.declared.Lists.{Lists}
 use Rattle.band_list.specs.Bands.{Band, Bands}
 use Rattle.band_list.specs.Held.{PlacedInterval, HasRow, band_of, placed_band, placed_interval, ids_in, intervals_in, interval_at, view_of, Holds, IsHeld}
-use Rattle.band_list.proofs.EachLemmas.{last_same}
+use Rattle.band_list.specs.EachLemmas.{last_same}
 use Rattle.band_list.proofs.HasLemmas.{list_there}
 use Rattle.band_list.proofs.SeenLemmas.{row_list, row_read, holds_for}
 use Rattle.band_list.proofs.StepLemmas.{FirstBelow, first_below, LastAbove, last_above}

@@ -7,13 +7,13 @@ use Rattle.std.proofs.lemmas.Bool.{eq-eqb, ne_eqb}
 use Rattle.std.proofs.lemmas.List.{append-nil, map-append}
 use Rattle.span_arena.specs.Arena.{Arena, list_of, ids_of, span_of, IsSound}
 use Rattle.span_arena.specs.declared.Span.{Span}
-use Rattle.span_arena.proofs.DistinctLemmas.{here, distinct_between}
-use Rattle.span_arena.proofs.ViewLemmas.{ids_are}
+use Rattle.span_arena.specs.DistinctLemmas.{here, distinct_between}
+use Rattle.span_arena.specs.ViewLemmas.{ids_are}
 use Rattle.band_list.specs.declared.Interval.{Interval}
 use Rattle.band_list.specs.declared.Lists.{Lists}
 use Rattle.band_list.specs.Bands.{Band, Bands}
 use Rattle.band_list.specs.Held.{Each, PlacedInterval, HasRow, Entry, at_of, band_of, placed_band, placed_interval, ids_in, intervals_in, ids_before, ids_from, interval_at, ids_below, band_at, view_of, IsLeft, Holds, Shows, IsHeld}
-use Rattle.band_list.proofs.EachLemmas.{each_left, each_right, later}
+use Rattle.band_list.specs.EachLemmas.{each_left, each_right, later}
 use Rattle.band_list.proofs.HasLemmas.{IsSpan, ids_split}
 
 -- a list in which no id comes twice, cut before the first of its back

@@ -7,12 +7,12 @@ use Rattle.std.proofs.lemmas.List.Elements.{Contains-append_left, Contains-appen
 use Rattle.std.proofs.lemmas.Map.Keys.{IsDistinct-tail}
 use Rattle.std.proofs.lemmas.Option.{same_Some}
 use Rattle.span_arena.specs.Arena.{Arena, list_of, ids_of, span_of, last_from, last_in, IsSound}
-use Rattle.span_arena.proofs.DistinctLemmas.{here, not_in_none, apart_from_first, distinct_cons, distinct_none, distinct_with}
-use Rattle.span_arena.proofs.ViewLemmas.{ids_are}
+use Rattle.span_arena.specs.DistinctLemmas.{here, not_in_none, apart_from_first, distinct_cons, distinct_none, distinct_with}
+use Rattle.span_arena.specs.ViewLemmas.{ids_are}
 use Rattle.band_list.specs.declared.Interval.{Interval}
 use Rattle.band_list.specs.Bands.{Band, Bands, nothing, first_row}
 use Rattle.band_list.specs.Held.{Each, Placed, PlacedInterval, Has, Keeps, HasRow, Entry, at_of, list_in, band_of, placed_band, placed_interval, ids_in, first_under, IsLeft, IsOverList, Holds}
-use Rattle.band_list.proofs.EachLemmas.{each_left, each_right, each_join, each_weaker, contains_mapped, map_moved, later, cons_cases, last_cases}
+use Rattle.band_list.specs.EachLemmas.{each_left, each_right, each_join, each_weaker, contains_mapped, map_moved, later, cons_cases, last_cases}
 use Rattle.band_list.proofs.HasLemmas.{IsSpan}
 use Rattle.band_list.proofs.SeenLemmas.{bands_list, band_ids, spans_above, spans_below, below_ids}
 

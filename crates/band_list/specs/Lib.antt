@@ -1,2 +1,3 @@
 pub mod Bands
 pub mod Held
+pub mod EachLemmas

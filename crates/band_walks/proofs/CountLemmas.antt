@@ -5,20 +5,20 @@ use Rattle.std.proofs.lemmas.Int.{ints}
 use Rattle.band_list.specs.declared.Interval.{Interval}
 use Rattle.band_list.specs.declared.Rows.{Rows}
 use Rattle.band_list.specs.Bands.{Band, Reading, band_with, first_row, nodes_in, reading}
-use Rattle.band_list.proofs.EachLemmas.{last_same}
+use Rattle.band_list.specs.EachLemmas.{last_same}
 use Rattle.row_walks.specs.declared.Keep.{Keep}
 use Rattle.row_walks.specs.Rows.{IsRow, row_has, kept, IsKept as IsRowKept}
-use Rattle.row_walks.proofs.RowLemmas.{only_row}
-use Rattle.row_walks.proofs.WalkLemmas.{kept-none}
+use Rattle.row_walks.specs.RowLemmas.{only_row}
+use Rattle.row_walks.specs.WalkLemmas.{kept-none}
 use Rattle.band_walks.specs.declared.strips.Strip.{Strip}
 use Rattle.band_walks.specs.Sets.{in_rows, has, AreBands, EndBy, IsKept, Counts}
 use Rattle.band_walks.specs.Strips.{next_strip, start_of, later, first_rows_of}
-use Rattle.band_walks.proofs.SetLemmas.{Parts, longer, nodes_join, end_later, row_put, row_stretched, has_nothing, has-append}
-use Rattle.band_walks.proofs.StripLemmas.{IsStrip, strip_is, no_strip, IsStart, starts, edges_left, edges_less}
-use Rattle.band_walks.proofs.KeepLemmas.{BandState, state_begins, state_more, state_done, row_of_first}
+use Rattle.band_walks.specs.SetLemmas.{Parts, longer, nodes_join, end_later, row_put, row_stretched, has_nothing, has-append}
+use Rattle.band_walks.specs.StripLemmas.{IsStrip, strip_is, no_strip, IsStart, starts, edges_left, edges_less}
+use Rattle.band_walks.specs.KeepLemmas.{BandState, state_begins, state_more, state_done, row_of_first}
 use Rattle.band_walks.proofs.StayLemmas.{end_last}
-use Rattle.band_walks.proofs.CutLemmas.{same_few}
-use Rattle.band_walks.proofs.WholeLemmas.{same_row, none_behind, row_of_both, part, part_row, strip_row}
+use Rattle.band_walks.specs.CutLemmas.{same_few}
+use Rattle.band_walks.specs.WholeLemmas.{same_row, none_behind, row_of_both, part, part_row, strip_row}
 
 -- ---- the nodes of one strip's row
 

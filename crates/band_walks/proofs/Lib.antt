@@ -1,9 +1,2 @@
-pub mod SetLemmas
-pub mod StripLemmas
-pub mod KeepLemmas
-pub mod CutLemmas
-pub mod WholeLemmas
-pub mod GapLemmas
-pub mod RoomLemmas
 pub mod StayLemmas
 pub mod CountLemmas

@@ -12,14 +12,14 @@ use Rattle.row_walks.specs.Rows.{row_has, kept}
 use Rattle.band_walks.specs.declared.strips.Strip.{Strip}
 use Rattle.band_walks.specs.Sets.{in_rows, has, IsBand, Follows, AreBands, EndBy, IsKept}
 use Rattle.band_walks.specs.Strips.{next_strip, start_of, later, first_rows_of, FirstIs, IsStripRow, NoneKept, Rests}
-use Rattle.band_walks.proofs.SetLemmas.{longer, nodes_join, end_later, end-append, has-append, has_nothing, bands_longer, row_stretched}
-use Rattle.band_walks.proofs.StripLemmas.{first_band, none_above, IsStrip, strip_is, no_strip, edges_left, edges_less}
-use Rattle.band_walks.proofs.KeepLemmas.{BandState, state_more, state_done, none_under}
-use Rattle.band_walks.proofs.CutLemmas.{cut_few, row_few}
+use Rattle.band_walks.specs.SetLemmas.{longer, nodes_join, end_later, end-append, has-append, has_nothing, bands_longer, row_stretched}
+use Rattle.band_walks.specs.StripLemmas.{first_band, none_above, IsStrip, strip_is, no_strip, edges_left, edges_less}
+use Rattle.band_walks.specs.KeepLemmas.{BandState, state_more, state_done, none_under}
+use Rattle.band_walks.specs.CutLemmas.{cut_few, row_few}
 use Rattle.band_walks.specs.Room.{IsGap, IsRoom, IsWhole, HoldsStrip, Enough, start}
-use Rattle.band_walks.proofs.WholeLemmas.{whole_bands}
-use Rattle.band_walks.proofs.GapLemmas.{has_join, kept_alone, kept_out, state_enters}
-use Rattle.band_walks.proofs.RoomLemmas.{kept_behind, later_few, spare_left, enough_step, enough_more}
+use Rattle.band_walks.specs.WholeLemmas.{whole_bands}
+use Rattle.band_walks.specs.GapLemmas.{has_join, kept_alone, kept_out, state_enters}
+use Rattle.band_walks.specs.RoomLemmas.{kept_behind, later_few, spare_left, enough_step, enough_more}
 
 pub not_true : (b : Bool) → not b ≡ true → b ≡ false
 not_true true e = absurd (cc)

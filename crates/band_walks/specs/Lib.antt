@@ -1,3 +1,10 @@
 pub mod Sets
 pub mod Strips
 pub mod Room
+pub mod SetLemmas
+pub mod StripLemmas
+pub mod KeepLemmas
+pub mod CutLemmas
+pub mod WholeLemmas
+pub mod GapLemmas
+pub mod RoomLemmas

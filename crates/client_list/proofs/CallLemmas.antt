@@ -9,7 +9,7 @@ use Rattle.slab.specs.Slab.{Slab, get, slab_len, ContainsKey}
 use Rattle.client_list.specs.declared.links.Node.{Node}
 use Rattle.client_list.specs.Connected.{Connected, index_of, IsPlace, IsListed, pair_at, number_at, value_at, value_of, IsPlaceOf, passed}
 use Rattle.client_list.specs.Links.{Entry, along, node_of, places_in, pairs_in, listed, IsHeld}
-use Rattle.client_list.proofs.IndexLemmas.{index_at, contains_at}
+use Rattle.client_list.specs.IndexLemmas.{index_at, contains_at}
 use Rattle.client_list.proofs.NumberLemmas.{number_absent, not_found}
 use Rattle.client_list.proofs.ChainLemmas.{listed-held, chain-first, node_at}
 

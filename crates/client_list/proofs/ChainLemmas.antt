@@ -7,7 +7,7 @@ use Rattle.slab.specs.Slab.{Slab, get, slab_len}
 use Rattle.client_list.specs.declared.links.Node.{Node}
 use Rattle.client_list.specs.Connected.{index_of}
 use Rattle.client_list.specs.Links.{Entry, Nodes, along, pair_in, node_of, places_in, pairs_in, listed, IsChain, IsHeld}
-use Rattle.client_list.proofs.IndexLemmas.{index_here, index_there, among_others}
+use Rattle.client_list.specs.IndexLemmas.{index_here, index_there, among_others}
 
 module _ {T : Type 0} where
   -- what is found along the links is the chain

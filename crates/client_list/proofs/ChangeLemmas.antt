@@ -11,8 +11,8 @@ use Rattle.slab.proofs.SlabLemmas.{Contains-cons, Contains-cons_cases}
 use Rattle.client_list.specs.declared.links.Node.{Node}
 use Rattle.client_list.specs.Connected.{index_of, set_value_at}
 use Rattle.client_list.specs.Links.{Entry, Nodes, node_of, places_in, pairs_in, IsChain, NextChanged, PreviousChanged}
-use Rattle.client_list.proofs.DistinctLemmas.{apart_from_first}
-use Rattle.client_list.proofs.IndexLemmas.{index_here, index_there}
+use Rattle.client_list.specs.DistinctLemmas.{apart_from_first}
+use Rattle.client_list.specs.IndexLemmas.{index_here, index_there}
 
 module _ {T : Type 0} where
   -- the entry with an index has w as its value

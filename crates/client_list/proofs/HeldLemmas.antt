@@ -10,7 +10,7 @@ use Rattle.slab.proofs.SlabLemmas.{ContainsKey-within}
 use Rattle.client_list.specs.declared.links.Node.{Node}
 use Rattle.client_list.specs.Connected.{Connected, index_of, with_value, set_value_at}
 use Rattle.client_list.specs.Links.{Entry, along, node_of, places_in, pairs_in, listed, IsChain, IsHeld, NextChanged}
-use Rattle.client_list.proofs.DistinctLemmas.{distinct_push}
+use Rattle.client_list.specs.DistinctLemmas.{distinct_push}
 use Rattle.client_list.proofs.ChainLemmas.{listed-held}
 use Rattle.client_list.proofs.ChangeLemmas.{set_entry, places-set_entry, pairs-set_entry, numbers-set_entry, length-set_entry, chain-set, chain-kept, chain-has, chain-elsewhere, chain-end, chain-join, beside_next, end_there, end_has}
 use Rattle.client_list.proofs.LinkLemmas.{node_written}

@@ -1,12 +1,8 @@
-pub mod DistinctLemmas
-pub mod IndexLemmas
 pub mod ChainLemmas
 pub mod CallLemmas
 pub mod NumberLemmas
-pub mod Walks
 pub mod LinkLemmas
 pub mod ChangeLemmas
 pub mod HeldLemmas
 pub mod RemovalLemmas
 pub mod TakenLemmas
-pub mod CallerLemmas

@@ -10,8 +10,8 @@ use Rattle.std.proofs.lemmas.Bool.{eq-eqb, ne_eqb, cases_eq, cases_lt}
 use Rattle.std.proofs.lemmas.List.{length-map}
 use Rattle.std.proofs.lemmas.Option.{slice_get-map, slice_get_past, same_Some}
 use Rattle.client_list.specs.Connected.{Connected, index_of, index_of_number, value_of, value_at, number_at, pair_at, IsPlace, IsPlaceOf, IsListed}
-use Rattle.client_list.proofs.IndexLemmas.{index_below, index_at, index_within, index_read}
-use Rattle.client_list.proofs.DistinctLemmas.{apart_from_first}
+use Rattle.client_list.specs.IndexLemmas.{index_below, index_at, index_within, index_read}
+use Rattle.client_list.specs.DistinctLemmas.{apart_from_first}
 
 module _ {T : Type 0} where
   -- the value of a number is that of the pair where the number comes first

@@ -10,8 +10,8 @@ use Rattle.slab.specs.Slab.{Slab, get, slab_len, Updates}
 use Rattle.client_list.specs.declared.links.Node.{Node}
 use Rattle.client_list.specs.Connected.{index_of}
 use Rattle.client_list.specs.Links.{Entry, along, listed, node_of, places_in, pairs_in, IsChain, IsHeld, NextChanged, PreviousChanged}
-use Rattle.client_list.proofs.DistinctLemmas.{distinct_left, distinct_right, distinct_between, distinct_without, apart_from_first}
-use Rattle.client_list.proofs.IndexLemmas.{index_here, index_there, among_others}
+use Rattle.client_list.specs.DistinctLemmas.{distinct_left, distinct_right, distinct_between, distinct_without, apart_from_first}
+use Rattle.client_list.specs.IndexLemmas.{index_here, index_there, among_others}
 use Rattle.client_list.proofs.ChainLemmas.{listed-held}
 use Rattle.client_list.proofs.ChangeLemmas.{Parts, chain-split, chain-join, chain-elsewhere, chain-end, chain-start, chain-beside_next, chain-beside_previous, end_there, start_there, end_has, start_has}
 

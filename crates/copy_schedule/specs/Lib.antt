@@ -4,3 +4,7 @@ pub mod Kept
 pub mod Log
 pub mod Sets
 pub mod Examples
+pub mod CutLemmas
+pub mod SetLemmas
+pub mod KeptLemmas
+pub mod LogLemmas

@@ -13,8 +13,8 @@ use Rattle.framebuffer.specs.Picture.{written, moved}
 use Rattle.region.specs.declared.Rect.{Rect}
 use Rattle.region.specs.Region.{covers}
 use Rattle.framebuffer.specs.Moves.{colour_moved}
-use Rattle.framebuffer.proofs.BlockLemmas.{IsWritten}
-use Rattle.framebuffer.proofs.PictureLemmas.{written_is, moved_is}
+use Rattle.framebuffer.specs.BlockLemmas.{IsWritten}
+use Rattle.framebuffer.specs.PictureLemmas.{written_is, moved_is}
 use Rattle.framebuffer.proofs.RowLemmas.{flat_long, flat_same, wide_same, part_long, parts_read}
 
 -- rows whose colours are as they were

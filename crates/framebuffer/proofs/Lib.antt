@@ -1,5 +1,3 @@
-pub mod BlockLemmas
-pub mod PictureLemmas
 pub mod SpanLemmas
 pub mod PieceLemmas
 pub mod MoveLemmas

@@ -9,10 +9,10 @@ use Rattle.region.specs.declared.Rect.{Rect}
 use Rattle.region.specs.Region.{in_rect, covers, on_screen, order, IsCanonical}
 use Rattle.region.specs.Places.{IsOnScreen, source_rect}
 use Rattle.region.specs.Copies.{InOrder}
-use Rattle.region.proofs.Places.{number}
-use Rattle.region.proofs.ScreenLemmas.{All-in_order}
-use Rattle.region.proofs.CopyOrder.{canonical-in-order}
-use Rattle.region.proofs.CopyPlaces.{covers-in_order, covered-on-screen, rects-on-screen, sources-on-screen, source-spared}
+use Rattle.region.specs.PlaceLemmas.{number}
+use Rattle.region.specs.ScreenLemmas.{All-in_order}
+use Rattle.region.specs.CopyOrderLemmas.{canonical-in-order}
+use Rattle.region.specs.CopyPlaceLemmas.{covers-in_order, covered-on-screen, rects-on-screen, sources-on-screen, source-spared}
 use Rattle.framebuffer.specs.Picture.{colour_at}
 use Rattle.framebuffer.specs.Moves.{between, colour_moved, is_among}
 

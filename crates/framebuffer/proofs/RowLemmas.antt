@@ -14,7 +14,7 @@ use Rattle.framebuffer.specs.declared.rows.Row.{Row}
 use Rattle.framebuffer.specs.declared.blocks.Block.{Block}
 use Rattle.framebuffer.specs.Rows.{row_colours, colours_of_rows, is_own, AreOwn, StayOwn, IsOfWidth, row_written, parts_of_rows, row_part}
 use Rattle.framebuffer.specs.Blocks.{is_in_block, colour_written, block_colours}
-use Rattle.framebuffer.proofs.BlockLemmas.{IsWritten, one_row, one_row_read, put-below, put-in, put-above}
+use Rattle.framebuffer.specs.BlockLemmas.{IsWritten, one_row, one_row_read, put-below, put-in, put-above}
 
 -- a part of the first of two lists is replaced, or of the second
 put_front : (xs rest part : List ℕ) (a k : ℕ) → a + k ≤ length xs → put_mid a k (xs ++ rest) part ≡ put_mid a k xs part ++ rest

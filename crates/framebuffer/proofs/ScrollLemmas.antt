@@ -10,14 +10,14 @@ use Rattle.std.proofs.lemmas.List.Elements.{All-drop}
 use Rattle.region.specs.declared.Rect.{Rect}
 use Rattle.region.specs.Region.{in_rect, covers, on_screen}
 use Rattle.region.specs.Places.{IsOnScreen, source_rect}
-use Rattle.region.proofs.Places.{number}
+use Rattle.region.specs.PlaceLemmas.{number}
 use Rattle.framebuffer.specs.declared.blocks.Block.{Block}
 use Rattle.framebuffer.specs.declared.rows.Row.{Row}
 use Rattle.framebuffer.specs.Blocks.{rect_of}
 use Rattle.framebuffer.specs.Picture.{colour_at, moved}
 use Rattle.framebuffer.specs.Moves.{colour_moved, rows_copied}
 use Rattle.framebuffer.specs.Rows.{row_colours, colours_of_rows, IsOfWidth}
-use Rattle.framebuffer.proofs.PictureLemmas.{moved_is}
+use Rattle.framebuffer.specs.PictureLemmas.{moved_is}
 use Rattle.framebuffer.proofs.RowLemmas.{copied, flat_same, flat_put, flat_take, flat_drop}
 use borrow.Rule.Slice.PartMut.{put_mid}
 

@@ -1,4 +1,3 @@
-pub mod Pieces
 pub mod Whole
 pub mod Unique
 pub mod Says

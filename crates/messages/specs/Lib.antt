@@ -5,3 +5,4 @@ pub mod Steps
 pub mod Kept
 pub mod Progress
 pub mod Examples
+pub mod PieceLemmas

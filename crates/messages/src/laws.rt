@@ -7,7 +7,7 @@ pub fn reads_the_stream()
 {}
 
 /// A piece read behind others is their whole read.
-#[tactic(auto, using(crate::proofs::Pieces::reads_in_pieces))]
+#[tactic(auto, using(crate::specs::PieceLemmas::reads_in_pieces))]
 pub fn reads_in_pieces()
     ensures { ReadsInPieces }
 {}

@@ -8,9 +8,9 @@ use Rattle.region.specs.Runs.{AreRuns}
 use Rattle.region.specs.Region.{Interval, Band, covers, rects_of_band, rects_of_bands, IsBand, AreBands, IsCanonical}
 use Rattle.region.specs.Rows.{interval_of, IsRow, row_has, band_rects}
 use Rattle.region.specs.Bands.{BandAhead, BandReaches, IsBandEdge}
-use Rattle.region.proofs.RunLemmas.{value_at, inside, above_first, nothing_below, rest_runs, first_some}
-use Rattle.region.proofs.CanonicalLemmas.{in_row, in_rows, covers-band, covers-bands}
-use Rattle.region.proofs.OrderLemmas.{flat_map-append}
+use Rattle.region.specs.RunLemmas.{value_at, inside, above_first, nothing_below, rest_runs, first_some}
+use Rattle.region.specs.CanonicalLemmas.{in_row, in_rows, covers-band, covers-bands}
+use Rattle.region.specs.OrderLemmas.{flat_map-append}
 use Rattle.region.proofs.WalkLemmas.{has_is}
 
 none_long : 1 ≤ 0 → ⊥

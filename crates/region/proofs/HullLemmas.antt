@@ -7,7 +7,7 @@ use Rattle.std.proofs.lemmas.List.Elements.{All-from_recursion}
 use Rattle.region.specs.declared.Rect.{Rect}
 use Rattle.region.specs.Held.{LiesIn, IsBox, IsHullOf}
 use Rattle.region.specs.Region.{in_rect, covers, IsCanonical}
-use Rattle.region.proofs.ScreenLemmas.{HasPlaces, rects_some}
+use Rattle.region.specs.ScreenLemmas.{HasPlaces, rects_some}
 
 lies_self : (r : Rect) → LiesIn r r
 lies_self r = record { left = omega (arith, ints); top = omega (arith, ints); right = omega (arith, ints); bottom = omega (arith, ints) }

@@ -13,9 +13,9 @@ use Rattle.region.specs.Region.{Interval, Band, in_rect, covers, rects_of_band, 
 use Rattle.region.specs.Rows.{interval_of, IsRow, row_has, band_rects, RowAdded, kept}
 use Rattle.region.specs.Seams.{BandWalk}
 use Rattle.region.specs.Bands.{BandAhead, IsBandEdge, IsTop, LastBand, Built, RowBehind, GoesOn, RowJoined}
-use Rattle.region.proofs.RunLemmas.{value_at}
-use Rattle.region.proofs.OrderLemmas.{flat_map-append}
-use Rattle.region.proofs.CanonicalLemmas.{in_rows, list_any-append, covers-band}
+use Rattle.region.specs.RunLemmas.{value_at}
+use Rattle.region.specs.OrderLemmas.{flat_map-append}
+use Rattle.region.specs.CanonicalLemmas.{in_rows, list_any-append, covers-band}
 use Rattle.region.proofs.WalkLemmas.{has_is, kept-none}
 use Rattle.region.proofs.BandWalkLemmas.{Front, front, above_front, front_some, Apart, none_from, covers-row, longer, rects-map}
 

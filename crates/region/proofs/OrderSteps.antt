@@ -7,7 +7,7 @@ use Rattle.std.proofs.lemmas.Slice.{take-put_mid, drop-put_mid}
 use borrow.Rule.Slice.PartMut.{put_mid}
 use Rattle.region.specs.declared.Rect.{Rect}
 use Rattle.region.specs.Region.{by_band}
-use Rattle.region.proofs.OrderLemmas.{BeginsElsewhere, by_band-band}
+use Rattle.region.specs.OrderLemmas.{BeginsElsewhere, by_band-band}
 
 pub part_length : {X : Type 0} (xs : List X) (a e : ℕ) → e ≤ length xs → length (take (e - a) (drop a xs)) ≡ e - a
 part_length xs a e room = grind (arith, places)

@@ -11,9 +11,9 @@ use Rattle.region.specs.Region.{Interval, Band, in_rect, covers, rects_of_band, 
 use Rattle.region.specs.Rows.{interval_of, IsRow, row_has, band_rects}
 use Rattle.region.specs.Bands.{Built, RowBehind}
 use Rattle.region.specs.Pops.{BeginAt, FirstRow, IsFirst, IsWithout, BandFrom, Follows}
-use Rattle.region.proofs.RunLemmas.{value_at, others_later, rest_runs, first_some}
-use Rattle.region.proofs.OrderLemmas.{BeginIn, BeginsElsewhere, by_band-band}
-use Rattle.region.proofs.CanonicalLemmas.{in_row, in_rows, covers-band, covers-bands}
+use Rattle.region.specs.RunLemmas.{value_at, others_later, rest_runs, first_some}
+use Rattle.region.specs.OrderLemmas.{BeginIn, BeginsElsewhere, by_band-band}
+use Rattle.region.specs.CanonicalLemmas.{in_row, in_rows, covers-band, covers-bands}
 use Rattle.region.proofs.WalkLemmas.{has_is}
 use Rattle.region.proofs.BandWalkLemmas.{covers-row, rects-map, band_split, first_from}
 use Rattle.region.proofs.JoinLemmas.{intervals-band, intervals-row, same_front, same_rest, taller, or-assoc, covers-append, take-front, drop-front, rest_slice, rects-last, last_some, last_runs}

@@ -12,9 +12,9 @@ use Rattle.region.specs.Rows.{kept}
 use Rattle.region.specs.Bands.{BandAhead, LastBand, IsTop}
 use Rattle.region.specs.Pops.{BandFrom}
 use Rattle.region.specs.Seams.{FirstFails, CutBy, SeamAt, EndsAt, Follow, BandWalk}
-use Rattle.region.proofs.RunLemmas.{value_at, inside, above_first, nothing_below, others_later, rest_runs, first_some}
-use Rattle.region.proofs.OrderLemmas.{flat_map-append}
-use Rattle.region.proofs.CanonicalLemmas.{in_row, covers-bands, same-rows, row-of-bands}
+use Rattle.region.specs.RunLemmas.{value_at, inside, above_first, nothing_below, others_later, rest_runs, first_some}
+use Rattle.region.specs.OrderLemmas.{flat_map-append}
+use Rattle.region.specs.CanonicalLemmas.{in_row, covers-bands, same-rows, row-of-bands}
 use Rattle.region.proofs.BandWalkLemmas.{band_split, first_from, none_from}
 use Rattle.region.proofs.JoinLemmas.{covers-append, take-front, drop-front, rects-last, last_some, apart_end, built_none}
 use Rattle.region.proofs.PopLemmas.{snoc, band_start_is, others_above, y_of, some_rects, bands_above, ends_above, at_middle}

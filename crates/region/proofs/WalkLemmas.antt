@@ -11,7 +11,7 @@ use Rattle.region.specs.declared.rows.Keep.{Keep}
 use Rattle.region.specs.declared.rows.Keep.TheVariants.{Either, Both, FirstAlone}
 use Rattle.region.specs.Held.{one_if}
 use Rattle.region.specs.Rows.{interval_of, IsRow, row_has, Ahead, Reaches, IsEdge, IsStart, RowAdded, band_rects, kept}
-use Rattle.region.proofs.RunLemmas.{value_at, inside, nothing_below, first_some}
+use Rattle.region.specs.RunLemmas.{value_at, inside, nothing_below, first_some}
 
 pub has_is : (rs : List Rect) (z : ℤ) → row_has rs z ≡ is_some (value_at (map interval_of rs) z)
 has_is [] z = refl

@@ -11,8 +11,8 @@ use Rattle.row_walks.specs.declared.Keep.{Keep}
 use Rattle.row_walks.specs.declared.steps.Step.{Step}
 use Rattle.row_walks.specs.Rows.{IsRow, kept, IsKept}
 use Rattle.row_walks.specs.Steps.{next_step, start_of, later, closed}
-use Rattle.row_walks.proofs.StepLemmas.{ends_left, starts, no_step}
-use Rattle.row_walks.proofs.WalkLemmas.{span, length-closed, RowState, row_begins, step_at, stepped_on, stepped_turn, state_done, Whole, whole, only_kept, by_same}
+use Rattle.row_walks.specs.StepLemmas.{ends_left, starts, no_step}
+use Rattle.row_walks.specs.WalkLemmas.{span, length-closed, RowState, row_begins, step_at, stepped_on, stepped_turn, state_done, Whole, whole, only_kept, by_same}
 
 at_one : (b : Bool) → b ≡ true → 1 ≤ cond b 1 0
 at_one true e = omega arith

@@ -11,9 +11,9 @@ use Rattle.row_walks.specs.declared.steps.Step.{Step}
 use Rattle.row_walks.specs.declared.steps.Common.{Common}
 use Rattle.row_walks.specs.Rows.{IsRow, row_has, kept}
 use Rattle.row_walks.specs.Steps.{next_step, start_of, later, nearer, common_step}
-use Rattle.row_walks.proofs.RowLemmas.{true_false}
-use Rattle.row_walks.proofs.StepLemmas.{Ahead, IsEdge, IsStep, step_is, no_step, no_edge, nearer_edge, nearer_is, earlier_start, starts, later_is}
-use Rattle.row_walks.proofs.WalkLemmas.{kept-none}
+use Rattle.row_walks.specs.RowLemmas.{true_false}
+use Rattle.row_walks.specs.StepLemmas.{Ahead, IsEdge, IsStep, step_is, no_step, no_edge, nearer_edge, nearer_is, earlier_start, starts, later_is}
+use Rattle.row_walks.specs.WalkLemmas.{kept-none}
 use Rattle.row_walks.proofs.MakeLemmas.{from_firsts}
 
 pub not_true : (b : Bool) → not b ≡ true → b ≡ false

@@ -1,2 +1,5 @@
 pub mod Rows
 pub mod Steps
+pub mod RowLemmas
+pub mod StepLemmas
+pub mod WalkLemmas

@@ -7,8 +7,8 @@ use Rattle.std.specs.Option.{option_map}
 use Rattle.std.proofs.lemmas.Map.Keys.{IsDistinct-cons}
 use Rattle.messages.specs.Reading.{Rest}
 use Rattle.client_list.specs.Connected.{index_of, set_value_at}
-use Rattle.client_list.proofs.DistinctLemmas.{distinct_none}
-use Rattle.client_list.proofs.CallerLemmas.{set-number, find-lookup}
+use Rattle.client_list.specs.DistinctLemmas.{distinct_none}
+use Rattle.client_list.specs.CallerLemmas.{set-number, find-lookup}
 use Rattle.scene.specs.declared.Config.{Config}
 use Rattle.scene.specs.declared.Event.{Event}
 use Rattle.viewer.specs.Viewer.{KeptViewer, kept, Viewer}

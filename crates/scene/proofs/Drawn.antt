@@ -9,7 +9,7 @@ use Rattle.scene.specs.declared.Config.{Config}
 use Rattle.scene.specs.declared.Event.{Event}
 use Rattle.viewer.specs.Viewer.{KeptViewer, Viewer}
 use Rattle.viewer_list.specs.Viewers.{drawn as told_of}
-use Rattle.viewer_list.proofs.SizeLemmas.{drawn_size}
+use Rattle.viewer_list.specs.SizeLemmas.{drawn_size}
 use Rattle.scene.specs.Alone.{drawing_refusal, drawn, shown_drawing, owner_of}
 use Rattle.scene.specs.Answers.{SceneState, scene_after}
 use Rattle.scene.specs.Held.{IsSized}

@@ -11,7 +11,7 @@ use Rattle.std.proofs.lemmas.Int.{ints}
 use Rattle.std.proofs.lemmas.List.FromFn.{fill_by_all, get_or-map-range_with_len, length-map-range_with_len}
 use Rattle.region.specs.declared.Rect.{Rect}
 use Rattle.region.specs.Region.{covers, on_screen, IsCanonical}
-use Rattle.region.proofs.ScreenLemmas.{HasPlaces, rects_some}
+use Rattle.region.specs.ScreenLemmas.{HasPlaces, rects_some}
 use Rattle.copy_schedule.specs.declared.Mark.{Mark}
 use Rattle.copy_schedule.specs.declared.Mark.TheVariants.{Clean, Owed}
 use Rattle.region.specs.Places.{cut_destination}
@@ -20,7 +20,7 @@ use Rattle.framebuffer.specs.Picture.{straight, union_of}
 use Rattle.scene.specs.declared.Config.{Config}
 use Rattle.viewer.specs.Viewer.{KeptViewer, viewer_marked}
 use Rattle.viewer_list.specs.Viewers.{IsWhole}
-use Rattle.viewer_list.proofs.SizeLemmas.{marked_none}
+use Rattle.viewer_list.specs.SizeLemmas.{marked_none}
 use Rattle.scene.specs.Held.{IsSized}
 use Rattle.scene.proofs.Kept.{all-head, all-tail}
 

@@ -13,10 +13,10 @@ use Rattle.region.specs.declared.Rect.{Rect}
 use Rattle.region.specs.Region.{in_rect, on_screen}
 use Rattle.region.specs.Places.{by_place, some_place, cut_destination, same_offset}
 use Rattle.copy_schedule.specs.Marks.{Marks, copied_by}
-use Rattle.region.proofs.Places.{value_on, is_place}
+use Rattle.region.specs.PlaceLemmas.{value_on, is_place}
 use Rattle.framebuffer.specs.Picture.{colour_at, written, copied, union_of, colour_in}
 use Rattle.viewer_picture.specs.Messages.{may_come}
-use Rattle.viewer_picture.proofs.Marks.{Shows, recoloured, marked-shows, moved-shows}
+use Rattle.viewer_picture.specs.MarkLemmas.{Shows, recoloured, marked-shows, moved-shows}
 use Rattle.scene.specs.declared.Config.{Config}
 use Rattle.scene.specs.declared.Event.{Event}
 use Rattle.scene.specs.declared.Event.TheVariants as event

@@ -16,13 +16,13 @@ use Rattle.messages.specs.Reading.{heard, is_open_phase}
 use Rattle.messages.specs.Server.{server_version}
 use Rattle.copy_schedule.specs.declared.Mark.TheVariants.{Clean, Copied, Owed}
 use Rattle.copy_schedule.specs.Marks.{Marks, mark_at, new_marks, copies_of, pixels_of, after_sending, pending, cut_of}
-use Rattle.region.proofs.Places.{is_place}
+use Rattle.region.specs.PlaceLemmas.{is_place}
 use Rattle.framebuffer.specs.Picture.{colour_at}
 use Rattle.viewer_picture.specs.Messages.{Agreed, messages_in, may_come}
 use Rattle.viewer_picture.specs.Claims.{RectanglesAreRead}
-use Rattle.viewer_picture.proofs.Messages.{Reads}
-use Rattle.viewer_picture.proofs.Marks.{Shows}
-use Rattle.viewer_picture.proofs.Cuts.{update_of, cut-shows}
+use Rattle.viewer_picture.specs.MessageLemmas.{Reads}
+use Rattle.viewer_picture.specs.MarkLemmas.{Shows}
+use Rattle.viewer_picture.specs.CutLemmas.{update_of, cut-shows}
 use Rattle.scene.specs.declared.Config.{Config}
 use Rattle.scene.specs.declared.Event.{Event}
 use Rattle.scene.specs.declared.Event.TheVariants.{Write, Paint, Mark as MarkEvent, ScheduleCopy, DoCopy, Bell, CutText, Connect, Hear, Cut, Close}

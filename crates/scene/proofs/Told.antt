@@ -18,14 +18,14 @@ use Rattle.region.specs.Region.{on_screen}
 use Rattle.region.specs.Places.{IsOnScreen, source_rect}
 use Rattle.copy_schedule.specs.declared.Mark.TheVariants.{Copied}
 use Rattle.copy_schedule.specs.Marks.{Marks, mark_at, copies_of, pixels_of}
-use Rattle.copy_schedule.proofs.CutLemmas.{copies_on_screen, sources_inside, pixels_on_screen}
+use Rattle.copy_schedule.specs.CutLemmas.{copies_on_screen, sources_inside, pixels_on_screen}
 use Rattle.viewer_picture.specs.Areas.{area_of}
 use Rattle.framebuffer.specs.Picture.{colours_of}
 use Rattle.viewer_picture.specs.Messages.{Agreed, is_in_picture, may_come, rectangles_at, messages_in}
 use Rattle.viewer_picture.specs.Encodings.{number_of}
 use Rattle.viewer_picture.specs.Claims.{IsPart, RectanglesAreRead}
-use Rattle.viewer_picture.proofs.Messages.{IsReadAs, changed, list-read, Reads, bell-read, text-read, update-read}
-use Rattle.viewer_picture.proofs.Cuts.{copy_of, pixel_of, update_of, copies-may}
+use Rattle.viewer_picture.specs.MessageLemmas.{IsReadAs, changed, list-read, Reads, bell-read, text-read, update-read}
+use Rattle.viewer_picture.specs.CutLemmas.{copy_of, pixel_of, update_of, copies-may}
 use Rattle.viewer.specs.declared.notices.Notice.{Notice}
 use Rattle.viewer.specs.declared.notices.Notice.TheVariants as notice
 use Rattle.viewer.specs.Short.{IsShort}

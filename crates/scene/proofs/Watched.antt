@@ -23,9 +23,9 @@ use Rattle.viewer_picture.specs.Messages.{may_come}
 use Rattle.viewer_picture.specs.Encodings.{number_of, taken}
 use Rattle.viewer_picture.specs.Opening.{Init, init_at}
 use Rattle.viewer_picture.specs.Pictures.{dot_at}
-use Rattle.viewer_picture.proofs.Messages.{bytes-read}
-use Rattle.viewer_picture.proofs.Marks.{Shows, uncopied-shows, allowed, asked-shows, forgotten-shows}
-use Rattle.viewer_picture.proofs.Comes.{Comes, Come, phase_after, Following, following}
+use Rattle.viewer_picture.specs.MessageLemmas.{bytes-read}
+use Rattle.viewer_picture.specs.MarkLemmas.{Shows, uncopied-shows, allowed, asked-shows, forgotten-shows}
+use Rattle.viewer_picture.specs.ComeLemmas.{Comes, Come, phase_after, Following, following}
 use Rattle.scene.specs.declared.Config.{Config}
 use Rattle.viewer.specs.Viewer.{Viewer, area_places, after_item}
 use Rattle.scene.specs.Alone.{hearing}

@@ -13,9 +13,9 @@ use Rattle.span_arena.specs.declared.Span.{Span}
 use Rattle.span_arena.specs.declared.nodes.Node.{Node}
 use Rattle.span_arena.specs.Arena.{Arena, list_of, span_of, last_from, last_in, IsIn, IsSound, SetsList, SetsSpan, SameSpans}
 use Rattle.span_arena.specs.Links.{Nodes, list_in, value_in, is_head, span_at, view_of, IsLinked, IsBetween, IsRing, IsHeld, IsPut, IsCut}
-use Rattle.span_arena.proofs.DistinctLemmas.{split_at, here, apart_from_first, first_or, last_there}
-use Rattle.span_arena.proofs.ChainLemmas.{chain_first, chain_last}
-use Rattle.span_arena.proofs.ViewLemmas.{test_head, list_of_ring, test_other, ring_of_list, ring_there, span_of_view}
+use Rattle.span_arena.specs.DistinctLemmas.{split_at, here, apart_from_first, first_or, last_there}
+use Rattle.span_arena.specs.ChainLemmas.{chain_first, chain_last}
+use Rattle.span_arena.specs.ViewLemmas.{test_head, list_of_ring, test_other, ring_of_list, ring_there, span_of_view}
 use Rattle.span_arena.proofs.ChangeLemmas.{linked}
 use Rattle.span_arena.proofs.PutLemmas.{put_held, put_lists, put_spans, put_fresh}
 use Rattle.span_arena.proofs.CutLemmas.{key_in, key_between, cut_held, cut_lists, cut_spans, cut_span}

@@ -11,9 +11,9 @@ use Rattle.span_arena.specs.declared.Span.{Span}
 use Rattle.span_arena.specs.declared.nodes.Node.{Node}
 use Rattle.span_arena.specs.Arena.{list_of, span_of, last_from}
 use Rattle.span_arena.specs.Links.{Nodes, list_in, next_in, previous_in, value_in, is_head, view_of, IsLinked, IsRing, IsHeld, with_at}
-use Rattle.span_arena.proofs.DistinctLemmas.{here, not_in_none, apart_from_first, distinct_left, distinct_right, distinct_between, distinct_push, first_or, last_there}
-use Rattle.span_arena.proofs.ChainLemmas.{chain_front, chain_last, chain_lists, ring_lists, chain_kept}
-use Rattle.span_arena.proofs.ViewLemmas.{head_test, list_of_ring, no_list, span_of_view}
+use Rattle.span_arena.specs.DistinctLemmas.{here, not_in_none, apart_from_first, distinct_left, distinct_right, distinct_between, distinct_push, first_or, last_there}
+use Rattle.span_arena.specs.ChainLemmas.{chain_front, chain_last, chain_lists, ring_lists, chain_kept}
+use Rattle.span_arena.specs.ViewLemmas.{head_test, list_of_ring, no_list, span_of_view}
 
 -- the changed key, and each other
 pub with_same : {X : Type 0} (f : ℕ → Option X) (at : ℕ) (x : Option X) (key : ℕ) → key ≡ at → with_at f at x key ≡ x

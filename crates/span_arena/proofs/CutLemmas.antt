@@ -11,9 +11,9 @@ use Rattle.span_arena.specs.declared.Span.{Span}
 use Rattle.span_arena.specs.declared.nodes.Node.{Node}
 use Rattle.span_arena.specs.Arena.{span_of, last_from, SetsList, SetsSpan}
 use Rattle.span_arena.specs.Links.{Nodes, list_in, next_in, previous_in, value_in, is_head, view_of, IsBetween, IsRing, IsHeld, with_at, NextSet, PreviousSet, IsCut}
-use Rattle.span_arena.proofs.DistinctLemmas.{contains_away, here, apart_from_first, distinct_between, distinct_without, first_or, last_there, first_there}
-use Rattle.span_arena.proofs.ChainLemmas.{chain_front, chain_back, chain_first, chain_last, chain_from, chain_onto}
-use Rattle.span_arena.proofs.ViewLemmas.{ring_same, test_other, test_none, list_of_ring, span_of_view}
+use Rattle.span_arena.specs.DistinctLemmas.{contains_away, here, apart_from_first, distinct_between, distinct_without, first_or, last_there, first_there}
+use Rattle.span_arena.specs.ChainLemmas.{chain_front, chain_back, chain_first, chain_last, chain_from, chain_onto}
+use Rattle.span_arena.specs.ViewLemmas.{ring_same, test_other, test_none, list_of_ring, span_of_view}
 use Rattle.span_arena.proofs.ChangeLemmas.{with_same, with_other, Leaves, held_changed, list_left, span_left, same_test, front_distinct, rest_distinct, front_in, rest_in, rest_apart}
 
 module _ (old : Nodes) (list : ℕ) (front : List ℕ) (key : ℕ) (back : List ℕ) (ring : IsRing old list (front ++ key ∷ back)) where

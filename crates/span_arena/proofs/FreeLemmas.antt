@@ -8,8 +8,8 @@ use Rattle.std.proofs.lemmas.List.Elements.{Contains-append_left, Contains-appen
 use Rattle.std.proofs.lemmas.Option.{same_Some}
 use Rattle.slab.proofs.SlabLemmas.{Contains-cons_cases}
 use Rattle.span_arena.specs.Arena.{Arena, list_of, ids_of, span_of, IsIn, SetsList, SetsSpan, SpansGone, SameSpans}
-use Rattle.span_arena.proofs.DistinctLemmas.{here, not_in_none}
-use Rattle.span_arena.proofs.ViewLemmas.{ids_are}
+use Rattle.span_arena.specs.DistinctLemmas.{here, not_in_none}
+use Rattle.span_arena.specs.ViewLemmas.{ids_are}
 
 -- a list's first spans are gone, and the others are left
 pub record Emptied (old now : Arena) (list : ℕ) : Type 0 where

@@ -9,8 +9,8 @@ use Rattle.span_arena.specs.declared.Span.{Span}
 use Rattle.span_arena.specs.declared.nodes.Node.{Node}
 use Rattle.span_arena.specs.Arena.{list_of, span_of, SetsList, SetsSpan, SameLists, SameSpans}
 use Rattle.span_arena.specs.Links.{Nodes, list_in, next_in, previous_in, value_in, is_head, view_of, IsRing, IsHeld, HeadPut}
-use Rattle.span_arena.proofs.DistinctLemmas.{here, not_in_none, distinct_cons, distinct_none}
-use Rattle.span_arena.proofs.ViewLemmas.{ring_same, test_head, test_none, list_of_ring, no_list, span_of_view}
+use Rattle.span_arena.specs.DistinctLemmas.{here, not_in_none, distinct_cons, distinct_none}
+use Rattle.span_arena.specs.ViewLemmas.{ring_same, test_head, test_none, list_of_ring, no_list, span_of_view}
 use Rattle.span_arena.proofs.ChangeLemmas.{with_same, with_other, Leaves, ring_kept, held_changed, list_left, span_left, same_test}
 
 -- the fields of a key that has no node

@@ -1,10 +1,6 @@
-pub mod DistinctLemmas
-pub mod ChainLemmas
-pub mod ViewLemmas
 pub mod ChangeLemmas
 pub mod PutLemmas
 pub mod CutLemmas
 pub mod HeadLemmas
 pub mod CallLemmas
 pub mod FreeLemmas
-pub mod WalkLemmas

@@ -10,9 +10,9 @@ use Rattle.span_arena.specs.declared.Span.{Span}
 use Rattle.span_arena.specs.declared.nodes.Node.{Node}
 use Rattle.span_arena.specs.Arena.{span_of, SetsList, SetsSpan}
 use Rattle.span_arena.specs.Links.{Nodes, list_in, next_in, previous_in, value_in, is_head, view_of, IsRing, IsHeld, with_at, IsPut}
-use Rattle.span_arena.proofs.DistinctLemmas.{here, contains_without, distinct_with}
-use Rattle.span_arena.proofs.ChainLemmas.{chain_front, chain_back, ring_lists, chain_from, chain_onto}
-use Rattle.span_arena.proofs.ViewLemmas.{ring_same, test_other, test_none, list_of_ring, span_of_view}
+use Rattle.span_arena.specs.DistinctLemmas.{here, contains_without, distinct_with}
+use Rattle.span_arena.specs.ChainLemmas.{chain_front, chain_back, ring_lists, chain_from, chain_onto}
+use Rattle.span_arena.specs.ViewLemmas.{ring_same, test_other, test_none, list_of_ring, span_of_view}
 use Rattle.span_arena.proofs.ChangeLemmas.{with_same, with_other, Leaves, held_changed, list_left, span_left, same_test, before, after, before_in, after_in, front_apart, rest_apart, front_distinct, rest_distinct, front_in, rest_in}
 
 module _ (old new : Nodes) (list : ℕ) (front rest : List ℕ) (ring : IsRing old list (front ++ rest)) (key : ℕ) (span : Span) (put : IsPut old new list (before old list front rest ring) (after old list front rest ring) key span) where

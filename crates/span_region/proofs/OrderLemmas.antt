@@ -3,7 +3,7 @@ use Rattle.std.proofs.Common.{◌≡◌, Bool, true, false, List, [], ◌∷◌,
 use Rattle.std.specs.Prelude.{not, flat_map, reverse}
 use mathlib.Core.Bool.{beq}
 use Rattle.region.specs.Region.{reversed_if, in_order}
-use Rattle.region.proofs.OrderLemmas.{in_order-plain, in_order-both, in_order-bands}
+use Rattle.region.specs.OrderLemmas.{in_order-plain, in_order-both, in_order-bands}
 use Rattle.band_list.specs.Bands.{Band}
 use Rattle.band_walks.specs.Sets.{AreBands}
 use Rattle.span_region.specs.Rects.{rects_of_band, rects_in, lines_in}

@@ -9,7 +9,7 @@ use Rattle.region.specs.Held.{Held}
 use Rattle.band_list.specs.Bands.{Band, nodes_in}
 use Rattle.row_walks.specs.declared.Keep.TheVariants.{Either}
 use Rattle.band_walks.specs.Sets.{AreBands, has, IsKept}
-use Rattle.band_walks.proofs.WholeLemmas.{whole_bands}
+use Rattle.band_walks.specs.WholeLemmas.{whole_bands}
 use Rattle.span_region.specs.Rects.{rects_in}
 use Rattle.span_region.specs.Room.{AreBandsOfBoth, IsRoomFor}
 use Rattle.span_region.proofs.RectLemmas.{covers_has}

@@ -10,7 +10,7 @@ use Rattle.copy_schedule.specs.declared.LogEntry.{LogEntry}
 use Rattle.copy_schedule.specs.declared.LogEntry.TheVariants.{Mark, Copy}
 use Rattle.copy_schedule.specs.Marks.{Marks, Sent, marked, has_asked, pending, copies_of, pixels_of, after_sending}
 use Rattle.copy_schedule.specs.Log.{after_entry, logged, IsCutEntry}
-use Rattle.copy_schedule.proofs.LogLemmas.{unasked_is_not_pending, logged_append, cut_append, front_is_cut}
+use Rattle.copy_schedule.specs.LogLemmas.{unasked_is_not_pending, logged_append, cut_append, front_is_cut}
 use Rattle.messages.specs.Reading.{is_open_rest}
 use Rattle.viewer.specs.Sending.{sending_kept, with_update}
 use Rattle.viewer.specs.Viewer.{KeptViewer, none_wait}

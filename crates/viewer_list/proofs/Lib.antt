@@ -1,3 +1,2 @@
 mod LagLemmas
 mod ListLemmas
-pub mod SizeLemmas

@@ -8,9 +8,9 @@ use Rattle.std.proofs.lemmas.Option.{same_Some, slice_get-map}
 use Rattle.std.proofs.lemmas.Bool.Decides.{nat_tests}
 use Rattle.std.proofs.lemmas.List.{nil_from_length, take_all, length-map, reverse-append, reverse-reverse, append-nil}
 use Rattle.std.proofs.lemmas.List.Elements.{All-append, filter_map-append}
-use Rattle.client_list.proofs.Walks.{take_next, drop_next}
+use Rattle.client_list.specs.WalkLemmas.{take_next, drop_next}
 use Rattle.client_list.specs.Connected.{Connected, IsListed, changed, set_value_at, index_of, value_at, passed}
-use Rattle.client_list.proofs.CallerLemmas.{lookup-mapped, keys-mapped, mapped-set_value_at}
+use Rattle.client_list.specs.CallerLemmas.{lookup-mapped, keys-mapped, mapped-set_value_at}
 use Rattle.region.specs.Held.{Held}
 use Rattle.copy_schedule.specs.declared.LogEntry.{LogEntry}
 use Rattle.copy_schedule.specs.declared.LogEntry.TheVariants.{Mark}

@@ -1,2 +1,3 @@
 pub mod Lagging
 pub mod Viewers
+pub mod SizeLemmas

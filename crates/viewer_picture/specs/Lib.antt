@@ -5,3 +5,8 @@ pub mod Areas
 pub mod Pictures
 pub mod Claims
 pub mod Examples
+pub mod MessageLemmas
+pub mod AreaLemmas
+pub mod MarkLemmas
+pub mod CutLemmas
+pub mod ComeLemmas

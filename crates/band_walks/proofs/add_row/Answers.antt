@@ -3,7 +3,7 @@ use Rattle.std.specs.Prelude.{FitsSigned}
 use Rattle.std.specs.Int.{w32}
 use Rattle.std.proofs.lemmas.Int.{to_z-of_z}
 use Rattle.band_list.specs.Bands.{band_with}
-use Rattle.band_walks.proofs.SetLemmas.{Parts, put_makes, stretched_makes, same_row, other_row, apart_row, some_row}
+use Rattle.band_walks.specs.SetLemmas.{Parts, put_makes, stretched_makes, same_row, other_row, apart_row, some_row}
 use Rattle.band_walks.proofs.add_row.Goals as goal
 use Rattle.band_walks.proofs.add_row.Goals.{else-last_ends_at-via-then-last_ends_at+else-row_is_as_last, else-last_ends_at-via-else-last_ends_at}
 

@@ -1,5 +1,5 @@
 use Rattle.std.specs.Prelude.{◌+◌}
-use Rattle.band_walks.proofs.StripLemmas.{edges_left}
+use Rattle.band_walks.specs.StripLemmas.{edges_left}
 use Rattle.band_walks.proofs.CountLemmas.{Counting}
 use Rattle.band_walks.proofs.count_kept.Given as goal
 

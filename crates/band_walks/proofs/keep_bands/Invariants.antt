@@ -1,5 +1,5 @@
 use Rattle.std.specs.Prelude.{◌+◌}
-use Rattle.band_walks.proofs.StripLemmas.{edges_left}
+use Rattle.band_walks.specs.StripLemmas.{edges_left}
 use Rattle.band_walks.proofs.StayLemmas.{Kept}
 use Rattle.band_walks.proofs.keep_bands.Given as goal
 

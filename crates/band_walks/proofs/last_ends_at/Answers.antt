@@ -3,7 +3,7 @@ use Rattle.std.specs.Prelude.{FitsSigned}
 use Rattle.std.specs.Int.{w32}
 use Rattle.std.specs.Ordering.{int_eq}
 use Rattle.std.proofs.lemmas.Int.{to_z-of_z}
-use Rattle.band_walks.proofs.SetLemmas.{ends_there, ends_elsewhere, none_last}
+use Rattle.band_walks.specs.SetLemmas.{ends_there, ends_elsewhere, none_last}
 use Rattle.band_walks.proofs.last_ends_at.Goals as goal
 
 pub returns-in-Some-clause-yes : goal.returns-in-Some-clause-yes

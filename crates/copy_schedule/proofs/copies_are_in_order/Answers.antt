@@ -1,4 +1,4 @@
-use Rattle.region.proofs.CopyOrder.{copies-in-order}
+use Rattle.region.specs.CopyOrderLemmas.{copies-in-order}
 use Rattle.copy_schedule.proofs.copies_are_in_order.Goals as goal
 
 pub returns : goal.returns

@@ -3,7 +3,7 @@ use Rattle.std.specs.Int.{w32}
 use Rattle.std.proofs.lemmas.Int.{ints}
 use Rattle.row_walks.specs.Rows.{kept}
 use Rattle.row_walks.specs.Steps.{later}
-use Rattle.row_walks.proofs.WalkLemmas.{differ, agree}
+use Rattle.row_walks.specs.WalkLemmas.{differ, agree}
 use Rattle.row_walks.proofs.MakeLemmas.{made_begins, made_on, made_turn, step_after, made_room, made_done, nearer_end, from_firsts, start_from}
 use Rattle.row_walks.proofs.make_row.Goals as goal
 use Rattle.row_walks.proofs.make_row.Goals.{then-keeps-is_open, else-keeps-is_open}

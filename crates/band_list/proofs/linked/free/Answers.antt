@@ -1,7 +1,7 @@
 use Rattle.std.proofs.Common.{◌∙◌, ap, arith, length, ◌≡◌}
 use Rattle.std.proofs.lemmas.List.{length-map}
 use Rattle.span_arena.specs.Arena.{ids_of}
-use Rattle.span_arena.proofs.ViewLemmas.{ids_are, ids_there}
+use Rattle.span_arena.specs.ViewLemmas.{ids_are, ids_there}
 use Rattle.band_list.specs.Held.{ids_in}
 use Rattle.band_list.proofs.HasLemmas.{freed_keeps}
 use Rattle.band_list.proofs.linked.free.Goals as goal

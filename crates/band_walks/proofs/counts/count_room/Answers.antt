@@ -2,7 +2,7 @@ use Rattle.std.proofs.Common.{◌≡◌, ◌∙◌, ap, to_z, of_z, arith}
 use Rattle.std.specs.Int.{w32}
 use Rattle.std.proofs.lemmas.Int.{ints}
 use Rattle.band_list.specs.declared.Rows.{Rows}
-use Rattle.band_walks.proofs.RoomLemmas.{count_begins, count_row_a, count_row_b, count_fewer, count_more, count_done}
+use Rattle.band_walks.specs.RoomLemmas.{count_begins, count_row_a, count_row_b, count_fewer, count_more, count_done}
 use Rattle.band_walks.proofs.counts.count_room.Goals as goal
 
 pub loop-strip-init : goal.loop-strip-init

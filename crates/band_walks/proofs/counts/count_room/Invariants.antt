@@ -1,6 +1,6 @@
 use Rattle.std.specs.Prelude.{◌+◌}
-use Rattle.band_walks.proofs.StripLemmas.{edges_left}
-use Rattle.band_walks.proofs.RoomLemmas.{Counted}
+use Rattle.band_walks.specs.StripLemmas.{edges_left}
+use Rattle.band_walks.specs.RoomLemmas.{Counted}
 use Rattle.band_walks.proofs.counts.count_room.Given as goal
 
 abbrev pub invariant-loop-strip : goal.invariant-loop-strip

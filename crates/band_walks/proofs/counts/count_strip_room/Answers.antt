@@ -3,7 +3,7 @@ use Rattle.std.specs.Prelude.{ℤ}
 use Rattle.band_list.specs.declared.Interval.{Interval}
 use Rattle.band_list.specs.Bands.{Reading}
 use Rattle.row_walks.specs.Rows.{row_has, kept, IsKept as IsRowKept}
-use Rattle.band_walks.proofs.RoomLemmas.{holds_nothing}
+use Rattle.band_walks.specs.RoomLemmas.{holds_nothing}
 use Rattle.band_walks.proofs.counts.count_strip_room.Goals as goal
 
 part_has : (t : Bool) (a : List Interval) (x : ℤ) → row_has (cond t a []) x ≡ (t && row_has a x)

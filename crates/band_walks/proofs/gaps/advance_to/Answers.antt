@@ -2,7 +2,7 @@ use Rattle.std.proofs.Common.{◌≡◌, arith, to_z, of_z, subst, sym}
 use Rattle.std.specs.Int.{w32}
 use Rattle.std.proofs.lemmas.Int.{ints}
 use Rattle.band_walks.specs.Sets.{EndBy}
-use Rattle.band_walks.proofs.GapLemmas.{unmoved, moved_on, first_there, some_below, moved_down}
+use Rattle.band_walks.specs.GapLemmas.{unmoved, moved_on, first_there, some_below, moved_down}
 use Rattle.band_walks.proofs.gaps.advance_to.Goals as goal
 
 pub bands-init : goal.bands-init

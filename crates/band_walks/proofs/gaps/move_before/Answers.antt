@@ -2,7 +2,7 @@ use Rattle.std.proofs.Common.{◌≡◌, ◌∙◌, sym, subst, arith, to_z, of_
 use Rattle.std.specs.Int.{w32}
 use Rattle.std.proofs.lemmas.Int.{ints}
 use Rattle.band_walks.specs.Sets.{EndBy}
-use Rattle.band_walks.proofs.GapLemmas.{gap_there}
+use Rattle.band_walks.specs.GapLemmas.{gap_there}
 use Rattle.band_walks.proofs.gaps.move_before.Goals as goal
 
 pub returns-in-Some-clause-gap : goal.returns-in-Some-clause-gap

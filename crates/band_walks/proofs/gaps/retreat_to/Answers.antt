@@ -2,7 +2,7 @@ use Rattle.std.proofs.Common.{◌≡◌, arith, to_z, of_z, subst}
 use Rattle.std.specs.Int.{w32}
 use Rattle.std.proofs.lemmas.Int.{ints}
 use Rattle.band_walks.specs.Sets.{EndBy}
-use Rattle.band_walks.proofs.GapLemmas.{unmoved, moved_on, still_bands, last_below, last_there, moved_up, all_end}
+use Rattle.band_walks.specs.GapLemmas.{unmoved, moved_on, still_bands, last_below, last_there, moved_up, all_end}
 use Rattle.band_walks.proofs.gaps.retreat_to.Goals as goal
 
 pub bands-init : goal.bands-init

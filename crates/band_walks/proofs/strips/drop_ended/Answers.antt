@@ -2,7 +2,7 @@ use Rattle.std.proofs.Common.{rules, ◌≡◌, to_z, of_z, arith}
 use Rattle.std.specs.Prelude.{FitsSigned, ◌≤ℤ◌}
 use Rattle.std.specs.Int.{w32}
 use Rattle.std.proofs.lemmas.Int.{ints, to_z-of_z}
-use Rattle.band_walks.proofs.KeepLemmas.{dropped}
+use Rattle.band_walks.specs.KeepLemmas.{dropped}
 use Rattle.band_walks.proofs.strips.drop_ended.Goals as goal
 
 pub returns-then-rows-edge : goal.returns-then-rows-edge

@@ -1,5 +1,5 @@
 use Rattle.std.proofs.Common.{[], sym, ap, refl, count_by, is_some}
-use Rattle.client_list.proofs.DistinctLemmas.{distinct_none}
+use Rattle.client_list.specs.DistinctLemmas.{distinct_none}
 use Rattle.client_list.proofs.Clients.new.Goals as goal
 
 pub invariant_of-result : goal.invariant_of-result

@@ -1,6 +1,6 @@
 use Rattle.std.proofs.Common.{arith, ◌+◌}
 use Rattle.client_list.specs.Connected.{index_of}
-use Rattle.client_list.proofs.IndexLemmas.{index_within}
+use Rattle.client_list.specs.IndexLemmas.{index_within}
 use Rattle.client_list.proofs.CallLemmas.{shows, is_listed, slot_is_place, slot_passed, has_node, next_there}
 use Rattle.client_list.proofs.Clients.next.Goals as goal
 

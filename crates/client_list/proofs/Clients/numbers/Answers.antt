@@ -1,7 +1,7 @@
 use Rattle.std.proofs.Common.{ℕ, Option, subst, ◌∙◌}
 use Rattle.std.specs.Prelude.{IfSome}
 use Rattle.client_list.specs.Connected.{IsPlace}
-use Rattle.client_list.proofs.Walks.{number_step, numbers_end, walk_falls}
+use Rattle.client_list.specs.WalkLemmas.{number_step, numbers_end, walk_falls}
 use Rattle.client_list.proofs.Clients.numbers.Goals as goal
 
 pub loop-place-smaller : goal.loop-place-smaller

@@ -2,9 +2,9 @@ use Rattle.std.proofs.Common.{◌≤◌, ℕ, Option, Some, length, subst, sym, 
 use Rattle.std.specs.Prelude.{IfSome, slice_get}
 use Rattle.std.proofs.lemmas.Option.{slice_get_past}
 use Rattle.client_list.specs.Connected.{IsPlace, passed, index_of, index_of_number}
-use Rattle.client_list.proofs.IndexLemmas.{index_read}
+use Rattle.client_list.specs.IndexLemmas.{index_read}
 use Rattle.client_list.proofs.NumberLemmas.{number_found, number_differs, number_past}
-use Rattle.client_list.proofs.Walks.{walk_falls}
+use Rattle.client_list.specs.WalkLemmas.{walk_falls}
 use Rattle.client_list.proofs.Clients.place_of.Goals as goal
 
 pub returns-then-number_at-number-clause-place : goal.returns-then-number_at-number-clause-place

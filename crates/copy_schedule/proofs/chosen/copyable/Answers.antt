@@ -1,4 +1,4 @@
-use Rattle.copy_schedule.proofs.SetLemmas.{asked_copies}
+use Rattle.copy_schedule.specs.SetLemmas.{asked_copies}
 use Rattle.copy_schedule.proofs.chosen.copyable.Goals as goal
 
 pub returns : goal.returns

@@ -1,4 +1,4 @@
-use Rattle.region.proofs.Places.{all-in_range}
+use Rattle.region.specs.PlaceLemmas.{all-in_range}
 use Rattle.copy_schedule.proofs.chosen.left_after.Goals as goal
 
 pub from_rects_in_range-requires : goal.from_rects_in_range-requires

@@ -1,5 +1,5 @@
 use Rattle.region.specs.Region.{covers}
-use Rattle.copy_schedule.proofs.SetLemmas.{lies_either, lies_part}
+use Rattle.copy_schedule.specs.SetLemmas.{lies_either, lies_part}
 use Rattle.copy_schedule.proofs.kept.forgetting.Goals as goal
 
 pub returns-clause-kept : goal.returns-clause-kept

@@ -1,8 +1,8 @@
 use Rattle.std.proofs.Common.{not, ◌||◌}
 use Rattle.std.specs.Prelude.{◌+ℤ◌}
 use Rattle.region.specs.Region.{covers}
-use Rattle.copy_schedule.proofs.KeptLemmas.{lost_marks}
-use Rattle.copy_schedule.proofs.SetLemmas.{lies_part}
+use Rattle.copy_schedule.specs.KeptLemmas.{lost_marks}
+use Rattle.copy_schedule.specs.SetLemmas.{lies_part}
 use Rattle.copy_schedule.proofs.kept.losing.Goals as goal
 
 pub returns-clause-marks : goal.returns-clause-marks

@@ -2,7 +2,7 @@ use Rattle.std.proofs.Common.{◌≡◌, ◌∙◌, sym, ap, rules, arith}
 use Rattle.std.specs.Prelude.{FitsSigned, ℤ, pos, ◌+ℤ◌, ◌-ℤ◌}
 use Rattle.std.specs.Int.{w32}
 use Rattle.std.proofs.lemmas.Int.{ints, to_z-of_z}
-use Rattle.copy_schedule.proofs.SetLemmas.{far_lost, near_lost}
+use Rattle.copy_schedule.specs.SetLemmas.{far_lost, near_lost}
 use Rattle.copy_schedule.proofs.kept.lost_places.Goals as goal
 
 pub returns-then-leads_off : goal.returns-then-leads_off

@@ -1,5 +1,5 @@
 use Rattle.region.specs.Region.{covers}
-use Rattle.copy_schedule.proofs.KeptLemmas.{moving_marks, moving_keeps}
+use Rattle.copy_schedule.specs.KeptLemmas.{moving_marks, moving_keeps}
 use Rattle.copy_schedule.proofs.kept.moving.Goals as goal
 
 pub returns-clause-marks : goal.returns-clause-marks

@@ -1,6 +1,6 @@
 use Rattle.std.proofs.Common.{Result, Ok, Err, IfOk, refl}
 use Rattle.region.specs.Region.{covers}
-use Rattle.copy_schedule.proofs.SetLemmas.{lies_on_part}
+use Rattle.copy_schedule.specs.SetLemmas.{lies_on_part}
 use Rattle.copy_schedule.proofs.kept.owing_on_screen.Goals as goal
 
 weaker : {A E : Type 0} (r : Result A E) (P Q : A → Type 0) → ((a : A) → P a → Q a) → IfOk r P → IfOk r Q

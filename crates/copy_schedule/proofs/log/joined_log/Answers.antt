@@ -3,7 +3,7 @@ use Rattle.std.proofs.lemmas.List.{drop_more}
 use Rattle.std.specs.List.{All}
 use Rattle.copy_schedule.specs.declared.LogEntry.{LogEntry}
 use Rattle.copy_schedule.specs.Log.{after_entry, logged, IsCutEntry}
-use Rattle.copy_schedule.proofs.LogLemmas.{reversed_is_cut}
+use Rattle.copy_schedule.specs.LogLemmas.{reversed_is_cut}
 use Rattle.copy_schedule.proofs.log.joined_log.Goals as goal
 
 pub loop-left-preserved : goal.loop-left-preserved

@@ -4,7 +4,7 @@ use Rattle.std.specs.Option.{option_to_list}
 use Rattle.copy_schedule.specs.declared.LogEntry.{LogEntry}
 use Rattle.copy_schedule.specs.declared.LogEntry.TheVariants.{Mark}
 use Rattle.copy_schedule.specs.Log.{IsCutEntry}
-use Rattle.copy_schedule.proofs.LogLemmas.{joins_mark, comes_before, front_is_cut, cut_append}
+use Rattle.copy_schedule.specs.LogLemmas.{joins_mark, comes_before, front_is_cut, cut_append}
 use Rattle.copy_schedule.proofs.log.mark_before.Goals as goal
 
 pub returns-in_ok-push-in-Some-Mark-clause-same : goal.returns-in_ok-push-in-Some-Mark-clause-same

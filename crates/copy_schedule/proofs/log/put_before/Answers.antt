@@ -3,7 +3,7 @@ use Rattle.std.specs.Prelude.{FitsSigned}
 use Rattle.std.specs.Int.{w32}
 use Rattle.std.proofs.lemmas.Int.{to_z-of_z}
 use Rattle.copy_schedule.specs.Log.{logged}
-use Rattle.copy_schedule.proofs.LogLemmas.{logged_before, joins_copy}
+use Rattle.copy_schedule.specs.LogLemmas.{logged_before, joins_copy}
 use Rattle.copy_schedule.proofs.log.put_before.Goals as goal
 
 -- what holds where a call succeeded

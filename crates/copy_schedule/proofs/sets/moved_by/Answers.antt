@@ -5,7 +5,7 @@ use Rattle.std.proofs.lemmas.Int.{to_z-of_z}
 use Rattle.region.specs.declared.Rect.{Rect}
 use Rattle.copy_schedule.specs.Kept.{LiesOn}
 use Rattle.copy_schedule.specs.Sets.{is_far_by}
-use Rattle.copy_schedule.proofs.SetLemmas.{near_stays, ok_holds, moved_places}
+use Rattle.copy_schedule.specs.SetLemmas.{near_stays, ok_holds, moved_places}
 use Rattle.copy_schedule.proofs.sets.moved_by.Goals as goal
 
 pub returns : goal.returns

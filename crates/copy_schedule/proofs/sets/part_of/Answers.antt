@@ -4,7 +4,7 @@ use Rattle.std.specs.Int.{w32}
 use Rattle.std.proofs.lemmas.Int.{to_z-of_z}
 use Rattle.region.specs.declared.Rect.{Rect}
 use Rattle.region.specs.Region.{in_rect}
-use Rattle.copy_schedule.proofs.SetLemmas.{part_places}
+use Rattle.copy_schedule.specs.SetLemmas.{part_places}
 use Rattle.copy_schedule.proofs.sets.part_of.Goals as goal
 
 pub returns : goal.returns

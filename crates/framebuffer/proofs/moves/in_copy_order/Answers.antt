@@ -2,7 +2,7 @@ use Rattle.std.proofs.Common.{◌∙◌, rules}
 use Rattle.std.specs.Prelude.{FitsSigned}
 use Rattle.std.specs.Int.{w32}
 use Rattle.std.proofs.lemmas.Int.{to_z-of_z}
-use Rattle.region.proofs.Places.{all-in_range}
+use Rattle.region.specs.PlaceLemmas.{all-in_range}
 use Rattle.framebuffer.proofs.MoveLemmas.{ordered-places, ordered-inside, ordered-sources, ordered-order}
 use Rattle.framebuffer.proofs.moves.in_copy_order.Goals as goal
 

@@ -1,7 +1,7 @@
 use Rattle.std.proofs.Common.{◌≡◌, ℕ, ◌+◌, ◌-◌, ◌*◌, ◌%◌, ◌^◌, ◌++◌, [], ◌∷◌, List, length, map, take, drop, sym, ap, ◌∙◌, arith, length-append, length-take, length-drop}
 use Rattle.std.proofs.lemmas.List.{flat_map_more, length-map}
 use Rattle.framebuffer.specs.Rows.{row_colours, colours_of_rows, IsOfWidth}
-use Rattle.framebuffer.proofs.BlockLemmas.{row_given}
+use Rattle.framebuffer.specs.BlockLemmas.{row_given}
 use Rattle.framebuffer.proofs.RowLemmas.{all_and_one, masked_more}
 use Rattle.framebuffer.proofs.rows.rows_with.Goals as goal
 

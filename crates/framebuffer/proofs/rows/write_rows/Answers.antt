@@ -1,7 +1,7 @@
 use Rattle.std.proofs.Common.{◌≡◌, ◌+◌, ◌-◌, ◌*◌, length, take, drop, refl, ap, ◌∙◌, arith, rules}
 use Rattle.std.proofs.lemmas.List.{places, length-take, length-drop}
 use Rattle.framebuffer.specs.Rows.{colours_of_rows}
-use Rattle.framebuffer.proofs.BlockLemmas.{row_given}
+use Rattle.framebuffer.specs.BlockLemmas.{row_given}
 use Rattle.framebuffer.proofs.RowLemmas.{own_set, wide_set, written_long, one_more_row}
 use Rattle.framebuffer.proofs.rows.write_rows.Goals as goal
 

@@ -1,6 +1,6 @@
 use Rattle.std.proofs.Common.{◌∙◌, sym, ap, reverse, true, false}
 use Rattle.region.specs.Region.{in_order}
-use Rattle.region.proofs.OrderLemmas.{in_order-plain, in_order-both, in_order-bands}
+use Rattle.region.specs.OrderLemmas.{in_order-plain, in_order-both, in_order-bands}
 use Rattle.region.proofs.lists.put_in_order.Goals as goal
 
 pub returns-in-true-true : goal.returns-in-true-true

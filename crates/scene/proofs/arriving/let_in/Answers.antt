@@ -3,7 +3,7 @@ use Rattle.std.specs.Map.{values_of}
 use Rattle.scene.specs.Held.{IsSized}
 use Rattle.scene.proofs.Kept.{all-last}
 use Rattle.viewer_list.specs.Viewers.{Viewers}
-use Rattle.viewer_list.proofs.SizeLemmas.{new_size}
+use Rattle.viewer_list.specs.SizeLemmas.{new_size}
 use Rattle.scene.proofs.arriving.let_in.Goals as goal
 
 pub returns-in-Err-clause-sized : goal.returns-in-Err-clause-sized

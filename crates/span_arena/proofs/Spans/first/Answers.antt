@@ -1,5 +1,5 @@
 use Rattle.span_arena.specs.Arena.{ids_of}
-use Rattle.span_arena.proofs.ViewLemmas.{ids_there}
+use Rattle.span_arena.specs.ViewLemmas.{ids_there}
 use Rattle.std.proofs.Common.{◌∙◌}
 use Rattle.span_arena.proofs.CallLemmas.{shows, has_head, first_there}
 use Rattle.span_arena.proofs.Spans.first.Goals as goal

@@ -1,5 +1,5 @@
 use Rattle.span_arena.specs.Arena.{ids_of}
-use Rattle.span_arena.proofs.ViewLemmas.{ids_there}
+use Rattle.span_arena.specs.ViewLemmas.{ids_there}
 use Rattle.std.proofs.Common.{◌∙◌}
 use Rattle.span_arena.proofs.CallLemmas.{shows, has_head, last_there_of}
 use Rattle.span_arena.proofs.Spans.last.Goals as goal

@@ -1,6 +1,6 @@
 use Rattle.std.proofs.Common.{[]}
 use Rattle.span_arena.specs.Arena.{ids_of}
-use Rattle.span_arena.proofs.ViewLemmas.{ids_there}
+use Rattle.span_arena.specs.ViewLemmas.{ids_there}
 use Rattle.slab.specs.Slab.{get}
 use Rattle.span_arena.proofs.ChangeLemmas.{linked}
 use Rattle.span_arena.proofs.CallLemmas.{same_held, shows_more, some_ring, ring_for, end_ring, placed_held, placed_lists, placed_spans, placed_fresh}

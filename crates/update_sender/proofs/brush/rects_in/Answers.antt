@@ -1,6 +1,6 @@
 use Rattle.std.proofs.Common.{◌≡◌, List, subst, IfOk}
 use Rattle.region.specs.declared.Rect.{Rect}
-use Rattle.region.proofs.OrderLemmas.{in_order-plain}
+use Rattle.region.specs.OrderLemmas.{in_order-plain}
 use Rattle.update_sender.proofs.brush.rects_in.Goals as goal
 
 pub returns-then-is_kept : goal.returns-then-is_kept

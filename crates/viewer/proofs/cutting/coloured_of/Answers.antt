@@ -1,5 +1,5 @@
 use Rattle.std.proofs.Common.{◌∙◌, length, ap}
-use Rattle.framebuffer.proofs.PictureLemmas.{colours_are, colours_long}
+use Rattle.framebuffer.specs.PictureLemmas.{colours_are, colours_long}
 use Rattle.viewer.proofs.cutting.coloured_of.Goals as goal
 
 pub invariant_of-result : goal.invariant_of-result

@@ -5,7 +5,7 @@ use Rattle.viewer.specs.Viewer.{KeptViewer}
 use Rattle.std.specs.Map.{values_of, lookup}
 use Rattle.std.specs.Option.{option_map}
 use Rattle.client_list.specs.Connected.{Connected}
-use Rattle.client_list.proofs.CallerLemmas.{lookup-mapped}
+use Rattle.client_list.specs.CallerLemmas.{lookup-mapped}
 use Rattle.std.proofs.lemmas.Bool.{or_parts}
 use Rattle.copy_schedule.specs.Marks.{has_asked}
 use Rattle.copy_schedule.specs.declared.LogEntry.{LogEntry}

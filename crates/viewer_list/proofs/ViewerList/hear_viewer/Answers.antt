@@ -14,7 +14,7 @@ use Rattle.viewer_list.proofs.LagLemmas.{alike_asks_nothing}
 use Rattle.viewer_list.proofs.ListLemmas.{viewer-some, viewer-absent, viewer-set, viewer-same, size-set, all-numbered, all-set}
 use Rattle.viewer_list.specs.Viewers.{Viewers, IsOfSize}
 use Rattle.std.specs.Map.{values_of}
-use Rattle.viewer_list.proofs.SizeLemmas.{heard_size}
+use Rattle.viewer_list.specs.SizeLemmas.{heard_size}
 use Rattle.viewer_list.proofs.ViewerList.hear_viewer.Goals as goal
 
 pub returns-in_default-clause-reply : goal.returns-in_default-clause-reply

@@ -1,6 +1,6 @@
 use Rattle.std.proofs.Common.{◌∙◌, sym, ap, Result, Ok, Err, IfOk}
 use Rattle.std.specs.Map.{keys_of}
-use Rattle.client_list.proofs.CallerLemmas.{keys-mapped}
+use Rattle.client_list.specs.CallerLemmas.{keys-mapped}
 use Rattle.viewer_list.specs.Viewers.{Viewers}
 use Rattle.viewer_list.specs.Lagging.{caught_up}
 use Rattle.viewer_list.proofs.ViewerList.numbers.Goals as goal

@@ -2,7 +2,7 @@ use Rattle.std.proofs.Common.{ℕ, map, drop, reverse, sym, ap, ◌∙◌, arith
 use Rattle.std.specs.Map.{values_of}
 use Rattle.std.proofs.lemmas.Option.{same_Some, none-some}
 use Rattle.client_list.specs.Connected.{Connected}
-use Rattle.client_list.proofs.Walks.{change_step, change_end, take_step, keys-changed}
+use Rattle.client_list.specs.WalkLemmas.{change_step, change_end, take_step, keys-changed}
 use Rattle.viewer.specs.declared.notices.Notice.TheVariants as notice
 use Rattle.viewer_list.specs.declared.lagging.Lagging.{Lagging}
 use Rattle.viewer_list.specs.Lagging.{told_of}

@@ -1,5 +1,5 @@
 use Rattle.std.proofs.Common.{◌∙◌, ap, ◌++◌, ◌∷◌, [], Option}
-use Rattle.client_list.proofs.Walks.{read_step}
+use Rattle.client_list.specs.WalkLemmas.{read_step}
 use Rattle.viewer.specs.declared.notices.Notice.{Notice}
 use Rattle.viewer_list.specs.declared.lagging.Lagging.{Lagging}
 use Rattle.viewer_list.specs.Viewers.{text_for}

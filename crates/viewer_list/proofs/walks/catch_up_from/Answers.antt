@@ -1,7 +1,7 @@
 use Rattle.std.proofs.Common.{◌∙◌, ℕ, sym, ap, subst, List, All}
 use Rattle.std.specs.Map.{values_of}
 use Rattle.client_list.specs.Connected.{Connected, changed, passed, index_of, set_value_at}
-use Rattle.client_list.proofs.Walks.{walk_value, keys-changed, change_step, change_end}
+use Rattle.client_list.specs.WalkLemmas.{walk_value, keys-changed, change_step, change_end}
 use Rattle.viewer_list.specs.declared.lagging.Lagging.{Lagging}
 use Rattle.viewer_list.specs.Lagging.{brought_up, seen, Fits}
 use Rattle.viewer_list.proofs.LagLemmas.{brought_up_fits}

@@ -1,6 +1,6 @@
 use Rattle.std.proofs.Common.{◌-◌, length}
 use Rattle.client_list.specs.Connected.{changed, passed}
-use Rattle.client_list.proofs.Walks.{IsWalk}
+use Rattle.client_list.specs.WalkLemmas.{IsWalk}
 use Rattle.viewer_list.specs.Lagging.{brought_up, IsShared}
 use Rattle.viewer_list.proofs.walks.catch_up_from.Given as goal
 

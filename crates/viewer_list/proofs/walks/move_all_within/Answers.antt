@@ -1,4 +1,4 @@
-use Rattle.client_list.proofs.Walks.{change_step}
+use Rattle.client_list.specs.WalkLemmas.{change_step}
 use Rattle.viewer_list.specs.Lagging.{within_end}
 use Rattle.viewer_list.proofs.walks.move_all_within.Goals as goal
 

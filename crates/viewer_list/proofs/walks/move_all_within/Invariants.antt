@@ -1,6 +1,6 @@
 use Rattle.std.proofs.Common.{◌-◌, length}
 use Rattle.client_list.specs.Connected.{changed, passed}
-use Rattle.client_list.proofs.Walks.{IsWalk}
+use Rattle.client_list.specs.WalkLemmas.{IsWalk}
 use Rattle.viewer_list.specs.Lagging.{within_end}
 use Rattle.viewer_list.proofs.walks.move_all_within.Given as goal
 

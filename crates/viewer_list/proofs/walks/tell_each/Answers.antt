@@ -2,7 +2,7 @@ use Rattle.std.proofs.Common.{◌≡◌, ◌∙◌, ◌++◌, ◌+◌, ◌≤◌
 use Rattle.std.specs.List.{filter_map, cons_option}
 use Rattle.std.specs.Map.{values_of}
 use Rattle.client_list.specs.Connected.{Connected, changed, passed, index_of}
-use Rattle.client_list.proofs.Walks.{walk_value, keys-changed, change_step}
+use Rattle.client_list.specs.WalkLemmas.{walk_value, keys-changed, change_step}
 use Rattle.copy_schedule.specs.Marks.{Marks}
 use Rattle.viewer_list.specs.declared.lagging.Lagging.{Lagging}
 use Rattle.viewer_list.specs.Lagging.{told}

@@ -2,7 +2,7 @@ use Rattle.std.proofs.Common.{◌≡◌, ◌-◌, drop, reverse, length}
 use Rattle.std.specs.List.{filter_map}
 use Rattle.std.specs.Map.{values_of}
 use Rattle.client_list.specs.Connected.{changed, passed}
-use Rattle.client_list.proofs.Walks.{IsWalk}
+use Rattle.client_list.specs.WalkLemmas.{IsWalk}
 use Rattle.viewer_list.specs.declared.lagging.Lagging.{Lagging}
 use Rattle.viewer_list.specs.Lagging.{told}
 use Rattle.viewer_list.specs.Viewers.{told_at_once}

@@ -2,11 +2,11 @@ use Rattle.std.proofs.Common.{◌≡◌, List, ◌∙◌, sym, ap, subst, ℤ, c
 use Rattle.std.specs.List.{All}
 use Rattle.region.specs.declared.Rect.{Rect}
 use Rattle.region.specs.Copies.{InOrder}
-use Rattle.region.proofs.CopyOrder.{copies-in-order, in-order-take}
+use Rattle.region.specs.CopyOrderLemmas.{copies-in-order, in-order-take}
 use Rattle.region.specs.Places.{IsOnScreen, source_rect}
 use Rattle.copy_schedule.specs.Marks.{after_sending, copies_of, pixels_of, pending, copyable}
-use Rattle.copy_schedule.proofs.CutLemmas.{copies_on_screen, sources_inside, pixels_on_screen}
-use Rattle.copy_schedule.proofs.KeptLemmas.{settled_are}
+use Rattle.copy_schedule.specs.CutLemmas.{copies_on_screen, sources_inside, pixels_on_screen}
+use Rattle.copy_schedule.specs.KeptLemmas.{settled_are}
 use Rattle.copy_schedule.proofs.marks.Marks.cut.Goals as goal
 
 pub returns-clause-after : goal.returns-clause-after

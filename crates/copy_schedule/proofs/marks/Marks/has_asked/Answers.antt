@@ -1,6 +1,6 @@
 use Rattle.std.proofs.Common.{◌∙◌, ap}
 use Rattle.copy_schedule.specs.Marks.{has_asked}
-use Rattle.copy_schedule.proofs.LogLemmas.{asked_by_list}
+use Rattle.copy_schedule.specs.LogLemmas.{asked_by_list}
 use Rattle.copy_schedule.proofs.marks.Marks.has_asked.Goals as goal
 
 pub returns : goal.returns

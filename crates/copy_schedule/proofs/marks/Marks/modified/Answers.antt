@@ -1,6 +1,6 @@
 use Rattle.std.proofs.Common.{subst, refl}
 use Rattle.copy_schedule.specs.Marks.{Marks}
-use Rattle.copy_schedule.proofs.KeptLemmas.{Shows, owed_listed}
+use Rattle.copy_schedule.specs.KeptLemmas.{Shows, owed_listed}
 use Rattle.copy_schedule.proofs.marks.Marks.modified.Goals as goal
 
 pub returns : goal.returns

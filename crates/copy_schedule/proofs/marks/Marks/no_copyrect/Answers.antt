@@ -3,7 +3,7 @@ use Rattle.region.specs.Region.{covers}
 use Rattle.region.specs.Places.{by_place}
 use Rattle.copy_schedule.specs.Marks.{Marks, without_copyrect}
 use Rattle.copy_schedule.specs.Kept.{kept_mark}
-use Rattle.copy_schedule.proofs.KeptLemmas.{Shows, uncopied_are}
+use Rattle.copy_schedule.specs.KeptLemmas.{Shows, uncopied_are}
 use Rattle.copy_schedule.proofs.marks.Marks.no_copyrect.Goals as goal
 
 pub invariant_of-self : goal.invariant_of-self

@@ -7,7 +7,7 @@ use Rattle.copy_schedule.specs.declared.kept.Kept.{Kept}
 use Rattle.region.specs.Places.{by_place}
 use Rattle.copy_schedule.specs.Marks.{Marks, pending}
 use Rattle.copy_schedule.specs.Kept.{kept_mark}
-use Rattle.copy_schedule.proofs.KeptLemmas.{Shows, pending_there, pending_nowhere, not_shared}
+use Rattle.copy_schedule.specs.KeptLemmas.{Shows, pending_there, pending_nowhere, not_shared}
 use Rattle.copy_schedule.proofs.marks.Marks.pending.Goals as goal
 
 pub returns-then-meets : goal.returns-then-meets

@@ -7,8 +7,8 @@ use Rattle.copy_schedule.specs.declared.Mark.TheVariants.{Owed}
 use Rattle.region.specs.Places.{by_place, same_offset}
 use Rattle.copy_schedule.specs.Marks.{Marks, copied_by, lost_to, moved, IsCutTo, is_copied}
 use Rattle.copy_schedule.specs.Kept.{kept_mark, IsKept, with_kept}
-use Rattle.copy_schedule.proofs.SetLemmas.{cut_lies, cut_wider, wider}
-use Rattle.copy_schedule.proofs.KeptLemmas.{Shows, kept_wider, shows_new, lost_are, moved_are}
+use Rattle.copy_schedule.specs.SetLemmas.{cut_lies, cut_wider, wider}
+use Rattle.copy_schedule.specs.KeptLemmas.{Shows, kept_wider, shows_new, lost_are, moved_are}
 use Rattle.copy_schedule.proofs.marks.Marks.prepare_copy.Goals as goal
 
 pub losing-requires-clause-drawn : goal.losing-requires-clause-drawn

@@ -6,7 +6,7 @@ use Rattle.region.specs.Region.{covers}
 use Rattle.region.specs.Places.{by_place}
 use Rattle.copy_schedule.specs.Marks.{Marks, marked}
 use Rattle.copy_schedule.specs.Kept.{kept_mark, IsKept, with_kept}
-use Rattle.copy_schedule.proofs.KeptLemmas.{Shows, marked_are}
+use Rattle.copy_schedule.specs.KeptLemmas.{Shows, marked_are}
 use Rattle.copy_schedule.proofs.marks.Marks.prepare_mark.Goals as goal
 
 pub prepared-requires : goal.prepared-requires

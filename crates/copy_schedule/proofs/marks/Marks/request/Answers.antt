@@ -6,8 +6,8 @@ use Rattle.region.specs.Region.{covers, in_rect, on_screen}
 use Rattle.region.specs.Places.{by_place}
 use Rattle.copy_schedule.specs.Marks.{Marks, asked_for, forgotten, requested}
 use Rattle.copy_schedule.specs.Kept.{kept_mark}
-use Rattle.copy_schedule.proofs.SetLemmas.{lies_on_part, lies_either, unmoved}
-use Rattle.copy_schedule.proofs.KeptLemmas.{Shows, forgotten_are, asked_are}
+use Rattle.copy_schedule.specs.SetLemmas.{lies_on_part, lies_either, unmoved}
+use Rattle.copy_schedule.specs.KeptLemmas.{Shows, forgotten_are, asked_are}
 use Rattle.copy_schedule.proofs.marks.Marks.request.Goals as goal
 
 pub invariant_of-self : goal.invariant_of-self

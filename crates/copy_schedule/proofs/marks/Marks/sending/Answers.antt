@@ -7,9 +7,9 @@ use Rattle.region.specs.Region.{covers, order}
 use Rattle.region.specs.Places.{by_place, IsOnScreen}
 use Rattle.copy_schedule.specs.Marks.{Marks, copies_of, pixels_of, mark_at, is_clean}
 use Rattle.copy_schedule.specs.Kept.{kept_mark}
-use Rattle.copy_schedule.proofs.CutLemmas.{copies_on_screen, pixels_on_screen}
-use Rattle.region.proofs.OrderLemmas.{in_order-plain}
-use Rattle.copy_schedule.proofs.KeptLemmas.{Shows, copies_listed, pixels_listed, left_is, screen_wider}
+use Rattle.copy_schedule.specs.CutLemmas.{copies_on_screen, pixels_on_screen}
+use Rattle.region.specs.OrderLemmas.{in_order-plain}
+use Rattle.copy_schedule.specs.KeptLemmas.{Shows, copies_listed, pixels_listed, left_is, screen_wider}
 use Rattle.copy_schedule.proofs.marks.Marks.sending.Goals as goal
 
 pub left_after-requires-clause-copies : goal.left_after-requires-clause-copies

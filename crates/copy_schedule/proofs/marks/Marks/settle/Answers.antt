@@ -5,7 +5,7 @@ use Rattle.copy_schedule.specs.declared.Mark.TheVariants.{Owed, Clean}
 use Rattle.region.specs.Places.{by_place}
 use Rattle.copy_schedule.specs.Marks.{Marks, with_marks}
 use Rattle.copy_schedule.specs.Kept.{kept_mark}
-use Rattle.copy_schedule.proofs.KeptLemmas.{Shows, none_asked, only_owed}
+use Rattle.copy_schedule.specs.KeptLemmas.{Shows, none_asked, only_owed}
 use Rattle.copy_schedule.proofs.marks.Marks.settle.Goals as goal
 
 pub returns : goal.returns

@@ -9,7 +9,7 @@ use Rattle.copy_schedule.specs.Log.{IsCutEntry}
 use Rattle.copy_schedule.specs.declared.LogEntry.TheVariants.{Copy}
 use Rattle.viewer_list.specs.Viewers.{drawn}
 use Rattle.framebuffer.specs.Picture.{union_of, moved}
-use Rattle.framebuffer.proofs.PictureLemmas.{idle}
+use Rattle.framebuffer.specs.PictureLemmas.{idle}
 use Rattle.scene.specs.declared.Event.TheVariants.{DoCopy}
 use Rattle.viewer.specs.Viewer.{KeptViewer}
 use Rattle.std.specs.Map.{values_of}

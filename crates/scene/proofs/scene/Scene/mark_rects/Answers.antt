@@ -3,7 +3,7 @@ use Rattle.scene.specs.declared.Event.TheVariants.{Mark}
 use Rattle.viewer.specs.Viewer.{KeptViewer, viewer_marked}
 use Rattle.scene.specs.Answers.{SceneState}
 use Rattle.framebuffer.specs.Picture.{union_of}
-use Rattle.viewer_list.proofs.SizeLemmas.{marked_size}
+use Rattle.viewer_list.specs.SizeLemmas.{marked_size}
 use Rattle.scene.proofs.Drawn.{state-drawn, sized-changed}
 use Rattle.scene.proofs.scene.Scene.mark_rects.Goals as goal
 

@@ -2,7 +2,7 @@ use Rattle.std.proofs.Common.{ℕ, sym, ap, ◌∙◌, List, refl}
 use Rattle.region.specs.Region.{covers}
 use Rattle.scene.specs.declared.Event.TheVariants.{Mark}
 use Rattle.viewer.specs.Viewer.{KeptViewer, viewer_marked}
-use Rattle.viewer_list.proofs.SizeLemmas.{marked_size}
+use Rattle.viewer_list.specs.SizeLemmas.{marked_size}
 use Rattle.scene.specs.Answers.{SceneState}
 use Rattle.scene.proofs.Owing.{region-straight}
 use Rattle.scene.proofs.Drawn.{state-drawn, sized-changed}

@@ -1,6 +1,6 @@
 use Rattle.std.proofs.Common.{◌≡◌, List, subst, IfOk}
 use Rattle.region.specs.declared.Rect.{Rect}
-use Rattle.region.proofs.OrderLemmas.{in_order-plain}
+use Rattle.region.specs.OrderLemmas.{in_order-plain}
 use Rattle.screen.proofs.kept_events.KeptEvents.rects_of.Goals as goal
 
 pub returns-then-is_kept : goal.returns-then-is_kept

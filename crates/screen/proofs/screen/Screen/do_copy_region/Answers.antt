@@ -5,7 +5,7 @@ use Rattle.std.proofs.lemmas.Int.{to_z-of_z}
 use Rattle.region.specs.declared.Rect.{Rect}
 use Rattle.scene.specs.declared.Event.TheVariants.{DoCopy}
 use Rattle.screen.specs.State.{state}
-use Rattle.region.proofs.OrderLemmas.{in_order-plain}
+use Rattle.region.specs.OrderLemmas.{in_order-plain}
 use Rattle.screen.proofs.screen.Screen.do_copy_region.Goals as goal
 
 pub returns-clause-step : goal.returns-clause-step

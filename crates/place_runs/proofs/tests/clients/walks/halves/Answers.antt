@@ -1,5 +1,5 @@
 use Rattle.std.proofs.Common.{◌∙◌, ◌/◌}
-use Rattle.client_list.proofs.Walks.{read_step}
+use Rattle.client_list.specs.WalkLemmas.{read_step}
 use Rattle.place_runs.proofs.tests.clients.walks.halves.Goals as goal
 
 pub loop-place-preserved : goal.loop-place-preserved

@@ -2,7 +2,7 @@ use Rattle.std.proofs.Common.{ℕ, ◌/◌, ◌∙◌, map, reverse, drop, sym, 
 use Rattle.std.specs.Map.{values_of}
 use Rattle.std.proofs.lemmas.Option.{same_Some, none-some}
 use Rattle.client_list.specs.Connected.{Connected, changed}
-use Rattle.client_list.proofs.Walks.{keys-changed, change_step, take_step}
+use Rattle.client_list.specs.WalkLemmas.{keys-changed, change_step, take_step}
 use Rattle.place_runs.proofs.tests.clients.walks.put_halves.Goals as goal
 use Rattle.place_runs.proofs.tests.clients.walks.put_halves.Goals.{in-Some-pop, in_default-pop}
 

@@ -1,7 +1,7 @@
 use Rattle.std.proofs.Common.{◌≡◌, ◌-◌, ◌/◌, map, drop, reverse, length}
 use Rattle.std.specs.Map.{values_of}
 use Rattle.client_list.specs.Connected.{changed, passed}
-use Rattle.client_list.proofs.Walks.{IsWalk}
+use Rattle.client_list.specs.WalkLemmas.{IsWalk}
 use Rattle.place_runs.proofs.tests.clients.walks.put_halves.Given as goal
 
 -- the viewers that were passed have their halves, and those of the others are left, the last one's first

@@ -1,5 +1,5 @@
 use Rattle.std.proofs.Common.{◌+◌, min}
-use Rattle.client_list.proofs.Walks.{change_step}
+use Rattle.client_list.specs.WalkLemmas.{change_step}
 use Rattle.place_runs.proofs.tests.clients.walks.raise_all.Goals as goal
 
 pub loop-place-preserved : goal.loop-place-preserved

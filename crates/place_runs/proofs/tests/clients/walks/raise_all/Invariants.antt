@@ -1,6 +1,6 @@
 use Rattle.std.proofs.Common.{◌+◌, ◌-◌, length, min}
 use Rattle.client_list.specs.Connected.{changed, passed}
-use Rattle.client_list.proofs.Walks.{IsWalk}
+use Rattle.client_list.specs.WalkLemmas.{IsWalk}
 use Rattle.place_runs.proofs.tests.clients.walks.raise_all.Given as goal
 
 -- the viewers that were passed have their new values

@@ -1,4 +1,4 @@
-use Rattle.span_arena.proofs.WalkLemmas.{walk_first, walk_in, walk_on}
+use Rattle.span_arena.specs.WalkLemmas.{walk_first, walk_in, walk_on}
 use Rattle.place_runs.proofs.tests.spans.walks.is_same.Goals as goal
 
 pub loop-start-init : goal.loop-start-init

@@ -1,4 +1,4 @@
-use Rattle.span_arena.proofs.WalkLemmas.{Walked}
+use Rattle.span_arena.specs.WalkLemmas.{Walked}
 use Rattle.place_runs.proofs.tests.spans.walks.is_same.Given as goal
 
 abbrev pub invariant-loop-start : goal.invariant-loop-start

@@ -1,4 +1,4 @@
-use Rattle.span_arena.proofs.WalkLemmas.{walk_first, walk_in, walk_on, walk_past, walk_falls, walk_falls_past}
+use Rattle.span_arena.specs.WalkLemmas.{walk_first, walk_in, walk_on, walk_past, walk_falls, walk_falls_past}
 use Rattle.place_runs.proofs.tests.spans.walks.remove_empty.Goals as goal
 
 pub loop-place-init : goal.loop-place-init

@@ -1,4 +1,4 @@
-use Rattle.span_arena.proofs.WalkLemmas.{Walked, ahead}
+use Rattle.span_arena.specs.WalkLemmas.{Walked, ahead}
 use Rattle.place_runs.proofs.tests.spans.walks.remove_empty.Given as goal
 
 abbrev pub invariant-loop-place : goal.invariant-loop-place

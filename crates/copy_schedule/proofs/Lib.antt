@@ -1,4 +1,0 @@
-pub mod CutLemmas
-mod SetLemmas
-pub mod KeptLemmas
-pub mod LogLemmas
