@@ -11,7 +11,7 @@ ghost use Rattle.row_walks.specs.Steps.{closed};
 mod steps;
 
 use band_list::{BandList, Interval, Reader};
-use steps::{common_step, nearer, next_step, rows_start, skip_ended, skip_ended_of};
+use steps::{common_step, first_after, first_after_of, nearer, next_step, rows_start};
 
 /// Which places of two sets are kept.
 #[derive(Clone, Copy, Debug, PartialEq, Eq)]
@@ -60,18 +60,20 @@ pub fn make_row(bands: &mut BandList, other: &mut Reader, keep: Keep)
     ensures same { bands.new ≡ record bands.old { row = bands.new.row; left = []; spare = bands.new.spare } }
     ensures read { other.new ≡ record other.old { left = [] } }
 {
-    let mut x = rows_start(bands.first_left(), other.first_left());
+    let mut a = bands.first_left();
+    let mut b = other.first_left();
+    let mut x = rows_start(a, b);
     let mut from = x;
     let mut is_open = false;
-    while let Some(step) = next_step(bands.first_left(), other.first_left(), x) {
+    while let Some(step) = next_step(a, b, x) {
         let keeps = keep.keeps(step.in_first, step.in_second);
         if keeps != is_open {
             close(bands, is_open, Interval { from, to: x });
             from = x;
             is_open = keeps;
         }
-        skip_ended(bands, step.edge);
-        skip_ended_of(other, step.edge);
+        a = first_after(bands, a, step.edge);
+        b = first_after_of(other, b, step.edge);
         x = step.edge;
     }
     let last = Interval { from, to: x };
@@ -88,18 +90,20 @@ pub fn count_row(first: &mut Reader, second: &mut Reader, keep: Keep) -> usize
     ensures first_read { first.new ≡ record first.old { left = [] } }
     ensures second_read { second.new ≡ record second.old { left = [] } }
 {
-    let mut x = rows_start(first.first_left(), second.first_left());
+    let mut a = first.first_left();
+    let mut b = second.first_left();
+    let mut x = rows_start(a, b);
     let mut is_open = false;
     let mut count = 0;
-    while let Some(step) = next_step(first.first_left(), second.first_left(), x) {
+    while let Some(step) = next_step(a, b, x) {
         let keeps = keep.keeps(step.in_first, step.in_second);
         // An interval counts where it ends.
         if is_open && !keeps {
             count += 1;
         }
         is_open = keeps;
-        skip_ended_of(first, step.edge);
-        skip_ended_of(second, step.edge);
+        a = first_after_of(first, a, step.edge);
+        b = first_after_of(second, b, step.edge);
         x = step.edge;
     }
     if is_open { count + 1 } else { count }
@@ -125,21 +129,21 @@ pub fn same_kept(
     ensures third_read { third.new.bands ≡ third.old.bands }
     ensures fourth_read { fourth.new.bands ≡ fourth.old.bands }
 {
-    let one = rows_start(first.first_left(), second.first_left());
-    let other = rows_start(third.first_left(), fourth.first_left());
+    let mut a = first.first_left();
+    let mut b = second.first_left();
+    let mut c = third.first_left();
+    let mut d = fourth.first_left();
+    let one = rows_start(a, b);
+    let other = rows_start(c, d);
     let mut x = nearer(one, other);
-    while let Some(step) = common_step(
-        keep,
-        next_step(first.first_left(), second.first_left(), x),
-        next_step(third.first_left(), fourth.first_left(), x),
-    ) {
+    while let Some(step) = common_step(keep, next_step(a, b, x), next_step(c, d, x)) {
         if !step.agrees {
             return false;
         }
-        skip_ended_of(first, step.edge);
-        skip_ended_of(second, step.edge);
-        skip_ended_of(third, step.edge);
-        skip_ended_of(fourth, step.edge);
+        a = first_after_of(first, a, step.edge);
+        b = first_after_of(second, b, step.edge);
+        c = first_after_of(third, c, step.edge);
+        d = first_after_of(fourth, d, step.edge);
         x = step.edge;
     }
     true

@@ -1,6 +1,6 @@
 //! One step of a walk over two rows.
 
-ghost use Rattle.std.specs.Prelude.{◌≡◌, int_le};
+ghost use Rattle.std.specs.Prelude.{◌≡◌, int_le, slice_get};
 ghost use Rattle.row_walks.specs.Steps.{edge_of, next_step, later, nearer, start_of, common_step};
 
 use crate::Keep;
@@ -74,25 +74,41 @@ pub(crate) fn rows_start(first: Option<Interval>, second: Option<Interval>) -> i
     }
 }
 
-/// Reads on past the first interval that is left, if it ends by the edge.
-pub(crate) fn skip_ended(bands: &mut BandList, edge: i32)
-    ensures { bands.new ≡ record bands.old { left = later edge bands.old.left } }
+/// Reads on past the interval, the first that is left, if it ends by the edge, and gives the first that is left then.
+pub(crate) fn first_after(
+    bands: &mut BandList,
+    first: Option<Interval>,
+    edge: i32,
+) -> Option<Interval>
+    requires { first ≡ slice_get bands.old.left 0 }
+    ensures left { bands.new ≡ record bands.old { left = later edge bands.old.left } }
+    ensures first { result ≡ slice_get (later edge bands.old.left) 0 }
 {
-    if let Some(interval) = bands.first_left() {
-        if interval.to <= edge {
-            bands.skip_left();
-        }
+    let interval = first?;
+    if interval.to <= edge {
+        bands.skip_left();
+        bands.first_left()
+    } else {
+        first
     }
 }
 
-/// Reads on past the first interval that is left, if it ends by the edge.
-pub(crate) fn skip_ended_of(reader: &mut Reader, edge: i32)
-    ensures { reader.new ≡ record reader.old { left = later edge reader.old.left } }
+/// Reads on past the interval, the first that is left, if it ends by the edge, and gives the first that is left then.
+pub(crate) fn first_after_of(
+    reader: &mut Reader,
+    first: Option<Interval>,
+    edge: i32,
+) -> Option<Interval>
+    requires { first ≡ slice_get reader.old.left 0 }
+    ensures left { reader.new ≡ record reader.old { left = later edge reader.old.left } }
+    ensures first { result ≡ slice_get (later edge reader.old.left) 0 }
 {
-    if let Some(interval) = reader.first_left() {
-        if interval.to <= edge {
-            reader.skip_left();
-        }
+    let interval = first?;
+    if interval.to <= edge {
+        reader.skip_left();
+        reader.first_left()
+    } else {
+        first
     }
 }
 
