@@ -137,13 +137,13 @@ pub record Ready (a : Arena) (lists : Option Lists) (gap left : Option ℕ) (v :
   pub is : lists ≡ Some some
   pub holds : Holds a some.bands some.row gap left (record v { spare = a.spare })
 
-pub is_there : (lists : Option Lists) (b : Bool) → is_some lists ≡ not b → b ≡ false → (some : Lists) × (lists ≡ Some some)
-is_there None b test none = absurd (let is : false ≡ true = test ∙ ap not none in cc)
-is_there (Some some) b test none = (some, refl)
+pub is_there : (lists : Option Lists) → is_some lists ≡ true → (some : Lists) × (lists ≡ Some some)
+is_there None there = absurd (cc)
+is_there (Some some) there = (some, refl)
 
-pub is_absent : (lists : Option Lists) (b : Bool) → is_some lists ≡ not b → b ≡ true → lists ≡ None
-is_absent None b test some = refl
-is_absent (Some lists) b test some = absurd (let is : true ≡ false = test ∙ ap not some in cc)
+pub is_absent : (lists : Option Lists) → is_some lists ≡ false → lists ≡ None
+is_absent None absent = refl
+is_absent (Some lists) absent = absurd (cc)
 
 module _ (a : Arena) (lists : Option Lists) (gap left : Option ℕ) (v : Bands) (held : IsHeld a lists gap left) (is : view_of a lists gap left ≡ v) where
   pub ready_before : (some : Lists) → lists ≡ Some some → Ready a lists gap left v
@@ -247,3 +247,14 @@ module _ (a : Arena) (lists : Option Lists) (gap left : Option ℕ) (r : Reading
 
   pub read_left : all_shown.left ≡ r.left
   read_left = ap (λ (x : Reading). x.left) is
+
+-- the same lists in another arena
+pub cloned_shows : (a b : Arena) → b.lists ≡ a.lists → b.spans ≡ a.spans → (lists : Option Lists) (gap left : Option ℕ) (v : Bands) → IsHeld a lists gap left → view_of a lists gap left ≡ v → Shows b lists gap left (record v { spare = (view_of b lists gap left).spare })
+cloned_shows a b same_lists same_spans lists gap left v held is = by lists (shown a lists gap left v held is)
+  where
+    more : b ≡ record a { spare = b.spare }
+    more = ap (λ (l : List (Option (List ℕ))). record b { lists = l }) same_lists ∙ ap (λ (s : List (Option Span)). record a { spans = s; spare = b.spare }) same_spans
+
+    by : (l : Option Lists) → Shows a l gap left v → Shows b l gap left (record v { spare = (view_of b l gap left).spare })
+    by None shows = (shows.0, shows.1, ap (λ (w : Bands). record w { spare = 0 }) shows.2)
+    by (Some some) h = roomier a b more some.bands some.row gap left v h

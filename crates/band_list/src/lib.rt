@@ -5,7 +5,7 @@
 //! `linked` has the changes of one list of spans of which the calls are made.
 #![tactic(auto)]
 
-ghost use Rattle.std.specs.Prelude.{◌≡◌, ◌≢◌, ◌≤◌, ◌+◌, ◌++◌, ◌∷◌, ◌↔◌, [], List, IsTrue, OnOk, true, false, slice_get, length};
+ghost use Rattle.std.specs.Prelude.{◌≡◌, ◌≢◌, ◌<◌, ◌≤◌, ◌+◌, ◌++◌, ◌∷◌, ◌↔◌, [], List, IsTrue, IfOk, OnOk, true, false, slice_get, length};
 ghost use Rattle.std.specs.Option.{option_map};
 ghost use Rattle.std.specs.List.{last_or};
 ghost use Rattle.band_list.specs.Bands.{Band, nothing, rows_of, row_of, band_with, first_row, nodes_in, reading};
@@ -74,19 +74,46 @@ impl BandList {
         }
     }
 
+    /// The same bands and row, with the gap at the same place.
+    pub fn try_clone(&self) -> Result<Self, AllocError>
+        ensures { IfOk result (λ copy. copy ≡ record self.now { spare = copy.spare }) }
+    {
+        Ok(BandList {
+            spans: self.spans.try_clone()?,
+            lists: self.lists,
+            gap: self.gap,
+            left: self.left,
+        })
+    }
+
+    /// Whether more than three quarters of the arena are room, so that a copy of it is much larger than the bands. Which
+    /// these are is in no clause, but that there is room.
+    pub fn is_sparse(&self) -> bool
+        ensures { result ≡ true → 0 < self.now.spare }
+    {
+        match self.lists {
+            Some(_) => self.spans.is_sparse(),
+            None => false,
+        }
+    }
+
     /// Makes room for so many nodes more. No band and no row changes, also where the room is refused.
     pub fn reserve(&mut self, more: usize) -> Result<(), AllocError>
         ensures room { OnOk result (more ≤ self.new.spare) }
         ensures kept { self.old.spare ≤ self.new.spare }
         ensures same { self.new ≡ record self.old { spare = self.new.spare } }
     {
-        if self.lists.is_none() {
-            self.spans.reserve(2)?;
-            let bands = new_list(&mut self.spans);
-            let row = new_list(&mut self.spans);
-            self.lists = Some(Lists { bands, row });
+        if self.lists.is_some() {
+            return self.spans.reserve(more);
         }
-        self.spans.reserve(more)
+        let Some(nodes) = more.checked_add(2) else {
+            return Err(AllocError);
+        };
+        self.spans.reserve(nodes)?;
+        let bands = new_list(&mut self.spans);
+        let row = new_list(&mut self.spans);
+        self.lists = Some(Lists { bands, row });
+        Ok(())
     }
 
     /// Moves the gap before all bands.

@@ -4,3 +4,4 @@ pub mod CutLemmas
 pub mod HeadLemmas
 pub mod CallLemmas
 pub mod FreeLemmas
+pub mod CloneLemmas

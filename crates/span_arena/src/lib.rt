@@ -5,7 +5,7 @@
 //! `nodes` has the nodes and changes their links.
 #![tactic(auto)]
 
-ghost use Rattle.std.specs.Prelude.{◌≡◌, ◌<◌, ◌≤◌, ◌+◌, ◌++◌, ◌∷◌, [], ℕ, List, None, Some, IsOk, IsSome, IfOk, OnOk, OnErr, length, slice_get, if◌then◌else◌, ◌==◌};
+ghost use Rattle.std.specs.Prelude.{◌≡◌, ◌<◌, ◌≤◌, ◌+◌, ◌++◌, ◌∷◌, [], ℕ, List, None, Some, true, IsOk, IsSome, IfOk, OnOk, OnErr, length, slice_get, if◌then◌else◌, ◌==◌};
 ghost use Rattle.span_arena.specs.Arena.{list_of, ids_of, span_of, last_in, IsIn, IsSound, SetsList, SetsSpan, SpansGone, SameLists, SameSpans};
 
 mod nodes;
@@ -94,6 +94,24 @@ impl Spans {
         Spans {
             nodes: Slab::new(alloc),
         }
+    }
+
+    /// The same lists and spans under the same ids, in an arena of their own.
+    pub fn try_clone(&self) -> Result<Self, AllocError>
+        ensures lists { IfOk result (λ copy. copy.lists ≡ self.now.lists) }
+        ensures spans { IfOk result (λ copy. copy.spans ≡ self.now.spans) }
+    {
+        Ok(Spans {
+            nodes: self.nodes.clone()?,
+        })
+    }
+
+    /// Whether more than three quarters of the arena are room, so that a copy of it is much larger than its lists. Which
+    /// arenas these are is in no clause, but that there is room.
+    pub fn is_sparse(&self) -> bool
+        ensures { result ≡ true → 0 < self.now.spare }
+    {
+        self.nodes.len() < self.nodes.capacity() / 4
     }
 
     /// Makes room for so many lists and spans more, so that as many calls of `new_list`, `push_back` and `insert_before`

@@ -6,3 +6,4 @@ pub mod RangeLemmas
 pub mod OrderLemmas
 pub mod RoomLemmas
 pub mod SizeLemmas
+pub mod StackLemmas

@@ -17,6 +17,7 @@ ghost use Rattle.span_region.specs.Room.{IsRoomFor};
 mod listing;
 mod moves;
 mod sizes;
+mod stacking;
 
 use band_list::{BandList, Interval, Reader, Rows};
 use band_walks::{count_kept, count_room, keep_bands, move_gap};
@@ -26,6 +27,7 @@ use moves::{Offset, are_out_of_range, is_in_range, some_leave_range};
 use region::{Rect, RegionError};
 use row_walks::Keep;
 use sizes::has_fewer;
+use stacking::{has_places, stacked};
 use std::alloc::{AllocError, Global};
 use std::marker::Model;
 
@@ -68,12 +70,6 @@ fn band_of_rect(alloc: Global, rect: Rect) -> Result<BandList, AllocError>
     };
     bands.put_row(rows);
     Ok(bands)
-}
-
-fn has_places(rect: Rect) -> bool
-    ensures { result ≡ (int_lt rect.x1 rect.x2 && int_lt rect.y1 rect.y2) }
-{
-    rect.x1 < rect.x2 && rect.y1 < rect.y2
 }
 
 // The bands of a rectangle.
@@ -137,7 +133,8 @@ fn make_room(bands: &mut BandList, other: &Reader, keep: Keep) -> Result<(), All
     bands.reserve(room)
 }
 
-// The places of the rectangles: those of either half of them, taken together.
+// The places of the rectangles: made in one pass where they stand row by row, or else those of either half of them, taken
+// together.
 fn union_of(alloc: Global, rects: &[Rect]) -> Result<SpanRegion, AllocError>
     ensures { IfOk result (λ region. (x y : ℤ) → covers region.list x y ≡ covers rects.now x y) }
 {
@@ -145,6 +142,13 @@ fn union_of(alloc: Global, rects: &[Rect]) -> Result<SpanRegion, AllocError>
         [] => Ok(SpanRegion::new(alloc)),
         [rect] => SpanRegion::of_rect(alloc, *rect),
         _ => {
+            if let Some(bands) = stacked(alloc, rects)? {
+                return Ok(SpanRegion {
+                    alloc,
+                    bands,
+                    room: 0,
+                });
+            }
             let (first, second) = rects.split_at(rects.len() / 2);
             let mut region = union_of(alloc, first)?;
             let other = union_of(alloc, second)?;
@@ -152,6 +156,18 @@ fn union_of(alloc: Global, rects: &[Rect]) -> Result<SpanRegion, AllocError>
             Ok(region)
         }
     }
+}
+
+// The same bands in no more room than they take.
+fn packed(alloc: Global, bands: &BandList) -> Result<BandList, AllocError>
+    requires { AreBands (bands.now.above ++ bands.now.below) }
+    ensures bands { IfOk result (λ copy. copy.above ++ copy.below ≡ bands.now.above ++ bands.now.below) }
+    ensures row { IfOk result (λ copy. copy.row ≡ []) }
+{
+    let mut copy = BandList::new(alloc);
+    copy.reserve(band_queries::count_nodes(&mut bands.reader()))?;
+    band_changes::copy_bands(&mut copy, &mut bands.reader());
+    Ok(copy)
 }
 
 impl SpanRegion {
@@ -262,9 +278,11 @@ impl SpanRegion {
     pub fn try_clone(&self, alloc: Global) -> Result<SpanRegion, AllocError>
         ensures { IfOk result (λ region. region.list ≡ self.now.list) }
     {
-        let mut bands = BandList::new(alloc);
-        bands.reserve(band_queries::count_nodes(&mut self.bands.reader()))?;
-        band_changes::copy_bands(&mut bands, &mut self.bands.reader());
+        let bands = if self.bands.is_sparse() {
+            packed(alloc, &self.bands)?
+        } else {
+            self.bands.try_clone()?
+        };
         Ok(SpanRegion {
             alloc,
             bands,
