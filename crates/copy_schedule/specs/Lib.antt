@@ -6,5 +6,6 @@ pub mod Sets
 pub mod Examples
 pub mod CutLemmas
 pub mod SetLemmas
+pub mod DrawnLemmas
 pub mod KeptLemmas
 pub mod LogLemmas

@@ -10,7 +10,9 @@
 //! each may catch up later. Every call makes its new regions first and then puts them in place, so a refused one changes nothing.
 #![tactic(auto)]
 
+ghost use Rattle.std.specs.Prelude.{◌≡◌};
 ghost use Rattle.region.specs.Copies.{copies_are_in_order};
+ghost use Rattle.copy_schedule.specs.Log.{drawn_by};
 
 mod chosen;
 mod kept;
@@ -59,4 +61,16 @@ pub enum LogEntry {
     Mark(Region),
     /// A copy by (dx, dy) drew the region, which is on the screen with its sources.
     Copy { region: Region, dx: i32, dy: i32 },
+}
+
+impl LogEntry {
+    /// The places that the call drew.
+    pub fn region(&self) -> &Region
+        ensures { result.now.list ≡ drawn_by self.now }
+    {
+        match self {
+            LogEntry::Mark(region) => region,
+            LogEntry::Copy { region, .. } => region,
+        }
+    }
 }

@@ -1,6 +1,6 @@
 //! Drawing that a viewer's marks lack yet.
 
-ghost use Rattle.std.specs.Prelude.{◌≡◌, ℕ, Bool, All, reverse, IfOk, OnOk};
+ghost use Rattle.std.specs.Prelude.{◌≡◌, ◌||◌, ℕ, ℤ, Bool, All, reverse, IfOk, OnOk};
 ghost use Rattle.region.specs.Region.{covers};
 ghost use Rattle.copy_schedule.specs.Marks.{Marks, marked};
 ghost use Rattle.copy_schedule.specs.Log.{after_entry, logged, IsCutEntry};
@@ -10,6 +10,20 @@ use crate::marks::Marks;
 use region::Region;
 use std::alloc::{AllocError, Global};
 
+/// The most rectangles of a region that are put into another where they stand.
+const FEW: usize = 64;
+
+/// The places of both regions. A region of few rectangles is put into the other; a larger one is copied with it.
+fn joined(region: &Region, mut next: Region) -> Result<Region, AllocError>
+    ensures { IfOk result (λ both. (x y : ℤ) → covers both.list x y ≡ (covers region.now.list x y || covers next.list x y)) }
+{
+    if region.count_rects() > FEW {
+        return region.union(&next);
+    }
+    next.or(region)?;
+    Ok(next)
+}
+
 /// A region that is marked comes before the entries, which stand from the last to the first: in one with what is marked next.
 fn mark_before(out: &mut Vec<LogEntry>, region: &Region) -> Result<(), AllocError>
     ensures same { OnOk result ((uses_copyrect : Bool) (m : Marks) → logged uses_copyrect (reverse out.new.items) m ≡ logged uses_copyrect (reverse out.old.items) (marked (covers region.now.list) m)) }
@@ -18,7 +32,7 @@ fn mark_before(out: &mut Vec<LogEntry>, region: &Region) -> Result<(), AllocErro
     let alloc = *out.allocator();
     match out.pop() {
         Some(LogEntry::Mark(next)) => {
-            let both = region.union(&next)?;
+            let both = joined(region, next)?;
             out.push(LogEntry::Mark(both))?;
         }
         Some(next) => {

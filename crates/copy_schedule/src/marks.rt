@@ -1,13 +1,14 @@
 //! The marks over regions: the places that are owed, that await a copy, and that are asked for.
 
-ghost use Rattle.std.specs.Prelude.{◌≡◌, ◌≤◌, ◌*◌, ◌&&◌, ◌||◌, not, false, pos, ℤ, [], All, replicate, if◌then◌else◌, IfOk, IfSome, OnOk, OnErr, option_map};
+ghost use Rattle.std.specs.Prelude.{◌≡◌, ◌≤◌, ◌*◌, ◌&&◌, ◌||◌, not, false, pos, ℤ, Bool, [], All, replicate, if◌then◌else◌, IfOk, IfSome, OnOk, OnErr, option_map};
 ghost use Rattle.copy_schedule.specs.declared.Mark.TheVariants.{Clean, Owed};
+ghost use Rattle.std.specs.List.{list_any};
 ghost use Rattle.region.specs.Region.{covers, in_rect, rects_of};
 ghost use Rattle.region.specs.Copies.{InOrder};
 ghost use Rattle.region.specs.Places.{same_offset};
 ghost use Rattle.copy_schedule.specs.Marks.{is_clean, is_owed, is_copied, mark_at, asked_at, has_asked, with_marks, new_marks, marked, copied_by, without_copyrect, requested, pending, cut_of, cut_of_sent, marks_after, copies_of, pixels_of, IsInside, HasSourcesInside, IsWithin, IsCutTo};
 ghost use Rattle.copy_schedule.specs.Kept.{IsKept, LiesOn, with_kept};
-ghost use Rattle.copy_schedule.specs.Log.{logged, IsCutEntry};
+ghost use Rattle.copy_schedule.specs.Log.{logged, draws_asked, IsCutEntry};
 
 use crate::chosen::{choose, first_rects, left_after};
 use crate::kept::{Kept, clone_of, forgetting, losing, moving, owing_copies, owing_on_screen};
@@ -252,6 +253,13 @@ impl Marks {
         self.asked.meets(&self.kept.owed) || self.asked.meets(&self.kept.copied)
     }
 
+    /// The same once the drawing is known that stands in a log, whether the viewer uses CopyRect or not. This takes no memory.
+    pub fn pending_after(&self, entries: &[LogEntry]) -> bool
+        ensures { (uses_copyrect : Bool) → result ≡ pending (logged uses_copyrect entries.now self.now) }
+    {
+        self.pending() || self.some_draws_asked(entries)
+    }
+
     /// What the next update sends (`rfbSendFramebufferUpdate` of `rfb.h`). It is marked as sent: its places are clean, every other
     /// place that is not clean is owed, none is asked for, and the offset is (0, 0).
     ///
@@ -380,6 +388,20 @@ impl Marks {
         self.asked.clear();
         self.offset_x = 0;
         self.offset_y = 0;
+    }
+
+    // Whether an entry of a log draws a place that is asked for.
+    fn draws_asked(&self, entry: &LogEntry) -> bool
+        ensures { result ≡ draws_asked self.now entry.now }
+    {
+        self.asked.meets(entry.region())
+    }
+
+    // Whether one of the entries does.
+    fn some_draws_asked(&self, entries: &[LogEntry]) -> bool
+        ensures { result ≡ list_any (draws_asked self.now) entries.now }
+    {
+        entries.iter().any(|entry| self.draws_asked(entry))
     }
 
     fn has_offset(&self, dx: i32, dy: i32) -> bool
