@@ -64,7 +64,7 @@ marked_clean m set x y on =
     go false Owed = refl
 
 lost_clean : (m : Marks) (set : ℤ → ℤ → Bool) (by : ℤ × ℤ) (x y : ℤ) → on_screen m.width m.height x y ≡ true → is_clean (mark_at (lost_to set by m) x y) ≡ is_clean (mark_at m x y)
-lost_clean m set by x y on = 
+lost_clean m set by x y on =
     ap is_clean (value_on Clean m.width m.height (λ x y. cond (is_copied (mark_at m x y) && is_lost x y) Owed (mark_at m x y)) x y on) ∙ go (is_lost x y) (mark_at m x y)
   where
     is_lost : ℤ → ℤ → Bool
@@ -77,7 +77,7 @@ lost_clean m set by x y on =
     go b Owed = refl
 
 moved_clean : (m : Marks) (set : ℤ → ℤ → Bool) (by : ℤ × ℤ) (x y : ℤ) → on_screen m.width m.height x y ≡ true → is_clean (mark_at (moved set by m) x y) ≡ (is_clean (mark_at m x y) && not (set x y))
-moved_clean m set by x y on = 
+moved_clean m set by x y on =
     ap is_clean (value_on Clean m.width m.height (λ x y. moved_mark (set x y) (mark_at m x y) (mark_at m (x -ℤ by.0) (y -ℤ by.1))) x y on) ∙ go (set x y) (mark_at m x y) (mark_at m (x -ℤ by.0) (y -ℤ by.1))
   where
     either : (b : Bool) → is_clean (cond b Owed Copied) ≡ false
@@ -110,9 +110,9 @@ pending_after_entry false (Copy region dx dy) m =
     wanted_after m (marked (covers region.list) m) (covers region.list) (λ x y on. ap (λ b. asked_at m x y && not b) (marked_clean m (covers region.list) x y on))
 pending_after_entry true (Copy region dx dy) m =
     wanted_after m (moved (covers region.list) (dx, dy) (lost_to (covers region.list) (dx, dy) m)) (covers region.list) (λ x y on.
-        ap (λ b. asked_at m x y && not b)
-        (moved_clean (lost_to (covers region.list) (dx, dy) m) (covers region.list) (dx, dy) x y on
-        ∙ ap (λ b. b && not (covers region.list x y)) (lost_clean m (covers region.list) (dx, dy) x y on)))
+    ap (λ b. asked_at m x y && not b)
+    (moved_clean (lost_to (covers region.list) (dx, dy) m) (covers region.list) (dx, dy) x y on
+    ∙ ap (λ b. b && not (covers region.list x y)) (lost_clean m (covers region.list) (dx, dy) x y on)))
 
 asks_same : (uses : Bool) (e : LogEntry) (m : Marks) (es : List LogEntry) → list_any (draws_asked (after_entry uses e m)) es ≡ list_any (draws_asked m) es
 asks_same uses (Mark region) m es = refl

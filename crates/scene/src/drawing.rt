@@ -52,8 +52,8 @@ pub fn tell(viewers: &mut ViewerList, call: LogEntry) -> Result<(), AllocError>
     ensures ok { OnOk result (viewers.new.pairs ≡ changed (drawn call) viewers.old.pairs) }
     ensures err { OnErr result (viewers.new.pairs ≡ viewers.old.pairs) }
 {
-    let prepared = viewers.prepare(call)?;
-    viewers.commit(prepared);
+    viewers.prepare()?;
+    viewers.commit(call);
     Ok(())
 }
 

@@ -218,9 +218,9 @@ impl Scene {
             return Ok(());
         }
         let region = region_of_rect(self.alloc, rect)?;
-        let drawn = self.viewers.prepare(LogEntry::Mark(region))?;
+        self.viewers.prepare()?;
         self.picture.write(block, colours)?;
-        self.viewers.commit(drawn);
+        self.viewers.commit(LogEntry::Mark(region));
         Ok(())
     }
 
@@ -315,9 +315,9 @@ impl Scene {
             return Ok(());
         }
         let region = region_of(self.alloc, &pieces)?;
-        let drawn = self.viewers.prepare(LogEntry::Copy { region, dx, dy })?;
+        self.viewers.prepare()?;
         self.picture.move_colours(&pieces, (dx, dy))?;
-        self.viewers.commit(drawn);
+        self.viewers.commit(LogEntry::Copy { region, dx, dy });
         Ok(())
     }
 

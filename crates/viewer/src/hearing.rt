@@ -22,11 +22,11 @@ use pixel_translate::{Area, PixelFormat};
 use region::Rect;
 use std::alloc::{AllocError, Global};
 
-/// Whether a viewer would be given something now.
-pub fn is_pending(standing: &Standing) -> bool
-    ensures { result ≡ (is_open_rest standing.now.ear && (not (none_wait standing.now.notices) || pending standing.now.marks)) }
+/// Whether a viewer would be given something now, that is told of the drawing of a log first.
+pub fn is_pending(standing: &Standing, log: &[LogEntry]) -> bool
+    ensures { result ≡ (is_open_rest standing.now.ear && (not (none_wait standing.now.notices) || pending (logged standing.now.uses_copyrect log.now standing.now.marks))) }
 {
-    standing.ear.is_open() && (!standing.notices.is_empty() || standing.marks.pending())
+    standing.ear.is_open() && (!standing.notices.is_empty() || standing.marks.pending_after(log))
 }
 
 /// The rectangle of an area's places that are on a screen.

@@ -2,8 +2,7 @@
 
 ghost use Rattle.std.specs.Prelude.{◌≡◌, ◌≢◌, ◌&&◌, ◌||◌, not, ℕ, List, ◌++◌, ◌≤◌, ◌<◌, ◌^◌, [], length, All, IfOk, IfSome, OnOk, OnErr};
 ghost use Rattle.messages.specs.Reading.{rest, new_items, is_open_rest, fault_kept};
-ghost use Rattle.region.specs.Region.{covers};
-ghost use Rattle.copy_schedule.specs.Marks.{Marks, marked, copied_by, has_asked, pending, IsCutTo};
+ghost use Rattle.copy_schedule.specs.Marks.{Marks, pending};
 ghost use Rattle.copy_schedule.specs.Log.{logged, IsCutEntry};
 ghost use Rattle.viewer.specs.Viewer.{none_wait, noticed, new_viewer, kept};
 ghost use Rattle.viewer.specs.Hearing.{after_items, heard_reply};
@@ -21,7 +20,6 @@ use crate::update::Update;
 use copy_schedule::{LogEntry, Prepared, joined_log};
 use framebuffer::Framebuffer;
 use messages::Fault;
-use region::Region;
 use std::alloc::{AllocError, Global};
 use std::marker::Model;
 
@@ -98,7 +96,14 @@ impl Viewer {
     pub fn is_pending(&self) -> bool
         ensures { result ≡ (is_open_rest self.now.heard && (not (none_wait self.now.notices) || pending self.now.marks)) }
     {
-        is_pending(&self.standing)
+        is_pending(&self.standing, &[])
+    }
+
+    /// The same, once the viewer is told of the drawing that stands in a log, the first entry's first. This takes no memory.
+    pub fn is_pending_after(&self, log: &[LogEntry]) -> bool
+        ensures { result ≡ (is_open_rest self.now.heard && (not (none_wait self.now.notices) || pending (viewer_told log.now self.now).marks)) }
+    {
+        is_pending(&self.standing, log)
     }
 
     /// Why the viewer is heard no further, if a fault was met.
@@ -170,33 +175,6 @@ impl Viewer {
         if self.standing.ear.is_open() {
             self.standing.notices.keep(notice);
         }
-    }
-
-    /// The marks as they are once the region's places are owed; `commit` puts them in place. `AllocError` where memory is
-    /// refused.
-    pub fn prepare_mark(&self, region: &Region) -> Result<Prepared, AllocError>
-        ensures { IfOk result (λ prepared. prepared ≡ marked (covers region.now.list) self.now.marks) }
-    {
-        self.standing.marks.prepare_mark(region)
-    }
-
-    /// The marks as they are once a copy by (dx, dy) drew the region, which is on the screen with its sources; `commit` puts
-    /// them in place. `AllocError` where memory is refused.
-    pub fn prepare_copy(&self, region: &Region, dx: i32, dy: i32) -> Result<Prepared, AllocError>
-        requires cut { IsCutTo self.now.marks.width self.now.marks.height (dx, dy) region.now.list }
-        ensures { IfOk result (λ prepared. prepared ≡ copied_by (covers region.now.list) (dx, dy) self.now.uses_copyrect self.now.marks) }
-    {
-        let standing = &self.standing;
-        standing
-            .marks
-            .prepare_copy(region, dx, dy, standing.uses_copyrect)
-    }
-
-    /// Whether the viewer asks for a place.
-    pub fn has_asked(&self) -> bool
-        ensures { result ≡ has_asked self.now.marks }
-    {
-        self.standing.marks.has_asked()
     }
 
     /// The drawing of a log in fewer entries, as it is for this viewer and for each that uses CopyRect as it does: neighbouring

@@ -8,17 +8,15 @@ use Rattle.region.specs.Held.{Held}
 use Rattle.region.specs.Region.{covers}
 use Rattle.copy_schedule.specs.declared.LogEntry.{LogEntry}
 use Rattle.copy_schedule.specs.declared.LogEntry.TheVariants.{Mark, Copy}
-use Rattle.copy_schedule.specs.Marks.{Marks, Sent, marked, has_asked, pending, copies_of, pixels_of, after_sending}
+use Rattle.copy_schedule.specs.Marks.{Marks, marked}
 use Rattle.copy_schedule.specs.Log.{after_entry, logged, IsCutEntry}
-use Rattle.copy_schedule.specs.LogLemmas.{unasked_is_not_pending, logged_append, cut_append, front_is_cut}
-use Rattle.messages.specs.Reading.{is_open_rest}
-use Rattle.viewer.specs.Sending.{sending_kept, with_update}
-use Rattle.viewer.specs.Viewer.{KeptViewer, none_wait}
+use Rattle.copy_schedule.specs.LogLemmas.{logged_append, cut_append, front_is_cut}
+use Rattle.viewer.specs.Viewer.{KeptViewer}
 use Rattle.viewer_list.specs.declared.lagging.Lagging.{Lagging}
 use Rattle.viewer_list.specs.declared.lagging.Shared.{Shared}
 use Rattle.viewer.specs.Told.{viewer_told}
-use Rattle.viewer_list.specs.Lagging.{waiting, caught_up, up_to_date, brought_up, within_end, told, IsCurrent, AsksNothing, Fits, IsShared, IsFor, IsMark, IsJoined}
-use Rattle.viewer_list.specs.Viewers.{drawn, told_at_once, is_pending}
+use Rattle.viewer_list.specs.Lagging.{waiting, caught_up, up_to_date, brought_up, within_end, IsCurrent, Fits, IsShared, IsFor, IsMark, IsJoined}
+use Rattle.viewer_list.specs.Viewers.{drawn}
 
 -- what drawing leaves of marks
 pub record Alike (m n : Marks) : Type 0 where
@@ -58,7 +56,6 @@ current_viewer log l current = ap (λ (es : List LogEntry). record l.viewer { ma
 pub current_fits : (log : List LogEntry) (l : Lagging) → IsCurrent log l → Fits log l
 current_fits log l current = record {
   stands = omega (arith, current);
-  asks = λ _. current;
   cut = subst (All (IsCutEntry l.viewer.marks.width l.viewer.marks.height)) (sym (nothing_waits log l current)) (λ k d below. absurd (omega (arith, below)));
 }
 
@@ -154,7 +151,6 @@ module _ (log : List LogEntry) (place end : ℕ) (region : Held) (within : place
     stays_fit : Fits log l → Fits joined_log (within_end end l)
     stays_fit fits = record {
       stands = omega (arith, joined_length);
-      asks = λ is. let current : l.taken ≡ length log = fits.asks is in absurd (omega (arith, current, before, within));
       cut =
           let w : ℕ = l.viewer.marks.width in
           let h : ℕ = l.viewer.marks.height in
@@ -197,109 +193,25 @@ joined_is entries out front region all same is one = record { same = λ u m. sym
 
 -- A further drawing call.
 
-pub asked_same : (log : List LogEntry) (l : Lagging) → has_asked (caught_up log l).marks ≡ has_asked l.viewer.marks
-asked_same log l =
-    let alike = logged-alike l.viewer.uses_copyrect (waiting log l) l.viewer.marks in
-    ap (λ (bs : List Bool). has_asked (record l.viewer.marks { asked = bs })) alike.asked
-
 more_waits : (log : List LogEntry) (e : LogEntry) (l : Lagging) → Fits log l → waiting (log ++ e ∷ []) l ≡ waiting log l ++ e ∷ []
 more_waits log e l fits = drop-last l.taken log e fits.stands
 
--- told at once
-abbrev at_once : LogEntry → Lagging → Lagging
-at_once e l = record l { viewer = record l.viewer { marks = after_entry l.viewer.uses_copyrect e l.viewer.marks }; taken = l.taken + 1 }
+pub drawn_viewer : (log : List LogEntry) (e : LogEntry) (l : Lagging) → Fits log l → caught_up (log ++ e ∷ []) l ≡ drawn e (caught_up log l)
+drawn_viewer log e l fits =
+    ap (λ (es : List LogEntry). record l.viewer { marks = logged l.viewer.uses_copyrect es l.viewer.marks }) (more_waits log e l fits)
+    ∙ ap (λ (m : Marks). record l.viewer { marks = m }) (logged-last l.viewer.uses_copyrect (waiting log l) e l.viewer.marks)
 
-at_once_current : (log : List LogEntry) (e : LogEntry) (l : Lagging) → IsCurrent log l → IsCurrent (log ++ e ∷ []) (at_once e l)
-at_once_current log e l current = omega (arith, current, length-append log (e ∷ []))
-
-pub told_viewer : (log : List LogEntry) (e : LogEntry) (l : Lagging) → Fits log l → caught_up (log ++ e ∷ []) (told e l) ≡ drawn e (caught_up log l)
-told_viewer log e l fits = go (has_asked l.viewer.marks) refl
+pub drawn_fits : (log : List LogEntry) (e : LogEntry) (l : Lagging) → Fits log l → IsCutEntry l.viewer.marks.width l.viewer.marks.height e → Fits (log ++ e ∷ []) l
+drawn_fits log e l fits cut = record {
+  stands = let stands = fits.stands in omega (arith, stands, length-append log (e ∷ []));
+  cut =
+      subst (All (IsCutEntry l.viewer.marks.width l.viewer.marks.height)) (sym (more_waits log e l fits))
+      (All-append (IsCutEntry l.viewer.marks.width l.viewer.marks.height) (waiting log l) (e ∷ []) fits.cut (one (IsCutEntry l.viewer.marks.width l.viewer.marks.height) e cut));
+}
   where
-    go : (b : Bool) → has_asked l.viewer.marks ≡ b → caught_up (log ++ e ∷ []) (cond b (at_once e l) l) ≡ drawn e (caught_up log l)
-    go true asks = current_viewer (log ++ e ∷ []) (at_once e l) (at_once_current log e l (fits.asks asks)) ∙ ap (drawn e) (sym (current_viewer log l (fits.asks asks)))
-    go false asks =
-        ap (λ (es : List LogEntry). record l.viewer { marks = logged l.viewer.uses_copyrect es l.viewer.marks }) (more_waits log e l fits)
-        ∙ ap (λ (m : Marks). record l.viewer { marks = m }) (logged-last l.viewer.uses_copyrect (waiting log l) e l.viewer.marks)
-
-pub told_fits : (log : List LogEntry) (e : LogEntry) (l : Lagging) → Fits log l → IsCutEntry l.viewer.marks.width l.viewer.marks.height e → Fits (log ++ e ∷ []) (told e l)
-told_fits log e l fits cut = go (has_asked l.viewer.marks) refl
-  where
-    go : (b : Bool) → has_asked l.viewer.marks ≡ b → Fits (log ++ e ∷ []) (cond b (at_once e l) l)
-    go true asks = current_fits (log ++ e ∷ []) (at_once e l) (at_once_current log e l (fits.asks asks))
-    go false asks = record {
-      stands = let stands = fits.stands in omega (arith, stands, length-append log (e ∷ []));
-      asks = λ is. absurd (true≢false (sym is ∙ asks));
-      cut =
-          subst (All (IsCutEntry l.viewer.marks.width l.viewer.marks.height)) (sym (more_waits log e l fits))
-          (All-append (IsCutEntry l.viewer.marks.width l.viewer.marks.height) (waiting log l) (e ∷ []) fits.cut (one (IsCutEntry l.viewer.marks.width l.viewer.marks.height) e cut));
-    }
-      where
-        one : (P : LogEntry → Type 0) (x : LogEntry) → P x → All P (x ∷ [])
-        one P x is zero d below = is
-        one P x is (suc k) d below = absurd (omega (arith, below))
-
--- its marks, if it asks
-pub told_same : (log : List LogEntry) (e : LogEntry) (l : Lagging) → Fits log l → told_at_once e (caught_up log l) ≡ told_at_once e l.viewer
-told_same log e l fits = go (has_asked l.viewer.marks) refl
-  where
-    go : (b : Bool) → has_asked l.viewer.marks ≡ b → told_at_once e (caught_up log l) ≡ told_at_once e l.viewer
-    go true asks = ap (told_at_once e) (current_viewer log l (fits.asks asks))
-    go false asks =
-        ap (λ b. cond b (Some (after_entry (caught_up log l).uses_copyrect e (caught_up log l).marks)) None) (asked_same log l ∙ asks)
-        ∙ sym (ap (λ b. cond b (Some (after_entry l.viewer.uses_copyrect e l.viewer.marks)) None) asks)
-
--- where none asks, none is told at once
-pub untold_asks_nothing : (e : LogEntry) (l : Lagging) → told_at_once e l.viewer ≡ None → AsksNothing l
-untold_asks_nothing e l none = go (has_asked l.viewer.marks) none
-  where
-    go : (b : Bool) → cond b (Some (after_entry l.viewer.uses_copyrect e l.viewer.marks)) None ≡ None → b ≡ false
-    go true is = absurd (cc)
-    go false is = refl
-
-pub unasked_told : (e : LogEntry) (l : Lagging) → AsksNothing l → told e l ≡ l
-unasked_told e l nothing = ap (λ b. cond b (at_once e l) l) nothing
-
-pub unasked_untold : (e : LogEntry) (l : Lagging) → AsksNothing l → told_at_once e l.viewer ≡ None
-unasked_untold e l nothing = ap (λ b. cond b (Some (after_entry l.viewer.uses_copyrect e l.viewer.marks)) None) nothing
-
--- it asks for nothing once it is told, and once it has caught up
-pub unasked_told_asks_nothing : (e : LogEntry) (l : Lagging) → AsksNothing l → AsksNothing (told e l)
-unasked_told_asks_nothing e l nothing = subst AsksNothing (sym (unasked_told e l nothing)) nothing
-
-pub seen_asks_nothing : (log was : List LogEntry) (l other : Lagging) → caught_up log l ≡ caught_up was other → AsksNothing other → AsksNothing l
-seen_asks_nothing log was l other same nothing =
-    sym (asked_same log l) ∙ ap (λ (v : KeptViewer). has_asked v.marks) same ∙ asked_same was other ∙ nothing
-
-pub alike_asks_nothing : (log : List LogEntry) (l other : Lagging) → caught_up log l ≡ caught_up log other → AsksNothing other → AsksNothing l
-alike_asks_nothing log l other same nothing = seen_asks_nothing log log l other same nothing
-
--- what an update leaves asks for nothing, where nothing was asked for
-pub unasked_sent : (w h limit : ℕ) (picture : List ℕ) (v : KeptViewer) → has_asked v.marks ≡ false → has_asked (sending_kept w h limit picture v).1.marks ≡ false
-unasked_sent w h limit picture v nothing = go (is_open_rest v.heard) (pending v.marks) (unasked_is_not_pending v.marks nothing)
-  where
-    sent : Sent
-    sent = record { copies = copies_of limit v.marks; offset = v.marks.offset; pixels = pixels_of limit v.marks; after = after_sending (copies_of limit v.marks) (pixels_of limit v.marks) v.marks }
-
-    go : (a b : Bool) → b ≡ false → has_asked (cond a (with_update w h picture v (cond b (Some sent) None)) ([], v)).1.marks ≡ false
-    go true true is = absurd (true≢false is)
-    go true false is = nothing
-    go false b is = nothing
-
-pub sent_asks_nothing : (log : List LogEntry) (w h limit : ℕ) (picture : List ℕ) (was now : Lagging) → caught_up log now ≡ (sending_kept w h limit picture (caught_up log was)).1 → AsksNothing was → AsksNothing now
-sent_asks_nothing log w h limit picture was now is nothing =
-    sym (asked_same log now) ∙ ap (λ (v : KeptViewer). has_asked v.marks) is ∙ unasked_sent w h limit picture (caught_up log was) (asked_same log was ∙ nothing)
-
--- Whether something is to be sent doesn't hang on what waits.
-
-pub pending_same : (log : List LogEntry) (l : Lagging) → Fits log l → is_pending l.viewer ≡ is_pending (caught_up log l)
-pending_same log l fits = go (has_asked l.viewer.marks) refl
-  where
-    same : (b : Bool) → has_asked l.viewer.marks ≡ b → pending l.viewer.marks ≡ pending (caught_up log l).marks
-    same true asks = ap (λ (v : KeptViewer). pending v.marks) (sym (current_viewer log l (fits.asks asks)))
-    same false asks = unasked_is_not_pending l.viewer.marks asks ∙ sym (unasked_is_not_pending (caught_up log l).marks (asked_same log l ∙ asks))
-
-    go : (b : Bool) → has_asked l.viewer.marks ≡ b → is_pending l.viewer ≡ is_pending (caught_up log l)
-    go b asks = ap (λ (t : Bool). is_open_rest l.viewer.heard && (not (none_wait l.viewer.notices) || t)) (same b asks)
+    one : (P : LogEntry → Type 0) (x : LogEntry) → P x → All P (x ∷ [])
+    one P x is zero d below = is
+    one P x is (suc k) d below = absurd (omega (arith, below))
 
 -- What is shared.
 

@@ -19,9 +19,9 @@ use Rattle.copy_schedule.specs.Log.{IsCutEntry}
 use Rattle.viewer.specs.declared.notices.Notice.{Notice}
 use Rattle.viewer.specs.Viewer.{KeptViewer}
 use Rattle.viewer_list.specs.declared.lagging.Lagging.{Lagging}
-use Rattle.viewer_list.specs.Lagging.{waiting, caught_up, brought_up, within_end, seen, told, told_of, IsCurrent, AsksNothing, Fits, IsJoined, IsBounded, AllFit, place_within, last_place}
-use Rattle.viewer_list.specs.Viewers.{Viewers, IsOfSize, viewer_of, with_viewer, drawn, told_at_once, viewer_noticed}
-use Rattle.viewer_list.proofs.LagLemmas.{brought_up_same, brought_up_current, seen_asks_nothing, started_same, started_fits, joined_same, joined_fits, untold_asks_nothing, unasked_told, unasked_untold, told_viewer, told_fits, told_same, logged-alike}
+use Rattle.viewer_list.specs.Lagging.{waiting, caught_up, brought_up, within_end, seen, told_of, IsCurrent, Fits, IsJoined, place_within, last_place}
+use Rattle.viewer_list.specs.Viewers.{Viewers, IsOfSize, viewer_of, with_viewer, drawn, viewer_noticed}
+use Rattle.viewer_list.proofs.LagLemmas.{brought_up_same, brought_up_current, started_same, started_fits, joined_same, joined_fits, drawn_viewer, drawn_fits, logged-alike}
 
 module _ {T : Type 0} (P : T → Type 0) where
   pub all-cons : (x : T) (xs : List T) → P x → All P xs → All P (x ∷ xs)
@@ -118,17 +118,6 @@ module _ (log : List LogEntry) (least : ℕ) where
   pub seen-brought_up : (pairs : List (ℕ × Lagging)) → All (Fits log) (values_of pairs) → seen log (changed (brought_up log least) pairs) ≡ seen log pairs
   seen-brought_up pairs all = seen-changed (brought_up log least) log log (Fits log) (λ l fits. brought_up_same log least l) pairs all
 
--- viewers that are seen alike ask alike
-pub quiet-same : (log was : List LogEntry) (now old : List (ℕ × Lagging)) → seen log now ≡ seen was old → All AsksNothing (values_of old) → All AsksNothing (values_of now)
-quiet-same log was [] old same all = λ k d below. absurd (omega (arith, below))
-quiet-same log was (pair ∷ now) [] same all = absurd (cc)
-quiet-same log was (pair ∷ now) (other ∷ old) same all =
-    let later : seen log now ≡ seen was old = cc in
-    let heads : (pair.0, caught_up log pair.1) ≡ (other.0, caught_up was other.1) = cc in
-    let here : caught_up log pair.1 ≡ caught_up was other.1 = ap (λ (p : ℕ × KeptViewer). p.1) heads in
-    all-cons AsksNothing pair.1 (values_of now) (seen_asks_nothing log was pair.1 other.1 here (all-head AsksNothing other.1 (values_of old) all))
-    (quiet-same log was now old later (all-tail AsksNothing other.1 (values_of old) all))
-
 -- where nothing waits, at the start of an empty log
 pub seen-started : (log : List LogEntry) (pairs : List (ℕ × Lagging)) → All (IsCurrent log) (values_of pairs) → seen [] (changed (within_end 0) pairs) ≡ seen log pairs
 seen-started log pairs all = seen-changed (within_end 0) log [] (IsCurrent log) (started_same log) pairs all
@@ -156,20 +145,12 @@ module _ (log : List LogEntry) (place end : ℕ) (region : Held) (within : place
       subst (λ (ps : List (ℕ × Lagging)). All (Fits (take place log ++ Mark region ∷ [])) (values_of ps)) (sym (changed-twice (brought_up log (place + 1)) (within_end end) pairs))
       (all-changed (Fits log) (Fits (take place log ++ Mark region ∷ [])) (λ l. within_end end (brought_up log (place + 1) l)) (joined_fits log place end region within ends joins) pairs all)
 
--- viewers that are seen as before fit where each does
-pub fit-same : (log was : List LogEntry) (joined : ℕ) (some_may_ask : Bool) (now old : List (ℕ × Lagging)) → IsBounded log joined → All (Fits log) (values_of now) → seen log now ≡ seen was old → (some_may_ask ≡ false → All AsksNothing (values_of old)) → AllFit log joined some_may_ask now
-fit-same log was joined some_may_ask now old short each same quiet = record {
-  short = short;
-  each = each;
-  quiet = λ none. quiet-same log was now old same (quiet none);
-}
-
 -- a drawing call
-pub seen-told : (log : List LogEntry) (e : LogEntry) (pairs : List (ℕ × Lagging)) → All (Fits log) (values_of pairs) → seen (log ++ e ∷ []) (changed (told e) pairs) ≡ changed (drawn e) (seen log pairs)
-seen-told log e [] all = refl
-seen-told log e (pair ∷ pairs) all =
-    ap (λ (v : KeptViewer). (pair.0, v) ∷ seen (log ++ e ∷ []) (changed (told e) pairs)) (told_viewer log e pair.1 (all-head (Fits log) pair.1 (values_of pairs) all))
-    ∙ ap (λ (l : List (ℕ × KeptViewer)). (pair.0, drawn e (caught_up log pair.1)) ∷ l) (seen-told log e pairs (all-tail (Fits log) pair.1 (values_of pairs) all))
+pub seen-drawn : (log : List LogEntry) (e : LogEntry) (pairs : List (ℕ × Lagging)) → All (Fits log) (values_of pairs) → seen (log ++ e ∷ []) pairs ≡ changed (drawn e) (seen log pairs)
+seen-drawn log e [] all = refl
+seen-drawn log e (pair ∷ pairs) all =
+    ap (λ (v : KeptViewer). (pair.0, v) ∷ seen (log ++ e ∷ []) pairs) (drawn_viewer log e pair.1 (all-head (Fits log) pair.1 (values_of pairs) all))
+    ∙ ap (λ (l : List (ℕ × KeptViewer)). (pair.0, drawn e (caught_up log pair.1)) ∷ l) (seen-drawn log e pairs (all-tail (Fits log) pair.1 (values_of pairs) all))
 
 -- a copy is on the screen of each
 pub cut-seen : (log : List LogEntry) (e : LogEntry) (pairs : List (ℕ × Lagging)) → All (λ v. IsCutEntry v.marks.width v.marks.height e) (values_of (seen log pairs)) → All (λ l. IsCutEntry l.viewer.marks.width l.viewer.marks.height e) (values_of pairs)
@@ -181,41 +162,12 @@ cut-seen log e (pair ∷ pairs) all =
     (subst (λ (h : ℕ). IsCutEntry pair.1.viewer.marks.width h e) alike.height (subst (λ (w : ℕ). IsCutEntry w (caught_up log pair.1).marks.height e) alike.width here))
     (cut-seen log e pairs (all-tail (λ (v : KeptViewer). IsCutEntry v.marks.width v.marks.height e) (caught_up log pair.1) (values_of (seen log pairs)) all))
 
-pub fit-told : (log : List LogEntry) (e : LogEntry) (pairs : List (ℕ × Lagging)) → All (Fits log) (values_of pairs) → All (λ l. IsCutEntry l.viewer.marks.width l.viewer.marks.height e) (values_of pairs) → All (Fits (log ++ e ∷ [])) (values_of (changed (told e) pairs))
-fit-told log e [] all cut = λ k d below. absurd (omega (arith, below))
-fit-told log e (pair ∷ pairs) all cut =
+pub fit-drawn : (log : List LogEntry) (e : LogEntry) (pairs : List (ℕ × Lagging)) → All (Fits log) (values_of pairs) → All (λ l. IsCutEntry l.viewer.marks.width l.viewer.marks.height e) (values_of pairs) → All (Fits (log ++ e ∷ [])) (values_of pairs)
+fit-drawn log e [] all cut = λ k d below. absurd (omega (arith, below))
+fit-drawn log e (pair ∷ pairs) all cut =
     let C : Lagging → Type 0 = λ l. IsCutEntry l.viewer.marks.width l.viewer.marks.height e in
-    all-cons (Fits (log ++ e ∷ [])) (told e pair.1) (values_of (changed (told e) pairs)) (told_fits log e pair.1 (all-head (Fits log) pair.1 (values_of pairs) all) (all-head C pair.1 (values_of pairs) cut))
-    (fit-told log e pairs (all-tail (Fits log) pair.1 (values_of pairs) all) (all-tail C pair.1 (values_of pairs) cut))
-
--- the marks of those that ask
-pub told-seen : (log : List LogEntry) (e : LogEntry) (pairs : List (ℕ × Lagging)) → All (Fits log) (values_of pairs) → filter_map (told_at_once e) (values_of (seen log pairs)) ≡ filter_map (λ l. told_at_once e l.viewer) (values_of pairs)
-told-seen log e [] all = refl
-told-seen log e (pair ∷ pairs) all =
-    ap (λ (o : Option Marks). cons_option o (filter_map (told_at_once e) (values_of (seen log pairs)))) (told_same log e pair.1 (all-head (Fits log) pair.1 (values_of pairs) all))
-    ∙ ap (cons_option (told_at_once e pair.1.viewer)) (told-seen log e pairs (all-tail (Fits log) pair.1 (values_of pairs) all))
-
--- where the marks of none are made, nobody asks
-pub untold-asks-nothing : (e : LogEntry) (pairs : List (ℕ × Lagging)) → filter_map (λ l. told_at_once e l.viewer) (values_of pairs) ≡ [] → All AsksNothing (values_of pairs)
-untold-asks-nothing e [] none = λ k d below. absurd (omega (arith, below))
-untold-asks-nothing e (pair ∷ pairs) none = go (told_at_once e pair.1.viewer) refl (untold-asks-nothing e pairs) none
-  where
-    go : (o : Option Marks) → told_at_once e pair.1.viewer ≡ o → (filter_map (λ l. told_at_once e l.viewer) (values_of pairs) ≡ [] → All AsksNothing (values_of pairs)) → cons_option o (filter_map (λ l. told_at_once e l.viewer) (values_of pairs)) ≡ [] → All AsksNothing (pair.1 ∷ values_of pairs)
-    go None is others rest = all-cons AsksNothing pair.1 (values_of pairs) (untold_asks_nothing e pair.1 is) (others rest)
-    go (Some m) is others rest = absurd (cc)
-
--- and where nobody asks, the marks of none are made, and each stays
-pub unasked-untold : (e : LogEntry) (pairs : List (ℕ × Lagging)) → All AsksNothing (values_of pairs) → filter_map (λ l. told_at_once e l.viewer) (values_of pairs) ≡ []
-unasked-untold e [] all = refl
-unasked-untold e (pair ∷ pairs) all =
-    ap (λ (o : Option Marks). cons_option o (filter_map (λ l. told_at_once e l.viewer) (values_of pairs))) (unasked_untold e pair.1 (all-head AsksNothing pair.1 (values_of pairs) all))
-    ∙ unasked-untold e pairs (all-tail AsksNothing pair.1 (values_of pairs) all)
-
-pub unasked-told : (e : LogEntry) (pairs : List (ℕ × Lagging)) → All AsksNothing (values_of pairs) → changed (told e) pairs ≡ pairs
-unasked-told e [] all = refl
-unasked-told e (pair ∷ pairs) all =
-    ap (λ (l : Lagging). (pair.0, l) ∷ changed (told e) pairs) (unasked_told e pair.1 (all-head AsksNothing pair.1 (values_of pairs) all))
-    ∙ ap (λ (l : List (ℕ × Lagging)). pair ∷ l) (unasked-told e pairs (all-tail AsksNothing pair.1 (values_of pairs) all))
+    all-cons (Fits (log ++ e ∷ [])) pair.1 (values_of pairs) (drawn_fits log e pair.1 (all-head (Fits log) pair.1 (values_of pairs) all) (all-head C pair.1 (values_of pairs) cut))
+    (fit-drawn log e pairs (all-tail (Fits log) pair.1 (values_of pairs) all) (all-tail C pair.1 (values_of pairs) cut))
 
 -- a notice
 pub seen-noticed : (log : List LogEntry) (notice : Notice) (pairs : List (ℕ × Lagging)) → seen log (changed (told_of notice) pairs) ≡ changed (viewer_noticed notice) (seen log pairs)
@@ -223,10 +175,7 @@ seen-noticed log notice [] = refl
 seen-noticed log notice (pair ∷ pairs) = ap (λ (l : List (ℕ × KeptViewer)). (pair.0, viewer_noticed notice (caught_up log pair.1)) ∷ l) (seen-noticed log notice pairs)
 
 pub fit-noticed : (log : List LogEntry) (notice : Notice) (pairs : List (ℕ × Lagging)) → All (Fits log) (values_of pairs) → All (Fits log) (values_of (changed (told_of notice) pairs))
-fit-noticed log notice pairs all = all-changed (Fits log) (Fits log) (told_of notice) (λ l fits. record { stands = fits.stands; asks = fits.asks; cut = fits.cut }) pairs all
-
-pub quiet-noticed : (notice : Notice) (pairs : List (ℕ × Lagging)) → All AsksNothing (values_of pairs) → All AsksNothing (values_of (changed (told_of notice) pairs))
-quiet-noticed notice pairs all = all-changed AsksNothing AsksNothing (told_of notice) (λ l nothing. nothing) pairs all
+fit-noticed log notice pairs all = all-changed (Fits log) (Fits log) (told_of notice) (λ l fits. record { stands = fits.stands; cut = fits.cut }) pairs all
 
 -- one more, and one less
 pub seen-last : (log : List LogEntry) (pairs : List (ℕ × Lagging)) (number : ℕ) (l : Lagging) → seen log (pairs ++ (number, l) ∷ []) ≡ seen log pairs ++ (number, caught_up log l) ∷ []

@@ -5,8 +5,8 @@ use Rattle.region.specs.Held.{Held}
 use Rattle.region.specs.Region.{covers}
 use Rattle.copy_schedule.specs.declared.LogEntry.{LogEntry}
 use Rattle.copy_schedule.specs.declared.LogEntry.TheVariants.{Mark, Copy}
-use Rattle.copy_schedule.specs.Marks.{Marks, has_asked, marked}
-use Rattle.copy_schedule.specs.Log.{after_entry, logged, IsCutEntry}
+use Rattle.copy_schedule.specs.Marks.{Marks, marked}
+use Rattle.copy_schedule.specs.Log.{logged, IsCutEntry}
 use Rattle.viewer.specs.Viewer.{KeptViewer}
 use Rattle.viewer.specs.declared.notices.Notice.{Notice}
 use Rattle.viewer_list.specs.Viewers.{viewer_noticed}
@@ -41,19 +41,10 @@ seen log pairs = map (λ pair. (pair.0, caught_up log pair.1)) pairs
 abbrev pub IsCurrent : List LogEntry → Lagging → Type 0
 IsCurrent log l = l.taken ≡ length log
 
--- a viewer asks for nothing
-abbrev pub AsksNothing : Lagging → Type 0
-AsksNothing l = has_asked l.viewer.marks ≡ false
-
--- a viewer's place is in the log, each copy that it lacks is on its screen, and where it asks it lacks none
+-- a viewer's place is in the log, and each copy that it lacks is on its screen
 pub record Fits (log : List LogEntry) (l : Lagging) : Type 0 where
   pub stands : l.taken ≤ length log
-  pub asks : has_asked l.viewer.marks ≡ true → IsCurrent log l
   pub cut : All (IsCutEntry l.viewer.marks.width l.viewer.marks.height) (waiting log l)
-
--- a viewer that is told of a drawing call: at once where it asks, and elsewhere it stays, and lacks one entry more of the log
-abbrev pub told : LogEntry → Lagging → Lagging
-told entry l = if has_asked l.viewer.marks then record l { viewer = record l.viewer { marks = after_entry l.viewer.uses_copyrect entry l.viewer.marks }; taken = l.taken + 1 } else l
 
 -- a viewer that keeps a notice, where it is open
 abbrev pub told_of : Notice → Lagging → Lagging
@@ -65,11 +56,10 @@ pub record IsBounded (log : List LogEntry) (joined : ℕ) : Type 0 where
   pub few : joined ≤ 64
   pub others : length log ≤ joined + 256
 
--- the log is short, and holds what the viewers lack; where some_may_ask is false, nobody asks
-pub record AllFit (log : List LogEntry) (joined : ℕ) (some_may_ask : Bool) (pairs : List (ℕ × Lagging)) : Type 0 where
+-- the log is short, and holds what the viewers lack
+pub record AllFit (log : List LogEntry) (joined : ℕ) (pairs : List (ℕ × Lagging)) : Type 0 where
   pub short : IsBounded log joined
   pub each : All (Fits log) (values_of pairs)
-  pub quiet : some_may_ask ≡ false → All AsksNothing (values_of pairs)
 
 -- entries that make of a viewer's marks what the log's from a place on make of them, where it uses CopyRect alike
 pub record IsShared (log : List LogEntry) (s : Shared) : Type 0 where

@@ -1,11 +1,10 @@
 -- What a contract sees of the viewers of a screen, and of a drawing call for them.
 use Rattle.std.specs.Prelude.{◌≡◌, ℕ, ◌*◌, ◌≤◌, ◌==◌, ◌&&◌, ◌||◌, not, Bool, if◌then◌else◌, List, All, length, Option, Some, None}
-use Rattle.std.specs.List.{filter_map}
 use Rattle.std.specs.Map.{keys_of, values_of, lookup}
 use Rattle.client_list.specs.Connected.{index_of, set_value_at}
 use Rattle.copy_schedule.specs.declared.LogEntry.{LogEntry}
-use Rattle.copy_schedule.specs.Marks.{Marks, has_asked, pending}
-use Rattle.copy_schedule.specs.Log.{after_entry, IsCutEntry}
+use Rattle.copy_schedule.specs.Marks.{pending}
+use Rattle.copy_schedule.specs.Log.{after_entry}
 use Rattle.messages.specs.Reading.{is_open_rest, rest}
 use Rattle.viewer.specs.declared.notices.Notice.{Notice}
 use Rattle.viewer.specs.declared.notices.Notice.TheVariants as notice
@@ -40,21 +39,6 @@ pub record IsOfSize (w h : ℕ) (v : KeptViewer) : Type 0 where
 -- a viewer that was told of a drawing call
 abbrev pub drawn : LogEntry → KeptViewer → KeptViewer
 drawn entry v = record v { marks = after_entry v.uses_copyrect entry v.marks }
-
--- a viewer that asks is told at once: its marks then
-abbrev pub told_at_once : LogEntry → KeptViewer → Option Marks
-told_at_once entry v = if has_asked v.marks then Some (after_entry v.uses_copyrect entry v.marks) else None
-
--- a drawing call, and the marks of those viewers that ask
-pub record Drawn : Type 0 where
-  pub entry : LogEntry
-  pub marks : List Marks
-
--- the drawing call was prepared for the viewers
-pub record IsReady (s : Viewers) (d : Drawn) : Type 0 where
-  pub room : 1 ≤ s.room
-  pub marks : d.marks ≡ filter_map (told_at_once d.entry) (values_of s.pairs)
-  pub cut : All (λ v. IsCutEntry v.marks.width v.marks.height d.entry) (values_of s.pairs)
 
 -- a viewer that keeps a notice, where it is open
 abbrev pub viewer_noticed : Notice → KeptViewer → KeptViewer

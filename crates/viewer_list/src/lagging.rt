@@ -8,6 +8,7 @@ ghost use Rattle.viewer.specs.Sending.{sending_kept};
 ghost use Rattle.viewer.specs.Given.{bytes_given};
 ghost use Rattle.copy_schedule.specs.Log.{IsCutEntry};
 ghost use Rattle.viewer.specs.Told.{viewer_told};
+ghost use Rattle.viewer_list.specs.Viewers.{is_pending};
 ghost use Rattle.viewer_list.specs.Lagging.{waiting, caught_up, up_to_date, IsCurrent, Fits, IsShared, IsFor};
 
 use framebuffer::Framebuffer;
@@ -155,6 +156,14 @@ pub fn hear_one(
     let reply = lagging.viewer.hear_after(lacked, name, piece)?;
     lagging.taken = log.len();
     Ok(reply)
+}
+
+/// Whether an update that is cut now would have something to send. The marks lack the drawing still.
+pub fn is_pending_one(lagging: &Lagging, log: &[LogEntry]) -> bool
+    requires { Fits log.now lagging.now }
+    ensures { result ≡ is_pending (caught_up log.now lagging.now) }
+{
+    lagging.viewer.is_pending_after(lacked(log, lagging))
 }
 
 /// An update is cut for the viewer, once its marks have caught up.

@@ -1,10 +1,10 @@
 //! The viewers of a screen, and one log of the drawing that some of them lack.
 //!
-//! A viewer's marks are needed where it asks for places, and only then: one that asks is told of each drawing call at once.
-//! One that asks for nothing only lags: the call appends an entry to the log, which stands there once for all of them, and the
-//! viewer, which keeps its place in the log, catches up before its next bytes are heard or an update is cut for it. Where nobody
-//! asks, a drawing call visits no viewer, however many there are. Contracts see each viewer as it would be had it
-//! been told of all drawing at once; the log is in no clause.
+//! A viewer's marks are needed where an update is cut for it, and where its messages change them. Until then it only lags: a drawing
+//! call appends an entry to the log, which stands there once for all viewers, and visits none of them, however many there are and
+//! whatever they ask for. A viewer keeps its place in the log, and catches up before its next bytes are heard or an update is cut for
+//! it. Whether something is to be sent to it is read from its marks and from the entries that they lack. Contracts see each viewer
+//! as it would be had it been told of all drawing at once; the log is in no clause.
 //!
 //! The log has at most 256 entries besides joined ones, which are its first. Before a further one comes, they are joined as well:
 //! where all are marks, one region takes their place, and a viewer that lacked them all lacks one entry in their place. Nobody's
@@ -18,7 +18,6 @@
 #![tactic(auto)]
 
 ghost use Rattle.std.specs.Prelude.{◌≡◌, ◌≢◌, ◌++◌, ◌∷◌, [], ℕ, List, All, ◌≤◌, ◌^◌, ◌==◌, not, filter, length, IsTrue, ◌↔◌, IfOk, IfSome, OnOk, OnErr, MatchOption, MatchResult, IsOkUnless, is_some, None, Some};
-ghost use Rattle.std.specs.List.{filter_map};
 ghost use Rattle.std.specs.Map.{keys_of, values_of};
 ghost use Rattle.std.specs.Option.{option_map};
 ghost use Rattle.client_list.specs.Connected.{changed};
@@ -30,7 +29,7 @@ ghost use Rattle.viewer.specs.Hearing.{after_items, heard_reply};
 ghost use Rattle.viewer.specs.Sending.{sending_kept};
 ghost use Rattle.viewer.specs.Given.{bytes_given};
 ghost use Rattle.viewer.specs.Viewer.{KeptViewer};
-ghost use Rattle.viewer_list.specs.Viewers.{viewer_of, with_viewer, drawn, told_at_once, is_pending, IsReady, IsOfSize, viewer_noticed};
+ghost use Rattle.viewer_list.specs.Viewers.{viewer_of, with_viewer, drawn, is_pending, IsOfSize, viewer_noticed};
 
 mod joining;
 mod lagging;
@@ -40,14 +39,14 @@ mod walks;
 use client_list::{Clients, ConnectError, NoViewer};
 use framebuffer::Framebuffer;
 use joining::{join_entries, start_anew};
-use lagging::{Lagging, catch_up, cut_bytes_one, cut_one, hear_one};
+use lagging::{Lagging, cut_bytes_one, cut_one, hear_one, is_pending_one};
 use listed::Listed;
 use messages::Fault;
 use notices::{keep_texts, ring_all, texts};
 use std::alloc::{AllocError, Global};
 use std::marker::Model;
-use viewer::{LogEntry, Prepared, Reply, Update, Viewer};
-use walks::{marks_of_all, some_lags, tell_all};
+use viewer::{LogEntry, Reply, Update, Viewer};
+use walks::some_lags;
 
 /// How many entries the log has at most besides joined ones.
 const MOST: usize = 256;
@@ -60,8 +59,6 @@ pub struct ViewerList {
     log: Vec<LogEntry>,
     // how many of the log's first entries are joined ones
     joined: usize,
-    // false only where no viewer asks
-    some_may_ask: bool,
 }
 
 impl Model for ViewerList {
@@ -74,22 +71,7 @@ impl Model for ViewerList {
 
     ghost view = { λ a. record { pairs = seen a.log.items a.viewers.pairs; room = min (vec_capacity a.log) (a.joined + 256) - vec_len a.log } };
 
-    ghost invariant = { λ a. AllFit a.log.items a.joined a.some_may_ask a.viewers.pairs };
-}
-
-/// A drawing call that was prepared for the viewers: what it drew, and the marks of those that ask.
-#[derive(Drop)]
-pub struct Drawn {
-    entry: LogEntry,
-    marks: Vec<Prepared>,
-}
-
-impl Model for Drawn {
-    ghost use Rattle.viewer_list.specs.Viewers.{Drawn};
-
-    ghost Value = { Drawn };
-
-    ghost view = { λ a. record { entry = a.entry; marks = a.marks.items } };
+    ghost invariant = { λ a. AllFit a.log.items a.joined a.viewers.pairs };
 }
 
 impl ViewerList {
@@ -102,7 +84,6 @@ impl ViewerList {
             viewers: Clients::new(alloc),
             log: Vec::new(alloc),
             joined: 0,
-            some_may_ask: false,
         }
     }
 
@@ -165,12 +146,12 @@ impl ViewerList {
     }
 
     /// Whether an update that is cut now for the viewer with a number would have something to send; None where there is none.
-    /// This takes no memory: a viewer that asks lags behind nothing, and for another no place is pending.
+    /// This takes no memory.
     pub fn is_pending(&self, number: u64) -> Option<bool>
         ensures { result ≡ option_map is_pending (viewer_of self.now number) }
     {
         match self.viewers.get(number) {
-            Some(lagging) => Some(lagging.viewer.is_pending()),
+            Some(lagging) => Some(is_pending_one(lagging, &self.log)),
             None => None,
         }
     }
@@ -182,7 +163,6 @@ impl ViewerList {
         ensures refused { MatchOption (viewer_of self.old number) (IsOkUnless result OutOfMemory) (λ _. result ≡ Err NumberInUse) }
         ensures err { OnErr result (self.new ≡ self.old) }
     {
-        self.some_may_ask |= viewer.has_asked();
         let taken = self.log.len();
         self.viewers.connect(number, Lagging { viewer, taken })
     }
@@ -218,26 +198,26 @@ impl ViewerList {
         Ok(())
     }
 
-    /// Prepares a drawing call, whose copy is on each viewer's screen with its sources: all growths that it needs. The viewers
-    /// stay as they are, also after an `AllocError`.
-    pub fn prepare(&mut self, entry: LogEntry) -> Result<Drawn, AllocError>
-        requires cut { All (λ v. IsCutEntry v.marks.width v.marks.height entry) (values_of self.old.pairs) }
+    /// Makes room for a drawing call. Where 256 entries stand besides joined ones, they are joined first. The viewers stay as they
+    /// are, also after an `AllocError`.
+    pub fn prepare(&mut self) -> Result<(), AllocError>
         ensures same { self.new.pairs ≡ self.old.pairs }
-        ensures ready { IfOk result (IsReady self.new) }
-        ensures entry { IfOk result (λ drawn. drawn.entry ≡ entry) }
+        ensures ok { OnOk result (1 ≤ self.new.room) }
     {
-        self.make_room()?;
-        let marks = self.marks_of_asking(&entry)?;
-        Ok(Drawn { entry, marks })
+        if self.log.len() - self.joined >= MOST {
+            self.joined = join_entries(self.alloc, &mut self.viewers, &mut self.log, self.joined)?;
+        }
+        self.log.reserve(1)
     }
 
-    /// Each viewer is told of a drawing call that was prepared for them as they are. This takes no memory.
-    pub fn commit(&mut self, call: Drawn)
-        requires { IsReady self.old call }
-        ensures { self.new.pairs ≡ changed (drawn call.entry) self.old.pairs }
+    /// Each viewer is told of a drawing call, for which room was made. A copy is on each viewer's screen with its sources. This
+    /// takes no memory.
+    pub fn commit(&mut self, call: LogEntry)
+        requires room { 1 ≤ self.old.room }
+        requires cut { All (λ v. IsCutEntry v.marks.width v.marks.height call) (values_of self.old.pairs) }
+        ensures { self.new.pairs ≡ changed (drawn call) self.old.pairs }
     {
-        self.append(call);
-        self.tidy();
+        self.log.push_reserved(call);
     }
 
     /// A piece of a viewer's bytes is heard (RFC 6143, 7.1 to 7.5): what it is answered, what it tells the application, and why
@@ -316,41 +296,6 @@ impl ViewerList {
         Ok(bytes)
     }
 
-    // Room for one entry more. Where 256 stand besides joined ones, they are joined first.
-    fn make_room(&mut self) -> Result<(), AllocError>
-        ensures same { self.new.pairs ≡ self.old.pairs }
-        ensures ok { OnOk result (1 ≤ self.new.room) }
-    {
-        if self.log.len() - self.joined >= MOST {
-            self.joined = join_entries(self.alloc, &mut self.viewers, &mut self.log, self.joined)?;
-        }
-        self.log.reserve(1)
-    }
-
-    // The marks of each viewer that asks, once it is told of a drawing call. There is no walk where nobody asks since the last one.
-    fn marks_of_asking(&mut self, entry: &LogEntry) -> Result<Vec<Prepared>, AllocError>
-        requires cut { All (λ v. IsCutEntry v.marks.width v.marks.height entry.now) (values_of self.old.pairs) }
-        ensures same { self.new ≡ self.old }
-        ensures marks { IfOk result (λ marks. marks.items ≡ filter_map (told_at_once entry.now) (values_of self.old.pairs)) }
-    {
-        if !self.some_may_ask {
-            return Ok(Vec::new(self.alloc));
-        }
-        let marks = marks_of_all(self.alloc, &self.viewers, entry)?;
-        self.some_may_ask = !marks.is_empty();
-        Ok(marks)
-    }
-
-    // The log has a drawing call more, and the viewers that ask are told of it at once.
-    fn append(&mut self, call: Drawn)
-        requires { IsReady self.old call }
-        ensures { self.new.pairs ≡ changed (drawn call.entry) self.old.pairs }
-    {
-        let Drawn { entry, marks } = call;
-        tell_all(&mut self.viewers, &entry, marks);
-        self.log.push_reserved(entry);
-    }
-
     // The log is emptied where no viewer lacks an entry.
     fn tidy(&mut self)
         ensures { self.new.pairs ≡ self.old.pairs }
@@ -396,7 +341,6 @@ impl ViewerList {
             return Ok(None);
         };
         let reply = hear_one(lagging, &self.log, name, piece)?;
-        self.some_may_ask |= lagging.viewer.has_asked();
         Ok(Some(reply))
     }
 

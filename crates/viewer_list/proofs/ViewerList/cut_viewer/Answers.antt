@@ -6,8 +6,7 @@ use Rattle.copy_schedule.specs.declared.LogEntry.{LogEntry}
 use Rattle.viewer.specs.Sending.{sending_kept}
 use Rattle.viewer.specs.Given.{bytes_given}
 use Rattle.viewer.specs.Viewer.{KeptViewer}
-use Rattle.viewer_list.specs.Lagging.{caught_up, AsksNothing, Fits}
-use Rattle.viewer_list.proofs.LagLemmas.{alike_asks_nothing, sent_asks_nothing}
+use Rattle.viewer_list.specs.Lagging.{caught_up, Fits}
 use Rattle.viewer_list.proofs.ListLemmas.{viewer-some, viewer-absent, viewer-set, viewer-same, all-numbered, all-set}
 use Rattle.viewer_list.proofs.ViewerList.cut_viewer.Goals as goal
 
@@ -30,14 +29,12 @@ pub invariant_of-self-in_err-update : goal.invariant_of-self-in_err-update
 invariant_of-self-in_err-update c = record {
   short = c.self.invariant.short;
   each = all-set (Fits c.self.inside.log.items) c.self.inside.viewers.pairs (index_of_number c.self.inside.viewers c.args.number) c.cut_one.new.lagging c.self.invariant.each (subst (λ (es : List LogEntry). Fits es c.cut_one.new.lagging) c.deref.ensures.value c.cut_one.ensures.fits);
-  quiet = λ none. all-set AsksNothing c.self.inside.viewers.pairs (index_of_number c.self.inside.viewers c.args.number) c.cut_one.new.lagging (c.self.invariant.quiet none) (alike_asks_nothing c.self.inside.log.items c.cut_one.new.lagging c.in-Some.lagging.now (subst (λ (es : List LogEntry). caught_up es c.cut_one.new.lagging ≡ caught_up es c.in-Some.lagging.now) c.deref.ensures.value c.in_err-update.ensures.err) (all-numbered AsksNothing c.self.inside.viewers.pairs c.args.number c.in-Some.lagging.now (c.self.invariant.quiet none) c.in-Some.ensures.value));
 }
 
 pub invariant_of-self-2 : goal.invariant_of-self-2
 invariant_of-self-2 c = record {
   short = c.self.invariant.short;
   each = all-set (Fits c.self.inside.log.items) c.self.inside.viewers.pairs (index_of_number c.self.inside.viewers c.args.number) c.cut_one.new.lagging c.self.invariant.each (subst (λ (es : List LogEntry). Fits es c.cut_one.new.lagging) c.deref.ensures.value c.cut_one.ensures.fits);
-  quiet = λ none. all-set AsksNothing c.self.inside.viewers.pairs (index_of_number c.self.inside.viewers c.args.number) c.cut_one.new.lagging (c.self.invariant.quiet none) (sent_asks_nothing c.self.inside.log.items _ _ _ _ c.in-Some.lagging.now c.cut_one.new.lagging (subst (λ (es : List LogEntry). caught_up es c.cut_one.new.lagging ≡ (sending_kept c.args.picture.now.width c.args.picture.now.height c.args.limit c.args.picture.now.colours (caught_up es c.in-Some.lagging.now)).1) c.deref.ensures.value c.in_ok-update.ensures.viewer) (all-numbered AsksNothing c.self.inside.viewers.pairs c.args.number c.in-Some.lagging.now (c.self.invariant.quiet none) c.in-Some.ensures.value));
 }
 
 pub returns-in_err-update-clause-absent : goal.returns-in_err-update-clause-absent

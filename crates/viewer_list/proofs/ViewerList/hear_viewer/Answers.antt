@@ -9,8 +9,7 @@ use Rattle.messages.specs.Reading.{rest, new_items}
 use Rattle.viewer.specs.declared.Reply.{Reply}
 use Rattle.viewer.specs.Hearing.{after_items, heard_reply}
 use Rattle.viewer.specs.Viewer.{KeptViewer}
-use Rattle.viewer_list.specs.Lagging.{caught_up, AsksNothing, Fits}
-use Rattle.viewer_list.proofs.LagLemmas.{alike_asks_nothing}
+use Rattle.viewer_list.specs.Lagging.{caught_up, Fits}
 use Rattle.viewer_list.proofs.ListLemmas.{viewer-some, viewer-absent, viewer-set, viewer-same, size-set, all-numbered, all-set}
 use Rattle.viewer_list.specs.Viewers.{Viewers, IsOfSize}
 use Rattle.std.specs.Map.{values_of}
@@ -30,14 +29,12 @@ pub invariant_of-self-in_err-reply : goal.invariant_of-self-in_err-reply
 invariant_of-self-in_err-reply c = record {
   short = c.self.invariant.short;
   each = all-set (Fits c.self.inside.log.items) c.self.inside.viewers.pairs (index_of_number c.self.inside.viewers c.args.number) c.hear_one.new.lagging c.self.invariant.each (subst (λ (es : List LogEntry). Fits es c.hear_one.new.lagging) c.deref.ensures.value c.hear_one.ensures.fits);
-  quiet = λ none. all-set AsksNothing c.self.inside.viewers.pairs (index_of_number c.self.inside.viewers c.args.number) c.hear_one.new.lagging (c.self.invariant.quiet none) (alike_asks_nothing c.self.inside.log.items c.hear_one.new.lagging c.in-Some.lagging.now (subst (λ (es : List LogEntry). caught_up es c.hear_one.new.lagging ≡ caught_up es c.in-Some.lagging.now) c.deref.ensures.value c.in_err-reply.ensures.err) (all-numbered AsksNothing c.self.inside.viewers.pairs c.args.number c.in-Some.lagging.now (c.self.invariant.quiet none) c.in-Some.ensures.value));
 }
 
 pub invariant_of-self-2 : goal.invariant_of-self-2
 invariant_of-self-2 c = record {
   short = c.self.invariant.short;
   each = all-set (Fits c.self.inside.log.items) c.self.inside.viewers.pairs (index_of_number c.self.inside.viewers c.args.number) c.hear_one.new.lagging c.self.invariant.each (subst (λ (es : List LogEntry). Fits es c.hear_one.new.lagging) c.deref.ensures.value c.hear_one.ensures.fits);
-  quiet = λ none. let parts = or_parts c.self.inside.some_may_ask c.has_asked.result none in all-set AsksNothing c.self.inside.viewers.pairs (index_of_number c.self.inside.viewers c.args.number) c.hear_one.new.lagging (c.self.invariant.quiet parts.0) (sym c.has_asked.ensures ∙ parts.1);
 }
 
 pub returns-in_err-reply-clause-absent : goal.returns-in_err-reply-clause-absent

@@ -1,20 +1,22 @@
-use Rattle.std.proofs.Common.{◌∙◌, ◌≤◌, ℕ, sym, ap, subst, List, All}
-use Rattle.std.specs.List.{filter_map}
-use Rattle.std.specs.Map.{values_of}
-use Rattle.copy_schedule.specs.Log.{IsCutEntry}
-use Rattle.viewer.specs.Viewer.{KeptViewer}
-use Rattle.viewer_list.specs.Viewers.{Viewers, told_at_once}
+use Rattle.std.proofs.Common.{sym, subst, arith, List}
+use Rattle.copy_schedule.specs.declared.LogEntry.{LogEntry}
+use Rattle.viewer_list.specs.Lagging.{IsBounded, AllFit}
 use Rattle.viewer_list.proofs.ViewerList.prepare.Goals as goal
+use Rattle.viewer_list.proofs.ViewerList.prepare.Goals.{then-len-self-ge-MOST+in_ok-self-inside, else-len-self-ge-MOST}
 
-pub marks_of_asking-requires : goal.marks_of_asking-requires
-marks_of_asking-requires c = record {
-  cut = subst (λ (ps : List (ℕ × KeptViewer)). All (λ v. IsCutEntry v.marks.width v.marks.height c.args.entry) (values_of ps)) (sym c.make_room.ensures.same) c.requires.cut;
+pub invariant_of-self : goal.invariant_of-self
+invariant_of-self c = record {
+  short = subst (λ (es : List LogEntry). IsBounded es c.self.inside.joined) (sym c.in_err-self-inside.ensures.err) c.self.invariant.short;
+  each = c.join_entries.ensures.fits;
 }
 
-pub returns-clause-ready : goal.returns-clause-ready
-returns-clause-ready c = record {
-  room = subst (λ (s : Viewers). 1 ≤ s.room) (sym c.marks_of_asking.ensures.same) c.in_ok-make_room.ensures.ok;
-  marks = c.in_ok-marks.ensures.marks ∙ ap (λ (s : Viewers). filter_map (told_at_once c.args.entry) (values_of s.pairs)) (sym c.marks_of_asking.ensures.same);
-  cut = subst (λ (s : Viewers). All (λ v. IsCutEntry v.marks.width v.marks.height c.args.entry) (values_of s.pairs)) (sym c.marks_of_asking.ensures.same)
-      (subst (λ (ps : List (ℕ × KeptViewer)). All (λ v. IsCutEntry v.marks.width v.marks.height c.args.entry) (values_of ps)) (sym c.make_room.ensures.same) c.requires.cut);
-}
+pub invariant_of-self-2 : goal.invariant_of-self-2
+invariant_of-self-2 c =
+    subst (λ (es : List LogEntry). AllFit es c.if-len-self-ge-MOST.self-inside.joined c.if-len-self-ge-MOST.self-inside.viewers.pairs) (sym c.reserve.ensures.items)
+    (elim c.if-len-self-ge-MOST.branch [
+      | then-len-self-ge-MOST+in_ok-self-inside w ↦ rw w.self-inside-is (record {
+        short = record { within = omega (arith, w.in_ok-self-inside.ensures.len); few = w.in_ok-self-inside.ensures.few; others = omega (arith, w.in_ok-self-inside.ensures.len) };
+        each = w.join_entries.ensures.fits;
+      })
+      | else-len-self-ge-MOST w ↦ rw w.self-inside-is c.self.invariant
+    ])

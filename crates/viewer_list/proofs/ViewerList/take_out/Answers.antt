@@ -2,7 +2,7 @@ use Rattle.std.proofs.Common.{◌∙◌, ◌==◌, sym, ap, subst, not}
 use Rattle.std.proofs.lemmas.Option.{none-some}
 use Rattle.client_list.specs.Connected.{Connected}
 use Rattle.viewer_list.specs.declared.lagging.Lagging.{Lagging}
-use Rattle.viewer_list.specs.Lagging.{seen, AsksNothing, Fits, AllFit}
+use Rattle.viewer_list.specs.Lagging.{seen, Fits, AllFit}
 use Rattle.viewer_list.specs.Viewers.{Viewers}
 use Rattle.std.specs.Prelude.{filter}
 use Rattle.viewer_list.proofs.ListLemmas.{viewer-some, viewer-absent, all-some, seen-filter}
@@ -14,9 +14,8 @@ invariant_of-self c = elim c.match-remove.branch [
   | in-Ok w ↦ record {
     short = c.self.invariant.short;
     each = rw w.in-Ok.ensures.others (all-some (Fits c.self.inside.log.items) (λ pair. not (pair.0 == c.args.number)) c.self.inside.viewers.pairs c.self.invariant.each);
-    quiet = λ none. rw w.in-Ok.ensures.others (all-some AsksNothing (λ pair. not (pair.0 == c.args.number)) c.self.inside.viewers.pairs (c.self.invariant.quiet none));
   }
-  | in-Err w ↦ subst (λ (l : Connected Lagging). AllFit c.self.inside.log.items c.self.inside.joined c.self.inside.some_may_ask l.pairs) (sym w.in-Err.ensures.err) c.self.invariant
+  | in-Err w ↦ subst (λ (l : Connected Lagging). AllFit c.self.inside.log.items c.self.inside.joined l.pairs) (sym w.in-Err.ensures.err) c.self.invariant
 ]
 
 pub returns-clause-ok : goal.returns-clause-ok

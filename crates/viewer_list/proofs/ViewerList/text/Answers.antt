@@ -3,16 +3,15 @@ use Rattle.std.specs.Map.{values_of}
 use Rattle.client_list.specs.Connected.{changed}
 use Rattle.viewer.specs.declared.notices.Notice.TheVariants as notice
 use Rattle.viewer_list.specs.declared.lagging.Lagging.{Lagging}
-use Rattle.viewer_list.specs.Lagging.{seen, AsksNothing, Fits}
+use Rattle.viewer_list.specs.Lagging.{seen, Fits}
 use Rattle.viewer_list.specs.Viewers.{Viewers, viewer_noticed}
-use Rattle.viewer_list.proofs.ListLemmas.{seen-noticed, fit-noticed, quiet-noticed}
+use Rattle.viewer_list.proofs.ListLemmas.{seen-noticed, fit-noticed}
 use Rattle.viewer_list.proofs.ViewerList.text.Goals as goal
 
 pub invariant_of-self : goal.invariant_of-self
 invariant_of-self c = record {
   short = c.self.invariant.short;
   each = subst (λ (ps : List (ℕ × Lagging)). All (Fits c.self.inside.log.items) (values_of ps)) (sym c.keep_texts.ensures) (fit-noticed c.self.inside.log.items (notice.CutText c.args.text.now) c.self.inside.viewers.pairs c.self.invariant.each);
-  quiet = λ none. subst (λ (ps : List (ℕ × Lagging)). All AsksNothing (values_of ps)) (sym c.keep_texts.ensures) (quiet-noticed (notice.CutText c.args.text.now) c.self.inside.viewers.pairs (c.self.invariant.quiet none));
 }
 
 pub returns-clause-ok : goal.returns-clause-ok

@@ -56,8 +56,8 @@ move_colours-requires-2-clause-inside c = alike c.width-width.result c.height-he
 pub move_colours-requires-2-clause-sources : goal.move_colours-requires-2-clause-sources
 move_colours-requires-2-clause-sources c = alike c.width-width.result c.height-height.result c.self.inside.picture.width c.self.inside.picture.height (source_rect _) c.in_ok-pieces.pieces.items c.deref-3.result.now c.width-width.ensures.value c.height-height.ensures.value c.deref-3.ensures.value c.in_ok-pieces.ensures.sources
 
-pub prepare-requires : goal.prepare-requires
-prepare-requires c =
+pub commit-requires-clause-cut : goal.commit-requires-clause-cut
+commit-requires-clause-cut c =
     let here = c.self.inside in
     let dx : FitsSigned w32 c.args.dx = c.ranges.dx in
     let dy : FitsSigned w32 c.args.dy = c.ranges.dy in
@@ -66,15 +66,14 @@ prepare-requires c =
     (simp to_z-of_z at c.in_ok-pieces.ensures.places) ∙ cut-on here.config here.picture c.self.invariant.width c.self.invariant.height c.width-width.result c.height-height.result c.width-width.ensures.value c.height-height.ensures.value (union_of c.args.rects.now) (c.args.dx, c.args.dy) in
     let region : covers c.in_ok-region.region.list ≡ cut_destination here.config.width here.config.height (union_of c.args.rects.now) (c.args.dx, c.args.dy) = c.in_ok-region.ensures ∙ ap covers c.deref-2.ensures.value ∙ places in
     let cut : All (λ (s : KeptViewer). IsCutEntry s.marks.width s.marks.height (Copy c.in_ok-region.region c.args.dx c.args.dy)) (values_of here.viewers.pairs) = all-cut here.config (union_of c.args.rects.now) c.in_ok-region.region c.args.dx c.args.dy (values_of here.viewers.pairs) region c.self.invariant.sized in
-    record { cut = simp to_z-of_z cut }
+    simp to_z-of_z (subst (λ (ps : List (ℕ × KeptViewer)). All (λ (s : KeptViewer). IsCutEntry s.marks.width s.marks.height (Copy c.in_ok-region.region c.args.dx c.args.dy)) (values_of ps)) (sym c.prepare.ensures.same) cut)
 
 pub invariant_of-self-2 : goal.invariant_of-self-2
 invariant_of-self-2 c =
     let here = c.self.inside in
     let dx : FitsSigned w32 c.args.dx = c.ranges.dx in
     let dy : FitsSigned w32 c.args.dy = c.ranges.dy in
-    let entry : c.in_ok-drawn.drawn.entry ≡ Copy c.in_ok-region.region c.args.dx c.args.dy = simp to_z-of_z at c.in_ok-drawn.ensures.entry in
-    let told = told-all _ (Copy c.in_ok-region.region c.args.dx c.args.dy) here.viewers.pairs _ _ c.commit.ensures entry c.prepare.ensures.same in
+    let told = told-all _ (Copy c.in_ok-region.region c.args.dx c.args.dy) here.viewers.pairs _ _ (simp to_z-of_z at c.commit.ensures) refl c.prepare.ensures.same in
     record {
       accepted = c.self.invariant.accepted;
       width = wide-now here.config here.picture c.self.invariant.width c.self.invariant.height c.move_colours-2.new.self _ c.in_ok-move_colours-2.ensures.ok;
@@ -93,8 +92,7 @@ returns-clause-step c = λ config list h.
     let region : covers c.in_ok-region.region.list ≡ cut_destination here.config.width here.config.height (union_of c.args.rects.now) (c.args.dx, c.args.dy) = c.in_ok-region.ensures ∙ ap covers c.deref-2.ensures.value ∙ places in
     let why : (same_offset (c.args.dx, c.args.dy) (pos 0, pos 0) ≡ false) × (c.deref.result.now ≢ []) = simp to_z-of_z at (c.moves_nothing.ensures.no c.if-moves_nothing.false) in
     let busy = something here.config.width here.config.height (union_of c.args.rects.now) (c.args.dx, c.args.dy) pieces places (inside-on here.config here.picture c.self.invariant.width c.self.invariant.height c.width-width.result c.height-height.result c.width-width.ensures.value c.height-height.ensures.value pieces c.in_ok-pieces.ensures.inside) (subst (λ (l : List Rect). (same_offset (c.args.dx, c.args.dy) (pos 0, pos 0) ≡ false) × (l ≢ [])) c.deref.ensures.value why) in
-    let entry : c.in_ok-drawn.drawn.entry ≡ Copy c.in_ok-region.region c.args.dx c.args.dy = simp to_z-of_z at c.in_ok-drawn.ensures.entry in
-    let told = told-all _ (Copy c.in_ok-region.region c.args.dx c.args.dy) here.viewers.pairs _ _ c.commit.ensures entry c.prepare.ensures.same in
+    let told = told-all _ (Copy c.in_ok-region.region c.args.dx c.args.dy) here.viewers.pairs _ _ (simp to_z-of_z at c.commit.ensures) refl c.prepare.ensures.same in
     let picture : c.move_colours-2.new.self.colours ≡ moved here.config.width here.config.height (cut_destination here.config.width here.config.height (union_of c.args.rects.now) (c.args.dx, c.args.dy)) (c.args.dx, c.args.dy) here.picture.colours =
     moved-on here.config here.picture c.self.invariant.width c.self.invariant.height c.move_colours-2.new.self (covers c.deref-3.result.now) (c.args.dx, c.args.dy) (simp to_z-of_z at c.in_ok-move_colours-2.ensures.ok) ∙ ap (λ (f : ℤ → ℤ → Bool). moved here.config.width here.config.height f (c.args.dx, c.args.dy) here.picture.colours) (ap covers c.deref-3.ensures.value ∙ places) in
     let after : List (ℕ × KeptViewer) → SceneState = λ l. record { config = here.config; picture = c.move_colours-2.new.self.colours; viewers = l } in

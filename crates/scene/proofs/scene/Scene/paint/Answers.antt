@@ -11,7 +11,7 @@ use Rattle.scene.proofs.scene.Scene.paint.Goals as goal
 
 pub invariant_of-self-2 : goal.invariant_of-self-2
 invariant_of-self-2 c =
-    let made = told-all _ (entry.Mark c.in_ok-region.region) c.self.inside.viewers.pairs _ _ c.commit.ensures c.in_ok-drawn.ensures.entry c.prepare.ensures.same in
+    let made = told-all _ (entry.Mark c.in_ok-region.region) c.self.inside.viewers.pairs _ _ c.commit.ensures refl c.prepare.ensures.same in
     record {
       accepted = c.self.invariant.accepted;
       width = wide-now c.self.inside.config c.self.inside.picture c.self.invariant.width c.self.invariant.height c.write-2.new.self _ c.in_ok-write-2.ensures.ok;
@@ -22,7 +22,7 @@ invariant_of-self-2 c =
 pub returns-clause-step : goal.returns-clause-step
 returns-clause-step c = λ config list h.
     let here = c.self.inside in
-    let made = told-all _ (entry.Mark c.in_ok-region.region) here.viewers.pairs _ _ c.commit.ensures c.in_ok-drawn.ensures.entry c.prepare.ensures.same in
+    let made = told-all _ (entry.Mark c.in_ok-region.region) here.viewers.pairs _ _ c.commit.ensures refl c.prepare.ensures.same in
     let after : List (ℕ × KeptViewer) → SceneState = λ pairs. record { config = here.config; picture = c.write-2.new.self.colours; viewers = pairs } in
     ap after made
     ∙ state-drawn config here.config here.picture.colours c.write-2.new.self.colours here.viewers.pairs (drawn (entry.Mark c.in_ok-region.region)) (Paint c.args.rect c.args.colours.now) list refl c.in_ok-block.ensures.refusal
