@@ -1,22 +1,10 @@
 //! 2,000 calls on a region, and unions of many rectangles, beside a board of 12 by 12 places, by a stated sequence of numbers.
 
-ghost use Rattle.std.specs.Prelude.{◌<◌};
-
 use super::*;
+use crate::tests::numbers::drawn;
 
 /// The places of the board, row by row.
 type Board = [bool; 144];
-
-/// The next number of the sequence n * 6364136223846793005 + 1442695040888963407 modulo 2^64, of which the high bits are
-/// drawn.
-fn drawn(seed: &mut u64, below: u8) -> i32
-    requires { 0 < below }
-{
-    *seed = seed
-        .wrapping_mul(6_364_136_223_846_793_005)
-        .wrapping_add(1_442_695_040_888_963_407);
-    ((*seed >> 33) % u64::from(below)) as i32
-}
 
 fn drawn_rect(seed: &mut u64) -> Rect {
     let x1 = drawn(seed, 12);

@@ -1,10 +1,7 @@
-//! Regions in linked spans beside worked examples: the orders of a canonical list, and a union in room that was made before. Room
-//! that is refused is asked for again.
+//! A frame: the four orders of its list, and its hole, filled in room that was made before. Room that is refused is asked for
+//! again.
 
-use region::Rect;
-use span_region::SpanRegion;
-use std::alloc::{AllocError, Global};
-use std::test::Fail;
+use super::*;
 
 const TOP: Rect = Rect {
     x1: 0,
@@ -48,20 +45,16 @@ const WHOLE: Rect = Rect {
     y2: 4,
 };
 
-fn region_of(alloc: Global, rect: Rect) -> Result<SpanRegion, AllocError> {
-    SpanRegion::from_rect(alloc, rect).map_err(|_| AllocError)
-}
-
 /// The whole without its middle.
-fn frame(alloc: Global) -> Result<SpanRegion, AllocError> {
+fn frame(alloc: Global) -> Result<Region, AllocError> {
     let mut region = region_of(alloc, WHOLE)?;
     let middle = region_of(alloc, MIDDLE)?;
     region.subtract(&middle)?;
     Ok(region)
 }
 
-fn is_list(
-    region: &SpanRegion,
+fn is_list_in(
+    region: &Region,
     reverse_x: bool,
     reverse_y: bool,
     list: &[Rect],
@@ -73,15 +66,15 @@ fn is_list(
 #[test]
 fn a_frame_in_four_orders(rt: HostRuntime) -> Result<(), Fail> {
     let region = frame(rt.alloc())?;
-    assert!(rt; is_list(&region, false, false, &[TOP, LEFT, RIGHT, BOTTOM])?);
-    assert!(rt; is_list(&region, true, false, &[TOP, RIGHT, LEFT, BOTTOM])?);
-    assert!(rt; is_list(&region, false, true, &[BOTTOM, LEFT, RIGHT, TOP])?);
-    assert!(rt; is_list(&region, true, true, &[BOTTOM, RIGHT, LEFT, TOP])?);
+    assert!(rt; is_list_in(&region, false, false, &[TOP, LEFT, RIGHT, BOTTOM])?);
+    assert!(rt; is_list_in(&region, true, false, &[TOP, RIGHT, LEFT, BOTTOM])?);
+    assert!(rt; is_list_in(&region, false, true, &[BOTTOM, LEFT, RIGHT, TOP])?);
+    assert!(rt; is_list_in(&region, true, true, &[BOTTOM, RIGHT, LEFT, TOP])?);
     Ok(())
 }
 
 /// Room for the union, made again where it is refused; whether there is none after a refusal, and then enough.
-fn has_new_room(region: &mut SpanRegion, other: &SpanRegion) -> Result<bool, AllocError> {
+fn has_new_room(region: &mut Region, other: &Region) -> Result<bool, AllocError> {
     let had_room = region.is_reserved_for(other);
     if region.reserve_or(other).is_ok() {
         return Ok(!had_room && region.is_reserved_for(other));
@@ -91,7 +84,7 @@ fn has_new_room(region: &mut SpanRegion, other: &SpanRegion) -> Result<bool, All
     Ok(!had_room && is_refused && region.is_reserved_for(other))
 }
 
-fn or_in_room(region: &mut SpanRegion, other: &SpanRegion) -> bool {
+fn or_in_room(region: &mut Region, other: &Region) -> bool {
     let has_room = region.is_reserved_for(other);
     if has_room {
         region.or_reserved(other);
@@ -104,8 +97,8 @@ fn a_union_in_room(rt: HostRuntime) -> Result<(), Fail> {
     let mut region = region_of(rt.alloc(), MIDDLE)?;
     let frame = frame(rt.alloc())?;
     assert!(rt; has_new_room(&mut region, &frame)?);
-    assert!(rt; is_list(&region, false, false, &[MIDDLE])?);
+    assert!(rt; is_list_in(&region, false, false, &[MIDDLE])?);
     assert!(rt; or_in_room(&mut region, &frame));
-    assert!(rt; is_list(&region, false, false, &[WHOLE])?);
+    assert!(rt; is_list_in(&region, false, false, &[WHOLE])?);
     Ok(())
 }
