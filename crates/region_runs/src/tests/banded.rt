@@ -79,17 +79,16 @@ fn column_edges(alloc: Global, first: &[Rect], second: &[Rect]) -> Result<Vec<i3
 
 /// Puts a cell behind a row's rectangles, as one with the last of them where they touch.
 fn put_cell(row: &mut Vec<Rect>, cell: Rect) -> Result<(), AllocError> {
-    match row.pop() {
-        Some(last) if last.x2 == cell.x1 => row.push(Rect {
-            x1: last.x1,
-            ..cell
-        }),
-        Some(last) => {
+    let mut cell = cell;
+    if let Some(last) = row.pop() {
+        if last.x2 == cell.x1 {
+            cell.x1 = last.x1;
+        } else {
             row.push(last)?;
-            row.push(cell)
         }
-        None => row.push(cell),
     }
+    row.push(cell)?;
+    Ok(())
 }
 
 /// Two lists, and what is kept of them.

@@ -95,6 +95,11 @@ fn pop_both(both: &mut Both, seed: &mut u64) -> Result<bool, AllocError> {
     Ok(both.banded.pop_rect(reverse_x, reverse_y)? == popped)
 }
 
+fn copy_region(both: &mut Both, alloc: Global) -> Result<bool, AllocError> {
+    let copy = both.region.try_clone(alloc);
+    replace(&mut both.region, copy)
+}
+
 fn move_both(both: &mut Both, seed: &mut u64) -> bool {
     let dx = drawn(seed, 3).wrapping_sub(1);
     let dy = drawn(seed, 3).wrapping_sub(1);
@@ -106,7 +111,7 @@ fn move_both(both: &mut Both, seed: &mut u64) -> bool {
 fn change(both: &mut Both, alloc: Global, seed: &mut u64) -> Result<bool, AllocError> {
     match drawn(seed, 20) {
         18 => Ok(move_both(both, seed)),
-        19 => replace(&mut both.region, both.region.try_clone(alloc)),
+        19 => copy_region(both, alloc),
         n if n >= 14 => pop_both(both, seed),
         n => {
             let kind = if n < 8 {
