@@ -1,6 +1,4 @@
 mod clients;
 mod marks;
 mod pictures;
-mod regions;
-mod span_regions;
 mod spans;

@@ -1,196 +1,129 @@
--- Canonical lists of no rectangle and of one, and lists that are moved.
-use Rattle.std.proofs.Common.{◌≡◌, ◌≢◌, ℕ, zero, suc, ◌+◌, ◌<◌, ◌≤◌, min, Bool, true, false, ◌&&◌, List, [], ◌∷◌, ◌++◌, map, take, drop, get_or, length, refl, sym, ◌∙◌, ap, subst, below_more, arith}
-use Rattle.std.specs.Prelude.{ℤ, ◌<ℤ◌, ◌≤ℤ◌, int_lt, ◌||◌, slice_index_or}
-use Rattle.std.specs.Ordering.{int_eq}
-use Rattle.std.proofs.Math.ListN.{set}
-use Rattle.std.proofs.lemmas.Bool.Decides.{Decides-int_eq}
+-- The bands of one rectangle, and when there are no rectangles.
+use Rattle.std.proofs.Common.{◌≡◌, ◌≢◌, ◌+◌, length, Bool, true, false, ◌&&◌, List, [], ◌∷◌, refl, sym, ◌∙◌, ap, subst, arith, Option, Some, None}
+use Rattle.std.specs.Prelude.{ℤ, ◌<ℤ◌, int_lt, int_le, ◌||◌, IsTrue, ◌↔◌, IfSome, not, slice_get}
+use Rattle.std.specs.Option.{option_map, is_some}
+use Rattle.band_list.specs.declared.Rows.{Rows}
 use Rattle.std.proofs.lemmas.Int.{ints}
-use Rattle.std.specs.Global.{Vec}
-use Rattle.std.specs.Vec.{with_items}
-use Rattle.std.proofs.lemmas.List.{with_items_is, append-nil, append_assoc, map-append, length-append, length-map, length-take, take-append-drop}
+use Rattle.std.proofs.lemmas.List.{length-append, length-map}
 use Rattle.region.specs.declared.Rect.{Rect}
-use Rattle.region.specs.Held.{one_if, Mapped, MappedTo}
-use Rattle.region.specs.Rows.{interval_of}
-use Rattle.region.specs.Region.{Interval, in_rect, covers, IsCanonical}
+use Rattle.region.specs.Region.{in_rect, covers}
+use Rattle.region.specs.Held.{SharePlace, IsBox}
+use Rattle.band_queries.specs.declared.Rectangle.{Rectangle}
+use Rattle.band_queries.specs.Queries.{intervals_in_all, in_rectangle, IsBounds, SharePlace as BandsShare}
+use Rattle.band_list.specs.declared.Interval.{Interval}
+use Rattle.band_list.specs.Bands.{Band, Bands, rows_of, nothing}
+use Rattle.row_walks.specs.declared.Keep.{Keep}
+use Rattle.row_walks.specs.Rows.{kept}
+use Rattle.band_walks.specs.Sets.{has, AreBands, IsKept}
+use Rattle.region.specs.Rects.{rect_of, rect_in, rects_of_band, rects_in, band_of, AreRectBands}
+use Rattle.region.proofs.BandRectLemmas.{covers_has}
 
-pub canonical-none : (rs : List Rect) → rs ≡ [] → IsCanonical rs
-canonical-none rs e = ([], (tt, tt), e)
-
-pub canonical-one : (rs : List Rect) (r : Rect) → rs ≡ r ∷ [] → r.x1 <ℤ r.x2 → r.y1 <ℤ r.y2 → IsCanonical rs
-canonical-one rs r e columns rows = (
-  record { from = r.y1; to = r.y2; value = record { from = r.x1; to = r.x2; value = tt } ∷ [] } ∷ [],
-  (rows, (record { some = λ n. cc; intervals = columns }, tt)),
-  e,
-)
-
-or_false : (b : Bool) → (b || false) ≡ b
-or_false true = refl
-or_false false = refl
-
-pub covers-one : (rs : List Rect) (r : Rect) (x y : ℤ) → rs ≡ r ∷ [] → covers rs x y ≡ in_rect r x y
-covers-one rs r x y e = ap (λ l. covers l x y) e ∙ or_false (in_rect r x y)
-
--- a list of one rectangle
-pub covers-single : (rs : List Rect) (x y : ℤ) (d : Rect) → 1 ≤ length rs → length rs < 2 → covers rs x y ≡ in_rect (slice_index_or rs 0 d) x y
-covers-single [] x y d some few = absurd (omega (arith, some))
-covers-single (r ∷ []) x y d some few = or_false (in_rect r x y)
-covers-single (r ∷ q ∷ rs) x y d some few = absurd (omega (arith, few))
-
--- a rectangle without columns or without rows has no places
-pub no_columns : (r : Rect) (x y : ℤ) → r.x2 ≤ℤ r.x1 → in_rect r x y ≡ false
-no_columns r x y h = grind (arith, ints)
-
-pub no_rows : (r : Rect) (x y : ℤ) → r.y2 ≤ℤ r.y1 → in_rect r x y ≡ false
-no_rows r x y h = grind (arith, ints)
-
-rows_of : (a b : Bool) (r : Rect) → int_lt r.x1 r.x2 ≡ a → int_lt r.y1 r.y2 ≡ b → IsCanonical (one_if (a && b) r)
-rows_of true true r p q = canonical-one (r ∷ []) r refl (lt_of p) (lt_of q)
+pub no_rects : (bands : List Band) → AreBands bands → rects_in bands ≡ [] → bands ≡ []
+no_rects [] h e = refl
+no_rects (b ∷ []) h e = go b.row h.columns e
   where
-    lt_of : {x y : ℤ} → int_lt x y ≡ true → x <ℤ y
-    lt_of e = grind (arith, ints)
-rows_of true false r p q = canonical-none [] refl
-rows_of false b r p q = canonical-none [] refl
-
-pub canonical-one_if : (rs : List Rect) (r : Rect) → rs ≡ one_if (int_lt r.x1 r.x2 && int_lt r.y1 r.y2) r → IsCanonical rs
-canonical-one_if rs r e = let P : List Rect → Type 0 = IsCanonical in subst P (sym e) (rows_of (int_lt r.x1 r.x2) (int_lt r.y1 r.y2) r refl refl)
-
-places_of : (a b : Bool) (r : Rect) (x y : ℤ) → int_lt r.x1 r.x2 ≡ a → int_lt r.y1 r.y2 ≡ b → covers (one_if (a && b) r) x y ≡ in_rect r x y
-places_of true true r x y p q = or_false (in_rect r x y)
-places_of true false r x y p q = sym (no_rows r x y (le_of q))
+    go : (row : List Interval) → row ≢ [] → rects_in (record b { row = row } ∷ []) ≡ [] → (b ∷ []) ≡ []
+    go [] some e = absurd (some refl)
+    go (i ∷ row) some e = cc
+no_rects (b ∷ c ∷ rest) h e = go b.row h.0.columns e
   where
-    le_of : {x y : ℤ} → int_lt x y ≡ false → y ≤ℤ x
-    le_of e = grind (arith, ints)
-places_of false b r x y p q = sym (no_columns r x y (le_of p))
+    go : (row : List Interval) → row ≢ [] → rects_in (record b { row = row } ∷ c ∷ rest) ≡ [] → (b ∷ c ∷ rest) ≡ []
+    go [] some e = absurd (some refl)
+    go (i ∷ row) some e = cc
+
+pub no_place : (r : Rect) (x y : ℤ) → (int_lt r.x1 r.x2 && int_lt r.y1 r.y2) ≡ false → false ≡ in_rect r x y
+no_place r x y e = grind (arith, ints)
+
+pub one_place : (r : Rect) (x y : ℤ) → has (band_of r ∷ []) x y ≡ in_rect r x y
+one_place r x y = go (int_le r.x1 x) (int_lt x r.x2) (int_le r.y1 y) (int_lt y r.y2)
   where
-    le_of : {x y : ℤ} → int_lt x y ≡ false → y ≤ℤ x
-    le_of e = grind (arith, ints)
+    go : (a c d e : Bool) → (((d && e) && ((a && c) || false)) || false) ≡ (((a && c) && d) && e)
+    go true true true true = refl
+    go true true true false = refl
+    go true true false e = refl
+    go true false true true = refl
+    go true false true false = refl
+    go true false false e = refl
+    go false c true true = refl
+    go false c true false = refl
+    go false c false e = refl
 
-pub covers-one_if : (rs : List Rect) (r : Rect) (x y : ℤ) → rs ≡ one_if (int_lt r.x1 r.x2 && int_lt r.y1 r.y2) r → covers rs x y ≡ in_rect r x y
-covers-one_if rs r x y e = ap (λ l. covers l x y) e ∙ places_of (int_lt r.x1 r.x2) (int_lt r.y1 r.y2) r x y refl refl
+pub no_bands : (r : Rect) (b : Bands) → b ≡ nothing → (int_lt r.x1 r.x2 && int_lt r.y1 r.y2) ≡ false → AreRectBands r b
+no_bands r b is none = subst (AreRectBands r) (sym is) (record { bands = tt; no_row = refl; places = λ x y. no_place r x y none })
 
--- what a list of a Vec is, once its slice is written
-pub written : {X : Type 0} (v : Vec X) (before new : List X) → before ≡ v.items → length new ≡ length before → (with_items v new).items ≡ new
-written v before new e same = with_items_is v new (same ∙ ap length e ∙ sym v.ok.0)
+pub only_band : (r : Rect) (b : Bands) → b ≡ record nothing { above = band_of r ∷ []; spare = b.spare } → r.x1 <ℤ r.x2 → r.y1 <ℤ r.y2 → AreRectBands r b
+only_band r b is columns rows = subst (AreRectBands r) (sym is) (record { bands = record { some = rows; row = columns; columns = λ e. cc }; no_row = refl; places = one_place r })
 
--- ---- a function of each rectangle from an index on
+pub whether_empty : (bands : List Band) (first : Option Rows) (none : Bool) → AreBands bands → first ≡ option_map rows_of (slice_get bands 0) → is_some first ≡ not none → IsTrue none ↔ (rects_in bands ≡ [])
+whether_empty [] first none h e f = go none (ap is_some (sym e) ∙ f)
+  where
+    go : (b : Bool) → false ≡ not b → IsTrue b ↔ (rects_in [] ≡ [])
+    go true e = ((λ _. refl), (λ _. refl))
+    go false e = absurd (cc)
+whether_empty (b ∷ bands) first none h e f = go none (ap is_some (sym e) ∙ f)
+  where
+    go : (t : Bool) → true ≡ not t → IsTrue t ↔ (rects_in (b ∷ bands) ≡ [])
+    go true e = absurd (cc)
+    go false e = ((λ i. absurd (cc)), (λ none. absurd (let e : b ∷ bands ≡ [] = no_rects (b ∷ bands) h none in cc)))
 
-pub mapped_none : (f : Rect → Rect) (start : ℕ) (old : List Rect) → start ≤ length old → MappedTo f start start old old
-mapped_none f start old within = record {
-  front = take start old;
-  middle = [];
-  rest = drop start old;
-  was = sym (take-append-drop start old);
-  is = sym (ap (λ l. l ++ drop start old) (append-nil (take start old)) ∙ take-append-drop start old);
-  at = length-take start old ∙ least start (length old) within;
-  to = omega arith;
+-- ---- what is asked of bands is what is asked of their rectangles
+
+pub shares : (a b : List Band) (rs qs : List Rect) (t : Bool) → rs ≡ rects_in a → qs ≡ rects_in b → IsTrue t ↔ BandsShare a b → IsTrue t ↔ SharePlace rs qs
+shares a b rs qs t e f h = (λ yes. let s = h.0 yes in (s.0, (s.1.0, same s.0 s.1.0 ∙ s.1.1)), λ s. h.1 (s.0, (s.1.0, sym (same s.0 s.1.0) ∙ s.1.1)))
+  where
+    same : (x y : ℤ) → (covers rs x y && covers qs x y) ≡ (has a x y && has b x y)
+    same x y = ap (λ r. covers r x y && covers qs x y) e ∙ ap (λ r. covers (rects_in a) x y && covers r x y) f
+        ∙ ap (λ p. p && covers (rects_in b) x y) (covers_has a x y) ∙ ap (λ p. has a x y && p) (covers_has b x y)
+
+pub counted : (bands : List Band) → intervals_in_all bands ≡ length (rects_in bands)
+counted [] = refl
+counted (b ∷ bands) = ap (λ n. length b.row + n) (counted bands) ∙ ap (λ n. n + length (rects_in bands)) (sym (length-map b.row (rect_of (rows_of b)))) ∙ sym (length-append (rects_of_band b) (rects_in bands))
+
+abbrev pub rectangle_of : Rect → Rectangle
+rectangle_of r = record { rows = record { top = r.y1; bottom = r.y2 }; columns = record { from = r.x1; to = r.x2 } }
+
+pub in_same : (r : Rect) (x y : ℤ) → in_rectangle (rectangle_of r) x y ≡ in_rect r x y
+in_same r x y = go (int_le r.x1 x) (int_lt x r.x2) (int_le r.y1 y) (int_lt y r.y2)
+  where
+    go : (a c d e : Bool) → ((d && e) && (a && c)) ≡ (((a && c) && d) && e)
+    go true true true true = refl
+    go true true true false = refl
+    go true true false e = refl
+    go true false true true = refl
+    go true false true false = refl
+    go true false false e = refl
+    go false c true true = refl
+    go false c true false = refl
+    go false c false e = refl
+
+pub boxed : (bands : List Band) (b : Rectangle) → IsBounds b bands → IsBox (rect_in b) (rects_in bands)
+boxed bands b h = record {
+  holds = λ x y within. sym (in_same (rect_in b) x y) ∙ h.holds x y (sym (covers_has bands x y) ∙ within);
+  least = λ q all. let l = h.least (rectangle_of q) (λ x y within. in_same q x y ∙ all x y (covers_has bands x y ∙ within)) in
+      record { left = l.from; top = l.top; right = l.to; bottom = l.bottom };
 }
+
+pub boxed_none : (bands : List Band) (found : Option Rectangle) (result : Option Rect) (list : List Rect) → AreBands bands → rects_in bands ≡ list → (found ≡ None) ↔ (bands ≡ []) → result ≡ option_map rect_in found → (result ≡ None) ↔ (list ≡ [])
+boxed_none bands found result list h e none is = (
+  λ r. sym e ∙ ap rects_in (none.0 (nothing_found found (sym is ∙ r))),
+  λ l. is ∙ ap (option_map rect_in) (none.1 (no_rects bands h (e ∙ l))),
+)
   where
-    least : (a b : ℕ) → a ≤ b → min a b ≡ a
-    least a b h = omega (arith, h)
+    nothing_found : (o : Option Rectangle) → option_map rect_in o ≡ None → o ≡ None
+    nothing_found None e = refl
+    nothing_found (Some r) e = absurd (cc)
 
-get-behind : (xs rest : List Rect) (r d : Rect) → get_or (xs ++ r ∷ rest) (length xs) d ≡ r
-get-behind [] rest r d = refl
-get-behind (x ∷ xs) rest r d = get-behind xs rest r d
-
-set-behind : (xs rest : List Rect) (r v : Rect) → set (xs ++ r ∷ rest) (length xs) v ≡ xs ++ v ∷ rest
-set-behind [] rest r v = refl
-set-behind (x ∷ xs) rest r v = ap (λ l. x ∷ l) (set-behind xs rest r v)
-
-pub mapped_one : (f : Rect → Rect) (start i : ℕ) (old now now' : List Rect) (d v : Rect) → MappedTo f start i old now → i < length old → v ≡ f (get_or now i d) → now' ≡ set now i v → MappedTo f start (i + 1) old now'
-mapped_one f start i old now now' d v m below value is = go m.rest refl
+pub boxed_some : (bands : List Band) (found : Option Rectangle) (result : Option Rect) (list : List Rect) → rects_in bands ≡ list → IfSome found (λ b. IsBounds b bands) → result ≡ option_map rect_in found → IfSome result (λ r. IsBox r list)
+boxed_some bands found result list e some is = subst (λ o. IfSome o (λ r. IsBox r list)) (sym is) (subst (λ l. IfSome (option_map rect_in found) (λ r. IsBox r l)) e (go found some))
   where
-    size : (front middle rest : List Rect) → old ≡ front ++ (middle ++ rest) → length old ≡ length front + (length middle + length rest)
-    size front middle rest e = ap length e ∙ length-append front (middle ++ rest) ∙ ap (λ n. length front + n) (length-append middle rest)
+    go : (o : Option Rectangle) → IfSome o (λ b. IsBounds b bands) → IfSome (option_map rect_in o) (λ r. IsBox r (rects_in bands))
+    go None h = tt
+    go (Some b) h = boxed bands b h
 
-    go : (rest : List Rect) → m.rest ≡ rest → MappedTo f start (i + 1) old now'
-    go [] e = absurd (none (length m.front) (length m.middle) (length old) (size m.front m.middle m.rest m.was ∙ ap (λ l. length m.front + (length m.middle + length l)) e) m.at m.to below)
-      where
-        none : (a b n : ℕ) → n ≡ a + (b + 0) → a ≡ start → start + b ≡ i → i < n → ⊥
-        none a b n e f g h = omega (arith, e, f, g, h)
-    go (r ∷ rest) e =
-        let xs : List Rect = m.front ++ map f m.middle in
-        let now_is : now ≡ xs ++ r ∷ rest = m.is ∙ ap (λ l. xs ++ l) e in
-        let index : i ≡ length xs = sym (length-append m.front (map f m.middle) ∙ ap (λ n. length m.front + n) (length-map m.middle f) ∙ ap (λ n. n + length m.middle) m.at ∙ m.to) in
-        let here : v ≡ f r = value ∙ ap f (ap (λ l. get_or l i d) now_is ∙ ap (λ n. get_or (xs ++ r ∷ rest) n d) index ∙ get-behind xs rest r d) in
-        record {
-          front = m.front;
-          middle = m.middle ++ r ∷ [];
-          rest = rest;
-          was = m.was ∙ ap (λ l. m.front ++ (m.middle ++ l)) e ∙ ap (λ l. m.front ++ l) (sym (append_assoc m.middle (r ∷ []) rest));
-          is = is ∙ ap (λ l. set l i v) now_is ∙ ap (λ n. set (xs ++ r ∷ rest) n v) index ∙ set-behind xs rest r v ∙ ap (λ q. xs ++ q ∷ rest) here
-              ∙ sym (append_assoc xs (f r ∷ []) rest) ∙ ap (λ l. l ++ rest) (append_assoc m.front (map f m.middle) (f r ∷ []) ∙ ap (λ l. m.front ++ l) (sym (map-append f m.middle (r ∷ []))));
-          at = m.at;
-          to = omega (arith, length-append m.middle (r ∷ []), m.to);
-        }
+-- ---- what is kept of bands is what is kept of their rectangles
 
-pub mapped_all : (f : Rect → Rect) (start i : ℕ) (old now : List Rect) → MappedTo f start i old now → length old ≤ i → Mapped f start old now
-mapped_all f start i old now m past = go m.rest refl
-  where
-    size : (front middle rest : List Rect) → old ≡ front ++ (middle ++ rest) → length old ≡ length front + (length middle + length rest)
-    size front middle rest e = ap length e ∙ length-append front (middle ++ rest) ∙ ap (λ n. length front + n) (length-append middle rest)
-
-    more : (a b c n : ℕ) → n ≡ a + (b + suc c) → a ≡ start → start + b ≡ i → n ≤ i → ⊥
-    more a b c n e f g h = omega (arith, e, f, g, h)
-
-    go : (rest : List Rect) → m.rest ≡ rest → Mapped f start old now
-    go [] e = record {
-      front = m.front;
-      rest = m.middle;
-      was = m.was ∙ ap (λ l. m.front ++ (m.middle ++ l)) e ∙ ap (λ l. m.front ++ l) (append-nil m.middle);
-      is = m.is ∙ ap (λ l. (m.front ++ map f m.middle) ++ l) e ∙ append-nil (m.front ++ map f m.middle);
-      at = m.at;
-    }
-    go (r ∷ rest) e = absurd (more (length m.front) (length m.middle) (length rest) (length old) (size m.front m.middle m.rest m.was ∙ ap (λ l. length m.front + (length m.middle + length l)) e) m.at m.to past)
-
--- ---- columns
-
-pub columns_one : (r q : Rect) → (int_eq r.x1 q.x1 && int_eq r.x2 q.x2) ≡ true → interval_of r ≡ interval_of q
-columns_one r q e = let i : ℤ → ℤ → Interval = λ a b. record { from = a; to = b; value = tt } in
-    ap (λ a. i a r.x2) ((Decides-int_eq r.x1 q.x1).0 (and-left (int_eq r.x1 q.x1) (int_eq r.x2 q.x2) e)) ∙ ap (λ b. i q.x1 b) ((Decides-int_eq r.x2 q.x2).0 (and-right (int_eq r.x1 q.x1) (int_eq r.x2 q.x2) e))
-  where
-    and-left : (a b : Bool) → (a && b) ≡ true → a ≡ true
-    and-left true b e = refl
-    and-left false b e = e
-
-    and-right : (a b : Bool) → (a && b) ≡ true → b ≡ true
-    and-right true b e = e
-    and-right false b e = cc
-
-pub columns_other : (r q : Rect) → (int_eq r.x1 q.x1 && int_eq r.x2 q.x2) ≡ false → interval_of r ≢ interval_of q
-columns_other r q e = λ same. no (sym (ap (λ a. a && int_eq r.x2 q.x2) ((Decides-int_eq r.x1 q.x1).1 (ap (λ (i : Interval). i.from) same)) ∙ (Decides-int_eq r.x2 q.x2).1 (ap (λ (i : Interval). i.to) same)) ∙ e)
-  where
-    no : true ≡ false → ⊥
-    no e = cc
-
-pub columns_all : (rs qs : List Rect) → length rs ≡ length qs → ((k : ℕ) (d : Rect) → k < length rs → interval_of (get_or rs k d) ≡ interval_of (get_or qs k d)) → map interval_of rs ≡ map interval_of qs
-columns_all [] [] e h = refl
-columns_all [] (q ∷ qs) e h = absurd (omega (arith, e))
-columns_all (r ∷ rs) [] e h = absurd (omega (arith, e))
-columns_all (r ∷ rs) (q ∷ qs) e h = ap (λ i. i ∷ map interval_of rs) (h 0 r (omega arith)) ∙ ap (λ l. interval_of q ∷ l) (columns_all rs qs (omega (arith, e)) (λ k d below. h (suc k) d (omega (arith, below))))
-
-pub columns_at : (rs qs : List Rect) (k : ℕ) (d : Rect) → k < length rs → map interval_of rs ≡ map interval_of qs → interval_of (get_or rs k d) ≡ interval_of (get_or qs k d)
-columns_at rs qs k d below e = sym (at rs k below) ∙ ap (λ l. get_or l k (interval_of d)) e ∙ at qs k (let n : length rs ≡ length qs = sym (length-map rs interval_of) ∙ ap length e ∙ length-map qs interval_of in omega (arith, below))
-  where
-    none : (k : ℕ) → k < 0 → ⊥
-    none k h = omega (arith, h)
-
-    at : (rs : List Rect) (k : ℕ) → k < length rs → get_or (map interval_of rs) k (interval_of d) ≡ interval_of (get_or rs k d)
-    at [] k below = absurd (none k below)
-    at (r ∷ rs) zero below = refl
-    at (r ∷ rs) (suc k) below = at rs k (omega (arith, below))
-
-same_at : (rs : List Rect) (k : ℕ) (d e : Rect) → k < length rs → get_or rs k d ≡ get_or rs k e
-same_at [] k d e below = absurd (none k below)
-  where
-    none : (k : ℕ) → k < 0 → ⊥
-    none k h = omega (arith, h)
-same_at (r ∷ rs) zero d e below = refl
-same_at (r ∷ rs) (suc k) d e below = same_at rs k d e (omega (arith, below))
-
-pub columns_apart : (rs qs : List Rect) (k : ℕ) (d e : Rect) → length rs ≡ length qs → k < length rs → (int_eq (get_or rs k d).x1 (get_or qs k e).x1 && int_eq (get_or rs k d).x2 (get_or qs k e).x2) ≡ false → map interval_of rs ≢ map interval_of qs
-columns_apart rs qs k d e size below other = λ same. columns_other (get_or rs k d) (get_or qs k e) other (columns_at rs qs k d below same ∙ ap interval_of (same_at qs k d e (omega (arith, below, size))))
-
-pub columns_more : (rs qs : List Rect) (i : ℕ) (d e : Rect) → length rs ≡ length qs → i < length rs → (int_eq (get_or rs i d).x1 (get_or qs i e).x1 && int_eq (get_or rs i d).x2 (get_or qs i e).x2) ≡ true
-    → ((k : ℕ) (d : Rect) → k < i → interval_of (get_or rs k d) ≡ interval_of (get_or qs k d)) → (k : ℕ) (d : Rect) → k < i + 1 → interval_of (get_or rs k d) ≡ interval_of (get_or qs k d)
-columns_more rs qs i d e size below same so_far = λ k d' less. below_more (λ k. (d : Rect) → interval_of (get_or rs k d) ≡ interval_of (get_or qs k d)) i (λ k less d. so_far k d less)
-    (λ c. ap interval_of (same_at rs i c d below) ∙ columns_one (get_or rs i d) (get_or qs i e) same ∙ ap interval_of (same_at qs i e c (omega (arith, below, size)))) k less d'
+pub kept_covers : (keep : Keep) (a b c : List Band) (old other new : List Rect) → IsKept keep a b c → old ≡ rects_in a → other ≡ rects_in b → new ≡ rects_in c → (x y : ℤ) → covers new x y ≡ kept keep (covers old x y) (covers other x y)
+kept_covers keep a b c old other new h e f g x y =
+    ap (λ r. covers r x y) g ∙ covers_has c x y ∙ h.has x y
+    ∙ ap (λ p. kept keep p (has b x y)) (sym (covers_has a x y) ∙ ap (λ r. covers r x y) (sym e))
+    ∙ ap (λ p. kept keep (covers old x y) p) (sym (covers_has b x y) ∙ ap (λ r. covers r x y) (sym f))

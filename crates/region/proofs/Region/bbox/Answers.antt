@@ -1,11 +1,13 @@
-use Rattle.std.proofs.Common.{List, length, subst, ap}
-use Rattle.region.specs.declared.Rect.{Rect}
-use Rattle.region.specs.Held.{IsHullOf, IsBox}
-use Rattle.region.proofs.HullLemmas.{hull_box}
+use Rattle.std.proofs.Common.{◌≡◌, [], ◌++◌, ap, subst, None}
+use Rattle.std.specs.Prelude.{◌↔◌, IfSome}
+use Rattle.band_queries.specs.Queries.{IsBounds}
 use Rattle.region.proofs.Region.bbox.Goals as goal
+use Rattle.region.proofs.CallLemmas.{boxed_none, boxed_some}
+
+pub returns-clause-none : goal.returns-clause-none
+returns-clause-none c = boxed_none (c.self.inside.bands.above ++ c.self.inside.bands.below) c.bounds.result c.rect_of_bounds.result c.args.self.now.list c.self.invariant.bands (ap (λ v. v.list) c.self.view_is)
+    (subst (λ r. (c.bounds.result ≡ None) ↔ (r.bands ≡ [])) c.reader.ensures c.bounds.ensures.none) c.rect_of_bounds.ensures
 
 pub returns-clause-some : goal.returns-clause-some
-returns-clause-some c =
-    let P : List Rect → Type 0 = λ l. IsHullOf c.hull_of.result (length l) l in
-    let Q : List Rect → Type 0 = λ l. IsBox c.hull_of.result l in
-    subst Q (ap (λ v. v.list) c.self.view_is) (hull_box c.self.inside.list.items c.hull_of.result c.self.invariant (subst P c.deref.ensures.value c.hull_of.ensures))
+returns-clause-some c = boxed_some (c.self.inside.bands.above ++ c.self.inside.bands.below) c.bounds.result c.rect_of_bounds.result c.args.self.now.list (ap (λ v. v.list) c.self.view_is)
+    (subst (λ r. IfSome c.bounds.result (λ b. IsBounds b r.bands)) c.reader.ensures c.bounds.ensures.some) c.rect_of_bounds.ensures

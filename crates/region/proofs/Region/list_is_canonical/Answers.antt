@@ -1,8 +1,7 @@
-use Rattle.std.proofs.Common.{List, subst, ap}
-use Rattle.region.specs.declared.Rect.{Rect}
-use Rattle.region.specs.Held.{Held}
+use Rattle.std.proofs.Common.{◌++◌, subst}
 use Rattle.region.specs.Region.{IsCanonical}
 use Rattle.region.proofs.Region.list_is_canonical.Goals as goal
+use Rattle.region.proofs.BandRectLemmas.{rects_canonical}
 
 pub returns : goal.returns
-returns c = let P : List Rect → Type 0 = IsCanonical in subst P (ap (λ (h : Held). h.list) c.self.view_is) c.self.invariant
+returns c = subst (λ v. IsCanonical v.list) c.self.view_is (rects_canonical (c.self.inside.bands.above ++ c.self.inside.bands.below) c.self.invariant.bands)

@@ -1,29 +1,29 @@
-use Rattle.std.proofs.Common.{◌≡◌, ◌∙◌, ap, map, to_z, of_z, arith}
-use Rattle.std.specs.Prelude.{FitsSigned}
+use Rattle.std.proofs.Common.{◌++◌, sym, ◌∙◌, ap, to_z, of_z}
+use Rattle.std.specs.Prelude.{FitsSigned, ◌+ℤ◌}
 use Rattle.std.specs.Int.{w32}
-use Rattle.std.proofs.lemmas.Int.{ints}
-use Rattle.region.specs.Held.{moved}
+use Rattle.std.proofs.lemmas.Int.{to_z-of_z}
+use Rattle.std.proofs.lemmas.List.{append-nil}
 use Rattle.region.specs.Region.{covers}
-use Rattle.region.proofs.CallLemmas.{written}
-use Rattle.region.proofs.MoveLemmas.{canonical_moved, covers_moved, mapped_whole}
+use Rattle.region.specs.Held.{leaves_range}
+use Rattle.band_walks.specs.Sets.{has}
+use Rattle.region.specs.Rects.{rects_in}
 use Rattle.region.proofs.Region.offset.Goals as goal
+use Rattle.region.proofs.RangeLemmas.{bands_movable}
+use Rattle.region.proofs.BandRectLemmas.{covers_has}
 
-pub invariant_of-self : goal.invariant_of-self
-invariant_of-self c =
-    let dx = to_z w32 (of_z w32 c.args.dx) in
-    let dy = to_z w32 (of_z w32 c.args.dy) in
-    canonical_moved dx dy c.self.inside.list.items _
-    (written c.self.inside.list c.deref_mut.result.now c.move_all.new.rects c.deref_mut.ensures.value c.move_all.auto.rects
-    ∙ mapped_whole (moved dx dy) c.deref_mut.result.now c.move_all.new.rects c.move_all.ensures ∙ ap (map (moved dx dy)) c.deref_mut.ensures.value)
-    c.self.invariant
+pub offset-requires-clause-movable : goal.offset-requires-clause-movable
+offset-requires-clause-movable c = bands_movable (to_z w32 (of_z w32 c.args.dx)) (to_z w32 (of_z w32 c.args.dy)) (c.self.inside.bands.above ++ c.self.inside.bands.below) c.self.invariant.bands
+    (ap (λ r. leaves_range (to_z w32 (of_z w32 c.args.dx)) (to_z w32 (of_z w32 c.args.dy)) (rects_in r.bands)) (sym c.reader.ensures) ∙ sym c.some_leave_range.ensures ∙ c.if-some_leave_range.false)
 
 pub returns-clause-ok : goal.returns-clause-ok
 returns-clause-ok c = λ x y.
-    let fits : FitsSigned w32 c.args.dx = c.ranges.dx in
-    let fits' : FitsSigned w32 c.args.dy = c.ranges.dy in
-    let dx : to_z w32 (of_z w32 c.args.dx) ≡ c.args.dx = omega (arith, ints) in
-    let dy : to_z w32 (of_z w32 c.args.dy) ≡ c.args.dy = omega (arith, ints) in
-    covers_moved c.args.dx c.args.dy c.self.inside.list.items _ x y
-    (written c.self.inside.list c.deref_mut.result.now c.move_all.new.rects c.deref_mut.ensures.value c.move_all.auto.rects
-    ∙ mapped_whole (moved c.args.dx c.args.dy) c.deref_mut.result.now c.move_all.new.rects (rw (dx, dy) at c.move_all.ensures) ∙ ap (map (moved c.args.dx c.args.dy)) c.deref_mut.ensures.value)
+    let fits_x : FitsSigned w32 c.args.dx = c.ranges.dx in
+    let fits_y : FitsSigned w32 c.args.dy = c.ranges.dy in
+    covers_has (c.offset.new.bands.above ++ c.offset.new.bands.below) (x +ℤ c.args.dx) (y +ℤ c.args.dy)
+    ∙ ap (λ l. has (c.offset.new.bands.above ++ l) (x +ℤ c.args.dx) (y +ℤ c.args.dy)) (ap (λ b. b.below) c.offset.ensures.moved)
+    ∙ ap (λ l. has l (x +ℤ c.args.dx) (y +ℤ c.args.dy)) (append-nil c.offset.new.bands.above)
+    ∙ ap (λ d. has c.offset.new.bands.above (x +ℤ d) (y +ℤ c.args.dy)) (sym (to_z-of_z w32 c.args.dx fits_x))
+    ∙ ap (λ d. has c.offset.new.bands.above (x +ℤ to_z w32 (of_z w32 c.args.dx)) (y +ℤ d)) (sym (to_z-of_z w32 c.args.dy fits_y))
+    ∙ c.offset.ensures.has x y
+    ∙ sym (covers_has (c.self.inside.bands.above ++ c.self.inside.bands.below) x y)
     ∙ ap (λ v. covers v.list x y) c.self.view_is

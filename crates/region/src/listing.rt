@@ -1,0 +1,93 @@
+//! The rectangles of bands, as a list.
+
+ghost use Rattle.std.specs.Prelude.{◌≡◌, ◌≤◌, ◌++◌, [], OnOk, map, length, take, drop};
+ghost use Rattle.band_list.specs.Bands.{reading, first_row};
+ghost use Rattle.std.specs.Option.{option_map};
+ghost use Rattle.region.specs.Region.{reversed_if};
+ghost use Rattle.region.specs.Rects.{rect_of, rect_in, lines_in};
+
+use crate::Rect;
+use band_list::{Interval, Reader, Rows};
+use band_queries::Rectangle;
+use std::alloc::AllocError;
+
+fn rect_of(rows: Rows, columns: Interval) -> Rect
+    ensures { result ≡ rect_of rows columns }
+{
+    Rect {
+        x1: columns.from,
+        y1: rows.top,
+        x2: columns.to,
+        y2: rows.bottom,
+    }
+}
+
+/// The same rectangle, as regions have it.
+pub(crate) fn rect_of_bounds(found: Option<Rectangle>) -> Option<Rect>
+    ensures { result ≡ option_map rect_in found }
+{
+    let bounds = found?;
+    Some(rect_of(bounds.rows, bounds.columns))
+}
+
+// Puts a rectangle for each interval that is left of the reader's first band, which has these rows, behind the others.
+fn push_band(out: &mut Vec<Rect>, bands: &mut Reader, rows: Rows) -> Result<(), AllocError>
+    ensures rects { OnOk result (out.new.items ≡ out.old.items ++ map (rect_of rows) bands.old.left) }
+    ensures read { OnOk result (bands.new ≡ record bands.old { left = [] }) }
+{
+    while let Some(columns) = bands.first_left() {
+        bands.skip_left();
+        out.push(rect_of(rows, columns))?;
+    }
+    Ok(())
+}
+
+/// Turns the list around where `reverse`.
+pub(crate) fn reverse_if(rects: &mut [Rect], reverse: bool)
+    ensures { rects.new ≡ reversed_if reverse rects.old }
+{
+    if reverse {
+        rects.reverse();
+    }
+}
+
+// Turns what stands from an index on around where `reverse`.
+fn reverse_from(rects: &mut [Rect], start: usize, reverse: bool)
+    requires { start ≤ length rects.old }
+    ensures { rects.new ≡ take start rects.old ++ reversed_if reverse (drop start rects.old) }
+{
+    reverse_if(&mut rects[start..], reverse);
+}
+
+// The same as `push_band`, from the right where `reverse_x`.
+fn push_line(
+    out: &mut Vec<Rect>,
+    bands: &mut Reader,
+    rows: Rows,
+    reverse_x: bool,
+) -> Result<(), AllocError>
+    ensures rects { OnOk result (out.new.items ≡ out.old.items ++ reversed_if reverse_x (map (rect_of rows) bands.old.left)) }
+    ensures read { OnOk result (bands.new ≡ record bands.old { left = [] }) }
+{
+    let start = out.len();
+    push_band(out, bands, rows)?;
+    reverse_from(out, start, reverse_x);
+    Ok(())
+}
+
+/// Puts the rectangles of all bands that are to be read behind the others, band by band from the top, each from the left, or
+/// from the right where `reverse_x`.
+pub(crate) fn push_rects(
+    out: &mut Vec<Rect>,
+    bands: &mut Reader,
+    reverse_x: bool,
+) -> Result<(), AllocError>
+    requires { bands.old.left ≡ first_row bands.old.bands }
+    ensures { OnOk result (out.new.items ≡ out.old.items ++ lines_in reverse_x bands.old.bands) }
+{
+    while let Some(rows) = bands.first_rows() {
+        push_line(out, bands, rows, reverse_x)?;
+        bands.advance();
+    }
+    Ok(())
+}

@@ -1,0 +1,4 @@
+mod banded;
+mod many_calls;
+mod numbers;
+mod regions;

@@ -1,7 +1,0 @@
-use Rattle.std.proofs.Common.{◌++◌, length, ◌∙◌, ap}
-use Rattle.band_queries.specs.Queries.{intervals_in_all}
-use Rattle.span_region.proofs.SpanRegion.count_rects.Goals as goal
-use Rattle.span_region.proofs.CallLemmas.{counted}
-
-pub returns : goal.returns
-returns c = c.count_intervals.ensures ∙ ap (λ r. intervals_in_all r.bands) c.reader.ensures ∙ counted (c.self.inside.bands.above ++ c.self.inside.bands.below) ∙ ap (λ v. length v.list) c.self.view_is

@@ -1,7 +1,0 @@
-use Rattle.std.proofs.Common.{◌++◌, subst}
-use Rattle.region.specs.Region.{IsCanonical}
-use Rattle.span_region.proofs.SpanRegion.list_is_canonical.Goals as goal
-use Rattle.span_region.proofs.RectLemmas.{rects_canonical}
-
-pub returns : goal.returns
-returns c = subst (λ v. IsCanonical v.list) c.self.view_is (rects_canonical (c.self.inside.bands.above ++ c.self.inside.bands.below) c.self.invariant.bands)

@@ -1,8 +1,0 @@
-use Rattle.span_region.proofs.listing.push_rects.Goals as goal
-use Rattle.span_region.proofs.ListLemmas.{bands_more}
-
-pub loop-rows-smaller : goal.loop-rows-smaller
-loop-rows-smaller c = (bands_more c.args.reverse_x c.args.out.now.items c.loop-rows.out.items c.push_line.new.out.items c.args.bands.now c.loop-rows.bands c.push_line.new.bands c.advance.new.self c.loop-rows.invariant c.in-Some.rows c.first_rows.result c.first_rows.ensures c.in-Some.is c.in_ok-push_line.ensures.rects c.in_ok-push_line.ensures.read c.advance.ensures).1
-
-pub loop-rows-preserved : goal.loop-rows-preserved
-loop-rows-preserved c = (bands_more c.args.reverse_x c.args.out.now.items c.loop-rows.out.items c.push_line.new.out.items c.args.bands.now c.loop-rows.bands c.push_line.new.bands c.advance.new.self c.loop-rows.invariant c.in-Some.rows c.first_rows.result c.first_rows.ensures c.in-Some.is c.in_ok-push_line.ensures.rects c.in_ok-push_line.ensures.read c.advance.ensures).0

@@ -1,9 +1,0 @@
-use Rattle.std.specs.Prelude.{length}
-use Rattle.span_region.proofs.ListLemmas.{ListedBands}
-use Rattle.span_region.proofs.listing.push_rects.Given as goal
-
-abbrev pub invariant-loop-rows : goal.invariant-loop-rows
-invariant-loop-rows l = ListedBands l.fn.reverse_x l.fn.out.items l.out.items l.fn.bands l.bands
-
-abbrev pub decreases-loop-rows : goal.decreases-loop-rows
-decreases-loop-rows l = length l.bands.bands

@@ -1,2 +1,0 @@
-pub mod Rects
-pub mod Room
