@@ -14,7 +14,6 @@ use Rattle.client_list.specs.CallerLemmas.{lookup-mapped, keys-mapped, mapped-se
 use Rattle.region.specs.Held.{Held}
 use Rattle.copy_schedule.specs.declared.LogEntry.{LogEntry}
 use Rattle.copy_schedule.specs.declared.LogEntry.TheVariants.{Mark}
-use Rattle.copy_schedule.specs.Marks.{Marks}
 use Rattle.copy_schedule.specs.Log.{IsCutEntry}
 use Rattle.viewer.specs.declared.notices.Notice.{Notice}
 use Rattle.viewer.specs.Viewer.{KeptViewer}

@@ -1,6 +1,6 @@
 -- What a contract sees of the viewers of a screen, and of a drawing call for them.
-use Rattle.std.specs.Prelude.{◌≡◌, ℕ, ◌*◌, ◌≤◌, ◌==◌, ◌&&◌, ◌||◌, not, Bool, if◌then◌else◌, List, All, length, Option, Some, None}
-use Rattle.std.specs.Map.{keys_of, values_of, lookup}
+use Rattle.std.specs.Prelude.{◌≡◌, ℕ, ◌*◌, ◌==◌, ◌&&◌, ◌||◌, not, Bool, if◌then◌else◌, List, length, Option, Some, None}
+use Rattle.std.specs.Map.{keys_of, lookup}
 use Rattle.client_list.specs.Connected.{index_of, set_value_at}
 use Rattle.copy_schedule.specs.declared.LogEntry.{LogEntry}
 use Rattle.copy_schedule.specs.Marks.{pending}

@@ -1,6 +1,6 @@
-//! Entries of the log that are joined to one, so that viewers that lag need not catch up when it is full.
+//! Entries of the log that are joined, so that viewers that lag need not catch up when it is full.
 
-ghost use Rattle.std.specs.Prelude.{◌≡◌, [], ◌+◌, ◌≤◌, ◌<◌, All, true, length, drop, IfOk, IfSome, OnOk, OnErr};
+ghost use Rattle.std.specs.Prelude.{◌≡◌, [], ◌+◌, ◌≤◌, ◌<◌, All, true, false, length, drop, IfOk, IfSome, OnOk, OnErr};
 ghost use Rattle.std.specs.Map.{values_of};
 ghost use Rattle.viewer_list.specs.Lagging.{seen, is_mark, IsMark, IsCurrent, Fits, IsJoined};
 
@@ -105,9 +105,60 @@ fn join(
     Ok(())
 }
 
-/// Before a log has too many entries besides the first, joined ones, these are joined too, and with them those joined ones behind
-/// which no viewer stands. Where a copy is among them, or too many joined ones stand there, all viewers catch up in place of that,
-/// and the log is emptied. Either way all of its entries are joined ones then: how many. After an `AllocError` it stands as it was.
+/// The entries from a place on become one, where all are marks; whether they are. After an `AllocError` the log stands as it was.
+fn join_from(
+    alloc: Global,
+    viewers: &mut Clients<Lagging>,
+    log: &mut Vec<LogEntry>,
+    place: usize,
+) -> Result<bool, AllocError>
+    requires place { place < length log.old.items }
+    requires fits { All (Fits log.old.items) (values_of viewers.old.pairs) }
+    ensures joined { IfOk result (λ joined. joined ≡ true → length log.new.items ≡ place + 1) }
+    ensures apart { IfOk result (λ joined. joined ≡ false → log.new.items ≡ log.old.items) }
+    ensures seen { seen log.new.items viewers.new.pairs ≡ seen log.old.items viewers.old.pairs }
+    ensures fits { All (Fits log.new.items) (values_of viewers.new.pairs) }
+    ensures err { OnErr result (log.new.items ≡ log.old.items) }
+{
+    let Some(region) = joined_region(alloc, &log[place..])? else {
+        return Ok(false);
+    };
+    join(alloc, viewers, log, place, region)?;
+    Ok(true)
+}
+
+/// Whether the last entry but one has more than twice as many rectangles as the last.
+fn is_last_small(log: &[LogEntry]) -> bool
+    requires { 2 ≤ length log.now }
+{
+    let before = log[log.len() - 2].region().count_rects();
+    before / 2 > log[log.len() - 1].region().count_rects()
+}
+
+/// The last two entries from a place on become one for as long as the last is not small beside the one before it. So a region is
+/// joined again only as more and more is drawn behind it, and the entries from the place on are few. Where the memory for it is refused,
+/// they stay apart.
+fn join_alike(alloc: Global, viewers: &mut Clients<Lagging>, log: &mut Vec<LogEntry>, place: usize)
+    requires place { place < length log.old.items }
+    requires fits { All (Fits log.old.items) (values_of viewers.old.pairs) }
+    ensures place { place < length log.new.items }
+    ensures len { length log.new.items ≤ length log.old.items }
+    ensures seen { seen log.new.items viewers.new.pairs ≡ seen log.old.items viewers.old.pairs }
+    ensures fits { All (Fits log.new.items) (values_of viewers.new.pairs) }
+{
+    while log.len() - place > 1 && !is_last_small(log) {
+        let last = log.len() - 2;
+        match join_from(alloc, viewers, log, last) {
+            Ok(true) => {}
+            _ => return,
+        }
+    }
+}
+
+/// Before a log has too many entries besides the first, joined ones, these become one, and with it those joined ones that are not
+/// much larger and behind which no viewer stands. Where a copy is among them, or too many joined ones stand there, all viewers catch
+/// up in place of that, and the log is emptied. Either way all of its entries are joined ones then: how many. After an `AllocError`
+/// it stands as it was.
 pub fn join_entries(
     alloc: Global,
     viewers: &mut Clients<Lagging>,
@@ -122,15 +173,11 @@ pub fn join_entries(
     ensures fits { All (Fits log.new.items) (values_of viewers.new.pairs) }
     ensures err { OnErr result (log.new.items ≡ log.old.items) }
 {
-    if joined >= MOST_JOINED {
+    if joined >= MOST_JOINED || !join_from(alloc, viewers, log, joined)? {
         empty(alloc, viewers, log)?;
         return Ok(0);
     }
     let place = last_place(viewers, joined);
-    let Some(region) = joined_region(alloc, &log[place..])? else {
-        empty(alloc, viewers, log)?;
-        return Ok(0);
-    };
-    join(alloc, viewers, log, place, region)?;
-    Ok(place + 1)
+    join_alike(alloc, viewers, log, place);
+    Ok(log.len())
 }

@@ -10,7 +10,8 @@
 //! where all are marks, one region takes their place, and a viewer that lacked them all lacks one entry in their place. Nobody's
 //! marks are made anew for that but those of viewers that stand among the joined entries, since they connected, were heard or had
 //! an update cut since the last time. So viewers that ask for nothing add nothing to what a drawing call costs, however many they
-//! are. Joined entries between which no viewer stands become one. Where 64 of them stand, or where a copy is among the entries,
+//! are. Joined entries between which no viewer stands become one once the later is at least half as large, so that each call's
+//! places are joined again only as often as what is joined doubles. Where 64 of them stand, or where a copy is among the entries,
 //! all viewers catch up in place of that, and the log is emptied. It is emptied, too, when no viewer lags.
 //!
 //! `lagging` is one viewer, `walks` what is done for each viewer in turn, `joining` how the log stays short, and `notices` are the
@@ -210,14 +211,16 @@ impl ViewerList {
         self.log.reserve(1)
     }
 
-    /// Each viewer is told of a drawing call, for which room was made. A copy is on each viewer's screen with its sources. This
-    /// takes no memory.
+    /// Each viewer is told of a drawing call, for which room was made. A copy is on each viewer's screen with its sources. Where
+    /// there are no viewers, nothing is kept of the call. This takes no memory.
     pub fn commit(&mut self, call: LogEntry)
         requires room { 1 ≤ self.old.room }
         requires cut { All (λ v. IsCutEntry v.marks.width v.marks.height call) (values_of self.old.pairs) }
         ensures { self.new.pairs ≡ changed (drawn call) self.old.pairs }
     {
-        self.log.push_reserved(call);
+        if !self.viewers.is_empty() {
+            self.log.push_reserved(call);
+        }
     }
 
     /// A piece of a viewer's bytes is heard (RFC 6143, 7.1 to 7.5): what it is answered, what it tells the application, and why

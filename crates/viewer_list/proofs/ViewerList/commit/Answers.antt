@@ -1,4 +1,4 @@
-use Rattle.std.proofs.Common.{◌∙◌, ◌++◌, ◌∷◌, ◌≤◌, ◌+◌, ◌-◌, ℕ, [], sym, ap, subst, arith, List, All}
+use Rattle.std.proofs.Common.{◌∙◌, ◌∷◌, ◌≤◌, ◌+◌, ◌-◌, ℕ, [], sym, ap, subst, arith, List, All}
 use Rattle.std.specs.Prelude.{min, vec_len, vec_capacity}
 use Rattle.std.specs.Map.{values_of}
 use Rattle.std.proofs.lemmas.List.{length-append}
@@ -31,8 +31,8 @@ invariant_of-self c =
       each = subst (λ (es : List LogEntry). All (Fits es) (values_of pairs)) (sym c.push_reserved.ensures.items) (fit-drawn log e pairs c.self.invariant.each (cut-seen log e pairs cut));
     }
 
-pub returns : goal.returns
-returns c =
+pub returns-then-not-is_empty : goal.returns-then-not-is_empty
+returns-then-not-is_empty c =
     let log = c.self.inside.log.items in
     ap (λ (es : List LogEntry). seen es c.self.inside.viewers.pairs) c.push_reserved.ensures.items
     ∙ seen-drawn log c.args.call c.self.inside.viewers.pairs c.self.invariant.each

@@ -1,4 +1,4 @@
-use Rattle.std.proofs.Common.{◌≡◌, ◌∙◌, ◌++◌, ◌∷◌, [], ℕ, Bool, ◌||◌, sym, ap, subst, arith, List, All, Result, Ok, Err, OnOk, OnErr, Option, Some, None, MatchOption}
+use Rattle.std.proofs.Common.{◌≡◌, ◌∙◌, ◌++◌, ◌∷◌, [], ℕ, sym, ap, subst, arith, List, All, Result, Ok, Err, OnOk, OnErr, Option, Some, None, MatchOption}
 use Rattle.std.specs.Prelude.{◌==◌, IsOkUnless}
 use Rattle.client_list.specs.declared.ConnectError.TheVariants.{NumberInUse, OutOfMemory}
 use Rattle.viewer.specs.Viewer.{KeptViewer}
