@@ -1,4 +1,3 @@
 mod clients;
-mod marks;
 mod pictures;
 mod spans;

@@ -1,5 +1,5 @@
-//! Whole runs of a screen: worked examples written out from RFC 6143, calls that are made again where memory was refused, and
-//! long runs beside plain viewers. There are tests here, and nothing else.
+//! Whole runs of a screen: worked examples written out from RFC 6143, and calls that are made again where memory was refused.
+//! There are tests here, and nothing else.
 #![tactic(auto)]
 
 #[cfg(test)]

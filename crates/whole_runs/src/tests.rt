@@ -1,7 +1,7 @@
 //! What no clause says of a screen, and no script of `play` shows: that each call succeeds where there is memory, what the calls
 //! give that no line of a script makes, and what no line can say. `calls` has those calls, `many` many viewers and long pieces,
-//! and `events` whole lists of events, also where an allocation fails; their bytes are written out from RFC 6143. `steps` compares
-//! long runs with the plain picture and the plain viewers of `plain`. Each screen keeps its history; `kept` looks at it.
+//! and `events` whole lists of events, also where an allocation fails; their bytes are written out from RFC 6143. Each screen keeps
+//! its history; `kept` looks at it.
 //!
 //! A function that owns a screen lends it to others: each place where it may end on its way would be one more to prove.
 
@@ -9,8 +9,6 @@ mod calls;
 mod events;
 mod kept;
 mod many;
-mod plain;
-mod steps;
 
 use listed::Listed;
 use region::{Rect, Region, RegionError};

@@ -9,59 +9,82 @@ use std::alloc::{AllocError, Global};
 use std::process::Abort;
 use std::test::Fail;
 
+/// A rectangle by its corners.
+macro_rules! rect {
+    ($x1:expr, $y1:expr, $x2:expr, $y2:expr) => {
+        Rect {
+            x1: $x1,
+            y1: $y1,
+            x2: $x2,
+            y2: $y2,
+        }
+    };
+}
+
 const MIN: i32 = i32::MIN;
 
 const MAX: i32 = i32::MAX;
 
-fn rect(x1: i32, y1: i32, x2: i32, y2: i32) -> Rect {
-    Rect { x1, y1, x2, y2 }
-}
-
 #[test]
 fn corners_are_put_in_order(rt: HostRuntime) -> Result<(), Fail> {
     let given = [
-        rect(1, 2, 3, 5),
-        rect(3, 2, 1, 5),
-        rect(1, 5, 3, 2),
-        rect(3, 5, 1, 2),
-        rect(MAX, MIN, MIN, MAX),
-        rect(4, 4, 4, 4),
+        rect!(1, 2, 3, 5),
+        rect!(3, 2, 1, 5),
+        rect!(1, 5, 3, 2),
+        rect!(3, 5, 1, 2),
+        rect!(MAX, MIN, MIN, MAX),
+        rect!(4, 4, 4, 4),
     ];
     let straight = destinations(rt.alloc(), &given, 0, 0, 5, 6)?;
-    let one = rect(1, 2, 3, 5);
+    let one = rect!(1, 2, 3, 5);
     assert_eq!(rt;
         straight.as_slice(),
-        [one, one, one, one, rect(0, 0, 5, 6)].as_slice()
+        [one, one, one, one, rect!(0, 0, 5, 6)].as_slice()
     );
     Ok(())
 }
 
+/// A rectangle and an offset, and where its places are on a screen of 4 by 3 with their sources.
+static DESTINATIONS: [(Rect, (i32, i32), Option<Rect>); 15] = [
+    // Corners in the wrong order, and off the screen.
+    (rect!(3, 3, 1, 0), (1, 0), Some(rect!(1, 0, 3, 3))),
+    (rect!(-5, 1, 2, 9), (0, 0), Some(rect!(0, 1, 2, 3))),
+    // Corners far away, and every direction.
+    (rect!(MIN, MIN, MAX, MAX), (0, 0), Some(rect!(0, 0, 4, 3))),
+    (rect!(MAX, MAX, MIN, MIN), (1, 0), Some(rect!(1, 0, 4, 3))),
+    (rect!(MAX, MIN, MIN, MAX), (-2, 1), Some(rect!(0, 1, 2, 3))),
+    (rect!(MIN, MIN, MAX, MAX), (3, -2), Some(rect!(3, 0, 4, 1))),
+    (rect!(MIN, MIN, MAX, MAX), (-3, -1), Some(rect!(0, 0, 1, 2))),
+    // Sources off the screen.
+    (rect!(MIN, MIN, MAX, MAX), (4, 0), None),
+    (rect!(MIN, MIN, MAX, MAX), (0, -3), None),
+    (rect!(MIN, MIN, MAX, MAX), (MIN, 0), None),
+    (rect!(MIN, MIN, MAX, MAX), (MAX, MAX), None),
+    (rect!(0, 0, 4, 3), (0, MIN), None),
+    // No places, or none on the screen.
+    (rect!(2, 0, 2, 3), (1, 0), None),
+    (rect!(4, 0, MAX, 3), (1, 0), None),
+    (rect!(MIN, 0, 0, 3), (-1, 0), None),
+];
+
+/// Whether a rectangle's places are there, and nowhere else.
+fn is_destination(
+    alloc: Global,
+    to: Rect,
+    (dx, dy): (i32, i32),
+    want: Option<Rect>,
+) -> Result<bool, AllocError> {
+    let pieces = destinations(alloc, &[to], dx, dy, 4, 3)?;
+    Ok(pieces.first().copied() == want && pieces.len() == usize::from(want.is_some()))
+}
+
 #[test]
 fn destinations_are_on_the_screen_with_their_sources(rt: HostRuntime) -> Result<(), Fail> {
-    for (to, dx, dy, want) in [
-        // Corners in the wrong order, and off the screen.
-        (rect(3, 3, 1, 0), 1, 0, Some(rect(1, 0, 3, 3))),
-        (rect(-5, 1, 2, 9), 0, 0, Some(rect(0, 1, 2, 3))),
-        // Corners far away, and every direction.
-        (rect(MIN, MIN, MAX, MAX), 0, 0, Some(rect(0, 0, 4, 3))),
-        (rect(MAX, MAX, MIN, MIN), 1, 0, Some(rect(1, 0, 4, 3))),
-        (rect(MAX, MIN, MIN, MAX), -2, 1, Some(rect(0, 1, 2, 3))),
-        (rect(MIN, MIN, MAX, MAX), 3, -2, Some(rect(3, 0, 4, 1))),
-        (rect(MIN, MIN, MAX, MAX), -3, -1, Some(rect(0, 0, 1, 2))),
-        // Sources off the screen.
-        (rect(MIN, MIN, MAX, MAX), 4, 0, None),
-        (rect(MIN, MIN, MAX, MAX), 0, -3, None),
-        (rect(MIN, MIN, MAX, MAX), MIN, 0, None),
-        (rect(MIN, MIN, MAX, MAX), MAX, MAX, None),
-        (rect(0, 0, 4, 3), 0, MIN, None),
-        // No places, or none on the screen.
-        (rect(2, 0, 2, 3), 1, 0, None),
-        (rect(4, 0, MAX, 3), 1, 0, None),
-        (rect(MIN, 0, 0, 3), -1, 0, None),
-    ] {
-        let pieces = destinations(rt.alloc(), &[to], dx, dy, 4, 3)?;
-        assert_eq!(rt; pieces.first().copied(), want, "{to:?} by {dx} {dy}");
-        assert_eq!(rt; pieces.len(), usize::from(want.is_some()));
+    for (to, by, want) in &DESTINATIONS {
+        assert!(rt;
+            is_destination(rt.alloc(), *to, *by, *want)?,
+            "{to:?} by {by:?}"
+        );
     }
     Ok(())
 }
@@ -69,15 +92,15 @@ fn destinations_are_on_the_screen_with_their_sources(rt: HostRuntime) -> Result<
 #[test]
 fn of_several_destinations_those_with_places_are_kept(rt: HostRuntime) -> Result<(), Fail> {
     let several = [
-        rect(0, 0, 2, 2),
-        rect(2, 2, 2, 3),
-        rect(5, 0, 9, 9),
-        rect(3, 3, 1, 1),
+        rect!(0, 0, 2, 2),
+        rect!(2, 2, 2, 3),
+        rect!(5, 0, 9, 9),
+        rect!(3, 3, 1, 1),
     ];
     let pieces = destinations(rt.alloc(), &several, 0, 1, 4, 3)?;
     assert_eq!(rt;
         pieces.as_slice(),
-        [rect(0, 1, 2, 2), rect(1, 1, 3, 3)].as_slice()
+        [rect!(0, 1, 2, 2), rect!(1, 1, 3, 3)].as_slice()
     );
     Ok(())
 }
@@ -164,66 +187,79 @@ fn rows_of(alloc: Global, snapshot: &Snapshot) -> Result<Vec<u32>, AllocError> {
     Ok(colours)
 }
 
-#[test]
-fn a_block_is_written_and_read(rt: HostRuntime) -> Result<(), Fail> {
-    let mut picture = Framebuffer::new(rt.alloc(), 4, 3)?;
+/// A block of a picture has these colours.
+fn expect_read(
+    rt: &impl Abort,
+    picture: &Framebuffer,
+    block: Block,
+    colours: &[u32],
+) -> Result<(), AllocError> {
+    let given = read(rt, picture, block)?;
+    assert_eq!(rt; given.as_slice(), colours);
+    Ok(())
+}
+
+/// A whole picture of 4 by 3 is written, and then a block of it, whose colours lose what is above 24 bits.
+fn expect_written(rt: &impl Abort, picture: &mut Framebuffer) -> Result<(), AllocError> {
     let all = whole(4, 3);
-    write(
-        &rt,
-        &mut picture,
-        all,
-        &[1, 2, 3, 4, 5, 6, 7, 8, 9, 10, 11, 12],
-    )?;
     let block = Block {
         left: 1,
         top: 1,
         columns: 2,
         rows: 2,
     };
-    let before = read(&rt, &picture, block)?;
-    assert_eq!(rt; before.as_slice(), [6, 7, 10, 11].as_slice());
-    write(
-        &rt,
-        &mut picture,
-        block,
-        &[0x77_123456, 0x16, 0x17, 0xff_000000],
-    )?;
-    let after = read(&rt, &picture, block)?;
-    assert_eq!(rt; after.as_slice(), [0x123456, 0x16, 0x17, 0].as_slice());
-    let given = read(&rt, &picture, all)?;
-    assert_eq!(rt;
-        given.as_slice(),
-        [1, 2, 3, 4, 5, 0x123456, 0x16, 8, 9, 0x17, 0, 12].as_slice()
-    );
+    write(rt, picture, all, &[1, 2, 3, 4, 5, 6, 7, 8, 9, 10, 11, 12])?;
+    expect_read(rt, picture, block, &[6, 7, 10, 11])?;
+    write(rt, picture, block, &[0x77_123456, 0x16, 0x17, 0xff_000000])?;
+    expect_read(rt, picture, block, &[0x123456, 0x16, 0x17, 0])?;
+    let written = [1, 2, 3, 4, 5, 0x123456, 0x16, 8, 9, 0x17, 0, 12];
+    expect_read(rt, picture, all, &written)
+}
+
+#[test]
+fn a_block_is_written_and_read(rt: HostRuntime) -> Result<(), Fail> {
+    let mut picture = Framebuffer::new(rt.alloc(), 4, 3)?;
+    expect_written(&rt, &mut picture)?;
     Ok(())
+}
+
+/// A picture of 3 by 2 is black.
+fn expect_black(rt: &impl Abort, picture: &Framebuffer) -> Result<(), AllocError> {
+    assert!(rt; (picture.width(), picture.height()) == (3, 2));
+    expect_read(rt, picture, whole(3, 2), &[0, 0, 0, 0, 0, 0])?;
+    expect_read(rt, picture, whole(0, 2), &[])
 }
 
 #[test]
 fn a_new_framebuffer_is_black(rt: HostRuntime) -> Result<(), Fail> {
     let picture = Framebuffer::new(rt.alloc(), 3, 2)?;
-    assert_eq!(rt; (picture.width(), picture.height()), (3, 2));
-    let given = read(&rt, &picture, whole(3, 2))?;
-    assert_eq!(rt; given.as_slice(), [0, 0, 0, 0, 0, 0].as_slice());
-    let nothing = read(&rt, &picture, whole(0, 2))?;
-    assert_eq!(rt; nothing.len(), 0);
+    expect_black(&rt, &picture)?;
     Ok(())
+}
+
+/// Places, and what their colours are in a picture of 3 by 2 whose places are numbered.
+static COLOURS: [(u32, u32, Option<u32>); 7] = [
+    (0, 0, Some(1)),
+    (2, 0, Some(3)),
+    (0, 1, Some(4)),
+    (2, 1, Some(6)),
+    (3, 0, None),
+    (0, 2, None),
+    (u32::MAX, u32::MAX, None),
+];
+
+/// The places have these colours.
+fn expect_colours(rt: &impl Abort, picture: &Framebuffer) {
+    for (x, y, want) in &COLOURS {
+        assert!(rt; picture.colour(*x, *y) == *want, "{x} {y}");
+    }
 }
 
 #[test]
 fn the_colour_of_each_place(rt: HostRuntime) -> Result<(), Fail> {
     let mut picture = Framebuffer::new(rt.alloc(), 3, 2)?;
     write(&rt, &mut picture, whole(3, 2), &[1, 2, 3, 4, 5, 6])?;
-    for (x, y, want) in [
-        (0, 0, Some(1)),
-        (2, 0, Some(3)),
-        (0, 1, Some(4)),
-        (2, 1, Some(6)),
-        (3, 0, None),
-        (0, 2, None),
-        (u32::MAX, u32::MAX, None),
-    ] {
-        assert_eq!(rt; picture.colour(x, y), want, "{x} {y}");
-    }
+    expect_colours(&rt, &picture);
     Ok(())
 }
 
@@ -291,7 +327,31 @@ fn move_to(
     picture.move_colours(&pieces, (dx, dy))
 }
 
-/// The same by a framebuffer, of which there is a snapshot that stays as it is.
+/// A snapshot has these colours.
+fn expect_kept(rt: &impl Abort, snapshot: &Snapshot, colours: &[u32]) -> Result<(), AllocError> {
+    let kept = snapshot.colours()?;
+    assert_eq!(rt; kept.as_slice(), colours);
+    Ok(())
+}
+
+/// What a picture of these colours is once they are moved. A snapshot of it stays as it was.
+fn moved_in(
+    rt: &impl Abort,
+    alloc: Global,
+    picture: &mut Framebuffer,
+    colours: &[u32],
+    rects: &[Rect],
+    offset: (i32, i32),
+) -> Result<Vec<u32>, AllocError> {
+    let all = whole(picture.width() as usize, picture.height() as usize);
+    write(rt, picture, all, colours)?;
+    let before = taken(rt, picture, all)?;
+    move_to(alloc, picture, rects, offset)?;
+    expect_kept(rt, &before, colours)?;
+    read(rt, picture, all)
+}
+
+/// The same by a framebuffer.
 fn moved(
     rt: &impl Abort,
     alloc: Global,
@@ -300,15 +360,9 @@ fn moved(
     offset: (i32, i32),
 ) -> Result<Vec<u32>, AllocError> {
     assert!(rt; 0 < width && width <= 8192 && 0 < height && height <= 8192);
-    let all = whole(width as usize, height as usize);
     let colours = numbered(alloc, width.saturating_mul(height))?;
     let mut picture = Framebuffer::new(alloc, width, height)?;
-    write(rt, &mut picture, all, &colours)?;
-    let before = taken(rt, &mut picture, all)?;
-    move_to(alloc, &mut picture, rects, offset)?;
-    let kept = before.colours()?;
-    assert_eq!(rt; kept.as_slice(), colours.as_slice());
-    read(rt, &picture, all)
+    moved_in(rt, alloc, &mut picture, &colours, rects, offset)
 }
 
 /// An offset so many times as far.
@@ -316,40 +370,64 @@ fn times((dx, dy): (i32, i32), far: i32) -> (i32, i32) {
     (dx.wrapping_mul(far), dy.wrapping_mul(far))
 }
 
+/// A framebuffer's move is that of a plain picture.
+fn expect_moved(
+    rt: &impl Abort,
+    alloc: Global,
+    size: (u32, u32),
+    rects: &[Rect],
+    offset: (i32, i32),
+) -> Result<(), AllocError> {
+    let given = moved(rt, alloc, size, rects, offset)?;
+    let want = moved_plainly(alloc, size, rects, offset)?;
+    assert_eq!(rt;
+        given.as_slice(),
+        want.as_slice(),
+        "{rects:?} by {offset:?}"
+    );
+    Ok(())
+}
+
+static MOVES: [&[Rect]; 5] = [
+    &[rect!(MIN, MIN, MAX, MAX)],
+    &[rect!(3, 2, 6, 5)],
+    &[rect!(1, 1, 5, 4), rect!(7, 6, 3, 2)],
+    &[rect!(0, 0, 2, 7), rect!(4, 0, 6, 7), rect!(1, 3, 9, 4)],
+    &[rect!(8, 6, 9, 7), rect!(0, 0, 1, 1), rect!(3, 3, 3, 9)],
+];
+
+static DIRECTIONS: [(i32, i32); 9] = [
+    (1, 0),
+    (1, 1),
+    (0, 1),
+    (-1, 1),
+    (-1, 0),
+    (-1, -1),
+    (0, -1),
+    (1, -1),
+    (0, 0),
+];
+
+/// Moves of all these rectangles in each direction, so many times as far.
+fn expect_moves(
+    rt: &impl Abort,
+    alloc: Global,
+    size: (u32, u32),
+    far: i32,
+) -> Result<(), AllocError> {
+    for direction in &DIRECTIONS {
+        for rects in &MOVES {
+            expect_moved(rt, alloc, size, *rects, times(*direction, far))?;
+        }
+    }
+    Ok(())
+}
+
 #[test]
 fn moves_in_eight_directions_are_those_of_a_plain_move(rt: HostRuntime) -> Result<(), Fail> {
-    let alloc = rt.alloc();
-    let lists: [&[Rect]; 5] = [
-        &[rect(MIN, MIN, MAX, MAX)],
-        &[rect(3, 2, 6, 5)],
-        &[rect(1, 1, 5, 4), rect(7, 6, 3, 2)],
-        &[rect(0, 0, 2, 7), rect(4, 0, 6, 7), rect(1, 3, 9, 4)],
-        &[rect(8, 6, 9, 7), rect(0, 0, 1, 1), rect(3, 3, 3, 9)],
-    ];
     for size in [(9, 7), (1, 4), (6, 1), (1, 1)] {
-        for (dx, dy) in [
-            (1, 0),
-            (1, 1),
-            (0, 1),
-            (-1, 1),
-            (-1, 0),
-            (-1, -1),
-            (0, -1),
-            (1, -1),
-            (0, 0),
-        ] {
-            for far in [1, 3] {
-                let offset = times((dx, dy), far);
-                for rects in lists {
-                    let given = moved(&rt, alloc, size, rects, offset)?;
-                    let want = moved_plainly(alloc, size, rects, offset)?;
-                    assert_eq!(rt;
-                        given.as_slice(),
-                        want.as_slice(),
-                        "{rects:?} by {offset:?}"
-                    );
-                }
-            }
+        for far in [1, 3] {
+            expect_moves(&rt, rt.alloc(), size, far)?;
         }
     }
     Ok(())
@@ -357,20 +435,20 @@ fn moves_in_eight_directions_are_those_of_a_plain_move(rt: HostRuntime) -> Resul
 
 #[test]
 fn a_worked_move_downwards(rt: HostRuntime) -> Result<(), Fail> {
-    let given = moved(&rt, rt.alloc(), (2, 3), &[rect(0, 1, 2, 3)], (0, 1))?;
+    let given = moved(&rt, rt.alloc(), (2, 3), &[rect!(0, 1, 2, 3)], (0, 1))?;
     assert_eq!(rt; given.as_slice(), [1, 2, 1, 2, 3, 4].as_slice());
-    let given = moved(&rt, rt.alloc(), (3, 1), &[rect(0, 0, 3, 1)], (-1, 0))?;
+    let given = moved(&rt, rt.alloc(), (3, 1), &[rect!(0, 0, 3, 1)], (-1, 0))?;
     assert_eq!(rt; given.as_slice(), [2, 3, 3].as_slice());
     Ok(())
 }
 
 #[test]
 fn a_wide_move_and_one_of_a_single_place(rt: HostRuntime) -> Result<(), Fail> {
-    let wide = moved(&rt, rt.alloc(), (8192, 2), &[rect(0, 1, 8192, 2)], (0, 1))?;
+    let wide = moved(&rt, rt.alloc(), (8192, 2), &[rect!(0, 1, 8192, 2)], (0, 1))?;
     assert_eq!(rt; wide.len(), 16384);
     assert_eq!(rt; wide.get(8191).copied(), Some(8192));
     assert_eq!(rt; wide.last().copied(), Some(8192));
-    let single = moved(&rt, rt.alloc(), (1, 1), &[rect(0, 0, 1, 1)], (0, 0))?;
+    let single = moved(&rt, rt.alloc(), (1, 1), &[rect!(0, 0, 1, 1)], (0, 0))?;
     assert_eq!(rt; single.as_slice(), [1].as_slice());
     Ok(())
 }
@@ -390,12 +468,43 @@ fn draw_over(
         rows: 1,
     };
     write(rt, picture, row, &[0xff_000005, 6, 7, 8])?;
-    move_to(alloc, picture, &[rect(0, 0, 4, 3)], (0, -1))
+    move_to(alloc, picture, &[rect!(0, 0, 4, 3)], (0, -1))
+}
+
+/// What a snapshot of a block of 2 by 2 places had stays, whatever is drawn over them.
+fn expect_to_stay(
+    rt: &impl Abort,
+    alloc: Global,
+    picture: &mut Framebuffer,
+    block: Block,
+) -> Result<(), AllocError> {
+    let before = taken(rt, picture, block)?;
+    draw_over(rt, alloc, picture, block)?;
+    let kept = rows_of(alloc, &before)?;
+    assert!(rt; (before.width(), before.height()) == (2, 2));
+    assert_eq!(rt; kept.as_slice(), [6, 7, 10, 11].as_slice());
+    Ok(())
+}
+
+/// The picture has what was drawn, and is drawn on once the snapshot is gone.
+fn expect_drawn(
+    rt: &impl Abort,
+    picture: &mut Framebuffer,
+    block: Block,
+) -> Result<(), AllocError> {
+    let all = whole(4, 3);
+    expect_read(
+        rt,
+        picture,
+        all,
+        &[5, 6, 7, 8, 9, 23, 24, 12, 9, 23, 24, 12],
+    )?;
+    write(rt, picture, block, &[1, 2, 3, 4])?;
+    expect_read(rt, picture, all, &[5, 6, 7, 8, 9, 1, 2, 12, 9, 3, 4, 12])
 }
 
 #[test]
 fn a_snapshot_stays_as_it_was(rt: HostRuntime) -> Result<(), Fail> {
-    let all = whole(4, 3);
     let block = Block {
         left: 1,
         top: 1,
@@ -404,23 +513,8 @@ fn a_snapshot_stays_as_it_was(rt: HostRuntime) -> Result<(), Fail> {
     };
     let mut picture = Framebuffer::new(rt.alloc(), 4, 3)?;
     let colours = numbered(rt.alloc(), 12)?;
-    write(&rt, &mut picture, all, &colours)?;
-    let before = taken(&rt, &mut picture, block)?;
-    draw_over(&rt, rt.alloc(), &mut picture, block)?;
-    let kept = rows_of(rt.alloc(), &before)?;
-    assert_eq!(rt; (before.width(), before.height()), (2, 2));
-    assert_eq!(rt; kept.as_slice(), [6, 7, 10, 11].as_slice());
-    drop(before);
-    let drawn = read(&rt, &picture, all)?;
-    assert_eq!(rt;
-        drawn.as_slice(),
-        [5, 6, 7, 8, 9, 23, 24, 12, 9, 23, 24, 12].as_slice()
-    );
-    write(&rt, &mut picture, block, &[1, 2, 3, 4])?;
-    let drawn = read(&rt, &picture, all)?;
-    assert_eq!(rt;
-        drawn.as_slice(),
-        [5, 6, 7, 8, 9, 1, 2, 12, 9, 3, 4, 12].as_slice()
-    );
+    write(&rt, &mut picture, whole(4, 3), &colours)?;
+    expect_to_stay(&rt, rt.alloc(), &mut picture, block)?;
+    expect_drawn(&rt, &mut picture, block)?;
     Ok(())
 }

@@ -1,5 +1,8 @@
 //! Calls in order. Each test also passes where one allocation, whichever, is refused.
 
+ghost use Rattle.std.specs.Prelude.{◌≡◌, ◌≢◌, [], IsSome, Some};
+ghost use Rattle.span_arena.specs.Arena.{list_of, span_of};
+
 use span_arena::{ListId, Span, SpanId, Spans};
 use std::alloc::{AllocError, Global};
 use std::test::Fail;
@@ -26,21 +29,55 @@ fn with_room(alloc: Global) -> Result<Spans, AllocError> {
     Ok(spans)
 }
 
-#[test]
-fn a_span_comes_in_between_and_goes(rt: HostRuntime) -> Result<(), Fail> {
-    let mut spans = with_room(rt.alloc())?;
-    let list = spans.new_list()?;
+/// Whether a list of these two spans, next to each other, is linked both ways.
+fn are_linked(spans: &Spans, list: ListId, a: SpanId, b: SpanId) -> bool
+    requires list { IsSome (list_of spans.now list) }
+    requires first { IsSome (span_of spans.now a) }
+    requires second { IsSome (span_of spans.now b) }
+{
+    (spans.next(a), spans.prev(b)) == (Some(b), Some(a))
+        && (spans.first(list), spans.last(list)) == (Some(a), Some(b))
+        && (spans.prev(a), spans.next(b)) == (None, None)
+}
+
+/// Whether a span comes in between two others of a new list, and goes.
+fn comes_and_goes(spans: &mut Spans, list: ListId) -> Result<bool, AllocError>
+    requires { list_of spans.old list ≡ Some [] }
+{
     spans.reserve(2)?;
     let a = spans.push_back(list, span(0, 4))?;
     let b = spans.push_back(list, span(6, 8))?;
     let c = spans.insert_before(list, b, span(5, 6))?;
-    assert!(rt; is_same(&spans, list, &[(0, 4), (5, 6), (6, 8)]));
-    assert_eq!(rt; spans.remove(list, c), span(5, 6));
-    assert!(rt; is_same(&spans, list, &[(0, 4), (6, 8)]));
-    assert_eq!(rt; (spans.next(a), spans.prev(b)), (Some(b), Some(a)));
-    assert_eq!(rt; (spans.first(list), spans.last(list)), (Some(a), Some(b)));
-    assert_eq!(rt; (spans.prev(a), spans.next(b)), (None, None));
+    let came = is_same(spans, list, &[(0, 4), (5, 6), (6, 8)]);
+    let gone = spans.remove(list, c);
+    Ok(
+        came && gone == span(5, 6)
+            && is_same(spans, list, &[(0, 4), (6, 8)])
+            && are_linked(spans, list, a, b),
+    )
+}
+
+#[test]
+fn a_span_comes_in_between_and_goes(rt: HostRuntime) -> Result<(), Fail> {
+    let mut spans = with_room(rt.alloc())?;
+    let list = spans.new_list()?;
+    let holds = comes_and_goes(&mut spans, list)?;
+    assert!(rt; holds);
     Ok(())
+}
+
+/// Whether two lists get spans by turns, and the second keeps its own when the first is freed.
+fn stays(spans: &mut Spans, list: ListId, other: ListId) -> Result<bool, AllocError>
+    requires list { IsSome (list_of spans.old list) }
+    requires other { IsSome (list_of spans.old other) }
+    requires apart { list ≢ other }
+{
+    spans.push_back(list, span(0, 4))?;
+    spans.push_back(other, span(1, 2))?;
+    spans.push_back(list, span(6, 8))?;
+    let both = is_same(spans, list, &[(0, 4), (6, 8)]) && is_same(spans, other, &[(1, 2)]);
+    spans.free_list(list);
+    Ok(both && is_same(spans, other, &[(1, 2)]))
 }
 
 #[test]
@@ -48,25 +85,30 @@ fn another_list_stays(rt: HostRuntime) -> Result<(), Fail> {
     let mut spans = with_room(rt.alloc())?;
     let list = spans.new_list()?;
     let other = spans.new_list()?;
-    spans.push_back(list, span(0, 4))?;
-    spans.push_back(other, span(1, 2))?;
-    spans.push_back(list, span(6, 8))?;
-    assert!(rt; is_same(&spans, list, &[(0, 4), (6, 8)]));
-    assert!(rt; is_same(&spans, other, &[(1, 2)]));
-    spans.free_list(list);
-    assert!(rt; is_same(&spans, other, &[(1, 2)]));
+    let holds = stays(&mut spans, list, other)?;
+    assert!(rt; holds);
     Ok(())
+}
+
+/// Whether the first of two spans becomes another, and the second stays.
+fn becomes_another(spans: &mut Spans, list: ListId) -> Result<bool, AllocError>
+    requires { IsSome (list_of spans.old list) }
+{
+    let a = spans.push_back(list, span(0, 4))?;
+    let b = spans.push_back(list, span(6, 8))?;
+    spans.set(a, span(0, 5));
+    Ok(
+        (spans.get(a), spans.get(b)) == (span(0, 5), span(6, 8))
+            && is_same(spans, list, &[(0, 5), (6, 8)]),
+    )
 }
 
 #[test]
 fn a_span_becomes_another(rt: HostRuntime) -> Result<(), Fail> {
     let mut spans = with_room(rt.alloc())?;
     let list = spans.new_list()?;
-    let a = spans.push_back(list, span(0, 4))?;
-    let b = spans.push_back(list, span(6, 8))?;
-    spans.set(a, span(0, 5));
-    assert_eq!(rt; (spans.get(a), spans.get(b)), (span(0, 5), span(6, 8)));
-    assert!(rt; is_same(&spans, list, &[(0, 5), (6, 8)]));
+    let holds = becomes_another(&mut spans, list)?;
+    assert!(rt; holds);
     Ok(())
 }
 

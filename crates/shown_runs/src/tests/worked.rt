@@ -254,7 +254,7 @@ const FIVE_SIX_FIVE: [Step; 6] = [
 ];
 
 /// The screens' sizes, and what is called.
-const RUNS: [((u16, u16), &[Step]); 12] = [
+static RUNS: [((u16, u16), &[Step]); 12] = [
     ((6, 1), &COPY_OF_A_COPY),
     ((4, 1), &LOST_SOURCE),
     ((4, 1), &LOST_SOURCE_AND_CHANGES),

@@ -10,14 +10,14 @@ use std::test::Fail;
 
 /// The calls that copy.
 #[derive(Clone, Copy, Debug)]
-pub(crate) enum Copying {
+enum Copying {
     DoRect,
     DoRegion,
     ScheduleRect,
     ScheduleRegion,
 }
 
-pub(crate) const COPYING: [Copying; 4] = [
+const COPYING: [Copying; 4] = [
     Copying::DoRect,
     Copying::DoRegion,
     Copying::ScheduleRect,
@@ -25,7 +25,7 @@ pub(crate) const COPYING: [Copying; 4] = [
 ];
 
 /// A copy to a rectangle by one of the calls.
-pub(crate) fn copy(
+fn copy(
     alloc: Global,
     screen: &mut Screen,
     copying: Copying,
@@ -41,23 +41,27 @@ pub(crate) fn copy(
 }
 
 /// What a viewer is sent now, if anything.
-pub(crate) fn sent(screen: &mut Screen, viewer: u64) -> Result<Option<Vec<u8>>, ScreenError> {
+fn sent(screen: &mut Screen, viewer: u64) -> Result<Option<Vec<u8>>, ScreenError> {
     match screen.cut(viewer)? {
         Some(update) => Ok(Some(update.encode()?)),
         None => Ok(None),
     }
 }
 
+/// Whether these bytes were sent, or nothing where there are none.
+fn is_given(given: &Option<Vec<u8>>, bytes: &[u8]) -> bool {
+    match given {
+        Some(given) => !bytes.is_empty() && given.as_slice() == bytes,
+        None => bytes.is_empty(),
+    }
+}
+
 /// Viewer 1 is sent these bytes now, or nothing where there are none.
 fn expect_sent(rt: &impl Abort, screen: &mut Screen, bytes: &[u8]) -> Result<(), ScreenError> {
     let pending = screen.pending(1)?;
-    assert_eq!(rt; pending, !bytes.is_empty());
     let given = sent(screen, 1)?;
-    assert_eq!(rt; given.is_some(), pending);
-    assert!(rt;
-        given.is_none_or(|given| given.as_slice() == bytes),
-        "{bytes:?}"
-    );
+    let is_sent = pending != bytes.is_empty() && is_given(&given, bytes);
+    assert!(rt; is_sent, "{bytes:?}");
     Ok(())
 }
 
@@ -154,21 +158,32 @@ const BLUE: &[u8] = &[
     0, 0, 0, 1, 0, 1, 0, 0, 0, 1, 0, 1, 0, 0, 0, 0, 0xff, 0, 0, 0,
 ];
 
-/// What is marked beyond the screen is not sent; what is marked on it is, and what was written once it is marked.
+/// Marks a region of one rectangle.
+fn mark_region(alloc: Global, screen: &mut Screen, to: Rect) -> Result<(), ScreenError> {
+    let places = region(alloc, to)?;
+    screen.mark_region(&places)
+}
+
+/// What is marked beyond the screen.
+fn mark_beyond(alloc: Global, screen: &mut Screen) -> Result<(), ScreenError> {
+    screen.mark_rect(2, 0, i32::MAX, i32::MAX)?;
+    screen.mark_rect(0, i32::MIN, 2, 0)?;
+    mark_region(alloc, screen, rect(-9, -9, 0, 9))
+}
+
+/// That is not sent; what is marked on the screen is, and what was written once it is marked.
 fn expect_marked(rt: &impl Abort, alloc: Global, screen: &mut Screen) -> Result<(), ScreenError> {
     let all = request(true, 0, 0, 2, 2);
     show(screen, (2, 2), &[1, 2, 3, 4])?;
     say(screen, 1, &all)?;
-    screen.mark_rect(2, 0, i32::MAX, i32::MAX)?;
-    screen.mark_rect(0, i32::MIN, 2, 0)?;
-    screen.mark_region(&region(alloc, rect(-9, -9, 0, 9))?)?;
+    mark_beyond(alloc, screen)?;
     expect_sent(rt, screen, &[])?;
     screen.mark_rect(i32::MAX, 1, 1, i32::MIN)?;
     expect_sent(rt, screen, SECOND)?;
     screen.write_pixels(rect(1, 0, 2, 1), &[0x77_0000ff])?;
     say(screen, 1, &all)?;
     expect_sent(rt, screen, &[])?;
-    screen.mark_region(&region(alloc, rect(1, -9, 9, 1))?)?;
+    mark_region(alloc, screen, rect(1, -9, 9, 1))?;
     expect_sent(rt, screen, BLUE)
 }
 
@@ -193,12 +208,17 @@ fn draw_over(screen: &mut Screen) -> Result<(), ScreenError> {
     screen.close(1)
 }
 
-/// That update, when the screen is gone.
+/// That update, when all was drawn over.
+fn cut_and_draw_over(screen: &mut Screen) -> Result<Option<Update>, ScreenError> {
+    let update = cut_second(screen)?;
+    draw_over(screen)?;
+    Ok(update)
+}
+
+/// The same, when the screen is gone.
 fn kept_update(alloc: Global) -> Result<Option<Update>, ScreenError> {
     let mut screen = Screen::new(alloc, config(alloc, (2, 2), 50)?)?;
-    let update = cut_second(&mut screen)?;
-    draw_over(&mut screen)?;
-    Ok(update)
+    cut_and_draw_over(&mut screen)
 }
 
 #[test]
@@ -220,19 +240,46 @@ fn whole_update(alloc: Global, (w, h): (u16, u16), blue: u8) -> Result<Vec<u8>, 
     Ok(bytes)
 }
 
-/// What an update gives that was cut before the whole screen was drawn over.
-fn cut_and_drawn_over(alloc: Global, (w, h): (u16, u16)) -> Result<Vec<u8>, ScreenError> {
-    let places = usize::from(w) * usize::from(h);
-    let (before, after) = (vec![in alloc; 1u32; places]?, vec![in alloc; 2u32; places]?);
-    let mut screen = Screen::new(alloc, config(alloc, (w, h), 50)?)?;
-    show(&mut screen, (w, h), &before)?;
-    say(&mut screen, 1, &request(false, 0, 0, w, h))?;
+/// An update of a whole screen that is drawn over once it is cut.
+fn cut_before(
+    screen: &mut Screen,
+    (w, h): (u16, u16),
+    before: &[u32],
+    after: &[u32],
+) -> Result<Option<Update>, ScreenError> {
+    show(screen, (w, h), before)?;
+    say(screen, 1, &request(false, 0, 0, w, h))?;
     let update = screen.cut(1)?;
-    screen.paint(rect(0, 0, i32::from(w), i32::from(h)), &after)?;
+    screen.paint(rect(0, 0, i32::from(w), i32::from(h)), after)?;
+    Ok(update)
+}
+
+/// The same on a new screen.
+fn drawn_over(
+    alloc: Global,
+    size: (u16, u16),
+    before: &[u32],
+    after: &[u32],
+) -> Result<Option<Update>, ScreenError> {
+    let mut screen = Screen::new(alloc, config(alloc, size, 50)?)?;
+    cut_before(&mut screen, size, before, after)
+}
+
+/// What an update gives, if there is one.
+fn encoded(alloc: Global, update: Option<Update>) -> Result<Vec<u8>, ScreenError> {
     match update {
         Some(update) => Ok(update.encode()?),
         None => Ok(Vec::new(alloc)),
     }
+}
+
+/// What an update gives that was cut before the whole screen was drawn over.
+fn cut_and_drawn_over(alloc: Global, (w, h): (u16, u16)) -> Result<Vec<u8>, ScreenError> {
+    let places = usize::from(w) * usize::from(h);
+    let before = vec![in alloc; 1u32; places]?;
+    let after = vec![in alloc; 2u32; places]?;
+    let update = drawn_over(alloc, (w, h), &before, &after)?;
+    encoded(alloc, update)
 }
 
 #[test]

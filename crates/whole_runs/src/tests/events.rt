@@ -66,7 +66,7 @@ const BLACK: &[u8] = &[
 ];
 
 /// A copy for viewers with and without CopyRect.
-pub(crate) const TWO_VIEWERS: [Row; 15] = [
+pub(crate) static TWO_VIEWERS: [Row; 15] = [
     (Paint(WHOLE, &[1, 2, 3, 4]), Bytes(&[])),
     (Connect(1), Bytes(VERSION)),
     (Connect(2), Bytes(VERSION)),
@@ -93,7 +93,7 @@ pub(crate) const TWO_VIEWERS: [Row; 15] = [
 ];
 
 /// Every kind of event.
-pub(crate) const EVERY_KIND: [Row; 21] = [
+pub(crate) static EVERY_KIND: [Row; 21] = [
     (Connect(1), Bytes(VERSION)),
     (Hear(1, OPENING), Bytes(OPENED)),
     (Hear(1, WITH_COPYRECT), Bytes(&[])),
@@ -138,7 +138,7 @@ pub(crate) const EVERY_KIND: [Row; 21] = [
 ];
 
 /// Calls that are refused, and then what is sent: nothing changed.
-pub(crate) const REFUSED: [Row; 21] = [
+pub(crate) static REFUSED: [Row; 21] = [
     (Paint(WHOLE, &[1, 2, 3, 4]), Bytes(&[])),
     (Connect(1), Bytes(VERSION)),
     (Hear(1, OPENING), Bytes(OPENED)),
@@ -163,7 +163,7 @@ pub(crate) const REFUSED: [Row; 21] = [
 ];
 
 /// What is no message of viewer 1: it is heard no further, and viewer 2 is sent its bytes all the same.
-pub(crate) const FAULT: [Row; 12] = [
+pub(crate) static FAULT: [Row; 12] = [
     (Connect(1), Bytes(VERSION)),
     (Connect(2), Bytes(VERSION)),
     (Hear(1, OPENING), Bytes(OPENED)),
@@ -245,33 +245,52 @@ pub(crate) fn events(alloc: Global, rows: &[Row]) -> Result<Vec<Event>, AllocErr
     Ok(events)
 }
 
-/// The answer to the event with a number is as wanted, and has nothing else.
-fn expect_answer(rt: &impl Abort, number: usize, answer: &Answer, want: Want) {
+/// Whether an answer is as wanted, and has nothing else.
+fn is_answer(answer: &Answer, want: Want) -> bool {
     let (bytes, closed, refused): (&[u8], Option<Fault>, Option<ScreenError>) = match want {
         Bytes(bytes) => (bytes, None, None),
         Closed(fault) => (&[], Some(fault), None),
         Refused(refusal) => (&[], None, Some(refusal)),
     };
-    assert_eq!(rt; answer.bytes.as_slice(), bytes, "of event {number}");
-    assert_eq!(rt; answer.closed, closed, "of event {number}");
-    assert_eq!(rt; answer.refused, refused, "of event {number}");
-    assert!(rt; answer.inputs.is_empty());
+    answer.bytes.as_slice() == bytes
+        && answer.closed == closed
+        && answer.refused == refused
+        && answer.inputs.is_empty()
+}
+
+/// The answer to the event with a number is as its row says.
+fn expect_answer(rt: &impl Abort, rows: &[Row], number: usize, answer: &Answer) {
+    let is_wanted = match rows.get(number) {
+        Some((_, want)) => is_answer(answer, *want),
+        None => false,
+    };
+    assert!(rt; is_wanted, "event {number} is answered {answer:?}");
 }
 
 pub(crate) fn four_by_one(alloc: Global) -> Result<Config, AllocError> {
     config(alloc, (4, 1), 50)
 }
 
+/// What the events of a list are answered.
+fn answers_of(alloc: Global, rows: &[Row]) -> Result<Vec<Answer>, ScreenError> {
+    let events = events(alloc, rows)?;
+    run(alloc, four_by_one(alloc)?, &events)
+}
+
+fn expect_run(rt: &impl Abort, alloc: Global, rows: &[Row]) -> Result<(), ScreenError> {
+    let given = answers_of(alloc, rows)?;
+    assert_eq!(rt; given.len(), rows.len());
+    for (number, answer) in given.iter().enumerate() {
+        expect_answer(rt, rows, number, answer);
+    }
+    Ok(())
+}
+
 #[test]
 fn runs_are_answered_byte_for_byte(rt: HostRuntime) -> Result<(), Fail> {
-    let alloc = rt.alloc();
     let lists: [&[Row]; 4] = [&TWO_VIEWERS, &EVERY_KIND, &REFUSED, &FAULT];
     for rows in lists {
-        let given = run(alloc, four_by_one(alloc)?, &events(alloc, rows)?)?;
-        assert_eq!(rt; given.len(), rows.len());
-        for (number, (answer, (_, want))) in given.iter().zip(rows).enumerate() {
-            expect_answer(&rt, number, answer, *want);
-        }
+        expect_run(&rt, rt.alloc(), rows)?;
     }
     Ok(())
 }
@@ -285,8 +304,9 @@ fn answer_at_last(rt: &impl Abort, screen: &mut Screen, event: &Event) -> Answer
 }
 
 pub(crate) fn expect_answers(rt: &impl Abort, screen: &mut Screen, events: &[Event], rows: &[Row]) {
-    for (number, (event, (_, want))) in events.iter().zip(rows).enumerate() {
-        expect_answer(rt, number, &answer_at_last(rt, screen, event), *want);
+    for (number, event) in events.iter().enumerate() {
+        let answer = answer_at_last(rt, screen, event);
+        expect_answer(rt, rows, number, &answer);
     }
 }
 
@@ -355,21 +375,27 @@ fn expect_copies(rt: &impl Abort, screen: &mut Screen) {
     assert!(rt; again!(rt, screen.cut(1)).is_none());
 }
 
-/// The screen with viewer 1, that was sent all of it, and a region of its first place.
-fn prepared(alloc: Global) -> Result<(Screen, Region), ScreenError> {
-    let zone = region(alloc, rect(0, 0, 1, 1))?;
+/// The screen with viewer 1, that was sent all of it.
+fn prepared(alloc: Global) -> Result<Screen, ScreenError> {
     let mut screen = Screen::new(alloc, config(alloc, (6, 1), 50)?)?;
     show(&mut screen, (6, 1), &[1, 2, 3, 4, 5, 6])?;
-    Ok((screen, zone))
+    Ok(screen)
+}
+
+/// Each of these calls, with a region of the screen's first place.
+fn expect_named_calls(rt: &impl Abort, alloc: Global, zone: &Region) {
+    if let Ok(mut screen) = prepared(alloc) {
+        open_again(rt, &mut screen);
+        draw_again(rt, &mut screen, zone);
+        copy_again(rt, &mut screen, zone);
+        expect_copies(rt, &mut screen);
+    }
 }
 
 #[test]
 fn named_calls_whichever_allocation_is_refused(rt: HostRuntime) {
-    if let Ok((mut screen, zone)) = prepared(rt.alloc()) {
-        open_again(&rt, &mut screen);
-        draw_again(&rt, &mut screen, &zone);
-        copy_again(&rt, &mut screen, &zone);
-        expect_copies(&rt, &mut screen);
+    if let Ok(zone) = region(rt.alloc(), rect(0, 0, 1, 1)) {
+        expect_named_calls(&rt, rt.alloc(), &zone);
     }
 }
 
@@ -379,13 +405,19 @@ const FIVE_BLACK: &[u8] = &[
     0, 0, 0, 0,
 ];
 
-/// A black screen of 9 by 1, and two viewers that were sent it.
+/// Two viewers are sent a screen of 9 by 1, which is black.
+fn show_black(screen: &mut Screen) -> Result<(), ScreenError> {
+    show(screen, (9, 1), &[0; 9])?;
+    open(screen, 2)?;
+    say(screen, 2, &request(false, 0, 0, 9, 1))?;
+    screen.cut(2)?;
+    Ok(())
+}
+
+/// That screen with both viewers.
 fn two_that_show_black(alloc: Global) -> Result<Screen, ScreenError> {
     let mut screen = Screen::new(alloc, config(alloc, (9, 1), 50)?)?;
-    show(&mut screen, (9, 1), &[0; 9])?;
-    open(&mut screen, 2)?;
-    say(&mut screen, 2, &request(false, 0, 0, 9, 1))?;
-    screen.cut(2)?;
+    show_black(&mut screen)?;
     Ok(screen)
 }
 

@@ -192,7 +192,7 @@ fn first_wrong(alloc: Global, steps: &[Step]) -> Result<Option<usize>, AllocErro
 
 #[test]
 fn worked_examples_whichever_allocation_is_refused(rt: HostRuntime) -> Result<(), Fail> {
-    for (name, steps) in EXAMPLES {
+    for (name, steps) in &EXAMPLES {
         let wrong = first_wrong(rt.alloc(), steps)?;
         assert!(rt; wrong.is_none(), "{name}: step {wrong:?}");
     }
@@ -202,7 +202,7 @@ fn worked_examples_whichever_allocation_is_refused(rt: HostRuntime) -> Result<()
 /// The end of what a coordinate may be.
 const FAR: i32 = 1 << 20;
 
-const EXAMPLES: [(&str, &[Step]); 18] = [
+static EXAMPLES: [(&str, &[Step]); 18] = [
     (
         "a rectangle",
         &[

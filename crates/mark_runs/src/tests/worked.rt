@@ -5,6 +5,7 @@ ghost use Rattle.std.specs.Prelude.{◌≤◌};
 
 use super::*;
 
+/// A rectangle by its corners.
 macro_rules! rect {
     ($x1:expr, $y1:expr, $x2:expr, $y2:expr) => {
         Rect {
@@ -189,7 +190,7 @@ fn worked_examples_whichever_allocation_is_refused(rt: HostRuntime) -> Result<()
     Ok(())
 }
 
-const EXAMPLES: [Example; 19] = [
+static EXAMPLES: [Example; 19] = [
     Example {
         name: "a new screen is owed, and then only what is marked",
         size: (4, 3),

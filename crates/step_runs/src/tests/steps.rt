@@ -3,9 +3,8 @@
 
 ghost use Rattle.std.specs.Prelude.{◌<◌};
 
-use super::calls::{COPYING, Copying, copy, sent};
 use super::plain::{Picture, Viewer, is_in};
-use super::{WITH_COPYRECT, config, open, rect, request, say};
+use super::{COPYING, Copying, WITH_COPYRECT, config, copy, open, rect, request, say, sent};
 use region::Rect;
 use screen::{Screen, ScreenError};
 use std::alloc::{AllocError, Global};
@@ -290,6 +289,26 @@ fn expect_steps(
     Ok(())
 }
 
+/// How many copies each viewer was sent.
+fn copies_of(watchers: &[Watcher]) -> [u32; 3] {
+    let mut copies = [0u32; 3];
+    for (number, watcher) in watchers.iter().enumerate() {
+        if let Some(count) = copies.get_mut(number) {
+            *count = watcher.viewer.copies;
+        }
+    }
+    copies
+}
+
+/// As many copies more.
+fn sum([a, b, c]: [u32; 3], [x, y, z]: [u32; 3]) -> [u32; 3] {
+    [
+        a.saturating_add(x),
+        b.saturating_add(y),
+        c.saturating_add(z),
+    ]
+}
+
 /// Those steps on a screen of some size. Tells how many copies each viewer was sent.
 fn copies_in_steps(
     rt: &impl Abort,
@@ -300,11 +319,7 @@ fn copies_in_steps(
     let (width, height) = (1 + next(numbers, 9), 1 + next(numbers, 7));
     let mut world = World::new(alloc, width, height, limit)?;
     expect_steps(rt, numbers, &mut world)?;
-    let mut copies = [0u32; 3];
-    for (count, watcher) in copies.iter_mut().zip(world.watchers.iter()) {
-        *count = watcher.viewer.copies;
-    }
-    Ok(copies)
+    Ok(copies_of(&world.watchers))
 }
 
 #[test]
@@ -314,9 +329,7 @@ fn viewers_show_the_picture_after_2000_steps(rt: HostRuntime) -> Result<(), Fail
     for case in 0..40u32 {
         let limit = if case % 4 == 3 { 2 } else { 50 };
         let sent = copies_in_steps(&rt, rt.alloc(), &mut numbers, limit)?;
-        for (count, more) in copies.iter_mut().zip(sent) {
-            *count = count.saturating_add(more);
-        }
+        copies = sum(copies, sent);
     }
     let [first, second, third] = copies;
     assert!(rt; first > 20 && third > 5, "{first} and {third} copies");

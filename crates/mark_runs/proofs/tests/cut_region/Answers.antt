@@ -6,7 +6,7 @@ use Rattle.region.specs.declared.Rect.{Rect}
 use Rattle.region.specs.Region.{covers, on_screen}
 use Rattle.region.specs.Places.{cut_destination}
 use Rattle.framebuffer.specs.Picture.{union_of}
-use Rattle.place_runs.proofs.tests.marks.cut_region.Goals as goal
+use Rattle.mark_runs.proofs.tests.cut_region.Goals as goal
 
 inside : (a b c : Bool) → (a && b && c) ≡ true → (b && c) ≡ true
 inside true b c e = e
