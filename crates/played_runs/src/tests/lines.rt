@@ -97,7 +97,7 @@ fn says(alloc: Global, line: &[u8], said: Said) -> Result<bool, AllocError> {
     Ok(is_said(&given, said))
 }
 
-const BAD_LINES: [&[u8]; 61] = [
+static BAD_LINES: [&[u8]; 61] = [
     b"pant 1",
     b"Connect 1",
     b" ",
@@ -163,13 +163,13 @@ const BAD_LINES: [&[u8]; 61] = [
 
 #[test]
 fn lines_that_are_bad(rt: HostRuntime) -> Result<(), Fail> {
-    for line in BAD_LINES {
+    for line in &BAD_LINES {
         assert!(rt; says(rt.alloc(), line, Said::Bad)?, "{line:?}");
     }
     Ok(())
 }
 
-const LINES: [Row; 29] = [
+static LINES: [Row; 29] = [
     (b"", Said::Skipped),
     (b"#", Said::Skipped),
     (b"# cut 1", Said::Skipped),
@@ -236,8 +236,8 @@ const LINES: [Row; 29] = [
 
 #[test]
 fn lines_and_what_they_say(rt: HostRuntime) -> Result<(), Fail> {
-    for (line, said) in LINES {
-        assert!(rt; says(rt.alloc(), line, said)?, "{line:?}");
+    for (line, said) in &LINES {
+        assert!(rt; says(rt.alloc(), line, *said)?, "{line:?}");
     }
     Ok(())
 }
