@@ -1,2 +1,3 @@
 pub mod StayLemmas
 pub mod CountLemmas
+pub mod MergeLemmas

@@ -69,7 +69,7 @@ pub part_row : (t : Bool) (a : List Interval) → IsRow a → IsRow (part t a)
 part_row true a h = h
 part_row false a h = tt
 
-part_has : (t : Bool) (a : List Interval) (x : ℤ) → row_has (part t a) x ≡ (t && row_has a x)
+pub part_has : (t : Bool) (a : List Interval) (x : ℤ) → row_has (part t a) x ≡ (t && row_has a x)
 part_has true a x = refl
 part_has false a x = refl
 

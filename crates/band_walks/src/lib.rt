@@ -1,6 +1,7 @@
 //! Sets of places as bands of rows, combined by one walk over both lists, from where they differ on.
 //!
-//! `strips` has one step of the walk, `gaps` moves the gap to where it begins, and `counts` says how much room is enough for it.
+//! `strips` has one step of the walk, `gaps` moves the gap to where it begins, `counts` says how much room is enough for it, and
+//! `merges` makes a list of its own of two.
 #![tactic(auto)]
 
 ghost use Rattle.std.specs.Prelude.{◌≡◌, ◌≢◌, ◌↔◌, ◌≤◌, ◌+◌, ◌||◌, ◌&&◌, ◌⊎◌, [], ◌∷◌, ◌++◌, List, length, IsTrue, Some, None, true, false, ℤ, ◌<ℤ◌, ◌≤ℤ◌};
@@ -16,11 +17,13 @@ ghost use Rattle.band_walks.specs.Room.{IsGap, IsRoom, IsWhole, GapMoved, Enough
 
 mod counts;
 mod gaps;
+mod merges;
 mod strips;
 
 use band_list::{BandList, Reader, Rows};
 pub use counts::count_room;
 pub use gaps::move_gap;
+pub use merges::merge_bands;
 use row_walks::{Keep, copy_left, copy_other, count_row, make_row, same_kept, skip_row};
 use strips::{Strip, bands_start, drop_ended, enter_strip, leave_strip, next_strip, pass_ended};
 

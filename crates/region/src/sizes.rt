@@ -1,8 +1,8 @@
-//! Which of two lists of bands is the shorter one.
+//! Which of two lists of bands is the shorter one, and whether one is far shorter.
 
 ghost use Rattle.std.specs.Prelude.{◌≡◌, ◌<◌, ◌↔◌, IsTrue, length};
 
-use band_list::Reader;
+use band_list::{BandList, Reader};
 
 /// Whether the first reader has fewer bands to read than the second. Both are read as far as it takes to know.
 pub(crate) fn has_fewer(first: &mut Reader, second: &mut Reader) -> bool
@@ -18,4 +18,34 @@ pub(crate) fn has_fewer(first: &mut Reader, second: &mut Reader) -> bool
     }
     let left = second.first_rows();
     left.is_some()
+}
+
+// Reads on past so many bands, or past all that are left.
+fn pass(bands: &mut Reader, most: usize) {
+    for _ in 0..most {
+        if bands.first_rows().is_some() {
+            bands.advance();
+        }
+    }
+}
+
+// Whether the first reader has few bands to read beside the second: no more than 8, or a quarter of them. Both are read as far
+// as it takes to know.
+fn has_few(first: &mut Reader, second: &mut Reader) -> bool {
+    pass(first, 8);
+    'bands: while first.first_rows().is_some() {
+        if second.first_rows().is_none() {
+            return false;
+        }
+        first.advance();
+        pass(second, 4);
+    }
+    true
+}
+
+/// Whether neither list has few bands beside the other, so that what is kept of both is made sooner anew than in the place of
+/// one. Which lists these are is in no clause: it costs time alone.
+pub(crate) fn are_alike(first: &BandList, second: &BandList) -> bool {
+    !has_few(&mut first.reader(), &mut second.reader())
+        && !has_few(&mut second.reader(), &mut first.reader())
 }

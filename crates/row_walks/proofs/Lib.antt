@@ -1,2 +1,3 @@
 pub mod MakeLemmas
+pub mod MergeLemmas
 pub mod SameLemmas

@@ -3,7 +3,7 @@
 //! `steps` has one step of the walk.
 #![tactic(auto)]
 
-ghost use Rattle.std.specs.Prelude.{◌≡◌, ◌≢◌, ◌≤◌, ◌+◌, [], List, true, false, length, cond, ℤ};
+ghost use Rattle.std.specs.Prelude.{◌≡◌, ◌≢◌, ◌≤◌, ◌+◌, [], List, true, false, length, cond, ℤ, OnOk, OnErr};
 ghost use Rattle.band_list.specs.declared.Interval.{Interval};
 ghost use Rattle.row_walks.specs.Rows.{IsRow, IsKept, row_has, kept};
 ghost use Rattle.row_walks.specs.Steps.{closed};
@@ -11,6 +11,7 @@ ghost use Rattle.row_walks.specs.Steps.{closed};
 mod steps;
 
 use band_list::{BandList, Interval, Reader};
+use std::alloc::AllocError;
 use steps::{common_step, first_after, first_after_of, nearer, next_step, rows_start};
 
 /// Which places of two sets are kept.
@@ -78,6 +79,54 @@ pub fn make_row(bands: &mut BandList, other: &mut Reader, keep: Keep)
     }
     let last = Interval { from, to: x };
     close(bands, is_open, last);
+}
+
+// Puts the interval that was open behind the row in the making, if one was, and makes the room for it.
+fn close_anew(bands: &mut BandList, is_open: bool, interval: Interval) -> Result<(), AllocError>
+    ensures ok { OnOk result (bands.new ≡ record bands.old { row = closed is_open interval bands.old.row; spare = bands.new.spare }) }
+    ensures err { OnErr result (bands.new ≡ record bands.old { spare = bands.new.spare }) }
+{
+    if is_open {
+        bands.reserve(1)?;
+        bands.push_interval(interval);
+    }
+    Ok(())
+}
+
+/// Makes the row in the making: the columns that are kept of what is left of the two readers' first bands, which are read to
+/// their rows' ends. The room is made as the row grows; after an `AllocError` a part of the row is made, and nothing else of the
+/// bands has changed.
+pub fn merge_row(
+    bands: &mut BandList,
+    first: &mut Reader,
+    second: &mut Reader,
+    keep: Keep,
+) -> Result<(), AllocError>
+    requires empty { bands.old.row ≡ [] }
+    requires first_row { IsRow first.old.left }
+    requires second_row { IsRow second.old.left }
+    ensures kept { OnOk result (IsKept keep first.old.left second.old.left bands.new.row) }
+    ensures same { bands.new ≡ record bands.old { row = bands.new.row; spare = bands.new.spare } }
+    ensures first_read { OnOk result (first.new ≡ record first.old { left = [] }) }
+    ensures second_read { OnOk result (second.new ≡ record second.old { left = [] }) }
+{
+    let mut a = first.first_left();
+    let mut b = second.first_left();
+    let mut x = rows_start(a, b);
+    let mut from = x;
+    let mut is_open = false;
+    while let Some(step) = next_step(a, b, x) {
+        let keeps = keep.keeps(step.in_first, step.in_second);
+        if keeps != is_open {
+            close_anew(bands, is_open, Interval { from, to: x })?;
+            from = x;
+            is_open = keeps;
+        }
+        a = first_after_of(first, a, step.edge);
+        b = first_after_of(second, b, step.edge);
+        x = step.edge;
+    }
+    close_anew(bands, is_open, Interval { from, to: x })
 }
 
 /// How many intervals `make_row` would make of what is left of the two readers' first bands. Both are read to their rows'
