@@ -1,5 +1,5 @@
-//! Whole runs of a screen: worked examples written out from RFC 6143, and calls that are made again where memory was refused.
-//! There are tests here, and nothing else.
+//! Whole runs of a screen where there is memory: worked examples written out from RFC 6143, and many viewers. There are tests here,
+//! and nothing else.
 #![tactic(auto)]
 
 #[cfg(test)]
