@@ -1,6 +1,6 @@
 //! Where an allocation fails, whichever, the call is made again, and then it gives what it would have given: a call that was
 //! refused left the screen as it was. `named` has each call once, `marks` fills the log of drawing, and here are the calls that
-//! both make. The bytes are written out from RFC 6143.
+//! both make; their bytes are written out from RFC 6143. `many` has what must not be refused where there is memory.
 //!
 //! A function that owns a screen lends it to others: each place where it may end on its way would be one more to prove.
 
@@ -14,6 +14,7 @@ macro_rules! again {
     };
 }
 
+mod many;
 mod marks;
 mod named;
 

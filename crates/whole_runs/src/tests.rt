@@ -1,11 +1,11 @@
 //! What no clause says of a screen, and no script of `play` shows: that each call succeeds where there is memory, and what the
-//! calls give that no line of a script makes. `calls` has those calls, and `many` many viewers and long pieces; their bytes are
-//! written out from RFC 6143. Each screen keeps its history.
+//! calls give that no line of a script makes. `calls` has those calls, with their bytes written out from RFC 6143, and `held` what
+//! can be read of a screen. Each screen keeps its history.
 //!
 //! A function that owns a screen lends it to others: each place where it may end on its way would be one more to prove.
 
 mod calls;
-mod many;
+mod held;
 
 use screen::{History, Screen, ScreenError};
 use std::alloc::Global;
