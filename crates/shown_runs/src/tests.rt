@@ -7,19 +7,17 @@
 mod lists;
 mod worked;
 
-use listed::Listed;
 use messages::Version;
 use pixel_translate::{Area, BitsPerPixel, Component, PixelFormat, translate};
-use screen::{Config, History, Screen, ScreenError};
+use screen::{History, Screen, ScreenError};
+use screen_tools::sent;
 use std::alloc::Global;
 use test_viewer::Shown;
-
-const VERSIONS: [Version; 3] = [Version::V33, Version::V37, Version::V38];
 
 /// A SetEncodings, and the encodings below 256 that it lists.
 type Encodings = (&'static [u8], &'static [u8]);
 
-const WITH_COPYRECT: Encodings = (b"\x02\x00\x00\x02\x00\x00\x00\x01\x00\x00\x00\x00", &[1, 0]);
+const WITH_COPYRECT: Encodings = (screen_tools::WITH_COPYRECT, &[1, 0]);
 
 const RAW: Encodings = (b"\x02\x00\x00\x01\x00\x00\x00\x00", &[0]);
 
@@ -60,22 +58,8 @@ fn five_six_five() -> PixelFormat {
 }
 
 /// A screen of this size, whose updates have at most so many copies and so many rectangles of pixels.
-fn new_screen(
-    alloc: Global,
-    (width, height): (u16, u16),
-    limit: u32,
-) -> Result<Screen, ScreenError> {
-    let name = Listed::from_vec(b"demo".to_vec(alloc)?);
-    Screen::new(
-        alloc,
-        Config {
-            width: u32::from(width),
-            height: u32::from(height),
-            name,
-            rects_per_update: limit,
-            history: History::NotKept,
-        },
-    )
+fn new_screen(alloc: Global, size: (u16, u16), limit: u32) -> Result<Screen, ScreenError> {
+    screen_tools::new_screen(alloc, size, limit, History::NotKept)
 }
 
 /// The area of a whole screen, whose sides are at most 8192.
@@ -188,16 +172,22 @@ impl Watcher {
         self.say(screen, message)
     }
 
+    /// An update is read.
+    fn read(&mut self, update: &[u8]) {
+        self.hear(update);
+        let encoding = first_encoding(update).unwrap_or(0);
+        self.is_served = self.is_served && (encoding == 0 || self.listed.contains(&encoding));
+    }
+
     /// An update is cut and read: its bytes, or none.
     fn cut(&mut self, screen: &mut Screen) -> Result<Vec<u8>, ScreenError> {
-        let Some(update) = screen.cut(self.number)? else {
-            return Ok(Vec::new(self.alloc));
-        };
-        let bytes = update.encode()?;
-        self.hear(&bytes);
-        let encoding = first_encoding(&bytes).unwrap_or(0);
-        self.is_served = self.is_served && (encoding == 0 || self.listed.contains(&encoding));
-        Ok(bytes)
+        match sent(screen, self.number)? {
+            Some(update) => {
+                self.read(&update);
+                Ok(update)
+            }
+            None => Ok(Vec::new(self.alloc)),
+        }
     }
 
     /// Whether a place shows its colour in the picture, in the format in which it was read; or nothing, where it may.

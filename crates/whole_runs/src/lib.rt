@@ -1,5 +1,4 @@
-//! Whole runs of a screen: worked examples written out from RFC 6143, and calls that are made again where memory was refused.
-//! There are tests here, and nothing else.
+//! Whole runs of a screen, call by call: worked examples written out from RFC 6143. There are tests here, and nothing else.
 #![tactic(auto)]
 
 #[cfg(test)]

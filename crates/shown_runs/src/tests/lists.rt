@@ -11,28 +11,15 @@ use messages::Version;
 use pixel_translate::{Area, BitsPerPixel, PixelFormat};
 use region::Rect;
 use screen::{Screen, ScreenError};
+use screen_tools::{Numbers, next};
 use std::alloc::{AllocError, Global};
 use std::test::Fail;
 
-/// A linear congruential sequence: each number is 1664525 times the one before it plus 1013904223, without what is
-/// above 32 bits, and its upper half is used.
-#[derive(Drop)]
-struct Numbers(u32);
-
-/// The next number below `below`.
-fn next(numbers: &mut Numbers, below: u16) -> u16
-    requires { 0 < below }
-    ensures { result < below }
-{
-    numbers.0 = numbers.0.wrapping_mul(1664525).wrapping_add(1013904223);
-    ((numbers.0 >> 16) % u32::from(below)) as u16
-}
-
 /// The screens' sizes, the least of which is one tile of Hextile, and the others two.
-const SIZES: [(u16, u16); 3] = [(8, 6), (19, 3), (3, 18)];
+static SIZES: [(u16, u16); 3] = [(8, 6), (19, 3), (3, 18)];
 
 /// Each encoding of pixels, with and without CopyRect, and among them two that no server has to know.
-const ENCODINGS: [Encodings; 8] = [
+static ENCODINGS: [Encodings; 8] = [
     RAW,
     WITH_COPYRECT,
     (b"\x02\x00\x00\x01\x00\x00\x00\x02", &[2]),
@@ -206,6 +193,28 @@ fn see(tally: &mut Tally, screen: &mut Screen, watcher: &mut Watcher) -> Result<
     Ok(())
 }
 
+/// A list of encodings.
+fn some_encodings(numbers: &mut Numbers) -> Encodings {
+    let encodings = ENCODINGS.get(usize::from(next(numbers, 8)));
+    encodings.copied().unwrap_or(RAW)
+}
+
+/// A viewer asks for the whole screen, or for an area.
+fn ask(
+    numbers: &mut Numbers,
+    screen: &mut Screen,
+    watcher: &mut Watcher,
+    kind: u16,
+) -> Result<(), ScreenError> {
+    let all = whole(screen);
+    match kind {
+        4 => watcher.ask(screen, false, all),
+        5..=7 => watcher.ask(screen, true, some_area(numbers)),
+        8 | 9 => watcher.ask(screen, false, some_area(numbers)),
+        _ => watcher.ask(screen, true, all),
+    }
+}
+
 /// A viewer says something, or an update is cut for it.
 fn watch(
     numbers: &mut Numbers,
@@ -213,20 +222,13 @@ fn watch(
     screen: &mut Screen,
     watcher: &mut Watcher,
 ) -> Result<(), ScreenError> {
-    let all = whole(screen);
     match next(numbers, 20) {
-        0 | 1 => {
-            let encodings = ENCODINGS.get(usize::from(next(numbers, 8)));
-            watcher.list(screen, encodings.copied().unwrap_or(RAW))
-        }
+        0 | 1 => watcher.list(screen, some_encodings(numbers)),
         2 | 3 => watcher.choose(screen, some_format(numbers)),
-        4 => watcher.ask(screen, false, all),
-        5..=7 => watcher.ask(screen, true, some_area(numbers)),
-        8 | 9 => watcher.ask(screen, false, some_area(numbers)),
         10 if next(numbers, 4) == 0 => come_again(screen, watcher),
-        10..=12 => watcher.ask(screen, true, all),
-        13..=15 => {
-            watcher.ask(screen, true, all)?;
+        kind @ 4..=12 => ask(numbers, screen, watcher, kind),
+        kind @ 13..=15 => {
+            ask(numbers, screen, watcher, kind)?;
             see(tally, screen, watcher)
         }
         _ => see(tally, screen, watcher),
@@ -327,7 +329,7 @@ fn list_holds(
 
 #[test]
 fn viewers_show_the_picture_after_300_lists(rt: HostRuntime) -> Result<(), Fail> {
-    let mut numbers = Numbers(1);
+    let mut numbers = Numbers::new();
     let mut tally: Tally = [0; 6];
     for list in 0..300usize {
         let holds = list_holds(rt.alloc(), &mut numbers, &mut tally, list)?;

@@ -1,13 +1,13 @@
 //! Runs whose bytes and pixels are written out from RFC 6143, for viewers of each version.
 
-use super::{
-    Encodings, RAW, VERSIONS, WITH_COPYRECT, Watcher, Watchers, five_six_five, new_screen, whole,
-};
+use super::{Encodings, RAW, WITH_COPYRECT, Watcher, Watchers, five_six_five, new_screen, whole};
 use messages::Version;
 use pixel_translate::{Area, PixelFormat};
-use region::{Rect, Region, RegionError};
+use region::Rect;
 use screen::{Screen, ScreenError};
+use screen_tools::{Copying, copy};
 use std::alloc::Global;
+use std::process::Abort;
 use std::test::Fail;
 
 /// Which of two viewers.
@@ -112,7 +112,8 @@ const COPIES_IN_ORDER: [Step; 8] = [
     AskChanges(First, [0, 0, 6, 1]),
     Cut(
         First,
-        b"\x00\x00\x00\x02\x00\x04\x00\x00\x00\x01\x00\x01\x00\x00\x00\x01\x00\x02\x00\x00\x00\x02\x00\x00\x00\x01\x00\x01\x00\x00\x00\x01\x00\x00\x00\x00",
+        b"\x00\x00\x00\x02\x00\x04\x00\x00\x00\x01\x00\x01\x00\x00\x00\x01\x00\x02\x00\x00\
+            \x00\x02\x00\x00\x00\x01\x00\x01\x00\x00\x00\x01\x00\x00\x00\x00",
     ),
     Shows(First, &[1, 2, 1, 4, 3, 6]),
 ];
@@ -281,15 +282,6 @@ fn rect([x1, y1, x2, y2]: [i32; 4]) -> Rect {
     Rect { x1, y1, x2, y2 }
 }
 
-/// The places of a rectangle of the screen.
-fn region(alloc: Global, rect: Rect) -> Result<Region, ScreenError> {
-    match Region::from_rect(alloc, rect) {
-        Ok(region) => Ok(region),
-        Err(RegionError::OutOfRange) => Err(ScreenError::BadRect),
-        Err(RegionError::OutOfMemory) => Err(ScreenError::OutOfMemory),
-    }
-}
-
 /// Whether the places show these pixels, row by row, in the format that was chosen last.
 fn shows(screen: &Screen, watcher: &Watcher, pixels: &[u32]) -> bool {
     let columns = screen.width().max(1);
@@ -323,28 +315,12 @@ fn show(screen: &mut Screen, watcher: &mut Watcher) -> Result<bool, ScreenError>
     Ok(watcher.shows_picture(screen, false))
 }
 
-/// The places of a rectangle get the colours of those (dx, dy) before them.
-fn copy_rect(screen: &mut Screen, to: Rect, (dx, dy): (i32, i32)) -> Result<(), ScreenError> {
-    screen.do_copy_rect(to.x1, to.y1, to.x2, to.y2, dx, dy)
-}
-
-/// The same by the call for a region.
-fn copy_region(
-    alloc: Global,
-    screen: &mut Screen,
-    to: Rect,
-    (dx, dy): (i32, i32),
-) -> Result<(), ScreenError> {
-    let places = region(alloc, to)?;
-    screen.do_copy_region(&places, dx, dy)
-}
-
 /// A step of a drawing program.
 fn draw(alloc: Global, screen: &mut Screen, step: Step) -> Result<(), ScreenError> {
     match step {
         Paint(corners, colours) => screen.paint(rect(corners), colours),
-        CopyRect(corners, by) => copy_rect(screen, rect(corners), by),
-        CopyRegion(corners, by) => copy_region(alloc, screen, rect(corners), by),
+        CopyRect(corners, by) => copy(alloc, screen, Copying::DoRect, rect(corners), by),
+        CopyRegion(corners, by) => copy(alloc, screen, Copying::DoRegion, rect(corners), by),
         _ => Ok(()),
     }
 }
@@ -431,13 +407,26 @@ fn first_wrong_of(
     first_wrong(alloc, &mut screen, &mut watchers, steps)
 }
 
+static VERSIONS: [Version; 3] = [Version::V33, Version::V37, Version::V38];
+
+/// A run gives what it is to give, for viewers of each version.
+fn expect_run(
+    rt: &impl Abort,
+    alloc: Global,
+    run: usize,
+    (size, steps): ((u16, u16), &[Step]),
+) -> Result<(), ScreenError> {
+    for version in &VERSIONS {
+        let wrong = first_wrong_of(alloc, size, steps, *version)?;
+        assert!(rt; wrong.is_none(), "run {run} of {version:?}: {wrong:?}");
+    }
+    Ok(())
+}
+
 #[test]
 fn viewers_show_worked_runs(rt: HostRuntime) -> Result<(), Fail> {
-    for (run, (size, steps)) in RUNS.iter().enumerate() {
-        for version in VERSIONS {
-            let wrong = first_wrong_of(rt.alloc(), *size, *steps, version)?;
-            assert!(rt; wrong.is_none(), "run {run} of {version:?}: {wrong:?}");
-        }
+    for (number, run) in RUNS.iter().enumerate() {
+        expect_run(&rt, rt.alloc(), number, *run)?;
     }
     Ok(())
 }

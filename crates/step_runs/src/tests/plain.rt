@@ -52,22 +52,32 @@ impl Picture {
         }
     }
 
-    /// Moves colours to the places of a rectangle that are in the picture with the places (dx, dy) before them.
-    pub(crate) fn copy(&mut self, to: Rect, (dx, dy): (i32, i32)) -> Result<(), AllocError> {
-        let old = Picture {
+    /// The same picture.
+    fn try_clone(&self) -> Result<Picture, AllocError> {
+        Ok(Picture {
             width: self.width,
             height: self.height,
             colours: self.colours.clone()?,
-        };
-        for y in 0..self.height {
-            for x in 0..self.width {
-                let (x, y) = (i64::from(x), i64::from(y));
-                if is_in(to, x, y)
-                    && let Some(colour) = old.at(x - i64::from(dx), y - i64::from(dy))
-                {
-                    self.set(x, y, colour);
-                }
+        })
+    }
+
+    /// Moves colours to a row's places of a rectangle that are in the picture with the places (dx, dy) before them.
+    fn copy_row(&mut self, old: &Picture, to: Rect, (dx, dy): (i32, i32), y: i32) {
+        for x in 0..self.width {
+            let (x, y) = (i64::from(x), i64::from(y));
+            if is_in(to, x, y)
+                && let Some(colour) = old.at(x - i64::from(dx), y - i64::from(dy))
+            {
+                self.set(x, y, colour);
             }
+        }
+    }
+
+    /// Moves colours to the places of a rectangle that are in the picture with the places (dx, dy) before them.
+    pub(crate) fn copy(&mut self, to: Rect, by: (i32, i32)) -> Result<(), AllocError> {
+        let old = self.try_clone()?;
+        for y in 0..self.height {
+            self.copy_row(&old, to, by, y);
         }
         Ok(())
     }
@@ -153,42 +163,64 @@ impl Viewer {
         })
     }
 
+    /// The pixels of a row of a rectangle in Raw.
+    fn show_raw_row(&mut self, head: Head, bytes: &mut Bytes<'_>, y: i64) -> bool {
+        let mut fits = true;
+        for column in 0..head.w {
+            let x = head.x.wrapping_add(column.into());
+            fits = self.shown.set(x, y, bytes.pixel()) && fits;
+        }
+        fits
+    }
+
     /// A rectangle in Raw: its pixels, row by row.
     fn show_raw(&mut self, head: Head, bytes: &mut Bytes<'_>) -> bool {
         let mut fits = true;
         for row in 0..head.h {
-            for column in 0..head.w {
-                let (x, y) = (
-                    head.x.wrapping_add(column.into()),
-                    head.y.wrapping_add(row.into()),
-                );
-                fits = self.shown.set(x, y, bytes.pixel()) && fits;
-            }
+            let y = head.y.wrapping_add(row.into());
+            fits = self.show_raw_row(head, bytes, y) && fits;
+        }
+        fits
+    }
+
+    /// A row of a rectangle in CopyRect.
+    fn show_copied_row(&mut self, old: &Picture, head: Head, from: (u16, u16), row: u16) -> bool {
+        let mut fits = true;
+        for column in 0..head.w {
+            let (right, down) = (i64::from(column), i64::from(row));
+            let source = old.at(i64::from(from.0) + right, i64::from(from.1) + down);
+            let (x, y) = (head.x.wrapping_add(right), head.y.wrapping_add(down));
+            fits = match source {
+                Some(colour) => self.shown.set(x, y, colour) && fits,
+                None => false,
+            };
         }
         fits
     }
 
     /// A rectangle in CopyRect: the pixels that another of its size has now.
     fn show_copy(&mut self, head: Head, from: (u16, u16)) -> Result<bool, AllocError> {
-        let old = Picture {
-            width: self.shown.width,
-            height: self.shown.height,
-            colours: self.shown.colours.clone()?,
-        };
+        let old = self.shown.try_clone()?;
         let mut fits = true;
         for row in 0..head.h {
-            for column in 0..head.w {
-                let (right, down) = (i64::from(column), i64::from(row));
-                let source = old.at(i64::from(from.0) + right, i64::from(from.1) + down);
-                let (x, y) = (head.x.wrapping_add(right), head.y.wrapping_add(down));
-                fits = match source {
-                    Some(colour) => self.shown.set(x, y, colour) && fits,
-                    None => false,
-                };
-            }
+            fits = self.show_copied_row(&old, head, from, row) && fits;
         }
         self.copies = self.copies.saturating_add(1);
         Ok(fits)
+    }
+
+    /// Shows a rectangle of an update, and tells whether it is one.
+    fn show_rect(&mut self, bytes: &mut Bytes<'_>) -> Result<bool, AllocError> {
+        let head = next_head(bytes);
+        let fits = match head.encoding {
+            (0, 0) => self.show_raw(head, bytes),
+            (0, 1) => {
+                let from = (bytes.short(), bytes.short());
+                self.show_copy(head, from)?
+            }
+            _ => false,
+        };
+        Ok(fits && head.w > 0 && head.h > 0)
     }
 
     /// Shows a FramebufferUpdate, and tells whether it is one, with nothing behind it and all of it on the screen.
@@ -200,16 +232,7 @@ impl Viewer {
         let mut fits = bytes.short() == 0;
         let count = bytes.short();
         for _ in 0..count {
-            let head = next_head(&mut bytes);
-            fits = fits && head.w > 0 && head.h > 0;
-            fits = match head.encoding {
-                (0, 0) => self.show_raw(head, &mut bytes) && fits,
-                (0, 1) => {
-                    let from = (bytes.short(), bytes.short());
-                    self.show_copy(head, from)? && fits
-                }
-                _ => false,
-            };
+            fits = self.show_rect(&mut bytes)? && fits;
         }
         Ok(fits && count > 0 && bytes.read == update.len())
     }

@@ -1,52 +1,13 @@
 //! The calls that no line of a script makes, where there is memory: drawing by a rectangle or a region, `pending`, and updates
 //! that are encoded later. The bytes are written out from RFC 6143.
 
-use super::{config, rect, region, request, say, show};
+use super::new_screen;
 use region::Rect;
 use screen::{Screen, ScreenError, Update};
+use screen_tools::{COPYING, Copying, copy, rect, region, request, say, sent, show};
 use std::alloc::{AllocError, Global};
 use std::process::Abort;
 use std::test::Fail;
-
-/// The calls that copy.
-#[derive(Clone, Copy, Debug)]
-enum Copying {
-    DoRect,
-    DoRegion,
-    ScheduleRect,
-    ScheduleRegion,
-}
-
-const COPYING: [Copying; 4] = [
-    Copying::DoRect,
-    Copying::DoRegion,
-    Copying::ScheduleRect,
-    Copying::ScheduleRegion,
-];
-
-/// A copy to a rectangle by one of the calls.
-fn copy(
-    alloc: Global,
-    screen: &mut Screen,
-    copying: Copying,
-    to: Rect,
-    (dx, dy): (i32, i32),
-) -> Result<(), ScreenError> {
-    match copying {
-        Copying::DoRect => screen.do_copy_rect(to.x1, to.y1, to.x2, to.y2, dx, dy),
-        Copying::DoRegion => screen.do_copy_region(&region(alloc, to)?, dx, dy),
-        Copying::ScheduleRect => screen.schedule_copy_rect(to.x1, to.y1, to.x2, to.y2, dx, dy),
-        Copying::ScheduleRegion => screen.schedule_copy_region(&region(alloc, to)?, dx, dy),
-    }
-}
-
-/// What a viewer is sent now, if anything.
-fn sent(screen: &mut Screen, viewer: u64) -> Result<Option<Vec<u8>>, ScreenError> {
-    match screen.cut(viewer)? {
-        Some(update) => Ok(Some(update.encode()?)),
-        None => Ok(None),
-    }
-}
 
 /// Whether these bytes were sent, or nothing where there are none.
 fn is_given(given: &Option<Vec<u8>>, bytes: &[u8]) -> bool {
@@ -63,6 +24,11 @@ fn expect_sent(rt: &impl Abort, screen: &mut Screen, bytes: &[u8]) -> Result<(),
     let is_sent = pending != bytes.is_empty() && is_given(&given, bytes);
     assert!(rt; is_sent, "{bytes:?}");
     Ok(())
+}
+
+/// These bytes are those.
+fn expect_bytes(rt: &impl Abort, given: &[u8], wanted: &[u8]) {
+    assert_eq!(rt; given, wanted);
 }
 
 /// The whole of a screen of 1 by 4 with these colours, as an update.
@@ -97,40 +63,67 @@ fn expect_copied(
     screen.close(1)
 }
 
-/// A copy down over itself, by the corners of the lower three places, or by corners beyond the screen in the wrong order.
+/// The lower three places of that screen.
+const LOWER: Rect = Rect {
+    x1: 0,
+    y1: 1,
+    x2: 1,
+    y2: 4,
+};
+
+/// Corners beyond the screen in the wrong order.
+const FAR: Rect = Rect {
+    x1: i32::MAX,
+    y1: i32::MAX,
+    x2: i32::MIN,
+    y2: i32::MIN,
+};
+
+/// A copy down over itself by one of the calls, by the corners of the lower three places or by those beyond the screen, and the
+/// picture behind it.
+static DOWN: [(Copying, Rect, [u8; 4]); 6] = [
+    (Copying::DoRect, LOWER, [1, 1, 2, 3]),
+    (Copying::DoRect, FAR, [1, 1, 2, 3]),
+    (Copying::DoRegion, LOWER, [1, 1, 2, 3]),
+    (Copying::ScheduleRect, LOWER, [1, 2, 3, 4]),
+    (Copying::ScheduleRect, FAR, [1, 2, 3, 4]),
+    (Copying::ScheduleRegion, LOWER, [1, 2, 3, 4]),
+];
+
+/// Each of them.
 fn expect_copied_down(
     rt: &impl Abort,
     alloc: Global,
     screen: &mut Screen,
 ) -> Result<(), ScreenError> {
-    let lower = rect(0, 1, 1, 4);
-    let far = rect(i32::MAX, i32::MAX, i32::MIN, i32::MIN);
-    for (copying, to, picture) in [
-        (Copying::DoRect, lower, [1, 1, 2, 3]),
-        (Copying::DoRect, far, [1, 1, 2, 3]),
-        (Copying::DoRegion, lower, [1, 1, 2, 3]),
-        (Copying::ScheduleRect, lower, [1, 2, 3, 4]),
-        (Copying::ScheduleRect, far, [1, 2, 3, 4]),
-        (Copying::ScheduleRegion, lower, [1, 2, 3, 4]),
-    ] {
-        expect_copied(
-            rt,
-            alloc,
-            screen,
-            (copying, to, (0, 1)),
-            (COPIED_DOWN, picture),
-        )?;
+    for (copying, to, picture) in &DOWN {
+        let made = (*copying, *to, (0, 1));
+        expect_copied(rt, alloc, screen, made, (COPIED_DOWN, *picture))?;
     }
     Ok(())
 }
 
-/// Copies by (0, 0), and from places that are off the screen.
+/// By nothing, and to places whose sources are off the screen.
+static NOWHERE: [(i32, i32); 4] = [(0, 0), (0, 9), (0, i32::MIN), (i32::MAX, 1)];
+
+/// Copies by (0, 0), and from places that are off the screen, by one of the calls.
+fn expect_unmoved_by(
+    rt: &impl Abort,
+    alloc: Global,
+    screen: &mut Screen,
+    copying: Copying,
+) -> Result<(), ScreenError> {
+    for by in &NOWHERE {
+        let made = (copying, LOWER, *by);
+        expect_copied(rt, alloc, screen, made, (&[], [1, 2, 3, 4]))?;
+    }
+    Ok(())
+}
+
+/// The same by each of them.
 fn expect_unmoved(rt: &impl Abort, alloc: Global, screen: &mut Screen) -> Result<(), ScreenError> {
-    for copying in COPYING {
-        for by in [(0, 0), (0, 9), (0, i32::MIN), (i32::MAX, 1)] {
-            let made = (copying, rect(0, 1, 1, 4), by);
-            expect_copied(rt, alloc, screen, made, (&[], [1, 2, 3, 4]))?;
-        }
+    for copying in &COPYING {
+        expect_unmoved_by(rt, alloc, screen, *copying)?;
     }
     Ok(())
 }
@@ -138,7 +131,7 @@ fn expect_unmoved(rt: &impl Abort, alloc: Global, screen: &mut Screen) -> Result
 #[test]
 fn a_copy_down_by_each_call(rt: HostRuntime) -> Result<(), Fail> {
     let alloc = rt.alloc();
-    let mut screen = Screen::new(alloc, config(alloc, (1, 4), 50)?)?;
+    let mut screen = new_screen(alloc, (1, 4))?;
     expect_copied_down(&rt, alloc, &mut screen)?;
     Ok(())
 }
@@ -146,7 +139,7 @@ fn a_copy_down_by_each_call(rt: HostRuntime) -> Result<(), Fail> {
 #[test]
 fn a_copy_that_moves_nothing_marks_nothing(rt: HostRuntime) -> Result<(), Fail> {
     let alloc = rt.alloc();
-    let mut screen = Screen::new(alloc, config(alloc, (1, 4), 50)?)?;
+    let mut screen = new_screen(alloc, (1, 4))?;
     expect_unmoved(&rt, alloc, &mut screen)?;
     Ok(())
 }
@@ -190,7 +183,7 @@ fn expect_marked(rt: &impl Abort, alloc: Global, screen: &mut Screen) -> Result<
 #[test]
 fn marks_by_each_call(rt: HostRuntime) -> Result<(), Fail> {
     let alloc = rt.alloc();
-    let mut screen = Screen::new(alloc, config(alloc, (2, 2), 50)?)?;
+    let mut screen = new_screen(alloc, (2, 2))?;
     expect_marked(&rt, alloc, &mut screen)?;
     Ok(())
 }
@@ -217,14 +210,14 @@ fn cut_and_draw_over(screen: &mut Screen) -> Result<Option<Update>, ScreenError>
 
 /// The same, when the screen is gone.
 fn kept_update(alloc: Global) -> Result<Option<Update>, ScreenError> {
-    let mut screen = Screen::new(alloc, config(alloc, (2, 2), 50)?)?;
+    let mut screen = new_screen(alloc, (2, 2))?;
     cut_and_draw_over(&mut screen)
 }
 
 #[test]
 fn an_update_keeps_the_colours_of_its_cut(rt: HostRuntime) -> Result<(), Fail> {
     let update = kept_update(rt.alloc())?.ok_or("an update")?;
-    assert_eq!(rt; update.encode()?.as_slice(), SECOND);
+    expect_bytes(&rt, &update.encode()?, SECOND);
     Ok(())
 }
 
@@ -261,7 +254,7 @@ fn drawn_over(
     before: &[u32],
     after: &[u32],
 ) -> Result<Option<Update>, ScreenError> {
-    let mut screen = Screen::new(alloc, config(alloc, size, 50)?)?;
+    let mut screen = new_screen(alloc, size)?;
     cut_before(&mut screen, size, before, after)
 }
 
@@ -273,21 +266,37 @@ fn encoded(alloc: Global, update: Option<Update>) -> Result<Vec<u8>, ScreenError
     }
 }
 
-/// What an update gives that was cut before the whole screen was drawn over.
+/// What an update gives that was cut before the whole screen was drawn over with other colours.
+fn cut_and_drawn_with(
+    alloc: Global,
+    size: (u16, u16),
+    before: &[u32],
+    after: &[u32],
+) -> Result<Vec<u8>, ScreenError> {
+    let update = drawn_over(alloc, size, before, after)?;
+    encoded(alloc, update)
+}
+
+/// The same of the colour 1, and then the colour 2.
 fn cut_and_drawn_over(alloc: Global, (w, h): (u16, u16)) -> Result<Vec<u8>, ScreenError> {
     let places = usize::from(w) * usize::from(h);
     let before = vec![in alloc; 1u32; places]?;
     let after = vec![in alloc; 2u32; places]?;
-    let update = drawn_over(alloc, (w, h), &before, &after)?;
-    encoded(alloc, update)
+    cut_and_drawn_with(alloc, (w, h), &before, &after)
+}
+
+/// An update of a screen of this size keeps its colours.
+fn expect_colours(rt: &impl Abort, alloc: Global, size: (u16, u16)) -> Result<(), ScreenError> {
+    let wanted = whole_update(alloc, size, 1)?;
+    let sent = cut_and_drawn_over(alloc, size)?;
+    expect_bytes(rt, &sent, &wanted);
+    Ok(())
 }
 
 #[test]
 fn an_update_keeps_its_colours(rt: HostRuntime) -> Result<(), Fail> {
     for size in [(4, 2), (300, 2)] {
-        let sent = cut_and_drawn_over(rt.alloc(), size)?;
-        let wanted = whole_update(rt.alloc(), size, 1)?;
-        assert_eq!(rt; sent.as_slice(), wanted.as_slice());
+        expect_colours(&rt, rt.alloc(), size)?;
     }
     Ok(())
 }

@@ -1,8 +1,10 @@
 //! Want of memory is answered only where there is none: more viewers than any table is likely to have, a long piece, and each
 //! drawing call with all of them there.
 
-use super::{config, open, rect, region, request, say};
-use screen::{Fault, Screen, ScreenError};
+use super::new_screen;
+use region::Region;
+use screen::{Screen, ScreenError};
+use screen_tools::{open, rect, region, request, say};
 use std::alloc::{AllocError, Global};
 use std::process::Abort;
 use std::test::Fail;
@@ -18,24 +20,34 @@ fn open_all(screen: &mut Screen) -> Result<(), ScreenError> {
     Ok(())
 }
 
-/// A screen of 4 by 3.
-fn new_screen(alloc: Global) -> Result<Screen, ScreenError> {
-    Screen::new(alloc, config(alloc, (4, 3), 50)?)
+/// Each call that draws or marks once.
+fn mark_each(screen: &mut Screen, top: &Region) -> Result<(), ScreenError> {
+    screen.write_pixels(rect(0, 0, 1, 1), &[1])?;
+    screen.paint(rect(1, 0, 2, 1), &[2])?;
+    screen.mark_rect(0, 0, 1, 1)?;
+    screen.mark_region(top)
+}
+
+/// Each call that copies once.
+fn copy_each(screen: &mut Screen, top: &Region) -> Result<(), ScreenError> {
+    screen.schedule_copy_rect(0, 0, 4, 3, 1, 0)?;
+    screen.schedule_copy_region(top, 1, 0)?;
+    screen.do_copy_rect(0, 0, 4, 3, 0, 1)?;
+    screen.do_copy_region(top, 1, 0)
+}
+
+/// Each drawing call once, with a region of the first row.
+fn draw_with(screen: &mut Screen, top: &Region) -> Result<(), ScreenError> {
+    mark_each(screen, top)?;
+    copy_each(screen, top)?;
+    screen.bell()?;
+    screen.cut_text(b"hi")
 }
 
 /// Each drawing call once.
 fn draw_each(alloc: Global, screen: &mut Screen) -> Result<(), ScreenError> {
     let top = region(alloc, rect(0, 0, 4, 1))?;
-    screen.write_pixels(rect(0, 0, 1, 1), &[1])?;
-    screen.paint(rect(1, 0, 2, 1), &[2])?;
-    screen.mark_rect(0, 0, 1, 1)?;
-    screen.mark_region(&top)?;
-    screen.schedule_copy_rect(0, 0, 4, 3, 1, 0)?;
-    screen.schedule_copy_region(&top, 1, 0)?;
-    screen.do_copy_rect(0, 0, 4, 3, 0, 1)?;
-    screen.do_copy_region(&top, 1, 0)?;
-    screen.bell()?;
-    screen.cut_text(b"hi")
+    draw_with(screen, &top)
 }
 
 /// How many viewers are sent an update of the whole screen.
@@ -61,13 +73,13 @@ fn expect_served(rt: &impl Abort, alloc: Global, screen: &mut Screen) -> Result<
     assert!(rt; are_there(screen));
     draw_each(alloc, screen)?;
     let served = count_served(screen)?;
-    assert_eq!(rt; served, 200);
+    assert!(rt; served == 200, "{served} viewers");
     Ok(())
 }
 
 #[test]
 fn two_hundred_viewers_are_served(rt: HostRuntime) -> Result<(), Fail> {
-    let mut screen = new_screen(rt.alloc())?;
+    let mut screen = new_screen(rt.alloc(), (4, 3))?;
     expect_served(&rt, rt.alloc(), &mut screen)?;
     Ok(())
 }
@@ -93,39 +105,7 @@ fn expect_heard(rt: &impl Abort, screen: &mut Screen, piece: &[u8]) -> Result<()
 #[test]
 fn a_long_piece_is_heard_whole(rt: HostRuntime) -> Result<(), Fail> {
     let piece = long_piece(rt.alloc())?;
-    let mut screen = new_screen(rt.alloc())?;
+    let mut screen = new_screen(rt.alloc(), (4, 3))?;
     expect_heard(&rt, &mut screen, &piece)?;
-    Ok(())
-}
-
-/// A place is painted, and viewer 5 sends what is no version.
-fn draw_and_fail(screen: &mut Screen) -> Result<(), ScreenError> {
-    screen.paint(rect(2, 1, 3, 2), &[0xff8000])?;
-    screen.connect(5)?;
-    say(screen, 5, b"hello world\n")
-}
-
-/// Whether the screen holds that then.
-fn is_held(screen: &Screen) -> bool {
-    (screen.width(), screen.height()) == (4, 3)
-        && screen.colour(2, 1) == Some(0xff8000)
-        && screen.colour(4, 0).is_none()
-        && screen.fault(5) == Ok(Some(Fault::BadVersion))
-        && screen.pending(5) == Ok(false)
-        && screen.pending(9) == Err(ScreenError::NoViewer)
-}
-
-#[test]
-fn what_a_screen_holds_can_be_read(rt: HostRuntime) -> Result<(), Fail> {
-    let mut screen = new_screen(rt.alloc())?;
-    draw_and_fail(&mut screen)?;
-    assert!(rt; is_held(&screen));
-    Ok(())
-}
-
-#[test]
-fn a_refusal_has_a_text(rt: HostRuntime) -> Result<(), Fail> {
-    let text = format!(in rt.alloc(); "{}", ScreenError::NoViewer)?;
-    assert_eq!(rt; text.as_str(), "NoViewer");
     Ok(())
 }

@@ -1,17 +1,18 @@
 //! The events that a screen keeps: those that were accepted, in order, without the cuts that gave nothing.
 
-use super::events::Call::{self, Cut, DoCopy, Hear, Mark, Paint, ScheduleCopy, Write};
-use super::events::Want::{Bytes, Refused};
-use super::events::{
-    EVERY_KIND, FAULT, REFUSED, Row, TWO_VIEWERS, events, expect_answers, four_by_one, rect_of,
-};
-use super::region;
-use region::Rect;
-use screen::{Config, Event, History, Screen, ScreenError};
+use super::answers::expect_answers;
+use super::lists::Call::{self, Cut, DoCopy, Hear, Mark, Paint, ScheduleCopy, Write};
+use super::lists::Want::{Bytes, Refused};
+use super::lists::{Row, events, lists, rect_of};
+use super::new_screen;
+use region::{Rect, Region};
+use screen::{Event, History, Screen, ScreenError};
+use screen_tools::region;
 use std::alloc::{AllocError, Global};
 use std::process::Abort;
 use std::test::Fail;
 
+/// Whether these rectangles have those corners.
 fn are_of(rects: &[Rect], corners: &[[i32; 4]]) -> bool {
     for (number, rect) in rects.iter().enumerate() {
         match corners.get(number) {
@@ -74,7 +75,8 @@ fn expect_event(rt: &impl Abort, calls: &[Call], number: usize, event: &Event) {
 /// The screen keeps the events of these calls, in order, and no others.
 fn expect_kept(rt: &impl Abort, screen: &Screen, calls: &[Call]) {
     let kept = screen.history().expect(rt, "the events are kept");
-    assert_eq!(rt; kept.len(), calls.len());
+    let count = kept.len();
+    assert!(rt; count == calls.len(), "{count} events");
     for (number, event) in kept.iter().enumerate() {
         expect_event(rt, calls, number, event);
     }
@@ -100,6 +102,20 @@ fn calls_of(alloc: Global, rows: &[Row]) -> Result<Vec<Call>, AllocError> {
     Ok(calls)
 }
 
+/// A screen keeps these calls, which are those of a list's events at which something happens.
+fn expect_kept_calls(
+    rt: &impl Abort,
+    alloc: Global,
+    rows: &[Row],
+    calls: &[Call],
+) -> Result<(), ScreenError> {
+    let events = events(alloc, rows)?;
+    let mut screen = new_screen(alloc, History::Kept)?;
+    expect_answers(rt, &mut screen, &events, rows);
+    expect_kept(rt, &screen, calls);
+    Ok(())
+}
+
 /// After a list of calls a screen keeps those at which something happens, so many.
 fn expect_kept_of(
     rt: &impl Abort,
@@ -108,43 +124,43 @@ fn expect_kept_of(
     count: usize,
 ) -> Result<(), ScreenError> {
     let calls = calls_of(alloc, rows)?;
-    assert_eq!(rt; calls.len(), count);
-    let events = events(alloc, rows)?;
-    let mut screen = Screen::new(alloc, four_by_one(alloc)?)?;
-    expect_answers(rt, &mut screen, &events, rows);
-    expect_kept(rt, &screen, &calls);
-    Ok(())
+    let happened = calls.len();
+    assert!(rt; happened == count, "{happened} calls");
+    expect_kept_calls(rt, alloc, rows, &calls)
 }
 
-// Of the third list 12 calls are refused, and one cut gives nothing; so does one of the fourth.
 #[test]
 fn accepted_events_are_kept(rt: HostRuntime) -> Result<(), Fail> {
-    let lists: [(&[Row], usize); 4] = [
-        (&TWO_VIEWERS, 15),
-        (&EVERY_KIND, 21),
-        (&REFUSED, 8),
-        (&FAULT, 11),
-    ];
-    for (rows, count) in lists {
+    for (rows, count) in lists() {
         expect_kept_of(&rt, rt.alloc(), rows, count)?;
     }
     Ok(())
 }
 
-/// Each drawing call for a rectangle or a region, and calls that are refused or give nothing.
-fn draw(alloc: Global, screen: &mut Screen) -> Result<(), ScreenError> {
-    let places = region(alloc, rect_of([0, 0, 2, 1]))?;
+/// Each drawing call for a rectangle or a region.
+fn draw_in(screen: &mut Screen, places: &Region) -> Result<(), ScreenError> {
     screen.mark_rect(3, 2, 1, 0)?;
-    screen.mark_region(&places)?;
+    screen.mark_region(places)?;
     screen.schedule_copy_rect(3, 1, 0, 0, 1, 0)?;
-    screen.schedule_copy_region(&places, 0, 0)?;
+    screen.schedule_copy_region(places, 0, 0)?;
     screen.do_copy_rect(0, 0, 9, 9, i32::MIN, 7)?;
-    screen.do_copy_region(&places, -1, 0)?;
+    screen.do_copy_region(places, -1, 0)
+}
+
+/// Calls that are refused or give nothing, of a viewer that comes and goes.
+fn come_and_go(screen: &mut Screen) -> Result<(), ScreenError> {
     let refused = screen.paint(rect_of([0, 0, 1, 1]), &[]);
     let _ = refused.is_err();
     screen.connect(1)?;
     screen.cut(1)?;
     screen.close(1)
+}
+
+/// Each drawing call for a rectangle or a region, and calls that are refused or give nothing.
+fn draw(alloc: Global, screen: &mut Screen) -> Result<(), ScreenError> {
+    let places = region(alloc, rect_of([0, 0, 2, 1]))?;
+    draw_in(screen, &places)?;
+    come_and_go(screen)
 }
 
 /// A rectangle is kept as it was given, a region as its canonical list; the cut of a viewer that has not opened gives nothing.
@@ -161,22 +177,16 @@ static DRAWN: [Call; 8] = [
 
 #[test]
 fn drawing_calls_are_kept_as_given(rt: HostRuntime) -> Result<(), Fail> {
-    let alloc = rt.alloc();
-    let mut screen = Screen::new(alloc, four_by_one(alloc)?)?;
-    draw(alloc, &mut screen)?;
+    let mut screen = new_screen(rt.alloc(), History::Kept)?;
+    draw(rt.alloc(), &mut screen)?;
     expect_kept(&rt, &screen, &DRAWN);
     Ok(())
 }
 
 #[test]
 fn nothing_is_kept_where_none_is_asked(rt: HostRuntime) -> Result<(), Fail> {
-    let alloc = rt.alloc();
-    let config = Config {
-        history: History::NotKept,
-        ..four_by_one(alloc)?
-    };
-    let mut screen = Screen::new(alloc, config)?;
-    draw(alloc, &mut screen)?;
+    let mut screen = new_screen(rt.alloc(), History::NotKept)?;
+    draw(rt.alloc(), &mut screen)?;
     assert!(rt; screen.history().is_none());
     Ok(())
 }

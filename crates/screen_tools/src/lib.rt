@@ -1,0 +1,107 @@
+//! What the tests of a screen have in common: a screen that is made, a viewer that opens and asks, the calls that copy, what is
+//! sent, and numbers from which calls are drawn. Nothing but tests uses it.
+#![tactic(auto)]
+
+ghost use Rattle.std.specs.Prelude.{◌≡◌, IfOk};
+
+mod copies;
+mod numbers;
+
+pub use copies::{COPYING, Copying, copy};
+use listed::Listed;
+pub use numbers::{Numbers, next};
+use region::{Rect, Region, RegionError};
+use screen::{Config, History, Screen, ScreenError};
+use std::alloc::{AllocError, Global};
+
+/// The version 3.8, the choice of no security, and a ClientInit.
+pub const OPENING: &[u8] = b"RFB 003.008\n\x01\x01";
+
+/// SetEncodings with CopyRect and Raw.
+pub const WITH_COPYRECT: &[u8] = b"\x02\x00\x00\x02\x00\x00\x00\x01\x00\x00\x00\x00";
+
+/// What a screen named `demo` is made with: its width and height, and how many rectangles one update has at most.
+pub fn config(
+    alloc: Global,
+    size: (u16, u16),
+    limit: u32,
+    history: History,
+) -> Result<Config, AllocError>
+    ensures limit { IfOk result (λ config. config.rects_per_update ≡ limit) }
+    ensures history { IfOk result (λ config. config.history ≡ history) }
+{
+    let (width, height) = size;
+    Ok(Config {
+        width: u32::from(width),
+        height: u32::from(height),
+        name: Listed::from_slice(alloc, b"demo")?,
+        rects_per_update: limit,
+        history,
+    })
+}
+
+/// A screen that is made so.
+pub fn new_screen(
+    alloc: Global,
+    size: (u16, u16),
+    limit: u32,
+    history: History,
+) -> Result<Screen, ScreenError> {
+    let config = config(alloc, size, limit, history)?;
+    Screen::new(alloc, config)
+}
+
+/// A rectangle by its corners.
+pub fn rect(x1: i32, y1: i32, x2: i32, y2: i32) -> Rect
+    ensures { result ≡ record { x1 = x1; y1 = y1; x2 = x2; y2 = y2 } }
+{
+    Rect { x1, y1, x2, y2 }
+}
+
+/// The places of a rectangle.
+pub fn region(alloc: Global, rect: Rect) -> Result<Region, ScreenError> {
+    match Region::from_rect(alloc, rect) {
+        Ok(region) => Ok(region),
+        Err(RegionError::OutOfRange) => Err(ScreenError::BadRect),
+        Err(RegionError::OutOfMemory) => Err(ScreenError::OutOfMemory),
+    }
+}
+
+/// A request of a rectangle.
+pub fn request(incremental: bool, x: u16, y: u16, w: u16, h: u16) -> [u8; 10] {
+    let [x1, x0] = x.to_be_bytes();
+    let [y1, y0] = y.to_be_bytes();
+    let [w1, w0] = w.to_be_bytes();
+    let [h1, h0] = h.to_be_bytes();
+    [3, u8::from(incremental), x1, x0, y1, y0, w1, w0, h1, h0]
+}
+
+/// A viewer sends bytes, whatever it is answered.
+pub fn say(screen: &mut Screen, viewer: u64, piece: &[u8]) -> Result<(), ScreenError> {
+    screen.hear(viewer, piece)?;
+    Ok(())
+}
+
+/// A viewer connects and opens.
+pub fn open(screen: &mut Screen, viewer: u64) -> Result<(), ScreenError> {
+    screen.connect(viewer)?;
+    say(screen, viewer, OPENING)
+}
+
+/// The whole of a screen is painted; viewer 1, which uses CopyRect, opens and is sent it.
+pub fn show(screen: &mut Screen, (w, h): (u16, u16), colours: &[u32]) -> Result<(), ScreenError> {
+    screen.paint(rect(0, 0, i32::from(w), i32::from(h)), colours)?;
+    open(screen, 1)?;
+    say(screen, 1, WITH_COPYRECT)?;
+    say(screen, 1, &request(false, 0, 0, w, h))?;
+    screen.cut(1)?;
+    Ok(())
+}
+
+/// What a viewer is sent now, if anything.
+pub fn sent(screen: &mut Screen, viewer: u64) -> Result<Option<Vec<u8>>, ScreenError> {
+    match screen.cut(viewer)? {
+        Some(update) => Ok(Some(update.encode()?)),
+        None => Ok(None),
+    }
+}

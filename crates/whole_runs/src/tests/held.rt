@@ -1,0 +1,38 @@
+//! What a screen holds, as it can be read, and the text of a refusal.
+
+use super::new_screen;
+use screen::{Fault, Screen, ScreenError};
+use screen_tools::{rect, say};
+use std::test::Fail;
+
+/// A place is painted, and viewer 5 sends what is no version.
+fn draw_and_fail(screen: &mut Screen) -> Result<(), ScreenError> {
+    screen.paint(rect(2, 1, 3, 2), &[0xff8000])?;
+    screen.connect(5)?;
+    say(screen, 5, b"hello world\n")
+}
+
+/// Whether the screen holds that then.
+fn is_held(screen: &Screen) -> bool {
+    (screen.width(), screen.height()) == (4, 3)
+        && screen.colour(2, 1) == Some(0xff8000)
+        && screen.colour(4, 0).is_none()
+        && screen.fault(5) == Ok(Some(Fault::BadVersion))
+        && screen.pending(5) == Ok(false)
+        && screen.pending(9) == Err(ScreenError::NoViewer)
+}
+
+#[test]
+fn what_a_screen_holds_can_be_read(rt: HostRuntime) -> Result<(), Fail> {
+    let mut screen = new_screen(rt.alloc(), (4, 3))?;
+    draw_and_fail(&mut screen)?;
+    assert!(rt; is_held(&screen));
+    Ok(())
+}
+
+#[test]
+fn a_refusal_has_a_text(rt: HostRuntime) -> Result<(), Fail> {
+    let text = format!(in rt.alloc(); "{}", ScreenError::NoViewer)?;
+    assert!(rt; text.as_str() == "NoViewer", "{text}");
+    Ok(())
+}
