@@ -1,8 +1,11 @@
 //! 2,000 calls on a region and on a plain list of rectangles, by a stated sequence of numbers: after each, both have the same
 //! list, in one of the four orders, and hold the same place.
 
-use super::banded::Banded;
-use super::numbers::drawn;
+mod banded;
+mod numbers;
+
+use banded::Banded;
+use numbers::drawn;
 use region::{Rect, Region};
 use std::alloc::{AllocError, Global};
 use std::test::Fail;

@@ -1,7 +1,7 @@
 //! 2,000 calls on a region, and unions of many rectangles, beside a board of 12 by 12 places, by a stated sequence of numbers.
 
+use super::numbers::drawn;
 use super::*;
-use crate::tests::numbers::drawn;
 
 /// The places of the board, row by row.
 type Board = [bool; 144];
@@ -211,12 +211,20 @@ fn is_union(alloc: Global, rects: &[Rect]) -> Result<bool, AllocError> {
     Ok(is_board(&region, &board_of(rects)) && has_list_of(&region, &other)?)
 }
 
+/// Whether so many drawn rectangles have this union.
+fn is_drawn_union(alloc: Global, seed: &mut u64, count: usize) -> Result<bool, AllocError> {
+    let rects = drawn_rects(alloc, seed, count)?;
+    is_union(alloc, &rects)
+}
+
 #[test]
 fn rectangles_in_any_order(rt: HostRuntime) -> Result<(), Fail> {
     let mut seed = 7;
     for count in 1..40 {
-        let rects = drawn_rects(rt.alloc(), &mut seed, count)?;
-        assert!(rt; is_union(rt.alloc(), &rects)?);
+        assert!(rt;
+            is_drawn_union(rt.alloc(), &mut seed, count)?,
+            "{count} rectangles"
+        );
     }
     Ok(())
 }

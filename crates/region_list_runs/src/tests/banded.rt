@@ -57,13 +57,19 @@ fn push_column_edges(edges: &mut Vec<i32>, rects: &[Rect]) -> Result<(), AllocEr
     Ok(())
 }
 
+/// Leaves each edge once, in order.
+fn order(edges: &mut Vec<i32>) -> Result<(), AllocError> {
+    edges.sort()?;
+    edges.dedup();
+    Ok(())
+}
+
 /// Where a rectangle begins or ends from top to bottom, each once.
 fn row_edges(alloc: Global, first: &[Rect], second: &[Rect]) -> Result<Vec<i32>, AllocError> {
     let mut edges = Vec::new(alloc);
     push_row_edges(&mut edges, first)?;
     push_row_edges(&mut edges, second)?;
-    edges.sort()?;
-    edges.dedup();
+    order(&mut edges)?;
     Ok(edges)
 }
 
@@ -72,8 +78,7 @@ fn column_edges(alloc: Global, first: &[Rect], second: &[Rect]) -> Result<Vec<i3
     let mut edges = Vec::new(alloc);
     push_column_edges(&mut edges, first)?;
     push_column_edges(&mut edges, second)?;
-    edges.sort()?;
-    edges.dedup();
+    order(&mut edges)?;
     Ok(edges)
 }
 
@@ -131,11 +136,15 @@ fn goes_on(above: Rect, below: Rect) -> bool {
 }
 
 fn row_goes_on(above: &[Rect], below: &[Rect]) -> bool {
-    above.len() == below.len()
-        && above
-            .iter()
-            .zip(below.iter())
-            .all(|(above, below)| goes_on(*above, *below))
+    if above.len() != below.len() {
+        return false;
+    }
+    for i in 0..above.len() {
+        if !goes_on(above[i], below[i]) {
+            return false;
+        }
+    }
+    true
 }
 
 fn lengthen(rects: &mut [Rect], bottom: i32) {
@@ -160,20 +169,41 @@ fn put_row(
     Ok(())
 }
 
+/// Puts the rows between edges one below the other; the last one isn't listed yet.
+fn put_rows(
+    list: &mut Vec<Rect>,
+    last: &mut Vec<Rect>,
+    pair: Pair,
+    rows: &[i32],
+    columns: &[i32],
+) -> Result<(), AllocError> {
+    for i in 1..rows.len() {
+        let bottom = rows[i];
+        let row = kept_row(*list.allocator(), pair, columns, rows[i - 1], bottom)?;
+        put_row(list, last, row, bottom)?;
+    }
+    Ok(())
+}
+
+/// The canonical list of what is kept, between all edges.
+fn combined_between(
+    alloc: Global,
+    pair: Pair,
+    rows: &[i32],
+    columns: &[i32],
+) -> Result<Vec<Rect>, AllocError> {
+    let mut list = Vec::new(alloc);
+    let mut last = Vec::new(alloc);
+    put_rows(&mut list, &mut last, pair, rows, columns)?;
+    list.extend_from_slice(&last)?;
+    Ok(list)
+}
+
 /// The canonical list of what is kept.
 fn combined(alloc: Global, pair: Pair) -> Result<Vec<Rect>, AllocError> {
     let rows = row_edges(alloc, pair.first, pair.second)?;
     let columns = column_edges(alloc, pair.first, pair.second)?;
-    let mut list = Vec::new(alloc);
-    let mut last = Vec::new(alloc);
-    for i in 1..rows.len() {
-        let top = rows[i - 1];
-        let bottom = rows[i];
-        let row = kept_row(alloc, pair, &columns, top, bottom)?;
-        put_row(&mut list, &mut last, row, bottom)?;
-    }
-    list.extend_from_slice(&last)?;
-    Ok(list)
+    combined_between(alloc, pair, &rows, &columns)
 }
 
 /// The end of the band that begins at `start`.

@@ -63,13 +63,20 @@ fn is_list_in(
     Ok(rects.as_slice() == list)
 }
 
+/// Whether the list is the frame's in each of the four orders.
+fn is_frame(region: &Region) -> Result<bool, AllocError> {
+    Ok(
+        is_list_in(region, false, false, &[TOP, LEFT, RIGHT, BOTTOM])?
+            && is_list_in(region, true, false, &[TOP, RIGHT, LEFT, BOTTOM])?
+            && is_list_in(region, false, true, &[BOTTOM, LEFT, RIGHT, TOP])?
+            && is_list_in(region, true, true, &[BOTTOM, RIGHT, LEFT, TOP])?,
+    )
+}
+
 #[test]
 fn a_frame_in_four_orders(rt: HostRuntime) -> Result<(), Fail> {
     let region = frame(rt.alloc())?;
-    assert!(rt; is_list_in(&region, false, false, &[TOP, LEFT, RIGHT, BOTTOM])?);
-    assert!(rt; is_list_in(&region, true, false, &[TOP, RIGHT, LEFT, BOTTOM])?);
-    assert!(rt; is_list_in(&region, false, true, &[BOTTOM, LEFT, RIGHT, TOP])?);
-    assert!(rt; is_list_in(&region, true, true, &[BOTTOM, RIGHT, LEFT, TOP])?);
+    assert!(rt; is_frame(&region)?);
     Ok(())
 }
 
@@ -92,13 +99,20 @@ fn or_in_room(region: &mut Region, other: &Region) -> bool {
     has_room
 }
 
+/// Whether the middle stays while room is made for the frame, and is the whole once that is taken in.
+fn is_filled(region: &mut Region, frame: &Region) -> Result<bool, AllocError> {
+    Ok(
+        has_new_room(region, frame)?
+            && is_list_in(region, false, false, &[MIDDLE])?
+            && or_in_room(region, frame)
+            && is_list_in(region, false, false, &[WHOLE])?,
+    )
+}
+
 #[test]
 fn a_union_in_room(rt: HostRuntime) -> Result<(), Fail> {
     let mut region = region_of(rt.alloc(), MIDDLE)?;
     let frame = frame(rt.alloc())?;
-    assert!(rt; has_new_room(&mut region, &frame)?);
-    assert!(rt; is_list_in(&region, false, false, &[MIDDLE])?);
-    assert!(rt; or_in_room(&mut region, &frame));
-    assert!(rt; is_list_in(&region, false, false, &[WHOLE])?);
+    assert!(rt; is_filled(&mut region, &frame)?);
     Ok(())
 }
