@@ -3,12 +3,30 @@
 
 ghost use Rattle.std.specs.Prelude.{◌≡◌, ◌*◌, ◌≤◌, length};
 
-use super::super::pixel_bytes::append_pixel;
-use super::{LOWEST, RGB565};
+use super::pixel_bytes::append_pixel;
 use encode_hextile::encode_hextile;
-use pixel_translate::{Area, PixelFormat, translate};
+use pixel_translate::{Area, BitsPerPixel, Component, PixelFormat, translate};
 use std::alloc::{AllocError, Global};
 use std::test::Fail;
+
+const RGB565: PixelFormat = PixelFormat {
+    bits: BitsPerPixel::Sixteen,
+    depth: 16,
+    big_endian: true,
+    red: Component { max: 31, shift: 11 },
+    green: Component { max: 63, shift: 5 },
+    blue: Component { max: 31, shift: 0 },
+};
+
+/// Eight bits, which are the colour's lowest.
+const LOWEST: PixelFormat = PixelFormat {
+    bits: BitsPerPixel::Eight,
+    depth: 8,
+    big_endian: false,
+    red: Component { max: 0, shift: 0 },
+    green: Component { max: 0, shift: 0 },
+    blue: Component { max: 255, shift: 0 },
+};
 
 /// The pixels of a rectangle, row by row.
 #[derive(Drop)]
@@ -29,16 +47,22 @@ impl Grid {
         }
     }
 
+    /// Appends so many pixels of a row from a place on.
+    fn push_row(&self, pixels: &mut Vec<u32>, left: u32, y: u32, w: u32) -> Result<(), AllocError> {
+        for x in 0..w {
+            let pixel = self.at(left.wrapping_add(x), y);
+            pixels.push(pixel.unwrap_or(0))?;
+        }
+        Ok(())
+    }
+
     /// A part of it, as far as it goes.
     fn part(&self, left: u32, top: u32) -> Result<Grid, AllocError> {
         let w = self.w.saturating_sub(left).min(16);
         let h = self.h.saturating_sub(top).min(16);
         let mut pixels = Vec::new(*self.pixels.allocator());
         for y in 0..h {
-            for x in 0..w {
-                let pixel = self.at(left.wrapping_add(x), top.wrapping_add(y));
-                pixels.push(pixel.unwrap_or(0))?;
-            }
+            self.push_row(&mut pixels, left, top.wrapping_add(y), w)?;
         }
         Ok(Grid { w, h, pixels })
     }
@@ -96,24 +120,50 @@ impl Grid {
         rows
     }
 
+    /// Whether a pixel of a row is no background, and no run goes on with it.
+    fn begins(&self, background: u32, x: u32, y: u32) -> Option<u32> {
+        let pixel = self.at(x, y)?;
+        let goes_on = self.at(x.wrapping_sub(1), y) == Some(pixel);
+        if pixel == background || goes_on {
+            None
+        } else {
+            Some(pixel)
+        }
+    }
+
+    /// Appends the subrectangles that begin at a place with a pixel.
+    fn push_subs_at(
+        &self,
+        subs: &mut Vec<Sub>,
+        pixel: u32,
+        x: u32,
+        y: u32,
+    ) -> Result<(), AllocError> {
+        for w in 1..17u32 {
+            let run = Run { x, w, pixel };
+            if self.has_run(run, y) && !self.has_run(run, y.wrapping_sub(1)) {
+                let h = self.rows(run, y);
+                subs.push(Sub { run, y, h })?;
+            }
+        }
+        Ok(())
+    }
+
+    /// Appends the subrectangles that begin in a row.
+    fn push_subs(&self, subs: &mut Vec<Sub>, background: u32, y: u32) -> Result<(), AllocError> {
+        for x in 0..self.w {
+            if let Some(pixel) = self.begins(background, x, y) {
+                self.push_subs_at(subs, pixel, x, y)?;
+            }
+        }
+        Ok(())
+    }
+
     /// The subrectangles by y and then by x.
-    fn subrectangles(&self) -> Result<Vec<Sub>, AllocError> {
-        let background = self.background();
+    fn subrectangles(&self, background: u32) -> Result<Vec<Sub>, AllocError> {
         let mut subs = Vec::new(*self.pixels.allocator());
         for y in 0..self.h {
-            for x in 0..self.w {
-                let Some(pixel) = self.at(x, y) else { continue };
-                if pixel == background || self.at(x.wrapping_sub(1), y) == Some(pixel) {
-                    continue;
-                }
-                for w in 1..17u32 {
-                    let run = Run { x, w, pixel };
-                    if self.has_run(run, y) && !self.has_run(run, y.wrapping_sub(1)) {
-                        let h = self.rows(run, y);
-                        subs.push(Sub { run, y, h })?;
-                    }
-                }
-            }
+            self.push_subs(&mut subs, background, y)?;
         }
         Ok(subs)
     }
@@ -141,6 +191,23 @@ fn byte(number: u32) -> u8 {
     b0
 }
 
+/// Appends a subrectangle, with its pixel where it has one of its own.
+fn put_sub(
+    out: &mut Vec<u8>,
+    format: &PixelFormat,
+    sub: &Sub,
+    coloured: bool,
+) -> Result<(), AllocError> {
+    if coloured {
+        append_pixel(out, format, sub.run.pixel)?;
+    }
+    let high = sub.run.x.wrapping_mul(16);
+    out.push(byte(high.wrapping_add(sub.y)))?;
+    let high = sub.run.w.wrapping_sub(1).wrapping_mul(16);
+    out.push(byte(high.wrapping_add(sub.h.wrapping_sub(1))))?;
+    Ok(())
+}
+
 /// Appends the number of subrectangles, and each of them.
 fn put_list(
     out: &mut Vec<u8>,
@@ -150,13 +217,7 @@ fn put_list(
 ) -> Result<(), AllocError> {
     out.push(byte((subs.len() % 256) as u32))?;
     for sub in subs {
-        if coloured {
-            append_pixel(out, format, sub.run.pixel)?;
-        }
-        let high = sub.run.x.wrapping_mul(16);
-        out.push(byte(high.wrapping_add(sub.y)))?;
-        let high = sub.run.w.wrapping_sub(1).wrapping_mul(16);
-        out.push(byte(high.wrapping_add(sub.h.wrapping_sub(1))))?;
+        put_sub(out, format, sub, coloured)?;
     }
     Ok(())
 }
@@ -168,6 +229,83 @@ struct Pair {
     foreground: Option<u32>,
 }
 
+/// Appends a pixel where another one is carried, or none. Gives this bit then, and else none.
+fn put_new(
+    out: &mut Vec<u8>,
+    format: &PixelFormat,
+    pixel: u32,
+    carried: Option<u32>,
+    bit: u32,
+) -> Result<u32, AllocError> {
+    if carried == Some(pixel) {
+        return Ok(0);
+    }
+    append_pixel(out, format, pixel)?;
+    Ok(bit)
+}
+
+/// The pixel of all subrectangles, where they have one.
+fn common_pixel(subs: &[Sub]) -> Option<u32> {
+    let pixel = subs.first()?.run.pixel;
+    if subs.iter().all(|sub| sub.run.pixel == pixel) {
+        Some(pixel)
+    } else {
+        None
+    }
+}
+
+/// Appends a tile's subrectangles, with their pixel or their pixels. Gives the bits that say so, and the foreground that the
+/// tile leaves.
+fn put_subs(
+    out: &mut Vec<u8>,
+    format: &PixelFormat,
+    subs: &[Sub],
+    carried: Option<u32>,
+) -> Result<(u32, Option<u32>), AllocError> {
+    if subs.is_empty() {
+        return Ok((0, carried));
+    }
+    let common = common_pixel(subs);
+    let bit = match common {
+        Some(pixel) => put_new(out, format, pixel, carried, 4)?,
+        None => 16,
+    };
+    put_list(out, format, subs, common.is_none())?;
+    Ok((bit.wrapping_add(8), common))
+}
+
+/// Appends a tile's data behind its first byte, unless it is raw. Gives that byte's bits, and the pair that the tile leaves.
+fn put_coded(
+    out: &mut Vec<u8>,
+    format: &PixelFormat,
+    tile: &Grid,
+    pair: Pair,
+) -> Result<(u32, Pair), AllocError> {
+    let background = tile.background();
+    let bit = put_new(out, format, background, pair.background, 2)?;
+    let subs = tile.subrectangles(background)?;
+    let (bits, foreground) = put_subs(out, format, &subs, pair.foreground)?;
+    let left = Pair {
+        background: Some(background),
+        foreground,
+    };
+    Ok((bits.wrapping_add(bit), left))
+}
+
+/// Appends a tile's pixels.
+fn put_pixels(out: &mut Vec<u8>, format: &PixelFormat, tile: &Grid) -> Result<(), AllocError> {
+    for pixel in &tile.pixels {
+        append_pixel(out, format, *pixel)?;
+    }
+    Ok(())
+}
+
+/// Appends a tile: its first byte, and its data.
+fn put_data(out: &mut Vec<u8>, bits: u32, data: &[u8]) -> Result<(), AllocError> {
+    out.push(byte(bits))?;
+    out.extend_from_slice(data)
+}
+
 /// Appends a tile, and gives the pair that it leaves.
 fn put_tile(
     out: &mut Vec<u8>,
@@ -175,78 +313,65 @@ fn put_tile(
     tile: &Grid,
     pair: Pair,
 ) -> Result<Pair, AllocError> {
-    let background = tile.background();
-    let subs = tile.subrectangles()?;
-    let mut bits = 0u32;
     let mut data = Vec::new(*out.allocator());
-    if pair.background != Some(background) {
-        bits = bits.wrapping_add(2);
-        append_pixel(&mut data, format, background)?;
-    }
-    let mut left = Pair {
-        background: Some(background),
-        foreground: pair.foreground,
-    };
-    if let Some(first) = subs.first() {
-        let other = first.run.pixel;
-        let alike = subs.iter().all(|sub| sub.run.pixel == other);
-        bits = bits.wrapping_add(8);
-        if alike {
-            if pair.foreground != Some(other) {
-                bits = bits.wrapping_add(4);
-                append_pixel(&mut data, format, other)?;
-            }
-            left.foreground = Some(other);
-        } else {
-            bits = bits.wrapping_add(16);
-            left.foreground = None;
-        }
-        put_list(&mut data, format, &subs, !alike)?;
-    }
+    let (bits, left) = put_coded(&mut data, format, tile, pair)?;
     let mut raw = Vec::new(*out.allocator());
-    for pixel in &tile.pixels {
-        append_pixel(&mut raw, format, *pixel)?;
-    }
+    put_pixels(&mut raw, format, tile)?;
     if data.len() < raw.len() {
-        out.push(byte(bits))?;
-        out.extend_from_slice(&data)?;
+        put_data(out, bits, &data)?;
         return Ok(left);
     }
-    out.push(1)?;
-    out.extend_from_slice(&raw)?;
+    put_data(out, 1, &raw)?;
     Ok(Pair {
         background: None,
         foreground: None,
     })
 }
 
-/// The data of a rectangle in Hextile.
-fn hextile(
+/// Appends a row of a rectangle's tiles, and gives the pair that it leaves.
+fn put_tiles(
+    out: &mut Vec<u8>,
+    format: &PixelFormat,
+    grid: &Grid,
+    top: u32,
+    pair: Pair,
+) -> Result<Pair, AllocError> {
+    let mut pair = pair;
+    for column in 0..grid.w.div_ceil(16) {
+        let tile = grid.part(column.wrapping_mul(16), top)?;
+        pair = put_tile(out, format, &tile, pair)?;
+    }
+    Ok(pair)
+}
+
+/// A rectangle's pixels.
+fn grid_of(
     alloc: Global,
     format: &PixelFormat,
     w: u16,
     h: u16,
     colours: &[u32],
-) -> Result<Vec<u8>, AllocError> {
+) -> Result<Grid, AllocError> {
     let mut pixels = Vec::new(alloc);
     for colour in colours {
         pixels.push(translate(format, *colour))?;
     }
-    let grid = Grid {
+    Ok(Grid {
         w: u32::from(w),
         h: u32::from(h),
         pixels,
-    };
+    })
+}
+
+/// The data of a rectangle in Hextile.
+fn hextile(alloc: Global, format: &PixelFormat, grid: &Grid) -> Result<Vec<u8>, AllocError> {
     let mut out = Vec::new(alloc);
     let mut pair = Pair {
         background: None,
         foreground: None,
     };
-    for row in 0..u32::from(h).div_ceil(16) {
-        for column in 0..u32::from(w).div_ceil(16) {
-            let tile = grid.part(column.wrapping_mul(16), row.wrapping_mul(16))?;
-            pair = put_tile(&mut out, format, &tile, pair)?;
-        }
+    for row in 0..grid.h.div_ceil(16) {
+        pair = put_tiles(&mut out, format, grid, row.wrapping_mul(16), pair)?;
     }
     Ok(out)
 }
@@ -293,7 +418,8 @@ fn is_alike(
     let area = Area { x: 3, y: 4, w, h };
     let mut out = Vec::new(alloc);
     encode_hextile(&mut out, area, colours, format)?;
-    let data = hextile(alloc, format, w, h, colours)?;
+    let grid = grid_of(alloc, format, w, h, colours)?;
+    let data = hextile(alloc, format, &grid)?;
     Ok(out.len() >= 12 && out[12..] == data[..])
 }
 

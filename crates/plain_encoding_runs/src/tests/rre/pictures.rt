@@ -25,7 +25,7 @@ fn colour_of(number: u32) -> u32 {
 }
 
 /// 3-3-2, 5-6-5 and 8-8-8.
-const FORMATS: [PixelFormat; 3] = [
+static FORMATS: [PixelFormat; 3] = [
     PixelFormat {
         bits: BitsPerPixel::Eight,
         depth: 24,
@@ -65,6 +65,53 @@ pub(crate) fn format_of(numbers: &mut Numbers) -> PixelFormat {
     }
 }
 
+/// How a picture is drawn.
+#[derive(Clone, Copy)]
+struct Manner {
+    /// How many colours there are.
+    colours: u32,
+    /// Of 80 cases, those in which a place has one of them, and those in which it has the colour before it.
+    new: u32,
+    across: u32,
+}
+
+fn manner_of(numbers: &mut Numbers) -> Manner
+    ensures { 0 < result.colours }
+{
+    let colours = match next(numbers, 3) {
+        0 => 2,
+        1 => 5,
+        _ => 5000,
+    };
+    let new = next(numbers, 40).wrapping_add(1);
+    let across = next(numbers, 40);
+    Manner {
+        colours,
+        new,
+        across,
+    }
+}
+
+/// The colour of the next place of a picture.
+fn next_colour(numbers: &mut Numbers, manner: Manner, picture: &[u32], w: u16) -> u32
+    requires { 0 < manner.colours }
+{
+    let draw = next(numbers, 80);
+    let drawn = colour_of(next(numbers, manner.colours));
+    let before = picture.last().copied().unwrap_or(drawn);
+    let above = match picture.len().checked_sub(usize::from(w)) {
+        Some(there) => picture.get(there).copied().unwrap_or(drawn),
+        None => before,
+    };
+    if draw < manner.new {
+        drawn
+    } else if draw < manner.new.wrapping_add(manner.across) {
+        before
+    } else {
+        above
+    }
+}
+
 /// Colours row by row: each is the one before it, the one above it, or one of a number of colours;
 /// how often, and how many colours, is drawn first.
 pub(crate) fn picture_of(
@@ -73,29 +120,10 @@ pub(crate) fn picture_of(
     w: u16,
     h: u16,
 ) -> Result<Vec<u32>, AllocError> {
-    let colours = match next(numbers, 3) {
-        0 => 2,
-        1 => 5,
-        _ => 5000,
-    };
-    let new = 1 + next(numbers, 40);
-    let across = next(numbers, 40);
+    let manner = manner_of(numbers);
     let mut picture = Vec::new(alloc);
-    for place in 0..usize::from(w) * usize::from(h) {
-        let draw = next(numbers, 80);
-        let drawn = colour_of(next(numbers, colours));
-        let before = picture.last().copied().unwrap_or(drawn);
-        let above = match place.checked_sub(usize::from(w)) {
-            Some(there) => picture.get(there).copied().unwrap_or(drawn),
-            None => before,
-        };
-        let colour = if draw < new {
-            drawn
-        } else if draw < new + across {
-            before
-        } else {
-            above
-        };
+    for _ in 0..usize::from(w) * usize::from(h) {
+        let colour = next_colour(numbers, manner, &picture, w);
         picture.push(colour)?;
     }
     Ok(picture)
