@@ -159,7 +159,19 @@ fn in_order(list: &[Told], of: u64, from: u32) -> Option<u32> {
     Some(next)
 }
 
-fn three<R: Threads + Wait + Sync>(rt: &R, alloc: Global) -> Result<Option<bool>, QueueError> {
+/// How many keys a viewer has in two lists, one behind the other; nothing where they are not in order.
+fn in_both(taken: &[Told], left: &[Told], of: u64) -> Option<u32> {
+    let next = in_order(taken, of, 0)?;
+    in_order(left, of, next)
+}
+
+/// Whether so many of a viewer's keys were taken or are left, in order.
+fn is_accepted(taken: &[Told], left: &[Told], of: u64, count: u32) -> bool {
+    in_both(taken, left, of) == Some(count)
+}
+
+/// Two seats put and a third thread takes. Whether what was taken, and nothing else, is what the seats accepted.
+fn three<R: Threads + Wait + Sync>(rt: &R, alloc: Global) -> Result<bool, QueueError> {
     let (mut hub, taker) = InputHub::new(alloc, 64)?;
     let one = hub.seat(1);
     let two = hub.seat(2);
@@ -183,21 +195,16 @@ fn three<R: Threads + Wait + Sync>(rt: &R, alloc: Global) -> Result<Option<bool>
     seats.push(one).map_err(|_| QueueError::OutOfMemory)?;
     seats.push(two).map_err(|_| QueueError::OutOfMemory)?;
     let left = hub.join(rt, taker, seats)?;
-    let mut right = left.items.as_slice().is_empty();
-    for (viewer, accepted) in [(1u64, first), (2, second)] {
-        let Some(next) = in_order(&taken, viewer, 0) else {
-            return Ok(None);
-        };
-        let Some(next) = in_order(left.items.as_slice(), viewer, next) else {
-            return Ok(None);
-        };
-        right = right && next == accepted;
-    }
-    Ok(Some(right))
+    let is_empty = left.items.as_slice().is_empty();
+    Ok(
+        is_empty
+            && is_accepted(&taken, left.items.as_slice(), 1, first)
+            && is_accepted(&taken, left.items.as_slice(), 2, second),
+    )
 }
 
 #[test]
 fn threads_put_and_take(rt: HostRuntime) -> Result<(), Fail> {
-    assert_eq!(rt; three(&rt, rt.alloc())?, Some(true));
+    assert!(rt; three(&rt, rt.alloc())?);
     Ok(())
 }
