@@ -173,7 +173,8 @@ const NOTICES_BEFORE_AND_BEHIND_A_REQUEST: Rows = &[
     ("hear 1 03000000000000040003", "hear 1 -\n"),
     (
         "cut 1",
-        "cut 1 00000001000000000004000300000000000000000000000000000000000000000000000000000000000000000000000000000000000000000000000000000000\n",
+        "cut 1 00000001000000000004000300000000\
+            000000000000000000000000000000000000000000000000000000000000000000000000000000000000000000000000\n",
     ),
     ("mark 3 2 4 3", "ok\n"),
     ("bell", "ok\n"),
@@ -211,18 +212,20 @@ const AN_OPENED_VIEWER: Rows = &[
 
 const SIXTY_FOUR_NOTICES: Rows = &[(
     "cut 1",
-    "cut 1 02020202020202020202020202020202020202020202020202020202020202020202020202020202020202020202020202020202020202020202020202020202\n",
+    "cut 1 0202020202020202020202020202020202020202020202020202020202020202\
+        0202020202020202020202020202020202020202020202020202020202020202\n",
 )];
+
+static NOTICES: [Part; 4] = [
+    (1, AN_OPENED_VIEWER),
+    (65, &[("bell", "ok\n")]),
+    (1, &[("cuttext 6869", "ok\n")]),
+    (1, SIXTY_FOUR_NOTICES),
+];
 
 #[test]
 fn sixty_four_notices(rt: HostRuntime) -> Result<(), Fail> {
-    let parts: [Part; 4] = [
-        (1, AN_OPENED_VIEWER),
-        (65, &[("bell", "ok\n")]),
-        (1, &[("cuttext 6869", "ok\n")]),
-        (1, SIXTY_FOUR_NOTICES),
-    ];
-    shows(&rt, rt.alloc(), &parts, 0)
+    shows(&rt, rt.alloc(), &NOTICES, 0)
 }
 
 // Copies to the right are sent from the right, so that none is drawn over a later one's source.
@@ -430,14 +433,15 @@ const FIVE_PLACES_TWICE: Rows = &[
     ),
 ];
 
+static MANY_MARKS: [Part; 3] = [
+    (1, TWO_CLEAN_VIEWERS),
+    (60, FIVE_MARKS),
+    (1, FIVE_PLACES_TWICE),
+];
+
 #[test]
 fn many_marks(rt: HostRuntime) -> Result<(), Fail> {
-    let parts: [Part; 3] = [
-        (1, TWO_CLEAN_VIEWERS),
-        (60, FIVE_MARKS),
-        (1, FIVE_PLACES_TWICE),
-    ];
-    shows(&rt, rt.alloc(), &parts, 0)
+    shows(&rt, rt.alloc(), &MANY_MARKS, 0)
 }
 
 // Written colours are sent once they are marked; the corners stand in the wrong order.

@@ -16,7 +16,8 @@ const A_REQUEST_IS_ANSWERED_ONCE: Rows = &[
     ("hear 1 03000000000000040003", "hear 1 -\n"),
     (
         "cut 1",
-        "cut 1 00000001000000000004000300000000000000000000000000000000000000000000000000000000000000000000000000000000000000000000000000000000\n",
+        "cut 1 00000001000000000004000300000000\
+            000000000000000000000000000000000000000000000000000000000000000000000000000000000000000000000000\n",
     ),
     ("hear 1 03010000000000040003", "hear 1 -\n"),
     ("cut 1", "cut 1 -\n"),
@@ -136,7 +137,8 @@ const A_FAULT_IS_ONE_VIEWERS_OWN: Rows = &[
     ("hear 2 03000000000000040003", "hear 2 -\n"),
     (
         "cut 2",
-        "cut 2 00000001000000000004000300000000000000000000000000000000000000000000000000000000000000000000000000000000000000000000000000000000\n",
+        "cut 2 00000001000000000004000300000000\
+            000000000000000000000000000000000000000000000000000000000000000000000000000000000000000000000000\n",
     ),
 ];
 
@@ -199,7 +201,8 @@ const PIXELS_IN_THE_VIEWERS_FORMAT: Rows = &[
     ("hear 1 03000000000000040003", "hear 1 -\n"),
     (
         "cut 1",
-        "cut 1 00000001000000000004000300000000000000000000000000000000000000000000000000000000000000000000000000000000000000000000000000000000\n",
+        "cut 1 00000001000000000004000300000000\
+            000000000000000000000000000000000000000000000000000000000000000000000000000000000000000000000000\n",
     ),
     (
         "hear 1 0000000010100001001f003f001f0b0500000000",
@@ -282,33 +285,34 @@ const A_BAD_ARGUMENT_BEFORE_THE_VIEWER: Rows = &[
 // A script without a screen prints nothing.
 const NOTHING_TO_DO: Rows = &[("# nothing", ""), ("", "")];
 
+static SCREENS: [(&str, &str, u8); 8] = [
+    ("screen 0 1 demo\ncut 1\n", "refused 1 BadSize\n", 1),
+    ("screen 0 3 demo\ncut 1\n", "refused 1 BadSize\n", 1),
+    ("screen 8193 1 demo\ncut 1\n", "refused 1 BadSize\n", 1),
+    ("screen 8192 2049 demo\ncut 1\n", "refused 1 BadSize\n", 1),
+    (
+        "screen 8192 2048 demo\ncut 1\n",
+        "ok\nrefused 7 NoViewer\n",
+        0,
+    ),
+    ("screen 1 1 demo 0\ncut 1\n", "refused 3 BadRectLimit\n", 1),
+    (
+        "screen 1 1 demo 1001\ncut 1\n",
+        "refused 3 BadRectLimit\n",
+        1,
+    ),
+    (
+        "screen 1 1 demo 1000\ncut 1\n",
+        "ok\nrefused 7 NoViewer\n",
+        0,
+    ),
+];
+
 // The limits of a screen. A refused one ends the script.
 #[test]
 fn screens_are_made_or_refused(rt: HostRuntime) {
-    let rows: [(&str, &str, u8); 8] = [
-        ("screen 0 1 demo\ncut 1\n", "refused 1 BadSize\n", 1),
-        ("screen 0 3 demo\ncut 1\n", "refused 1 BadSize\n", 1),
-        ("screen 8193 1 demo\ncut 1\n", "refused 1 BadSize\n", 1),
-        ("screen 8192 2049 demo\ncut 1\n", "refused 1 BadSize\n", 1),
-        (
-            "screen 8192 2048 demo\ncut 1\n",
-            "ok\nrefused 7 NoViewer\n",
-            0,
-        ),
-        ("screen 1 1 demo 0\ncut 1\n", "refused 3 BadRectLimit\n", 1),
-        (
-            "screen 1 1 demo 1001\ncut 1\n",
-            "refused 3 BadRectLimit\n",
-            1,
-        ),
-        (
-            "screen 1 1 demo 1000\ncut 1\n",
-            "ok\nrefused 7 NoViewer\n",
-            0,
-        ),
-    ];
-    for (script, printed, status) in rows {
-        expect(&rt, rt.alloc(), &mut script.as_bytes(), printed, status);
+    for (script, printed, status) in &SCREENS {
+        expect(&rt, rt.alloc(), &mut script.as_bytes(), printed, *status);
     }
 }
 
@@ -327,19 +331,21 @@ fn long_word(
     Ok(text)
 }
 
+// What comes before a name of so many bytes, what behind it, what is printed, and the status.
+static NAMES: [(&str, usize, &str, &str, u8); 4] = [
+    ("screen 1 1 ", 255, "", "ok\n", 0),
+    ("screen 1 1 ", 256, "", "refused 2 BadName\n", 1),
+    ("screen 1 1 ", 256, " 0", "refused 2 BadName\n", 1),
+    ("screen 8192 2049 ", 256, " 0", "refused 1 BadSize\n", 1),
+];
+
 // A name has at most 255 bytes. Of several refusals that are due the size's comes first, then the name's.
 #[test]
 fn long_names(rt: HostRuntime) -> Result<(), Fail> {
     let alloc = rt.alloc();
-    let rows: [(&str, usize, &str, &str, u8); 4] = [
-        ("screen 1 1 ", 255, "", "ok\n", 0),
-        ("screen 1 1 ", 256, "", "refused 2 BadName\n", 1),
-        ("screen 1 1 ", 256, " 0", "refused 2 BadName\n", 1),
-        ("screen 8192 2049 ", 256, " 0", "refused 1 BadSize\n", 1),
-    ];
-    for (before, count, behind, printed, status) in rows {
-        let script = long_word(alloc, before, ("n", count), behind)?;
-        expect(&rt, alloc, &mut script.as_bytes(), printed, status);
+    for (before, count, behind, printed, status) in &NAMES {
+        let script = long_word(alloc, before, ("n", *count), behind)?;
+        expect(&rt, alloc, &mut script.as_bytes(), printed, *status);
     }
     Ok(())
 }

@@ -1,33 +1,37 @@
 // `self`: what is printed, and the status. The bytes are written out from RFC 6143.
 
-use super::words;
+use super::{is_refused, words};
 use demo_app::{Chosen, line_of, self_on};
 use std::alloc::{AllocError, Global};
 use std::io;
 use std::io::Write;
+use std::net::{Net, TcpListener, TcpStream};
+use std::sync::Wait;
 use std::test::Fail;
+use std::thread::Threads;
 
-const EIGHT: &str =
+static EIGHT: &str =
     "viewer 1 shows the screen\nviewer 2 shows the screen\nviewer 3 shows the screen\nviewer 4 shows the screen\n\
     viewer 5 shows the screen\nviewer 6 shows the screen\nviewer 7 shows the screen\nviewer 8 shows the screen\nfinish ok\n";
 
+// Whether so many viewers are served, and this is printed.
+fn prints<R: Threads + Wait + Net<Listener = TcpListener, Stream = TcpStream> + Sync>(
+    rt: &R,
+    alloc: Global,
+    viewers: u32,
+    printed: &str,
+) -> bool {
+    let mut out = Vec::new(alloc);
+    let status = self_on(rt, alloc, viewers, &mut out);
+    status == 0 && out.as_slice() == printed.as_bytes()
+}
+
 #[test]
-fn viewers_show_the_screen(rt: HostRuntime) -> Result<(), Fail> {
-    let runs = [
-        (1, "viewer 1 shows the screen\nfinish ok\n"),
-        (
-            2,
-            "viewer 1 shows the screen\nviewer 2 shows the screen\nfinish ok\n",
-        ),
-        (8, EIGHT),
-    ];
-    for (viewers, printed) in runs {
-        let mut out = Vec::new(rt.alloc());
-        let status = self_on(&rt, rt.alloc(), viewers, &mut out);
-        assert_eq!(rt; str::from_utf8(&out).unwrap_or("no text"), printed);
-        assert_eq!(rt; status, 0);
-    }
-    Ok(())
+fn viewers_show_the_screen(rt: HostRuntime) {
+    assert!(rt; prints(&rt, rt.alloc(), 1, "viewer 1 shows the screen\nfinish ok\n"));
+    let two = "viewer 1 shows the screen\nviewer 2 shows the screen\nfinish ok\n";
+    assert!(rt; prints(&rt, rt.alloc(), 2, two));
+    assert!(rt; prints(&rt, rt.alloc(), 8, EIGHT));
 }
 
 // Takes nothing.
@@ -61,16 +65,14 @@ fn viewers_of(alloc: Global, texts: &[&str]) -> Result<Option<u32>, AllocError> 
 #[test]
 fn options_of_self(rt: HostRuntime) -> Result<(), Fail> {
     let alloc = rt.alloc();
-    assert_eq!(rt; viewers_of(alloc, &["vncdemo", "self"])?, Some(2));
-    for (text, viewers) in [("1", 1), ("8", 8)] {
-        assert_eq!(rt;
-            viewers_of(alloc, &["vncdemo", "self", "--viewers", text])?,
-            Some(viewers)
-        );
-    }
+    assert!(rt; viewers_of(alloc, &["vncdemo", "self"])? == Some(2));
+    assert!(rt; viewers_of(alloc, &["vncdemo", "self", "--viewers", "1"])? == Some(1));
+    assert!(rt; viewers_of(alloc, &["vncdemo", "self", "--viewers", "8"])? == Some(8));
     for text in ["0", "9", "two"] {
-        let line = words(alloc, &["vncdemo", "self", "--viewers", text])?;
-        assert!(rt; line_of(alloc, &line).is_err(), "{text}");
+        assert!(rt;
+            is_refused(alloc, &["vncdemo", "self", "--viewers", text])?,
+            "{text}"
+        );
     }
     Ok(())
 }

@@ -2,7 +2,7 @@
 
 ghost use Rattle.std.specs.Prelude.{◌≡◌};
 
-use super::words;
+use super::{push_words, words};
 use demo_app::{Chosen, ServeOptions, line_of, serve_on};
 use listed::Listed;
 use std::alloc::{AllocError, Global};
@@ -14,7 +14,7 @@ use std::thread::Threads;
 use std::{io, thread};
 
 // A viewer's opening, and a request of the whole screen of 4 by 3 (7.1 to 7.3, 7.5.3).
-const SAID: &[u8] = b"RFB 003.008\n\x01\x01\x03\0\0\0\0\0\0\x04\0\x03";
+static SAID: &[u8] = b"RFB 003.008\n\x01\x01\x03\0\0\0\0\0\0\x04\0\x03";
 
 // How many bytes the answers have.
 const ANSWERED: usize = 110;
@@ -79,55 +79,50 @@ fn prints<R: Threads + Wait + Net<Listener = TcpListener, Stream = TcpStream> + 
     Ok(ended == status && out.as_slice() == printed)
 }
 
+// The same of a screen of this many columns with this many viewers, whose history is kept or not.
+fn serves<R: Threads + Wait + Net<Listener = TcpListener, Stream = TcpStream> + Sync>(
+    rt: &R,
+    alloc: Global,
+    (width, viewers, check): (u32, u32, bool),
+    printed: &[u8],
+    status: u8,
+) -> io::Result<bool> {
+    let options = options(alloc, width, viewers, check)?;
+    prints(rt, alloc, &options, printed, status)
+}
+
 #[test]
 fn viewers_are_served(rt: HostRuntime) -> Result<(), Fail> {
     let alloc = rt.alloc();
-    assert!(rt;
-        prints(
-            &rt,
-            alloc,
-            &options(alloc, 4, 1, true)?,
-            b"viewer 1 Closed\nfinish ok\n",
-            0
-        )?
-    );
-    assert!(rt;
-        prints(
-            &rt,
-            alloc,
-            &options(alloc, 4, 2, false)?,
-            b"viewer 1 Closed\nviewer 2 Closed\n",
-            0
-        )?
-    );
-    assert!(rt;
-        prints(
-            &rt,
-            alloc,
-            &options(alloc, 0, 0, true)?,
-            b"refused 1 BadSize\n",
-            1
-        )?
-    );
+    let printed = b"viewer 1 Closed\nfinish ok\n";
+    assert!(rt; serves(&rt, alloc, (4, 1, true), printed, 0)?);
+    let printed = b"viewer 1 Closed\nviewer 2 Closed\n";
+    assert!(rt; serves(&rt, alloc, (4, 2, false), printed, 0)?);
+    let printed = b"refused 1 BadSize\n";
+    assert!(rt; serves(&rt, alloc, (0, 0, true), printed, 1)?);
     Ok(())
+}
+
+// Whether this is printed of one viewer at a listener, with this status.
+fn prints_of<R: Threads + Wait + Net<Listener = TcpListener, Stream = TcpStream> + Sync>(
+    rt: &R,
+    alloc: Global,
+    listener: &TcpListener,
+    printed: &[u8],
+    status: u8,
+) -> Result<bool, AllocError> {
+    let options = options(alloc, 4, 1, false)?;
+    let mut out = Vec::new(alloc);
+    let ended = serve_on(rt, alloc, listener, &options, &mut out);
+    Ok(ended == status && out.as_slice() == printed)
 }
 
 // A listener that doesn't wait counts as one that fails.
 #[test]
 fn a_listener_that_fails(rt: HostRuntime) -> Result<(), Fail> {
-    let alloc = rt.alloc();
     let listener = rt.bind(SocketAddr::from((Ipv4Addr::LOCALHOST, 0)))?;
     listener.set_nonblocking(true)?;
-    let mut out = Vec::new(alloc);
-    let status = serve_on(
-        &rt,
-        alloc,
-        &listener,
-        &options(alloc, 4, 1, false)?,
-        &mut out,
-    );
-    assert_eq!(rt; out.as_slice(), b"network fault\n".as_slice());
-    assert_eq!(rt; status, 5);
+    assert!(rt; prints_of(&rt, rt.alloc(), &listener, b"network fault\n", 5)?);
     Ok(())
 }
 
@@ -156,54 +151,54 @@ fn is_serve(
     )
 }
 
+static NONE: &[&str] = &["vncdemo", "serve"];
+
+static ALL: &[&str] = &[
+    "vncdemo",
+    "serve",
+    "--port",
+    "5901",
+    "--width",
+    "1",
+    "--height=2",
+    "--name",
+    "",
+    "--limit",
+    "3",
+    "--viewers",
+    "64",
+    "--check",
+];
+
 #[test]
 fn options_of_serve(rt: HostRuntime) -> Result<(), Fail> {
     let alloc = rt.alloc();
-    assert!(rt;
-        is_serve(
-            alloc,
-            &["vncdemo", "serve"],
-            (5900, 640, 480, 50, 1, false),
-            "demo"
-        )?
-    );
-    let all = [
-        "vncdemo",
-        "serve",
-        "--port",
-        "5901",
-        "--width",
-        "1",
-        "--height=2",
-        "--name",
-        "",
-        "--limit",
-        "3",
-        "--viewers",
-        "64",
-        "--check",
-    ];
-    assert!(rt; is_serve(alloc, &all, (5901, 1, 2, 3, 64, true), "")?);
+    assert!(rt; is_serve(alloc, NONE, (5900, 640, 480, 50, 1, false), "demo")?);
+    assert!(rt; is_serve(alloc, ALL, (5901, 1, 2, 3, 64, true), "")?);
     Ok(())
 }
 
+// Whether these options of `serve` are refused.
+fn are_refused(alloc: Global, options: &[&str]) -> Result<bool, AllocError> {
+    let mut line = words(alloc, NONE)?;
+    push_words(&mut line, options)?;
+    Ok(line_of(alloc, &line).is_err())
+}
+
+static REFUSED: [&[&str]; 7] = [
+    &["--viewers", "0"],
+    &["--viewers", "65"],
+    &["--port", "65536"],
+    &["--width", "4294967296"],
+    &["--height", "-1"],
+    &["--limit", "many"],
+    &["--name"],
+];
+
 #[test]
 fn options_that_are_refused(rt: HostRuntime) -> Result<(), Fail> {
-    let refused: [&[&str]; 7] = [
-        &["--viewers", "0"],
-        &["--viewers", "65"],
-        &["--port", "65536"],
-        &["--width", "4294967296"],
-        &["--height", "-1"],
-        &["--limit", "many"],
-        &["--name"],
-    ];
-    for options in refused {
-        let mut line = words(rt.alloc(), &["vncdemo", "serve"])?;
-        for word in options {
-            line.push(String::from_str(rt.alloc(), word)?)?;
-        }
-        assert!(rt; line_of(rt.alloc(), &line).is_err(), "{options:?}");
+    for options in &REFUSED {
+        assert!(rt; are_refused(rt.alloc(), options)?, "{options:?}");
     }
     Ok(())
 }
