@@ -1,5 +1,5 @@
-//! Pixels, and the encodings Raw, RRE and Hextile: worked examples written out from RFC 6143, and pictures beside plain
-//! encoders. There are tests here, and nothing else.
+//! Pixels, and the encodings Raw, RRE and Hextile: worked examples written out from RFC 6143. There are tests here, and nothing
+//! else.
 #![tactic(auto)]
 
 #[cfg(test)]

@@ -1,5 +1,4 @@
 mod hextile;
-mod pixel_bytes;
 mod pixels;
 mod raw;
 mod rre;

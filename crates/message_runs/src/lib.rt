@@ -1,5 +1,5 @@
-//! Conversations in pieces, inputs on their way through a queue, and the viewer for tests: worked examples. There are tests
-//! here, and nothing else.
+//! What viewers say, in any pieces, and what is answered in a conversation's opening: worked bytes. There are tests here, and
+//! nothing else.
 #![tactic(auto)]
 
 #[cfg(test)]

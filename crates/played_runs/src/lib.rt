@@ -1,4 +1,4 @@
-//! The script language line by line, and scripts, servers and viewers of its own run by the program's calls. There are tests
+//! Scripts played by the program's call, whole conversations and what goes wrong, each with what is printed. There are tests
 //! here, and nothing else.
 #![tactic(auto)]
 

@@ -1,5 +1,4 @@
-//! Regions: worked examples, and long rows of calls beside a board of places and beside regions that are plain lists of rectangles.
-//! There are tests here, and nothing else.
+//! Regions: worked examples, and long rows of calls beside a board of places. There are tests here, and nothing else.
 #![tactic(auto)]
 
 #[cfg(test)]

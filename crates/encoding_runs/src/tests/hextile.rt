@@ -1,7 +1,5 @@
 //! Worked rectangles, each byte written out from RFC 6143.
 
-mod plain;
-
 use encode_hextile::{
     Carried, Rows, encode_hextile, encode_hextile_with_table, encode_row_of_tiles,
 };
@@ -50,7 +48,7 @@ struct Example {
     data: &'static [u8],
 }
 
-const EXAMPLES: &[Example] = &[
+static EXAMPLES: [Example; 12] = [
     Example {
         says: "a background is said once",
         size: (17, 1),
@@ -196,7 +194,7 @@ fn is_coded(alloc: Global, example: &Example) -> Result<bool, AllocError> {
 
 #[test]
 fn worked_rectangles(rt: HostRuntime) -> Result<(), Fail> {
-    for example in EXAMPLES {
+    for example in &EXAMPLES {
         assert!(rt; is_coded(rt.alloc(), example)?, "{}", example.says);
     }
     Ok(())
@@ -239,6 +237,6 @@ fn one_table_serves_two_rectangles_and_nothing_is_carried(rt: HostRuntime) -> Re
         0, 0, 0, 0, 0, 2, 0, 2, 0, 0, 0, 5, 0x02, 0xfc, 0x00, 0, 2, 0, 0, 0, 2, 0, 2, 0, 0, 0, 5,
         0x02, 0xfc, 0x00,
     ];
-    assert_eq!(rt; out.as_slice(), want.as_slice());
+    assert!(rt; out.as_slice() == want.as_slice(), "{out:?}");
     Ok(())
 }

@@ -116,6 +116,6 @@ fn one_table_serves_two_rectangles(rt: HostRuntime) -> Result<(), Fail> {
         0, 2, 0, 1, 0, 1, 0, 1, 0, 0, 0, 0, 0x00, 0xfc, 0, 3, 0, 1, 0, 1, 0, 1, 0, 0, 0, 0, 0x1f,
         0x00,
     ];
-    assert_eq!(rt; out.as_slice(), want.as_slice());
+    assert!(rt; out.as_slice() == want.as_slice(), "{out:?}");
     Ok(())
 }

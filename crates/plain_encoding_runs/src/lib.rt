@@ -1,0 +1,6 @@
+//! RRE and Hextile: pictures from stated sequences of numbers, coded by the encoders and by plain slow ones, straight from the
+//! definitions. There are tests here, and nothing else.
+#![tactic(auto)]
+
+#[cfg(test)]
+mod tests;

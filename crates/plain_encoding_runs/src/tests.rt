@@ -1,0 +1,3 @@
+mod hextile;
+mod pixel_bytes;
+mod rre;

@@ -1,0 +1,56 @@
+// The script in the program's help, which is played.
+
+use super::expect;
+use demo_app::line_of;
+use std::alloc::{AllocError, Global};
+use std::test::Fail;
+
+fn words(alloc: Global, texts: &[&str]) -> Result<Vec<String>, AllocError> {
+    let mut words = Vec::new(alloc);
+    for text in texts {
+        words.push(String::from_str(alloc, text)?)?;
+    }
+    Ok(words)
+}
+
+// What is printed of a command line that chooses nothing.
+fn text_of(alloc: Global, texts: &[&str]) -> Result<String, Fail> {
+    let line = words(alloc, texts)?;
+    match line_of(alloc, &line) {
+        Ok(_) => Err(Fail::from("a command was chosen")),
+        Err(error) => Ok(format!(in alloc; "{error}")?),
+    }
+}
+
+// The script in the help.
+fn script_in(help: &str) -> Result<&str, Fail> {
+    let (_, behind) = help
+        .split_once("A script that works:\n")
+        .ok_or("no script")?;
+    let (lines, _) = behind.split_once("\n\n").ok_or("no end")?;
+    Ok(lines)
+}
+
+// Its lines, as they are played.
+fn lines_in(alloc: Global, help: &str) -> Result<String, Fail> {
+    let mut script = String::new(alloc);
+    for line in script_in(help)?.lines() {
+        script.push_str(line.trim_start())?;
+        script.push('\n')?;
+    }
+    Ok(script)
+}
+
+static ANSWERS: &str = "ok\nconnect 1 524642203030332e3030380a\n\
+        hear 1 010100000000000400032018000100ff00ff00ff1008000000000000000464656d6f\nhear 1 -\n\
+        cut 1 00000001000000000004000300000000\
+        000000000000000000000000000000000000000000000000000000000000000000000000000000000000000000000000\n";
+
+#[test]
+fn the_script_of_the_help(rt: HostRuntime) -> Result<(), Fail> {
+    let alloc = rt.alloc();
+    let text = text_of(alloc, &["vncdemo", "play", "--help"])?;
+    let script = lines_in(alloc, &text)?;
+    expect(&rt, alloc, &mut script.as_bytes(), ANSWERS, 0);
+    Ok(())
+}

@@ -1,0 +1,176 @@
+use super::{expect, play};
+use std::alloc::Global;
+use std::io;
+use std::io::{BufWriter, Read, Write};
+use std::test::Fail;
+
+// A viewer is sent a screen, and a place that was painted.
+static SCRIPT: &str =
+    "screen 4 3 demo\nconnect 1\nhear 1 524642203030332e3030380a0101\nhear 1 03000000000000040003\ncut 1\n\
+        hear 1 03010000000000040003\ncut 1\npaint 2 1 1 1 ff8000\ncut 1\ncut 1\n";
+
+static ANSWERS: &str = "ok\nconnect 1 524642203030332e3030380a\n\
+        hear 1 010100000000000400032018000100ff00ff00ff1008000000000000000464656d6f\nhear 1 -\n\
+        cut 1 00000001000000000004000300000000\
+        000000000000000000000000000000000000000000000000000000000000000000000000000000000000000000000000\nhear 1 -\n\
+        cut 1 -\nok\ncut 1 000000010002000100010001000000000080ff00\ncut 1 -\n";
+
+// Gives a byte a read, comments without an end, and then fails or ends.
+#[derive(Drop)]
+struct Dripping {
+    left: usize,
+    fails: bool,
+    reads: usize,
+}
+
+impl Read for Dripping {
+    fn read(&mut self, buf: &mut [u8]) -> io::Result<usize> {
+        self.reads = self.reads.saturating_add(1);
+        if self.left == 0 && self.fails {
+            return Err(io::Error::from(io::ErrorKind::BrokenPipe));
+        }
+        match buf.first_mut() {
+            Some(place) if self.left > 0 => {
+                *place = b'#';
+                self.left -= 1;
+                Ok(1)
+            }
+            _ => Ok(0),
+        }
+    }
+}
+
+fn drip(left: usize, fails: bool) -> Dripping {
+    Dripping {
+        left,
+        fails,
+        reads: 0,
+    }
+}
+
+#[test]
+fn a_reader_that_fails(rt: HostRuntime) {
+    for left in [0, 1, 100] {
+        expect(&rt, rt.alloc(), &mut drip(left, true), "read fault\n", 5);
+    }
+}
+
+#[test]
+fn the_longest_script(rt: HostRuntime) -> Result<(), Fail> {
+    let script = vec![in rt.alloc(); b'#'; 1 << 24]?;
+    expect(&rt, rt.alloc(), &mut script.as_slice(), "", 0);
+    Ok(())
+}
+
+#[test]
+fn a_script_that_is_too_long(rt: HostRuntime) {
+    let mut reader = drip((1 << 24) + 1, true);
+    expect(&rt, rt.alloc(), &mut reader, "too long\n", 5);
+    assert_eq!(rt; reader.reads, (1 << 24) + 1);
+}
+
+// Takes so many bytes, at most three a call, and then fails.
+#[derive(Drop)]
+struct Room {
+    taken: Vec<u8>,
+    room: usize,
+}
+
+impl Write for Room {
+    fn write(&mut self, buf: &[u8]) -> io::Result<usize> {
+        if self.room == 0 {
+            return Err(io::Error::from(io::ErrorKind::BrokenPipe));
+        }
+        let count = buf.len().min(self.room).min(3);
+        self.taken.extend_from_slice(&buf[..count])?;
+        self.room -= count;
+        Ok(count)
+    }
+
+    fn flush(&mut self) -> io::Result<()> {
+        Ok(())
+    }
+}
+
+// Whether a script ends with the last byte that a writer takes, and with status 5.
+fn ends_at(alloc: Global, room: usize) -> bool {
+    let mut writer = Room {
+        taken: Vec::new(alloc),
+        room,
+    };
+    let status = play(alloc, &mut SCRIPT.as_bytes(), &mut writer);
+    status == 5 && ANSWERS.as_bytes().get(..room) == Some(writer.taken.as_slice())
+}
+
+#[test]
+fn a_writer_that_fails(rt: HostRuntime) {
+    for room in 0..ANSWERS.len() {
+        assert!(rt; ends_at(rt.alloc(), room), "at {room}");
+    }
+}
+
+// Keeps what it is given, and can't be flushed.
+#[derive(Drop)]
+struct Stuck {
+    taken: Vec<u8>,
+}
+
+impl Write for Stuck {
+    fn write(&mut self, buf: &[u8]) -> io::Result<usize> {
+        self.taken.extend_from_slice(buf)?;
+        Ok(buf.len())
+    }
+
+    fn flush(&mut self) -> io::Result<()> {
+        Err(io::Error::from(io::ErrorKind::BrokenPipe))
+    }
+}
+
+#[test]
+fn a_writer_that_is_not_flushed(rt: HostRuntime) {
+    let alloc = rt.alloc();
+    let mut reader = b"# nothing".as_slice();
+    let mut writer = Stuck {
+        taken: Vec::new(alloc),
+    };
+    let status = play(alloc, &mut reader, &mut writer);
+    assert_eq!(rt; status, 5);
+    assert!(rt; writer.taken.is_empty());
+}
+
+// Through a buffer, as the program writes: a script that ends early has flushed all its answers.
+#[test]
+fn a_bad_line_through_a_buffer(rt: HostRuntime) -> Result<(), Fail> {
+    let alloc = rt.alloc();
+    let mut reader = b"screen 4 3 demo\nconnect 1\npant 1\nbell\n".as_slice();
+    let mut writer = BufWriter::new(alloc, Vec::new(alloc))?;
+    let status = play(alloc, &mut reader, &mut writer);
+    let (out, unwritten) = writer.into_parts();
+    assert_eq!(rt; status, 1);
+    assert!(rt; unwritten.is_empty());
+    let text = str::from_utf8(&out).unwrap_or("no text");
+    assert_eq!(rt;
+        text,
+        "ok\nconnect 1 524642203030332e3030380a\nbad line 3\n"
+    );
+    Ok(())
+}
+
+// Whether the script was played, or ended where a growth was refused: whole lines, and then `out of memory`.
+fn is_played(text: &str, status: u8) -> bool {
+    match text.strip_suffix("out of memory\n") {
+        Some(printed) => status == 3
+            && ANSWERS.starts_with(printed)
+            && (printed.is_empty() || printed.ends_with('\n')),
+        None => status == 0 && text == ANSWERS,
+    }
+}
+
+#[test]
+fn memory_that_is_refused(rt: HostRuntime) {
+    let Ok(mut out) = Vec::with_capacity(rt.alloc(), 1 << 12) else {
+        return;
+    };
+    let status = play(rt.alloc(), &mut SCRIPT.as_bytes(), &mut out);
+    assert!(rt; is_played(str::from_utf8(&out).unwrap_or("no text"), status));
+}
