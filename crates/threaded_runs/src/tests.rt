@@ -11,6 +11,7 @@ use receipts::Receipt;
 use screen::{Event, History, ScreenError};
 use std::alloc::{AllocError, Global};
 use std::marker::Brand;
+use std::process::Abort;
 use std::sync::Wait;
 use std::sync::ledger::{Blank, Ledger};
 use std::test::*;
@@ -141,6 +142,16 @@ fn is_gone<L: Ledger, R: Wait>(rt: &R, shared: &Shared<L>, viewer: u64, left: &m
     left.ended() == Ended::Stopped
         || left.is_deaf(rt, shared)
             && matches!(shared.close(rt, viewer), Err(ScreenError::NoViewer))
+}
+
+/// Whether both are.
+fn are_gone<L: Ledger, R: Wait>(
+    rt: &R,
+    shared: &Shared<L>,
+    one: &mut Left,
+    two: &mut Left,
+) -> bool {
+    is_gone(rt, shared, 1, one) && is_gone(rt, shared, 2, two)
 }
 
 /// What a viewer leaves: its receipt, and what its writer took.
@@ -366,10 +377,9 @@ fn left_of<L: Ledger + Send + Sync, R: Threads + Wait + Sync>(
 ) -> Result<Option<Vec<Receipt>>, ScreenError> {
     let watch = Watch::new();
     let (mut one, mut two) = served_of(rt, alloc, shared, &watch, run)?;
-    if !is_gone(rt, shared, 1, &mut one.left) || !is_gone(rt, shared, 2, &mut two.left) {
-        return Ok(None);
-    }
-    Ok(receipts_of(alloc, run, &watch, one, two)?)
+    let gone = are_gone(rt, shared, &mut one.left, &mut two.left);
+    let receipts = receipts_of(alloc, run, &watch, one, two)?;
+    Ok(if gone { receipts } else { None })
 }
 
 fn run_of<L: Ledger + Send + Sync, R: Threads + Wait + Sync>(
@@ -396,6 +406,16 @@ fn comes_out<R: Threads + Wait + Sync>(
     run_of::<Brand, R>(rt, alloc, Blank::new(1), run)
 }
 
+/// A run comes to what it says.
+fn expect<R: Threads + Wait + Sync + Abort>(
+    rt: &R,
+    alloc: Global,
+    run: &Run,
+) -> Result<(), ScreenError> {
+    assert!(rt; comes_out(rt, alloc, run)?, "{run:?}");
+    Ok(())
+}
+
 // Written for a growth that is refused anywhere: the run has no screen then, or its receipts are still those of its history.
 #[test]
 fn whichever_growth_is_refused_the_receipts_are_right(rt: HostRuntime) -> Result<(), Fail> {
@@ -415,7 +435,7 @@ fn a_drawing_call_that_did_not_happen_is_refused(rt: HostRuntime) -> Result<(), 
 
 #[test]
 fn a_writer_that_fails_ends_its_own_viewer(rt: HostRuntime) -> Result<(), Fail> {
-    assert!(rt; comes_out(&rt, rt.alloc(), &HELD)?);
+    expect(&rt, rt.alloc(), &HELD)?;
     Ok(())
 }
 
@@ -434,14 +454,14 @@ fn changed_receipts_are_refused(rt: HostRuntime) -> Result<(), Fail> {
             verdict: Verdict::Refused(error),
             ..HELD
         };
-        assert!(rt; comes_out(&rt, rt.alloc(), &run)?, "{change:?}");
+        expect(&rt, rt.alloc(), &run)?;
     }
     let run = Run {
         history: History::NotKept,
         verdict: Verdict::Refused(FinishError::NotKept),
         ..HELD
     };
-    assert!(rt; comes_out(&rt, rt.alloc(), &run)?);
+    expect(&rt, rt.alloc(), &run)?;
     Ok(())
 }
 
@@ -450,7 +470,7 @@ fn changed_receipts_are_refused(rt: HostRuntime) -> Result<(), Fail> {
 fn no_sender_waits_for_another(rt: HostRuntime) -> Result<(), Fail> {
     for hold in [Hold::Writing, Hold::Write] {
         let run = Run { hold, ..HELD };
-        assert!(rt; comes_out(&rt, rt.alloc(), &run)?, "{hold:?}");
+        expect(&rt, rt.alloc(), &run)?;
     }
     Ok(())
 }
@@ -468,7 +488,7 @@ fn a_gate_that_refuses(rt: HostRuntime) -> Result<(), Fail> {
             verdict: Verdict::Accepted(8, 8, &[Sent::Prefix, Sent::Prefix]),
             ..HELD
         };
-        assert!(rt; comes_out(&rt, rt.alloc(), &run)?, "{hold:?}");
+        expect(&rt, rt.alloc(), &run)?;
     }
     Ok(())
 }
@@ -477,7 +497,7 @@ fn a_gate_that_refuses(rt: HostRuntime) -> Result<(), Fail> {
 #[test]
 fn two_senders_overlap(rt: HostRuntime) -> Result<(), Fail> {
     for hold in [Hold::BothEncoding, Hold::BothWriting, Hold::BothWrite] {
-        assert!(rt; comes_out(&rt, rt.alloc(), &met(hold))?, "{hold:?}");
+        expect(&rt, rt.alloc(), &met(hold))?;
     }
     Ok(())
 }
@@ -503,7 +523,7 @@ fn with_writer(takes: usize) -> Run {
 #[test]
 fn a_writer_that_fails_anywhere(rt: HostRuntime) -> Result<(), Fail> {
     for takes in 0..WHOLE {
-        assert!(rt; comes_out(&rt, rt.alloc(), &with_writer(takes))?, "{takes}");
+        expect(&rt, rt.alloc(), &with_writer(takes))?;
     }
     Ok(())
 }
@@ -531,7 +551,7 @@ fn with_reader(gives: usize) -> Run {
 #[test]
 fn a_reader_that_fails_anywhere(rt: HostRuntime) -> Result<(), Fail> {
     for gives in 0..14usize {
-        assert!(rt; comes_out(&rt, rt.alloc(), &with_reader(gives))?, "{gives}");
+        expect(&rt, rt.alloc(), &with_reader(gives))?;
     }
     Ok(())
 }
