@@ -3,10 +3,9 @@
 ghost use Rattle.std.specs.Prelude.{◌≡◌, ◌<◌};
 
 use input_queue::Told;
-use listed::Listed;
 use messages::{Fault, Input};
 use receipts::{Ended, Receipt};
-use screen::{Config, History, Rect, ScreenError};
+use screen::{History, Rect, ScreenError};
 use serving::{Application, ServeError, serve_viewers};
 use std::alloc::Global;
 use std::io::{ErrorKind, Read, Write};
@@ -17,6 +16,7 @@ use std::sync::ledger::{Blank, Ledger};
 use std::test::*;
 use std::thread::Threads;
 use std::{io, thread};
+use test_threads::{GREETED, OPENING, fresh};
 use update_sender::{Brush, Report, Sent, Shared, finish};
 
 /// Paints its place white where the first button of a pointer is down, rings a bell where a key goes down, and refuses to go
@@ -50,13 +50,7 @@ impl<L: Ledger> Application<L> for Painter {
     }
 }
 
-/// The version 3.8, the choice of no security, and a ClientInit (RFC 6143, 7.1 to 7.3).
-const OPENING: &[u8] = b"RFB 003.008\n\x01\x01";
-
-/// How many bytes the server's are: the version, the one security type, its result, and the ServerInit.
-const GREETED: usize = 46;
-
-/// FramebufferUpdateRequest of the whole screen, of all of it and of what changes (7.5.3).
+/// FramebufferUpdateRequest of the whole screen, of all of it and of what changes (RFC 6143, 7.5.3).
 const ALL: &[u8] = b"\x03\0\0\0\0\0\0\x04\0\x03";
 
 const CHANGES: &[u8] = b"\x03\x01\0\0\0\0\0\x04\0\x03";
@@ -86,7 +80,7 @@ const SEES_ALL: Client = Client {
         \0\0\0\0\0\0\0\0\0\0\0\0\0\0\0\0\0\0\0\0\0\0\0\0",
 };
 
-const CLIENTS: [Client; 6] = [
+static CLIENTS: [Client; 6] = [
     // it paints a place, and sees that
     Client {
         steps: &[(OPENING, GREETED), (ALL, 64), (CHANGES, 0), (POINTER, 20)],
@@ -121,8 +115,7 @@ const CLIENTS: [Client; 6] = [
 ];
 
 /// Reads so many bytes, or until there are no more.
-fn read_so_many(alloc: Global, stream: &mut TcpStream, count: usize) -> io::Result<Vec<u8>> {
-    let mut read = Vec::new(alloc);
+fn read_into(stream: &mut TcpStream, read: &mut Vec<u8>, count: usize) -> io::Result<()> {
     let mut byte = [0];
     for _ in 0..count {
         match stream.read(&mut byte) {
@@ -130,17 +123,62 @@ fn read_so_many(alloc: Global, stream: &mut TcpStream, count: usize) -> io::Resu
             _ => break,
         }
     }
-    Ok(read)
+    Ok(())
 }
 
-/// A client's steps on its connection. What it read last.
-fn talk(alloc: Global, stream: &mut TcpStream, client: &Client) -> io::Result<Vec<u8>> {
-    let mut last = Vec::new(alloc);
-    for (says, reads) in client.steps {
-        stream.write_all(says)?;
-        last = read_so_many(alloc, stream, *reads)?;
+/// A client says bytes, and reads so many, which take the place of what it read before.
+fn take_step(stream: &mut TcpStream, (says, reads): Step, last: &mut Vec<u8>) -> io::Result<()> {
+    stream.write_all(says)?;
+    last.clear();
+    read_into(stream, last, reads)
+}
+
+fn take_steps(stream: &mut TcpStream, steps: &[Step], last: &mut Vec<u8>) -> io::Result<()> {
+    for step in steps {
+        take_step(stream, *step, last)?;
     }
-    Ok(last)
+    Ok(())
+}
+
+/// A client's steps on its connection. Whether it read last what it says.
+fn talk(alloc: Global, stream: &mut TcpStream, client: &Client) -> io::Result<bool> {
+    let mut last = Vec::new(alloc);
+    take_steps(stream, client.steps, &mut last)?;
+    Ok(last.as_slice() == client.last)
+}
+
+/// Clients connect.
+fn connect_all<R: Net<Listener = TcpListener, Stream = TcpStream>>(
+    rt: &R,
+    address: SocketAddr,
+    clients: &[Client],
+    streams: &mut Vec<TcpStream>,
+) -> io::Result<()> {
+    for _ in clients {
+        streams.push(rt.connect(address)?)?;
+    }
+    Ok(())
+}
+
+/// The client that connected last talks. Whether it read what it says.
+fn talk_last(alloc: Global, streams: &mut Vec<TcpStream>, client: &Client) -> io::Result<bool> {
+    match streams.pop() {
+        Some(mut stream) => talk(alloc, &mut stream, client),
+        None => Ok(false),
+    }
+}
+
+/// The clients talk, the last one first. Whether each read what it says.
+fn talk_in_turn(
+    alloc: Global,
+    streams: &mut Vec<TcpStream>,
+    clients: &[Client],
+) -> io::Result<bool> {
+    let mut right = true;
+    for client in clients.iter().rev() {
+        right = talk_last(alloc, streams, client)? && right;
+    }
+    Ok(right)
 }
 
 /// Clients connect in their order, and then talk, the last one first. Whether each read what it says.
@@ -151,31 +189,18 @@ fn talk_all<R: Net<Listener = TcpListener, Stream = TcpStream>>(
     clients: &[Client],
 ) -> io::Result<bool> {
     let mut streams = Vec::new(alloc);
-    for _ in clients {
-        streams.push(rt.connect(address)?)?;
-    }
-    let mut right = true;
-    for client in clients.iter().rev() {
-        let Some(mut stream) = streams.pop() else {
-            return Ok(false);
-        };
-        right = talk(alloc, &mut stream, client)?.as_slice() == client.last && right;
-    }
-    Ok(right)
+    connect_all(rt, address, clients, &mut streams)?;
+    talk_in_turn(alloc, &mut streams, clients)
 }
 
-/// 4 columns and 3 rows.
-fn config(alloc: Global, history: History) -> Result<Config, ScreenError> {
-    Ok(Config {
-        width: 4,
-        height: 3,
-        name: Listed::from_vec(b"demo".to_vec(alloc)?),
-        rects_per_update: 50,
-        history,
-    })
+/// What a server leaves: the receipts, and whether the clients read what they say.
+#[derive(Drop)]
+struct Served {
+    receipts: Result<Vec<Receipt>, ServeError>,
+    read: io::Result<bool>,
 }
 
-/// Serves the clients, which talk in a thread of their own. The receipts, and whether the clients read what they say.
+/// Serves the clients, which talk in a thread of their own.
 fn serve_clients<
     L: Ledger + Send + Sync,
     R: Threads + Wait + Net<Listener = TcpListener, Stream = TcpStream> + Sync,
@@ -186,7 +211,7 @@ fn serve_clients<
     brush: &mut Brush<L>,
     viewers: u64,
     clients: &[Client],
-) -> io::Result<(Result<Vec<Receipt>, ServeError>, bool)> {
+) -> io::Result<Served> {
     let listener = rt.bind(SocketAddr::from((Ipv4Addr::LOCALHOST, 0)))?;
     let address = listener.local_addr()?;
     let (read, receipts) = thread::join(
@@ -194,15 +219,50 @@ fn serve_clients<
         move || talk_all(rt, alloc, address, clients),
         || serve_viewers(rt, alloc, &listener, shared, brush, viewers, &mut Painter),
     );
-    Ok((receipts, read?))
+    Ok(Served { receipts, read })
+}
+
+/// Whether a viewer ended as its client says.
+fn ended_so(receipts: &[Receipt], at: usize, client: &Client) -> bool {
+    match receipts.get(at) {
+        Some(receipt) => {
+            receipt.viewer == (at as u64).wrapping_add(1) && client.ended.contains(&receipt.ended)
+        }
+        None => false,
+    }
 }
 
 /// Whether each viewer ended as its client says.
-fn ended_so(receipts: &[Receipt], clients: &[Client]) -> bool {
+fn all_ended_so(receipts: &[Receipt], clients: &[Client]) -> bool {
     receipts.len() == clients.len()
-        && receipts.iter().zip(clients).zip(1u64..).all(|((receipt, client), number)| {
-            receipt.viewer == number && client.ended.contains(&receipt.ended)
-        })
+        && clients
+            .iter()
+            .enumerate()
+            .all(|(at, client)| ended_so(receipts, at, client))
+}
+
+/// The receipts, where the clients see what they say, and each viewer ended as its client says.
+fn right_receipts(served: Served, clients: &[Client]) -> Option<Vec<Receipt>> {
+    match (served.receipts, served.read) {
+        (Ok(receipts), Ok(true)) => all_ended_so(&receipts, clients).then_some(receipts),
+        _ => None,
+    }
+}
+
+/// Whether the run is accepted.
+fn is_accepted<L: Ledger>(
+    shared: Shared<L>,
+    brush: Brush<L>,
+    served: io::Result<Served>,
+    clients: &[Client],
+) -> bool {
+    match served {
+        Ok(served) => match right_receipts(served, clients) {
+            Some(receipts) => finish(shared, brush, receipts).is_ok(),
+            None => false,
+        },
+        Err(_) => false,
+    }
 }
 
 /// Whether the clients see what they say, and the run is accepted.
@@ -214,14 +274,10 @@ fn are_served<
     requires parts { blank.parts ≡ L.parts }
     requires some { 0 < L.parts }
 {
-    let (shared, mut brush) = Shared::<L>::new(alloc, blank, config(alloc, History::Kept)?)?;
+    let (shared, mut brush) = fresh::<L>(alloc, blank, History::Kept)?;
     let viewers = clients.len() as u64;
-    let (receipts, right) = serve_clients(rt, alloc, &shared, &mut brush, viewers, clients)?;
-    let Ok(receipts) = receipts else {
-        return Ok(false);
-    };
-    let right = right && ended_so(&receipts, clients);
-    Ok(right && finish(shared, brush, receipts).is_ok())
+    let served = serve_clients(rt, alloc, &shared, &mut brush, viewers, clients);
+    Ok(is_accepted(shared, brush, served, clients))
 }
 
 fn each_is_served<R: Threads + Wait + Net<Listener = TcpListener, Stream = TcpStream> + Sync>(
@@ -234,8 +290,8 @@ fn each_is_served<R: Threads + Wait + Net<Listener = TcpListener, Stream = TcpSt
 
 #[test]
 fn a_client_is_served_alone(rt: HostRuntime) -> Result<(), Fail> {
-    for client in CLIENTS {
-        assert!(rt; each_is_served(&rt, rt.alloc(), &[client])?, "{client:?}");
+    for client in &CLIENTS {
+        assert!(rt; each_is_served(&rt, rt.alloc(), &[*client])?, "{client:?}");
     }
     Ok(())
 }
@@ -247,7 +303,7 @@ fn no_client_waits_for_another(rt: HostRuntime) -> Result<(), Fail> {
 }
 
 /// A client that says nothing, and one with a text, at which the application does not go on (7.5.6).
-const REFUSED: [Client; 2] = [
+static REFUSED: [Client; 2] = [
     Client {
         steps: &[],
         ended: &[],
@@ -260,6 +316,15 @@ const REFUSED: [Client; 2] = [
     },
 ];
 
+/// Whether the server ended with the refusal of the text, and the clients read what they say.
+fn is_refused(served: &Served) -> bool {
+    matches!(served.read, Ok(true))
+        && matches!(
+            served.receipts,
+            Err(ServeError::Screen(ScreenError::TextTooLong))
+        )
+}
+
 /// Whether the server ends with the refusal while one viewer is silent and another one is awaited.
 fn is_ended<
     L: Ledger + Send + Sync,
@@ -269,9 +334,9 @@ fn is_ended<
     requires parts { blank.parts ≡ L.parts }
     requires some { 0 < L.parts }
 {
-    let (shared, mut brush) = Shared::<L>::new(alloc, blank, config(alloc, History::NotKept)?)?;
-    let (receipts, right) = serve_clients(rt, alloc, &shared, &mut brush, 3, &REFUSED)?;
-    Ok(right && matches!(receipts, Err(ServeError::Screen(ScreenError::TextTooLong))))
+    let (shared, mut brush) = fresh::<L>(alloc, blank, History::NotKept)?;
+    let served = serve_clients(rt, alloc, &shared, &mut brush, 3, &REFUSED)?;
+    Ok(is_refused(&served))
 }
 
 fn ends<R: Threads + Wait + Net<Listener = TcpListener, Stream = TcpStream> + Sync>(
@@ -288,6 +353,17 @@ fn a_refusal_ends_everything(rt: HostRuntime) -> Result<(), Fail> {
 }
 
 /// Whether a listener that doesn't wait is told of as failing.
+fn fails_on<
+    L: Ledger + Send + Sync,
+    R: Threads + Wait + Net<Listener = TcpListener, Stream = TcpStream> + Sync,
+>(rt: &R, alloc: Global, shared: &Shared<L>, brush: &mut Brush<L>) -> io::Result<bool> {
+    let listener = rt.bind(SocketAddr::from((Ipv4Addr::LOCALHOST, 0)))?;
+    listener.set_nonblocking(true)?;
+    let served = serve_viewers(rt, alloc, &listener, shared, brush, 1, &mut Painter);
+    Ok(matches!(served, Err(ServeError::Network)))
+}
+
+/// The same, on a screen of its own.
 fn fails<
     L: Ledger + Send + Sync,
     R: Threads + Wait + Net<Listener = TcpListener, Stream = TcpStream> + Sync,
@@ -296,11 +372,8 @@ fn fails<
     requires parts { blank.parts ≡ L.parts }
     requires some { 0 < L.parts }
 {
-    let (shared, mut brush) = Shared::<L>::new(alloc, blank, config(alloc, History::NotKept)?)?;
-    let listener = rt.bind(SocketAddr::from((Ipv4Addr::LOCALHOST, 0)))?;
-    listener.set_nonblocking(true)?;
-    let served = serve_viewers(rt, alloc, &listener, &shared, &mut brush, 1, &mut Painter);
-    Ok(matches!(served, Err(ServeError::Network)))
+    let (shared, mut brush) = fresh::<L>(alloc, blank, History::NotKept)?;
+    Ok(fails_on(rt, alloc, &shared, &mut brush)?)
 }
 
 fn no_connection<R: Threads + Wait + Net<Listener = TcpListener, Stream = TcpStream> + Sync>(

@@ -1,0 +1,218 @@
+//! Senders that wait are woken by a drawing call.
+//!
+//! A function that owns a viewer's ends lends them to others: each place where it may end on its way would be one more to prove.
+
+ghost use Rattle.std.specs.Prelude.{◌≡◌, ◌<◌};
+
+use screen::Update;
+use std::alloc::{AllocError, Global};
+use std::marker::Brand;
+use std::sync::Wait;
+use std::sync::atomic::{AtomicU64, Ordering};
+use std::sync::ledger::{Blank, Ledger};
+use std::test::*;
+use std::thread;
+use std::thread::Threads;
+use test_threads::{
+    Ends, GREETED, Hold, Joined, OPENING, Watch, fresh, in_one_piece, is_reached, join_over,
+    take_turns, taking,
+};
+use update_sender::{Brush, History, Listener, Rect, ScreenError, Shared, Speaker};
+
+/// A FramebufferUpdateRequest of the whole screen (RFC 6143, 7.5.3).
+fn request(incremental: u8) -> [u8; 10] {
+    [3, incremental, 0, 0, 0, 0, 0, 4, 0, 3]
+}
+
+/// A viewer asks for the whole screen, or for what changes.
+fn ask<L: Ledger, R: Wait>(
+    rt: &R,
+    shared: &Shared<L>,
+    listener: &mut Listener,
+    incremental: u8,
+) -> Result<(), ScreenError> {
+    shared.hear(rt, listener, &request(incremental))?;
+    Ok(())
+}
+
+/// The ends of a viewer that connected and went through the opening (7.1 to 7.3).
+fn opened<L: Ledger, R: Wait>(
+    rt: &R,
+    alloc: Global,
+    shared: &Shared<L>,
+    number: u64,
+) -> Result<Ends, ScreenError> {
+    let watch = Watch::new();
+    let mut sink = taking(alloc, number, GREETED, Hold::Nowhere, &watch);
+    match join_over(rt, shared, number, &mut in_one_piece(OPENING), &mut sink)? {
+        Joined::Open(ends) => Ok(ends),
+        Joined::Over(_) => Err(ScreenError::NoViewer),
+    }
+}
+
+/// Whether what was cut is an update of these bytes.
+fn is_update(cut: Result<Option<Update>, AllocError>, bytes: &[u8]) -> bool {
+    match cut {
+        Ok(Some(update)) => has_bytes(&update, bytes),
+        _ => false,
+    }
+}
+
+fn has_bytes(update: &Update, bytes: &[u8]) -> bool {
+    match update.encode() {
+        Ok(sent) => sent.as_slice() == bytes,
+        Err(_) => false,
+    }
+}
+
+/// One place, at (1, 1), in the colour 00000a (RFC 6143, 7.6.1, 7.7.1).
+static PLACE: [u8; 20] = [0, 0, 0, 1, 0, 1, 0, 1, 0, 1, 0, 1, 0, 0, 0, 0, 10, 0, 0, 0];
+
+/// A viewer that opened is sent the whole screen, and asks for what changes.
+fn sees_all<L: Ledger, R: Wait>(
+    rt: &R,
+    shared: &Shared<L>,
+    listener: &mut Listener,
+    speaker: &mut Speaker,
+) -> Result<(), ScreenError> {
+    ask(rt, shared, listener, 0)?;
+    shared.cut_wait(rt, speaker)?;
+    ask(rt, shared, listener, 1)
+}
+
+/// The end that sends to a viewer which was sent the whole screen, and has asked for what changes.
+fn waiting<L: Ledger, R: Wait>(
+    rt: &R,
+    alloc: Global,
+    shared: &Shared<L>,
+    number: u64,
+) -> Result<Speaker, ScreenError> {
+    let Ends {
+        mut listener,
+        mut speaker,
+    } = opened(rt, alloc, shared, number)?;
+    sees_all(rt, shared, &mut listener, &mut speaker)?;
+    Ok(speaker)
+}
+
+/// Waits for an update, and tells whether it is that place. `cut` counts the senders that waited.
+fn is_sent<L: Ledger, R: Wait>(
+    rt: &R,
+    shared: &Shared<L>,
+    mut speaker: Speaker,
+    cut: &AtomicU64,
+) -> bool {
+    let update = shared.cut_wait(rt, &mut speaker);
+    cut.fetch_add(1, Ordering::SeqCst);
+    is_update(update, PLACE.as_slice())
+}
+
+/// Paints one place once the senders had some turns, and stops them after they had their update, or too many turns.
+fn paints<L: Ledger, R: Wait>(
+    rt: &R,
+    shared: &Shared<L>,
+    brush: &mut Brush<L>,
+    cut: &AtomicU64,
+    senders: u64,
+) -> bool {
+    take_turns();
+    let place = Rect {
+        x1: 1,
+        y1: 1,
+        x2: 2,
+        y2: 2,
+    };
+    let painted = brush.paint(shared, rt, place, &[10]).is_ok();
+    let woken = is_reached(cut, senders);
+    shared.stop(rt);
+    painted && woken
+}
+
+fn wakes_one<L: Ledger + Send + Sync, R: Threads + Wait + Sync>(
+    rt: &R,
+    alloc: Global,
+    shared: &Shared<L>,
+    brush: &mut Brush<L>,
+) -> Result<bool, ScreenError> {
+    let speaker = waiting(rt, alloc, shared, 1)?;
+    let cuts = AtomicU64::new(0);
+    let cut = &cuts;
+    let (sent, painted) = thread::join(
+        rt,
+        move || is_sent(rt, shared, speaker, cut),
+        move || paints(rt, shared, brush, cut, 1),
+    );
+    Ok(sent && painted)
+}
+
+fn one_woken<L: Ledger + Send + Sync, R: Threads + Wait + Sync>(
+    rt: &R,
+    alloc: Global,
+    blank: Blank,
+) -> Result<bool, ScreenError>
+    requires name { blank.name ≡ L.name }
+    requires parts { blank.parts ≡ L.parts }
+    requires some { 0 < L.parts }
+{
+    let (shared, mut brush) = fresh::<L>(alloc, blank, History::Kept)?;
+    wakes_one(rt, alloc, &shared, &mut brush)
+}
+
+#[test]
+fn a_waiting_sender_is_woken(rt: HostRuntime) -> Result<(), Fail> {
+    assert!(rt; one_woken::<Brand, HostRuntime>(&rt, rt.alloc(), Blank::new(1))?);
+    Ok(())
+}
+
+/// The two senders, in a thread each.
+fn both_sent<L: Ledger + Send + Sync, R: Threads + Wait + Sync>(
+    rt: &R,
+    shared: &Shared<L>,
+    one: Speaker,
+    two: Speaker,
+    cut: &AtomicU64,
+) -> bool {
+    let (first, second) = thread::join(
+        rt,
+        move || is_sent(rt, shared, one, cut),
+        move || is_sent(rt, shared, two, cut),
+    );
+    first && second
+}
+
+fn wakes_two<L: Ledger + Send + Sync, R: Threads + Wait + Sync>(
+    rt: &R,
+    alloc: Global,
+    shared: &Shared<L>,
+    brush: &mut Brush<L>,
+) -> Result<bool, ScreenError> {
+    let one = waiting(rt, alloc, shared, 1)?;
+    let two = waiting(rt, alloc, shared, 2)?;
+    let cuts = AtomicU64::new(0);
+    let cut = &cuts;
+    let (sent, painted) = thread::join(
+        rt,
+        move || both_sent(rt, shared, one, two, cut),
+        move || paints(rt, shared, brush, cut, 2),
+    );
+    Ok(sent && painted)
+}
+
+fn two_woken<L: Ledger + Send + Sync, R: Threads + Wait + Sync>(
+    rt: &R,
+    alloc: Global,
+    blank: Blank,
+) -> Result<bool, ScreenError>
+    requires name { blank.name ≡ L.name }
+    requires parts { blank.parts ≡ L.parts }
+    requires some { 0 < L.parts }
+{
+    let (shared, mut brush) = fresh::<L>(alloc, blank, History::NotKept)?;
+    wakes_two(rt, alloc, &shared, &mut brush)
+}
+
+#[test]
+fn two_waiting_senders_are_woken(rt: HostRuntime) -> Result<(), Fail> {
+    assert!(rt; two_woken::<Brand, HostRuntime>(&rt, rt.alloc(), Blank::new(1))?);
+    Ok(())
+}
