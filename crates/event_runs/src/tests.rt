@@ -12,10 +12,10 @@ use std::alloc::{AllocError, Global};
 
 /// What the lists' screen of 4 by 1 is made with.
 fn four_by_one(alloc: Global, history: History) -> Result<Config, AllocError> {
-    screen_tools::config(alloc, (4, 1), 50, history)
+    test_screens::config(alloc, (4, 1), 50, history)
 }
 
 /// That screen.
 fn new_screen(alloc: Global, history: History) -> Result<Screen, ScreenError> {
-    screen_tools::new_screen(alloc, (4, 1), 50, history)
+    test_screens::new_screen(alloc, (4, 1), 50, history)
 }

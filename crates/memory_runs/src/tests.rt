@@ -24,7 +24,7 @@ use std::process::Abort;
 
 /// A screen of this size, of which an update has at most 50 rectangles.
 fn new_screen(alloc: Global, size: (u16, u16)) -> Result<Screen, ScreenError> {
-    screen_tools::new_screen(alloc, size, 50, History::Kept)
+    test_screens::new_screen(alloc, size, 50, History::Kept)
 }
 
 /// A viewer sends bytes.

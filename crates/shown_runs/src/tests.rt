@@ -10,14 +10,14 @@ mod worked;
 use messages::Version;
 use pixel_translate::{Area, BitsPerPixel, Component, PixelFormat, translate};
 use screen::{History, Screen, ScreenError};
-use screen_tools::sent;
 use std::alloc::Global;
+use test_screens::sent;
 use test_viewer::Shown;
 
 /// A SetEncodings, and the encodings below 256 that it lists.
 type Encodings = (&'static [u8], &'static [u8]);
 
-const WITH_COPYRECT: Encodings = (screen_tools::WITH_COPYRECT, &[1, 0]);
+const WITH_COPYRECT: Encodings = (test_screens::WITH_COPYRECT, &[1, 0]);
 
 const RAW: Encodings = (b"\x02\x00\x00\x01\x00\x00\x00\x00", &[0]);
 
@@ -59,7 +59,7 @@ fn five_six_five() -> PixelFormat {
 
 /// A screen of this size, whose updates have at most so many copies and so many rectangles of pixels.
 fn new_screen(alloc: Global, size: (u16, u16), limit: u32) -> Result<Screen, ScreenError> {
-    screen_tools::new_screen(alloc, size, limit, History::NotKept)
+    test_screens::new_screen(alloc, size, limit, History::NotKept)
 }
 
 /// The area of a whole screen, whose sides are at most 8192.

@@ -12,5 +12,5 @@ use std::alloc::Global;
 
 /// A screen of this size, of which an update has at most 50 rectangles.
 fn new_screen(alloc: Global, size: (u16, u16)) -> Result<Screen, ScreenError> {
-    screen_tools::new_screen(alloc, size, 50, History::Kept)
+    test_screens::new_screen(alloc, size, 50, History::Kept)
 }

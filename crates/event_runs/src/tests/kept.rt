@@ -7,10 +7,10 @@ use super::lists::{Row, events, lists, rect_of};
 use super::new_screen;
 use region::{Rect, Region};
 use screen::{Event, History, Screen, ScreenError};
-use screen_tools::region;
 use std::alloc::{AllocError, Global};
 use std::process::Abort;
 use std::test::Fail;
+use test_screens::region;
 
 /// Whether these rectangles have those corners.
 fn are_of(rects: &[Rect], corners: &[[i32; 4]]) -> bool {

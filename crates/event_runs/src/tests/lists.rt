@@ -3,8 +3,8 @@
 use listed::Listed;
 use region::Rect;
 use screen::{Event, Fault, ScreenError};
-use screen_tools::{OPENING, WITH_COPYRECT, rect};
 use std::alloc::{AllocError, Global};
+use test_screens::{OPENING, WITH_COPYRECT, rect};
 
 /// An event as it is written down here: each rectangle by its corners x1, y1, x2, y2.
 #[derive(Clone, Copy)]

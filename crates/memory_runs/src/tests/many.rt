@@ -4,10 +4,10 @@
 use super::new_screen;
 use region::Region;
 use screen::{Screen, ScreenError};
-use screen_tools::{open, rect, region, request, say};
 use std::alloc::{AllocError, Global};
 use std::process::Abort;
 use std::test::Fail;
+use test_screens::{open, rect, region, request, say};
 
 /// How many viewers connect.
 const VIEWERS: u64 = 200;

@@ -2,9 +2,9 @@
 
 use super::{expect_sent, hear_again, new_screen};
 use screen::{Screen, ScreenError};
-use screen_tools::{open, request, say, show};
 use std::alloc::Global;
 use std::process::Abort;
+use test_screens::{open, request, say, show};
 
 /// Five places in black, as an update.
 const FIVE_BLACK: &[u8] = &[

@@ -3,9 +3,9 @@
 use super::{cut_again, expect_sent, hear_again, new_screen};
 use region::Region;
 use screen::{Screen, ScreenError};
-use screen_tools::{OPENING, rect, region, request, show};
 use std::alloc::Global;
 use std::process::Abort;
+use test_screens::{OPENING, rect, region, request, show};
 
 /// What the server says first.
 const VERSION: &[u8] = b"RFB 003.008\n";

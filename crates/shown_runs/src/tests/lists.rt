@@ -11,9 +11,9 @@ use messages::Version;
 use pixel_translate::{Area, BitsPerPixel, PixelFormat};
 use region::Rect;
 use screen::{Screen, ScreenError};
-use screen_tools::{Numbers, next};
 use std::alloc::{AllocError, Global};
 use std::test::Fail;
+use test_screens::{Numbers, next};
 
 /// The screens' sizes, the least of which is one tile of Hextile, and the others two.
 static SIZES: [(u16, u16); 3] = [(8, 6), (19, 3), (3, 18)];

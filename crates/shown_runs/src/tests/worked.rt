@@ -5,10 +5,10 @@ use messages::Version;
 use pixel_translate::{Area, PixelFormat};
 use region::Rect;
 use screen::{Screen, ScreenError};
-use screen_tools::{Copying, copy};
 use std::alloc::Global;
 use std::process::Abort;
 use std::test::Fail;
+use test_screens::{Copying, copy};
 
 /// Which of two viewers.
 #[derive(Clone, Copy, PartialEq, Eq)]

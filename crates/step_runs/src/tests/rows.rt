@@ -2,10 +2,10 @@
 
 use super::worlds::World;
 use screen::ScreenError;
-use screen_tools::{Copying, rect};
 use std::alloc::Global;
 use std::process::Abort;
 use std::test::Fail;
+use test_screens::{Copying, rect};
 
 /// An offset so many times as far.
 fn times((dx, dy): (i32, i32), far: i32) -> (i32, i32) {

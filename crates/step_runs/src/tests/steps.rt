@@ -6,10 +6,10 @@ ghost use Rattle.std.specs.Prelude.{◌<◌};
 use super::worlds::{Watcher, World};
 use region::Rect;
 use screen::ScreenError;
-use screen_tools::{COPYING, Copying, Numbers, next, rect};
 use std::alloc::Global;
 use std::process::Abort;
 use std::test::Fail;
+use test_screens::{COPYING, Copying, Numbers, next, rect};
 
 /// A side of a rectangle from one line to another of `lines`: some of them, or none.
 fn side(numbers: &mut Numbers, lines: u16) -> (i32, i32)

@@ -3,8 +3,8 @@
 use super::plain::{Picture, Viewer, is_in};
 use region::Rect;
 use screen::{History, Screen, ScreenError};
-use screen_tools::{Copying, WITH_COPYRECT, copy, new_screen, open, rect, request, say, sent};
 use std::alloc::{AllocError, Global};
+use test_screens::{Copying, WITH_COPYRECT, copy, new_screen, open, rect, request, say, sent};
 
 /// A viewer, and which places it asked for that it wasn't sent since.
 #[derive(Drop)]

@@ -4,10 +4,10 @@
 use super::new_screen;
 use region::Rect;
 use screen::{Screen, ScreenError, Update};
-use screen_tools::{COPYING, Copying, copy, rect, region, request, say, sent, show};
 use std::alloc::{AllocError, Global};
 use std::process::Abort;
 use std::test::Fail;
+use test_screens::{COPYING, Copying, copy, rect, region, request, say, sent, show};
 
 /// Whether these bytes were sent, or nothing where there are none.
 fn is_given(given: &Option<Vec<u8>>, bytes: &[u8]) -> bool {

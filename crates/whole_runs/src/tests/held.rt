@@ -2,8 +2,8 @@
 
 use super::new_screen;
 use screen::{Fault, Screen, ScreenError};
-use screen_tools::{rect, say};
 use std::test::Fail;
+use test_screens::{rect, say};
 
 /// A place is painted, and viewer 5 sends what is no version.
 fn draw_and_fail(screen: &mut Screen) -> Result<(), ScreenError> {
