@@ -27,7 +27,7 @@ fn drawn_rect(seed: &mut u64) -> Rect {
 
 fn drawn_rects(alloc: Global, seed: &mut u64) -> Result<Vec<Rect>, AllocError> {
     let mut rects = Vec::new(alloc);
-    for _ in 0..drawn(seed, 6) {
+    for _ in 0..drawn(seed, 16) {
         rects.push(drawn_rect(seed))?;
     }
     Ok(rects)

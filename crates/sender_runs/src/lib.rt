@@ -1,4 +1,4 @@
-//! Receipts, the calls of a shared screen and its threads, and viewers over TCP. There are tests here, and nothing else.
+//! Viewers of a shared screen over TCP. There are tests here, and nothing else.
 #![tactic(auto)]
 
 #[cfg(test)]
