@@ -15,7 +15,12 @@ fn take_end(bands: &mut BandList, reverse_x: bool) -> Interval
     requires band { bands.old.below ≢ [] }
     requires interval { first_row bands.old.below ≢ [] }
     ensures interval { end_of reverse_x (first_row bands.old.below) ≡ Some result }
-    ensures taken { (first : Band) (rest : List Band) → bands.old.below ≡ first ∷ rest → bands.new ≡ record bands.old { left = without_end reverse_x first.row; below = record first { row = without_end reverse_x first.row } ∷ rest; spare = bands.old.spare + 1 } }
+    ensures taken { (first : Band) (rest : List Band) → bands.old.below ≡ first ∷ rest →
+        bands.new ≡ record bands.old {
+          left = without_end reverse_x first.row;
+          below = record first { row = without_end reverse_x first.row } ∷ rest;
+          spare = bands.old.spare + 1;
+        } }
 {
     if reverse_x {
         bands.take_last_interval()
@@ -39,7 +44,8 @@ fn mend_top(bands: &mut BandList)
     requires above { bands.old.above ≡ [] }
     requires band { bands.old.below ≢ [] }
     requires left { bands.old.left ≡ first_row bands.old.below }
-    requires changed { (first : Band) (rest : List Band) → bands.old.below ≡ first ∷ rest → IsChanged first × AreBands rest × StandAbove (first ∷ []) rest }
+    requires changed { (first : Band) (rest : List Band) → bands.old.below ≡ first ∷ rest → IsChanged first × AreBands rest ×
+        StandAbove (first ∷ []) rest }
     ensures are_bands { AreBands (bands.new.above ++ bands.new.below) }
     ensures has { (x y : ℤ) → has (bands.new.above ++ bands.new.below) x y ≡ has bands.old.below x y }
     ensures row { bands.new.row ≡ bands.old.row }

@@ -48,7 +48,8 @@ pub fn pop(bands: &mut BandList, reverse_x: bool, reverse_y: bool) -> Option<Rec
     ensures unchanged { result ≡ None → bands.new.above ++ bands.new.below ≡ [] }
     ensures popped { result ≡ end_rectangle reverse_x reverse_y (bands.old.above ++ bands.old.below) }
     ensures are_bands { AreBands (bands.new.above ++ bands.new.below) }
-    ensures has { IfSome result (λ r. (x y : ℤ) → has (bands.new.above ++ bands.new.below) x y ≡ (has (bands.old.above ++ bands.old.below) x y && not (in_rectangle r x y))) }
+    ensures has { IfSome result (λ r. (x y : ℤ) →
+        has (bands.new.above ++ bands.new.below) x y ≡ (has (bands.old.above ++ bands.old.below) x y && not (in_rectangle r x y))) }
     ensures row { bands.new.row ≡ bands.old.row }
     ensures spare { bands.old.spare ≤ bands.new.spare }
 {
@@ -63,7 +64,12 @@ pub fn pop(bands: &mut BandList, reverse_x: bool, reverse_y: bool) -> Option<Rec
 pub fn offset(bands: &mut BandList, dx: i32, dy: i32)
     requires row { bands.old.row ≡ [] }
     requires movable { AllByRecursion (IsMovable dx dy) (bands.old.above ++ bands.old.below) }
-    ensures moved { bands.new ≡ record bands.old { above = map (moved_band dx dy) (bands.old.above ++ bands.old.below); left = []; below = []; spare = bands.new.spare } }
+    ensures moved { bands.new ≡ record bands.old {
+      above = map (moved_band dx dy) (bands.old.above ++ bands.old.below);
+      left = [];
+      below = [];
+      spare = bands.new.spare;
+    } }
     ensures are_bands { AreBands (bands.old.above ++ bands.old.below) → AreBands bands.new.above }
     ensures has { (x y : ℤ) → has bands.new.above (x +ℤ dx) (y +ℤ dy) ≡ has (bands.old.above ++ bands.old.below) x y }
     ensures spare { bands.old.spare ≤ bands.new.spare }

@@ -43,7 +43,12 @@ pub(crate) fn move_row(bands: &mut BandList, dx: i32)
     requires band { bands.old.below ≢ [] }
     requires left { bands.old.left ≡ first_row bands.old.below }
     requires movable { AllByRecursion (IsMovableInterval dx) (first_row bands.old.below) }
-    ensures moved { bands.new ≡ record bands.old { row = map (moved_interval dx) (first_row bands.old.below); left = []; below = with_first_row [] bands.old.below; spare = bands.new.spare } }
+    ensures moved { bands.new ≡ record bands.old {
+      row = map (moved_interval dx) (first_row bands.old.below);
+      left = [];
+      below = with_first_row [] bands.old.below;
+      spare = bands.new.spare;
+    } }
     ensures spare { bands.old.spare ≤ bands.new.spare }
 {
     while let Some(interval) = bands.first_left() {

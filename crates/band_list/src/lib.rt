@@ -5,7 +5,8 @@
 //! `linked` has the changes of one list of spans of which the calls are made.
 #![tactic(auto)]
 
-ghost use Rattle.std.specs.Prelude.{◌≡◌, ◌≢◌, ◌<◌, ◌≤◌, ◌+◌, ◌++◌, ◌∷◌, ◌↔◌, [], List, IsTrue, IfOk, OnOk, true, false, slice_get, length};
+ghost use Rattle.std.specs.Prelude.{◌≡◌, ◌≢◌, ◌<◌, ◌≤◌, ◌+◌, ◌++◌, ◌∷◌, ◌↔◌, [], List, IsTrue, IfOk, OnOk, true, false, slice_get};
+ghost use Rattle.std.specs.Prelude.{length};
 ghost use Rattle.std.specs.Option.{option_map};
 ghost use Rattle.std.specs.List.{last_or};
 ghost use Rattle.band_list.specs.Bands.{Band, nothing, rows_of, row_of, band_with, first_row, nodes_in, reading};
@@ -118,7 +119,8 @@ impl BandList {
 
     /// Moves the gap before all bands.
     pub fn rewind(&mut self)
-        ensures { let all = self.old.above ++ self.old.below in self.new ≡ record self.old { above = []; left = first_row all; below = all } }
+        ensures { let all = self.old.above ++ self.old.below in self.new ≡
+            record self.old { above = []; left = first_row all; below = all } }
     {
         if let Some(lists) = self.lists {
             self.gap = self.spans.first(lists.bands);
@@ -161,7 +163,8 @@ impl BandList {
     /// Moves the gap below the first band below it.
     pub fn advance(&mut self)
         requires { self.old.below ≢ [] }
-        ensures { (first : Band) (rest : List Band) → self.old.below ≡ first ∷ rest → self.new ≡ record self.old { above = self.old.above ++ first ∷ []; left = first_row rest; below = rest } }
+        ensures { (first : Band) (rest : List Band) → self.old.below ≡ first ∷ rest →
+            self.new ≡ record self.old { above = self.old.above ++ first ∷ []; left = first_row rest; below = rest } }
     {
         let Some(first) = self.gap else {
             unreachable!()
@@ -201,7 +204,11 @@ impl BandList {
     pub fn put_row(&mut self, rows: Rows)
         requires { 2 ≤ self.old.spare }
         ensures spare { self.old.spare ≤ self.new.spare + 2 }
-        ensures band { self.new ≡ record self.old { above = self.old.above ++ band_with rows self.old.row ∷ []; row = []; spare = self.new.spare } }
+        ensures band { self.new ≡ record self.old {
+          above = self.old.above ++ band_with rows self.old.row ∷ [];
+          row = [];
+          spare = self.new.spare;
+        } }
     {
         let Some(lists) = self.lists else {
             unreachable!()
@@ -237,7 +244,8 @@ impl BandList {
     /// Moves the gap above the last band above it.
     pub fn retreat(&mut self)
         requires { self.old.above ≢ [] }
-        ensures { (front : List Band) (last : Band) → self.old.above ≡ front ++ last ∷ [] → self.new ≡ record self.old { above = front; left = last.row; below = last ∷ self.old.below } }
+        ensures { (front : List Band) (last : Band) → self.old.above ≡ front ++ last ∷ [] →
+            self.new ≡ record self.old { above = front; left = last.row; below = last ∷ self.old.below } }
     {
         let Some(lists) = self.lists else {
             unreachable!()
@@ -249,7 +257,8 @@ impl BandList {
     /// Gives the first band below the gap another top. What is left to read stays.
     pub fn raise(&mut self, top: i32)
         requires { self.old.below ≢ [] }
-        ensures { (first : Band) (rest : List Band) → self.old.below ≡ first ∷ rest → self.new ≡ record self.old { below = record first { top = top } ∷ rest } }
+        ensures { (first : Band) (rest : List Band) → self.old.below ≡ first ∷ rest →
+            self.new ≡ record self.old { below = record first { top = top } ∷ rest } }
     {
         let Some(at) = self.gap else { unreachable!() };
         let mut span = self.spans.get(at);
@@ -260,7 +269,8 @@ impl BandList {
     /// Gives the last band above the gap another bottom.
     pub fn stretch(&mut self, bottom: i32)
         requires { self.old.above ≢ [] }
-        ensures { (front : List Band) (last : Band) → self.old.above ≡ front ++ last ∷ [] → self.new ≡ record self.old { above = front ++ record last { bottom = bottom } ∷ [] } }
+        ensures { (front : List Band) (last : Band) → self.old.above ≡ front ++ last ∷ [] →
+            self.new ≡ record self.old { above = front ++ record last { bottom = bottom } ∷ [] } }
     {
         let Some(lists) = self.lists else {
             unreachable!()
@@ -276,7 +286,8 @@ impl BandList {
     /// Takes the first band below the gap out, and gives its room and that of its intervals back. This takes no memory.
     pub fn remove_first(&mut self)
         requires { self.old.below ≢ [] }
-        ensures { (first : Band) (rest : List Band) → self.old.below ≡ first ∷ rest → self.new ≡ record self.old { left = first_row rest; below = rest; spare = self.old.spare + 2 + length first.row } }
+        ensures { (first : Band) (rest : List Band) → self.old.below ≡ first ∷ rest →
+            self.new ≡ record self.old { left = first_row rest; below = rest; spare = self.old.spare + 2 + length first.row } }
     {
         let Some(lists) = self.lists else {
             unreachable!()
@@ -304,7 +315,8 @@ impl BandList {
     /// Reads on past the first interval that is left.
     pub fn skip_left(&mut self)
         requires { self.old.left ≢ [] }
-        ensures { (first : Interval) (rest : List Interval) → self.old.left ≡ first ∷ rest → self.new ≡ record self.old { left = rest } }
+        ensures { (first : Interval) (rest : List Interval) → self.old.left ≡ first ∷ rest →
+            self.new ≡ record self.old { left = rest } }
     {
         let Some(at) = self.left else { unreachable!() };
         self.left = self.spans.next(at);
@@ -322,8 +334,11 @@ impl BandList {
     pub fn take_first_interval(&mut self) -> Interval
         requires band { self.old.below ≢ [] }
         requires interval { first_row self.old.below ≢ [] }
-        ensures interval { (row : List Interval) (interval : Interval) → first_row self.old.below ≡ interval ∷ row → result ≡ interval }
-        ensures taken { (first : Band) (rest : List Band) (row : List Interval) (interval : Interval) → self.old.below ≡ first ∷ rest → first.row ≡ interval ∷ row → self.new ≡ record self.old { left = row; below = record first { row = row } ∷ rest; spare = self.old.spare + 1 } }
+        ensures interval { (row : List Interval) (interval : Interval) → first_row self.old.below ≡ interval ∷ row →
+            result ≡ interval }
+        ensures taken { (first : Band) (rest : List Band) (row : List Interval) (interval : Interval) →
+            self.old.below ≡ first ∷ rest → first.row ≡ interval ∷ row →
+            self.new ≡ record self.old { left = row; below = record first { row = row } ∷ rest; spare = self.old.spare + 1 } }
     {
         let Some(at) = self.gap else { unreachable!() };
         let span = self.spans.get(at);
@@ -344,8 +359,11 @@ impl BandList {
     pub fn take_last_interval(&mut self) -> Interval
         requires band { self.old.below ≢ [] }
         requires interval { first_row self.old.below ≢ [] }
-        ensures interval { (row : List Interval) (interval : Interval) → first_row self.old.below ≡ row ++ interval ∷ [] → result ≡ interval }
-        ensures taken { (first : Band) (rest : List Band) (row : List Interval) (interval : Interval) → self.old.below ≡ first ∷ rest → first.row ≡ row ++ interval ∷ [] → self.new ≡ record self.old { left = row; below = record first { row = row } ∷ rest; spare = self.old.spare + 1 } }
+        ensures interval { (row : List Interval) (interval : Interval) → first_row self.old.below ≡ row ++ interval ∷ [] →
+            result ≡ interval }
+        ensures taken { (first : Band) (rest : List Band) (row : List Interval) (interval : Interval) →
+            self.old.below ≡ first ∷ rest → first.row ≡ row ++ interval ∷ [] →
+            self.new ≡ record self.old { left = row; below = record first { row = row } ∷ rest; spare = self.old.spare + 1 } }
     {
         let Some(at) = self.gap else { unreachable!() };
         let span = self.spans.get(at);
@@ -380,8 +398,10 @@ impl BandList {
 
     /// Whether the first band below the gap has the intervals of the last band above it; false where either is missing.
     pub fn first_is_as_last(&self) -> bool
-        ensures yes { result ≡ true → (front : List Band) × (last : Band) × (first : Band) × (rest : List Band) × (self.now.above ≡ front ++ last ∷ []) × (self.now.below ≡ first ∷ rest) × (last.row ≡ first.row) }
-        ensures no { result ≡ false → (front : List Band) (last first : Band) (rest : List Band) → self.now.above ≡ front ++ last ∷ [] → self.now.below ≡ first ∷ rest → last.row ≢ first.row }
+        ensures yes { result ≡ true → (front : List Band) × (last : Band) × (first : Band) × (rest : List Band) ×
+            (self.now.above ≡ front ++ last ∷ []) × (self.now.below ≡ first ∷ rest) × (last.row ≡ first.row) }
+        ensures no { result ≡ false → (front : List Band) (last first : Band) (rest : List Band) →
+            self.now.above ≡ front ++ last ∷ [] → self.now.below ≡ first ∷ rest → last.row ≢ first.row }
     {
         let Some(lists) = self.lists else {
             return false;
@@ -516,7 +536,8 @@ impl<'a> Reader<'a> {
     /// Reads on past the first interval that is left.
     pub fn skip_left(&mut self)
         requires { self.old.left ≢ [] }
-        ensures { (first : Interval) (rest : List Interval) → self.old.left ≡ first ∷ rest → self.new ≡ record self.old { left = rest } }
+        ensures { (first : Interval) (rest : List Interval) → self.old.left ≡ first ∷ rest →
+            self.new ≡ record self.old { left = rest } }
     {
         let Some(at) = self.left else { unreachable!() };
         self.left = self.spans.next(at);

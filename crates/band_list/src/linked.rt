@@ -1,6 +1,7 @@
 //! Changes of one list of spans, seen as its spans with their ids: every other list stays as it was.
 
-ghost use Rattle.std.specs.Prelude.{◌≡◌, ◌≢◌, ◌≤◌, ◌+◌, ◌++◌, ◌∷◌, ◌↔◌, [], ℕ, List, map, IsTrue, IsSome, IfSome, Some, None, slice_get, length};
+ghost use Rattle.std.specs.Prelude.{◌≡◌, ◌≢◌, ◌≤◌, ◌+◌, ◌++◌, ◌∷◌, ◌↔◌, [], ℕ, List, map, IsTrue, IsSome, IfSome, Some, None};
+ghost use Rattle.std.specs.Prelude.{slice_get, length};
 ghost use Rattle.span_arena.specs.Arena.{list_of, ids_of, span_of, last_in, IsSound};
 ghost use Rattle.band_list.specs.Held.{Placed, Has, Keeps, IsOverList, ids_in, interval_at, first_under as first_under_lem};
 
@@ -26,8 +27,10 @@ pub fn new_list(spans: &mut Spans) -> ListId
 /// Puts a span into a list, in room that was made: before another span, or behind all where there is none.
 pub fn insert_span(spans: &mut Spans, list: ListId, before: Option<SpanId>, span: Span) -> SpanId
     requires room { 1 ≤ spans.old.spare }
-    requires placed { (front : List Placed) × (back : List Placed) × Has spans.old list (front ++ back) × (before ≡ slice_get (ids_in back) 0) }
-    ensures put { (front back : List Placed) → Has spans.old list (front ++ back) → before ≡ slice_get (ids_in back) 0 → Has spans.new list (front ++ (result, span) ∷ back) }
+    requires placed { (front : List Placed) × (back : List Placed) × Has spans.old list (front ++ back) ×
+        (before ≡ slice_get (ids_in back) 0) }
+    ensures put { (front back : List Placed) → Has spans.old list (front ++ back) → before ≡ slice_get (ids_in back) 0 →
+        Has spans.new list (front ++ (result, span) ∷ back) }
     ensures others { Keeps spans.old spans.new list }
     ensures spare { spans.old.spare ≤ spans.new.spare + 1 }
     ensures sound { IsSound spans.new }
@@ -46,7 +49,8 @@ pub fn insert_span(spans: &mut Spans, list: ListId, before: Option<SpanId>, span
 pub fn take_span(spans: &mut Spans, list: ListId, at: SpanId) -> Span
     requires { (front : List Placed) × (p : Placed) × (back : List Placed) × Has spans.old list (front ++ p ∷ back) × (p.0 ≡ at) }
     ensures span { span_of spans.old at ≡ Some result }
-    ensures taken { (front : List Placed) (p : Placed) (back : List Placed) → Has spans.old list (front ++ p ∷ back) → p.0 ≡ at → Has spans.new list (front ++ back) }
+    ensures taken { (front : List Placed) (p : Placed) (back : List Placed) → Has spans.old list (front ++ p ∷ back) → p.0 ≡ at →
+        Has spans.new list (front ++ back) }
     ensures others { Keeps spans.old spans.new list }
     ensures spare { spans.new.spare ≡ spans.old.spare + 1 }
     ensures sound { IsSound spans.new }
@@ -60,8 +64,10 @@ pub fn take_span(spans: &mut Spans, list: ListId, at: SpanId) -> Span
 /// Makes another span of the one with an id.
 pub fn set_span(spans: &mut Spans, at: SpanId, span: Span)
     requires { IsSome (span_of spans.old at) }
-    ensures set { (list : ℕ) (front : List Placed) (p : Placed) (back : List Placed) → Has spans.old list (front ++ p ∷ back) → p.0 ≡ at → Has spans.new list (front ++ (p.0, span) ∷ back) }
-    ensures others { (list : ℕ) (front : List Placed) (p : Placed) (back : List Placed) → Has spans.old list (front ++ p ∷ back) → p.0 ≡ at → Keeps spans.old spans.new list }
+    ensures set { (list : ℕ) (front : List Placed) (p : Placed) (back : List Placed) → Has spans.old list (front ++ p ∷ back) →
+        p.0 ≡ at → Has spans.new list (front ++ (p.0, span) ∷ back) }
+    ensures others { (list : ℕ) (front : List Placed) (p : Placed) (back : List Placed) → Has spans.old list (front ++ p ∷ back) →
+        p.0 ≡ at → Keeps spans.old spans.new list }
     ensures spare { spans.new.spare ≡ spans.old.spare }
     ensures sound { IsSound spans.new }
 {
@@ -95,7 +101,8 @@ pub fn first_under(spans: &Spans, at: Option<SpanId>) -> Option<SpanId>
 pub fn last_before(spans: &Spans, list: ListId, before: Option<SpanId>) -> Option<SpanId>
     requires list { IsSome (list_of spans.now list) }
     requires before { IfSome before (λ at. IsSome (span_of spans.now at)) }
-    ensures { (front back : List ℕ) → list_of spans.now list ≡ Some (front ++ back) → before ≡ slice_get back 0 → result ≡ last_in front }
+    ensures { (front back : List ℕ) → list_of spans.now list ≡ Some (front ++ back) → before ≡ slice_get back 0 →
+        result ≡ last_in front }
 {
     match before {
         Some(at) => spans.prev(at),
@@ -107,7 +114,8 @@ pub fn last_before(spans: &Spans, list: ListId, before: Option<SpanId>) -> Optio
 pub fn same_intervals(spans: &Spans, one: ListId, other: ListId) -> bool
     requires one { IsSome (list_of spans.now one) }
     requires other { IsSome (list_of spans.now other) }
-    ensures { IsTrue result ↔ (map (interval_at spans.now) (ids_of spans.now one) ≡ map (interval_at spans.now) (ids_of spans.now other)) }
+    ensures { IsTrue result ↔ (map (interval_at spans.now) (ids_of spans.now one) ≡
+        map (interval_at spans.now) (ids_of spans.now other)) }
 {
     spans.lists_are_sound();
     let mut left = spans.first(one);

@@ -9,7 +9,8 @@ ghost use Rattle.std.specs.Option.{option_map};
 ghost use Rattle.band_list.specs.Bands.{Band, first_row, nodes_in, reading};
 ghost use Rattle.band_walks.specs.Sets.{AreBands, has};
 ghost use Rattle.band_queries.specs.Queries.{SharePlace, IsBounds, intervals_in_all};
-ghost use Rattle.band_queries.specs.Walks.{below, columns_of, counted, farther, first_bottom, first_bounds, joined, rest_of, rows_end_by, rows_overlap, FirstsApart, IsJoined};
+ghost use Rattle.band_queries.specs.Walks.{below, columns_of, counted, farther, first_bottom, first_bounds, joined, rest_of};
+ghost use Rattle.band_queries.specs.Walks.{rows_end_by, rows_overlap, FirstsApart, IsJoined};
 
 mod rows;
 

@@ -4,7 +4,8 @@
 //! `merges` makes a list of its own of two.
 #![tactic(auto)]
 
-ghost use Rattle.std.specs.Prelude.{◌≡◌, ◌≢◌, ◌↔◌, ◌≤◌, ◌+◌, ◌||◌, ◌&&◌, ◌⊎◌, [], ◌∷◌, ◌++◌, List, length, IsTrue, Some, None, true, false, ℤ, ◌<ℤ◌, ◌≤ℤ◌};
+ghost use Rattle.std.specs.Prelude.{◌≡◌, ◌≢◌, ◌↔◌, ◌≤◌, ◌+◌, ◌||◌, ◌&&◌, ◌⊎◌, [], ◌∷◌, ◌++◌, List, length, IsTrue, Some, None};
+ghost use Rattle.std.specs.Prelude.{true, false, ℤ, ◌<ℤ◌, ◌≤ℤ◌};
 ghost use Rattle.std.specs.List.{last_or};
 ghost use Rattle.std.specs.Option.{option_map};
 ghost use Rattle.std.specs.Ordering.{int_eq};
@@ -75,7 +76,8 @@ fn make_strip(bands: &mut BandList, other: &mut Reader, keep: Keep, in_first: bo
     requires empty { bands.old.row ≡ [] }
     requires first_row { IsRow bands.old.left }
     requires second_row { IsRow other.old.left }
-    requires room { (row : List Interval) → IsStripRow keep in_first in_second bands.old.left other.old.left row → length row ≤ bands.old.spare }
+    requires room { (row : List Interval) → IsStripRow keep in_first in_second bands.old.left other.old.left row →
+        length row ≤ bands.old.spare }
     ensures kept { IsStripRow keep in_first in_second bands.old.left other.old.left bands.new.row }
     ensures spare { bands.old.spare ≤ bands.new.spare + length bands.new.row }
     ensures same { bands.new ≡ record bands.old { row = bands.new.row; left = bands.new.left; spare = bands.new.spare } }
@@ -110,12 +112,16 @@ fn keep_strip(
     requires some { rows.top <ℤ rows.bottom }
     requires are_bands { AreBands bands.old.above }
     requires ends { EndBy rows.top bands.old.above }
-    requires room { (row : List Interval) → IsStripRow keep in_first in_second bands.old.left other.old.left row → row ≢ [] → 2 + length row ≤ bands.old.spare }
+    requires room { (row : List Interval) → IsStripRow keep in_first in_second bands.old.left other.old.left row → row ≢ [] →
+        2 + length row ≤ bands.old.spare }
     ensures are_bands { AreBands bands.new.above }
     ensures ends { EndBy rows.bottom bands.new.above }
-    ensures has { (x y : ℤ) → has bands.new.above x y ≡ (has bands.old.above x y || (in_rows rows y && kept keep (in_first && row_has bands.old.left x) (in_second && row_has other.old.left x))) }
+    ensures has { (x y : ℤ) → has bands.new.above x y ≡
+        (has bands.old.above x y ||
+        (in_rows rows y && kept keep (in_first && row_has bands.old.left x) (in_second && row_has other.old.left x))) }
     ensures spare { bands.old.spare + nodes_in bands.old.above ≤ bands.new.spare + nodes_in bands.new.above }
-    ensures same { bands.new ≡ record bands.old { above = bands.new.above; left = first_row bands.old.below; spare = bands.new.spare } }
+    ensures same { bands.new ≡ record bands.old
+        { above = bands.new.above; left = first_row bands.old.below; spare = bands.new.spare } }
     ensures read { other.new ≡ reading other.old.bands }
 {
     make_strip(bands, other, keep, in_first, in_second);
@@ -126,8 +132,11 @@ fn keep_strip(
 
 // Whether the first band below the gap goes on the last band above it: they touch, and have the same intervals.
 fn first_goes_on(bands: &BandList) -> bool
-    ensures yes { result ≡ true → (front : List Band) × (last : Band) × (first : Band) × (rest : List Band) × (bands.now.above ≡ front ++ last ∷ []) × (bands.now.below ≡ first ∷ rest) × (last.bottom ≡ first.top) × (last.row ≡ first.row) }
-    ensures no { result ≡ false → (front : List Band) (last first : Band) (rest : List Band) → bands.now.above ≡ front ++ last ∷ [] → bands.now.below ≡ first ∷ rest → last.bottom ≡ first.top → last.row ≢ first.row }
+    ensures yes { result ≡ true → (front : List Band) × (last : Band) × (first : Band) × (rest : List Band) ×
+        (bands.now.above ≡ front ++ last ∷ []) × (bands.now.below ≡ first ∷ rest) × (last.bottom ≡ first.top) ×
+        (last.row ≡ first.row) }
+    ensures no { result ≡ false → (front : List Band) (last first : Band) (rest : List Band) →
+        bands.now.above ≡ front ++ last ∷ [] → bands.now.below ≡ first ∷ rest → last.bottom ≡ first.top → last.row ≢ first.row }
 {
     match bands.first_rows() {
         Some(rows) => last_ends_at(bands, rows.top) && bands.first_is_as_last(),
@@ -145,9 +154,16 @@ fn keep_first(bands: &mut BandList, keep: Keep, rows: Rows)
     requires ends { EndBy rows.top bands.old.above }
     ensures are_bands { AreBands bands.new.above }
     ensures ends { EndBy rows.bottom bands.new.above }
-    ensures has { (x y : ℤ) → has bands.new.above x y ≡ (has bands.old.above x y || (in_rows rows y && kept keep (row_has bands.old.left x) false)) }
-    ensures spare { bands.old.spare + nodes_in bands.old.above + nodes_in bands.old.below ≤ bands.new.spare + nodes_in bands.new.above + nodes_in bands.new.below }
-    ensures same { bands.new ≡ record bands.old { above = bands.new.above; left = first_row (later rows.bottom bands.old.below); below = later rows.bottom bands.old.below; spare = bands.new.spare } }
+    ensures has { (x y : ℤ) → has bands.new.above x y ≡
+        (has bands.old.above x y || (in_rows rows y && kept keep (row_has bands.old.left x) false)) }
+    ensures spare { bands.old.spare + nodes_in bands.old.above + nodes_in bands.old.below ≤
+        bands.new.spare + nodes_in bands.new.above + nodes_in bands.new.below }
+    ensures same { bands.new ≡ record bands.old {
+      above = bands.new.above;
+      left = first_row (later rows.bottom bands.old.below);
+      below = later rows.bottom bands.old.below;
+      spare = bands.new.spare;
+    } }
 {
     if !keep.keeps(true, false) {
         bands.remove_first();
@@ -196,9 +212,17 @@ fn keep_next(
     requires room { HoldsStrip keep in_first in_second rows bands.old.below bands.old.left other.old.left bands.old.spare }
     ensures are_bands { AreBands bands.new.above }
     ensures ends { EndBy rows.bottom bands.new.above }
-    ensures has { (x y : ℤ) → has bands.new.above x y ≡ (has bands.old.above x y || (in_rows rows y && kept keep (in_first && row_has bands.old.left x) (in_second && row_has other.old.left x))) }
-    ensures spare { bands.old.spare + nodes_in bands.old.above + nodes_in bands.old.below ≤ bands.new.spare + nodes_in bands.new.above + nodes_in bands.new.below }
-    ensures same { bands.new ≡ record bands.old { above = bands.new.above; left = first_row (later rows.bottom bands.old.below); below = later rows.bottom bands.old.below; spare = bands.new.spare } }
+    ensures has { (x y : ℤ) → has bands.new.above x y ≡
+        (has bands.old.above x y ||
+        (in_rows rows y && kept keep (in_first && row_has bands.old.left x) (in_second && row_has other.old.left x))) }
+    ensures spare { bands.old.spare + nodes_in bands.old.above + nodes_in bands.old.below ≤
+        bands.new.spare + nodes_in bands.new.above + nodes_in bands.new.below }
+    ensures same { bands.new ≡ record bands.old {
+      above = bands.new.above;
+      left = first_row (later rows.bottom bands.old.below);
+      below = later rows.bottom bands.old.below;
+      spare = bands.new.spare;
+    } }
     ensures read { other.new ≡ reading other.old.bands }
 {
     if is_whole(bands.first_rows(), rows, in_first, in_second) {
@@ -213,7 +237,8 @@ fn keep_next(
 // the last band above the gap.
 fn first_stays(bands: &BandList, keep: Keep) -> bool
     ensures kept { result ≡ true → kept keep true false ≡ true }
-    ensures apart { result ≡ true → (front : List Band) (last first : Band) (rest : List Band) → bands.now.above ≡ front ++ last ∷ [] → bands.now.below ≡ first ∷ rest → last.bottom ≡ first.top → last.row ≢ first.row }
+    ensures apart { result ≡ true → (front : List Band) (last first : Band) (rest : List Band) →
+        bands.now.above ≡ front ++ last ∷ [] → bands.now.below ≡ first ∷ rest → last.bottom ≡ first.top → last.row ≢ first.row }
 {
     keep.keeps(true, false) && !first_goes_on(bands)
 }
@@ -238,7 +263,8 @@ fn rest_stays(bands: &BandList, other: &Reader, keep: Keep, y: i32) -> bool
 
 // The strip from y on that is to be kept next; `None` where the bands below the gap stay as they are.
 fn strip_to_keep(bands: &BandList, other: &Reader, keep: Keep, y: i32) -> Option<Strip>
-    ensures some { (strip : Strip) → result ≡ Some strip → strip_below y (first_rows_of bands.now.below) (first_rows_of other.now.bands) ≡ Some strip }
+    ensures some { (strip : Strip) → result ≡ Some strip →
+        strip_below y (first_rows_of bands.now.below) (first_rows_of other.now.bands) ≡ Some strip }
     ensures none { result ≡ None → Rests keep y bands.now.above bands.now.below other.now.bands ⊎ NoneKept keep bands.now.below }
 {
     if rest_stays(bands, other, keep, y) {
@@ -261,7 +287,8 @@ pub fn keep_bands(bands: &mut BandList, other: &mut Reader, keep: Keep)
     requires room { IsRoom keep bands.old.above bands.old.below other.old.bands bands.old.spare }
     ensures kept { IsKept keep (bands.old.above ++ bands.old.below) other.old.bands (bands.new.above ++ bands.new.below) }
     ensures row { bands.new.row ≡ [] }
-    ensures spare { bands.old.spare + nodes_in (bands.old.above ++ bands.old.below) ≤ bands.new.spare + nodes_in (bands.new.above ++ bands.new.below) }
+    ensures spare { bands.old.spare + nodes_in (bands.old.above ++ bands.old.below) ≤
+        bands.new.spare + nodes_in (bands.new.above ++ bands.new.below) }
 {
     let mut top = bands_start(bands.first_rows(), other.first_rows());
     while let Some(strip) = strip_to_keep(bands, other, keep, top) {
@@ -288,7 +315,8 @@ fn count_strip(
     requires above_second { IsRow above_second.old.left }
     requires first { IsRow first.now.left }
     requires second { IsRow second.now.left }
-    ensures count { (above row : List Interval) → IsRowKept keep above_first.old.left above_second.old.left above → IsRowKept keep first.now.left second.now.left row → Counts above row result }
+    ensures count { (above row : List Interval) → IsRowKept keep above_first.old.left above_second.old.left above →
+        IsRowKept keep first.now.left second.now.left row → Counts above row result }
     ensures few { result ≤ 2147483650 }
 {
     let mut counted_first = first.again();

@@ -27,7 +27,9 @@ fn merge_strip(
     requires ends { EndBy rows.top bands.old.above }
     ensures are_bands { OnOk result (AreBands bands.new.above) }
     ensures ends { OnOk result (EndBy rows.bottom bands.new.above) }
-    ensures has { OnOk result ((x y : ℤ) → has bands.new.above x y ≡ (has bands.old.above x y || (in_rows rows y && kept keep (row_has first.old.left x) (row_has second.old.left x)))) }
+    ensures has { OnOk result ((x y : ℤ) →
+        has bands.new.above x y ≡
+        (has bands.old.above x y || (in_rows rows y && kept keep (row_has first.old.left x) (row_has second.old.left x)))) }
     ensures same { OnOk result (bands.new ≡ record bands.old { above = bands.new.above; spare = bands.new.spare }) }
     ensures first_read { OnOk result (first.new ≡ record first.old { left = [] }) }
     ensures second_read { OnOk result (second.new ≡ record second.old { left = [] }) }

@@ -74,7 +74,11 @@ pub(crate) fn bands_start(first: Option<Rows>, second: Option<Rows>) -> i32
 pub(crate) fn drop_ended(bands: &mut BandList, edge: i32)
     requires { bands.old.left ≡ first_row bands.old.below }
     ensures spare { bands.old.spare + nodes_in bands.old.below ≤ bands.new.spare + nodes_in bands.new.below }
-    ensures ended { bands.new ≡ record bands.old { left = first_row (later edge bands.old.below); below = later edge bands.old.below; spare = bands.new.spare } }
+    ensures ended { bands.new ≡ record bands.old {
+      left = first_row (later edge bands.old.below);
+      below = later edge bands.old.below;
+      spare = bands.new.spare;
+    } }
 {
     if let Some(rows) = bands.first_rows() {
         if rows.bottom <= edge {

@@ -5,12 +5,14 @@
 //! on the way; `proofs/Walks.antt` has what a caller's loop needs.
 #![tactic(auto)]
 
-ghost use Rattle.std.specs.Prelude.{◌≡◌, ◌+◌, ◌++◌, ◌∷◌, ◌↔◌, [], ℕ, None, Some, IsTrue, IfSome, IfOk, MatchOption, MatchResult, IsOkUnless, OnOk, OnErr, length, slice_get, option_copied, ◌==◌, not};
+ghost use Rattle.std.specs.Prelude.{◌≡◌, ◌+◌, ◌++◌, ◌∷◌, ◌↔◌, [], ℕ, None, Some, IsTrue, IfSome, IfOk, MatchOption, MatchResult};
+ghost use Rattle.std.specs.Prelude.{IsOkUnless, OnOk, OnErr, length, slice_get, option_copied, ◌==◌, not};
 ghost use Rattle.std.specs.Map.{keys_of};
 ghost use Rattle.std.specs.Option.{option_copied_mut};
 ghost use Rattle.std.specs.Borrow.{sem};
 ghost use Rattle.std.specs.List.{remove as without_index, filter};
-ghost use Rattle.client_list.specs.Connected.{index_of, index_of_number, value_of, value_at, number_at, IsPlace, IsListed, IsPlaceOf, passed};
+ghost use Rattle.client_list.specs.Connected.{index_of, index_of_number, value_of, value_at, number_at, IsPlace, IsListed};
+ghost use Rattle.client_list.specs.Connected.{IsPlaceOf, passed};
 ghost use Rattle.client_list.specs.declared.ConnectError.TheVariants.{NumberInUse, OutOfMemory};
 
 mod links;

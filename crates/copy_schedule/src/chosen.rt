@@ -28,7 +28,9 @@ fn copyable(
 ) -> Result<Region, AllocError>
     requires copied { LiesOn 8192 8192 copied.now.list }
     requires asked { LiesOn 8192 8192 asked.now.list }
-    ensures { IfOk result (λ all. (x y : ℤ) → covers all.list x y ≡ (covers asked.now.list x y && covers copied.now.list x y && covers asked.now.list (x -ℤ offset.0) (y -ℤ offset.1))) }
+    ensures { IfOk result (λ all. (x y : ℤ) →
+        covers all.list x y ≡ (covers asked.now.list x y && covers copied.now.list x y &&
+        covers asked.now.list (x -ℤ offset.0) (y -ℤ offset.1))) }
 {
     let sources = moved_by(alloc, asked, offset)?;
     let both = copied.intersection(asked)?;
@@ -45,9 +47,15 @@ pub fn choose(
 ) -> Result<Chosen, AllocError>
     requires kept { IsKept 8192 8192 kept.now }
     requires asked { LiesOn 8192 8192 asked.now.list }
-    ensures copies { IfOk result (λ c. (x y : ℤ) → covers c.copies.list x y ≡ (covers asked.now.list x y && covers kept.now.copied.list x y && covers asked.now.list (x -ℤ offset.0) (y -ℤ offset.1))) }
-    ensures pixels { IfOk result (λ c. (x y : ℤ) → covers c.pixels.list x y ≡ (covers asked.now.list x y && (covers kept.now.owed.list x y || covers kept.now.copied.list x y) && not (covers c.copies.list x y))) }
-    ensures unclean { IfOk result (λ c. (x y : ℤ) → covers c.unclean.list x y ≡ (covers kept.now.owed.list x y || covers kept.now.copied.list x y)) }
+    ensures copies { IfOk result (λ c. (x y : ℤ) →
+        covers c.copies.list x y ≡
+        (covers asked.now.list x y && covers kept.now.copied.list x y && covers asked.now.list (x -ℤ offset.0) (y -ℤ offset.1))) }
+    ensures pixels { IfOk result (λ c. (x y : ℤ) →
+        covers c.pixels.list x y ≡
+        (covers asked.now.list x y && (covers kept.now.owed.list x y || covers kept.now.copied.list x y) &&
+        not (covers c.copies.list x y))) }
+    ensures unclean { IfOk result (λ c. (x y : ℤ) →
+        covers c.unclean.list x y ≡ (covers kept.now.owed.list x y || covers kept.now.copied.list x y)) }
 {
     let copies = copyable(alloc, &kept.copied, asked, offset)?;
     let unclean = kept.owed.union(&kept.copied)?;
@@ -84,7 +92,8 @@ pub fn left_after(
 ) -> Result<Region, AllocError>
     requires copies { All (IsOnScreen 8192 8192) copies.now }
     requires pixels { All (IsOnScreen 8192 8192) pixels.now }
-    ensures { IfOk result (λ left. (x y : ℤ) → covers left.list x y ≡ (covers unclean.now.list x y && not (covers copies.now x y || covers pixels.now x y))) }
+    ensures { IfOk result (λ left. (x y : ℤ) →
+        covers left.list x y ≡ (covers unclean.now.list x y && not (covers copies.now x y || covers pixels.now x y))) }
 {
     let moved = Region::from_rects_in_range(alloc, copies)?;
     let drawn = Region::from_rects_in_range(alloc, pixels)?;

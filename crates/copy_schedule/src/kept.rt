@@ -30,7 +30,8 @@ pub fn clone_of(alloc: Global, kept: &Kept) -> Result<Kept, AllocError>
 
 /// The set's places become owed.
 pub fn owing(kept: &Kept, set: &Region) -> Result<Kept, AllocError>
-    ensures marks { IfOk result (λ k. (x y : ℤ) → kept_mark k x y ≡ (if covers set.now.list x y then Owed else kept_mark kept.now x y)) }
+    ensures marks { IfOk result (λ k. (x y : ℤ) →
+        kept_mark k x y ≡ (if covers set.now.list x y then Owed else kept_mark kept.now x y)) }
     ensures kept { IfOk result (λ k. (w h : ℕ) → IsKept w h kept.now → LiesOn w h set.now.list → IsKept w h k) }
 {
     let owed = kept.owed.union(set)?;
@@ -48,7 +49,8 @@ pub fn owing_on_screen(
 ) -> Result<Kept, AllocError>
     requires width { width ≤ 8192 }
     requires height { height ≤ 8192 }
-    ensures marks { IfOk result (λ k. (x y : ℤ) → kept_mark k x y ≡ (if covers set.now.list x y && on_screen width height x y then Owed else kept_mark kept.now x y)) }
+    ensures marks { IfOk result (λ k. (x y : ℤ) →
+        kept_mark k x y ≡ (if covers set.now.list x y && on_screen width height x y then Owed else kept_mark kept.now x y)) }
     ensures kept { IfOk result (λ k. IsKept width height kept.now → IsKept width height k) }
 {
     if fits(set, width, height) {
@@ -61,7 +63,8 @@ pub fn owing_on_screen(
 
 /// The copied places become owed.
 pub fn owing_copies(kept: &Kept) -> Result<Kept, AllocError>
-    ensures marks { IfOk result (λ k. (x y : ℤ) → kept_mark k x y ≡ (if covers kept.now.copied.list x y then Owed else kept_mark kept.now x y)) }
+    ensures marks { IfOk result (λ k. (x y : ℤ) →
+        kept_mark k x y ≡ (if covers kept.now.copied.list x y then Owed else kept_mark kept.now x y)) }
     ensures kept { IfOk result (λ k. (w h : ℕ) → IsKept w h kept.now → IsKept w h k) }
 {
     let left = owing(kept, &kept.copied)?;
@@ -86,7 +89,9 @@ fn lost_places(
 ) -> Result<Region, AllocError>
     requires copied { LiesOn 8192 8192 copied.now.list }
     requires drawn { IsCutTo 8192 8192 offset drawn.now.list }
-    ensures { IfOk result (λ lost. (x y : ℤ) → covers lost.list x y ≡ (covers copied.now.list x y && (not stays || covers drawn.now.list (x +ℤ offset.0) (y +ℤ offset.1)))) }
+    ensures { IfOk result (λ lost. (x y : ℤ) →
+        covers lost.list x y ≡ (covers copied.now.list x y &&
+        (not stays || covers drawn.now.list (x +ℤ offset.0) (y +ℤ offset.1)))) }
 {
     if !stays {
         return copied.try_clone(alloc);
@@ -111,7 +116,9 @@ pub fn losing(
 ) -> Result<Kept, AllocError>
     requires kept { IsKept 8192 8192 kept.now }
     requires drawn { IsCutTo 8192 8192 offset drawn.now.list }
-    ensures marks { IfOk result (λ k. (x y : ℤ) → kept_mark k x y ≡ (if is_copied (kept_mark kept.now x y) && (not stays || covers drawn.now.list (x +ℤ offset.0) (y +ℤ offset.1)) then Owed else kept_mark kept.now x y)) }
+    ensures marks { IfOk result (λ k. (x y : ℤ) →
+        kept_mark k x y ≡ (if is_copied (kept_mark kept.now x y) &&
+        (not stays || covers drawn.now.list (x +ℤ offset.0) (y +ℤ offset.1)) then Owed else kept_mark kept.now x y)) }
     ensures kept { IfOk result (λ k. (w h : ℕ) → IsKept w h kept.now → IsKept w h k) }
 {
     let lost = lost_places(alloc, &kept.copied, drawn, offset, stays)?;
@@ -127,7 +134,9 @@ pub fn moving(
     offset: (i32, i32),
 ) -> Result<Kept, AllocError>
     requires kept { IsKept 8192 8192 kept.now }
-    ensures marks { IfOk result (λ k. (x y : ℤ) → on_screen 8192 8192 x y ≡ true → kept_mark k x y ≡ moved_mark (covers drawn.now.list x y) (kept_mark kept.now x y) (kept_mark kept.now (x -ℤ offset.0) (y -ℤ offset.1))) }
+    ensures marks { IfOk result (λ k. (x y : ℤ) → on_screen 8192 8192 x y ≡ true →
+        kept_mark k x y ≡ moved_mark (covers drawn.now.list x y) (kept_mark kept.now x y)
+        (kept_mark kept.now (x -ℤ offset.0) (y -ℤ offset.1))) }
     ensures kept { IfOk result (λ k. (w h : ℕ) → IsKept w h kept.now → LiesOn w h drawn.now.list → IsKept w h k) }
 {
     let all = kept.copied.union(drawn)?;
@@ -140,7 +149,9 @@ pub fn moving(
 
 /// A set and those of the copied places that are in another become owed.
 pub fn forgetting(kept: &Kept, set: &Region, other: &Region) -> Result<Kept, AllocError>
-    ensures marks { IfOk result (λ k. (x y : ℤ) → kept_mark k x y ≡ (if covers set.now.list x y || (covers kept.now.copied.list x y && covers other.now.list x y) then Owed else kept_mark kept.now x y)) }
+    ensures marks { IfOk result (λ k. (x y : ℤ) →
+        kept_mark k x y ≡ (if covers set.now.list x y ||
+        (covers kept.now.copied.list x y && covers other.now.list x y) then Owed else kept_mark kept.now x y)) }
     ensures kept { IfOk result (λ k. (w h : ℕ) → IsKept w h kept.now → LiesOn w h set.now.list → IsKept w h k) }
 {
     let awaiting = kept.copied.intersection(other)?;

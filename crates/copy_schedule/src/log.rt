@@ -26,7 +26,9 @@ fn joined(region: &Region, mut next: Region) -> Result<Region, AllocError>
 
 /// A region that is marked comes before the entries, which stand from the last to the first: in one with what is marked next.
 fn mark_before(out: &mut Vec<LogEntry>, region: &Region) -> Result<(), AllocError>
-    ensures same { OnOk result ((uses_copyrect : Bool) (m : Marks) → logged uses_copyrect (reverse out.new.items) m ≡ logged uses_copyrect (reverse out.old.items) (marked (covers region.now.list) m)) }
+    ensures same { OnOk result ((uses_copyrect : Bool) (m : Marks) →
+        logged uses_copyrect (reverse out.new.items) m ≡
+        logged uses_copyrect (reverse out.old.items) (marked (covers region.now.list) m)) }
     ensures cut { OnOk result ((w h : ℕ) → All (IsCutEntry w h) out.old.items → All (IsCutEntry w h) out.new.items) }
 {
     let alloc = *out.allocator();
@@ -51,8 +53,11 @@ fn put_before(
     entry: &LogEntry,
     uses_copyrect: bool,
 ) -> Result<(), AllocError>
-    ensures same { OnOk result ((m : Marks) → logged uses_copyrect (reverse out.new.items) m ≡ logged uses_copyrect (reverse out.old.items) (after_entry uses_copyrect entry.now m)) }
-    ensures cut { OnOk result ((w h : ℕ) → All (IsCutEntry w h) out.old.items → IsCutEntry w h entry.now → All (IsCutEntry w h) out.new.items) }
+    ensures same { OnOk result ((m : Marks) →
+        logged uses_copyrect (reverse out.new.items) m ≡
+        logged uses_copyrect (reverse out.old.items) (after_entry uses_copyrect entry.now m)) }
+    ensures cut { OnOk result ((w h : ℕ) → All (IsCutEntry w h) out.old.items → IsCutEntry w h entry.now →
+        All (IsCutEntry w h) out.new.items) }
 {
     match entry {
         LogEntry::Mark(region) => mark_before(out, region),

@@ -1,12 +1,15 @@
 //! The marks over regions: the places that are owed, that await a copy, and that are asked for.
 
-ghost use Rattle.std.specs.Prelude.{◌≡◌, ◌≤◌, ◌*◌, ◌&&◌, ◌||◌, not, false, pos, ℤ, Bool, [], All, replicate, if◌then◌else◌, IfOk, IfSome, OnOk, OnErr, option_map};
+ghost use Rattle.std.specs.Prelude.{◌≡◌, ◌≤◌, ◌*◌, ◌&&◌, ◌||◌, not, false, pos, ℤ, Bool, [], All, replicate, if◌then◌else◌, IfOk};
+ghost use Rattle.std.specs.Prelude.{IfSome, OnOk, OnErr, option_map};
 ghost use Rattle.copy_schedule.specs.declared.Mark.TheVariants.{Clean, Owed};
 ghost use Rattle.std.specs.List.{list_any};
 ghost use Rattle.region.specs.Region.{covers, in_rect, rects_of};
 ghost use Rattle.region.specs.Copies.{InOrder};
 ghost use Rattle.region.specs.Places.{same_offset};
-ghost use Rattle.copy_schedule.specs.Marks.{is_clean, is_owed, is_copied, mark_at, asked_at, has_asked, with_marks, new_marks, marked, copied_by, without_copyrect, requested, pending, cut_of, cut_of_sent, marks_after, copies_of, pixels_of, IsInside, HasSourcesInside, IsWithin, IsCutTo};
+ghost use Rattle.copy_schedule.specs.Marks.{is_clean, is_owed, is_copied, mark_at, asked_at, has_asked, with_marks, new_marks};
+ghost use Rattle.copy_schedule.specs.Marks.{marked, copied_by, without_copyrect, requested, pending, cut_of, cut_of_sent};
+ghost use Rattle.copy_schedule.specs.Marks.{marks_after, copies_of, pixels_of, IsInside, HasSourcesInside, IsWithin, IsCutTo};
 ghost use Rattle.copy_schedule.specs.Kept.{IsKept, LiesOn, with_kept};
 ghost use Rattle.copy_schedule.specs.Log.{logged, draws_asked, IsCutEntry};
 
@@ -41,7 +44,14 @@ impl Model for Marks {
 
     ghost Value = { Marks };
 
-    ghost view = { λ a. record { width = a.width; height = a.height; marks = by_place a.width a.height (kept_mark a.kept); offset = (a.offset_x, a.offset_y); asked = by_place a.width a.height (covers a.asked.list) } };
+    ghost view = { λ a. record {
+      width = a.width;
+      height = a.height;
+      marks = by_place a.width a.height (kept_mark a.kept);
+      offset =
+          (a.offset_x, a.offset_y);
+      asked = by_place a.width a.height (covers a.asked.list);
+    } };
 
     ghost invariant = { λ a. IsScreen a.width a.height a.kept a.asked.list };
 }
@@ -362,7 +372,9 @@ impl Marks {
     fn sending(&self, limit: u32) -> Result<Sending, AllocError>
         ensures copies { IfOk result (λ s. s.copies.items ≡ copies_of limit self.now) }
         ensures pixels { IfOk result (λ s. s.pixels.items ≡ pixels_of limit self.now) }
-        ensures owed { IfOk result (λ s. (x y : ℤ) → covers s.owed.list x y ≡ (not (is_clean (mark_at self.now x y)) && not (covers s.copies.items x y || covers s.pixels.items x y))) }
+        ensures owed { IfOk result (λ s. (x y : ℤ) →
+            covers s.owed.list x y ≡
+            (not (is_clean (mark_at self.now x y)) && not (covers s.copies.items x y || covers s.pixels.items x y))) }
     {
         let offset = (self.offset_x, self.offset_y);
         let parts = choose(self.alloc, &self.kept, &self.asked, offset)?;
@@ -379,7 +391,11 @@ impl Marks {
     // These places are owed and no others, and none is asked for.
     fn settle(&mut self, owed: Region)
         requires { LiesOn self.old.width self.old.height owed.list }
-        ensures { self.new ≡ record (with_marks self.old (λ x y. if covers owed.list x y then Owed else Clean)) { offset = (pos 0, pos 0); asked = replicate (self.old.width * self.old.height) false } }
+        ensures { self.new ≡ record (with_marks self.old (λ x y. if covers owed.list x y then Owed else Clean)) {
+          offset =
+              (pos 0, pos 0);
+          asked = replicate (self.old.width * self.old.height) false;
+        } }
     {
         self.kept = Kept {
             owed,

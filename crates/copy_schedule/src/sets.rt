@@ -28,7 +28,8 @@ pub fn leads_off(offset: (i32, i32)) -> bool
 /// The places whose places (dx, dy) before them are in the region, as far as a screen goes.
 pub fn moved_by(alloc: Global, region: &Region, offset: (i32, i32)) -> Result<Region, AllocError>
     requires { LiesOn 8192 8192 region.now.list }
-    ensures { IfOk result (λ moved. (x y : ℤ) → on_screen 8192 8192 x y ≡ true → covers moved.list x y ≡ covers region.now.list (x -ℤ offset.0) (y -ℤ offset.1)) }
+    ensures { IfOk result (λ moved. (x y : ℤ) → on_screen 8192 8192 x y ≡ true →
+        covers moved.list x y ≡ covers region.now.list (x -ℤ offset.0) (y -ℤ offset.1)) }
 {
     if leads_off(offset) {
         return Ok(Region::new(alloc));
@@ -81,7 +82,8 @@ pub fn part_of(
 ) -> Result<Region, AllocError>
     requires width { width ≤ 8192 }
     requires height { height ≤ 8192 }
-    ensures { IfOk result (λ part. (x y : ℤ) → covers part.list x y ≡ (in_rect rect (x -ℤ offset.0) (y -ℤ offset.1) && on_screen width height x y)) }
+    ensures { IfOk result (λ part. (x y : ℤ) →
+        covers part.list x y ≡ (in_rect rect (x -ℤ offset.0) (y -ℤ offset.1) && on_screen width height x y)) }
 {
     let window = window_of(rect, offset.0, offset.1, width, height);
     let part = Region::from_rect_in_range(alloc, window_rect(window))?;

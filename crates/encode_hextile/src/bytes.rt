@@ -100,7 +100,8 @@ fn put_front(
     palette: Palette,
 )
     requires { front.old.items ≡ [] }
-    ensures items { front.new.items ≡ bits_of carried palette.background palette.others ∷ said_bytes format.now carried palette.background palette.others }
+    ensures items { front.new.items ≡
+        bits_of carried palette.background palette.others ∷ said_bytes format.now carried palette.background palette.others }
     ensures len { array_vec_len front.new ≤ 9 }
 {
     front.push(bits_of(carried, palette));
@@ -123,8 +124,10 @@ fn put_list(
     requires columns { pixels.now.width ≤ 16 }
     requires rows { pixels.now.height ≤ 16 }
     requires stands { palette.background ≡ background_of pixels.now.values.now }
-    ensures yes { result ≡ true → front.new.items ++ list.new.items ≡ front.old.items ++ list_bytes format.now (subrectangles palette.background (rows_in pixels.now)) palette.others }
-    ensures no { result ≡ false → length pixels.now.values.now * bytes_per_pixel format.now ≤ length (list_bytes format.now (subrectangles palette.background (rows_in pixels.now)) palette.others) }
+    ensures yes { result ≡ true → front.new.items ++ list.new.items ≡
+        front.old.items ++ list_bytes format.now (subrectangles palette.background (rows_in pixels.now)) palette.others }
+    ensures no { result ≡ false → length pixels.now.values.now * bytes_per_pixel format.now ≤
+        length (list_bytes format.now (subrectangles palette.background (rows_in pixels.now)) palette.others) }
 {
     let coloured = match palette.others {
         TilePixels::Alone => return true,
@@ -155,7 +158,9 @@ fn put_coded(
     requires rows { pixels.now.height ≤ 16 }
     requires stands { IsPaletteOf pixels.now.values.now palette }
     ensures next { IfOk result (λ next. next ≡ (tile format.now carried (rows_in pixels.now)).next) }
-    ensures ok { OnOk result (out.new.items ≡ out.old.items ++ (tile format.now carried (rows_in pixels.now)).bits ∷ (tile format.now carried (rows_in pixels.now)).bytes) }
+    ensures ok { OnOk result (out.new.items ≡
+        out.old.items ++ (tile format.now carried (rows_in pixels.now)).bits ∷
+        (tile format.now carried (rows_in pixels.now)).bytes) }
     ensures err { OnErr result (BeginsWith out.old.items out.new.items) }
 {
     let mut front = ArrayVec::new();
@@ -183,7 +188,9 @@ pub(crate) fn put_tile(
     requires columns { pixels.now.width ≤ 16 }
     requires rows { pixels.now.height ≤ 16 }
     ensures next { IfOk result (λ next. next ≡ (tile format.now carried (rows_in pixels.now)).next) }
-    ensures ok { OnOk result (out.new.items ≡ out.old.items ++ (tile format.now carried (rows_in pixels.now)).bits ∷ (tile format.now carried (rows_in pixels.now)).bytes) }
+    ensures ok { OnOk result (out.new.items ≡
+        out.old.items ++ (tile format.now carried (rows_in pixels.now)).bits ∷
+        (tile format.now carried (rows_in pixels.now)).bytes) }
     ensures err { OnErr result (BeginsWith out.old.items out.new.items) }
 {
     let Some(palette) = palette_of(pixels, format) else {

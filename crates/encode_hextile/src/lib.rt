@@ -70,8 +70,10 @@ fn put_row_of_tiles(
     before: Carried,
 ) -> Result<Carried, AllocError>
     requires top { 16 * row < colours.now.height }
-    ensures next { IfOk result (λ next. next ≡ carried_after table.now (pixel_rows table.now colours.now) before (tiles_in colours.now.width row)) }
-    ensures ok { OnOk result (out.new.items ≡ out.old.items ++ tiles table.now (pixel_rows table.now colours.now) before (tiles_in colours.now.width row)) }
+    ensures next { IfOk result (λ next. next ≡
+        carried_after table.now (pixel_rows table.now colours.now) before (tiles_in colours.now.width row)) }
+    ensures ok { OnOk result (out.new.items ≡
+        out.old.items ++ tiles table.now (pixel_rows table.now colours.now) before (tiles_in colours.now.width row)) }
     ensures err { OnErr result (BeginsWith out.old.items out.new.items) }
 {
     let format = table.format();
@@ -104,8 +106,10 @@ pub fn encode_row_of_tiles(
 ) -> Result<Carried, AllocError>
     requires { colours.now.height ≤ 16 }
     ensures more { OnOk result (length out.old.items < length out.new.items) }
-    ensures next { IfOk result (λ next. next ≡ carried_after table.now (pixel_rows table.now colours.now) before (tiles_in colours.now.width 0)) }
-    ensures ok { OnOk result (out.new.items ≡ out.old.items ++ tiles table.now (pixel_rows table.now colours.now) before (tiles_in colours.now.width 0)) }
+    ensures next { IfOk result (λ next. next ≡
+        carried_after table.now (pixel_rows table.now colours.now) before (tiles_in colours.now.width 0)) }
+    ensures ok { OnOk result (out.new.items ≡
+        out.old.items ++ tiles table.now (pixel_rows table.now colours.now) before (tiles_in colours.now.width 0)) }
     // So, where these are the colours of a rectangle's row of tiles, its data go on behind them.
     ensures goes_on { (h : ℕ) (all : List ℕ) (j : ℕ) → IsRowOfTiles colours.now h all j →
         IfOk result (λ next. out.new.items ++ hextile_from table.now colours.now.width h (map (pixel table.now) all) next (j + 1) ≡
@@ -122,7 +126,8 @@ pub fn encode_row_of_tiles(
 
 /// Appends the tiles, row by row.
 fn put_tiles(out: &mut Vec<u8>, colours: &Rows, table: &Table) -> Result<(), AllocError>
-    ensures ok { OnOk result (out.new.items ≡ out.old.items ++ hextile_of table.now colours.now.width colours.now.height (map (pixel table.now) colours.now.values.now)) }
+    ensures ok { OnOk result (out.new.items ≡
+        out.old.items ++ hextile_of table.now colours.now.width colours.now.height (map (pixel table.now) colours.now.values.now)) }
     ensures err { OnErr result (BeginsWith out.old.items out.new.items) }
 {
     let mut carried = NOTHING;

@@ -118,7 +118,8 @@ fn starts_at(row: &[u32], above: &[u32], x: usize) -> bool
 fn starts_in(row: &[u32], above: &[u32]) -> usize
     requires { length above.now ≡ length row.now }
     ensures few { result ≤ length row.now }
-    ensures begin { (rows : List (List ℕ)) (y b : ℕ) → 0 < y → row_at rows y ≡ row.now → row_at rows (y - 1) ≡ above.now → result ≤ length (subrectangles_in b rows y) + times b row.now }
+    ensures begin { (rows : List (List ℕ)) (y b : ℕ) → 0 < y → row_at rows y ≡ row.now → row_at rows (y - 1) ≡ above.now →
+        result ≤ length (subrectangles_in b rows y) + times b row.now }
 {
     let mut starts = 0;
     for x in 1..row.len() {
@@ -162,7 +163,9 @@ fn is_noise(pixels: &Rows, format: &PixelFormat, buckets: &[u16; 251]) -> bool
 pub(crate) fn palette_of(pixels: &Rows, format: &PixelFormat) -> Option<Palette>
     requires columns { pixels.now.width ≤ 16 }
     requires rows { pixels.now.height ≤ 16 }
-    ensures { MatchOption result (HasSeveral pixels.now.values.now × AreLong format.now pixels.now.width pixels.now.height pixels.now.values.now (background_of pixels.now.values.now)) (IsPaletteOf pixels.now.values.now) }
+    ensures { MatchOption result (HasSeveral pixels.now.values.now ×
+        AreLong format.now pixels.now.width pixels.now.height pixels.now.values.now (background_of pixels.now.values.now))
+        (IsPaletteOf pixels.now.values.now) }
 {
     if let Some(palette) = few_pixels(pixels.values) {
         return Some(palette);

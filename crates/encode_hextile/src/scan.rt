@@ -1,6 +1,7 @@
 //! The subrectangles of a tile, found row by row and written as bytes.
 
-ghost use Rattle.std.specs.Prelude.{◌≡◌, ℕ, ◌+◌, ◌-◌, ◌*◌, ◌<◌, ◌≤◌, ◌++◌, [], length, slice_index, flat_map, MatchOption, if◌then◌else◌};
+ghost use Rattle.std.specs.Prelude.{◌≡◌, ℕ, ◌+◌, ◌-◌, ◌*◌, ◌<◌, ◌≤◌, ◌++◌, [], length, slice_index, flat_map, MatchOption};
+ghost use Rattle.std.specs.Prelude.{if◌then◌else◌};
 ghost use Rattle.pixel_translate.specs.Pixel.{pixel_bytes, bytes_per_pixel};
 ghost use Rattle.arrayvec.specs.ArrayVec.{array_vec_len};
 ghost use Rattle.encode_rre.specs.Rows.{rows_in};
@@ -101,7 +102,8 @@ fn put_row(
     requires inside { y < pixels.now.height }
     requires columns { pixels.now.width ≤ 16 }
     requires rows { pixels.now.height ≤ 16 }
-    ensures { list.new.items ≡ list.old.items ++ flat_map (subrectangle_bytes format.now coloured) (subrectangles_in background (rows_in pixels.now) y) }
+    ensures { list.new.items ≡ list.old.items ++ flat_map (subrectangle_bytes format.now coloured)
+        (subrectangles_in background (rows_in pixels.now) y) }
 {
     let lines = Lines {
         values: Values::Whole(pixels.values),
@@ -146,7 +148,10 @@ pub(crate) fn list_subrectangles(
     requires empty { list.old.items ≡ [] }
     requires columns { pixels.now.width ≤ 16 }
     requires rows { pixels.now.height ≤ 16 }
-    ensures { MatchOption result (length pixels.now.values.now * bytes_per_pixel format.now ≤ length (flat_map (subrectangle_bytes format.now coloured) (subrectangles background (rows_in pixels.now)))) (λ count. (count ≡ length (subrectangles background (rows_in pixels.now))) × (list.new.items ≡ flat_map (subrectangle_bytes format.now coloured) (subrectangles background (rows_in pixels.now)))) }
+    ensures { MatchOption result (length pixels.now.values.now * bytes_per_pixel format.now ≤
+        length (flat_map (subrectangle_bytes format.now coloured) (subrectangles background (rows_in pixels.now))))
+        (λ count. (count ≡ length (subrectangles background (rows_in pixels.now))) ×
+        (list.new.items ≡ flat_map (subrectangle_bytes format.now coloured) (subrectangles background (rows_in pixels.now)))) }
 {
     let raw_len = pixels.values.len() * format.bytes_per_pixel();
     for y in 0..pixels.height {

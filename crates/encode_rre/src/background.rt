@@ -121,7 +121,8 @@ fn add(counts: &mut HashMap<u32, usize>, pixel: u32, places: usize) -> Result<us
     requires { unwrap_or (hash.get nat_eq counts.old pixel) 0 + places < 2 ^ 64 }
     ensures sum { IfOk result (λ n. n ≡ unwrap_or (hash.get nat_eq counts.old pixel) 0 + places) }
     ensures itself { IfOk result (λ n. unwrap_or (hash.get nat_eq counts.new pixel) 0 ≡ n) }
-    ensures others { OnOk result ((q : ℕ) → pixel ≢ q → unwrap_or (hash.get nat_eq counts.new q) 0 ≡ unwrap_or (hash.get nat_eq counts.old q) 0) }
+    ensures others { OnOk result ((q : ℕ) → pixel ≢ q →
+        unwrap_or (hash.get nat_eq counts.new q) 0 ≡ unwrap_or (hash.get nat_eq counts.old q) 0) }
 {
     let count = counts.entry(pixel)?.or_insert(0);
     *count += places;

@@ -35,7 +35,8 @@ fn add_breaks(buckets: &mut [usize; 251], row: &[u32], above: &[u32]) -> usize
     requires columns { length row.now < 2 ^ 16 }
     requires room { (k : ℕ) → k < 251 → slice_index buckets.old k < 2 ^ 40 }
     ensures count { result ≡ breaks row.now above.now (length row.now) }
-    ensures each { (k : ℕ) → k < 251 → slice_index buckets.new k ≡ slice_index buckets.old k + breaks_like k row.now above.now (length row.now) }
+    ensures each { (k : ℕ) → k < 251 →
+        slice_index buckets.new k ≡ slice_index buckets.old k + breaks_like k row.now above.now (length row.now) }
 {
     let mut count = 0usize;
     for x in 1..row.len() {

@@ -15,7 +15,8 @@ use std::alloc::AllocError;
 
 /// Appends a number of four bytes, the lowest first, and a subrectangle's place and size, at once.
 fn put_twelve(out: &mut Vec<u8>, number: u32, sub: Subrectangle) -> Result<(), AllocError>
-    ensures ok { OnOk result (out.new.items ≡ out.old.items ++ (to_le_bytes w32 number ++ be16 sub.x ++ be16 sub.y ++ be16 sub.w ++ be16 sub.h)) }
+    ensures ok { OnOk result (out.new.items ≡
+        out.old.items ++ (to_le_bytes w32 number ++ be16 sub.x ++ be16 sub.y ++ be16 sub.w ++ be16 sub.h)) }
     ensures err { OnErr result (out.new.items ≡ out.old.items) }
 {
     let [b0, b1, b2, b3] = number.to_le_bytes();
@@ -53,7 +54,8 @@ fn put_pixels(
     background: u32,
     subs: &[Subrectangle],
 ) -> Result<(), AllocError>
-    ensures ok { OnOk result (out.new.items ≡ out.old.items ++ (pixel_bytes format.now background ++ flat_map (subrectangle_bytes format.now) subs.now)) }
+    ensures ok { OnOk result (out.new.items ≡
+        out.old.items ++ (pixel_bytes format.now background ++ flat_map (subrectangle_bytes format.now) subs.now)) }
     ensures err { OnErr result (BeginsWith out.old.items out.new.items) }
 {
     put_bytes(out, format, background)?;

@@ -17,7 +17,8 @@
 //! rectangle is written to the output itself, whose room is made at once.
 #![tactic(auto)]
 
-ghost use Rattle.std.specs.Prelude.{◌≡◌, ℕ, ◌+◌, ◌*◌, ◌<◌, ◌≤◌, ◌^◌, ◌++◌, true, length, map, flat_map, slice_index, All, IfOk, MatchOption, OnOk, OnErr};
+ghost use Rattle.std.specs.Prelude.{◌≡◌, ℕ, ◌+◌, ◌*◌, ◌<◌, ◌≤◌, ◌^◌, ◌++◌, true, length, map, flat_map, slice_index, All, IfOk};
+ghost use Rattle.std.specs.Prelude.{MatchOption, OnOk, OnErr};
 ghost use Rattle.pixel_translate.specs.Pixel.{pixel, colour_bytes};
 ghost use Rattle.encode_raw.specs.Raw.{raw};
 ghost use Rattle.encode_rre.specs.Claims.{rre_reads_back};
@@ -150,7 +151,9 @@ fn coding_of(
     requires width { pixels.now.width ≡ area.w }
     requires height { pixels.now.height ≡ area.h }
     requires translated { values_in pixels.now ≡ map (pixel format.now) (values_in colours.now) }
-    ensures { IfOk result (λ found. MatchOption found (rre format.now area (values_in colours.now) ≡ raw format.now area (values_in colours.now)) (λ coding. IsCodingOf format.now area (values_in colours.now) coding.background coding.subs.items)) }
+    ensures { IfOk result (λ found. MatchOption found (rre format.now area (values_in colours.now) ≡
+        raw format.now area (values_in colours.now))
+        (λ coding. IsCodingOf format.now area (values_in colours.now) coding.background coding.subs.items)) }
 {
     let _ = colours.width;
     let pixel_len = format.bytes_per_pixel();

@@ -1,10 +1,12 @@
 //! The subrectangles of a rectangle, found row by row.
 
-ghost use Rattle.std.specs.Prelude.{◌≡◌, ℕ, ◌+◌, ◌*◌, ◌<◌, ◌≤◌, ◌^◌, ◌++◌, true, false, length, drop, slice_index, IfOk, IfSome, MatchOption, OnOk};
+ghost use Rattle.std.specs.Prelude.{◌≡◌, ℕ, ◌+◌, ◌*◌, ◌<◌, ◌≤◌, ◌^◌, ◌++◌, true, false, length, drop, slice_index, IfOk, IfSome};
+ghost use Rattle.std.specs.Prelude.{MatchOption, OnOk};
 ghost use Rattle.std.specs.List.{prefix_len};
 ghost use Rattle.encode_rre.specs.Starts.{AreRuns, Found};
 ghost use Rattle.encode_rre.specs.Lines.{lines_in};
-ghost use Rattle.encode_rre.specs.Subrectangles.{row_at, stretch, has_run, begins_run, begins_subrectangle, subrectangle_from, run_at, subrectangles_in, subrectangles};
+ghost use Rattle.encode_rre.specs.Subrectangles.{row_at, stretch, has_run, begins_run, begins_subrectangle, subrectangle_from};
+ghost use Rattle.encode_rre.specs.Subrectangles.{run_at, subrectangles_in, subrectangles};
 
 use crate::Subrectangle;
 use crate::lines::Lines;
@@ -155,7 +157,9 @@ pub fn subrectangle_at(
     requires run { w ≡ stretch (row_at (lines_in pixels.now) y) x }
     requires some { 0 < w }
     requires within { x + w ≤ pixels.now.width }
-    ensures found { MatchOption result (begins_subrectangle background (lines_in pixels.now) y x ≡ false) (λ sub. (begins_subrectangle background (lines_in pixels.now) y x ≡ true) × (sub ≡ subrectangle_from (lines_in pixels.now) y x)) }
+    ensures found { MatchOption result (begins_subrectangle background (lines_in pixels.now) y x ≡ false)
+        (λ sub. (begins_subrectangle background (lines_in pixels.now) y x ≡ true) ×
+        (sub ≡ subrectangle_from (lines_in pixels.now) y x)) }
     ensures within { IfSome result (λ sub. y + sub.h ≤ pixels.now.height) }
 {
     let run = Run {
@@ -263,7 +267,8 @@ pub(crate) fn subrectangles_within(
     background: u32,
     limit: usize,
 ) -> Result<Option<Vec<Subrectangle>>, AllocError>
-    ensures { IfOk result (λ found. MatchOption found (limit < length (subrectangles background (lines_in pixels.now))) (λ subs. subs.items ≡ subrectangles background (lines_in pixels.now))) }
+    ensures { IfOk result (λ found. MatchOption found (limit < length (subrectangles background (lines_in pixels.now)))
+        (λ subs. subs.items ≡ subrectangles background (lines_in pixels.now))) }
 {
     let mut starts = vec![in alloc; 0u16; pixels.width + 1]?;
     let mut subs = Vec::new(alloc);

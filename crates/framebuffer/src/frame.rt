@@ -1,6 +1,7 @@
 //! A framebuffer: a picture that is drawn in, with its size; and snapshots of its blocks.
 
-ghost use Rattle.std.specs.Prelude.{◌≡◌, ◌+◌, ◌*◌, ◌<◌, ◌≤◌, ◌↔◌, All, length, take, drop, slice_index, flat_map, IfOk, IfSome, IsSome, OnOk, OnErr, [], ◌∷◌, pos};
+ghost use Rattle.std.specs.Prelude.{◌≡◌, ◌+◌, ◌*◌, ◌<◌, ◌≤◌, ◌↔◌, All, length, take, drop, slice_index, flat_map, IfOk, IfSome};
+ghost use Rattle.std.specs.Prelude.{IsSome, OnOk, OnErr, [], ◌∷◌, pos};
 ghost use Rattle.region.specs.Region.{covers};
 ghost use Rattle.region.specs.Copies.{InOrder};
 ghost use Rattle.region.specs.Places.{IsOnScreen, source_rect};
@@ -126,7 +127,8 @@ impl Framebuffer {
         requires wide { block.left + block.columns ≤ self.old.width }
         requires high { block.top + block.rows ≤ self.old.height }
         ensures same { self.new ≡ self.old }
-        ensures taken { IfOk result (λ s. s ≡ record { width = block.columns; height = block.rows; colours = block_colours self.old.width block self.old.colours }) }
+        ensures taken { IfOk result (λ s. s ≡
+            record { width = block.columns; height = block.rows; colours = block_colours self.old.width block self.old.colours }) }
     {
         let rows = share_rows(self.alloc, &mut self.rows, block.top, block.rows)?;
         Ok(Snapshot {
@@ -143,7 +145,8 @@ impl Framebuffer {
         requires wide { block.left + block.columns ≤ self.old.width }
         requires high { block.top + block.rows ≤ self.old.height }
         requires whole { length colours.now ≡ block.rows * block.columns }
-        ensures ok { OnOk result (self.new ≡ record self.old { colours = written self.old.width self.old.height (rect_of block) colours.now self.old.colours }) }
+        ensures ok { OnOk result (self.new ≡
+            record self.old { colours = written self.old.width self.old.height (rect_of block) colours.now self.old.colours }) }
         ensures err { OnErr result (self.new ≡ self.old) }
     {
         if block.columns == self.width as usize && self.shares(block) {
@@ -168,7 +171,8 @@ impl Framebuffer {
         requires wide { block.columns ≡ self.old.width }
         requires high { block.top + block.rows ≤ self.old.height }
         requires whole { length colours.now ≡ block.rows * block.columns }
-        ensures ok { OnOk result (self.new ≡ record self.old { colours = written self.old.width self.old.height (rect_of block) colours.now self.old.colours }) }
+        ensures ok { OnOk result (self.new ≡
+            record self.old { colours = written self.old.width self.old.height (rect_of block) colours.now self.old.colours }) }
         ensures err { OnErr result (self.new ≡ self.old) }
     {
         make_room(self.alloc, &mut self.retired, block.top + block.rows)?;
@@ -183,7 +187,8 @@ impl Framebuffer {
         requires wide { block.left + block.columns ≤ self.old.width }
         requires high { block.top + block.rows ≤ self.old.height }
         requires whole { length colours.now ≡ block.rows * block.columns }
-        ensures ok { OnOk result (self.new ≡ record self.old { colours = written self.old.width self.old.height (rect_of block) colours.now self.old.colours }) }
+        ensures ok { OnOk result (self.new ≡
+            record self.old { colours = written self.old.width self.old.height (rect_of block) colours.now self.old.colours }) }
         ensures err { OnErr result (self.new ≡ self.old) }
     {
         make_room(self.alloc, &mut self.retired, block.top + block.rows)?;
@@ -204,7 +209,8 @@ impl Framebuffer {
     pub fn move_colours(&mut self, pieces: &[Rect], offset: (i32, i32)) -> Result<(), AllocError>
         requires inside { All (IsOnScreen self.old.width self.old.height) pieces.now }
         requires sources { All (λ r. IsOnScreen self.old.width self.old.height (source_rect offset r)) pieces.now }
-        ensures ok { OnOk result (self.new ≡ record self.old { colours = moved self.old.width self.old.height (covers pieces.now) offset self.old.colours }) }
+        ensures ok { OnOk result (self.new ≡
+            record self.old { colours = moved self.old.width self.old.height (covers pieces.now) offset self.old.colours }) }
         ensures err { OnErr result (self.new ≡ self.old) }
     {
         let rects = in_copy_order(self.alloc, pieces, offset)?;
@@ -221,7 +227,8 @@ impl Framebuffer {
         requires left { piece.x1 ≡ pos 0 }
         requires right { piece.x2 ≡ pos self.old.width }
         requires upright { offset.0 ≡ pos 0 }
-        ensures ok { OnOk result (self.new ≡ record self.old { colours = moved self.old.width self.old.height (covers (piece ∷ [])) offset self.old.colours }) }
+        ensures ok { OnOk result (self.new ≡
+            record self.old { colours = moved self.old.width self.old.height (covers (piece ∷ [])) offset self.old.colours }) }
         ensures err { OnErr result (self.new ≡ self.old) }
     {
         let to = block_within(piece, self.width, self.height);
@@ -234,7 +241,8 @@ impl Framebuffer {
     fn copy_rows(&mut self, from: usize, to: usize, count: usize) -> Result<(), AllocError>
         requires from { from + count ≤ self.old.height }
         requires to { to + count ≤ self.old.height }
-        ensures ok { OnOk result (self.new ≡ record self.old { colours = rows_copied self.old.width from to count self.old.colours }) }
+        ensures ok { OnOk result (self.new ≡
+            record self.old { colours = rows_copied self.old.width from to count self.old.colours }) }
         ensures err { OnErr result (self.new ≡ self.old) }
     {
         let rows = share_rows(self.alloc, &mut self.rows, from, count)?;
@@ -248,7 +256,8 @@ impl Framebuffer {
         requires inside { All (IsOnScreen self.old.width self.old.height) pieces.now }
         requires sources { All (λ r. IsOnScreen self.old.width self.old.height (source_rect offset r)) pieces.now }
         requires ordered { InOrder offset pieces.now }
-        ensures ok { OnOk result (self.new ≡ record self.old { colours = moved self.old.width self.old.height (covers pieces.now) offset self.old.colours }) }
+        ensures ok { OnOk result (self.new ≡
+            record self.old { colours = moved self.old.width self.old.height (covers pieces.now) offset self.old.colours }) }
         ensures err { OnErr result (self.new ≡ self.old) }
     {
         let mut buffer = vec![in self.alloc; 0u32; self.width as usize]?;

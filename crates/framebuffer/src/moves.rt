@@ -1,7 +1,9 @@
 //! Colours that move within a picture, all at once: one rectangle after the other, in an order in which none is moved over the
 //! source of a later one, and each row by row, from the side to which its colours move.
 
-ghost use Rattle.std.specs.Prelude.{◌≡◌, ℕ, ℤ, ◌+◌, ◌-◌, ◌*◌, ◌<◌, ◌≤◌, ◌≤ℤ◌, ◌<ℤ◌, ◌-ℤ◌, ◌==◌, [], ◌∷◌, All, length, map, get_or, pos, nat_abs, slice_index, false, true, if◌then◌else◌, nat_le, nat_lt, ◌&&◌, ◌||◌, IfOk, IfSome};
+ghost use Rattle.std.specs.Prelude.{◌≡◌, ℕ, ℤ, ◌+◌, ◌-◌, ◌*◌, ◌<◌, ◌≤◌, ◌≤ℤ◌, ◌<ℤ◌, ◌-ℤ◌, ◌==◌, [], ◌∷◌, All, length, map, get_or};
+ghost use Rattle.std.specs.Prelude.{pos, nat_abs, slice_index, false, true, if◌then◌else◌, nat_le, nat_lt, ◌&&◌, ◌||◌, IfOk};
+ghost use Rattle.std.specs.Prelude.{IfSome};
 ghost use Rattle.region.specs.Region.{covers};
 ghost use Rattle.region.specs.Copies.{InOrder};
 ghost use Rattle.region.specs.Places.{IsOnScreen, source_rect};
@@ -22,7 +24,8 @@ pub fn in_copy_order(
     requires { All (IsOnScreen 8192 8192) pieces.now }
     ensures places { IfOk result (λ rects. (x y : ℤ) → covers rects.items x y ≡ covers pieces.now x y) }
     ensures inside { IfOk result (λ rects. (w h : ℕ) → All (IsOnScreen w h) pieces.now → All (IsOnScreen w h) rects.items) }
-    ensures sources { IfOk result (λ rects. (w h : ℕ) → All (λ r. IsOnScreen w h (source_rect offset r)) pieces.now → All (λ r. IsOnScreen w h (source_rect offset r)) rects.items) }
+    ensures sources { IfOk result (λ rects. (w h : ℕ) → All (λ r. IsOnScreen w h (source_rect offset r)) pieces.now →
+        All (λ r. IsOnScreen w h (source_rect offset r)) rects.items) }
     ensures ordered { IfOk result (λ rects. InOrder offset rects.items) }
 {
     let region = Region::from_rects_in_range(alloc, pieces)?;
@@ -126,7 +129,10 @@ fn copy_places(
     requires buffer { count ≤ length buffer.old }
     ensures wide { All (IsOfWidth width) rows.new }
     ensures own { StayOwn rows.old rows.new }
-    ensures colours { (k : ℕ) → slice_index (colours_of_rows rows.new) k ≡ (if nat_le (to.row * width + to.column) k && nat_lt k (to.row * width + to.column + count) then slice_index (colours_of_rows rows.old) (from.row * width + from.column + (k - (to.row * width + to.column))) else slice_index (colours_of_rows rows.old) k) }
+    ensures colours { (k : ℕ) → slice_index (colours_of_rows rows.new) k ≡
+        (if nat_le (to.row * width + to.column) k &&
+        nat_lt k (to.row * width + to.column + count) then slice_index (colours_of_rows rows.old)
+        (from.row * width + from.column + (k - (to.row * width + to.column))) else slice_index (colours_of_rows rows.old) k) }
 {
     let part = &mut buffer[..count];
     let source = colours_of(&rows[from.row]);
@@ -156,7 +162,9 @@ fn move_row(
     requires bottom { pos y <ℤ piece.y2 }
     ensures wide { All (IsOfWidth width) rows.new }
     ensures own { StayOwn rows.old rows.new }
-    ensures colours { (k x : ℕ) → k < height → x < width → slice_index (colours_of_rows rows.new) (k * width + x) ≡ colour_moved width height (piece ∷ []) offset (λ row. row == y) (colours_of_rows rows.old) k x }
+    ensures colours { (k x : ℕ) → k < height → x < width →
+        slice_index (colours_of_rows rows.new) (k * width + x) ≡
+        colour_moved width height (piece ∷ []) offset (λ row. row == y) (colours_of_rows rows.old) k x }
 {
     let columns = (piece.x2 - piece.x1) as usize;
     let from = place_at(piece.x1 - offset.0, y as i32 - offset.1);
@@ -182,7 +190,8 @@ fn rows_of(piece: Rect, height: u32, down: bool) -> (u32, u32)
     requires bottom { piece.y2 ≤ℤ pos height }
     requires rows { height ≤ 8192 }
     ensures none { (k : ℕ) → k < height → between piece.y1 (pos k) piece.y2 ≡ true → is_among down height result.0 k ≡ false }
-    ensures all { (n k : ℕ) → result.1 ≤ n → k < height → between piece.y1 (pos k) piece.y2 ≡ true → is_among down height n k ≡ true }
+    ensures all { (n k : ℕ) → result.1 ≤ n → k < height → between piece.y1 (pos k) piece.y2 ≡ true →
+        is_among down height n k ≡ true }
     ensures from { (n : ℕ) → result.0 ≤ n → n < result.1 → piece.y1 ≤ℤ pos (row_number down height n) }
     ensures to { (n : ℕ) → result.0 ≤ n → n < result.1 → pos (row_number down height n) <ℤ piece.y2 }
     ensures bound { result.1 ≤ height }
@@ -214,7 +223,9 @@ fn move_piece(
     requires source { IsOnScreen width height (source_rect offset piece) }
     ensures wide { All (IsOfWidth width) rows.new }
     ensures own { StayOwn rows.old rows.new }
-    ensures colours { (k x : ℕ) → k < height → x < width → slice_index (colours_of_rows rows.new) (k * width + x) ≡ colour_moved width height (piece ∷ []) offset (λ row. true) (colours_of_rows rows.old) k x }
+    ensures colours { (k x : ℕ) → k < height → x < width →
+        slice_index (colours_of_rows rows.new) (k * width + x) ≡
+        colour_moved width height (piece ∷ []) offset (λ row. true) (colours_of_rows rows.old) k x }
 {
     let down = offset.1 > 0;
     let (first, end) = rows_of(piece, height, down);
@@ -246,7 +257,9 @@ pub fn move_pieces(
     requires sources { All (λ r. IsOnScreen width height (source_rect offset r)) pieces.now }
     requires ordered { InOrder offset pieces.now }
     ensures wide { All (IsOfWidth width) rows.new }
-    ensures colours { (k x : ℕ) → k < height → x < width → slice_index (colours_of_rows rows.new) (k * width + x) ≡ colour_moved width height pieces.now offset (λ row. true) (colours_of_rows rows.old) k x }
+    ensures colours { (k x : ℕ) → k < height → x < width →
+        slice_index (colours_of_rows rows.new) (k * width + x) ≡
+        colour_moved width height pieces.now offset (λ row. true) (colours_of_rows rows.old) k x }
 {
     for piece in pieces {
         move_piece(rows, width, height, *piece, offset, buffer);

@@ -1,9 +1,11 @@
 //! Rows of a picture's colours: each is held by the picture alone, or shared with snapshots until it is drawn over.
 
-ghost use Rattle.std.specs.Prelude.{◌≡◌, ℕ, ◌+◌, ◌*◌, ◌%◌, ◌^◌, ◌<◌, ◌≤◌, ◌++◌, All, length, map, flat_map, take, drop, slice_index, replicate, true, IfOk, IfErr, IfSome};
+ghost use Rattle.std.specs.Prelude.{◌≡◌, ℕ, ◌+◌, ◌*◌, ◌%◌, ◌^◌, ◌<◌, ◌≤◌, ◌++◌, All, length, map, flat_map, take, drop};
+ghost use Rattle.std.specs.Prelude.{slice_index, replicate, true, IfOk, IfErr, IfSome};
 ghost use Rattle.framebuffer.specs.Picture.{blank};
 ghost use Rattle.framebuffer.specs.Blocks.{colour_written};
-ghost use Rattle.framebuffer.specs.Rows.{row_colours, shared_colours, colours_of_rows, parts_of_rows, is_own, IsOfWidth, AreOwn, StayOwn, row_written};
+ghost use Rattle.framebuffer.specs.Rows.{row_colours, shared_colours, colours_of_rows, parts_of_rows, is_own, IsOfWidth, AreOwn};
+ghost use Rattle.framebuffer.specs.Rows.{StayOwn, row_written};
 
 use crate::blocks::Block;
 use std::alloc::{AllocError, AllocFailed, Global};
@@ -183,7 +185,8 @@ pub fn copy_in_row(row: &mut Row, left: usize, colours: &[u32])
     requires own { is_own row.old ≡ true }
     requires fits { left + length colours.now ≤ length (row_colours row.old) }
     ensures own { is_own row.new ≡ true }
-    ensures colours { row_colours row.new ≡ take left (row_colours row.old) ++ (colours.now ++ drop (left + length colours.now) (row_colours row.old)) }
+    ensures colours { row_colours row.new ≡
+        take left (row_colours row.old) ++ (colours.now ++ drop (left + length colours.now) (row_colours row.old)) }
 {
     match row {
         Row::Own(places) => places[left..left + colours.len()].copy_from_slice(colours),
@@ -219,7 +222,9 @@ pub fn write_rows(rows: &mut [Row], width: usize, block: Block, colours: &[u32])
     requires own { AreOwn block.top (block.top + block.rows) rows.old }
     requires whole { length colours.now ≡ block.rows * block.columns }
     ensures rows { All (IsOfWidth width) rows.new }
-    ensures colours { (y x : ℕ) → x < width → slice_index (colours_of_rows rows.new) (y * width + x) ≡ colour_written width block colours.now (colours_of_rows rows.old) y x }
+    ensures colours { (y x : ℕ) → x < width →
+        slice_index (colours_of_rows rows.new) (y * width + x) ≡
+        colour_written width block colours.now (colours_of_rows rows.old) y x }
 {
     for i in 0..block.rows {
         let from = i * block.columns;

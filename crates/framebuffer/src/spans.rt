@@ -54,7 +54,8 @@ fn span_of(start: i64, end: i64) -> Span
 /// Of the numbers from `from` to below `to`, those that are from 0 to below `limit`, and so when they are `by` less.
 fn kept_span(from: i32, to: i32, by: i32, limit: u32) -> Span
     requires { limit ≤ 8192 }
-    ensures same { (x : ℤ) → between result.from x result.to ≡ (between from x to && between (pos 0) x (pos limit) && between (pos 0) (x -ℤ by) (pos limit)) }
+    ensures same { (x : ℤ) → between result.from x result.to ≡
+        (between from x to && between (pos 0) x (pos limit) && between (pos 0) (x -ℤ by) (pos limit)) }
     ensures low { result.from <ℤ result.to → pos 0 ≤ℤ result.from }
     ensures high { result.from <ℤ result.to → result.to ≤ℤ pos limit }
     ensures source_low { result.from <ℤ result.to → by ≤ℤ result.from }
@@ -71,7 +72,8 @@ fn kept_span(from: i32, to: i32, by: i32, limit: u32) -> Span
 fn destination(rect: Rect, dx: i32, dy: i32, width: u32, height: u32) -> Rect
     requires width { width ≤ 8192 }
     requires height { height ≤ 8192 }
-    ensures places { (x y : ℤ) → in_rect result x y ≡ (in_rect rect x y && on_screen width height x y && on_screen width height (x -ℤ dx) (y -ℤ dy)) }
+    ensures places { (x y : ℤ) → in_rect result x y ≡
+        (in_rect rect x y && on_screen width height x y && on_screen width height (x -ℤ dx) (y -ℤ dy)) }
     ensures inside { result.x1 <ℤ result.x2 → result.y1 <ℤ result.y2 → IsOnScreen width height result }
     ensures source { result.x1 <ℤ result.x2 → result.y1 <ℤ result.y2 → IsOnScreen width height (source_rect (dx, dy) result) }
 {
@@ -107,7 +109,8 @@ fn has_places(rect: &Rect) -> bool
 
 /// Appends a rectangle if it has places.
 fn push_piece(pieces: &mut Vec<Rect>, piece: Rect) -> Result<(), AllocError>
-    ensures { OnOk result (pieces.new.items ≡ pieces.old.items ++ one_if (int_lt piece.x1 piece.x2 && int_lt piece.y1 piece.y2) piece) }
+    ensures { OnOk result (pieces.new.items ≡
+        pieces.old.items ++ one_if (int_lt piece.x1 piece.x2 && int_lt piece.y1 piece.y2) piece) }
 {
     if has_places(&piece) {
         pieces.push(piece)?;

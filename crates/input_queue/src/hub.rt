@@ -1,5 +1,6 @@
 //! The queue's ends.
-ghost use Rattle.std.specs.Prelude.{◌≡◌, ◌≤◌, ◌<◌, ◌+◌, ◌-◌, ◌^◌, [], ◌++◌, ◌∷◌, ℕ, List, length, map, All, min, IfOk, MatchResult, MatchOption, IsOkUnless, nat_le, ◌&&◌, MatchBool};
+ghost use Rattle.std.specs.Prelude.{◌≡◌, ◌≤◌, ◌<◌, ◌+◌, ◌-◌, ◌^◌, [], ◌++◌, ◌∷◌, ℕ, List, length, map, All, min, IfOk, MatchResult};
+ghost use Rattle.std.specs.Prelude.{MatchOption, IsOkUnless, nat_le, ◌&&◌, MatchBool};
 ghost use Rattle.input_queue.specs.Ends.{Putting, of_viewer, ViewersApart, HeldBeside, AllTaken, note_of};
 ghost use Rattle.input_queue.specs.declared.Told.{Told};
 ghost use Rattle.crossbeam_queue.specs.Passes.{view as known, IsPassOf};
@@ -40,7 +41,8 @@ impl Model for InputHub {
 
     ghost view = { λ a. record { queue = a.queue.table.shared.table_id; capacity = ruled_capacity a.queue; seats = a.seats } };
 
-    ghost invariant = { λ a. IsPassOf a.queue a.pass × (known a.pass ≡ hub (known a.pass).number) × (a.seats < 2 ^ 64 - 1 → (known a.pass).number ≡ a.seats) };
+    ghost invariant = { λ a. IsPassOf a.queue a.pass × (known a.pass ≡ hub (known a.pass).number) ×
+        (a.seats < 2 ^ 64 - 1 → (known a.pass).number ≡ a.seats) };
 }
 
 /// The end that takes. Contracts see what it took.
@@ -77,16 +79,24 @@ impl Model for InputSeat {
 
     ghost Value = { Putting };
 
-    ghost view = { λ a. record { queue = a.pass.table_id; number = (known a.pass).number; viewer = a.viewer; accepted = (known a.pass).accepted } };
+    ghost view = { λ a. record {
+      queue = a.pass.table_id;
+      number = (known a.pass).number;
+      viewer = a.viewer;
+      accepted =
+          (known a.pass).accepted;
+    } };
 
-    ghost invariant = { λ a. (a.pass.me.1 ≡ []) × (known a.pass ≡ seat (known a.pass).number (known a.pass).accepted) × All (λ t. t.viewer ≡ a.viewer) (known a.pass).accepted };
+    ghost invariant = { λ a. (a.pass.me.1 ≡ []) × (known a.pass ≡ seat (known a.pass).number (known a.pass).accepted) ×
+        All (λ t. t.viewer ≡ a.viewer) (known a.pass).accepted };
 }
 
 impl InputHub {
     /// An empty queue that can hold so many inputs, with its taker. `BadCapacity` unless these are 1 to
     /// 65,536. All room is made here.
     pub fn new(alloc: Global, capacity: usize) -> Result<(InputHub, Taker), QueueError>
-        ensures refused { MatchBool (nat_le 1 capacity && nat_le capacity 65536) (IsOkUnless result QueueError.OutOfMemory) (result ≡ Err QueueError.BadCapacity) }
+        ensures refused { MatchBool (nat_le 1 capacity && nat_le capacity 65536) (IsOkUnless result QueueError.OutOfMemory)
+            (result ≡ Err QueueError.BadCapacity) }
         ensures hub { IfOk result (λ made. (made.0.capacity ≡ capacity) × (made.0.seats ≡ 0)) }
         ensures taker { IfOk result (λ made. (made.1.queue ≡ made.0.queue) × (made.1.taken ≡ [])) }
     {
@@ -123,9 +133,11 @@ impl InputHub {
     /// queue held as many as it can at that step. After 2^62 accepted inputs this waits for ever.
     pub fn put<R: Wait>(&self, rt: &R, seat: &mut InputSeat, input: Input) -> Result<(), Full>
         requires { seat.old.queue ≡ self.now.queue }
-        ensures accepted { IfOk result (λ _. seat.new ≡ record seat.old { accepted = seat.old.accepted ++ record { viewer = seat.old.viewer; input = input } ∷ [] }) }
+        ensures accepted { IfOk result (λ _. seat.new ≡
+            record seat.old { accepted = seat.old.accepted ++ record { viewer = seat.old.viewer; input = input } ∷ [] }) }
         ensures back { MatchResult result (λ _. Unit {0}) (λ full. (full.0 ≡ input) × (seat.new ≡ seat.old)) }
-        ensures full { MatchResult result (λ _. Unit {0}) (λ _. (items : List Told) × (length items ≡ self.now.capacity) × HeldBeside seat.old.number seat.old.accepted items) }
+        ensures full { MatchResult result (λ _. Unit {0}) (λ _. (items : List Told) × (length items ≡ self.now.capacity) ×
+            HeldBeside seat.old.number seat.old.accepted items) }
     {
         let told = Told {
             viewer: seat.viewer,
@@ -143,7 +155,8 @@ impl InputHub {
     /// Takes the input in front. None where the queue was empty at some moment of the call.
     pub fn take<R: Wait>(&self, rt: &R, taker: &mut Taker) -> Option<Told>
         requires { taker.old.queue ≡ self.now.queue }
-        ensures { MatchOption result ((taker.new ≡ taker.old) × AllTaken taker.old.taken) (λ told. taker.new ≡ record taker.old { taken = taker.old.taken ++ told ∷ [] }) }
+        ensures { MatchOption result ((taker.new ≡ taker.old) ×
+            AllTaken taker.old.taken) (λ told. taker.new ≡ record taker.old { taken = taker.old.taken ++ told ∷ [] }) }
     {
         self.queue.pop_as::<Takes, R>(rt, &mut taker.pass)
     }
@@ -152,7 +165,8 @@ impl InputHub {
     /// was empty at some moment after that.
     pub fn take_wait<R: Wait>(&self, rt: &R, taker: &mut Taker) -> Option<Told>
         requires { taker.old.queue ≡ self.now.queue }
-        ensures { MatchOption result ((taker.new ≡ taker.old) × AllTaken taker.old.taken) (λ told. taker.new ≡ record taker.old { taken = taker.old.taken ++ told ∷ [] }) }
+        ensures { MatchOption result ((taker.new ≡ taker.old) ×
+            AllTaken taker.old.taken) (λ told. taker.new ≡ record taker.old { taken = taker.old.taken ++ told ∷ [] }) }
     {
         for _ in rt.forever() {
             let is_closed = self.is_closed.load(Ordering::SeqCst);
@@ -184,7 +198,8 @@ impl InputHub {
     ) -> Result<Left, AllocError>
         requires taker { taker.queue ≡ self.queue }
         requires seats { All (λ s. s.queue ≡ self.queue) seats.items }
-        ensures { IfOk result (λ left. length seats.items ≡ self.seats → self.seats < 2 ^ 64 - 1 → ViewersApart seats.items → All (λ s. of_viewer s.viewer (taker.taken ++ left.items) ≡ s.accepted) seats.items) }
+        ensures { IfOk result (λ left. length seats.items ≡ self.seats → self.seats < 2 ^ 64 - 1 → ViewersApart seats.items →
+            All (λ s. of_viewer s.viewer (taker.taken ++ left.items) ≡ s.accepted) seats.items) }
     {
         let InputHub {
             alloc,
@@ -237,7 +252,8 @@ fn take_all<R: Wait>(
     requires queue { IsPassOf queue.now taking.old }
     requires taker { known taking.old ≡ taker (known taking.old).taken (known taking.old).noted }
     ensures queue { IsPassOf queue.now taking.new }
-    ensures taken { IfOk result (λ items. known taking.new ≡ taker ((known taking.old).taken ++ items.items) (known taking.old).noted) }
+    ensures taken { IfOk result (λ items. known taking.new ≡
+        taker ((known taking.old).taken ++ items.items) (known taking.old).noted) }
     ensures empty { IfOk result (λ _. Held 0 (Reached (known taking.new))) }
 {
     let mut items = Vec::new(alloc);

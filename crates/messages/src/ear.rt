@@ -92,7 +92,8 @@ fn keep_on(alloc: Global, piece: &[u8]) -> Result<Prepared, AllocError>
 fn read_on(alloc: Global, phase: Phase, held: &Held, piece: &[u8]) -> Result<Prepared, AllocError>
     requires { IsShort phase (unfinished_held held.now) }
     ensures { let told = tells (rest_held phase held.now) piece.now in
-        IfOk result (λ p. p ≡ record { heard = record { items = told.items; fault = fault_kept told.rest }; change = becomes told.rest }) }
+        IfOk result (λ p. p ≡ record
+        { heard = record { items = told.items; fault = fault_kept told.rest }; change = becomes told.rest }) }
 {
     let Reading { phase, held, items } = hear(alloc, phase, held, piece)?;
     let fault = held.fault();
@@ -158,7 +159,8 @@ impl Ear {
     /// An error is want of memory. What is kept of a text that the piece doesn't end is not copied.
     pub fn prepare(&self, piece: &[u8]) -> Result<Prepared, AllocError>
         ensures items { (s : List ℕ) → self.now ≡ rest s → IfOk result (λ p. p.heard.items ≡ new_items s piece.now) }
-        ensures fault { (s : List ℕ) → self.now ≡ rest s → IfOk result (λ p. p.heard.fault ≡ fault_of (heard (s ++ piece.now)).end) }
+        ensures fault { (s : List ℕ) → self.now ≡ rest s →
+            IfOk result (λ p. p.heard.fault ≡ fault_of (heard (s ++ piece.now)).end) }
         ensures rest { (s : List ℕ) → self.now ≡ rest s → IfOk result (λ p. advanced self.now p.change ≡ rest (s ++ piece.now)) }
         ensures faulted { IfSome (fault_kept self.now) (λ fault. IfOk result (λ p.
             (p.heard.items ≡ []) × (p.heard.fault ≡ Some fault) × (advanced self.now p.change ≡ self.now))) }

@@ -6,7 +6,8 @@ ghost use Rattle.pixel_translate.specs.Pixel.{format_of};
 ghost use Rattle.messages.specs.declared.Phase.TheVariants as phase;
 ghost use Rattle.messages.specs.Grammar.{version_of};
 ghost use Rattle.messages.specs.Reading.{meaning, is_version, format_meaning, request_in, key_in, pointer_in};
-ghost use Rattle.messages.specs.Steps.{has_form, front_length, head_length, head_of, head_meaning, encodings_head, text_head, message_head};
+ghost use Rattle.messages.specs.Steps.{has_form, front_length, head_length, head_of, head_meaning, encodings_head, text_head};
+ghost use Rattle.messages.specs.Steps.{message_head};
 
 use crate::numbers::{be16_at, be32_at};
 use crate::{Encoding, Fault, Input, Item, Phase, Version};

@@ -67,7 +67,8 @@ impl Numbers {
     /// Takes a number.
     fn put(&mut self, number: i32)
         requires { self.old.come < self.old.count }
-        ensures { unfinished_numbers self.new ≡ encodings self.old.count (self.old.come + 1) (with_number (given_by self.old) number) [] }
+        ensures { unfinished_numbers self.new ≡
+            encodings self.old.count (self.old.come + 1) (with_number (given_by self.old) number) [] }
     {
         self.come += 1;
         self.first = self.first.or(encoding_named(number));
@@ -81,9 +82,12 @@ impl Numbers {
         requires more { self.old.come < self.old.count }
         requires short { length self.old.next.items < 4 }
         ensures none { IfNone result ((length (self.old.next.items ++ piece.now) < 4)
-            × (unfinished_numbers self.new ≡ encodings self.old.count self.old.come (given_by self.old) (self.old.next.items ++ piece.now))) }
+            × (unfinished_numbers self.new ≡
+            encodings self.old.count self.old.come (given_by self.old) (self.old.next.items ++ piece.now))) }
         ensures some { IfSome result (λ used. (used + length self.old.next.items ≡ 4) × (used ≤ length piece.now)
-            × (0 < used) × (unfinished_numbers self.new ≡ encodings self.old.count (self.old.come + 1) (with_number (given_by self.old) (number_in (self.old.next.items ++ take used piece.now))) [])) }
+            × (0 < used) × (unfinished_numbers self.new ≡
+            encodings self.old.count (self.old.come + 1)
+            (with_number (given_by self.old) (number_in (self.old.next.items ++ take used piece.now))) [])) }
     {
         let missing = 4 - self.next.len();
         if piece.len() < missing {

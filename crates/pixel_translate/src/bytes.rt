@@ -70,7 +70,8 @@ fn write_8<F: Fn(u32) -> u32>(places: &mut [u8], values: &[u32], format: &PixelF
 fn write_16_little<F: Fn(u32) -> u32>(places: &mut [u8], values: &[u32], pixel_of: F)
     requires callable { F.IsAlwaysCallable pixel_of }
     requires room { length places.old ≡ 2 * length values.now }
-    ensures { (number : ℕ → ℕ) → Gives (F.post pixel_of) number → places.new ≡ flat_map (λ value. to_le_bytes w16 (number value)) values.now }
+    ensures { (number : ℕ → ℕ) → Gives (F.post pixel_of) number →
+        places.new ≡ flat_map (λ value. to_le_bytes w16 (number value)) values.now }
 {
     for i in 0..values.len() {
         let [_, _, b1, b0] = pixel_of(values[i]).to_be_bytes();
@@ -82,7 +83,8 @@ fn write_16_little<F: Fn(u32) -> u32>(places: &mut [u8], values: &[u32], pixel_o
 fn write_16_big<F: Fn(u32) -> u32>(places: &mut [u8], values: &[u32], pixel_of: F)
     requires callable { F.IsAlwaysCallable pixel_of }
     requires room { length places.old ≡ 2 * length values.now }
-    ensures { (number : ℕ → ℕ) → Gives (F.post pixel_of) number → places.new ≡ flat_map (λ value. to_be_bytes w16 (number value)) values.now }
+    ensures { (number : ℕ → ℕ) → Gives (F.post pixel_of) number →
+        places.new ≡ flat_map (λ value. to_be_bytes w16 (number value)) values.now }
 {
     for i in 0..values.len() {
         let [_, _, b1, b0] = pixel_of(values[i]).to_be_bytes();
@@ -108,7 +110,8 @@ fn write_16<F: Fn(u32) -> u32>(places: &mut [u8], values: &[u32], format: &Pixel
 fn write_32_little<F: Fn(u32) -> u32>(places: &mut [u8], values: &[u32], pixel_of: F)
     requires callable { F.IsAlwaysCallable pixel_of }
     requires room { length places.old ≡ 4 * length values.now }
-    ensures { (number : ℕ → ℕ) → Gives (F.post pixel_of) number → places.new ≡ flat_map (λ value. to_le_bytes w32 (number value)) values.now }
+    ensures { (number : ℕ → ℕ) → Gives (F.post pixel_of) number →
+        places.new ≡ flat_map (λ value. to_le_bytes w32 (number value)) values.now }
 {
     for i in 0..values.len() {
         places[4 * i..4 * i + 4].copy_from_slice(&pixel_of(values[i]).to_le_bytes());
@@ -119,7 +122,8 @@ fn write_32_little<F: Fn(u32) -> u32>(places: &mut [u8], values: &[u32], pixel_o
 fn write_32_big<F: Fn(u32) -> u32>(places: &mut [u8], values: &[u32], pixel_of: F)
     requires callable { F.IsAlwaysCallable pixel_of }
     requires room { length places.old ≡ 4 * length values.now }
-    ensures { (number : ℕ → ℕ) → Gives (F.post pixel_of) number → places.new ≡ flat_map (λ value. to_be_bytes w32 (number value)) values.now }
+    ensures { (number : ℕ → ℕ) → Gives (F.post pixel_of) number →
+        places.new ≡ flat_map (λ value. to_be_bytes w32 (number value)) values.now }
 {
     for i in 0..values.len() {
         places[4 * i..4 * i + 4].copy_from_slice(&pixel_of(values[i]).to_be_bytes());

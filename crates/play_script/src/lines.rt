@@ -1,7 +1,9 @@
 ghost use Rattle.std.specs.Prelude.{◌≡◌, ◌+◌, ◌∷◌, [], ◌≤◌, ◌^◌, length, IfOk, option_map, ◌<◌, ◌==◌, if◌then◌else◌};
 ghost use Rattle.scene.specs.declared.Config.{Config};
 ghost use Rattle.play_script.specs.Words.{words_of};
-ghost use Rattle.play_script.specs.Lines.{is_skipped, verb_of, name_of, limit_of, config_of, places_by, places_of, spread, only_viewer, started_by, done_by, pixels_of, paint_of, write_of, corners_of, mark_of, move_of, schedule_of, copy_of, bell_of, text_of, hear_of, line_of};
+ghost use Rattle.play_script.specs.Lines.{is_skipped, verb_of, name_of, limit_of, config_of, places_by, places_of, spread};
+ghost use Rattle.play_script.specs.Lines.{only_viewer, started_by, done_by, pixels_of, paint_of, write_of, corners_of, mark_of};
+ghost use Rattle.play_script.specs.Lines.{move_of, schedule_of, copy_of, bell_of, text_of, hear_of, line_of};
 
 use crate::hex::{hex_bytes, hex_colours};
 use crate::words::{NUMBER_LIMIT, number, signed, viewer_number, word, word_count};
@@ -123,7 +125,14 @@ fn limit_of(line: &[u8]) -> Option<u32>
 
 #[tactic(auto, unfolding(crate::specs::Lines::config_of))]
 fn asked_of(line: &[u8]) -> Option<Asked<'_>>
-    ensures { option_map (λ asked. record { width = asked.width; height = asked.height; name = asked.name.now; rects_per_update = asked.rects_per_update; history = History.NotKept }) result ≡ config_of (words_of line.now) }
+    ensures { option_map (λ asked. record {
+      width = asked.width;
+      height = asked.height;
+      name = asked.name.now;
+      rects_per_update = asked.rects_per_update;
+      history =
+          History.NotKept;
+    }) result ≡ config_of (words_of line.now) }
 {
     let rects_per_update = limit_of(line)?;
     let width = number(word(line, 1))?;

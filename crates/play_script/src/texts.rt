@@ -1,6 +1,7 @@
 ghost use Rattle.std.specs.Prelude.{◌≡◌, ◌++◌, ◌<◌, IfOk, OnOk, flat_map, codes};
 ghost use Rattle.std.specs.Fmt.{decimal};
-ghost use Rattle.play_script.specs.Texts.{hex_digit, hex, hex_word, flag, refusal_name, refused, fault_name, unknown_type, type_named, closed, input_line, bytes_line, ok, answered, text_of, bad_line};
+ghost use Rattle.play_script.specs.Texts.{hex_digit, hex, hex_word, flag, refusal_name, refused, fault_name, unknown_type};
+ghost use Rattle.play_script.specs.Texts.{type_named, closed, input_line, bytes_line, ok, answered, text_of, bad_line};
 
 use messages::{Fault, Input};
 use screen::{Answer, Event, ScreenError};

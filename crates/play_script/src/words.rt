@@ -1,7 +1,8 @@
 ghost use Rattle.std.specs.Prelude.{◌≡◌, ◌==◌, position, ℕ, ◌<◌, ◌∷◌, [], length, IfSome, SomeIff, ◌+◌, ◌*◌, ◌^◌};
 ghost use Rattle.std.specs.Char.{digit_value};
 ghost use Rattle.std.specs.Option.{option_map_or};
-ghost use Rattle.play_script.specs.Words.{parts, lines_of, words_of, word as word_of, number_up_to, number as number_of, signed as signed_of, viewer_number as viewer_number_of};
+ghost use Rattle.play_script.specs.Words.{parts, lines_of, words_of, word as word_of, number_up_to, number as number_of};
+ghost use Rattle.play_script.specs.Words.{signed as signed_of, viewer_number as viewer_number_of};
 
 use crate::hex::{are_digits, digit_value};
 

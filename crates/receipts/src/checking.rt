@@ -29,7 +29,8 @@ pub fn check(
     requires { config_refusal config.now ≡ None }
     ensures checked { Gives result (checked config.now history.now drawn.now receipts.now) }
     ensures report { IfOk result (λ report. IsReportOf config.now history.now drawn.now receipts.now report) }
-    ensures refusal { IfErr result (λ e. IsRefusedFor config.now history.now drawn.now receipts.now e ⊎ (e ≡ FinishError.OutOfMemory)) }
+    ensures refusal { IfErr result (λ e. IsRefusedFor config.now history.now drawn.now receipts.now e ⊎
+        (e ≡ FinishError.OutOfMemory)) }
 {
     reports_are_true();
     refusals_are_true();

@@ -60,7 +60,8 @@ fn stay(from: i32, to: i32, by: i32) -> bool
 
 // Whether all sides of a rectangle are coordinates, moved.
 fn sides_stay(rows: Rows, columns: Interval, by: Offset) -> bool
-    ensures { result ≡ ((coordinate (rows.top +ℤ by.dy) && coordinate (rows.bottom +ℤ by.dy)) && (coordinate (columns.from +ℤ by.dx) && coordinate (columns.to +ℤ by.dx))) }
+    ensures { result ≡ ((coordinate (rows.top +ℤ by.dy) && coordinate (rows.bottom +ℤ by.dy)) &&
+        (coordinate (columns.from +ℤ by.dx) && coordinate (columns.to +ℤ by.dx))) }
 {
     stay(rows.top, rows.bottom, by.dy) && stay(columns.from, columns.to, by.dx)
 }

@@ -1,6 +1,7 @@
 //! Rectangles that stand as a canonical list stands, made into bands in one pass.
 
-ghost use Rattle.std.specs.Prelude.{◌≡◌, ◌≢◌, ◌≤◌, ◌+◌, ◌*◌, ◌∷◌, ◌++◌, ◌&&◌, ◌||◌, [], List, true, false, length, ℤ, ◌<ℤ◌, int_lt, int_le, IfOk, IfSome};
+ghost use Rattle.std.specs.Prelude.{◌≡◌, ◌≢◌, ◌≤◌, ◌+◌, ◌*◌, ◌∷◌, ◌++◌, ◌&&◌, ◌||◌, [], List, true, false, length, ℤ, ◌<ℤ◌, int_lt};
+ghost use Rattle.std.specs.Prelude.{int_le, IfOk, IfSome};
 ghost use Rattle.std.specs.Ordering.{int_eq};
 ghost use Rattle.region.specs.Region.{in_rect};
 ghost use Rattle.band_list.specs.Bands.{Band, nothing};
@@ -81,7 +82,8 @@ fn touches_last(bands: &BandList, rows: Rows) -> bool
 // Whether the row in the making would have to be joined with the last band above the gap: they touch, and have the same
 // intervals.
 fn goes_on_last(bands: &BandList, rows: Rows) -> bool
-    ensures { result ≡ false → (front : List Band) (last : Band) → bands.now.above ≡ front ++ last ∷ [] → last.bottom ≡ rows.top → last.row ≢ bands.now.row }
+    ensures { result ≡ false → (front : List Band) (last : Band) → bands.now.above ≡ front ++ last ∷ [] → last.bottom ≡ rows.top →
+        last.row ≢ bands.now.row }
 {
     touches_last(bands, rows) && bands.row_is_as_last()
 }

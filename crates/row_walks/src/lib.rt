@@ -83,7 +83,8 @@ pub fn make_row(bands: &mut BandList, other: &mut Reader, keep: Keep)
 
 // Puts the interval that was open behind the row in the making, if one was, and makes the room for it.
 fn close_anew(bands: &mut BandList, is_open: bool, interval: Interval) -> Result<(), AllocError>
-    ensures ok { OnOk result (bands.new ≡ record bands.old { row = closed is_open interval bands.old.row; spare = bands.new.spare }) }
+    ensures ok { OnOk result (bands.new ≡
+        record bands.old { row = closed is_open interval bands.old.row; spare = bands.new.spare }) }
     ensures err { OnErr result (bands.new ≡ record bands.old { spare = bands.new.spare }) }
 {
     if is_open {
@@ -171,8 +172,12 @@ pub fn same_kept(
     requires second_row { IsRow second.old.left }
     requires third_row { IsRow third.old.left }
     requires fourth_row { IsRow fourth.old.left }
-    ensures yes { result ≡ true → (x : ℤ) → kept keep (row_has first.old.left x) (row_has second.old.left x) ≡ kept keep (row_has third.old.left x) (row_has fourth.old.left x) }
-    ensures no { result ≡ false → (x : ℤ) × (kept keep (row_has first.old.left x) (row_has second.old.left x) ≢ kept keep (row_has third.old.left x) (row_has fourth.old.left x)) }
+    ensures yes { result ≡ true → (x : ℤ) →
+        kept keep (row_has first.old.left x) (row_has second.old.left x) ≡
+        kept keep (row_has third.old.left x) (row_has fourth.old.left x) }
+    ensures no { result ≡ false → (x : ℤ) ×
+        (kept keep (row_has first.old.left x) (row_has second.old.left x) ≢ kept keep (row_has third.old.left x)
+        (row_has fourth.old.left x)) }
     ensures first_read { first.new.bands ≡ first.old.bands }
     ensures second_read { second.new.bands ≡ second.old.bands }
     ensures third_read { third.new.bands ≡ third.old.bands }

@@ -28,8 +28,10 @@ pub fn let_in(
     requires some_rows { 1 ≤ config.now.height }
     requires rows { config.now.height ≤ 8192 }
     ensures version { IfOk result (λ bytes. bytes ≡ server_version) }
-    ensures entries { OnOk result (viewers.new.pairs ≡ viewers.old.pairs ++ (number, kept (new_viewer config.now.width config.now.height)) ∷ []) }
-    ensures sized { All (IsSized config.now) (values_of viewers.old.pairs) → All (IsSized config.now) (values_of viewers.new.pairs) }
+    ensures entries { OnOk result (viewers.new.pairs ≡
+        viewers.old.pairs ++ (number, kept (new_viewer config.now.width config.now.height)) ∷ []) }
+    ensures sized { All (IsSized config.now) (values_of viewers.old.pairs) →
+        All (IsSized config.now) (values_of viewers.new.pairs) }
     ensures err { OnErr result (viewers.new ≡ viewers.old) }
 {
     let mut version = Vec::new(alloc);

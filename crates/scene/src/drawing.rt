@@ -112,7 +112,8 @@ fn is_on_screen(config: &Config, region: &Region) -> bool
 fn cut_to_screen(alloc: Global, config: &Config, region: &Region) -> Result<Region, AllocError>
     requires columns { config.now.width ≤ 8192 }
     requires rows { config.now.height ≤ 8192 }
-    ensures { IfOk result (λ cut. (x y : ℤ) → on_screen config.now.width config.now.height x y ≡ true → covers cut.list x y ≡ covers region.now.list x y) }
+    ensures { IfOk result (λ cut. (x y : ℤ) → on_screen config.now.width config.now.height x y ≡ true →
+        covers cut.list x y ≡ covers region.now.list x y) }
 {
     if is_on_screen(config, region) {
         return region.try_clone(alloc);

@@ -40,7 +40,8 @@ fn is_span(from: i32, to: i32, limit: u32) -> bool
 
 /// The block of a rectangle whose colours may be replaced by these, or why they may not.
 pub fn checked(config: &Config, rect: Rect, colours: &[u32]) -> Result<Block, ScreenError>
-    ensures { MatchResult result (IsChecked config.now rect colours.now) (λ e. pixels_refusal config.now rect colours.now ≡ Some e) }
+    ensures { MatchResult result (IsChecked config.now rect colours.now) (λ e. pixels_refusal config.now rect colours.now ≡
+        Some e) }
 {
     if !(is_span(rect.x1, rect.x2, config.width) && is_span(rect.y1, rect.y2, config.height)) {
         return Err(ScreenError::BadRect);

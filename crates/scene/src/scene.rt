@@ -1,12 +1,14 @@
 //! The scene: each call is one event, and leaves it standing for the list of events so far with its own behind it.
 
-ghost use Rattle.std.specs.Prelude.{◌≡◌, ◌≢◌, ◌++◌, ◌∷◌, [], List, IfSome, IfOk, OnOk, OnErr, MatchOption, MatchResult, IsOk, IsOkUnless, IsSome, None, Some, length, slice_index, is_some, ◌↔◌, ◌<◌, ◌≤◌, ◌+◌, ◌*◌};
+ghost use Rattle.std.specs.Prelude.{◌≡◌, ◌≢◌, ◌++◌, ◌∷◌, [], List, IfSome, IfOk, OnOk, OnErr, MatchOption, MatchResult, IsOk};
+ghost use Rattle.std.specs.Prelude.{IsOkUnless, IsSome, None, Some, length, slice_index, is_some, ◌↔◌, ◌<◌, ◌≤◌, ◌+◌, ◌*◌};
 ghost use Rattle.std.specs.Map.{keys_of};
 ghost use Rattle.messages.specs.Reading.{fault_kept, is_open_rest};
 ghost use Rattle.messages.specs.Server.{server_version};
 ghost use Rattle.scene.specs.declared.Config.{Config};
 ghost use Rattle.scene.specs.declared.Event.{Event};
-ghost use Rattle.scene.specs.Alone.{config_refusal, pixels_refusal, text_refusal, nothing_to_say, gives, something_to_send, told, Tells};
+ghost use Rattle.scene.specs.Alone.{config_refusal, pixels_refusal, text_refusal, nothing_to_say, gives, something_to_send, told};
+ghost use Rattle.scene.specs.Alone.{Tells};
 ghost use Rattle.viewer.specs.Given.{bytes_given};
 ghost use Rattle.scene.specs.Answers.{scene_after, answer_to};
 ghost use Rattle.scene.specs.Refusals.{viewer_at, absence, presence, refusal, Refuses};
@@ -125,7 +127,8 @@ impl Scene {
 
     /// Why a viewer is heard no further, if it met a fault. Refused as `NoViewer` where there is none with the number.
     pub fn fault(&self, number: u64) -> Result<Option<Fault>, ScreenError>
-        ensures { MatchOption (viewer_at self.now number) (result ≡ Err ScreenError.NoViewer) (λ viewer. result ≡ Ok (fault_kept viewer.heard)) }
+        ensures { MatchOption (viewer_at self.now number) (result ≡ Err ScreenError.NoViewer) (λ viewer. result ≡
+            Ok (fault_kept viewer.heard)) }
     {
         match self.viewers.fault(number) {
             Some(fault) => Ok(fault),
@@ -136,7 +139,8 @@ impl Scene {
     /// Whether a viewer had its ServerInit (RFC 6143, 7.3.2) and met no fault. Refused as `NoViewer` where there is none with the
     /// number.
     pub fn is_open(&self, number: u64) -> Result<bool, ScreenError>
-        ensures { MatchOption (viewer_at self.now number) (result ≡ Err ScreenError.NoViewer) (λ viewer. result ≡ Ok (is_open_rest viewer.heard)) }
+        ensures { MatchOption (viewer_at self.now number) (result ≡ Err ScreenError.NoViewer) (λ viewer. result ≡
+            Ok (is_open_rest viewer.heard)) }
     {
         match self.viewers.is_open(number) {
             Some(open) => Ok(open),
@@ -147,7 +151,8 @@ impl Scene {
     /// Nothing, or why colours `0x00RRGGBB`, row by row, may not replace those of a rectangle: `BadRect` unless
     /// 0 <= x1 <= x2 <= width and 0 <= y1 <= y2 <= height, then `BadPixelCount` unless there are as many as places.
     pub fn check_pixels(&self, rect: Rect, colours: &[u32]) -> Result<(), ScreenError>
-        ensures { MatchResult result (λ _. pixels_refusal self.now.config rect colours.now ≡ None) (λ e. pixels_refusal self.now.config rect colours.now ≡ Some e) }
+        ensures { MatchResult result (λ _. pixels_refusal self.now.config rect colours.now ≡ None)
+            (λ e. pixels_refusal self.now.config rect colours.now ≡ Some e) }
     {
         checked(&self.config, rect, colours)?;
         Ok(())
@@ -162,7 +167,8 @@ impl Scene {
 
     /// Nothing, or why no viewer may connect with a number: `NumberInUse` where a live viewer has it.
     pub fn check_free(&self, number: u64) -> Result<(), ScreenError>
-        ensures { MatchResult result (λ _. presence (viewer_at self.now number) ≡ None) (λ e. presence (viewer_at self.now number) ≡ Some e) }
+        ensures { MatchResult result (λ _. presence (viewer_at self.now number) ≡ None) (λ e. presence (viewer_at self.now number) ≡
+            Some e) }
     {
         if self.viewers.has(number) {
             Err(ScreenError::NumberInUse)
@@ -173,7 +179,8 @@ impl Scene {
 
     /// Nothing, or why a call for a viewer is refused: `NoViewer` where no live viewer has the number.
     pub fn check_live(&self, number: u64) -> Result<(), ScreenError>
-        ensures { MatchResult result (λ _. absence (viewer_at self.now number) ≡ None) (λ e. absence (viewer_at self.now number) ≡ Some e) }
+        ensures { MatchResult result (λ _. absence (viewer_at self.now number) ≡ None) (λ e. absence (viewer_at self.now number) ≡
+            Some e) }
     {
         if self.viewers.has(number) {
             Ok(())
@@ -513,8 +520,10 @@ impl Scene {
         ensures step { (config : Config) (list : List Event) → self.old ≡ scene_after config list →
             OnOk result (self.new ≡ scene_after config (list ++ event.now ∷ [])) }
         ensures answer { (config : Config) (list : List Event) → self.old ≡ scene_after config list →
-            MatchResult result (λ answer. answer ≡ answer_to config list event.now) (λ _. (answer_to config list event.now).refused ≡ None) }
-        ensures refused { MatchResult result (λ answer. answer.refused ≡ refusal self.old event.now) (λ _. refusal self.old event.now ≡ None) }
+            MatchResult result (λ answer. answer ≡ answer_to config list event.now)
+            (λ _. (answer_to config list event.now).refused ≡ None) }
+        ensures refused { MatchResult result (λ answer. answer.refused ≡ refusal self.old event.now)
+            (λ _. refusal self.old event.now ≡ None) }
         ensures unchanged { IfOk result (λ answer. answer.refused ≢ None → self.new ≡ self.old) }
         ensures err { OnErr result (self.new ≡ self.old) }
     {

@@ -20,7 +20,9 @@ use std::alloc::Global;
 /// source of each place that awaits a copy that place's.
 pub fn run(alloc: Global, config: Config, events: &[Event]) -> Result<Vec<Answer>, ScreenError>
     ensures pictures { IfOk result (λ given. list_all is_told events.now ≡ true → ShowPictures config events.now given.items) }
-    ensures answers { MatchOption (config_refusal config) (MatchResult result (λ given. given.items ≡ answers config events.now) (λ e. e ≡ ScreenError.OutOfMemory)) (λ e. result ≡ Err e) }
+    ensures answers { MatchOption (config_refusal config)
+        (MatchResult result (λ given. given.items ≡ answers config events.now) (λ e. e ≡ ScreenError.OutOfMemory)) (λ e. result ≡
+        Err e) }
 {
     pictures_are_shown();
     let mut screen = Screen::new(alloc, config)?;

@@ -2,7 +2,8 @@
 //! now is a scene; here each call keeps its event beside it, where events are kept, in room that is made before anything
 //! changes.
 
-ghost use Rattle.std.specs.Prelude.{◌≡◌, ◌≢◌, ◌++◌, ◌∷◌, [], List, IfSome, IfOk, OnOk, OnErr, MatchOption, MatchResult, IsOk, IsOkUnless, IsSome, None, length, slice_index, is_some, option_map, ◌↔◌, ◌<◌, ◌≤◌, ◌+◌, ◌*◌};
+ghost use Rattle.std.specs.Prelude.{◌≡◌, ◌≢◌, ◌++◌, ◌∷◌, [], List, IfSome, IfOk, OnOk, OnErr, MatchOption, MatchResult, IsOk};
+ghost use Rattle.std.specs.Prelude.{IsOkUnless, IsSome, None, length, slice_index, is_some, option_map, ◌↔◌, ◌<◌, ◌≤◌, ◌+◌, ◌*◌};
 ghost use Rattle.std.specs.Map.{keys_of};
 ghost use Rattle.messages.specs.Reading.{fault_kept, is_open_rest};
 ghost use Rattle.messages.specs.Server.{server_version};
@@ -118,7 +119,8 @@ impl Screen {
 
     /// Why a viewer is heard no further, if it met a fault. Refused as `NoViewer` where there is none with the number.
     pub fn fault(&self, number: u64) -> Result<Option<Fault>, ScreenError>
-        ensures { MatchOption (viewer_at self.now number) (result ≡ Err ScreenError.NoViewer) (λ viewer. result ≡ Ok (fault_kept viewer.heard)) }
+        ensures { MatchOption (viewer_at self.now number) (result ≡ Err ScreenError.NoViewer) (λ viewer. result ≡
+            Ok (fault_kept viewer.heard)) }
     {
         self.scene.fault(number)
     }
@@ -126,7 +128,8 @@ impl Screen {
     /// Whether a viewer had its ServerInit (RFC 6143, 7.3.2) and met no fault. Refused as `NoViewer` where there is none with the
     /// number.
     pub fn is_open(&self, number: u64) -> Result<bool, ScreenError>
-        ensures { MatchOption (viewer_at self.now number) (result ≡ Err ScreenError.NoViewer) (λ viewer. result ≡ Ok (is_open_rest viewer.heard)) }
+        ensures { MatchOption (viewer_at self.now number) (result ≡ Err ScreenError.NoViewer) (λ viewer. result ≡
+            Ok (is_open_rest viewer.heard)) }
     {
         self.scene.is_open(number)
     }
@@ -197,7 +200,8 @@ impl Screen {
         ensures step { (config : Config) (list : List Event) → self.old ≡ state config list →
             OnOk result (self.new ≡ state config (list ++ Event.Mark (record { x1 = x1; y1 = y1; x2 = x2; y2 = y2 } ∷ []) ∷ [])) }
         ensures answer { (config : Config) (list : List Event) → self.old ≡ state config list →
-            Tells (λ _. nothing_to_say) result (answer_to config list (Event.Mark (record { x1 = x1; y1 = y1; x2 = x2; y2 = y2 } ∷ []))) }
+            Tells (λ _. nothing_to_say) result
+            (answer_to config list (Event.Mark (record { x1 = x1; y1 = y1; x2 = x2; y2 = y2 } ∷ []))) }
         ensures refused { IsOkUnless result ScreenError.OutOfMemory }
         ensures err { OnErr result (self.new ≡ self.old) }
     {
@@ -257,9 +261,11 @@ impl Screen {
         dy: i32,
     ) -> Result<(), ScreenError>
         ensures step { (config : Config) (list : List Event) → self.old ≡ state config list →
-            OnOk result (self.new ≡ state config (list ++ Event.ScheduleCopy (record { x1 = x1; y1 = y1; x2 = x2; y2 = y2 } ∷ []) dx dy ∷ [])) }
+            OnOk result (self.new ≡ state config
+            (list ++ Event.ScheduleCopy (record { x1 = x1; y1 = y1; x2 = x2; y2 = y2 } ∷ []) dx dy ∷ [])) }
         ensures answer { (config : Config) (list : List Event) → self.old ≡ state config list →
-            Tells (λ _. nothing_to_say) result (answer_to config list (Event.ScheduleCopy (record { x1 = x1; y1 = y1; x2 = x2; y2 = y2 } ∷ []) dx dy)) }
+            Tells (λ _. nothing_to_say) result
+            (answer_to config list (Event.ScheduleCopy (record { x1 = x1; y1 = y1; x2 = x2; y2 = y2 } ∷ []) dx dy)) }
         ensures refused { IsOkUnless result ScreenError.OutOfMemory }
         ensures err { OnErr result (self.new ≡ self.old) }
     {
@@ -319,9 +325,11 @@ impl Screen {
         dy: i32,
     ) -> Result<(), ScreenError>
         ensures step { (config : Config) (list : List Event) → self.old ≡ state config list →
-            OnOk result (self.new ≡ state config (list ++ Event.DoCopy (record { x1 = x1; y1 = y1; x2 = x2; y2 = y2 } ∷ []) dx dy ∷ [])) }
+            OnOk result (self.new ≡ state config
+            (list ++ Event.DoCopy (record { x1 = x1; y1 = y1; x2 = x2; y2 = y2 } ∷ []) dx dy ∷ [])) }
         ensures answer { (config : Config) (list : List Event) → self.old ≡ state config list →
-            Tells (λ _. nothing_to_say) result (answer_to config list (Event.DoCopy (record { x1 = x1; y1 = y1; x2 = x2; y2 = y2 } ∷ []) dx dy)) }
+            Tells (λ _. nothing_to_say) result
+            (answer_to config list (Event.DoCopy (record { x1 = x1; y1 = y1; x2 = x2; y2 = y2 } ∷ []) dx dy)) }
         ensures refused { IsOkUnless result ScreenError.OutOfMemory }
         ensures err { OnErr result (self.new ≡ self.old) }
     {
@@ -472,8 +480,10 @@ impl Screen {
         ensures step { (config : Config) (list : List Event) → self.old ≡ state config list →
             OnOk result (self.new ≡ state config (list ++ event.now ∷ [])) }
         ensures answer { (config : Config) (list : List Event) → self.old ≡ state config list →
-            MatchResult result (λ answer. answer ≡ answer_to config list event.now) (λ _. (answer_to config list event.now).refused ≡ None) }
-        ensures refused { MatchResult result (λ answer. answer.refused ≡ refusal self.old event.now) (λ _. refusal self.old event.now ≡ None) }
+            MatchResult result (λ answer. answer ≡ answer_to config list event.now)
+            (λ _. (answer_to config list event.now).refused ≡ None) }
+        ensures refused { MatchResult result (λ answer. answer.refused ≡ refusal self.old event.now)
+            (λ _. refusal self.old event.now ≡ None) }
         ensures unchanged { IfOk result (λ answer. answer.refused ≢ None → self.new ≡ self.old) }
         ensures err { OnErr result (self.new ≡ self.old) }
     {

@@ -26,7 +26,8 @@ pub fn read_script<R: Read, L: Ledger>(
 ) -> Result<Vec<u8>, Trouble>
     ensures script { IfOk result (λ script. IfSome (R.remaining reader.old.reader.now) (λ bytes. script.items ≡ bytes)) }
     ensures limit { IfOk result (λ script. vec_len script ≤ 2 ^ 24) }
-    ensures trouble { IfErr result (CanEndReading (reader.new.steps.now - reader.old.steps.now) (R.remaining reader.old.reader.now)) }
+    ensures trouble { IfErr result
+        (CanEndReading (reader.new.steps.now - reader.old.steps.now) (R.remaining reader.old.reader.now)) }
     ensures reads { reader.new.steps.now ≤ reader.old.steps.now + (2 ^ 24 + 1) }
     ensures same_count { reader.new.steps.ghost_name ≡ reader.old.steps.ghost_name }
 {

@@ -5,8 +5,10 @@
 //! `nodes` has the nodes and changes their links.
 #![tactic(auto)]
 
-ghost use Rattle.std.specs.Prelude.{◌≡◌, ◌<◌, ◌≤◌, ◌+◌, ◌++◌, ◌∷◌, [], ℕ, List, None, Some, true, IsOk, IsSome, IfOk, OnOk, OnErr, length, slice_get, if◌then◌else◌, ◌==◌};
-ghost use Rattle.span_arena.specs.Arena.{list_of, ids_of, span_of, last_in, IsIn, IsSound, SetsList, SetsSpan, SpansGone, SameLists, SameSpans};
+ghost use Rattle.std.specs.Prelude.{◌≡◌, ◌<◌, ◌≤◌, ◌+◌, ◌++◌, ◌∷◌, [], ℕ, List, None, Some, true, IsOk, IsSome, IfOk, OnOk, OnErr};
+ghost use Rattle.std.specs.Prelude.{length, slice_get, if◌then◌else◌, ◌==◌};
+ghost use Rattle.span_arena.specs.Arena.{list_of, ids_of, span_of, last_in, IsIn, IsSound, SetsList, SetsSpan, SpansGone};
+ghost use Rattle.span_arena.specs.Arena.{SameLists, SameSpans};
 
 mod nodes;
 
@@ -166,7 +168,8 @@ impl Spans {
     ) -> Result<SpanId, AllocError>
         requires { IsIn self.old list at }
         ensures fresh { IfOk result (λ new. span_of self.old new ≡ None) }
-        ensures lists { IfOk result (λ new. (front back : List ℕ) → list_of self.old list ≡ Some (front ++ at ∷ back) → SetsList self.old self.new list (Some (front ++ new ∷ at ∷ back))) }
+        ensures lists { IfOk result (λ new. (front back : List ℕ) → list_of self.old list ≡ Some (front ++ at ∷ back) →
+            SetsList self.old self.new list (Some (front ++ new ∷ at ∷ back))) }
         ensures spans { IfOk result (λ new. SetsSpan self.old self.new new (Some span)) }
         ensures spare { self.old.spare ≤ self.new.spare + 1 }
         ensures succeeds { 0 < self.old.spare → IsOk result }
@@ -183,7 +186,8 @@ impl Spans {
     pub fn remove(&mut self, list: ListId, at: SpanId) -> Span
         requires { IsIn self.old list at }
         ensures span { span_of self.old at ≡ Some result }
-        ensures lists { (front back : List ℕ) → list_of self.old list ≡ Some (front ++ at ∷ back) → SetsList self.old self.new list (Some (front ++ back)) }
+        ensures lists { (front back : List ℕ) → list_of self.old list ≡ Some (front ++ at ∷ back) →
+            SetsList self.old self.new list (Some (front ++ back)) }
         ensures spans { SetsSpan self.old self.new at None }
         ensures spare { self.new.spare ≡ self.old.spare + 1 }
     {

@@ -62,7 +62,8 @@ pub fn put_head(nodes: &mut Slab<Node>) -> usize
 pub fn put(nodes: &mut Slab<Node>, list: usize, at: usize, span: Span) -> usize
     requires room { HasRoomFor nodes.old 1 }
     requires linked { (before : ℕ) × IsLinked (get nodes.old) before at }
-    ensures put { (before : ℕ) → IsLinked (get nodes.old) before at → IsPut (get nodes.old) (get nodes.new) list before at result span }
+    ensures put { (before : ℕ) → IsLinked (get nodes.old) before at →
+        IsPut (get nodes.old) (get nodes.new) list before at result span }
     ensures len { slab_len nodes.new ≡ slab_len nodes.old + 1 }
     ensures capacity { nodes.new.capacity ≡ nodes.old.capacity }
 {
@@ -83,7 +84,8 @@ pub fn put(nodes: &mut Slab<Node>, list: usize, at: usize, span: Span) -> usize
 pub fn cut(nodes: &mut Slab<Node>, at: usize) -> Span
     requires { (before : ℕ) × (after : ℕ) × IsBetween (get nodes.old) before at after }
     ensures span { value_in (get nodes.old) at ≡ Some result }
-    ensures cut { (before after : ℕ) → IsBetween (get nodes.old) before at after → IsCut (get nodes.old) (get nodes.new) before after at }
+    ensures cut { (before after : ℕ) → IsBetween (get nodes.old) before at after →
+        IsCut (get nodes.old) (get nodes.new) before after at }
     ensures len { slab_len nodes.new + 1 ≡ slab_len nodes.old }
     ensures room { HasRoomFor nodes.new 1 }
     ensures capacity { nodes.new.capacity ≡ nodes.old.capacity }

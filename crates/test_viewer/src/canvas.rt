@@ -59,7 +59,8 @@ fn fill_rows(
     requires small { columns < 2 ^ 16 }
     requires few { down.1 < 2 ^ 16 }
     ensures size { length dots.new ≡ length dots.old }
-    ensures dots { (y x : ℕ) → x < columns → slice_index_or dots.new (y * columns + x) None ≡ row_filled columns across down dot dots.old y x }
+    ensures dots { (y x : ℕ) → x < columns →
+        slice_index_or dots.new (y * columns + x) None ≡ row_filled columns across down dot dots.old y x }
 {
     for y in down.0..down.1 {
         let start = y * columns;

@@ -62,8 +62,10 @@ impl Shown {
 
     /// Shows what a group of bytes says, in the format in which it was read.
     fn show(&mut self, effect: Effect, format: PixelFormat) -> Result<(), AllocError>
-        ensures fill { (block : Block) (pixel x y : ℕ) → effect ≡ Effect.Fill block pixel → dot_at self.new.canvas x y ≡ filled self.old.canvas block (Some (record { format = format; pixel = pixel })) x y }
-        ensures copy { (area : Area) (from_x from_y : ℕ) → effect ≡ Effect.Copy area from_x from_y → OnOk result (self.new.canvas ≡ record self.old.canvas { dots = copied_dots self.old.canvas area (from_x, from_y) }) }
+        ensures fill { (block : Block) (pixel x y : ℕ) → effect ≡ Effect.Fill block pixel →
+            dot_at self.new.canvas x y ≡ filled self.old.canvas block (Some (record { format = format; pixel = pixel })) x y }
+        ensures copy { (area : Area) (from_x from_y : ℕ) → effect ≡ Effect.Copy area from_x from_y →
+            OnOk result (self.new.canvas ≡ record self.old.canvas { dots = copied_dots self.old.canvas area (from_x, from_y) }) }
         ensures reading { self.new.reading ≡ self.old.reading }
     {
         match effect {

@@ -204,7 +204,8 @@ impl<L: Ledger> Brush<L> {
         dx: i32,
         dy: i32,
     ) -> Result<(), ScreenError>
-        ensures drawn { OnOk result (self.new ≡ drew (Event.ScheduleCopy (record { x1 = x1; y1 = y1; x2 = x2; y2 = y2 } ∷ []) dx dy) self.old) }
+        ensures drawn { OnOk result (self.new ≡
+            drew (Event.ScheduleCopy (record { x1 = x1; y1 = y1; x2 = x2; y2 = y2 } ∷ []) dx dy) self.old) }
         ensures err { OnErr result (self.new ≡ self.old) }
     {
         self.draw(
@@ -245,7 +246,8 @@ impl<L: Ledger> Brush<L> {
         dx: i32,
         dy: i32,
     ) -> Result<(), ScreenError>
-        ensures drawn { OnOk result (self.new ≡ drew (Event.DoCopy (record { x1 = x1; y1 = y1; x2 = x2; y2 = y2 } ∷ []) dx dy) self.old) }
+        ensures drawn { OnOk result (self.new ≡
+            drew (Event.DoCopy (record { x1 = x1; y1 = y1; x2 = x2; y2 = y2 } ∷ []) dx dy) self.old) }
         ensures err { OnErr result (self.new ≡ self.old) }
     {
         self.draw(

@@ -1,7 +1,8 @@
 //! What the lock keeps: a screen that stands for one list of events, in which viewers connected by rising numbers, and whose
 //! drawing calls are counted. Each call is one hold: it does one event, or changes nothing.
 
-ghost use Rattle.std.specs.Prelude.{◌≡◌, List, [], None, Some, true, OnOk, OnErr, IfOk, MatchBool, MatchOption, IsOkUnless, ◌+◌, ◌<◌, is_some, Ok};
+ghost use Rattle.std.specs.Prelude.{◌≡◌, List, [], None, Some, true, OnOk, OnErr, IfOk, MatchBool, MatchOption, IsOkUnless, ◌+◌};
+ghost use Rattle.std.specs.Prelude.{◌<◌, is_some, Ok};
 ghost use Rattle.messages.specs.Server.{server_version};
 ghost use Rattle.scene.specs.declared.Config.{Config};
 ghost use Rattle.scene.specs.declared.Event.{Event};
@@ -74,7 +75,8 @@ impl<L: Ledger> Desk<L> {
     pub fn connect(&mut self, number: u64) -> Result<Listed<u8>, ScreenError>
         ensures joins { OnOk result (Joins number (Event.Connect number) self.old self.new) }
         ensures version { IfOk result (λ bytes. bytes ≡ server_version) }
-        ensures refused { MatchBool (is_next self.old.newest number) (IsOkUnless result refusals.OutOfMemory) (result ≡ Err refusals.NumberInUse) }
+        ensures refused { MatchBool (is_next self.old.newest number) (IsOkUnless result refusals.OutOfMemory) (result ≡
+            Err refusals.NumberInUse) }
         ensures err { OnErr result (self.new ≡ self.old) }
     {
         if !is_next(self.newest, number) {
@@ -115,7 +117,8 @@ impl<L: Ledger> Desk<L> {
     /// Whether a viewer's sender need not wait: it ends, or has something to send.
     pub fn has_turn(&self, number: u64) -> bool
         ensures ends { is_some (ending self.now number) ≡ true → result ≡ true }
-        ensures sends { (config : Config) (list : List Event) → self.now.screen ≡ state config list → ending self.now number ≡ None →
+        ensures sends { (config : Config) (list : List Event) → self.now.screen ≡ state config list →
+            ending self.now number ≡ None →
             Ok result ≡ something_to_send (answer_to config list (Event.Cut number)) }
     {
         if self.stopped || !matches!(self.screen.fault(number), Ok(None)) {
@@ -141,7 +144,8 @@ impl<L: Ledger> Desk<L> {
 
     /// Cuts an update for a viewer, if there is something to send.
     fn cut(&mut self, number: u64) -> Result<Option<Update>, ScreenError>
-        ensures step { IfOk result (λ update. MatchOption update (self.new ≡ self.old) (λ _. StepsAlone (Event.Cut number) self.old self.new)) }
+        ensures step { IfOk result (λ update. MatchOption update (self.new ≡ self.old)
+            (λ _. StepsAlone (Event.Cut number) self.old self.new)) }
         ensures err { OnErr result (self.new ≡ self.old) }
     {
         kept_is_enough();

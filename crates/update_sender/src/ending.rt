@@ -26,9 +26,12 @@ pub fn receipt(
     listener: Option<Listener>,
     write: WriteHalf,
 ) -> (Receipt, Option<InputSeat>)
-    requires one { MatchOption read (MatchOption listener ⊥ (λ l. l.viewer ≡ write.viewer)) (λ half. (half.viewer ≡ write.viewer) × (listener ≡ None)) }
-    ensures write { (result.0.viewer ≡ write.viewer) × (result.0.cuts ≡ write.cuts) × (result.0.sent ≡ write.sent) × (result.0.ended ≡ write.ended) }
-    ensures read { MatchOption read (result.1 ≡ None) (λ half. (result.0.pieces ≡ half.pieces) × (result.0.heard ≡ half.heard) × (result.1 ≡ Some half.seat)) }
+    requires one { MatchOption read (MatchOption listener ⊥ (λ l. l.viewer ≡ write.viewer)) (λ half. (half.viewer ≡ write.viewer) ×
+        (listener ≡ None)) }
+    ensures write { (result.0.viewer ≡ write.viewer) × (result.0.cuts ≡ write.cuts) × (result.0.sent ≡ write.sent) ×
+        (result.0.ended ≡ write.ended) }
+    ensures read { MatchOption read (result.1 ≡ None) (λ half. (result.0.pieces ≡ half.pieces) × (result.0.heard ≡ half.heard) ×
+        (result.1 ≡ Some half.seat)) }
     ensures listener { MatchOption listener (Unit {0}) (λ l. (result.0.pieces ≡ l.pieces) × (result.0.heard ≡ all_of l.heard)) }
 {
     let (pieces, heard, seat) = match (read, listener) {

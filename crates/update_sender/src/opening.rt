@@ -31,7 +31,8 @@ pub fn serve_opening<L: Ledger, Rd: Read, W: Write, R: Wait>(
     reader: &mut Rd,
     writer: &mut W,
 ) -> Opened
-    ensures opens { Opens (Rd.remaining reader.old) (Rd.remaining reader.new) (W.contents writer.old) (W.contents writer.new) line result }
+    ensures opens { Opens (Rd.remaining reader.old) (Rd.remaining reader.new) (W.contents writer.old)
+        (W.contents writer.new) line result }
     ensures viewer { IsOf line.listener.viewer result }
 {
     let (mut listener, mut speaker, version) = line.ends();
@@ -80,7 +81,8 @@ fn greet<L: Ledger, Rd: Read, W: Write, R: Wait>(
 ) -> Result<(), Ended>
     ensures heard { MatchResult result
         (λ _. Hears (Rd.remaining reader.old) (Rd.remaining reader.new) listener.old listener.new [])
-        (λ e. (unheard : List ℕ) × Hears (Rd.remaining reader.old) (Rd.remaining reader.new) listener.old listener.new unheard × OpeningEnds e (Rd.remaining reader.new) unheard) }
+        (λ e. (unheard : List ℕ) × Hears (Rd.remaining reader.old) (Rd.remaining reader.new) listener.old listener.new unheard ×
+        OpeningEnds e (Rd.remaining reader.new) unheard) }
     ensures sent { Sends (W.contents writer.old) (W.contents writer.new) speaker.old speaker.new }
 {
     speaker.write(writer, version)?;
@@ -103,7 +105,8 @@ fn open_further<L: Ledger, Rd: Read, W: Write, R: Wait>(
 ) -> Result<bool, Ended>
     ensures heard { MatchResult result
         (λ _. Hears (Rd.remaining reader.old) (Rd.remaining reader.new) listener.old listener.new [])
-        (λ e. (unheard : List ℕ) × Hears (Rd.remaining reader.old) (Rd.remaining reader.new) listener.old listener.new unheard × OpeningEnds e (Rd.remaining reader.new) unheard) }
+        (λ e. (unheard : List ℕ) × Hears (Rd.remaining reader.old) (Rd.remaining reader.new) listener.old listener.new unheard ×
+        OpeningEnds e (Rd.remaining reader.new) unheard) }
     ensures sent { Sends (W.contents writer.old) (W.contents writer.new) speaker.old speaker.new }
 {
     let Heard {

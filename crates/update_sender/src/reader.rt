@@ -46,7 +46,9 @@ pub fn serve_reader<L: Ledger, Rd: Read, R: Wait>(
 ) -> ReadHalf
     requires { seat.queue ≡ hub.now.queue }
     ensures viewer { result.viewer ≡ listener.viewer }
-    ensures heard { (l : Listening) × (unheard : List ℕ) × Hears (Rd.remaining reader.old) (Rd.remaining reader.new) listener l unheard × ReadingEnds result.ended (Rd.remaining reader.new) unheard
+    ensures heard { (l : Listening) × (unheard : List ℕ) ×
+        Hears (Rd.remaining reader.old) (Rd.remaining reader.new) listener l unheard ×
+        ReadingEnds result.ended (Rd.remaining reader.new) unheard
         × (result.pieces ≡ l.pieces) × (result.heard ≡ all_of l.heard) }
     ensures seat { result.seat ≡ record seat { accepted = result.seat.accepted } }
 {
@@ -98,7 +100,9 @@ fn hear_all<L: Ledger, Rd: Read, R: Wait>(
     dropped: &mut u64,
 ) -> Ended
     requires { seat.old.queue ≡ hub.now.queue }
-    ensures heard { (unheard : List ℕ) × Hears (Rd.remaining reader.old) (Rd.remaining reader.new) listener.old listener.new unheard × ReadingEnds result (Rd.remaining reader.new) unheard }
+    ensures heard { (unheard : List ℕ) ×
+        Hears (Rd.remaining reader.old) (Rd.remaining reader.new) listener.old listener.new unheard ×
+        ReadingEnds result (Rd.remaining reader.new) unheard }
     ensures seat { seat.new ≡ record seat.old { accepted = seat.new.accepted } }
 {
     for _ in rt.forever() {

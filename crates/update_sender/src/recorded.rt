@@ -1,6 +1,7 @@
 //! What is noted one after the other where the history is kept, as a brush's calls or a viewer's bytes.
 
-ghost use Rattle.std.specs.Prelude.{◌≡◌, ◌≤◌, ◌+◌, true, vec_len, vec_capacity, ◌∷◌, ◌++◌, [], length, IfOk, OnOk, is_some, option_map};
+ghost use Rattle.std.specs.Prelude.{◌≡◌, ◌≤◌, ◌+◌, true, vec_len, vec_capacity, ◌∷◌, ◌++◌, [], length, IfOk, OnOk, is_some};
+ghost use Rattle.std.specs.Prelude.{option_map};
 ghost use Rattle.update_sender.specs.Recorded.{HasRoom, all_of, first_of, items_of};
 
 use listed::Listed;

@@ -43,7 +43,8 @@ pub fn serve_sender<L: Ledger, W: Write, G: Gate, R: Wait>(
     gate: &G,
 ) -> WriteHalf
     ensures viewer { result.viewer ≡ speaker.viewer }
-    ensures sent { (s : Speaking) × CutsAndSends (W.contents writer.old) (W.contents writer.new) speaker s × (result.cuts ≡ s.cuts) × (result.sent ≡ all_of s.sent) }
+    ensures sent { (s : Speaking) × CutsAndSends (W.contents writer.old) (W.contents writer.new) speaker s ×
+        (result.cuts ≡ s.cuts) × (result.sent ≡ all_of s.sent) }
     ensures ended { SendingEnds result.ended }
 {
     let viewer = speaker.viewer;

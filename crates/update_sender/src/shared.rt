@@ -183,7 +183,8 @@ impl<L: Ledger> Shared<L> {
         rt: &R,
         speaker: &mut Speaker,
     ) -> Result<Option<Update>, AllocError>
-        ensures cut { IfOk result (λ update. MatchOption update (speaker.new ≡ speaker.old) (λ _. speaker.new ≡ has_cut speaker.old)) }
+        ensures cut { IfOk result (λ update. MatchOption update (speaker.new ≡ speaker.old) (λ _. speaker.new ≡
+            has_cut speaker.old)) }
         ensures err { OnErr result (speaker.new ≡ speaker.old) }
     {
         match self.wait_turn(rt, speaker.viewer)? {

@@ -48,7 +48,8 @@ fn put_on<W: Write>(writer: &mut W, bytes: &[u8]) -> usize
 impl Speaker {
     /// Writes bytes to the viewer. What is written is kept, in room that is made before.
     pub(crate) fn write<W: Write>(&mut self, writer: &mut W, bytes: &[u8]) -> Result<(), Ended>
-        ensures sent { (added : List ℕ) × Appends (W.contents writer.old) (W.contents writer.new) added × (self.new ≡ has_sent added self.old) × OnOk result (added ≡ bytes.now) }
+        ensures sent { (added : List ℕ) × Appends (W.contents writer.old) (W.contents writer.new) added ×
+            (self.new ≡ has_sent added self.old) × OnOk result (added ≡ bytes.now) }
         ensures ended { IfErr result (λ e. (e ≡ ended.Memory) ⊎ (e ≡ ended.WriteFailed)) }
     {
         self.sent.make_room(bytes.len())?;
@@ -68,7 +69,8 @@ impl Speaker {
         buffer: &mut Vec<u8>,
         stream: &mut Stream,
     ) -> Result<u64, Ended>
-        ensures sent { (added : List ℕ) × Appends (W.contents writer.old) (W.contents writer.new) added × (self.new ≡ has_sent added self.old) × OnOk result (added ≡ buffer.old.items ++ stream.old) }
+        ensures sent { (added : List ℕ) × Appends (W.contents writer.old) (W.contents writer.new) added ×
+            (self.new ≡ has_sent added self.old) × OnOk result (added ≡ buffer.old.items ++ stream.old) }
         ensures ended { IfErr result (λ e. (e ≡ ended.Memory) ⊎ (e ≡ ended.WriteFailed)) }
     {
         self.write(writer, buffer)?;

@@ -1,6 +1,7 @@
 //! The colours of an update's rectangle: copied, or in rows that are shared with the picture until it is drawn over.
 
-ghost use Rattle.std.specs.Prelude.{◌≡◌, ◌+◌, ◌*◌, ◌^◌, ◌≤◌, ◌<◌, ◌↔◌, ◌++◌, IsTrue, true, length, take, drop, flat_map, IfOk, OnOk, OnErr};
+ghost use Rattle.std.specs.Prelude.{◌≡◌, ◌+◌, ◌*◌, ◌^◌, ◌≤◌, ◌<◌, ◌↔◌, ◌++◌, IsTrue, true, length, take, drop, flat_map, IfOk};
+ghost use Rattle.std.specs.Prelude.{OnOk, OnErr};
 ghost use Rattle.pixel_translate.specs.Pixel.{colour_bytes};
 ghost use Rattle.encode_raw.specs.Raw.{raw};
 ghost use Rattle.framebuffer.specs.Blocks.{block_colours};

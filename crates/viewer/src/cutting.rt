@@ -1,6 +1,7 @@
 //! What an update takes out of the screen: the rectangles that the marks chose, with their colours.
 
-ghost use Rattle.std.specs.Prelude.{◌≡◌, ◌<◌, ◌≤◌, ◌+◌, ◌*◌, ◌^◌, All, length, flat_map, IfOk, ◌-ℤ◌, nat_abs, [], ◌≢◌, IfSome, OnOk, OnErr};
+ghost use Rattle.std.specs.Prelude.{◌≡◌, ◌<◌, ◌≤◌, ◌+◌, ◌*◌, ◌^◌, All, length, flat_map, IfOk, ◌-ℤ◌, nat_abs, [], ◌≢◌, IfSome};
+ghost use Rattle.std.specs.Prelude.{OnOk, OnErr};
 ghost use Rattle.region.specs.Places.{IsOnScreen, source_rect};
 ghost use Rattle.copy_schedule.specs.Marks.{IsInside, HasSourcesInside, cut_of};
 ghost use Rattle.pixel_translate.specs.declared.PixelFormat.{PixelFormat};
@@ -73,7 +74,8 @@ fn coloured_of(picture: &mut Framebuffer, block: Block) -> Result<Coloured, Allo
     requires height { picture.old.height ≤ 8192 }
     ensures same { picture.new ≡ picture.old }
     ensures area { IfOk result (λ c. c.area ≡ area_of (rect_of block)) }
-    ensures colours { IfOk result (λ c. c.colours ≡ colours_of picture.old.width picture.old.height picture.old.colours (rect_of block)) }
+    ensures colours { IfOk result (λ c. c.colours ≡
+        colours_of picture.old.width picture.old.height picture.old.colours (rect_of block)) }
 {
     let colours = Colours::of_block(picture, block)?;
     let area = Area {
@@ -93,7 +95,9 @@ fn coloured_rectangles(
 ) -> Result<Vec<Coloured>, AllocError>
     requires inside { All (IsOnScreen picture.old.width picture.old.height) rects.now }
     ensures same { picture.new ≡ picture.old }
-    ensures bytes { IfOk result (λ parts. (encoding : Encoding) (format : PixelFormat) → flat_map (coloured_bytes encoding format) parts.items ≡ flat_map (pixel_rectangle picture.old.width picture.old.height picture.old.colours encoding format) rects.now) }
+    ensures bytes { IfOk result (λ parts. (encoding : Encoding) (format : PixelFormat) →
+        flat_map (coloured_bytes encoding format) parts.items ≡
+        flat_map (pixel_rectangle picture.old.width picture.old.height picture.old.colours encoding format) rects.now) }
     ensures count { IfOk result (λ parts. length parts.items ≡ length rects.now) }
 {
     let (width, height) = (picture.width(), picture.height());
@@ -119,7 +123,9 @@ fn rectangles_of(
     requires sources { HasSourcesInside picture.old.width picture.old.height cut.now }
     requires count { length cut.now.copies + length cut.now.pixels < 2 ^ 16 }
     ensures same { picture.new ≡ picture.old }
-    ensures bytes { IfOk result (λ rectangles. rectangles_bytes rectangles ≡ bytes_of picture.old.width picture.old.height picture.old.colours encoding format cut.now.copies cut.now.offset cut.now.pixels) }
+    ensures bytes { IfOk result (λ rectangles. rectangles_bytes rectangles ≡
+        bytes_of picture.old.width picture.old.height picture.old.colours encoding format cut.now.copies cut.now.offset
+        cut.now.pixels) }
 {
     let moves = moves_of(alloc, cut.copies.as_slice(), cut.offset)?;
     let coloured = coloured_rectangles(alloc, picture, cut.pixels.as_slice())?;
@@ -142,8 +148,11 @@ fn plan(
     requires width { standing.now.marks.width ≡ picture.old.width }
     requires height { standing.now.marks.height ≡ picture.old.height }
     ensures same { picture.new ≡ picture.old }
-    ensures bytes { IfOk result (λ planned. maybe_bytes planned.rectangles ≡ sent_bytes picture.old.width picture.old.height picture.old.colours (viewer_in standing.now) (cut_of limit standing.now.marks)) }
-    ensures marks { IfOk result (λ planned. marks_put standing.now.marks planned.marks ≡ sent_marks standing.now.marks (cut_of limit standing.now.marks)) }
+    ensures bytes { IfOk result (λ planned. maybe_bytes planned.rectangles ≡
+        sent_bytes picture.old.width picture.old.height picture.old.colours (viewer_in standing.now)
+        (cut_of limit standing.now.marks)) }
+    ensures marks { IfOk result (λ planned. marks_put standing.now.marks planned.marks ≡
+        sent_marks standing.now.marks (cut_of limit standing.now.marks)) }
     ensures none { IfOk result (λ planned. planned.rectangles ≡ None → cut_of limit standing.now.marks ≡ None) }
     ensures some { IfOk result (λ planned. IfSome planned.rectangles (λ r. rectangles_bytes r ≢ [])) }
     ensures width { IfOk result (λ planned. IfSome planned.marks (λ m. m.width ≡ standing.now.marks.width)) }
@@ -181,8 +190,10 @@ pub fn cut_in(
     requires width { standing.old.marks.width ≡ picture.old.width }
     requires height { standing.old.marks.height ≡ picture.old.height }
     ensures same { picture.new ≡ picture.old }
-    ensures bytes { IfOk result (λ update. bytes_given update ≡ (sending_kept picture.old.width picture.old.height limit picture.old.colours (viewer_in standing.old)).0) }
-    ensures viewer { OnOk result (viewer_in standing.new ≡ (sending_kept picture.old.width picture.old.height limit picture.old.colours (viewer_in standing.old)).1) }
+    ensures bytes { IfOk result (λ update. bytes_given update ≡
+        (sending_kept picture.old.width picture.old.height limit picture.old.colours (viewer_in standing.old)).0) }
+    ensures viewer { OnOk result (viewer_in standing.new ≡
+        (sending_kept picture.old.width picture.old.height limit picture.old.colours (viewer_in standing.old)).1) }
     ensures some { IfOk result (λ update. IfSome update (λ u. u ≢ [])) }
     ensures width { standing.new.marks.width ≡ standing.old.marks.width }
     ensures height { standing.new.marks.height ≡ standing.old.marks.height }
@@ -211,8 +222,10 @@ pub fn cut_bytes_in(
     requires width { standing.old.marks.width ≡ picture.old.width }
     requires height { standing.old.marks.height ≡ picture.old.height }
     ensures same { picture.new ≡ picture.old }
-    ensures bytes { IfOk result (λ bytes. bytes.items ≡ (sending_kept picture.old.width picture.old.height limit picture.old.colours (viewer_in standing.old)).0) }
-    ensures viewer { OnOk result (viewer_in standing.new ≡ (sending_kept picture.old.width picture.old.height limit picture.old.colours (viewer_in standing.old)).1) }
+    ensures bytes { IfOk result (λ bytes. bytes.items ≡
+        (sending_kept picture.old.width picture.old.height limit picture.old.colours (viewer_in standing.old)).0) }
+    ensures viewer { OnOk result (viewer_in standing.new ≡
+        (sending_kept picture.old.width picture.old.height limit picture.old.colours (viewer_in standing.old)).1) }
     ensures width { standing.new.marks.width ≡ standing.old.marks.width }
     ensures height { standing.new.marks.height ≡ standing.old.marks.height }
     ensures err { OnErr result (standing.new ≡ standing.old) }

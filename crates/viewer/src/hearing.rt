@@ -1,6 +1,7 @@
 //! What a viewer's messages do to it, and what it is answered.
 
-ghost use Rattle.std.specs.Prelude.{◌≡◌, ◌&&◌, ◌||◌, ℕ, List, All, OnErr, ◌++◌, ◌<◌, ◌≤◌, ◌^◌, [], length, not, if◌then◌else◌, vec_len, vec_capacity, IfOk, OnOk};
+ghost use Rattle.std.specs.Prelude.{◌≡◌, ◌&&◌, ◌||◌, ℕ, List, All, OnErr, ◌++◌, ◌<◌, ◌≤◌, ◌^◌, [], length, not, if◌then◌else◌};
+ghost use Rattle.std.specs.Prelude.{vec_len, vec_capacity, IfOk, OnOk};
 ghost use Rattle.std.specs.List.{filter_map};
 ghost use Rattle.messages.specs.Reading.{rest, new_items, is_open_rest};
 ghost use Rattle.region.specs.Region.{in_rect};
@@ -24,7 +25,8 @@ use std::alloc::{AllocError, Global};
 
 /// Whether a viewer would be given something now, that is told of the drawing of a log first.
 pub fn is_pending(standing: &Standing, log: &[LogEntry]) -> bool
-    ensures { result ≡ (is_open_rest standing.now.ear && (not (none_wait standing.now.notices) || pending (logged standing.now.uses_copyrect log.now standing.now.marks))) }
+    ensures { result ≡ (is_open_rest standing.now.ear &&
+        (not (none_wait standing.now.notices) || pending (logged standing.now.uses_copyrect log.now standing.now.marks))) }
 {
     standing.ear.is_open() && (!standing.notices.is_empty() || standing.marks.pending_after(log))
 }
@@ -50,7 +52,8 @@ fn marks_after(
     log: &[LogEntry],
 ) -> Result<Option<Marks>, AllocError>
     requires cut { All (IsCutEntry standing.now.marks.width standing.now.marks.height) log.now }
-    ensures { IfOk result (λ marks. marks_put standing.now.marks marks ≡ logged standing.now.uses_copyrect log.now standing.now.marks) }
+    ensures { IfOk result (λ marks. marks_put standing.now.marks marks ≡
+        logged standing.now.uses_copyrect log.now standing.now.marks) }
 {
     if log.is_empty() {
         return Ok(None);
@@ -90,7 +93,13 @@ fn take_encodings(
     preferred: Encoding,
     copyrect: bool,
 ) -> Result<(), AllocError>
-    ensures { OnOk result (viewer_by standing.now draft.new ≡ record (viewer_by standing.now draft.old) { encoding = preferred; uses_copyrect = copyrect; marks = if copyrect then marks_put standing.now.marks draft.old.marks else without_copyrect (marks_put standing.now.marks draft.old.marks) }) }
+    ensures { OnOk result (viewer_by standing.now draft.new ≡
+        record (viewer_by standing.now draft.old) {
+          encoding = preferred;
+          uses_copyrect = copyrect;
+          marks = if copyrect then marks_put standing.now.marks draft.old.marks else
+              without_copyrect (marks_put standing.now.marks draft.old.marks);
+        }) }
 {
     draft.encoding = preferred;
     draft.uses_copyrect = copyrect;
@@ -109,7 +118,10 @@ fn take_request(
     rect: Rect,
     incremental: bool,
 ) -> Result<(), AllocError>
-    ensures { OnOk result (viewer_by standing.now draft.new ≡ record (viewer_by standing.now draft.old) { marks = requested (in_rect rect) incremental (marks_put standing.now.marks draft.old.marks) }) }
+    ensures { OnOk result (viewer_by standing.now draft.new ≡
+        record (viewer_by standing.now draft.old) {
+          marks = requested (in_rect rect) incremental (marks_put standing.now.marks draft.old.marks);
+        }) }
 {
     let mut marks = marks_to_change(standing, draft.marks.take())?;
     marks.request(rect, incremental)?;
@@ -119,7 +131,8 @@ fn take_request(
 
 /// What a viewer's message does to it (RFC 6143, 7.5).
 fn take_item(draft: &mut Draft, standing: &Standing, item: &Item) -> Result<(), AllocError>
-    ensures { OnOk result (viewer_by standing.now draft.new ≡ after_item standing.now.marks.width standing.now.marks.height item.now (viewer_by standing.now draft.old)) }
+    ensures { OnOk result (viewer_by standing.now draft.new ≡
+        after_item standing.now.marks.width standing.now.marks.height item.now (viewer_by standing.now draft.old)) }
 {
     match item {
         Item::Format(format) => {
@@ -147,7 +160,8 @@ fn draft_after(
     items: &[Item],
 ) -> Result<Draft, AllocError>
     requires cut { All (IsCutEntry standing.now.marks.width standing.now.marks.height) log.now }
-    ensures { IfOk result (λ draft. viewer_by standing.now draft ≡ after_items standing.now.marks.width standing.now.marks.height items.now (viewer_told log.now (viewer_in standing.now))) }
+    ensures { IfOk result (λ draft. viewer_by standing.now draft ≡
+        after_items standing.now.marks.width standing.now.marks.height items.now (viewer_told log.now (viewer_in standing.now))) }
 {
     let mut draft = draft_of(alloc, standing, log)?;
     for item in items {
@@ -213,7 +227,9 @@ pub fn hear_in(
     ensures reply { (before : List ℕ) → standing.old.ear ≡ rest before →
         IfOk result (λ reply. reply ≡ heard_reply standing.old.marks.width standing.old.marks.height name.now before piece.now) }
     ensures viewer { (before : List ℕ) → standing.old.ear ≡ rest before →
-        OnOk result (viewer_in standing.new ≡ after_items standing.old.marks.width standing.old.marks.height (new_items before piece.now) (record (viewer_told log.now (viewer_in standing.old)) { heard = rest (before ++ piece.now) })) }
+        OnOk result (viewer_in standing.new ≡
+        after_items standing.old.marks.width standing.old.marks.height (new_items before piece.now)
+        (record (viewer_told log.now (viewer_in standing.old)) { heard = rest (before ++ piece.now) })) }
     ensures width { standing.new.marks.width ≡ standing.old.marks.width }
     ensures height { standing.new.marks.height ≡ standing.old.marks.height }
     ensures err { OnErr result (standing.new ≡ standing.old) }

@@ -1,6 +1,7 @@
 //! What of an update is still to be encoded, part by part.
 
-ghost use Rattle.std.specs.Prelude.{◌≡◌, ◌≢◌, ◌+◌, ◌*◌, ◌^◌, ◌<◌, ◌≤◌, ◌++◌, ◌↔◌, [], All, IsTrue, true, false, IfOk, IfSome, OnOk, OnErr, length};
+ghost use Rattle.std.specs.Prelude.{◌≡◌, ◌≢◌, ◌+◌, ◌*◌, ◌^◌, ◌<◌, ◌≤◌, ◌++◌, ◌↔◌, [], All, IsTrue, true, false, IfOk, IfSome, OnOk};
+ghost use Rattle.std.specs.Prelude.{OnErr, length};
 ghost use Rattle.viewer.specs.Short.{IsShort};
 ghost use Rattle.viewer.specs.Updates.{coloured_bytes, rectangles_bytes, all_bytes};
 ghost use Rattle.viewer.specs.declared.left.Begun.TheVariants as begun;
@@ -64,7 +65,8 @@ fn begin_rectangle(
     encoding: Encoding,
     table: &Table,
 ) -> Result<Option<Begun>, AllocError>
-    ensures bytes { IfOk result (λ begun. out.new.items ++ rest_of table.now rectangle.now begun ≡ out.old.items ++ coloured_bytes encoding table.now rectangle.now) }
+    ensures bytes { IfOk result (λ begun. out.new.items ++ rest_of table.now rectangle.now begun ≡
+        out.old.items ++ coloured_bytes encoding table.now rectangle.now) }
     ensures more { OnOk result (length out.old.items < length out.new.items) }
     ensures within { IfOk result (λ begun. IfSome begun (λ b. IsBegun b rectangle.now)) }
 {
@@ -94,7 +96,8 @@ fn go_on_in_raw(
     done: usize,
 ) -> Result<Option<Begun>, AllocError>
     requires { done < length rectangle.now.colours }
-    ensures bytes { IfOk result (λ next. out.new.items ++ rest_of table.now rectangle.now next ≡ out.old.items ++ rest_of table.now rectangle.now (Some (begun.Colours done))) }
+    ensures bytes { IfOk result (λ next. out.new.items ++ rest_of table.now rectangle.now next ≡
+        out.old.items ++ rest_of table.now rectangle.now (Some (begun.Colours done))) }
     ensures more { OnOk result (length out.old.items < length out.new.items) }
     ensures bound { OnOk result (length out.new.items ≤ length out.old.items + 32768) }
     ensures within { IfOk result (λ next. IfSome next (λ b. IsBegun b rectangle.now)) }
@@ -128,7 +131,8 @@ fn go_on_in_hextile(
     carried: Carried,
 ) -> Result<Option<Begun>, AllocError>
     requires { 16 * row < rectangle.now.area.h }
-    ensures bytes { IfOk result (λ next. out.new.items ++ rest_of table.now rectangle.now next ≡ out.old.items ++ rest_of table.now rectangle.now (Some (begun.Tiles row carried))) }
+    ensures bytes { IfOk result (λ next. out.new.items ++ rest_of table.now rectangle.now next ≡
+        out.old.items ++ rest_of table.now rectangle.now (Some (begun.Tiles row carried))) }
     ensures more { OnOk result (length out.old.items < length out.new.items) }
     ensures within { IfOk result (λ next. IfSome next (λ b. IsBegun b rectangle.now)) }
 {
@@ -160,7 +164,8 @@ fn go_on(
     begun: Begun,
 ) -> Result<Option<Begun>, AllocError>
     requires { IsBegun begun rectangle.now }
-    ensures bytes { IfOk result (λ next. out.new.items ++ rest_of table.now rectangle.now next ≡ out.old.items ++ rest_of table.now rectangle.now (Some begun)) }
+    ensures bytes { IfOk result (λ next. out.new.items ++ rest_of table.now rectangle.now next ≡
+        out.old.items ++ rest_of table.now rectangle.now (Some begun)) }
     ensures more { OnOk result (length out.old.items < length out.new.items) }
     ensures within { IfOk result (λ next. IfSome next (λ b. IsBegun b rectangle.now)) }
 {
@@ -193,7 +198,8 @@ fn put_next(
     reached: Reached,
 ) -> Result<Reached, AllocError>
     requires { IsWithin rectangles.now.coloured.items reached }
-    ensures bytes { IfOk result (λ r. out.new.items ++ left_of rectangles.now table.now r ≡ out.old.items ++ left_of rectangles.now table.now reached) }
+    ensures bytes { IfOk result (λ r. out.new.items ++ left_of rectangles.now table.now r ≡
+        out.old.items ++ left_of rectangles.now table.now reached) }
     ensures more { OnOk result (left_of rectangles.now table.now reached ≢ [] → length out.old.items < length out.new.items) }
     ensures within { IfOk result (λ r. IsWithin rectangles.now.coloured.items r) }
 {
@@ -228,7 +234,8 @@ fn put_run(
     done: usize,
 ) -> Result<Reached, AllocError>
     requires { IsWithin rectangles.now.coloured.items (so_far.Within next (begun.Colours done)) }
-    ensures bytes { IfOk result (λ r. out.new.items ++ left_of rectangles.now table.now r ≡ out.old.items ++ left_of rectangles.now table.now (so_far.Within next (begun.Colours done))) }
+    ensures bytes { IfOk result (λ r. out.new.items ++ left_of rectangles.now table.now r ≡
+        out.old.items ++ left_of rectangles.now table.now (so_far.Within next (begun.Colours done))) }
     ensures more { OnOk result (length out.old.items < length out.new.items) }
     ensures bound { OnOk result (length out.new.items ≤ length out.old.items + 32768) }
     ensures within { IfOk result (λ r. IsWithin rectangles.now.coloured.items r) }

@@ -85,7 +85,9 @@ fn size_of(rectangles: &[Coloured]) -> usize {
 
 /// Appends the head of a FramebufferUpdate, and its copies.
 pub fn put_opening(out: &mut Vec<u8>, rectangles: &Rectangles) -> Result<(), AllocError>
-    ensures { OnOk result (out.new.items ≡ out.old.items ++ (update_head (length rectangles.now.moves.items + length rectangles.now.coloured.items) ++ flat_map moved_bytes rectangles.now.moves.items)) }
+    ensures { OnOk result (out.new.items ≡
+        out.old.items ++ (update_head (length rectangles.now.moves.items + length rectangles.now.coloured.items) ++
+        flat_map moved_bytes rectangles.now.moves.items)) }
 {
     let count = rectangles.moves.len() + rectangles.coloured.len();
     put_update_head(out, count as u16)?;

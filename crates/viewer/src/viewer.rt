@@ -1,6 +1,7 @@
 //! A viewer, as the screen keeps it.
 
-ghost use Rattle.std.specs.Prelude.{◌≡◌, ◌≢◌, ◌&&◌, ◌||◌, not, ℕ, List, ◌++◌, ◌≤◌, ◌<◌, ◌^◌, [], length, All, IfOk, IfSome, OnOk, OnErr};
+ghost use Rattle.std.specs.Prelude.{◌≡◌, ◌≢◌, ◌&&◌, ◌||◌, not, ℕ, List, ◌++◌, ◌≤◌, ◌<◌, ◌^◌, [], length, All, IfOk, IfSome, OnOk};
+ghost use Rattle.std.specs.Prelude.{OnErr};
 ghost use Rattle.messages.specs.Reading.{rest, new_items, is_open_rest, fault_kept};
 ghost use Rattle.copy_schedule.specs.Marks.{Marks, pending};
 ghost use Rattle.copy_schedule.specs.Log.{logged, IsCutEntry};
@@ -63,7 +64,8 @@ impl Viewer {
         ensures reply { (before : List ℕ) → self.old.heard ≡ rest before →
             IfOk result (λ reply. reply ≡ heard_reply self.old.marks.width self.old.marks.height name.now before piece.now) }
         ensures viewer { (before : List ℕ) → self.old.heard ≡ rest before →
-            OnOk result (self.new ≡ after_items self.old.marks.width self.old.marks.height (new_items before piece.now) (record self.old { heard = rest (before ++ piece.now) })) }
+            OnOk result (self.new ≡ after_items self.old.marks.width self.old.marks.height (new_items before piece.now)
+            (record self.old { heard = rest (before ++ piece.now) })) }
         ensures width { self.new.marks.width ≡ self.old.marks.width }
         ensures height { self.new.marks.height ≡ self.old.marks.height }
         ensures err { OnErr result (self.new ≡ self.old) }
@@ -84,7 +86,8 @@ impl Viewer {
         ensures reply { (before : List ℕ) → self.old.heard ≡ rest before →
             IfOk result (λ reply. reply ≡ heard_reply self.old.marks.width self.old.marks.height name.now before piece.now) }
         ensures viewer { (before : List ℕ) → self.old.heard ≡ rest before →
-            OnOk result (self.new ≡ after_items self.old.marks.width self.old.marks.height (new_items before piece.now) (record (viewer_told log.now self.old) { heard = rest (before ++ piece.now) })) }
+            OnOk result (self.new ≡ after_items self.old.marks.width self.old.marks.height (new_items before piece.now)
+            (record (viewer_told log.now self.old) { heard = rest (before ++ piece.now) })) }
         ensures width { self.new.marks.width ≡ self.old.marks.width }
         ensures height { self.new.marks.height ≡ self.old.marks.height }
         ensures err { OnErr result (self.new ≡ self.old) }
@@ -101,7 +104,8 @@ impl Viewer {
 
     /// The same, once the viewer is told of the drawing that stands in a log, the first entry's first. This takes no memory.
     pub fn is_pending_after(&self, log: &[LogEntry]) -> bool
-        ensures { result ≡ (is_open_rest self.now.heard && (not (none_wait self.now.notices) || pending (viewer_told log.now self.now).marks)) }
+        ensures { result ≡ (is_open_rest self.now.heard &&
+            (not (none_wait self.now.notices) || pending (viewer_told log.now self.now).marks)) }
     {
         is_pending(&self.standing, log)
     }
@@ -124,8 +128,10 @@ impl Viewer {
         requires width { self.old.marks.width ≡ picture.old.width }
         requires height { self.old.marks.height ≡ picture.old.height }
         ensures same { picture.new ≡ picture.old }
-        ensures bytes { IfOk result (λ update. bytes_given update ≡ (sending_kept picture.old.width picture.old.height limit picture.old.colours self.old).0) }
-        ensures viewer { OnOk result (self.new ≡ (sending_kept picture.old.width picture.old.height limit picture.old.colours self.old).1) }
+        ensures bytes { IfOk result (λ update. bytes_given update ≡
+            (sending_kept picture.old.width picture.old.height limit picture.old.colours self.old).0) }
+        ensures viewer { OnOk result (self.new ≡
+            (sending_kept picture.old.width picture.old.height limit picture.old.colours self.old).1) }
         ensures some { IfOk result (λ update. IfSome update (λ u. u ≢ [])) }
         ensures width { self.new.marks.width ≡ self.old.marks.width }
         ensures height { self.new.marks.height ≡ self.old.marks.height }
@@ -144,8 +150,10 @@ impl Viewer {
         requires width { self.old.marks.width ≡ picture.old.width }
         requires height { self.old.marks.height ≡ picture.old.height }
         ensures same { picture.new ≡ picture.old }
-        ensures bytes { IfOk result (λ bytes. bytes.items ≡ (sending_kept picture.old.width picture.old.height limit picture.old.colours self.old).0) }
-        ensures viewer { OnOk result (self.new ≡ (sending_kept picture.old.width picture.old.height limit picture.old.colours self.old).1) }
+        ensures bytes { IfOk result (λ bytes. bytes.items ≡
+            (sending_kept picture.old.width picture.old.height limit picture.old.colours self.old).0) }
+        ensures viewer { OnOk result (self.new ≡
+            (sending_kept picture.old.width picture.old.height limit picture.old.colours self.old).1) }
         ensures width { self.new.marks.width ≡ self.old.marks.width }
         ensures height { self.new.marks.height ≡ self.old.marks.height }
         ensures err { OnErr result (self.new ≡ self.old) }
@@ -180,7 +188,8 @@ impl Viewer {
     /// The drawing of a log in fewer entries, as it is for this viewer and for each that uses CopyRect as it does: neighbouring
     /// marks are one region. `AllocError` where memory is refused.
     pub fn joined_log(&self, log: &[LogEntry]) -> Result<Vec<LogEntry>, AllocError>
-        ensures same { IfOk result (λ joined. (m : Marks) → logged self.now.uses_copyrect joined.items m ≡ logged self.now.uses_copyrect log.now m) }
+        ensures same { IfOk result (λ joined. (m : Marks) →
+            logged self.now.uses_copyrect joined.items m ≡ logged self.now.uses_copyrect log.now m) }
         ensures cut { IfOk result (λ joined. (w h : ℕ) → All (IsCutEntry w h) log.now → All (IsCutEntry w h) joined.items) }
     {
         joined_log(self.alloc, log, self.standing.uses_copyrect)
@@ -194,7 +203,8 @@ impl Viewer {
     }
 
     /// The marks as they are once the drawing is known that stands in a log, the first entry's first; `commit` puts them in
-    /// place. Each entry makes new regions, so a long log is first made shorter by `joined_log`. `AllocError` where memory is refused.
+    /// place. Each entry makes new regions, so a long log is first made shorter by `joined_log`. `AllocError` where memory is
+    /// refused.
     pub fn apply_log(&self, entries: &[LogEntry]) -> Result<Prepared, AllocError>
         requires cut { All (IsCutEntry self.now.marks.width self.now.marks.height) entries.now }
         ensures { IfOk result (λ prepared. prepared ≡ logged self.now.uses_copyrect entries.now self.now.marks) }

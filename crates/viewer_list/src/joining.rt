@@ -136,7 +136,8 @@ fn is_last_small(log: &[LogEntry]) -> bool
 }
 
 /// The last two entries from a place on become one for as long as the last is not small beside the one before it. So a region is
-/// joined again only as more and more is drawn behind it, and the entries from the place on are few. Where the memory for it is refused,
+/// joined again only as more and more is drawn behind it, and the entries from the place on are few. Where the memory for it is
+/// refused,
 /// they stay apart.
 fn join_alike(alloc: Global, viewers: &mut Clients<Lagging>, log: &mut Vec<LogEntry>, place: usize)
     requires place { place < length log.old.items }
@@ -156,7 +157,8 @@ fn join_alike(alloc: Global, viewers: &mut Clients<Lagging>, log: &mut Vec<LogEn
 }
 
 /// Before a log has too many entries besides the first, joined ones, these become one, and with it those joined ones that are not
-/// much larger and behind which no viewer stands. Where a copy is among them, or too many joined ones stand there, all viewers catch
+/// much larger and behind which no viewer stands. Where a copy is among them, or too many joined ones stand there, all viewers
+/// catch
 /// up in place of that, and the log is emptied. Either way all of its entries are joined ones then: how many. After an `AllocError`
 /// it stands as it was.
 pub fn join_entries(

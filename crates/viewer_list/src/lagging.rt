@@ -78,7 +78,8 @@ fn is_for(shared: &Shared, lagging: &Lagging) -> bool
 /// The viewer's marks take the entries, and lack nothing then. After an `AllocError` they are as they were.
 fn take(log: &[LogEntry], shared: &Shared, lagging: &mut Lagging) -> Result<(), AllocError>
     requires cut { All (IsCutEntry lagging.old.viewer.marks.width lagging.old.viewer.marks.height) shared.now.entries.items }
-    ensures ok { OnOk result (lagging.new ≡ record { viewer = viewer_told shared.now.entries.items lagging.old.viewer; taken = length log.now }) }
+    ensures ok { OnOk result (lagging.new ≡
+        record { viewer = viewer_told shared.now.entries.items lagging.old.viewer; taken = length log.now }) }
     ensures err { OnErr result (lagging.new ≡ lagging.old) }
 {
     let prepared = lagging.viewer.apply_log(&shared.entries)?;
@@ -144,9 +145,12 @@ pub fn hear_one(
     requires fits { Fits log.now lagging.old }
     requires name { length name.now ≤ u32.MAX }
     ensures reply { (before : List ℕ) → (caught_up log.now lagging.old).heard ≡ rest before →
-        IfOk result (λ reply. reply ≡ heard_reply (caught_up log.now lagging.old).marks.width (caught_up log.now lagging.old).marks.height name.now before piece.now) }
+        IfOk result (λ reply. reply ≡ heard_reply (caught_up log.now lagging.old).marks.width
+        (caught_up log.now lagging.old).marks.height name.now before piece.now) }
     ensures viewer { (before : List ℕ) → (caught_up log.now lagging.old).heard ≡ rest before →
-        OnOk result (caught_up log.now lagging.new ≡ after_items (caught_up log.now lagging.old).marks.width (caught_up log.now lagging.old).marks.height (new_items before piece.now) (record (caught_up log.now lagging.old) { heard = rest (before ++ piece.now) })) }
+        OnOk result (caught_up log.now lagging.new ≡
+        after_items (caught_up log.now lagging.old).marks.width (caught_up log.now lagging.old).marks.height
+        (new_items before piece.now) (record (caught_up log.now lagging.old) { heard = rest (before ++ piece.now) })) }
     ensures width { (caught_up log.now lagging.new).marks.width ≡ (caught_up log.now lagging.old).marks.width }
     ensures height { (caught_up log.now lagging.new).marks.height ≡ (caught_up log.now lagging.old).marks.height }
     ensures fits { Fits log.now lagging.new }
@@ -178,8 +182,10 @@ pub fn cut_one(
     requires width { (caught_up log.now lagging.old).marks.width ≡ picture.old.width }
     requires height { (caught_up log.now lagging.old).marks.height ≡ picture.old.height }
     ensures same { picture.new ≡ picture.old }
-    ensures bytes { IfOk result (λ update. bytes_given update ≡ (sending_kept picture.old.width picture.old.height limit picture.old.colours (caught_up log.now lagging.old)).0) }
-    ensures viewer { OnOk result (caught_up log.now lagging.new ≡ (sending_kept picture.old.width picture.old.height limit picture.old.colours (caught_up log.now lagging.old)).1) }
+    ensures bytes { IfOk result (λ update. bytes_given update ≡
+        (sending_kept picture.old.width picture.old.height limit picture.old.colours (caught_up log.now lagging.old)).0) }
+    ensures viewer { OnOk result (caught_up log.now lagging.new ≡
+        (sending_kept picture.old.width picture.old.height limit picture.old.colours (caught_up log.now lagging.old)).1) }
     ensures some { IfOk result (λ update. IfSome update (λ u. u ≢ [])) }
     ensures fits { Fits log.now lagging.new }
     ensures err { OnErr result (caught_up log.now lagging.new ≡ caught_up log.now lagging.old) }
@@ -200,8 +206,10 @@ pub fn cut_bytes_one(
     requires width { (caught_up log.now lagging.old).marks.width ≡ picture.old.width }
     requires height { (caught_up log.now lagging.old).marks.height ≡ picture.old.height }
     ensures same { picture.new ≡ picture.old }
-    ensures bytes { IfOk result (λ bytes. bytes.items ≡ (sending_kept picture.old.width picture.old.height limit picture.old.colours (caught_up log.now lagging.old)).0) }
-    ensures viewer { OnOk result (caught_up log.now lagging.new ≡ (sending_kept picture.old.width picture.old.height limit picture.old.colours (caught_up log.now lagging.old)).1) }
+    ensures bytes { IfOk result (λ bytes. bytes.items ≡
+        (sending_kept picture.old.width picture.old.height limit picture.old.colours (caught_up log.now lagging.old)).0) }
+    ensures viewer { OnOk result (caught_up log.now lagging.new ≡
+        (sending_kept picture.old.width picture.old.height limit picture.old.colours (caught_up log.now lagging.old)).1) }
     ensures fits { Fits log.now lagging.new }
     ensures err { OnErr result (caught_up log.now lagging.new ≡ caught_up log.now lagging.old) }
 {

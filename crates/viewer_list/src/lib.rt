@@ -1,8 +1,10 @@
 //! The viewers of a screen, and one log of the drawing that some of them lack.
 //!
-//! A viewer's marks are needed where an update is cut for it, and where its messages change them. Until then it only lags: a drawing
+//! A viewer's marks are needed where an update is cut for it, and where its messages change them. Until then it only lags: a
+//! drawing
 //! call appends an entry to the log, which stands there once for all viewers, and visits none of them, however many there are and
-//! whatever they ask for. A viewer keeps its place in the log, and catches up before its next bytes are heard or an update is cut for
+//! whatever they ask for. A viewer keeps its place in the log, and catches up before its next bytes are heard or an update is cut
+//! for
 //! it. Whether something is to be sent to it is read from its marks and from the entries that they lack. Contracts see each viewer
 //! as it would be had it been told of all drawing at once; the log is in no clause.
 //!
@@ -18,7 +20,8 @@
 //! viewers' bells and texts.
 #![tactic(auto)]
 
-ghost use Rattle.std.specs.Prelude.{◌≡◌, ◌≢◌, ◌++◌, ◌∷◌, [], ℕ, List, All, ◌≤◌, ◌^◌, ◌==◌, not, filter, length, IsTrue, ◌↔◌, IfOk, IfSome, OnOk, OnErr, MatchOption, MatchResult, IsOkUnless, is_some, None, Some};
+ghost use Rattle.std.specs.Prelude.{◌≡◌, ◌≢◌, ◌++◌, ◌∷◌, [], ℕ, List, All, ◌≤◌, ◌^◌, ◌==◌, not, filter, length, IsTrue, ◌↔◌, IfOk};
+ghost use Rattle.std.specs.Prelude.{IfSome, OnOk, OnErr, MatchOption, MatchResult, IsOkUnless, is_some, None, Some};
 ghost use Rattle.std.specs.Map.{keys_of, values_of};
 ghost use Rattle.std.specs.Option.{option_map};
 ghost use Rattle.client_list.specs.Connected.{changed};
@@ -70,7 +73,10 @@ impl Model for ViewerList {
 
     ghost use Rattle.viewer_list.specs.Lagging.{seen, AllFit};
 
-    ghost view = { λ a. record { pairs = seen a.log.items a.viewers.pairs; room = min (vec_capacity a.log) (a.joined + 256) - vec_len a.log } };
+    ghost view = { λ a. record {
+      pairs = seen a.log.items a.viewers.pairs;
+      room = min (vec_capacity a.log) (a.joined + 256) - vec_len a.log;
+    } };
 
     ghost invariant = { λ a. AllFit a.log.items a.joined a.viewers.pairs };
 }
@@ -239,7 +245,9 @@ impl ViewerList {
         ensures reply { (v : KeptViewer) (before : List ℕ) → viewer_of self.old number ≡ Some v → v.heard ≡ rest before →
             IfOk result (λ reply. reply ≡ Some (heard_reply v.marks.width v.marks.height name.now before piece.now)) }
         ensures viewer { (v : KeptViewer) (before : List ℕ) → viewer_of self.old number ≡ Some v → v.heard ≡ rest before →
-            OnOk result (self.new.pairs ≡ with_viewer self.old number (after_items v.marks.width v.marks.height (new_items before piece.now) (record v { heard = rest (before ++ piece.now) }))) }
+            OnOk result (self.new.pairs ≡ with_viewer self.old number
+            (after_items v.marks.width v.marks.height (new_items before piece.now)
+            (record v { heard = rest (before ++ piece.now) }))) }
         ensures size { (w h : ℕ) → All (IsOfSize w h) (values_of self.old.pairs) → All (IsOfSize w h) (values_of self.new.pairs) }
         ensures err { OnErr result (self.new.pairs ≡ self.old.pairs) }
     {
@@ -264,9 +272,11 @@ impl ViewerList {
         ensures absent { viewer_of self.old number ≡ None → result ≡ Ok None }
         ensures none { viewer_of self.old number ≡ None → self.new.pairs ≡ self.old.pairs }
         ensures bytes { (v : KeptViewer) → viewer_of self.old number ≡ Some v →
-            IfOk result (λ update. option_map bytes_given update ≡ Some (sending_kept picture.old.width picture.old.height limit picture.old.colours v).0) }
+            IfOk result (λ update. option_map bytes_given update ≡
+            Some (sending_kept picture.old.width picture.old.height limit picture.old.colours v).0) }
         ensures viewer { (v : KeptViewer) → viewer_of self.old number ≡ Some v →
-            OnOk result (self.new.pairs ≡ with_viewer self.old number (sending_kept picture.old.width picture.old.height limit picture.old.colours v).1) }
+            OnOk result (self.new.pairs ≡ with_viewer self.old number
+            (sending_kept picture.old.width picture.old.height limit picture.old.colours v).1) }
         ensures some { IfOk result (λ update. IfSome update (λ u. IfSome u (λ bytes. bytes ≢ []))) }
         ensures err { OnErr result (self.new.pairs ≡ self.old.pairs) }
     {
@@ -289,9 +299,11 @@ impl ViewerList {
         ensures absent { viewer_of self.old number ≡ None → result ≡ Ok None }
         ensures none { viewer_of self.old number ≡ None → self.new.pairs ≡ self.old.pairs }
         ensures bytes { (v : KeptViewer) → viewer_of self.old number ≡ Some v →
-            IfOk result (λ bytes. option_map (λ b. b.items) bytes ≡ Some (sending_kept picture.old.width picture.old.height limit picture.old.colours v).0) }
+            IfOk result (λ bytes. option_map (λ b. b.items) bytes ≡
+            Some (sending_kept picture.old.width picture.old.height limit picture.old.colours v).0) }
         ensures viewer { (v : KeptViewer) → viewer_of self.old number ≡ Some v →
-            OnOk result (self.new.pairs ≡ with_viewer self.old number (sending_kept picture.old.width picture.old.height limit picture.old.colours v).1) }
+            OnOk result (self.new.pairs ≡ with_viewer self.old number
+            (sending_kept picture.old.width picture.old.height limit picture.old.colours v).1) }
         ensures err { OnErr result (self.new.pairs ≡ self.old.pairs) }
     {
         let bytes = self.cut_bytes_viewer(number, picture, limit)?;
@@ -336,7 +348,9 @@ impl ViewerList {
         ensures reply { (v : KeptViewer) (before : List ℕ) → viewer_of self.old number ≡ Some v → v.heard ≡ rest before →
             IfOk result (λ reply. reply ≡ Some (heard_reply v.marks.width v.marks.height name.now before piece.now)) }
         ensures viewer { (v : KeptViewer) (before : List ℕ) → viewer_of self.old number ≡ Some v → v.heard ≡ rest before →
-            OnOk result (self.new.pairs ≡ with_viewer self.old number (after_items v.marks.width v.marks.height (new_items before piece.now) (record v { heard = rest (before ++ piece.now) }))) }
+            OnOk result (self.new.pairs ≡ with_viewer self.old number
+            (after_items v.marks.width v.marks.height (new_items before piece.now)
+            (record v { heard = rest (before ++ piece.now) }))) }
         ensures size { (w h : ℕ) → All (IsOfSize w h) (values_of self.old.pairs) → All (IsOfSize w h) (values_of self.new.pairs) }
         ensures err { OnErr result (self.new.pairs ≡ self.old.pairs) }
     {
@@ -360,9 +374,11 @@ impl ViewerList {
         ensures absent { viewer_of self.old number ≡ None → result ≡ Ok None }
         ensures none { viewer_of self.old number ≡ None → self.new.pairs ≡ self.old.pairs }
         ensures bytes { (v : KeptViewer) → viewer_of self.old number ≡ Some v →
-            IfOk result (λ update. option_map bytes_given update ≡ Some (sending_kept picture.old.width picture.old.height limit picture.old.colours v).0) }
+            IfOk result (λ update. option_map bytes_given update ≡
+            Some (sending_kept picture.old.width picture.old.height limit picture.old.colours v).0) }
         ensures viewer { (v : KeptViewer) → viewer_of self.old number ≡ Some v →
-            OnOk result (self.new.pairs ≡ with_viewer self.old number (sending_kept picture.old.width picture.old.height limit picture.old.colours v).1) }
+            OnOk result (self.new.pairs ≡ with_viewer self.old number
+            (sending_kept picture.old.width picture.old.height limit picture.old.colours v).1) }
         ensures some { IfOk result (λ update. IfSome update (λ u. IfSome u (λ bytes. bytes ≢ []))) }
         ensures err { OnErr result (self.new.pairs ≡ self.old.pairs) }
     {
@@ -386,9 +402,11 @@ impl ViewerList {
         ensures absent { viewer_of self.old number ≡ None → result ≡ Ok None }
         ensures none { viewer_of self.old number ≡ None → self.new.pairs ≡ self.old.pairs }
         ensures bytes { (v : KeptViewer) → viewer_of self.old number ≡ Some v →
-            IfOk result (λ bytes. option_map (λ b. b.items) bytes ≡ Some (sending_kept picture.old.width picture.old.height limit picture.old.colours v).0) }
+            IfOk result (λ bytes. option_map (λ b. b.items) bytes ≡
+            Some (sending_kept picture.old.width picture.old.height limit picture.old.colours v).0) }
         ensures viewer { (v : KeptViewer) → viewer_of self.old number ≡ Some v →
-            OnOk result (self.new.pairs ≡ with_viewer self.old number (sending_kept picture.old.width picture.old.height limit picture.old.colours v).1) }
+            OnOk result (self.new.pairs ≡ with_viewer self.old number
+            (sending_kept picture.old.width picture.old.height limit picture.old.colours v).1) }
         ensures err { OnErr result (self.new.pairs ≡ self.old.pairs) }
     {
         let Some(lagging) = self.viewers.get_mut(number) else {
