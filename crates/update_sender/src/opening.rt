@@ -48,8 +48,7 @@ pub fn serve_opening<L: Ledger, Rd: Read, W: Write, R: Wait>(
     match greeted {
         Ok(()) => Opened::Ready(listener, speaker),
         Err(ended) => {
-            // It may be closed already. Where even this wants memory, it stays live.
-            let _closed = shared.close(rt, listener.viewer());
+            shared.close_at_last(rt, listener.viewer());
             Opened::Over(receipt_of(listener, speaker, ended))
         }
     }

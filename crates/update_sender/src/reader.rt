@@ -63,8 +63,7 @@ pub fn serve_reader<L: Ledger, Rd: Read, R: Wait>(
         &mut seat,
         &mut dropped,
     );
-    // It may be closed already. Where even this wants memory, it stays live.
-    let _closed = shared.close(rt, listener.viewer);
+    shared.close_at_last(rt, listener.viewer);
     ReadHalf {
         viewer: listener.viewer,
         pieces: listener.pieces,

@@ -50,8 +50,7 @@ pub fn serve_sender<L: Ledger, W: Write, G: Gate, R: Wait>(
     let viewer = speaker.viewer;
     let ended = send_all(rt, shared, &mut speaker, writer, gate);
     if ended.may_break_off() {
-        // It may be closed already. Where even this wants memory, it stays live.
-        let _closed = shared.close(rt, viewer);
+        shared.close_at_last(rt, viewer);
     }
     gate.ended(viewer);
     WriteHalf {

@@ -17,6 +17,7 @@ use std::alloc::{AllocError, Global};
 use std::marker::Model;
 use std::sync::ledger::{Blank, Ledger};
 use std::sync::{Condvar, Mutex, Wait};
+use std::thread;
 
 /// A screen that threads share. Contracts see the configuration that it was made with.
 #[derive(Drop)]
@@ -108,6 +109,18 @@ impl<L: Ledger> Shared<L> {
         self.desk.lock(rt).close(number)?;
         self.moved.notify_all();
         Ok(())
+    }
+
+    /// The same for the viewer's own threads: what is refused for memory is tried again until there is some. Else the viewer
+    /// would stay, and its sender wait for ever for an update that nobody can be sent.
+    pub(crate) fn close_at_last<R: Wait>(&self, rt: &R, number: u64) {
+        for _ in rt.forever() {
+            match self.close(rt, number) {
+                Err(ScreenError::OutOfMemory) => thread::yield_now(),
+                // It is closed, or somebody else has done so.
+                Ok(()) | Err(_) => return,
+            }
+        }
     }
 
     /// Every later `cut_wait` gives None.
