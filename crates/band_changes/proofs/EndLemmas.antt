@@ -216,8 +216,8 @@ bottom_bool false false q c e = refl
 abbrev pub changed : Bool → Band → Band
 changed reverse_x b = record b { row = without_end reverse_x b.row }
 
-abbrev pub place : Band → Interval → Rectangle
-place b i = record { rows = rows_of b; columns = i }
+abbrev pub cell_rectangle : Band → Interval → Rectangle
+cell_rectangle b i = record { rows = rows_of b; columns = i }
 
 is_changed : (reverse_x : Bool) (b : Band) → IsBand b → IsChanged (changed reverse_x b)
 is_changed reverse_x b h = record { some = h.some; row = end_row reverse_x b.row h.row }
@@ -230,7 +230,7 @@ first_order b [] c cs h e = absurd (cc)
 first_order b (d ∷ ds) c cs h e = let top : d.top ≡ c.top = ap (λ (u : Band). u.top) (same_Some d c (ap (λ (l : List Band). slice_get l 0) e)) in let order : b.bottom ≤ℤ d.top = h.1.order in omega (arith, ints, top, order)
 
 pub top_changed : (b : Band) (rest : List Band) (reverse_x : Bool) (i : Interval) → AreBands (b ∷ rest) → end_of reverse_x b.row ≡ Some i
-    → IsChanged (changed reverse_x b) × AreBands rest × StandAbove (changed reverse_x b ∷ []) rest × ((x y : ℤ) → has (changed reverse_x b ∷ rest) x y ≡ (has (b ∷ rest) x y && not (in_rectangle (place b i) x y)))
+    → IsChanged (changed reverse_x b) × AreBands rest × StandAbove (changed reverse_x b ∷ []) rest × ((x y : ℤ) → has (changed reverse_x b ∷ rest) x y ≡ (has (b ∷ rest) x y && not (in_rectangle (cell_rectangle b i) x y)))
 top_changed b rest reverse_x i h e =
     let own = first_band b rest h in (
       is_changed reverse_x b own,
@@ -250,7 +250,7 @@ front_order [] last b h = h.1.order
 front_order (a ∷ front) last b h = front_order front last b (band_tail a ((front ++ last ∷ []) ++ b ∷ []) h)
 
 pub bottom_changed : (front : List Band) (b : Band) (reverse_x : Bool) (i : Interval) → AreBands (front ++ b ∷ []) → end_of reverse_x b.row ≡ Some i
-    → AreBands front × StandAbove front (changed reverse_x b ∷ []) × IsChanged (changed reverse_x b) × ((x y : ℤ) → has (front ++ changed reverse_x b ∷ []) x y ≡ (has (front ++ b ∷ []) x y && not (in_rectangle (place b i) x y)))
+    → AreBands front × StandAbove front (changed reverse_x b ∷ []) × IsChanged (changed reverse_x b) × ((x y : ℤ) → has (front ++ changed reverse_x b ∷ []) x y ≡ (has (front ++ b ∷ []) x y && not (in_rectangle (cell_rectangle b i) x y)))
 bottom_changed front b reverse_x i h e =
     let own = last_is_band front b h in (
       front_bands front b h,
@@ -260,7 +260,7 @@ bottom_changed front b reverse_x i h e =
       is_changed reverse_x b own,
       λ x y. has_append front (changed reverse_x b ∷ []) x y ∙ ap (λ t. has front x y || ((in_rows (rows_of b) y && t) || false)) (end_has reverse_x b.row i x own.row e)
           ∙ bottom_bool (has front x y) (in_rows (rows_of b) y) (row_has b.row x) (in_interval i x) (not_both (in_rows (rows_of b) y) (has front x y) (λ f. bands_before front b x y h (rows_low b y f)))
-          ∙ ap (λ t. t && not (in_rectangle (place b i) x y)) (sym (has_append front (b ∷ []) x y)),
+          ∙ ap (λ t. t && not (in_rectangle (cell_rectangle b i) x y)) (sym (has_append front (b ∷ []) x y)),
     )
 
 -- ---- the band is taken out or stands
@@ -401,7 +401,7 @@ top_taken reverse_x old wound took found rows columns h wound_is found_is some e
       changed = λ first cs e.
           let same = sym below_is ∙ e in
           subst (λ l. IsChanged first × AreBands l × StandAbove (first ∷ []) l) (same_tail (changed reverse_x b) first rest cs same) (subst (λ u. IsChanged u × AreBands rest × StandAbove (u ∷ []) rest) (same_head (changed reverse_x b) first rest cs same) (made.0, made.1, made.2));
-      has = λ x y. ap (λ l. has l x y) below_is ∙ made.3 x y ∙ ap (λ l. has l x y && not (in_rectangle (place b columns) x y)) (sym all_is) ∙ ap (λ r. has (old.above ++ old.below) x y && not (in_rectangle (record { rows = r; columns = columns }) x y)) there.3;
+      has = λ x y. ap (λ l. has l x y) below_is ∙ made.3 x y ∙ ap (λ l. has l x y && not (in_rectangle (cell_rectangle b columns) x y)) (sym all_is) ∙ ap (λ r. has (old.above ++ old.below) x y && not (in_rectangle (record { rows = r; columns = columns }) x y)) there.3;
       row = ap (λ (u : Bands). u.row) took_is ∙ ap (λ (u : Bands). u.row) wound_is;
       spare = omega (arith, ap (λ (u : Bands). u.spare) took_is, ap (λ (u : Bands). u.spare) wound_is);
     }
@@ -494,7 +494,7 @@ bottom_taken reverse_x old back took rows columns h at end takes =
       changed = λ first cs e.
           let same = sym below_is ∙ e in (subst IsChanged (same_head (changed reverse_x b) first [] cs same) made.2, sym (same_tail (changed reverse_x b) first [] cs same));
       popped = ap (λ r. Some (record { rows = r; columns = columns })) (sym at.rows_are) ∙ ap (λ o. option_map (λ (columns : Interval). record { rows = rows_of b; columns = columns }) o) (sym end_is) ∙ sym (ap (end_in_band reverse_x) (ap (last_or None) at.all ∙ last_or_last Band None front b));
-      has = λ x y. ap (λ l. has (l ++ took.below) x y) above_is ∙ ap (λ l. has (front ++ l) x y) below_is ∙ made.3 x y ∙ ap (λ l. has l x y && not (in_rectangle (place b columns) x y)) (sym at.all) ∙ ap (λ r. has (old.above ++ old.below) x y && not (in_rectangle (record { rows = r; columns = columns }) x y)) at.rows_are;
+      has = λ x y. ap (λ l. has (l ++ took.below) x y) above_is ∙ ap (λ l. has (front ++ l) x y) below_is ∙ made.3 x y ∙ ap (λ l. has l x y && not (in_rectangle (cell_rectangle b columns) x y)) (sym at.all) ∙ ap (λ r. has (old.above ++ old.below) x y && not (in_rectangle (record { rows = r; columns = columns }) x y)) at.rows_are;
       row = ap (λ (u : Bands). u.row) took_is ∙ ap (λ (u : Bands). u.row) at.back_is;
       spare = omega (arith, ap (λ (u : Bands). u.spare) took_is, ap (λ (u : Bands). u.spare) at.back_is);
     }

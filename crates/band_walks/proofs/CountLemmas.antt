@@ -7,9 +7,9 @@ use Rattle.band_list.specs.declared.Rows.{Rows}
 use Rattle.band_list.specs.Bands.{Band, Reading, band_with, first_row, nodes_in, reading}
 use Rattle.band_list.specs.EachLemmas.{last_same}
 use Rattle.row_walks.specs.declared.Keep.{Keep}
-use Rattle.row_walks.specs.Rows.{IsRow, row_has, kept, IsKept as IsRowKept}
+use Rattle.row_walks.specs.Rows.{IsRow, row_has, keeps_place, IsKept as IsRowKept}
 use Rattle.row_walks.specs.RowLemmas.{only_row}
-use Rattle.row_walks.specs.WalkLemmas.{kept-none}
+use Rattle.row_walks.specs.WalkLemmas.{keeps_place-none}
 use Rattle.band_walks.specs.declared.strips.Strip.{Strip}
 use Rattle.band_walks.specs.Sets.{in_rows, has, AreBands, EndBy, IsKept, Counts}
 use Rattle.band_walks.specs.Strips.{next_strip, start_of, later, first_rows_of}
@@ -23,10 +23,10 @@ use Rattle.band_walks.specs.WholeLemmas.{same_row, none_behind, row_of_both, par
 -- ---- the nodes of one strip's row
 
 module _ (k : Keep) (p q a b c d : Reading) (above row : List Interval) (is_c : c ≡ a) (is_d : d ≡ b) (h : IsRowKept k p.left q.left above) (h' : IsRowKept k a.left b.left row) where
-  has_now : (x : ℤ) → kept k (row_has c.left x) (row_has d.left x) ≡ row_has row x
-  has_now x = ap (λ (u : Reading). kept k (row_has u.left x) (row_has d.left x)) is_c ∙ ap (λ (u : Reading). kept k (row_has a.left x) (row_has u.left x)) is_d ∙ sym (h'.has x)
+  has_now : (x : ℤ) → keeps_place k (row_has c.left x) (row_has d.left x) ≡ row_has row x
+  has_now x = ap (λ (u : Reading). keeps_place k (row_has u.left x) (row_has d.left x)) is_c ∙ ap (λ (u : Reading). keeps_place k (row_has a.left x) (row_has u.left x)) is_d ∙ sym (h'.has x)
 
-  pub counts_on : ((x : ℤ) → kept k (row_has p.left x) (row_has q.left x) ≡ kept k (row_has c.left x) (row_has d.left x)) → Counts above row 0
+  pub counts_on : ((x : ℤ) → keeps_place k (row_has p.left x) (row_has q.left x) ≡ keeps_place k (row_has c.left x) (row_has d.left x)) → Counts above row 0
   counts_on same =
       let rows : above ≡ row = only_row above row h.is_row h'.is_row (λ x. h.has x ∙ same x ∙ has_now x) in
       record { none = λ is. refl; goes_on = λ is. refl; new = λ some other. absurd (other (sym rows)) }
@@ -136,7 +136,7 @@ counting_begins k p q a b y first second h h' e e' none none' f f' is low =
       state = state_begins k a.bands b.bands y h h' (subst (λ n. IsStart n a.bands) (sym at) start.0) (subst (λ n. IsStart n b.bands) (sym at) start.1);
       row_p = subst IsRow (sym none) tt;
       row_q = subst IsRow (sym none') tt;
-      row_is = record { is_row = tt; has = λ x. sym (ap (λ l. kept k (row_has l x) (row_has q.left x)) none ∙ ap (λ l. kept k false (row_has l x)) none' ∙ kept-none k) };
+      row_is = record { is_row = tt; has = λ x. sym (ap (λ l. keeps_place k (row_has l x) (row_has q.left x)) none ∙ ap (λ l. keeps_place k false (row_has l x)) none' ∙ keeps_place-none k) };
       last = record { there = λ some. absurd (some refl); of = λ front last is at. absurd (none_behind front last is) };
       counted = refl;
       read_a = ap (λ l. record a { left = l }) e;

@@ -4,7 +4,7 @@ use Rattle.std.specs.Prelude.{ℤ, ◌<ℤ◌, ◌||◌}
 use Rattle.band_list.specs.declared.Rows.{Rows}
 use Rattle.band_list.specs.Bands.{Band, Bands, Reading, first_row, nothing, reading}
 use Rattle.row_walks.specs.declared.Keep.{Keep}
-use Rattle.row_walks.specs.Rows.{IsRow, row_has, kept}
+use Rattle.row_walks.specs.Rows.{IsRow, row_has, keeps_place}
 use Rattle.band_walks.specs.declared.strips.Strip.{Strip}
 use Rattle.band_walks.specs.Sets.{in_rows, has, AreBands, EndBy, IsKept}
 use Rattle.band_walks.specs.Strips.{next_strip, start_of, later, first_rows_of}
@@ -86,10 +86,10 @@ module _ (k : Keep) (whole_a whole_b a b : Reading) (now : Bands) (y : ℤ) (h :
             omega (arith, first, second, edges_less y a.bands b.bands s h.state.bands_a h.state.bands_b strip_there)
 
         pub merging_more : (rows : Rows) (w : Bands) → rows ≡ record { top = y; bottom = s.bottom } → AreBands w.above → EndBy rows.bottom w.above
-            → ((x z : ℤ) → has w.above x z ≡ (has now.above x z || (in_rows rows z && kept k (row_has in_a.left x) (row_has in_b.left x)))) → w ≡ record now { above = w.above; spare = w.spare } → Merging k whole_a whole_b a' b' w bottom
+            → ((x z : ℤ) → has w.above x z ≡ (has now.above x z || (in_rows rows z && keeps_place k (row_has in_a.left x) (row_has in_b.left x)))) → w ≡ record now { above = w.above; spare = w.spare } → Merging k whole_a whole_b a' b' w bottom
         merging_more rows w rows_is are_bands ends has_is w_is =
             let state = state_more k whole_a.bands whole_b.bands now.above y a.bands b.bands s w.above rows h.state strip_there rows_is are_bands (subst (λ (r : Rows). EndBy r.bottom w.above) rows_is ends)
-            (λ x z. has_is x z ∙ ap (λ t. has now.above x z || (in_rows rows z && kept k t (row_has in_b.left x))) (has_a x) ∙ ap (λ t. has now.above x z || (in_rows rows z && kept k (s.in_first && row_has (first_row a.bands) x) t)) (has_b x)) in
+            (λ x z. has_is x z ∙ ap (λ t. has now.above x z || (in_rows rows z && keeps_place k t (row_has in_b.left x))) (has_a x) ∙ ap (λ t. has now.above x z || (in_rows rows z && keeps_place k (s.in_first && row_has (first_row a.bands) x) t)) (has_b x)) in
             let A : List Band → Type 0 = λ l. BandState k whole_a.bands whole_b.bands w.above s.bottom l (later s.bottom b.bands) in
             let B : List Band → Type 0 = λ l. BandState k whole_a.bands whole_b.bands w.above s.bottom a'.bands l in
             let Y : ℤ → Type 0 = λ z. BandState k whole_a.bands whole_b.bands w.above z a'.bands b'.bands in

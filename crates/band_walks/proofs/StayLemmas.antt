@@ -8,7 +8,7 @@ use Rattle.band_list.specs.declared.Interval.{Interval}
 use Rattle.band_list.specs.declared.Rows.{Rows}
 use Rattle.band_list.specs.Bands.{Band, Bands, Reading, rows_of, first_row, nodes_in, reading}
 use Rattle.row_walks.specs.declared.Keep.{Keep}
-use Rattle.row_walks.specs.Rows.{row_has, kept}
+use Rattle.row_walks.specs.Rows.{row_has, keeps_place}
 use Rattle.band_walks.specs.declared.strips.Strip.{Strip}
 use Rattle.band_walks.specs.Sets.{in_rows, has, IsBand, Follows, AreBands, EndBy, IsKept}
 use Rattle.band_walks.specs.Strips.{next_strip, start_of, later, first_rows_of, FirstIs, IsStripRow, NoneKept, Rests}
@@ -59,7 +59,7 @@ rest_kept k whole_a whole_b above y (first ∷ rest) b state rests =
           (λ less. ap (λ t. has above x z || t) (none_above x z y (first ∷ rest) state.bands_a from less) ∙ or_false (has above x z) ∙ state.so_far x z less)
           (λ more.
           ap (λ t. t || has (first ∷ rest) x z) (none_under x z y above state.ends more) ∙ state.same_a x z more
-          ∙ sym (ap (kept k (has whole_a x z)) (sym (state.same_b x z more) ∙ ap (λ l. has l x z) rests.over) ∙ kept_alone k (has whole_a x z) (rests.stays first rest refl)));
+          ∙ sym (ap (keeps_place k (has whole_a x z)) (sym (state.same_b x z more) ∙ ap (λ l. has l x z) rests.over) ∙ kept_alone k (has whole_a x z) (rests.stays first rest refl)));
     }
 
 pub none_kept : (k : Keep) (whole_a whole_b above : List Band) (y : ℤ) (a b : List Band) → BandState k whole_a whole_b above y a b → NoneKept k a → IsKept k whole_a whole_b (above ++ a)
@@ -69,7 +69,7 @@ none_kept k whole_a whole_b above y a b state none =
       has = λ x z. by_lt_z z y
           (λ less. state.so_far x z less)
           (λ more. none_under x z y above state.ends more ∙ sym (
-          ap (λ t. kept k t (has whole_b x z)) (sym (state.same_a x z more) ∙ ap (λ l. has l x z) none.over) ∙ kept_behind k (has whole_b x z) none.out));
+          ap (λ t. keeps_place k t (has whole_b x z)) (sym (state.same_a x z more) ∙ ap (λ l. has l x z) none.over) ∙ kept_behind k (has whole_b x z) none.out));
     })
 
 -- ---- the walk
@@ -95,7 +95,7 @@ no_first [] e = refl
 no_first (b ∷ bs) e = absurd (let gone : Some (rows_of b) ≡ None = e in cc)
 
 -- the first band begins at y or below it, and there are no others
-pub rests_for : (k : Keep) (y : ℤ) (above below others : List Band) (rows : Rows) (first second : Option Rows) → first ≡ first_rows_of below → first ≡ Some rows → second ≡ first_rows_of others → second ≡ None → y ≤ℤ rows.top → kept k true false ≡ true
+pub rests_for : (k : Keep) (y : ℤ) (above below others : List Band) (rows : Rows) (first second : Option Rows) → first ≡ first_rows_of below → first ≡ Some rows → second ≡ first_rows_of others → second ≡ None → y ≤ℤ rows.top → keeps_place k true false ≡ true
     → ((front : List Band) (last first : Band) (rest : List Band) → above ≡ front ++ last ∷ [] → below ≡ first ∷ rest → last.bottom ≡ first.top → last.row ≢ first.row) → Rests k y above below others
 rests_for k y above below others rows first second e f g h low stays apart = record {
   over = no_first others (sym g ∙ h);
@@ -151,7 +151,7 @@ module _ (k : Keep) (old now : Bands) (other left : Reading) (y : ℤ) (h : Kept
       let made = cut_few y now.above whole.0 h.state.are_bands whole.1.are_bands h.state.ends (λ x z less. h.state.so_far x z less ∙ sym (whole.1.has x z)) in
       let in_a : (x : ℤ) → has all x y ≡ (s.in_first && row_has (first_row now.below) x) = λ x. sym (h.state.same_a x y low) ∙ strip.edge_a.flat x y low after in
       let in_b : (x : ℤ) → has other.bands x y ≡ (s.in_second && row_has (first_row left.bands) x) = λ x. sym (h.state.same_b x y low) ∙ strip.edge_b.flat x y low after in
-      let one = row_few y row whole.0 whole.1.are_bands r.is_row some (λ x. whole.1.has x y ∙ ap (λ t. kept k t (has other.bands x y)) (in_a x) ∙ ap (kept k (s.in_first && row_has (first_row now.below) x)) (in_b x) ∙ sym (r.has x)) in
+      let one = row_few y row whole.0 whole.1.are_bands r.is_row some (λ x. whole.1.has x y ∙ ap (λ t. keeps_place k t (has other.bands x y)) (in_a x) ∙ ap (keeps_place k (s.in_first && row_has (first_row now.below) x)) (in_b x) ∙ sym (r.has x)) in
       omega (arith, made, one, room whole.0 whole.1, h.spare, h.fewer)
 
   pub strip_room : AreBands (old.above ++ old.below) → AreBands other.bands → (s : Strip) (rows : Rows) → next_strip y (first_rows_of now.below) (first_rows_of left.bands) ≡ Some s → rows ≡ record { top = y; bottom = s.bottom }
@@ -167,16 +167,16 @@ module _ (k : Keep) (old now : Bands) (other left : Reading) (y : ℤ) (h : Kept
 
   pub kept_more : (s : Strip) (rows : Rows) (w : Bands) (r p : Reading) (y' : ℤ) → next_strip y (first_rows_of now.below) (first_rows_of left.bands) ≡ Some s → rows ≡ record { top = y; bottom = s.bottom } → y' ≡ s.bottom
       → AreBands w.above → EndBy rows.bottom w.above
-      → ((x z : ℤ) → has w.above x z ≡ (has now.above x z || (in_rows rows z && kept k (s.in_first && row_has now.left x) (s.in_second && row_has left.left x))))
+      → ((x z : ℤ) → has w.above x z ≡ (has now.above x z || (in_rows rows z && keeps_place k (s.in_first && row_has now.left x) (s.in_second && row_has left.left x))))
       → now.spare + nodes_in now.above + nodes_in now.below ≤ w.spare + nodes_in w.above + nodes_in w.below
       → w ≡ record now { above = w.above; left = first_row (later rows.bottom now.below); below = later rows.bottom now.below; spare = w.spare } → r ≡ reading left.bands → p ≡ reading (later y' r.bands)
       → Kept k old w other p y'
   kept_more s rows w r p y' is rows_is y_is are_bands ends has_is spare w_is r_is p_is =
       let strip = strip_at s is in
       let e : ℤ = s.bottom in
-      let has_more : (x z : ℤ) → has w.above x z ≡ (has now.above x z || (in_rows rows z && kept k (s.in_first && row_has (first_row now.below) x) (s.in_second && row_has (first_row left.bands) x))) = λ x z.
-      has_is x z ∙ ap (λ l. has now.above x z || (in_rows rows z && kept k (s.in_first && row_has l x) (s.in_second && row_has left.left x))) left_now
-      ∙ ap (λ l. has now.above x z || (in_rows rows z && kept k (s.in_first && row_has (first_row now.below) x) (s.in_second && row_has l x))) left_other in
+      let has_more : (x z : ℤ) → has w.above x z ≡ (has now.above x z || (in_rows rows z && keeps_place k (s.in_first && row_has (first_row now.below) x) (s.in_second && row_has (first_row left.bands) x))) = λ x z.
+      has_is x z ∙ ap (λ l. has now.above x z || (in_rows rows z && keeps_place k (s.in_first && row_has l x) (s.in_second && row_has left.left x))) left_now
+      ∙ ap (λ l. has now.above x z || (in_rows rows z && keeps_place k (s.in_first && row_has (first_row now.below) x) (s.in_second && row_has l x))) left_other in
       let bottom : rows.bottom ≡ s.bottom = ap (λ (q : Rows). q.bottom) rows_is in
       let state = state_more k (old.above ++ old.below) other.bands now.above y now.below left.bands s w.above rows h.state strip rows_is are_bands (subst (λ n. EndBy n w.above) bottom ends) has_more in
       let whole : w ≡ record now { above = w.above; left = first_row (later e now.below); below = later e now.below; spare = w.spare } =
@@ -240,7 +240,7 @@ first_there rows (b ∷ bs) is = record { first = b; rest = bs; is = refl; rows_
 pub record FirstKept (k : Keep) (old w : Bands) (rows : Rows) : Type 0 where
   pub are_bands : AreBands w.above
   pub ends : EndBy rows.bottom w.above
-  pub places : (x y : ℤ) → has w.above x y ≡ (has old.above x y || (in_rows rows y && kept k (row_has old.left x) false))
+  pub places : (x y : ℤ) → has w.above x y ≡ (has old.above x y || (in_rows rows y && keeps_place k (row_has old.left x) false))
   pub spare : old.spare + nodes_in old.above + nodes_in old.below ≤ w.spare + nodes_in w.above + nodes_in w.below
   pub same : w ≡ record old { above = w.above; left = first_row (later rows.bottom old.below); below = later rows.bottom old.below; spare = w.spare }
 
@@ -260,7 +260,7 @@ module _ (k : Keep) (old : Bands) (rows : Rows) (there : FirstThere rows old.bel
   bottom_is = ap (λ (r : Rows). r.bottom) there.rows_are
 
   made : (w : Bands) (above : List Band) (n : ℕ) → w ≡ record old { above = above; left = first_row rest; below = rest; spare = n } → old.spare + nodes_in old.above + (2 + length first.row) ≤ n + nodes_in above → AreBands above → EndBy rows.bottom above
-      → ((x y : ℤ) → has above x y ≡ (has old.above x y || (in_rows rows y && kept k (row_has first.row x) false))) → FirstKept k old w rows
+      → ((x y : ℤ) → has above x y ≡ (has old.above x y || (in_rows rows y && keeps_place k (row_has first.row x) false))) → FirstKept k old w rows
   made w above n w_is room are_bands ends places =
       let above_is : w.above ≡ above = ap (λ (u : Bands). u.above) w_is in
       let test : int_le first.bottom rows.bottom ≡ true = ended first.bottom rows.bottom bottom_is in
@@ -270,7 +270,7 @@ module _ (k : Keep) (old : Bands) (rows : Rows) (there : FirstThere rows old.bel
       record {
         are_bands = subst AreBands (sym above_is) are_bands;
         ends = subst (EndBy rows.bottom) (sym above_is) ends;
-        places = λ x y. ap (λ l. has l x y) above_is ∙ places x y ∙ ap (λ l. has old.above x y || (in_rows rows y && kept k (row_has l x) false)) (sym left_is);
+        places = λ x y. ap (λ l. has l x y) above_is ∙ places x y ∙ ap (λ l. has old.above x y || (in_rows rows y && keeps_place k (row_has l x) false)) (sym left_is);
         spare = omega (arith, room, spare_is, ap nodes_in above_is, ap nodes_in there.is, ap (λ (u : Bands). nodes_in u.below) w_is);
         same = w_is ∙ ap (λ l. record old { above = l; left = first_row rest; below = rest; spare = n }) (sym above_is) ∙ ap (λ m. record old { above = w.above; left = first_row rest; below = rest; spare = m }) (sym spare_is)
             ∙ ap (λ l. record old { above = w.above; left = first_row l; below = l; spare = w.spare }) (sym rest_is);
@@ -279,12 +279,12 @@ module _ (k : Keep) (old : Bands) (rows : Rows) (there : FirstThere rows old.bel
       ended : (a b : ℤ) → a ≡ b → int_le a b ≡ true
       ended a b e = grind (arith, ints)
 
-  pub first_gone : (w : Bands) → kept k true false ≡ false → ((first : Band) (rest : List Band) → old.below ≡ first ∷ rest → w ≡ record old { left = first_row rest; below = rest; spare = old.spare + 2 + length first.row }) → FirstKept k old w rows
+  pub first_gone : (w : Bands) → keeps_place k true false ≡ false → ((first : Band) (rest : List Band) → old.below ≡ first ∷ rest → w ≡ record old { left = first_row rest; below = rest; spare = old.spare + 2 + length first.row }) → FirstKept k old w rows
   first_gone w out makes =
       made w old.above (old.spare + 2 + length first.row) (makes first rest there.is) (omega arith) h (end_later rows.top rows.bottom old.above (omega (arith, ints, rows_some)) e)
       (λ x y. has_nothing old.above rows [] x y refl ∙ ap (λ t. has old.above x y || (in_rows rows y && t)) (sym (kept_out k (row_has first.row x) out)))
 
-  pub first_stays : (w : Bands) → kept k true false ≡ true → ((front : List Band) (last first : Band) (rest : List Band) → old.above ≡ front ++ last ∷ [] → old.below ≡ first ∷ rest → last.bottom ≡ first.top → last.row ≢ first.row)
+  pub first_stays : (w : Bands) → keeps_place k true false ≡ true → ((front : List Band) (last first : Band) (rest : List Band) → old.above ≡ front ++ last ∷ [] → old.below ≡ first ∷ rest → last.bottom ≡ first.top → last.row ≢ first.row)
       → ((first : Band) (rest : List Band) → old.below ≡ first ∷ rest → w ≡ record old { above = old.above ++ first ∷ []; left = first_row rest; below = rest }) → FirstKept k old w rows
   first_stays w stays apart makes =
       made w (old.above ++ first ∷ []) old.spare (makes first rest there.is) (omega (arith, nodes_join old.above (first ∷ [])))
@@ -292,7 +292,7 @@ module _ (k : Keep) (old : Bands) (rows : Rows) (there : FirstThere rows old.bel
       (end-append rows.bottom old.above first (end_later rows.top rows.bottom old.above (omega (arith, ints, rows_some)) e) (omega (arith, ints, bottom_is)))
       (λ x y. has-append old.above first x y ∙ ap (λ r. has old.above x y || (in_rows r y && row_has first.row x)) there.rows_are ∙ ap (λ t. has old.above x y || (in_rows rows y && t)) (sym (kept_alone k (row_has first.row x) stays)))
 
-  pub first_joins : (m w : Bands) → kept k true false ≡ true → (front : List Band) (last : Band) (band : Band) (bands : List Band) → old.above ≡ front ++ last ∷ [] → old.below ≡ band ∷ bands → last.bottom ≡ band.top → last.row ≡ band.row
+  pub first_joins : (m w : Bands) → keeps_place k true false ≡ true → (front : List Band) (last : Band) (band : Band) (bands : List Band) → old.above ≡ front ++ last ∷ [] → old.below ≡ band ∷ bands → last.bottom ≡ band.top → last.row ≡ band.row
       → m ≡ record old { above = front ++ longer last rows.bottom ∷ [] }
       → ((first : Band) (rest : List Band) → m.below ≡ first ∷ rest → w ≡ record m { left = first_row rest; below = rest; spare = m.spare + 2 + length first.row }) → FirstKept k old w rows
   first_joins m w stays front last band bands above_is below_is touch row_is m_is makes =

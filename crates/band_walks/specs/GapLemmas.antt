@@ -9,8 +9,8 @@ use Rattle.band_list.specs.declared.Rows.{Rows}
 use Rattle.band_list.specs.Bands.{Band, Bands, rows_of, first_row}
 use Rattle.band_list.specs.EachLemmas.{last_cases, last_or_last}
 use Rattle.row_walks.specs.declared.Keep.{Keep}
-use Rattle.row_walks.specs.Rows.{kept}
-use Rattle.row_walks.specs.WalkLemmas.{kept-none}
+use Rattle.row_walks.specs.Rows.{keeps_place}
+use Rattle.row_walks.specs.WalkLemmas.{keeps_place-none}
 use Rattle.band_walks.specs.Sets.{has, AreBands, EndBy}
 use Rattle.band_walks.specs.Strips.{first_rows_of}
 use Rattle.band_walks.specs.Room.{StayAbove, IsGap, GapMoved, ends_below, ends_by, start}
@@ -23,13 +23,13 @@ or_false true = refl
 or_false false = refl
 
 -- places of the first alone are all kept, or none is
-pub kept_alone : (k : Keep) (t : Bool) → kept k true false ≡ true → kept k t false ≡ t
+pub kept_alone : (k : Keep) (t : Bool) → keeps_place k true false ≡ true → keeps_place k t false ≡ t
 kept_alone k true is = is
-kept_alone k false is = kept-none k
+kept_alone k false is = keeps_place-none k
 
-pub kept_out : (k : Keep) (t : Bool) → kept k true false ≡ false → kept k t false ≡ false
+pub kept_out : (k : Keep) (t : Bool) → keeps_place k true false ≡ false → keeps_place k t false ≡ false
 kept_out k true is = is
-kept_out k false is = kept-none k
+kept_out k false is = keeps_place-none k
 
 pub has_join : (above below : List Band) (x z : ℤ) → has (above ++ below) x z ≡ (has above x z || has below x z)
 has_join [] below x z = refl
@@ -92,8 +92,8 @@ state_enters k (c ∷ above) below others y (inr stay) h h' is =
       are_bands = bands_front (c ∷ above) below h;
       ends = ends;
       so_far = λ x z less. sym (
-          ap (λ t. kept k t (has others x z)) (has_join (c ∷ above) below x z ∙ ap (λ t. has (c ∷ above) x z || t) (start_a.before x z less) ∙ or_false (has (c ∷ above) x z))
-          ∙ ap (kept k (has (c ∷ above) x z)) (start_b.before x z less) ∙ kept_alone k (has (c ∷ above) x z) stay.stays);
+          ap (λ t. keeps_place k t (has others x z)) (has_join (c ∷ above) below x z ∙ ap (λ t. has (c ∷ above) x z || t) (start_a.before x z less) ∙ or_false (has (c ∷ above) x z))
+          ∙ ap (keeps_place k (has (c ∷ above) x z)) (start_b.before x z less) ∙ kept_alone k (has (c ∷ above) x z) stay.stays);
     }
 
 -- ---- the gap moves
@@ -191,7 +191,7 @@ rewound old new makes =
     )
 
 -- the bands above stay, and end where the others begin
-pub gap_there : (k : Keep) (above others : List Band) (found : Option Rows) (rows : Rows) → found ≡ first_rows_of others → found ≡ Some rows → kept k true false ≡ true → EndBy rows.top above → IsGap k above others
+pub gap_there : (k : Keep) (above others : List Band) (found : Option Rows) (rows : Rows) → found ≡ first_rows_of others → found ≡ Some rows → keeps_place k true false ≡ true → EndBy rows.top above → IsGap k above others
 gap_there k above [] found rows f is stays ends = absurd (let none : None ≡ Some rows = sym f ∙ is in cc)
 gap_there k above (b ∷ rest) found rows f is stays ends = inr (record {
   stays = stays;

@@ -7,8 +7,8 @@ use Rattle.std.proofs.lemmas.Option.{same_Some}
 use Rattle.band_list.specs.declared.Rows.{Rows}
 use Rattle.band_list.specs.Bands.{Band, Bands, rows_of, first_row, nodes_in}
 use Rattle.row_walks.specs.declared.Keep.{Keep}
-use Rattle.row_walks.specs.Rows.{IsRow, row_has, kept}
-use Rattle.row_walks.specs.WalkLemmas.{kept-none}
+use Rattle.row_walks.specs.Rows.{IsRow, row_has, keeps_place}
+use Rattle.row_walks.specs.WalkLemmas.{keeps_place-none}
 use Rattle.band_walks.specs.declared.strips.Strip.{Strip}
 use Rattle.band_walks.specs.Sets.{in_rows, has, AreBands, EndBy}
 use Rattle.band_walks.specs.Strips.{later}
@@ -55,7 +55,7 @@ pub record BandState (k : Keep) (whole_a whole_b above : List Band) (y : ℤ) (a
   pub same_b : (x z : ℤ) → y ≤ℤ z → has b x z ≡ has whole_b x z
   pub are_bands : AreBands above
   pub ends : EndBy y above
-  pub so_far : (x z : ℤ) → z <ℤ y → has above x z ≡ kept k (has whole_a x z) (has whole_b x z)
+  pub so_far : (x z : ℤ) → z <ℤ y → has above x z ≡ keeps_place k (has whole_a x z) (has whole_b x z)
 
 pub state_begins : (k : Keep) (a b : List Band) (y : ℤ) → AreBands a → AreBands b → IsStart y a → IsStart y b → BandState k a b [] y a b
 state_begins k a b y h h' start start' = record {
@@ -67,18 +67,18 @@ state_begins k a b y h h' start start' = record {
   same_b = λ x z low. refl;
   are_bands = tt;
   ends = tt;
-  so_far = λ x z less. sym (ap (λ t. kept k t (has b x z)) (start.before x z less) ∙ ap (kept k false) (start'.before x z less) ∙ kept-none k);
+  so_far = λ x z less. sym (ap (λ t. keeps_place k t (has b x z)) (start.before x z less) ∙ ap (keeps_place k false) (start'.before x z less) ∙ keeps_place-none k);
 }
 
-pub state_done : (k : Keep) (whole_a whole_b above : List Band) (y : ℤ) (a b : List Band) → BandState k whole_a whole_b above y a b → a ≡ [] → b ≡ [] → (x z : ℤ) → has above x z ≡ kept k (has whole_a x z) (has whole_b x z)
+pub state_done : (k : Keep) (whole_a whole_b above : List Band) (y : ℤ) (a b : List Band) → BandState k whole_a whole_b above y a b → a ≡ [] → b ≡ [] → (x z : ℤ) → has above x z ≡ keeps_place k (has whole_a x z) (has whole_b x z)
 state_done k whole_a whole_b above y a b s none none' x z = by_lt_z z y
     (λ less. s.so_far x z less)
     (λ more. none_under x z y above s.ends more ∙ sym (
-    ap (λ t. kept k t (has whole_b x z)) (sym (s.same_a x z more) ∙ ap (λ l. has l x z) none)
-    ∙ ap (kept k false) (sym (s.same_b x z more) ∙ ap (λ l. has l x z) none') ∙ kept-none k))
+    ap (λ t. keeps_place k t (has whole_b x z)) (sym (s.same_a x z more) ∙ ap (λ l. has l x z) none)
+    ∙ ap (keeps_place k false) (sym (s.same_b x z more) ∙ ap (λ l. has l x z) none') ∙ keeps_place-none k))
 
 pub state_more : (k : Keep) (whole_a whole_b above : List Band) (y : ℤ) (a b : List Band) (s : Strip) (made : List Band) (rows : Rows) → BandState k whole_a whole_b above y a b → IsStrip y a b s → rows ≡ record { top = y; bottom = s.bottom } → AreBands made → EndBy s.bottom made
-    → ((x z : ℤ) → has made x z ≡ (has above x z || (in_rows rows z && kept k (s.in_first && row_has (first_row a) x) (s.in_second && row_has (first_row b) x))))
+    → ((x z : ℤ) → has made x z ≡ (has above x z || (in_rows rows z && keeps_place k (s.in_first && row_has (first_row a) x) (s.in_second && row_has (first_row b) x))))
     → BandState k whole_a whole_b made s.bottom (later s.bottom a) (later s.bottom b)
 state_more k whole_a whole_b above y a b s made rows state strip rows_is are_bands ends has_is =
     let f = later_is s.bottom a state.bands_a strip.edge_a.reaches in
@@ -94,12 +94,12 @@ state_more k whole_a whole_b above y a b s made rows state strip rows_is are_ban
       are_bands = are_bands;
       ends = ends;
       so_far = λ x z high.
-          let now = kept k (s.in_first && row_has (first_row a) x) (s.in_second && row_has (first_row b) x) in
+          let now = keeps_place k (s.in_first && row_has (first_row a) x) (s.in_second && row_has (first_row b) x) in
           has_is x z ∙ ap (λ (r : Rows). has above x z || (in_rows r z && now)) rows_is ∙ by_lt_z z y
           (λ less. ap (λ t. has above x z || (t && now)) (not_in y s.bottom z less) ∙ or_false (has above x z) ∙ state.so_far x z less)
           (λ more. ap (λ t. t || ((int_le y z && int_lt z s.bottom) && now)) (none_under x z y above state.ends more) ∙ ap (λ t. false || (t && now)) (is_in y s.bottom z more high)
-          ∙ ap (λ t. kept k t (s.in_second && row_has (first_row b) x)) (sym (strip.edge_a.flat x z more high) ∙ state.same_a x z more)
-          ∙ ap (kept k (has whole_a x z)) (sym (strip.edge_b.flat x z more high) ∙ state.same_b x z more));
+          ∙ ap (λ t. keeps_place k t (s.in_second && row_has (first_row b) x)) (sym (strip.edge_a.flat x z more high) ∙ state.same_a x z more)
+          ∙ ap (keeps_place k (has whole_a x z)) (sym (strip.edge_b.flat x z more high) ∙ state.same_b x z more));
     }
   where
     or_false : (b : Bool) → (b || false) ≡ b

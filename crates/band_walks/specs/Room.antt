@@ -4,14 +4,14 @@ use Rattle.band_list.specs.declared.Interval.{Interval}
 use Rattle.band_list.specs.declared.Rows.{Rows}
 use Rattle.band_list.specs.Bands.{Band, Bands, first_row, nodes_in}
 use Rattle.row_walks.specs.declared.Keep.{Keep}
-use Rattle.row_walks.specs.Rows.{kept}
+use Rattle.row_walks.specs.Rows.{keeps_place}
 use Rattle.band_walks.specs.declared.strips.Strip.{Strip}
 use Rattle.band_walks.specs.Sets.{EndBy, IsKept}
 use Rattle.band_walks.specs.Strips.{next_strip, start_of, later, first_rows_of, FirstIs, IsStripRow}
 
 -- the bands above the gap stay, and end where the others begin or above it
 pub record StayAbove (keep : Keep) (above others : List Band) : Type 0 where
-  pub stays : kept keep true false ≡ true
+  pub stays : keeps_place keep true false ≡ true
   pub first : Band
   pub rest : List Band
   pub others_are : others ≡ first ∷ rest
@@ -47,7 +47,7 @@ HoldsStrip keep in_a in_b rows below a b room = (IsWhole in_a in_b rows below �
 abbrev pub is_over : Keep → ℤ → Option Rows → Option Rows → Bool
 is_over keep y None None = true
 is_over keep y (Some r) None = int_le y r.top
-is_over keep y None (Some s) = not (kept keep false true)
+is_over keep y None (Some s) = not (keeps_place keep false true)
 is_over keep y (Some r) (Some s) = false
 
 -- the strip from y on for which there is to be room
@@ -56,7 +56,7 @@ strip_to_count keep y first second = cond (is_over keep y first second) None (ne
 
 -- whether nothing is kept of a strip, which is not in bands of both lists
 abbrev pub keeps_nothing : Keep → Bool → Bool → Bool
-keeps_nothing keep in_a in_b = not (in_a && in_b) && not (kept keep in_a in_b)
+keeps_nothing keep in_a in_b = not (in_a && in_b) && not (keeps_place keep in_a in_b)
 
 -- room for what is kept from y on: for each strip, down to where nothing is left that is made
 pub data Enough (keep : Keep) : ℤ → List Band → List Band → ℕ → Type 0 where

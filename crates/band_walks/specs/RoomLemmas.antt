@@ -7,9 +7,9 @@ use Rattle.band_list.specs.declared.Interval.{Interval}
 use Rattle.band_list.specs.declared.Rows.{Rows}
 use Rattle.band_list.specs.Bands.{Band, Bands, Reading, rows_of, first_row, nodes_in, reading}
 use Rattle.row_walks.specs.declared.Keep.{Keep}
-use Rattle.row_walks.specs.Rows.{IsRow, row_has, kept}
+use Rattle.row_walks.specs.Rows.{IsRow, row_has, keeps_place}
 use Rattle.row_walks.specs.RowLemmas.{true_false, only_row}
-use Rattle.row_walks.specs.WalkLemmas.{kept-none}
+use Rattle.row_walks.specs.WalkLemmas.{keeps_place-none}
 use Rattle.band_walks.specs.declared.strips.Strip.{Strip}
 use Rattle.band_walks.specs.Sets.{in_rows, has, AreBands, EndBy}
 use Rattle.band_walks.specs.Strips.{next_strip, start_of, later, first_rows_of, FirstIs, IsStripRow, edge_of}
@@ -58,16 +58,16 @@ empty_row [] r none = refl
 empty_row (i ∷ row) r none = let c = column (i ∷ row) r (λ e. cc) in absurd (true_false (sym c.1 ∙ none c.0))
 
 -- what is kept of one row alone is no longer
-no_longer : (k : Keep) (row f : List Interval) → IsRow row → IsRow f → ((x : ℤ) → row_has row x ≡ kept k (row_has f x) false) → length row ≤ length f
-no_longer k row f r r' h = by (kept k true false) refl
+no_longer : (k : Keep) (row f : List Interval) → IsRow row → IsRow f → ((x : ℤ) → row_has row x ≡ keeps_place k (row_has f x) false) → length row ≤ length f
+no_longer k row f r r' h = by (keeps_place k true false) refl
   where
-    by : (t : Bool) → kept k true false ≡ t → length row ≤ length f
+    by : (t : Bool) → keeps_place k true false ≡ t → length row ≤ length f
     by true e = omega (arith, ap length (only_row row f r r' (λ x. h x ∙ kept_alone k (row_has f x) e)))
     by false e = omega (arith, ap length (empty_row row r (λ x. h x ∙ kept_out k (row_has f x) e)))
 
 -- ---- the room that is left behind a strip
 
-module _ (k : Keep) (now w : Bands) (others : List Band) (in_a in_b : Bool) (rows : Rows) (h : AreBands now.above) (e : EndBy rows.top now.above) (some : rows.top <ℤ rows.bottom) (below : AreBands now.below) (bands : AreBands others) (are_bands : AreBands w.above) (has_is : (x z : ℤ) → has w.above x z ≡ (has now.above x z || (in_rows rows z && kept k (in_a && row_has (first_row now.below) x) (in_b && row_has (first_row others) x)))) (spare : now.spare + nodes_in now.above + nodes_in now.below ≤ w.spare + nodes_in w.above + nodes_in w.below) (below_is : w.below ≡ later rows.bottom now.below) where
+module _ (k : Keep) (now w : Bands) (others : List Band) (in_a in_b : Bool) (rows : Rows) (h : AreBands now.above) (e : EndBy rows.top now.above) (some : rows.top <ℤ rows.bottom) (below : AreBands now.below) (bands : AreBands others) (are_bands : AreBands w.above) (has_is : (x z : ℤ) → has w.above x z ≡ (has now.above x z || (in_rows rows z && keeps_place k (in_a && row_has (first_row now.below) x) (in_b && row_has (first_row others) x)))) (spare : now.spare + nodes_in now.above + nodes_in now.below ≤ w.spare + nodes_in w.above + nodes_in w.below) (below_is : w.below ≡ later rows.bottom now.below) where
   pub spare_left : (n : ℕ) → HoldsStrip k in_a in_b rows now.below (first_row now.below) (first_row others) n → now.spare ≤ w.spare + n
   spare_left n holds =
       let row = row_is_kept k in_a in_b (first_row now.below) (first_row others) (row_of_first now.below below) (row_of_first others bands) in
@@ -78,7 +78,7 @@ module _ (k : Keep) (now w : Bands) (others : List Band) (in_a in_b : Bool) (row
       elim (whole_or_not in_a in_b rows now.below) [
         | inl whole ↦
             let short = no_longer k row.0 (first_row now.below) row.1.is_row (row_of_first now.below below)
-            (λ x. row.1.has x ∙ ap (λ t. kept k (t && row_has (first_row now.below) x) (in_b && row_has (first_row others) x)) whole.0 ∙ ap (λ t. kept k (row_has (first_row now.below) x) (t && row_has (first_row others) x)) whole.1) in
+            (λ x. row.1.has x ∙ ap (λ t. keeps_place k (t && row_has (first_row now.below) x) (in_b && row_has (first_row others) x)) whole.0 ∙ ap (λ t. keeps_place k (row_has (first_row now.below) x) (t && row_has (first_row others) x)) whole.1) in
             omega (arith, whole_gone rows now.below whole.2, short, added.few, few, nodes, spare)
         | inr part ↦ elim (same_row row.0 []) [
           | inl none ↦ omega (arith, added.none none, few, fewer, nodes, spare)
@@ -108,7 +108,7 @@ over_from : (k : Keep) (n : ℤ) (bs : List Band) → From n bs → is_over k n 
 over_from k n [] from = refl
 over_from k n (b ∷ bs) from = le_true n b.top from
 
-over_after : (k : Keep) (n : ℤ) (bs : List Band) → not (kept k false true) ≡ true → is_over k n None (first_rows_of bs) ≡ true
+over_after : (k : Keep) (n : ℤ) (bs : List Band) → not (keeps_place k false true) ≡ true → is_over k n None (first_rows_of bs) ≡ true
 over_after k n [] out = refl
 over_after k n (b ∷ bs) out = out
 
@@ -116,15 +116,15 @@ not_true : (b : Bool) → not b ≡ true → b ≡ false
 not_true true e = absurd (true_false (sym e))
 not_true false e = refl
 
-pub kept_behind : (k : Keep) (t : Bool) → kept k false true ≡ false → kept k false t ≡ false
+pub kept_behind : (k : Keep) (t : Bool) → keeps_place k false true ≡ false → keeps_place k false t ≡ false
 kept_behind k true is = is
-kept_behind k false is = kept-none k
+kept_behind k false is = keeps_place-none k
 
 nothing_kept : (k : Keep) (in_a in_b : Bool) (a b row : List Interval) → keeps_nothing k in_a in_b ≡ true → IsStripRow k in_a in_b a b row → row ≡ []
 nothing_kept k true true a b row e r = absurd (true_false (sym e))
-nothing_kept k true false a b row e r = empty_row row r.is_row (λ x. r.has x ∙ kept_out k (row_has a x) (not_true (kept k true false) e))
-nothing_kept k false true a b row e r = empty_row row r.is_row (λ x. r.has x ∙ kept_behind k (row_has b x) (not_true (kept k false true) e))
-nothing_kept k false false a b row e r = empty_row row r.is_row (λ x. r.has x ∙ kept-none k)
+nothing_kept k true false a b row e r = empty_row row r.is_row (λ x. r.has x ∙ kept_out k (row_has a x) (not_true (keeps_place k true false) e))
+nothing_kept k false true a b row e r = empty_row row r.is_row (λ x. r.has x ∙ kept_behind k (row_has b x) (not_true (keeps_place k false true) e))
+nothing_kept k false false a b row e r = empty_row row r.is_row (λ x. r.has x ∙ keeps_place-none k)
 
 pub holds_nothing : (k : Keep) (in_a in_b : Bool) (rows : Rows) (below : List Band) (a b : List Interval) → keeps_nothing k in_a in_b ≡ true → HoldsStrip k in_a in_b rows below a b 0
 holds_nothing k in_a in_b rows below a b e = λ part row r some. absurd (some (nothing_kept k in_a in_b a b row e r))
@@ -138,7 +138,7 @@ over_step k y [] (j ∷ js) room s h o is =
     subst (Step k y [] (j ∷ js) room) (same_Some _ s is) (record {
       taken = 0;
       rest = room;
-      holds = λ part row r columns. absurd (columns (empty_row row r.is_row (λ x. r.has x ∙ kept_behind k (int_le j.top y && row_has j.row x) (not_true (kept k false true) o))));
+      holds = λ part row r columns. absurd (columns (empty_row row r.is_row (λ x. r.has x ∙ kept_behind k (int_le j.top y && row_has j.row x) (not_true (keeps_place k false true) o))));
       enough = over (edge_of y (rows_of j)) [] (later (edge_of y (rows_of j)) (j ∷ js)) room (over_after k (edge_of y (rows_of j)) (later (edge_of y (rows_of j)) (j ∷ js)) o);
       fits = omega arith;
     })
@@ -153,7 +153,7 @@ over_step k y (i ∷ rest) [] room s h o is =
     subst P (sym (not_yet i y less)) (record {
       taken = 0;
       rest = room;
-      holds = λ part row r columns. absurd (columns (empty_row row r.is_row (λ x. r.has x ∙ kept-none k)));
+      holds = λ part row r columns. absurd (columns (empty_row row r.is_row (λ x. r.has x ∙ keeps_place-none k)));
       enough = subst L (sym (le_false i.bottom i.top some)) (over i.top (i ∷ rest) [] room (le_true i.top i.top (omega (arith, ints))));
       fits = omega arith;
     }))

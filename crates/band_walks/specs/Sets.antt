@@ -5,7 +5,7 @@ use Rattle.band_list.specs.declared.Interval.{Interval}
 use Rattle.band_list.specs.declared.Rows.{Rows}
 use Rattle.band_list.specs.Bands.{Band, rows_of}
 use Rattle.row_walks.specs.declared.Keep.{Keep}
-use Rattle.row_walks.specs.Rows.{IsRow, row_has, kept}
+use Rattle.row_walks.specs.Rows.{IsRow, row_has, keeps_place}
 
 -- whether y is among the rows
 abbrev pub in_rows : Rows → ℤ → Bool
@@ -39,7 +39,7 @@ EndBy y bands = AllByRecursion (λ b. b.bottom ≤ℤ y) bands
 -- the bands have the places that are kept of two lists of bands
 pub record IsKept (keep : Keep) (a b bands : List Band) : Type 0 where
   pub are_bands : AreBands bands
-  pub has : (x y : ℤ) → has bands x y ≡ kept keep (has a x y) (has b x y)
+  pub has : (x y : ℤ) → has bands x y ≡ keeps_place keep (has a x y) (has b x y)
 
 -- the nodes that a row takes behind the row above it: none if it has no columns, or goes on that one
 pub record Counts (above row : List Interval) (nodes : ℕ) : Type 0 where

@@ -5,7 +5,7 @@ use Rattle.band_list.specs.declared.Interval.{Interval}
 use Rattle.band_list.specs.declared.Rows.{Rows}
 use Rattle.band_list.specs.Bands.{Band, rows_of}
 use Rattle.row_walks.specs.declared.Keep.{Keep}
-use Rattle.row_walks.specs.Rows.{IsRow, row_has, kept}
+use Rattle.row_walks.specs.Rows.{IsRow, row_has, keeps_place}
 use Rattle.band_walks.specs.declared.strips.Strip.{Strip}
 
 -- where the rows begin, or where they end if they have begun by y
@@ -44,17 +44,17 @@ FirstIs rows bands = first_rows_of bands ≡ Some rows
 -- the row has the columns that are kept of a strip, which is in a band of row a, in one of row b, in both or in neither
 pub record IsStripRow (keep : Keep) (in_a in_b : Bool) (a b row : List Interval) : Type 0 where
   pub is_row : IsRow row
-  pub has : (x : ℤ) → row_has row x ≡ kept keep (in_a && row_has a x) (in_b && row_has b x)
+  pub has : (x : ℤ) → row_has row x ≡ keeps_place keep (in_a && row_has a x) (in_b && row_has b x)
 
 -- no bands are left below, and the places of the others alone aren't kept
 pub record NoneKept (keep : Keep) (below : List Band) : Type 0 where
   pub over : below ≡ []
-  pub out : kept keep false true ≡ false
+  pub out : keeps_place keep false true ≡ false
 
 -- from y on the bands below stay: there are no others, and the first is kept, whole, with another row than the last one above
 -- where they touch
 pub record Rests (keep : Keep) (y : ℤ) (above below others : List Band) : Type 0 where
   pub over : others ≡ []
-  pub stays : (first : Band) (rest : List Band) → below ≡ first ∷ rest → kept keep true false ≡ true
+  pub stays : (first : Band) (rest : List Band) → below ≡ first ∷ rest → keeps_place keep true false ≡ true
   pub whole : (first : Band) (rest : List Band) → below ≡ first ∷ rest → y ≤ℤ first.top
   pub apart : (front : List Band) (last first : Band) (rest : List Band) → above ≡ front ++ last ∷ [] → below ≡ first ∷ rest → last.bottom ≡ first.top → last.row ≢ first.row

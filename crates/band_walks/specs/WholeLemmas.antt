@@ -7,7 +7,7 @@ use Rattle.band_list.specs.declared.Rows.{Rows}
 use Rattle.band_list.specs.Bands.{Band, band_with, first_row, nodes_in}
 use Rattle.band_list.specs.EachLemmas.{last_cases, last_same}
 use Rattle.row_walks.specs.declared.Keep.{Keep}
-use Rattle.row_walks.specs.Rows.{IsRow, row_has, kept, IsKept as IsRowKept}
+use Rattle.row_walks.specs.Rows.{IsRow, row_has, keeps_place, IsKept as IsRowKept}
 use Rattle.row_walks.specs.Steps.{start_of as row_start}
 use Rattle.row_walks.specs.StepLemmas.{starts as row_starts}
 use Rattle.row_walks.specs.WalkLemmas.{row_begins, whole as whole_row}
@@ -74,7 +74,7 @@ part_has true a x = refl
 part_has false a x = refl
 
 pub strip_row : (k : Keep) (in_a in_b : Bool) (a b row : List Interval) → IsRowKept k (part in_a a) (part in_b b) row → IsStripRow k in_a in_b a b row
-strip_row k in_a in_b a b row h = record { is_row = h.is_row; has = λ x. h.has x ∙ ap (λ t. kept k t (row_has (part in_b b) x)) (part_has in_a a x) ∙ ap (kept k (in_a && row_has a x)) (part_has in_b b x) }
+strip_row k in_a in_b a b row h = record { is_row = h.is_row; has = λ x. h.has x ∙ ap (λ t. keeps_place k t (row_has (part in_b b) x)) (part_has in_a a x) ∙ ap (keeps_place k (in_a && row_has a x)) (part_has in_b b x) }
 
 pub row_is_kept : (k : Keep) (in_a in_b : Bool) (a b : List Interval) → IsRow a → IsRow b → (row : List Interval) × IsStripRow k in_a in_b a b row
 row_is_kept k in_a in_b a b h h' =

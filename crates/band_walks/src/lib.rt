@@ -11,7 +11,7 @@ ghost use Rattle.std.specs.Option.{option_map};
 ghost use Rattle.std.specs.Ordering.{int_eq};
 ghost use Rattle.band_list.specs.declared.Interval.{Interval};
 ghost use Rattle.band_list.specs.Bands.{Band, Bands, rows_of, first_row, nodes_in, reading};
-ghost use Rattle.row_walks.specs.Rows.{IsRow, IsKept as IsRowKept, row_has, kept};
+ghost use Rattle.row_walks.specs.Rows.{IsRow, IsKept as IsRowKept, row_has, keeps_place};
 ghost use Rattle.band_walks.specs.Sets.{AreBands, Counts, EndBy, IsKept, has, in_rows};
 ghost use Rattle.band_walks.specs.Strips.{IsStripRow, FirstIs, NoneKept, Rests, first_rows_of, later, next_strip as strip_below};
 ghost use Rattle.band_walks.specs.Room.{IsGap, IsRoom, IsWhole, GapMoved, Enough, HoldsStrip, start};
@@ -118,7 +118,7 @@ fn keep_strip(
     ensures ends { EndBy rows.bottom bands.new.above }
     ensures has { (x y : ℤ) → has bands.new.above x y ≡
         (has bands.old.above x y ||
-        (in_rows rows y && kept keep (in_first && row_has bands.old.left x) (in_second && row_has other.old.left x))) }
+        (in_rows rows y && keeps_place keep (in_first && row_has bands.old.left x) (in_second && row_has other.old.left x))) }
     ensures spare { bands.old.spare + nodes_in bands.old.above ≤ bands.new.spare + nodes_in bands.new.above }
     ensures same { bands.new ≡ record bands.old
         { above = bands.new.above; left = first_row bands.old.below; spare = bands.new.spare } }
@@ -155,7 +155,7 @@ fn keep_first(bands: &mut BandList, keep: Keep, rows: Rows)
     ensures are_bands { AreBands bands.new.above }
     ensures ends { EndBy rows.bottom bands.new.above }
     ensures has { (x y : ℤ) → has bands.new.above x y ≡
-        (has bands.old.above x y || (in_rows rows y && kept keep (row_has bands.old.left x) false)) }
+        (has bands.old.above x y || (in_rows rows y && keeps_place keep (row_has bands.old.left x) false)) }
     ensures spare { bands.old.spare + nodes_in bands.old.above + nodes_in bands.old.below ≤
         bands.new.spare + nodes_in bands.new.above + nodes_in bands.new.below }
     ensures same { bands.new ≡ record bands.old {
@@ -214,7 +214,7 @@ fn keep_next(
     ensures ends { EndBy rows.bottom bands.new.above }
     ensures has { (x y : ℤ) → has bands.new.above x y ≡
         (has bands.old.above x y ||
-        (in_rows rows y && kept keep (in_first && row_has bands.old.left x) (in_second && row_has other.old.left x))) }
+        (in_rows rows y && keeps_place keep (in_first && row_has bands.old.left x) (in_second && row_has other.old.left x))) }
     ensures spare { bands.old.spare + nodes_in bands.old.above + nodes_in bands.old.below ≤
         bands.new.spare + nodes_in bands.new.above + nodes_in bands.new.below }
     ensures same { bands.new ≡ record bands.old {
@@ -236,7 +236,7 @@ fn keep_next(
 // Whether the first band below the gap would stay where it is: the places of the first alone are kept, and it doesn't go on
 // the last band above the gap.
 fn first_stays(bands: &BandList, keep: Keep) -> bool
-    ensures kept { result ≡ true → kept keep true false ≡ true }
+    ensures kept { result ≡ true → keeps_place keep true false ≡ true }
     ensures apart { result ≡ true → (front : List Band) (last first : Band) (rest : List Band) →
         bands.now.above ≡ front ++ last ∷ [] → bands.now.below ≡ first ∷ rest → last.bottom ≡ first.top → last.row ≢ first.row }
 {

@@ -2,7 +2,7 @@
 
 ghost use Rattle.std.specs.Prelude.{◌≡◌, ◌||◌, ◌&&◌, ◌<ℤ◌, [], ℤ, OnOk};
 ghost use Rattle.band_list.specs.Bands.{first_row, nothing};
-ghost use Rattle.row_walks.specs.Rows.{IsRow, row_has, kept};
+ghost use Rattle.row_walks.specs.Rows.{IsRow, row_has, keeps_place};
 ghost use Rattle.band_walks.specs.Sets.{AreBands, EndBy, IsKept, has, in_rows};
 
 use crate::add_row;
@@ -29,7 +29,7 @@ fn merge_strip(
     ensures ends { OnOk result (EndBy rows.bottom bands.new.above) }
     ensures has { OnOk result ((x y : ℤ) →
         has bands.new.above x y ≡
-        (has bands.old.above x y || (in_rows rows y && kept keep (row_has first.old.left x) (row_has second.old.left x)))) }
+        (has bands.old.above x y || (in_rows rows y && keeps_place keep (row_has first.old.left x) (row_has second.old.left x)))) }
     ensures same { OnOk result (bands.new ≡ record bands.old { above = bands.new.above; spare = bands.new.spare }) }
     ensures first_read { OnOk result (first.new ≡ record first.old { left = [] }) }
     ensures second_read { OnOk result (second.new ≡ record second.old { left = [] }) }
@@ -41,7 +41,7 @@ fn merge_strip(
 }
 
 /// Makes the bands of the places that are kept of those that both readers still have to read, in a list that has none. Room is
-/// made as the bands come; after an `AllocError` the list has a part of them.
+/// made as the bands come; after an `AllocError` nothing is promised of the list, which is of no more use.
 pub fn merge_bands(
     bands: &mut BandList,
     first: &mut Reader,

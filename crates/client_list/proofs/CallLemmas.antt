@@ -7,8 +7,8 @@ use Rattle.std.proofs.lemmas.Bool.{cases_lt, eq-eqb, eqb-true}
 use Rattle.std.proofs.lemmas.Option.{slice_get-get_or, same_Some}
 use Rattle.slab.specs.Slab.{Slab, get, slab_len, ContainsKey}
 use Rattle.client_list.specs.declared.links.Node.{Node}
-use Rattle.client_list.specs.Connected.{Connected, index_of, IsPlace, IsListed, pair_at, number_at, value_at, value_of, IsPlaceOf, passed}
-use Rattle.client_list.specs.Links.{Entry, along, node_of, places_in, pairs_in, listed, IsHeld}
+use Rattle.client_list.specs.Connected.{Connected, index_of, IsPosition, IsListed, pair_at, number_at, value_at, value_of, IsPositionOf, passed}
+use Rattle.client_list.specs.Links.{Entry, along, node_of, positions_in, pairs_in, listed, IsHeld}
 use Rattle.client_list.specs.IndexLemmas.{index_at, contains_at}
 use Rattle.client_list.proofs.NumberLemmas.{number_absent, not_found}
 use Rattle.client_list.proofs.ChainLemmas.{listed-held, chain-first, node_at}
@@ -19,14 +19,14 @@ none_counted [] n is count test = (λ _. refl, λ _. test ∙ eq-eqb n 0 count)
 none_counted (x ∷ xs) n is count test = (λ yes. absurd (omega (arith, eqb-true n 0 (sym test ∙ yes), count)), λ none. absurd (cc))
 
 module _ {T : Type 0} where
-  -- as many pairs as places
+  -- as many pairs as positions
   pub entries_long : (es : List (Entry T)) → length (pairs_in es) ≡ length es
   entries_long [] = refl
   entries_long (e ∷ es) = ap suc (entries_long es)
 
-  pub places_long : (es : List (Entry T)) → length (places_in es) ≡ length es
-  places_long [] = refl
-  places_long (e ∷ es) = ap suc (places_long es)
+  pub positions_long : (es : List (Entry T)) → length (positions_in es) ≡ length es
+  positions_long [] = refl
+  positions_long (e ∷ es) = ap suc (positions_long es)
 
   -- the list in this slab, between these links, has this value
   pub record Shows (nodes : Slab (Node T)) (first last : Option ℕ) (value : Connected T) : Type 0 where
@@ -37,88 +37,88 @@ module _ {T : Type 0} where
   shows nodes first last value held is = record { held = held; is = sym is ∙ listed-held nodes first last held }
 
   module _ (nodes : Slab (Node T)) (first last : Option ℕ) (value : Connected T) (shown : Shows nodes first last value) where
-    pub first_is : first ≡ slice_get value.places 0
-    first_is = chain-first (get nodes) None first last shown.held.entries shown.held.chain ∙ sym (ap (λ (v : Connected T). slice_get v.places 0) shown.is)
+    pub first_is : first ≡ slice_get value.positions 0
+    first_is = chain-first (get nodes) None first last shown.held.entries shown.held.chain ∙ sym (ap (λ (v : Connected T). slice_get v.positions 0) shown.is)
 
     pub is_listed : IsListed value
     is_listed =
         subst IsListed (sym shown.is) (record {
-          as_many = entries_long shown.held.entries ∙ sym (places_long shown.held.entries);
+          as_many = entries_long shown.held.entries ∙ sym (positions_long shown.held.entries);
           numbers = shown.held.numbers;
-          places = shown.held.places;
+          positions = shown.held.positions;
         })
 
     pub pairs_counted : slab_len nodes ≡ length value.pairs
     pairs_counted = sym shown.held.count ∙ sym (entries_long shown.held.entries) ∙ sym (ap (λ (v : Connected T). length v.pairs) shown.is)
 
-    pub places_counted : slab_len nodes ≡ length value.places
-    places_counted = sym shown.held.count ∙ sym (places_long shown.held.entries) ∙ sym (ap (λ (v : Connected T). length v.places) shown.is)
+    pub positions_counted : slab_len nodes ≡ length value.positions
+    positions_counted = sym shown.held.count ∙ sym (positions_long shown.held.entries) ∙ sym (ap (λ (v : Connected T). length v.positions) shown.is)
 
-  -- the node of a viewer's place
-  pub record AtPlace (nodes : Slab (Node T)) (value : Connected T) (place : ℕ) : Type 0 where
+  -- the node of a viewer's position
+  pub record AtPlace (nodes : Slab (Node T)) (value : Connected T) (position : ℕ) : Type 0 where
     pub pair : ℕ × T
     pub before : Option ℕ
     pub after : Option ℕ
-    pub node : get nodes place ≡ Some (node_of pair before after)
-    pub pair_is : pair_at value place ≡ Some pair
-    pub after_is : after ≡ slice_get value.places (index_of value.places place + 1)
+    pub node : get nodes position ≡ Some (node_of pair before after)
+    pub pair_is : pair_at value position ≡ Some pair
+    pub after_is : after ≡ slice_get value.positions (index_of value.positions position + 1)
 
-  pub at_place : (nodes : Slab (Node T)) (first last : Option ℕ) (value : Connected T) → Shows nodes first last value → (place : ℕ) → IsPlace value place → AtPlace nodes value place
-  at_place nodes first last value shown place there =
+  pub at_position : (nodes : Slab (Node T)) (first last : Option ℕ) (value : Connected T) → Shows nodes first last value → (position : ℕ) → IsPosition value position → AtPlace nodes value position
+  at_position nodes first last value shown position there =
       let es : List (Entry T) = shown.held.entries in
-      let at = node_at (get nodes) None first last es place shown.held.chain (subst (λ (v : Connected T). IsPlace v place) shown.is there) in
-      subst (λ (v : Connected T). AtPlace nodes v place) (sym shown.is) (record {
+      let at = node_at (get nodes) None first last es position shown.held.chain (subst (λ (v : Connected T). IsPosition v position) shown.is there) in
+      subst (λ (v : Connected T). AtPlace nodes v position) (sym shown.is) (record {
         pair = at.pair;
         before = at.before;
         after = at.after;
         node = at.node;
         pair_is = at.pair_is;
-        after_is = at.after_is ∙ ap (slice_get (places_in es)) (let e : suc (index_of (places_in es) place) ≡ index_of (places_in es) place + 1 = omega arith in e);
+        after_is = at.after_is ∙ ap (slice_get (positions_in es)) (let e : suc (index_of (positions_in es) position) ≡ index_of (positions_in es) position + 1 = omega arith in e);
       })
 
-  -- the place with an index is a viewer's
-  pub slot_is_place : (c : Connected T) (i : ℕ) (o : Option ℕ) → o ≡ slice_get c.places i → IfSome o (IsPlace c)
-  slot_is_place c i None is = tt
-  slot_is_place c i (Some place) is = contains_at c.places i place (sym is)
+  -- the position with an index is a viewer's
+  pub slot_is_position : (c : Connected T) (i : ℕ) (o : Option ℕ) → o ≡ slice_get c.positions i → IfSome o (IsPosition c)
+  slot_is_position c i None is = tt
+  slot_is_position c i (Some position) is = contains_at c.positions i position (sym is)
 
-  -- how many viewers are before the place with an index
-  pub slot_passed : (c : Connected T) (i : ℕ) (o : Option ℕ) → IsListed c → i ≤ length c.places → o ≡ slice_get c.places i → passed c o ≡ i
+  -- how many viewers are before the position with an index
+  pub slot_passed : (c : Connected T) (i : ℕ) (o : Option ℕ) → IsListed c → i ≤ length c.positions → o ≡ slice_get c.positions i → passed c o ≡ i
   slot_passed c i None listed within is =
-      elim (cases_lt i (length c.places)) [
-        | inl below ↦ let there = slice_get-get_or c.places i 0 below in absurd (cc)
+      elim (cases_lt i (length c.positions)) [
+        | inl below ↦ let there = slice_get-get_or c.positions i 0 below in absurd (cc)
         | inr past ↦ omega arith
       ]
-  slot_passed c i (Some place) listed within is = index_at c.places i place listed.places (sym is)
+  slot_passed c i (Some position) listed within is = index_at c.positions i position listed.positions (sym is)
 
-  -- what a slab finds at another name of the place
-  pub found_is_some : (nodes : Slab (Node T)) (place key : ℕ) (node : Node T) → key ≡ place → get nodes place ≡ Some node → ContainsKey nodes key
-  found_is_some nodes place key node same found = ap (λ (k : ℕ). is_some (get nodes k)) same ∙ ap is_some found
+  -- what a slab finds at another name of the position
+  pub found_is_some : (nodes : Slab (Node T)) (position key : ℕ) (node : Node T) → key ≡ position → get nodes position ≡ Some node → ContainsKey nodes key
+  found_is_some nodes position key node same found = ap (λ (k : ℕ). is_some (get nodes k)) same ∙ ap is_some found
 
-  -- what the node at a place says of its viewer
-  module _ (nodes : Slab (Node T)) (first last : Option ℕ) (value : Connected T) (shown : Shows nodes first last value) (place key : ℕ) (there : IsPlace value place) (same : key ≡ place) where
+  -- what the node at a position says of its viewer
+  module _ (nodes : Slab (Node T)) (first last : Option ℕ) (value : Connected T) (shown : Shows nodes first last value) (position key : ℕ) (there : IsPosition value position) (same : key ≡ position) where
     pub has_node : ContainsKey nodes key
-    has_node = let at = at_place nodes first last value shown place there in found_is_some nodes place key (node_of at.pair at.before at.after) same at.node
+    has_node = let at = at_position nodes first last value shown position there in found_is_some nodes position key (node_of at.pair at.before at.after) same at.node
 
     module _ (node : Node T) (found : get nodes key ≡ Some node) where
-      node_is : (at : AtPlace nodes value place) → node_of at.pair at.before at.after ≡ node
+      node_is : (at : AtPlace nodes value position) → node_of at.pair at.before at.after ≡ node
       node_is at = same_Some (node_of at.pair at.before at.after) node (sym at.node ∙ ap (get nodes) (sym same) ∙ found)
 
-      pub number_there : number_at value place ≡ Some node.number
+      pub number_there : number_at value position ≡ Some node.number
       number_there =
-          let at = at_place nodes first last value shown place there in
+          let at = at_position nodes first last value shown position there in
           ap (λ (o : Option (ℕ × T)). option_map (λ pair. pair.0) o) at.pair_is ∙ ap (λ (n : Node T). Some n.number) (node_is at)
 
-      pub value_there : value_at value place ≡ Some node.value
+      pub value_there : value_at value position ≡ Some node.value
       value_there =
-          let at = at_place nodes first last value shown place there in
+          let at = at_position nodes first last value shown position there in
           ap (λ (o : Option (ℕ × T)). option_map (λ pair. pair.1) o) at.pair_is ∙ ap (λ (n : Node T). Some n.value) (node_is at)
 
-      pub next_there : node.next ≡ slice_get value.places (index_of value.places place + 1)
+      pub next_there : node.next ≡ slice_get value.positions (index_of value.positions position + 1)
       next_there =
-          let at = at_place nodes first last value shown place there in
+          let at = at_position nodes first last value shown position there in
           sym (ap (λ (n : Node T). n.next) (node_is at)) ∙ at.after_is
 
   -- a number that no viewer has isn't in the list
-  pub free_number : (nodes : Slab (Node T)) (first last : Option ℕ) (value : Connected T) (shown : Shows nodes first last value) (number : ℕ) (o : Option ℕ) → is_some o ≡ false → MatchOption o (value_of value number ≡ None) (IsPlaceOf value number) → Contains (keys_of (pairs_in shown.held.entries)) number → ⊥
+  pub free_number : (nodes : Slab (Node T)) (first last : Option ℕ) (value : Connected T) (shown : Shows nodes first last value) (number : ℕ) (o : Option ℕ) → is_some o ≡ false → MatchOption o (value_of value number ≡ None) (IsPositionOf value number) → Contains (keys_of (pairs_in shown.held.entries)) number → ⊥
   free_number nodes first last value shown number o none found there =
       number_absent value number (not_found value number o none found) (subst (λ (v : Connected T). Contains (keys_of v.pairs) number) (sym shown.is) there)

@@ -10,7 +10,7 @@ use Rattle.slab.specs.Slab.{Slab, get, Updates}
 use Rattle.slab.proofs.SlabLemmas.{Contains-cons, Contains-cons_cases}
 use Rattle.client_list.specs.declared.links.Node.{Node}
 use Rattle.client_list.specs.Connected.{index_of, set_value_at}
-use Rattle.client_list.specs.Links.{Entry, Nodes, node_of, places_in, pairs_in, IsChain, NextChanged, PreviousChanged}
+use Rattle.client_list.specs.Links.{Entry, Nodes, node_of, positions_in, pairs_in, IsChain, NextChanged, PreviousChanged}
 use Rattle.client_list.specs.DistinctLemmas.{apart_from_first}
 use Rattle.client_list.specs.IndexLemmas.{index_here, index_there}
 
@@ -21,10 +21,10 @@ module _ {T : Type 0} where
   set_entry (e ∷ rest) zero w = (e.0, (e.1.0, w)) ∷ rest
   set_entry (e ∷ rest) (suc i) w = e ∷ set_entry rest i w
 
-  pub places-set_entry : (es : List (Entry T)) (i : ℕ) (w : T) → places_in (set_entry es i w) ≡ places_in es
-  places-set_entry [] i w = refl
-  places-set_entry (e ∷ rest) zero w = refl
-  places-set_entry (e ∷ rest) (suc i) w = ap (λ (l : List ℕ). e.0 ∷ l) (places-set_entry rest i w)
+  pub positions-set_entry : (es : List (Entry T)) (i : ℕ) (w : T) → positions_in (set_entry es i w) ≡ positions_in es
+  positions-set_entry [] i w = refl
+  positions-set_entry (e ∷ rest) zero w = refl
+  positions-set_entry (e ∷ rest) (suc i) w = ap (λ (l : List ℕ). e.0 ∷ l) (positions-set_entry rest i w)
 
   pub pairs-set_entry : (es : List (Entry T)) (i : ℕ) (w : T) → pairs_in (set_entry es i w) ≡ set_value_at (pairs_in es) i w
   pairs-set_entry [] i w = refl
@@ -42,30 +42,30 @@ module _ {T : Type 0} where
   length-set_entry (e ∷ rest) (suc i) w = ap suc (length-set_entry rest i w)
 
   -- a chain of nodes that stay is a chain
-  pub chain-kept : (old new : Nodes T) (previous link last next : Option ℕ) (es : List (Entry T)) → ((p : ℕ) → Contains (places_in es) p → new p ≡ old p) → IsChain old previous link es last next → IsChain new previous link es last next
+  pub chain-kept : (old new : Nodes T) (previous link last next : Option ℕ) (es : List (Entry T)) → ((p : ℕ) → Contains (positions_in es) p → new p ≡ old p) → IsChain old previous link es last next → IsChain new previous link es last next
   chain-kept old new previous link last next [] kept chain = chain
   chain-kept old new previous link last next (e ∷ rest) kept chain = (
     chain.0,
     chain.1,
     kept e.0 (0, omega arith, refl) ∙ chain.2,
-    chain-kept old new (Some e.0) chain.1 last next rest (λ p there. kept p (Contains-cons e.0 p (places_in rest) there)) chain.3,
+    chain-kept old new (Some e.0) chain.1 last next rest (λ p there. kept p (Contains-cons e.0 p (positions_in rest) there)) chain.3,
   )
 
-  -- each place of a chain has a node
-  pub chain-has : (nodes : Nodes T) (previous link last next : Option ℕ) (es : List (Entry T)) (p : ℕ) → IsChain nodes previous link es last next → Contains (places_in es) p → is_some (nodes p) ≡ true
+  -- each position of a chain has a node
+  pub chain-has : (nodes : Nodes T) (previous link last next : Option ℕ) (es : List (Entry T)) (p : ℕ) → IsChain nodes previous link es last next → Contains (positions_in es) p → is_some (nodes p) ≡ true
   chain-has nodes previous link last next [] p chain there = absurd (omega (arith, there.1))
   chain-has nodes previous link last next (e ∷ rest) p chain there =
-      elim (Contains-cons_cases e.0 p (places_in rest) there) [
+      elim (Contains-cons_cases e.0 p (positions_in rest) there) [
         | inl same ↦ ap (λ (k : ℕ). is_some (nodes k)) (sym same) ∙ ap is_some chain.2
         | inr later ↦ chain-has nodes (Some e.0) chain.1 last next rest p chain.3 later
       ]
 
-  -- the last link of a chain leads to a place of it
-  pub chain-last : (nodes : Nodes T) (previous link last next : Option ℕ) (e : Entry T) (rest : List (Entry T)) → IsChain nodes previous link (e ∷ rest) last next → (p : ℕ) × (last ≡ Some p) × Contains (places_in (e ∷ rest)) p
+  -- the last link of a chain leads to a position of it
+  pub chain-last : (nodes : Nodes T) (previous link last next : Option ℕ) (e : Entry T) (rest : List (Entry T)) → IsChain nodes previous link (e ∷ rest) last next → (p : ℕ) × (last ≡ Some p) × Contains (positions_in (e ∷ rest)) p
   chain-last nodes previous link last next e [] chain = (e.0, chain.3.1, (0, omega arith, refl))
   chain-last nodes previous link last next e (e2 ∷ rest) chain =
       let later = chain-last nodes (Some e.0) chain.1 last next e2 rest chain.3 in
-      (later.0, later.1, Contains-cons e.0 later.0 (places_in (e2 ∷ rest)) later.2)
+      (later.0, later.1, Contains-cons e.0 later.0 (positions_in (e2 ∷ rest)) later.2)
 
   chain_join-first : (nodes : Nodes T) (a f m n last next : Option ℕ) (ys : List (Entry T)) → f ≡ n → m ≡ a → IsChain nodes m n ys last next → IsChain nodes a f ys last next
   chain_join-first nodes a f m n last next ys first before chain =
@@ -89,28 +89,28 @@ module _ {T : Type 0} where
       record { back = later.back; on = later.on; front_part = (chain.0, chain.1, chain.2, later.front_part); back_part = later.back_part }
 
   module _ (old new : Slab (Node T)) where
-    -- a change of the node at one place leaves a chain of other places
-    pub chain-elsewhere : (p : ℕ) (slot : Option (Node T)) (previous link last next : Option ℕ) (es : List (Entry T)) → Updates old new p slot → (Contains (places_in es) p → ⊥) → IsChain (get old) previous link es last next → IsChain (get new) previous link es last next
+    -- a change of the node at one position leaves a chain of other positions
+    pub chain-elsewhere : (p : ℕ) (slot : Option (Node T)) (previous link last next : Option ℕ) (es : List (Entry T)) → Updates old new p slot → (Contains (positions_in es) p → ⊥) → IsChain (get old) previous link es last next → IsChain (get new) previous link es last next
     chain-elsewhere p slot previous link last next es updates away chain =
-        chain-kept (get old) (get new) previous link last next es (λ q there. updates.others q (λ same. away (subst (Contains (places_in es)) same there))) chain
+        chain-kept (get old) (get new) previous link last next es (λ q there. updates.others q (λ same. away (subst (Contains (positions_in es)) same there))) chain
 
     module _ (p : ℕ) (node : Node T) (found : get old p ≡ Some node) where
-      -- the node at a place of a chain
+      -- the node at a position of a chain
       node_there : (e : Entry T) (previous after : Option ℕ) → e.0 ≡ p → get old e.0 ≡ Some (node_of e.1 previous after) → node ≡ node_of e.1 previous after
       node_there e previous after same there = same_Some node (node_of e.1 previous after) (sym found ∙ ap (get old) (sym same) ∙ there)
 
-      first_apart : (e : Entry T) (rest : List (Entry T)) → IsDistinct eqb (places_in (e ∷ rest)) → e.0 ≡ p → Contains (places_in rest) p → ⊥
-      first_apart e rest distinct same there = apart_from_first e.0 (places_in rest) distinct p there (sym same)
+      first_apart : (e : Entry T) (rest : List (Entry T)) → IsDistinct eqb (positions_in (e ∷ rest)) → e.0 ≡ p → Contains (positions_in rest) p → ⊥
+      first_apart e rest distinct same there = apart_from_first e.0 (positions_in rest) distinct p there (sym same)
 
       -- another value in one node
-      pub chain-set : (w : T) → Updates old new p (Some (record node { value = w })) → (previous link last next : Option ℕ) (es : List (Entry T)) → IsDistinct eqb (places_in es) → IsChain (get old) previous link es last next → IsChain (get new) previous link (set_entry es (index_of (places_in es) p) w) last next
+      pub chain-set : (w : T) → Updates old new p (Some (record node { value = w })) → (previous link last next : Option ℕ) (es : List (Entry T)) → IsDistinct eqb (positions_in es) → IsChain (get old) previous link es last next → IsChain (get new) previous link (set_entry es (index_of (positions_in es) p) w) last next
       chain-set w updates previous link last next [] distinct chain = chain
       chain-set w updates previous link last next (e ∷ rest) distinct chain =
           elim (cases_eq e.0 p) [
             | inl same ↦
                 subst
                 (λ (i : ℕ). IsChain (get new) previous link (set_entry (e ∷ rest) i w) last next)
-                (sym (index_here p e.0 (places_in rest) same)) (
+                (sym (index_here p e.0 (positions_in rest) same)) (
                   chain.0,
                   chain.1,
                   ap (get new) same ∙ updates.changed ∙ ap (λ (n : Node T). Some (record n { value = w })) (node_there e previous chain.1 same chain.2),
@@ -119,16 +119,16 @@ module _ {T : Type 0} where
             | inr differs ↦
                 subst
                 (λ (i : ℕ). IsChain (get new) previous link (set_entry (e ∷ rest) i w) last next)
-                (sym (index_there p e.0 (places_in rest) differs)) (
+                (sym (index_there p e.0 (positions_in rest) differs)) (
                   chain.0,
                   chain.1,
                   updates.others e.0 differs ∙ chain.2,
-                  chain-set w updates (Some e.0) chain.1 last next rest (IsDistinct-tail eqb e.0 (places_in rest) distinct) chain.3,
+                  chain-set w updates (Some e.0) chain.1 last next rest (IsDistinct-tail eqb e.0 (positions_in rest) distinct) chain.3,
                 )
           ]
 
       -- another next link in the last node
-      chain-next : (n' : Option ℕ) → Updates old new p (Some (record node { next = n' })) → (previous link last n : Option ℕ) (e : Entry T) (rest : List (Entry T)) → IsDistinct eqb (places_in (e ∷ rest)) → last ≡ Some p → IsChain (get old) previous link (e ∷ rest) last n → IsChain (get new) previous link (e ∷ rest) last n'
+      chain-next : (n' : Option ℕ) → Updates old new p (Some (record node { next = n' })) → (previous link last n : Option ℕ) (e : Entry T) (rest : List (Entry T)) → IsDistinct eqb (positions_in (e ∷ rest)) → last ≡ Some p → IsChain (get old) previous link (e ∷ rest) last n → IsChain (get new) previous link (e ∷ rest) last n'
       chain-next n' updates previous link last n e [] distinct is chain =
           let same : e.0 ≡ p = same_Some e.0 p (sym chain.3.1 ∙ is) in (
             chain.0,
@@ -138,15 +138,15 @@ module _ {T : Type 0} where
           )
       chain-next n' updates previous link last n e (e2 ∷ rest) distinct is chain =
           let end = chain-last (get old) (Some e.0) chain.1 last n e2 rest chain.3 in
-          let there : Contains (places_in (e2 ∷ rest)) p = subst (Contains (places_in (e2 ∷ rest))) (same_Some end.0 p (sym end.1 ∙ is)) end.2 in (
+          let there : Contains (positions_in (e2 ∷ rest)) p = subst (Contains (positions_in (e2 ∷ rest))) (same_Some end.0 p (sym end.1 ∙ is)) end.2 in (
             chain.0,
             chain.1,
-            updates.others e.0 (λ same. apart_from_first e.0 (places_in (e2 ∷ rest)) distinct p there (sym same)) ∙ chain.2,
-            chain-next n' updates (Some e.0) chain.1 last n e2 rest (IsDistinct-tail eqb e.0 (places_in (e2 ∷ rest)) distinct) is chain.3,
+            updates.others e.0 (λ same. apart_from_first e.0 (positions_in (e2 ∷ rest)) distinct p there (sym same)) ∙ chain.2,
+            chain-next n' updates (Some e.0) chain.1 last n e2 rest (IsDistinct-tail eqb e.0 (positions_in (e2 ∷ rest)) distinct) is chain.3,
           )
 
     -- a list's front part, after its end leads on elsewhere
-    pub chain-end : (first first' last n n' : Option ℕ) (es : List (Entry T)) → IsDistinct eqb (places_in es) → NextChanged old new first first' last n' → IsChain (get old) None first es last n → IsChain (get new) None first' es last n'
+    pub chain-end : (first first' last n n' : Option ℕ) (es : List (Entry T)) → IsDistinct eqb (positions_in es) → NextChanged old new first first' last n' → IsChain (get old) None first es last n → IsChain (get new) None first' es last n'
     chain-end first first' last n n' [] distinct changed chain =
         let at_none : MatchOption None ((first' ≡ n') × (new ≡ old)) (λ p. (first' ≡ first) × (node : Node T) × (get old p ≡ Some node) × Updates old new p (Some (record node { next = n' }))) = subst (λ (l : Option ℕ). NextChanged old new first first' l n') chain.1 changed in
         (at_none.0, chain.1)
@@ -159,7 +159,7 @@ module _ {T : Type 0} where
         (chain-next end.0 at_some.1 at_some.2 n' at_some.3 None first last n e rest distinct end.1 chain)
 
     -- a list's back part, after its start leads back elsewhere
-    pub chain-start : (m m' link last last' : Option ℕ) (es : List (Entry T)) → IsDistinct eqb (places_in es) → PreviousChanged old new last last' link m' → IsChain (get old) m link es last None → IsChain (get new) m' link es last' None
+    pub chain-start : (m m' link last last' : Option ℕ) (es : List (Entry T)) → IsDistinct eqb (positions_in es) → PreviousChanged old new last last' link m' → IsChain (get old) m link es last None → IsChain (get new) m' link es last' None
     chain-start m m' link last last' [] distinct changed chain =
         let at_none : MatchOption None ((last' ≡ m') × (new ≡ old)) (λ p. (last' ≡ last) × (node : Node T) × (get old p ≡ Some node) × Updates old new p (Some (record node { previous = m' }))) = subst (λ (l : Option ℕ). PreviousChanged old new last last' l m') chain.0 changed in
         (chain.0, at_none.0)
@@ -174,28 +174,28 @@ module _ {T : Type 0} where
           chain-elsewhere e.0 (Some (record (at_some.1) { previous = m' })) (Some e.0) chain.1 last None rest at_some.3 (first_apart e.0 at_some.1 at_some.2 e rest distinct refl) chain.3,
         )
 
-    -- a change of a next link leaves a chain of other places
-    pub chain-beside_next : (first first' place next : Option ℕ) (a f last n : Option ℕ) (es : List (Entry T)) → NextChanged old new first first' place next → ((p : ℕ) → place ≡ Some p → Contains (places_in es) p → ⊥) → IsChain (get old) a f es last n → IsChain (get new) a f es last n
+    -- a change of a next link leaves a chain of other positions
+    pub chain-beside_next : (first first' position next : Option ℕ) (a f last n : Option ℕ) (es : List (Entry T)) → NextChanged old new first first' position next → ((p : ℕ) → position ≡ Some p → Contains (positions_in es) p → ⊥) → IsChain (get old) a f es last n → IsChain (get new) a f es last n
     chain-beside_next first first' None next a f last n es changed away chain = subst (λ (s : Slab (Node T)). IsChain (get s) a f es last n) (sym changed.1) chain
     chain-beside_next first first' (Some p) next a f last n es changed away chain = chain-elsewhere p (Some (record (changed.1) { next = next })) a f last n es changed.3 (away p refl) chain
 
-    pub chain-beside_previous : (end end' place previous : Option ℕ) (a f last n : Option ℕ) (es : List (Entry T)) → PreviousChanged old new end end' place previous → ((p : ℕ) → place ≡ Some p → Contains (places_in es) p → ⊥) → IsChain (get old) a f es last n → IsChain (get new) a f es last n
+    pub chain-beside_previous : (end end' position previous : Option ℕ) (a f last n : Option ℕ) (es : List (Entry T)) → PreviousChanged old new end end' position previous → ((p : ℕ) → position ≡ Some p → Contains (positions_in es) p → ⊥) → IsChain (get old) a f es last n → IsChain (get new) a f es last n
     chain-beside_previous end end' None previous a f last n es changed away chain = subst (λ (s : Slab (Node T)). IsChain (get s) a f es last n) (sym changed.1) chain
     chain-beside_previous end end' (Some p) previous a f last n es changed away chain = chain-elsewhere p (Some (record (changed.1) { previous = previous })) a f last n es changed.3 (away p refl) chain
 
-    -- a change of a next link leaves the nodes at other places
-    pub beside_next : (first first' place next : Option ℕ) (q : ℕ) → NextChanged old new first first' place next → (place ≡ Some q → ⊥) → get new q ≡ get old q
+    -- a change of a next link leaves the nodes at other positions
+    pub beside_next : (first first' position next : Option ℕ) (q : ℕ) → NextChanged old new first first' position next → (position ≡ Some q → ⊥) → get new q ≡ get old q
     beside_next first first' None next q changed away = ap (λ (s : Slab (Node T)). get s q) changed.1
     beside_next first first' (Some p) next q changed away = changed.3.others q (λ same. away (ap Some (sym same)))
 
-  -- where a list leads back to a place from its end, the place is in it
-  pub end_there : (nodes : Nodes T) (first last n : Option ℕ) (es : List (Entry T)) (p : ℕ) → IsChain nodes None first es last n → last ≡ Some p → Contains (places_in es) p
+  -- where a list leads back to a position from its end, the position is in it
+  pub end_there : (nodes : Nodes T) (first last n : Option ℕ) (es : List (Entry T)) (p : ℕ) → IsChain nodes None first es last n → last ≡ Some p → Contains (positions_in es) p
   end_there nodes first last n [] p chain is = absurd (none-some p (sym chain.1 ∙ is))
   end_there nodes first last n (e ∷ rest) p chain is =
       let end = chain-last nodes None first last n e rest chain in
-      subst (Contains (places_in (e ∷ rest))) (same_Some end.0 p (sym end.1 ∙ is)) end.2
+      subst (Contains (positions_in (e ∷ rest))) (same_Some end.0 p (sym end.1 ∙ is)) end.2
 
-  pub start_there : (nodes : Nodes T) (a link last : Option ℕ) (es : List (Entry T)) (p : ℕ) → IsChain nodes a link es last None → link ≡ Some p → Contains (places_in es) p
+  pub start_there : (nodes : Nodes T) (a link last : Option ℕ) (es : List (Entry T)) (p : ℕ) → IsChain nodes a link es last None → link ≡ Some p → Contains (positions_in es) p
   start_there nodes a link last [] p chain is = absurd (none-some p (sym chain.0 ∙ is))
   start_there nodes a link last (e ∷ rest) p chain is = (0, omega arith, same_Some e.0 p (sym chain.0 ∙ is))
 

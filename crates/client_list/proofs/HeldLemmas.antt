@@ -9,10 +9,10 @@ use Rattle.slab.specs.Slab.{Slab, get, slab_len, with_value as with_slot, Update
 use Rattle.slab.proofs.SlabLemmas.{ContainsKey-within}
 use Rattle.client_list.specs.declared.links.Node.{Node}
 use Rattle.client_list.specs.Connected.{Connected, index_of, with_value, set_value_at}
-use Rattle.client_list.specs.Links.{Entry, along, node_of, places_in, pairs_in, listed, IsChain, IsHeld, NextChanged}
+use Rattle.client_list.specs.Links.{Entry, along, node_of, positions_in, pairs_in, listed, IsChain, IsHeld, NextChanged}
 use Rattle.client_list.specs.DistinctLemmas.{distinct_push}
 use Rattle.client_list.proofs.ChainLemmas.{listed-held}
-use Rattle.client_list.proofs.ChangeLemmas.{set_entry, places-set_entry, pairs-set_entry, numbers-set_entry, length-set_entry, chain-set, chain-kept, chain-has, chain-elsewhere, chain-end, chain-join, beside_next, end_there, end_has}
+use Rattle.client_list.proofs.ChangeLemmas.{set_entry, positions-set_entry, pairs-set_entry, numbers-set_entry, length-set_entry, chain-set, chain-kept, chain-has, chain-elsewhere, chain-end, chain-join, beside_next, end_there, end_has}
 use Rattle.client_list.proofs.LinkLemmas.{node_written}
 use Rattle.client_list.proofs.CallLemmas.{Shows}
 
@@ -26,33 +26,33 @@ module _ {T : Type 0} where
         ap {B = ℕ} (λ (o : Option (Node T)). cond (is_some o) 1 0) found,
       )
 
-  module _ (nodes : Slab (Node T)) (first last : Option ℕ) (value : Connected T) (shown : Shows nodes first last value) (place key : ℕ) (same : key ≡ place) (node : Node T) (found : get nodes key ≡ Some node) (w : T) where
+  module _ (nodes : Slab (Node T)) (first last : Option ℕ) (value : Connected T) (shown : Shows nodes first last value) (position key : ℕ) (same : key ≡ position) (node : Node T) (found : get nodes key ≡ Some node) (w : T) where
     -- a write to one value leaves a list
     pub set_held : IsHeld (with_slot nodes key (record node { value = w })) first last
     set_held =
         let es : List (Entry T) = shown.held.entries in
-        let i : ℕ = index_of (places_in es) place in
+        let i : ℕ = index_of (positions_in es) position in
         let new : Slab (Node T) = with_slot nodes key (record node { value = w }) in
         record {
           entries = set_entry es i w;
-          chain = chain-set nodes new place node (sym (ap (get nodes) same) ∙ found) w (node_written nodes key place node same found (record node { value = w })) None first last None es shown.held.places shown.held.chain;
+          chain = chain-set nodes new position node (sym (ap (get nodes) same) ∙ found) w (node_written nodes key position node same found (record node { value = w })) None first last None es shown.held.positions shown.held.chain;
           count = length-set_entry es i w ∙ shown.held.count ∙ sym (slab_len-with_slot nodes key node (record node { value = w }) found);
-          places = subst (IsDistinct eqb) (sym (places-set_entry es i w)) shown.held.places;
+          positions = subst (IsDistinct eqb) (sym (positions-set_entry es i w)) shown.held.positions;
           numbers = subst (IsDistinct eqb) (sym (numbers-set_entry es i w)) shown.held.numbers;
         }
 
-    pub set_view : listed (along (get (with_slot nodes key (record node { value = w }))) (slab_len (with_slot nodes key (record node { value = w }))) first) ≡ with_value value (index_of value.places place) w
+    pub set_view : listed (along (get (with_slot nodes key (record node { value = w }))) (slab_len (with_slot nodes key (record node { value = w }))) first) ≡ with_value value (index_of value.positions position) w
     unfolding set_held
     set_view =
         let es : List (Entry T) = shown.held.entries in
-        let i : ℕ = index_of (places_in es) place in
+        let i : ℕ = index_of (positions_in es) position in
         listed-held (with_slot nodes key (record node { value = w })) first last set_held
-        ∙ ap (λ (ps : List (ℕ × T)). the_record ps (places_in (set_entry es i w))) (pairs-set_entry es i w)
-        ∙ ap (the_record (set_value_at (pairs_in es) i w)) (places-set_entry es i w)
-        ∙ sym (ap (λ (v : Connected T). with_value v (index_of v.places place) w) shown.is)
+        ∙ ap (λ (ps : List (ℕ × T)). the_record ps (positions_in (set_entry es i w))) (pairs-set_entry es i w)
+        ∙ ap (the_record (set_value_at (pairs_in es) i w)) (positions-set_entry es i w)
+        ∙ sym (ap (λ (v : Connected T). with_value v (index_of v.positions position) w) shown.is)
       where
         the_record : List (ℕ × T) → List ℕ → Connected T
-        the_record ps places = record { pairs = ps; places = places }
+        the_record ps positions = record { pairs = ps; positions = positions }
 
   -- the same nodes are the same list
   pub same_held : (old new : Slab (Node T)) (first last : Option ℕ) → IsHeld old first last → SameValues old new → slab_len new ≡ slab_len old → IsHeld new first last
@@ -60,13 +60,13 @@ module _ {T : Type 0} where
     entries = held.entries;
     chain = chain-kept (get old) (get new) None first last None held.entries (λ p there. values p) held.chain;
     count = held.count ∙ sym len;
-    places = held.places;
+    positions = held.positions;
     numbers = held.numbers;
   }
 
   module _ (old mid : Slab (Node T)) (first last : Option ℕ) (held : IsHeld old first last) (k number : ℕ) (value : T) (vacant : get old k ≡ None) (added : Updates old mid k (Some (node_of (number, value) last None))) where
-    -- a vacant key is no place
-    k_away : Contains (places_in held.entries) k → ⊥
+    -- a vacant key is no position
+    k_away : Contains (positions_in held.entries) k → ⊥
     k_away there =
         let has = chain-has (get old) None first last None held.entries k held.chain there in
         let none = ap is_some vacant in absurd (cc)
@@ -83,20 +83,20 @@ module _ {T : Type 0} where
     pub pairs-pushed : pairs_in pushed ≡ pairs_in held.entries ++ (number, value) ∷ []
     pairs-pushed = map-append (λ e. e.1) held.entries ((k, (number, value)) ∷ [])
 
-    pub places-pushed : places_in pushed ≡ places_in held.entries ++ k ∷ []
-    places-pushed = map-append (λ e. e.0) held.entries ((k, (number, value)) ∷ [])
+    pub positions-pushed : positions_in pushed ≡ positions_in held.entries ++ k ∷ []
+    positions-pushed = map-append (λ e. e.0) held.entries ((k, (number, value)) ∷ [])
 
     -- one more viewer behind all others
     pub pushed_held : (new : Slab (Node T)) (first' : Option ℕ) → NextChanged mid new first first' last (Some k) → slab_len mid ≡ slab_len old + 1 → slab_len new ≡ slab_len mid → (Contains (keys_of (pairs_in held.entries)) number → ⊥) → IsHeld new first' (Some k)
     pushed_held new first' changed len len' free =
         let es : List (Entry T) = held.entries in
-        let front = chain-end mid new first first' last None (Some k) es held.places changed mid_chain in
+        let front = chain-end mid new first first' last None (Some k) es held.positions changed mid_chain in
         let stays = beside_next mid new first first' last (Some k) k changed (λ is. k_away (end_there (get old) first last None es k held.chain is)) in
         record {
           entries = pushed;
           chain = chain-join (get new) None first' last (Some k) (Some k) None es ((k, (number, value)) ∷ []) front (refl, None, stays ∙ added.changed, (refl, refl));
           count = omega (arith, length-append es ((k, (number, value)) ∷ []), held.count, len, len');
-          places = subst (IsDistinct eqb) (sym places-pushed) (distinct_push (places_in es) k k_away held.places);
+          positions = subst (IsDistinct eqb) (sym positions-pushed) (distinct_push (positions_in es) k k_away held.positions);
           numbers =
               subst
               (IsDistinct eqb)

@@ -10,8 +10,8 @@ module _ {T : Type 0} (old : Slab (Node T)) (key p : ℕ) (node : Node T) (same 
   pub node_written : (new : Node T) → Updates old (with_value old key new) p (Some new)
   node_written new = subst (λ (k : ℕ). Updates old (with_value old key new) k (Some new)) same (Updates-with_value old key new (ap is_some found))
 
-  pub next_written : (first place next : Option ℕ) → place ≡ Some p → NextChanged old (with_value old key (record node { next = next })) first first place next
-  next_written first place next is = rw is (refl, node, sym (ap (get old) same) ∙ found, node_written (record node { next = next }))
+  pub next_written : (first position next : Option ℕ) → position ≡ Some p → NextChanged old (with_value old key (record node { next = next })) first first position next
+  next_written first position next is = rw is (refl, node, sym (ap (get old) same) ∙ found, node_written (record node { next = next }))
 
-  pub previous_written : (last place previous : Option ℕ) → place ≡ Some p → PreviousChanged old (with_value old key (record node { previous = previous })) last last place previous
-  previous_written last place previous is = rw is (refl, node, sym (ap (get old) same) ∙ found, node_written (record node { previous = previous }))
+  pub previous_written : (last position previous : Option ℕ) → position ≡ Some p → PreviousChanged old (with_value old key (record node { previous = previous })) last last position previous
+  previous_written last position previous is = rw is (refl, node, sym (ap (get old) same) ∙ found, node_written (record node { previous = previous }))

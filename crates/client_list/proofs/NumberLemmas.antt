@@ -9,7 +9,7 @@ use Rattle.std.specs.Map.{keys_of, lookup}
 use Rattle.std.proofs.lemmas.Bool.{eq-eqb, ne_eqb, cases_eq, cases_lt}
 use Rattle.std.proofs.lemmas.List.{length-map}
 use Rattle.std.proofs.lemmas.Option.{slice_get-map, slice_get_past, same_Some}
-use Rattle.client_list.specs.Connected.{Connected, index_of, index_of_number, value_of, value_at, number_at, pair_at, IsPlace, IsPlaceOf, IsListed}
+use Rattle.client_list.specs.Connected.{Connected, index_of, index_of_number, value_of, value_at, number_at, pair_at, IsPosition, IsPositionOf, IsListed}
 use Rattle.client_list.specs.IndexLemmas.{index_below, index_at, index_within, index_read}
 use Rattle.client_list.specs.DistinctLemmas.{apart_from_first}
 
@@ -23,34 +23,34 @@ module _ {T : Type 0} where
         | inr differs ↦ rw (ne_eqb pair.0 number differs) (lookup-index rest number)
       ]
 
-  -- the number at a place stands at the place's index
-  number_listed : (c : Connected T) (place number : ℕ) → number_at c place ≡ Some number → slice_get (keys_of c.pairs) (index_of c.places place) ≡ Some number
-  number_listed c place number is = slice_get-map (λ pair. pair.0) c.pairs (index_of c.places place) ∙ is
+  -- the number at a position stands at the position's index
+  number_listed : (c : Connected T) (position number : ℕ) → number_at c position ≡ Some number → slice_get (keys_of c.pairs) (index_of c.positions position) ≡ Some number
+  number_listed c position number is = slice_get-map (λ pair. pair.0) c.pairs (index_of c.positions position) ∙ is
 
-  pub number_found : (c : Connected T) (place number : ℕ) → IsListed c → IsPlace c place → number_at c place ≡ Some number → IsPlaceOf c number place
-  number_found c place number listed there is =
-      (there, sym (index_at (keys_of c.pairs) (index_of c.places place) number listed.numbers (number_listed c place number is)), is)
+  pub number_found : (c : Connected T) (position number : ℕ) → IsListed c → IsPosition c position → number_at c position ≡ Some number → IsPositionOf c number position
+  number_found c position number listed there is =
+      (there, sym (index_at (keys_of c.pairs) (index_of c.positions position) number listed.numbers (number_listed c position number is)), is)
 
-  -- where a viewer has another number, the number's first place comes later
-  pub number_differs : (c : Connected T) (place other number : ℕ) → IsListed c → IsPlace c place → number_at c place ≡ Some other → other ≢ number → index_of c.places place ≤ index_of_number c number → index_of c.places place + 1 ≤ index_of_number c number
-  number_differs c place other number listed there is differs before =
-      elim (cases_lt (index_of c.places place) (index_of_number c number)) [
+  -- where a viewer has another number, the number's first position comes later
+  pub number_differs : (c : Connected T) (position other number : ℕ) → IsListed c → IsPosition c position → number_at c position ≡ Some other → other ≢ number → index_of c.positions position ≤ index_of_number c number → index_of c.positions position + 1 ≤ index_of_number c number
+  number_differs c position other number listed there is differs before =
+      elim (cases_lt (index_of c.positions position) (index_of_number c number)) [
         | inl below ↦ omega arith
         | inr past ↦
-            let same : index_of_number c number ≡ index_of c.places place = omega arith in
+            let same : index_of_number c number ≡ index_of c.positions position = omega arith in
             let long : length (keys_of c.pairs) ≡ length c.pairs = length-map c.pairs (λ pair. pair.0) in
-            let within : index_of_number c number < length (keys_of c.pairs) = omega (arith, long, listed.as_many, index_within c.places place there) in
+            let within : index_of_number c number < length (keys_of c.pairs) = omega (arith, long, listed.as_many, index_within c.positions position there) in
             let found = index_below (keys_of c.pairs) number within in
-            absurd (differs (same_Some other number (sym (number_listed c place other is) ∙ sym (ap (slice_get (keys_of c.pairs)) same) ∙ found)))
+            absurd (differs (same_Some other number (sym (number_listed c position other is) ∙ sym (ap (slice_get (keys_of c.pairs)) same) ∙ found)))
       ]
 
   -- a number that no viewer has
   pub number_past : (c : Connected T) (number : ℕ) → length c.pairs ≤ index_of_number c number → value_of c number ≡ None
   number_past c number past = lookup-index c.pairs number ∙ ap (option_map (λ pair. pair.1)) (slice_get_past c.pairs (index_of_number c number) past)
 
-  -- the value at a number's place is the number's
-  pub value_found : (c : Connected T) (place number : ℕ) → IsPlaceOf c number place → value_at c place ≡ value_of c number
-  value_found c place number found = ap (λ (i : ℕ). option_map (λ (pair : ℕ × T). pair.1) (slice_get c.pairs i)) found.1 ∙ sym (lookup-index c.pairs number)
+  -- the value at a number's position is the number's
+  pub value_found : (c : Connected T) (position number : ℕ) → IsPositionOf c number position → value_at c position ≡ value_of c number
+  value_found c position number found = ap (λ (i : ℕ). option_map (λ (pair : ℕ × T). pair.1) (slice_get c.pairs i)) found.1 ∙ sym (lookup-index c.pairs number)
 
   -- a number that no viewer has isn't among the numbers
   pub number_absent : (c : Connected T) (number : ℕ) → value_of c number ≡ None → Contains (keys_of c.pairs) number → ⊥
@@ -79,20 +79,20 @@ module _ {T : Type 0} where
           rw (ne_eqb pair.0 number (apart pair.0 (0, omega arith, refl)))
           (ap (λ (l : List (ℕ × T)). pair ∷ l) (all_others rest (λ n there. apart n (Contains-cons pair.0 n (keys_of rest) there))))
 
-  -- a number's place has a value
-  pub place_value : (c : Connected T) (number place : ℕ) → IsPlaceOf c number place → (value : T) × (value_of c number ≡ Some value)
-  place_value c number place found = go (pair_at c place) refl found.2
+  -- a number's position has a value
+  pub position_value : (c : Connected T) (number position : ℕ) → IsPositionOf c number position → (value : T) × (value_of c number ≡ Some value)
+  position_value c number position found = go (pair_at c position) refl found.2
     where
-      go : (o : Option (ℕ × T)) → pair_at c place ≡ o → option_map (λ (pair : ℕ × T). pair.0) o ≡ Some number → (value : T) × (value_of c number ≡ Some value)
+      go : (o : Option (ℕ × T)) → pair_at c position ≡ o → option_map (λ (pair : ℕ × T). pair.0) o ≡ Some number → (value : T) × (value_of c number ≡ Some value)
       go None is has = absurd (cc)
-      go (Some pair) is has = (pair.1, sym (value_found c place number found) ∙ ap (option_map (λ (pair : ℕ × T). pair.1)) is)
+      go (Some pair) is has = (pair.1, sym (value_found c position number found) ∙ ap (option_map (λ (pair : ℕ × T). pair.1)) is)
 
-  -- where a search finds no place, no viewer has the number
-  pub not_found : (c : Connected T) (number : ℕ) (o : Option ℕ) → is_some o ≡ false → MatchOption o (value_of c number ≡ None) (IsPlaceOf c number) → value_of c number ≡ None
+  -- where a search finds no position, no viewer has the number
+  pub not_found : (c : Connected T) (number : ℕ) (o : Option ℕ) → is_some o ≡ false → MatchOption o (value_of c number ≡ None) (IsPositionOf c number) → value_of c number ≡ None
   not_found c number None none found = found
-  not_found c number (Some place) none found = absurd (cc)
+  not_found c number (Some position) none found = absurd (cc)
 
-  -- where it finds a place, one has it
-  pub was_found : (c : Connected T) (number : ℕ) (o : Option ℕ) → is_some o ≡ true → MatchOption o (value_of c number ≡ None) (IsPlaceOf c number) → (value : T) × (value_of c number ≡ Some value)
+  -- where it finds a position, one has it
+  pub was_found : (c : Connected T) (number : ℕ) (o : Option ℕ) → is_some o ≡ true → MatchOption o (value_of c number ≡ None) (IsPositionOf c number) → (value : T) × (value_of c number ≡ Some value)
   was_found c number None some found = absurd (cc)
-  was_found c number (Some place) some found = place_value c number place found
+  was_found c number (Some position) some found = position_value c number position found

@@ -4,17 +4,17 @@ use Rattle.std.specs.Prelude.{IfSome}
 use Rattle.std.specs.List.{remove}
 use Rattle.slab.specs.Slab.{Slab, get, slab_len, Updates}
 use Rattle.client_list.specs.declared.links.Node.{Node}
-use Rattle.client_list.specs.Connected.{Connected, index_of, IsPlace}
-use Rattle.client_list.specs.Links.{along, places_in, pairs_in, listed, IsHeld, NextChanged, PreviousChanged}
+use Rattle.client_list.specs.Connected.{Connected, index_of, IsPosition}
+use Rattle.client_list.specs.Links.{along, positions_in, pairs_in, listed, IsHeld, NextChanged, PreviousChanged}
 use Rattle.client_list.proofs.CallLemmas.{Shows}
 use Rattle.client_list.proofs.RemovalLemmas.{EntryAt, entry_at, map-remove, previous_has, next_has, removed_held, removed_view}
 
-module _ {T : Type 0} (old mid : Slab (Node T)) (first last : Option ℕ) (value : Connected T) (shown : Shows old first last value) (place key : ℕ) (same : key ≡ place) (there : IsPlace value place) (node : Node T) (found : get old key ≡ Some node) (gone : Updates old mid key None) where
+module _ {T : Type 0} (old mid : Slab (Node T)) (first last : Option ℕ) (value : Connected T) (shown : Shows old first last value) (position key : ℕ) (same : key ≡ position) (there : IsPosition value position) (node : Node T) (found : get old key ≡ Some node) (gone : Updates old mid key None) where
   abbrev index : ℕ
-  index = index_of (places_in shown.held.entries) place
+  index = index_of (positions_in shown.held.entries) position
 
-  entry : EntryAt shown.held.entries place
-  entry = entry_at shown.held.entries place (subst (λ (v : Connected T). IsPlace v place) shown.is there)
+  entry : EntryAt shown.held.entries position
+  entry = entry_at shown.held.entries position (subst (λ (v : Connected T). IsPosition v position) shown.is there)
 
   at_entry : key ≡ entry.entry.0
   at_entry = same ∙ sym entry.is
@@ -39,14 +39,14 @@ module _ {T : Type 0} (old mid : Slab (Node T)) (first last : Option ℕ) (value
       taken_view : listed (along (get new) (slab_len new) first') ≡ listed (remove shown.held.entries index)
       taken_view = removed_view old mid first last shown.held index entry.entry entry.found node found_there gone_there joined first' next_changed new last' previous_changed len len' len''
 
-      pub taken_pairs : pairs_in (along (get new) (slab_len new) first') ≡ remove value.pairs (index_of value.places place)
+      pub taken_pairs : pairs_in (along (get new) (slab_len new) first') ≡ remove value.pairs (index_of value.positions position)
       taken_pairs =
           ap (λ (v : Connected T). v.pairs) taken_view
           ∙ map-remove (λ e. e.1) shown.held.entries index
-          ∙ ap (λ (v : Connected T). remove v.pairs (index_of v.places place)) (sym shown.is)
+          ∙ ap (λ (v : Connected T). remove v.pairs (index_of v.positions position)) (sym shown.is)
 
-      pub taken_places : places_in (along (get new) (slab_len new) first') ≡ remove value.places (index_of value.places place)
-      taken_places =
-          ap (λ (v : Connected T). v.places) taken_view
+      pub taken_positions : positions_in (along (get new) (slab_len new) first') ≡ remove value.positions (index_of value.positions position)
+      taken_positions =
+          ap (λ (v : Connected T). v.positions) taken_view
           ∙ map-remove (λ e. e.0) shown.held.entries index
-          ∙ ap (λ (v : Connected T). remove v.places (index_of v.places place)) (sym shown.is)
+          ∙ ap (λ (v : Connected T). remove v.positions (index_of v.positions position)) (sym shown.is)

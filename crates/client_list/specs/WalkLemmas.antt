@@ -5,32 +5,32 @@ use Rattle.std.specs.Map.{keys_of, values_of}
 use Rattle.std.specs.Option.{option_map, option_to_list}
 use Rattle.std.proofs.lemmas.List.{length-map, take_all, drop_all, reverse-append, reverse-reverse, length-append}
 use Rattle.std.proofs.lemmas.Option.{slice_get-map, same_Some}
-use Rattle.client_list.specs.Connected.{Connected, index_of, set_value_at, with_value, changed, IsPlace, IsListed, value_at, number_at, passed}
+use Rattle.client_list.specs.Connected.{Connected, index_of, set_value_at, with_value, changed, IsPosition, IsListed, value_at, number_at, passed}
 use Rattle.client_list.specs.IndexLemmas.{index_within}
 
 module _ {T : Type 0} where
   -- the measure: a step of a walk leaves fewer viewers to come
-  pub walk_falls : (c : Connected T) (here next : Option ℕ) (place : ℕ) → here ≡ Some place → IsPlace c place → passed c next ≡ index_of c.places place + 1 → length c.places - passed c next < length c.places - passed c here
-  walk_falls c here next place is there step =
-      let from : passed c here ≡ index_of c.places place = ap (passed c) is in
-      omega (arith, from, step, index_within c.places place there)
+  pub walk_falls : (c : Connected T) (here next : Option ℕ) (position : ℕ) → here ≡ Some position → IsPosition c position → passed c next ≡ index_of c.positions position + 1 → length c.positions - passed c next < length c.positions - passed c here
+  walk_falls c here next position is there step =
+      let from : passed c here ≡ index_of c.positions position = ap (passed c) is in
+      omega (arith, from, step, index_within c.positions position there)
 
-  -- the place where a walk stands is a viewer's
-  pub walk_place : (c : Connected T) (here : Option ℕ) (place : ℕ) → here ≡ Some place → IfSome here (IsPlace c) → IsPlace c place
-  walk_place c here place is stands = subst (λ (o : Option ℕ). IfSome o (IsPlace c)) is stands
+  -- the position where a walk stands is a viewer's
+  pub walk_position : (c : Connected T) (here : Option ℕ) (position : ℕ) → here ≡ Some position → IfSome here (IsPosition c) → IsPosition c position
+  walk_position c here position is stands = subst (λ (o : Option ℕ). IfSome o (IsPosition c)) is stands
 
   -- ---- a walk that changes values
 
   -- it has come from `start` to `here`: the pairs that it has passed are as in `target`, the others as they were
   pub record IsWalk (start : Connected T) (target : List (ℕ × T)) (now : Connected T) (here : Option ℕ) : Type 0 where
-    pub place : IfSome here (IsPlace now)
-    pub places : now.places ≡ start.places
+    pub position : IfSome here (IsPosition now)
+    pub positions : now.positions ≡ start.positions
     pub pairs : now.pairs ≡ take (passed now here) target ++ drop (passed now here) start.pairs
 
-  pub walk_start : (start : Connected T) (target : List (ℕ × T)) (here : Option ℕ) → IfSome here (IsPlace start) → passed start here ≡ 0 → IsWalk start target start here
+  pub walk_start : (start : Connected T) (target : List (ℕ × T)) (here : Option ℕ) → IfSome here (IsPosition start) → passed start here ≡ 0 → IsWalk start target start here
   walk_start start target here stands none = record {
-    place = stands;
-    places = refl;
+    position = stands;
+    positions = refl;
     pairs = sym (ap (λ (n : ℕ). take n target ++ drop n start.pairs) none);
   }
 
@@ -55,23 +55,23 @@ module _ {T : Type 0} where
       ap (λ (l : List (ℕ × T)). t ∷ l) (one_more ts os n w tails is)
 
   -- the value where a walk stands is still what it was
-  pub walk_value : (start : Connected T) (target : List (ℕ × T)) (now : Connected T) (here : Option ℕ) (place : ℕ) → keys_of target ≡ keys_of start.pairs → IsWalk start target now here → here ≡ Some place → value_at now place ≡ value_at start place
-  walk_value start target now here place same walk is =
-      let i : ℕ = index_of now.places place in
+  pub walk_value : (start : Connected T) (target : List (ℕ × T)) (now : Connected T) (here : Option ℕ) (position : ℕ) → keys_of target ≡ keys_of start.pairs → IsWalk start target now here → here ≡ Some position → value_at now position ≡ value_at start position
+  walk_value start target now here position same walk is =
+      let i : ℕ = index_of now.positions position in
       let pairs : now.pairs ≡ take i target ++ drop i start.pairs = subst (λ (o : Option ℕ). now.pairs ≡ take (passed now o) target ++ drop (passed now o) start.pairs) is walk.pairs in
       ap (λ (l : List (ℕ × T)). option_map (λ (pair : ℕ × T). pair.1) (slice_get l i)) pairs
       ∙ ap (option_map (λ (pair : ℕ × T). pair.1)) (later_same target start.pairs i same)
-      ∙ ap (λ (l : List ℕ). option_map (λ (pair : ℕ × T). pair.1) (slice_get start.pairs (index_of l place))) walk.places
+      ∙ ap (λ (l : List ℕ). option_map (λ (pair : ℕ × T). pair.1) (slice_get start.pairs (index_of l position))) walk.positions
 
-  -- a step, once the value at the place is the target's
-  pub walk_step : (start : Connected T) (target : List (ℕ × T)) (now : Connected T) (here next : Option ℕ) (place : ℕ) (w : T) → keys_of target ≡ keys_of start.pairs → IsWalk start target now here → here ≡ Some place → option_map (λ (pair : ℕ × T). pair.1) (slice_get target (index_of now.places place)) ≡ Some w → IfSome next (IsPlace (with_value now (index_of now.places place) w)) → passed (with_value now (index_of now.places place) w) next ≡ index_of now.places place + 1 → IsWalk start target (with_value now (index_of now.places place) w) next
-  walk_step start target now here next place w same walk is wanted stands step =
-      let i : ℕ = index_of now.places place in
+  -- a step, once the value at the position is the target's
+  pub walk_step : (start : Connected T) (target : List (ℕ × T)) (now : Connected T) (here next : Option ℕ) (position : ℕ) (w : T) → keys_of target ≡ keys_of start.pairs → IsWalk start target now here → here ≡ Some position → option_map (λ (pair : ℕ × T). pair.1) (slice_get target (index_of now.positions position)) ≡ Some w → IfSome next (IsPosition (with_value now (index_of now.positions position) w)) → passed (with_value now (index_of now.positions position) w) next ≡ index_of now.positions position + 1 → IsWalk start target (with_value now (index_of now.positions position) w) next
+  walk_step start target now here next position w same walk is wanted stands step =
+      let i : ℕ = index_of now.positions position in
       let pairs : now.pairs ≡ take i target ++ drop i start.pairs = subst (λ (o : Option ℕ). now.pairs ≡ take (passed now o) target ++ drop (passed now o) start.pairs) is walk.pairs in
       let count : passed (with_value now i w) next ≡ suc i = omega (arith, step) in
       record {
-        place = stands;
-        places = walk.places;
+        position = stands;
+        positions = walk.positions;
         pairs =
             ap (λ (l : List (ℕ × T)). set_value_at l i w) pairs
             ∙ one_more target start.pairs i w same wanted
@@ -81,10 +81,10 @@ module _ {T : Type 0} where
   -- the end of a walk: all pairs are as in the target
   pub walk_end : (start : Connected T) (target : List (ℕ × T)) (now : Connected T) (here : Option ℕ) → keys_of target ≡ keys_of start.pairs → IsListed start → IsWalk start target now here → here ≡ None → now.pairs ≡ target
   walk_end start target now here same listed walk is =
-      let n : ℕ = length now.places in
+      let n : ℕ = length now.positions in
       let pairs : now.pairs ≡ take n target ++ drop n start.pairs = subst (λ (o : Option ℕ). now.pairs ≡ take (passed now o) target ++ drop (passed now o) start.pairs) is walk.pairs in
       let long : length target ≡ length start.pairs = sym (length-map target (λ e. e.0)) ∙ ap length same ∙ length-map start.pairs (λ e. e.0) in
-      let all : n ≡ length start.pairs = ap length walk.places ∙ sym listed.as_many in
+      let all : n ≡ length start.pairs = ap length walk.positions ∙ sym listed.as_many in
       pairs
       ∙ ap (λ (l : List (ℕ × T)). l ++ drop n start.pairs) (take_all n target (omega (arith, long, all)))
       ∙ ap (λ (l : List (ℕ × T)). target ++ l) (drop_all n start.pairs (omega (arith, all)))
@@ -101,15 +101,15 @@ module _ {T : Type 0} where
   value-changed f (pair ∷ rest) zero v is = ap (λ (x : T). Some (f x)) (same_Some pair.1 v is)
   value-changed f (pair ∷ rest) (suc i) v is = value-changed f rest i v is
 
-  -- a step: the value v at the place became f v
-  pub change_step : (f : T → T) (start now : Connected T) (here next : Option ℕ) (place : ℕ) (v w : T) → IsWalk start (changed f start.pairs) now here → here ≡ Some place → value_at now place ≡ Some v → w ≡ f v → IfSome next (IsPlace (with_value now (index_of now.places place) w)) → passed (with_value now (index_of now.places place) w) next ≡ index_of now.places place + 1 → IsWalk start (changed f start.pairs) (with_value now (index_of now.places place) w) next
-  change_step f start now here next place v w walk is was becomes stands step =
+  -- a step: the value v at the position became f v
+  pub change_step : (f : T → T) (start now : Connected T) (here next : Option ℕ) (position : ℕ) (v w : T) → IsWalk start (changed f start.pairs) now here → here ≡ Some position → value_at now position ≡ Some v → w ≡ f v → IfSome next (IsPosition (with_value now (index_of now.positions position) w)) → passed (with_value now (index_of now.positions position) w) next ≡ index_of now.positions position + 1 → IsWalk start (changed f start.pairs) (with_value now (index_of now.positions position) w) next
+  change_step f start now here next position v w walk is was becomes stands step =
       let same = keys-changed f start.pairs in
-      let was_there : value_at start place ≡ Some v = sym (walk_value start (changed f start.pairs) now here place same walk is) ∙ was in
-      walk_step start (changed f start.pairs) now here next place w same walk is
+      let was_there : value_at start position ≡ Some v = sym (walk_value start (changed f start.pairs) now here position same walk is) ∙ was in
+      walk_step start (changed f start.pairs) now here next position w same walk is
       (
-      ap (λ (l : List ℕ). option_map (λ (pair : ℕ × T). pair.1) (slice_get (changed f start.pairs) (index_of l place))) walk.places
-      ∙ value-changed f start.pairs (index_of start.places place) v was_there
+      ap (λ (l : List ℕ). option_map (λ (pair : ℕ × T). pair.1) (slice_get (changed f start.pairs) (index_of l position))) walk.positions
+      ∙ value-changed f start.pairs (index_of start.positions position) v was_there
       ∙ ap Some (sym becomes)
       )
       stands step
@@ -132,18 +132,18 @@ module _ {X : Type 0} where
 
 module _ {T X : Type 0} (g : T → X) where
   -- what a walk makes of a viewer's value, where it makes g of each
-  pub read_value : (c : Connected T) (place : ℕ) (v : T) → value_at c place ≡ Some v → slice_get (map g (values_of c.pairs)) (index_of c.places place) ≡ Some (g v)
-  read_value c place v is =
-      slice_get-map g (values_of c.pairs) (index_of c.places place)
-      ∙ ap (option_map g) (slice_get-map (λ pair. pair.1) c.pairs (index_of c.places place) ∙ is)
+  pub read_value : (c : Connected T) (position : ℕ) (v : T) → value_at c position ≡ Some v → slice_get (map g (values_of c.pairs)) (index_of c.positions position) ≡ Some (g v)
+  read_value c position v is =
+      slice_get-map g (values_of c.pairs) (index_of c.positions position)
+      ∙ ap (option_map g) (slice_get-map (λ pair. pair.1) c.pairs (index_of c.positions position) ∙ is)
 
   -- a step: what it has made so far is one more
-  pub read_step : (c : Connected T) (made : List X) (here next : Option ℕ) (place : ℕ) (v : T) → made ≡ take (passed c here) (map g (values_of c.pairs)) → here ≡ Some place → value_at c place ≡ Some v → passed c next ≡ index_of c.places place + 1 → made ++ g v ∷ [] ≡ take (passed c next) (map g (values_of c.pairs))
-  read_step c made here next place v so_far is value step =
-      let i : ℕ = index_of c.places place in
+  pub read_step : (c : Connected T) (made : List X) (here next : Option ℕ) (position : ℕ) (v : T) → made ≡ take (passed c here) (map g (values_of c.pairs)) → here ≡ Some position → value_at c position ≡ Some v → passed c next ≡ index_of c.positions position + 1 → made ++ g v ∷ [] ≡ take (passed c next) (map g (values_of c.pairs))
+  read_step c made here next position v so_far is value step =
+      let i : ℕ = index_of c.positions position in
       let count : passed c next ≡ suc i = omega (arith, step) in
       ap (λ (l : List X). l ++ g v ∷ []) (so_far ∙ ap (λ (o : Option ℕ). take (passed c o) (map g (values_of c.pairs))) is)
-      ∙ sym (take_next (map g (values_of c.pairs)) i (g v) (read_value c place v value))
+      ∙ sym (take_next (map g (values_of c.pairs)) i (g v) (read_value c position v value))
       ∙ sym (ap (λ (n : ℕ). take n (map g (values_of c.pairs))) count)
 
   pub read_end : (c : Connected T) (made : List X) (here : Option ℕ) → IsListed c → made ≡ take (passed c here) (map g (values_of c.pairs)) → here ≡ None → made ≡ map g (values_of c.pairs)
@@ -151,15 +151,15 @@ module _ {T X : Type 0} (g : T → X) where
       let long : length (map g (values_of c.pairs)) ≡ length c.pairs = length-map (values_of c.pairs) g ∙ length-map c.pairs (λ e. e.1) in
       so_far
       ∙ ap (λ (o : Option ℕ). take (passed c o) (map g (values_of c.pairs))) is
-      ∙ take_all (length c.places) (map g (values_of c.pairs)) (omega (arith, long, listed.as_many))
+      ∙ take_all (length c.positions) (map g (values_of c.pairs)) (omega (arith, long, listed.as_many))
 
 -- ---- a walk that reads numbers
 
 module _ {T : Type 0} where
   -- a step: one number more was read
-  pub number_step : (c : Connected T) (made : List ℕ) (here next : Option ℕ) (place number : ℕ) → made ≡ take (passed c here) (keys_of c.pairs) → here ≡ Some place → number_at c place ≡ Some number → passed c next ≡ index_of c.places place + 1 → made ++ number ∷ [] ≡ take (passed c next) (keys_of c.pairs)
-  number_step c made here next place number so_far is there step =
-      let i : ℕ = index_of c.places place in
+  pub number_step : (c : Connected T) (made : List ℕ) (here next : Option ℕ) (position number : ℕ) → made ≡ take (passed c here) (keys_of c.pairs) → here ≡ Some position → number_at c position ≡ Some number → passed c next ≡ index_of c.positions position + 1 → made ++ number ∷ [] ≡ take (passed c next) (keys_of c.pairs)
+  number_step c made here next position number so_far is there step =
+      let i : ℕ = index_of c.positions position in
       let count : passed c next ≡ suc i = omega (arith, step) in
       ap (λ (l : List ℕ). l ++ number ∷ []) (so_far ∙ ap (λ (o : Option ℕ). take (passed c o) (keys_of c.pairs)) is)
       ∙ sym (take_next (keys_of c.pairs) i number (slice_get-map (λ pair. pair.0) c.pairs i ∙ there))
@@ -169,7 +169,7 @@ module _ {T : Type 0} where
   numbers_end c made here listed so_far is =
       so_far
       ∙ ap (λ (o : Option ℕ). take (passed c o) (keys_of c.pairs)) is
-      ∙ take_all (length c.places) (keys_of c.pairs) (omega (arith, length-map c.pairs (λ e. e.0), listed.as_many))
+      ∙ take_all (length c.positions) (keys_of c.pairs) (omega (arith, length-map c.pairs (λ e. e.0), listed.as_many))
 
 -- ---- a list that is taken from its end, turned round
 
@@ -193,9 +193,9 @@ module _ {X : Type 0} where
       (ap Some same.1, same.0)
 
 module _ {T : Type 0} where
-  -- each place has a value
-  pub place_has : (c : Connected T) (place : ℕ) → IsListed c → IsPlace c place → (v : T) × (value_at c place ≡ Some v)
-  place_has c place listed there = go c.pairs (index_of c.places place) (omega (arith, listed.as_many, index_within c.places place there))
+  -- each position has a value
+  pub position_has : (c : Connected T) (position : ℕ) → IsListed c → IsPosition c position → (v : T) × (value_at c position ≡ Some v)
+  position_has c position listed there = go c.pairs (index_of c.positions position) (omega (arith, listed.as_many, index_within c.positions position there))
     where
       go : (pairs : List (ℕ × T)) (i : ℕ) → i < length pairs → (v : T) × (option_map (λ (pair : ℕ × T). pair.1) (slice_get pairs i) ≡ Some v)
       go [] i within = absurd (omega (arith, within))
@@ -203,25 +203,25 @@ module _ {T : Type 0} where
       go (pair ∷ rest) (suc i) within = go rest i (omega (arith, within))
 
 module _ {T X : Type 0} (g : T → X) where
-  -- of things that were prepared, g of each value, and turned round, `pop` gives the one for the place where a walk stands
-  pub record TakesNext (start now : Connected T) (place : ℕ) (popped : Option X) (rest : List X) : Type 0 where
+  -- of things that were prepared, g of each value, and turned round, `pop` gives the one for the position where a walk stands
+  pub record TakesNext (start now : Connected T) (position : ℕ) (popped : Option X) (rest : List X) : Type 0 where
     pub value : T
-    pub was : value_at now place ≡ Some value
+    pub was : value_at now position ≡ Some value
     pub next : popped ≡ Some (g value)
-    pub left : rest ≡ reverse (drop (index_of now.places place + 1) (map g (values_of start.pairs)))
+    pub left : rest ≡ reverse (drop (index_of now.positions position + 1) (map g (values_of start.pairs)))
 
-  pub take_step : (start : Connected T) (target : List (ℕ × T)) (now : Connected T) (here : Option ℕ) (place : ℕ) (left rest : List X) (popped : Option X) → keys_of target ≡ keys_of start.pairs → IsListed start → IsWalk start target now here → here ≡ Some place → left ≡ reverse (drop (passed now here) (map g (values_of start.pairs))) → left ≡ rest ++ option_to_list popped → (0 < length left → is_some popped ≡ true) → TakesNext start now place popped rest
-  take_step start target now here place left rest popped same listed walk is left_is taken variant =
-      let there : IsPlace start place = subst (λ (ps : List ℕ). Contains ps place) walk.places (walk_place now here place is walk.place) in
-      let has = place_has start place listed there in
-      let i : ℕ = index_of now.places place in
-      let at : index_of start.places place ≡ i = sym (ap (λ (ps : List ℕ). index_of ps place) walk.places) in
-      let read : slice_get (map g (values_of start.pairs)) i ≡ Some (g has.0) = sym (ap (slice_get (map g (values_of start.pairs))) at) ∙ read_value g start place has.0 has.1 in
+  pub take_step : (start : Connected T) (target : List (ℕ × T)) (now : Connected T) (here : Option ℕ) (position : ℕ) (left rest : List X) (popped : Option X) → keys_of target ≡ keys_of start.pairs → IsListed start → IsWalk start target now here → here ≡ Some position → left ≡ reverse (drop (passed now here) (map g (values_of start.pairs))) → left ≡ rest ++ option_to_list popped → (0 < length left → is_some popped ≡ true) → TakesNext start now position popped rest
+  take_step start target now here position left rest popped same listed walk is left_is taken variant =
+      let there : IsPosition start position = subst (λ (ps : List ℕ). Contains ps position) walk.positions (walk_position now here position is walk.position) in
+      let has = position_has start position listed there in
+      let i : ℕ = index_of now.positions position in
+      let at : index_of start.positions position ≡ i = sym (ap (λ (ps : List ℕ). index_of ps position) walk.positions) in
+      let read : slice_get (map g (values_of start.pairs)) i ≡ Some (g has.0) = sym (ap (slice_get (map g (values_of start.pairs))) at) ∙ read_value g start position has.0 has.1 in
       let stands : left ≡ reverse (drop i (map g (values_of start.pairs))) = left_is ∙ ap (λ (o : Option ℕ). reverse (drop (passed now o) (map g (values_of start.pairs)))) is in
       let next = taken_next (map g (values_of start.pairs)) i (g has.0) left rest popped stands read taken variant in
       record {
         value = has.0;
-        was = walk_value start target now here place same walk is ∙ has.1;
+        was = walk_value start target now here position same walk is ∙ has.1;
         next = next.0;
         left = next.1 ∙ ap (λ (n : ℕ). reverse (drop n (map g (values_of start.pairs)))) (let e : suc i ≡ i + 1 = omega arith in e);
       }

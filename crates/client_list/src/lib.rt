@@ -1,5 +1,5 @@
 //! The viewers of a screen in their order of connecting: a doubly linked list whose nodes lie in a slab and whose links
-//! are keys of it. Contracts see the list of pairs of number and value, and beside it the list of their places.
+//! are keys of it. Contracts see the list of pairs of number and value, and beside it the list of their positions.
 //!
 //! `links` has the nodes and changes their links. A walk goes from `first` by `next`, and `at_mut` may change each value
 //! on the way; `proofs/Walks.antt` has what a caller's loop needs.
@@ -11,8 +11,8 @@ ghost use Rattle.std.specs.Map.{keys_of};
 ghost use Rattle.std.specs.Option.{option_copied_mut};
 ghost use Rattle.std.specs.Borrow.{sem};
 ghost use Rattle.std.specs.List.{remove as without_index, filter};
-ghost use Rattle.client_list.specs.Connected.{index_of, index_of_number, value_of, value_at, number_at, IsPlace, IsListed};
-ghost use Rattle.client_list.specs.Connected.{IsPlaceOf, passed};
+ghost use Rattle.client_list.specs.Connected.{index_of, index_of_number, value_of, value_at, number_at, IsPosition, IsListed};
+ghost use Rattle.client_list.specs.Connected.{IsPositionOf, passed};
 ghost use Rattle.client_list.specs.declared.ConnectError.TheVariants.{NumberInUse, OutOfMemory};
 
 mod links;
@@ -22,13 +22,13 @@ use slab::Slab;
 use std::alloc::{AllocError, Global};
 use std::marker::Model;
 
-/// The place of a viewer in the list. It stays the viewer's until that viewer is removed.
+/// The position of a viewer in the list. It stays the viewer's until that viewer is removed.
 #[derive(Clone, Copy, Debug, PartialEq, Eq)]
-pub struct Place {
+pub struct Position {
     key: usize,
 }
 
-impl Model for Place {
+impl Model for Position {
     ghost use Rattle.std.specs.Prelude.{ℕ};
 
     ghost Value = { ℕ };
@@ -55,8 +55,8 @@ pub struct NoViewer;
 #[derive(Drop)]
 pub struct Clients<T> {
     nodes: Slab<Node<T>>,
-    first: Option<Place>,
-    last: Option<Place>,
+    first: Option<Position>,
+    last: Option<Position>,
 }
 
 impl<T> Model for Clients<T> {
@@ -80,7 +80,7 @@ impl<T> Clients<T> {
     /// No viewers. This takes no memory.
     pub fn new(alloc: Global) -> Self
         ensures pairs { result.pairs ≡ [] }
-        ensures places { result.places ≡ [] }
+        ensures positions { result.positions ≡ [] }
     {
         Clients {
             nodes: Slab::new(alloc),
@@ -92,7 +92,7 @@ impl<T> Clients<T> {
     /// How many viewers there are.
     pub fn len(&self) -> usize
         ensures pairs { result ≡ length self.now.pairs }
-        ensures places { result ≡ length self.now.places }
+        ensures positions { result ≡ length self.now.positions }
         ensures listed { IsListed self.now }
     {
         self.nodes.len()
@@ -105,50 +105,50 @@ impl<T> Clients<T> {
         self.nodes.is_empty()
     }
 
-    /// The place of the viewer that connected first; `None` where there are no viewers.
-    pub fn first(&self) -> Option<Place>
-        ensures first { result ≡ slice_get self.now.places 0 }
-        ensures place { IfSome result (IsPlace self.now) }
+    /// The position of the viewer that connected first; `None` where there are no viewers.
+    pub fn first(&self) -> Option<Position>
+        ensures first { result ≡ slice_get self.now.positions 0 }
+        ensures position { IfSome result (IsPosition self.now) }
         ensures passed { passed self.now result ≡ 0 }
         ensures listed { IsListed self.now }
     {
         self.first
     }
 
-    /// The place of the viewer that connected next; `None` behind the last.
-    pub fn next(&self, place: Place) -> Option<Place>
-        requires { IsPlace self.now place }
-        ensures next { result ≡ slice_get self.now.places (index_of self.now.places place + 1) }
-        ensures place { IfSome result (IsPlace self.now) }
-        ensures passed { passed self.now result ≡ index_of self.now.places place + 1 }
+    /// The position of the viewer that connected next; `None` behind the last.
+    pub fn next(&self, position: Position) -> Option<Position>
+        requires { IsPosition self.now position }
+        ensures next { result ≡ slice_get self.now.positions (index_of self.now.positions position + 1) }
+        ensures position { IfSome result (IsPosition self.now) }
+        ensures passed { passed self.now result ≡ index_of self.now.positions position + 1 }
     {
-        self.nodes[place.key].next
+        self.nodes[position.key].next
     }
 
-    /// The number of the viewer at a place.
-    pub fn number_at(&self, place: Place) -> u64
-        requires { IsPlace self.now place }
-        ensures { number_at self.now place ≡ Some result }
+    /// The number of the viewer at a position.
+    pub fn number_at(&self, position: Position) -> u64
+        requires { IsPosition self.now position }
+        ensures { number_at self.now position ≡ Some result }
     {
-        self.nodes[place.key].number
+        self.nodes[position.key].number
     }
 
-    /// The value of the viewer at a place.
-    pub fn at(&self, place: Place) -> &T
-        requires { IsPlace self.now place }
-        ensures { value_at self.now place ≡ Some result.now }
+    /// The value of the viewer at a position.
+    pub fn at(&self, position: Position) -> &T
+        requires { IsPosition self.now position }
+        ensures { value_at self.now position ≡ Some result.now }
     {
-        &self.nodes[place.key].value
+        &self.nodes[position.key].value
     }
 
-    /// The value of the viewer at a place, for writing. The other values stay, and so do all numbers, places and their
+    /// The value of the viewer at a position, for writing. The other values stay, and so do all numbers, positions and their
     /// order.
-    pub fn at_mut(&mut self, place: Place) -> &mut T
-        requires { IsPlace self.old place }
-        ensures* writes_back { sem 𝓛 (lends_at T.row self.entry place result) }
-        ensures value { value_at self.old place ≡ Some result.now }
+    pub fn at_mut(&mut self, position: Position) -> &mut T
+        requires { IsPosition self.old position }
+        ensures* writes_back { sem 𝓛 (lends_at T.row self.entry position result) }
+        ensures value { value_at self.old position ≡ Some result.now }
     {
-        let node = &mut self.nodes[place.key];
+        let node = &mut self.nodes[position.key];
         &mut node.value
     }
 
@@ -157,26 +157,26 @@ impl<T> Clients<T> {
         ensures { IfOk result (λ numbers. numbers.items ≡ keys_of self.now.pairs) }
     {
         let mut numbers = Vec::with_capacity(alloc, self.len())?;
-        let mut place = self.first();
-        while let Some(at) = place {
+        let mut position = self.first();
+        while let Some(at) = position {
             numbers.push(self.number_at(at))?;
-            place = self.next(at);
+            position = self.next(at);
         }
         Ok(numbers)
     }
 
-    /// The place of the viewer with a number, found by a walk.
-    pub fn place_of(&self, number: u64) -> Option<Place>
-        ensures place { result ≡ slice_get self.now.places (index_of_number self.now number) }
-        ensures found { MatchOption result (value_of self.now number ≡ None) (IsPlaceOf self.now number) }
+    /// The position of the viewer with a number, found by a walk.
+    pub fn position_of(&self, number: u64) -> Option<Position>
+        ensures position { result ≡ slice_get self.now.positions (index_of_number self.now number) }
+        ensures found { MatchOption result (value_of self.now number ≡ None) (IsPositionOf self.now number) }
         ensures listed { IsListed self.now }
     {
-        let mut place = self.first();
-        while let Some(at) = place {
+        let mut position = self.first();
+        while let Some(at) = position {
             if self.number_at(at) == number {
                 return Some(at);
             }
-            place = self.next(at);
+            position = self.next(at);
         }
         None
     }
@@ -185,37 +185,37 @@ impl<T> Clients<T> {
     pub fn get(&self, number: u64) -> Option<&T>
         ensures { option_copied result ≡ value_of self.now number }
     {
-        match self.place_of(number) {
-            Some(place) => Some(self.at(place)),
+        match self.position_of(number) {
+            Some(position) => Some(self.at(position)),
             None => None,
         }
     }
 
     /// The value of the viewer with a number, for writing; `None` where no viewer has it. The other values stay, and so
-    /// do all numbers, places and their order.
+    /// do all numbers, positions and their order.
     pub fn get_mut(&mut self, number: u64) -> Option<&mut T>
         ensures* writes_back { sem 𝓛 (lends_number T.row self.entry number result) }
         ensures value { option_copied_mut result ≡ value_of self.old number }
     {
-        match self.place_of(number) {
-            Some(place) => Some(self.at_mut(place)),
+        match self.position_of(number) {
+            Some(position) => Some(self.at_mut(position)),
             None => None,
         }
     }
 
-    /// Takes out the viewer with a number; the others stay in their order, each at its place. `NoViewer` where no viewer
+    /// Takes out the viewer with a number; the others stay in their order, each at its position. `NoViewer` where no viewer
     /// has the number, and then nothing changes. This takes no memory.
     pub fn remove(&mut self, number: u64) -> Result<T, NoViewer>
         ensures value { MatchResult result (λ value. value_of self.old number ≡ Some value) (λ _. value_of self.old number ≡ None) }
         ensures pairs { OnOk result (self.new.pairs ≡ without_index self.old.pairs (index_of_number self.old number)) }
-        ensures places { OnOk result (self.new.places ≡ without_index self.old.places (index_of_number self.old number)) }
+        ensures positions { OnOk result (self.new.positions ≡ without_index self.old.positions (index_of_number self.old number)) }
         ensures others { OnOk result (self.new.pairs ≡ filter (λ pair. not (pair.0 == number)) self.old.pairs) }
         ensures err { OnErr result (self.new ≡ self.old) }
     {
-        let Some(place) = self.place_of(number) else {
+        let Some(position) = self.position_of(number) else {
             return Err(NoViewer);
         };
-        let node = self.nodes.remove(place.key);
+        let node = self.nodes.remove(position.key);
         set_next(&mut self.nodes, &mut self.first, node.previous, node.next);
         set_previous(&mut self.nodes, &mut self.last, node.next, node.previous);
         Ok(node.value)
@@ -227,16 +227,16 @@ impl<T: Drop> Clients<T> {
     /// room is refused; either way the value is dropped, and nothing else changes.
     pub fn connect(&mut self, number: u64, value: T) -> Result<(), ConnectError>
         ensures pairs { OnOk result (self.new.pairs ≡ self.old.pairs ++ (number, value) ∷ []) }
-        ensures places { OnOk result ((place : ℕ) × (self.new.places ≡ self.old.places ++ place ∷ [])) }
+        ensures positions { OnOk result ((position : ℕ) × (self.new.positions ≡ self.old.positions ++ position ∷ [])) }
         ensures refused { MatchOption (value_of self.old number) (IsOkUnless result OutOfMemory) (λ _. result ≡ Err NumberInUse) }
         ensures err { OnErr result (self.new ≡ self.old) }
     {
-        if self.place_of(number).is_some() {
+        if self.position_of(number).is_some() {
             return Err(ConnectError::NumberInUse);
         }
-        let place = Some(add(&mut self.nodes, number, value, self.last)?);
-        set_next(&mut self.nodes, &mut self.first, self.last, place);
-        self.last = place;
+        let position = Some(add(&mut self.nodes, number, value, self.last)?);
+        set_next(&mut self.nodes, &mut self.first, self.last, position);
+        self.last = position;
         Ok(())
     }
 }

@@ -5,48 +5,48 @@ ghost use Rattle.slab.specs.Slab.{get, slab_len, ContainsKey, Updates, SameValue
 ghost use Rattle.client_list.specs.Links.{node_of, NextChanged, PreviousChanged};
 ghost use Rattle.client_list.specs.declared.ConnectError.TheVariants.{OutOfMemory};
 
-use crate::{ConnectError, Place};
+use crate::{ConnectError, Position};
 use slab::Slab;
 
-/// A viewer: its number and value, and the places of the viewers before and behind it.
+/// A viewer: its number and value, and the positions of the viewers before and behind it.
 #[derive(Drop)]
 pub struct Node<T> {
     pub number: u64,
     pub value: T,
-    pub previous: Option<Place>,
-    pub next: Option<Place>,
+    pub previous: Option<Position>,
+    pub next: Option<Position>,
 }
 
-/// Leads on to `next` behind the viewer at a place, or from the front where there is no such place.
+/// Leads on to `next` behind the viewer at a position, or from the front where there is no such position.
 pub fn set_next<T>(
     nodes: &mut Slab<Node<T>>,
-    first: &mut Option<Place>,
-    place: Option<Place>,
-    next: Option<Place>,
+    first: &mut Option<Position>,
+    position: Option<Position>,
+    next: Option<Position>,
 )
-    requires { IfSome place (ContainsKey nodes.old) }
-    ensures changed { NextChanged nodes.old nodes.new first.old first.new place next }
+    requires { IfSome position (ContainsKey nodes.old) }
+    ensures changed { NextChanged nodes.old nodes.new first.old first.new position next }
     ensures len { slab_len nodes.new ≡ slab_len nodes.old }
 {
-    match place {
-        Some(place) => nodes[place.key].next = next,
+    match position {
+        Some(position) => nodes[position.key].next = next,
         None => *first = next,
     }
 }
 
-/// Leads back to `previous` before the viewer at a place, or from the end where there is no such place.
+/// Leads back to `previous` before the viewer at a position, or from the end where there is no such position.
 pub fn set_previous<T>(
     nodes: &mut Slab<Node<T>>,
-    last: &mut Option<Place>,
-    place: Option<Place>,
-    previous: Option<Place>,
+    last: &mut Option<Position>,
+    position: Option<Position>,
+    previous: Option<Position>,
 )
-    requires { IfSome place (ContainsKey nodes.old) }
-    ensures changed { PreviousChanged nodes.old nodes.new last.old last.new place previous }
+    requires { IfSome position (ContainsKey nodes.old) }
+    ensures changed { PreviousChanged nodes.old nodes.new last.old last.new position previous }
     ensures len { slab_len nodes.new ≡ slab_len nodes.old }
 {
-    match place {
-        Some(place) => nodes[place.key].previous = previous,
+    match position {
+        Some(position) => nodes[position.key].previous = previous,
         None => *last = previous,
     }
 }
@@ -57,10 +57,11 @@ pub fn add<T: Drop>(
     nodes: &mut Slab<Node<T>>,
     number: u64,
     value: T,
-    previous: Option<Place>,
-) -> Result<Place, ConnectError>
-    ensures was_vacant { IfOk result (λ place. get nodes.old place ≡ None) }
-    ensures updates { IfOk result (λ place. Updates nodes.old nodes.new place (Some (node_of (number, value) previous None))) }
+    previous: Option<Position>,
+) -> Result<Position, ConnectError>
+    ensures was_vacant { IfOk result (λ position. get nodes.old position ≡ None) }
+    ensures updates { IfOk result (λ position.
+        Updates nodes.old nodes.new position (Some (node_of (number, value) previous None))) }
     ensures len { OnOk result (slab_len nodes.new ≡ slab_len nodes.old + 1) }
     ensures refused { IsOkUnless result OutOfMemory }
     ensures values { OnErr result (SameValues nodes.old nodes.new) }
@@ -73,7 +74,7 @@ pub fn add<T: Drop>(
         next: None,
     };
     match nodes.insert(node) {
-        Ok(key) => Ok(Place { key }),
+        Ok(key) => Ok(Position { key }),
         Err(_) => Err(ConnectError::OutOfMemory),
     }
 }

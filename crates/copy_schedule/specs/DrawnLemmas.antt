@@ -7,7 +7,7 @@ use Rattle.std.proofs.lemmas.Nat.{mul-add-lt}
 use Rattle.std.proofs.lemmas.List.FromFn.{get_or-map-range_with_len, length-map-range_with_len}
 use Rattle.std.proofs.lemmas.List.Folds.{list_any_at, list_any_none}
 use Rattle.region.specs.declared.Rect.{Rect}
-use Rattle.region.specs.Held.{Held, SharePlace}
+use Rattle.region.specs.RegionView.{RegionView, SharePlace}
 use Rattle.region.specs.Region.{covers, on_screen}
 use Rattle.region.specs.Places.{by_place, some_place, same_offset}
 use Rattle.region.specs.PlaceLemmas.{is_place, same_by_place, below, value_on}
@@ -15,10 +15,10 @@ use Rattle.copy_schedule.specs.declared.Mark as mark
 use Rattle.copy_schedule.specs.declared.Mark.TheVariants.{Clean, Copied, Owed}
 use Rattle.copy_schedule.specs.declared.LogEntry.{LogEntry}
 use Rattle.copy_schedule.specs.declared.LogEntry.TheVariants.{Mark, Copy}
-use Rattle.copy_schedule.specs.declared.kept.Kept.{Kept}
-use Rattle.copy_schedule.specs.Marks.{Marks, is_clean, is_copied, is_owed, mark_at, asked_at, marked, lost_to, moved, moved_mark, wanted, pending}
+use Rattle.copy_schedule.specs.declared.mark_sets.MarkSets.{MarkSets}
+use Rattle.copy_schedule.specs.Marks.{Marks, is_clean, is_copied, is_owed, mark_at, asked_at, marked, lost_to, moved_marks, moved_mark, wanted, pending}
 use Rattle.copy_schedule.specs.Log.{after_entry, logged, drawn_by, draws_asked}
-use Rattle.copy_schedule.specs.KeptLemmas.{Shows, not_shared}
+use Rattle.copy_schedule.specs.MarkSetLemmas.{Shows, not_shared}
 
 -- Some place of a screen.
 
@@ -76,7 +76,7 @@ lost_clean m set by x y on =
     go false Copied = refl
     go b Owed = refl
 
-moved_clean : (m : Marks) (set : ℤ → ℤ → Bool) (by : ℤ × ℤ) (x y : ℤ) → on_screen m.width m.height x y ≡ true → is_clean (mark_at (moved set by m) x y) ≡ (is_clean (mark_at m x y) && not (set x y))
+moved_clean : (m : Marks) (set : ℤ → ℤ → Bool) (by : ℤ × ℤ) (x y : ℤ) → on_screen m.width m.height x y ≡ true → is_clean (mark_at (moved_marks set by m) x y) ≡ (is_clean (mark_at m x y) && not (set x y))
 moved_clean m set by x y on =
     ap is_clean (value_on Clean m.width m.height (λ x y. moved_mark (set x y) (mark_at m x y) (mark_at m (x -ℤ by.0) (y -ℤ by.1))) x y on) ∙ go (set x y) (mark_at m x y) (mark_at m (x -ℤ by.0) (y -ℤ by.1))
   where
@@ -109,7 +109,7 @@ pending_after_entry uses (Mark region) m =
 pending_after_entry false (Copy region dx dy) m =
     wanted_after m (marked (covers region.list) m) (covers region.list) (λ x y on. ap (λ b. asked_at m x y && not b) (marked_clean m (covers region.list) x y on))
 pending_after_entry true (Copy region dx dy) m =
-    wanted_after m (moved (covers region.list) (dx, dy) (lost_to (covers region.list) (dx, dy) m)) (covers region.list) (λ x y on.
+    wanted_after m (moved_marks (covers region.list) (dx, dy) (lost_to (covers region.list) (dx, dy) m)) (covers region.list) (λ x y on.
     ap (λ b. asked_at m x y && not b)
     (moved_clean (lost_to (covers region.list) (dx, dy) m) (covers region.list) (dx, dy) x y on
     ∙ ap (λ b. b && not (covers region.list x y)) (lost_clean m (covers region.list) (dx, dy) x y on)))
@@ -138,7 +138,7 @@ pending_after_log uses (e ∷ es) m =
 
 -- Whether an entry draws a place that is asked for: whether the regions share one.
 
-module _ (m : Marks) (k : Kept) (asked drawn : List Rect) (shows : Shows m k asked) where
+module _ (m : Marks) (k : MarkSets) (asked drawn : List Rect) (shows : Shows m k asked) where
   asked_on : (x y : ℤ) → on_screen m.width m.height x y ≡ true → asked_at m x y ≡ covers asked x y
   asked_on x y on = ap (λ (bs : List Bool). cond (on_screen m.width m.height x y) (get_or bs (nat_abs y * m.width + nat_abs x) false) false) shows.places ∙ value_on false m.width m.height (covers asked) x y on
 

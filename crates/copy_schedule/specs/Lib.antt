@@ -1,11 +1,11 @@
 pub mod Windows
 pub mod Marks
-pub mod Kept
+pub mod MarkSets
 pub mod Log
 pub mod Sets
 pub mod Examples
 pub mod CutLemmas
 pub mod SetLemmas
 pub mod DrawnLemmas
-pub mod KeptLemmas
+pub mod MarkSetLemmas
 pub mod LogLemmas

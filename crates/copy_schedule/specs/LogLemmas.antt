@@ -15,11 +15,11 @@ use Rattle.region.specs.CopyPlaceLemmas.{rects-on-screen}
 use Rattle.copy_schedule.specs.declared.Mark as mark
 use Rattle.copy_schedule.specs.declared.Mark.TheVariants.{Clean, Owed}
 use Rattle.copy_schedule.specs.Marks.{Marks, mark_at, has_asked, marked, copied_by, is_clean, wanted, pending}
-use Rattle.copy_schedule.specs.Kept.{LiesOn}
-use Rattle.copy_schedule.specs.KeptLemmas.{none_asked}
+use Rattle.copy_schedule.specs.MarkSets.{LiesOn}
+use Rattle.copy_schedule.specs.MarkSetLemmas.{none_asked}
 use Rattle.copy_schedule.specs.declared.LogEntry.{LogEntry}
 use Rattle.copy_schedule.specs.declared.LogEntry.TheVariants.{Mark, Copy}
-use Rattle.region.specs.Held.{Held}
+use Rattle.region.specs.RegionView.{RegionView}
 use Rattle.copy_schedule.specs.Log.{after_entry, logged, IsCutEntry}
 use Rattle.std.proofs.Common.{◌++◌}
 use Rattle.std.proofs.lemmas.List.Elements.{All-append, All-cons, All-nil, All-head, All-tail}
@@ -64,7 +64,7 @@ reversed_is_cut w h (x ∷ xs) all =
     subst (All (IsCutEntry w h)) (sym (reverse-append (x ∷ []) xs)) (cut_append w h (reverse xs) x (reversed_is_cut w h xs (All-tail (IsCutEntry w h) x xs all)) (All-head (IsCutEntry w h) x xs all))
 
 -- a mark that is joined to the one behind it
-pub joins_mark : (uses : Bool) (others old now : List LogEntry) (next region both : Held) (m : Marks) → old ≡ others ++ Mark next ∷ []
+pub joins_mark : (uses : Bool) (others old now : List LogEntry) (next region both : RegionView) (m : Marks) → old ≡ others ++ Mark next ∷ []
     → ((x y : ℤ) → covers both.list x y ≡ (covers region.list x y || covers next.list x y)) → now ≡ others ++ Mark both ∷ []
     → logged uses (reverse now) m ≡ logged uses (reverse old) (marked (covers region.list) m)
 joins_mark uses others old now next region both m was each is =
@@ -73,13 +73,13 @@ joins_mark uses others old now next region both m was each is =
     ∙ sym (logged_before uses others old (Mark next) (marked (covers region.list) m) was)
 
 -- a mark before others
-pub comes_before : (uses : Bool) (old now : List LogEntry) (region copy : Held) (m : Marks) → now ≡ old ++ Mark copy ∷ [] → copy.list ≡ region.list
+pub comes_before : (uses : Bool) (old now : List LogEntry) (region copy : RegionView) (m : Marks) → now ≡ old ++ Mark copy ∷ [] → copy.list ≡ region.list
     → logged uses (reverse now) m ≡ logged uses (reverse old) (marked (covers region.list) m)
 comes_before uses old now region copy m is same =
     logged_before uses old now (Mark copy) m is ∙ ap (λ (rs : List Rect). logged uses (reverse old) (marked (covers rs) m)) same
 
 -- a copy of the same region by the same offset
-pub joins_copy : (uses : Bool) (copy region : Held) (d e dx dy : ℤ) (entry : LogEntry) (m : Marks) → copy.list ≡ region.list → d ≡ dx → e ≡ dy → entry ≡ Copy region dx dy
+pub joins_copy : (uses : Bool) (copy region : RegionView) (d e dx dy : ℤ) (entry : LogEntry) (m : Marks) → copy.list ≡ region.list → d ≡ dx → e ≡ dy → entry ≡ Copy region dx dy
     → copied_by (covers copy.list) (d, e) uses m ≡ after_entry uses entry m
 joins_copy uses copy region d e dx dy entry m list across down is =
     ap (λ (rs : List Rect). copied_by (covers rs) (d, e) uses m) list

@@ -70,12 +70,12 @@ moved_mark true Clean source = if is_owed source then Owed else Copied
 moved_mark false Clean source = Clean
 
 -- a viewer with CopyRect may have the set's pixels moved by the offset; all places at once
-abbrev pub moved : (ℤ → ℤ → Bool) → ℤ × ℤ → Marks → Marks
-moved set by m = record (with_marks m (λ x y. moved_mark (set x y) (mark_at m x y) (mark_at m (x -ℤ by.0) (y -ℤ by.1)))) { offset = by }
+abbrev pub moved_marks : (ℤ → ℤ → Bool) → ℤ × ℤ → Marks → Marks
+moved_marks set by m = record (with_marks m (λ x y. moved_mark (set x y) (mark_at m x y) (mark_at m (x -ℤ by.0) (y -ℤ by.1)))) { offset = by }
 
 -- after a copy of a set, which is on the screen with its source and not empty, by an offset that is not (0, 0)
 abbrev pub copied_by : (ℤ → ℤ → Bool) → ℤ × ℤ → Bool → Marks → Marks
-copied_by set by true m = moved set by (lost_to set by m)
+copied_by set by true m = moved_marks set by (lost_to set by m)
 copied_by set by false m = marked set m
 
 -- Messages of the viewer.

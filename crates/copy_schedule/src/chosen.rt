@@ -2,10 +2,10 @@
 
 ghost use Rattle.std.specs.Prelude.{◌≡◌, ◌&&◌, ◌||◌, not, ℤ, ◌-ℤ◌, IfOk, take, All};
 ghost use Rattle.region.specs.Region.{covers, order, IsCanonical};
-ghost use Rattle.region.specs.Places.{IsOnScreen};
-ghost use Rattle.copy_schedule.specs.Kept.{LiesOn, IsKept};
+ghost use Rattle.region.specs.Places.{IsOnScreen, longest_side};
+ghost use Rattle.copy_schedule.specs.MarkSets.{LiesOn, AreMarkSets};
 
-use crate::kept::Kept;
+use crate::mark_sets::MarkSets;
 use crate::sets::moved_by;
 use region::{Rect, Region};
 use std::alloc::{AllocError, Global};
@@ -26,8 +26,8 @@ fn copyable(
     asked: &Region,
     offset: (i32, i32),
 ) -> Result<Region, AllocError>
-    requires copied { LiesOn 8192 8192 copied.now.list }
-    requires asked { LiesOn 8192 8192 asked.now.list }
+    requires copied { LiesOn longest_side longest_side copied.now.list }
+    requires asked { LiesOn longest_side longest_side asked.now.list }
     ensures { IfOk result (λ all. (x y : ℤ) →
         covers all.list x y ≡ (covers asked.now.list x y && covers copied.now.list x y &&
         covers asked.now.list (x -ℤ offset.0) (y -ℤ offset.1))) }
@@ -41,24 +41,24 @@ fn copyable(
 /// What may be sent next.
 pub fn choose(
     alloc: Global,
-    kept: &Kept,
+    sets: &MarkSets,
     asked: &Region,
     offset: (i32, i32),
 ) -> Result<Chosen, AllocError>
-    requires kept { IsKept 8192 8192 kept.now }
-    requires asked { LiesOn 8192 8192 asked.now.list }
+    requires sets { AreMarkSets longest_side longest_side sets.now }
+    requires asked { LiesOn longest_side longest_side asked.now.list }
     ensures copies { IfOk result (λ c. (x y : ℤ) →
         covers c.copies.list x y ≡
-        (covers asked.now.list x y && covers kept.now.copied.list x y && covers asked.now.list (x -ℤ offset.0) (y -ℤ offset.1))) }
+        (covers asked.now.list x y && covers sets.now.copied.list x y && covers asked.now.list (x -ℤ offset.0) (y -ℤ offset.1))) }
     ensures pixels { IfOk result (λ c. (x y : ℤ) →
         covers c.pixels.list x y ≡
-        (covers asked.now.list x y && (covers kept.now.owed.list x y || covers kept.now.copied.list x y) &&
+        (covers asked.now.list x y && (covers sets.now.owed.list x y || covers sets.now.copied.list x y) &&
         not (covers c.copies.list x y))) }
     ensures unclean { IfOk result (λ c. (x y : ℤ) →
-        covers c.unclean.list x y ≡ (covers kept.now.owed.list x y || covers kept.now.copied.list x y)) }
+        covers c.unclean.list x y ≡ (covers sets.now.owed.list x y || covers sets.now.copied.list x y)) }
 {
-    let copies = copyable(alloc, &kept.copied, asked, offset)?;
-    let unclean = kept.owed.union(&kept.copied)?;
+    let copies = copyable(alloc, &sets.copied, asked, offset)?;
+    let unclean = sets.owed.union(&sets.copied)?;
     let wanted = asked.intersection(&unclean)?;
     let pixels = wanted.difference(&copies)?;
     Ok(Chosen {
@@ -90,8 +90,8 @@ pub fn left_after(
     copies: &[Rect],
     pixels: &[Rect],
 ) -> Result<Region, AllocError>
-    requires copies { All (IsOnScreen 8192 8192) copies.now }
-    requires pixels { All (IsOnScreen 8192 8192) pixels.now }
+    requires copies { All (IsOnScreen longest_side longest_side) copies.now }
+    requires pixels { All (IsOnScreen longest_side longest_side) pixels.now }
     ensures { IfOk result (λ left. (x y : ℤ) →
         covers left.list x y ≡ (covers unclean.now.list x y && not (covers copies.now x y || covers pixels.now x y))) }
 {

@@ -15,8 +15,8 @@ ghost use Rattle.region.specs.Copies.{copies_are_in_order};
 ghost use Rattle.copy_schedule.specs.Log.{drawn_by};
 
 mod chosen;
-mod kept;
 mod log;
+mod mark_sets;
 mod marks;
 mod sets;
 mod windows;

@@ -6,16 +6,18 @@ ghost use Rattle.copy_schedule.specs.declared.Mark.TheVariants.{Clean, Owed};
 ghost use Rattle.std.specs.List.{list_any};
 ghost use Rattle.region.specs.Region.{covers, in_rect, rects_of};
 ghost use Rattle.region.specs.Copies.{InOrder};
-ghost use Rattle.region.specs.Places.{same_offset};
+ghost use Rattle.region.specs.Places.{same_offset, longest_side};
 ghost use Rattle.copy_schedule.specs.Marks.{is_clean, is_owed, is_copied, mark_at, asked_at, has_asked, with_marks, new_marks};
 ghost use Rattle.copy_schedule.specs.Marks.{marked, copied_by, without_copyrect, requested, pending, cut_of, cut_of_sent};
 ghost use Rattle.copy_schedule.specs.Marks.{marks_after, copies_of, pixels_of, IsInside, HasSourcesInside, IsWithin, IsCutTo};
-ghost use Rattle.copy_schedule.specs.Kept.{IsKept, LiesOn, with_kept};
+ghost use Rattle.copy_schedule.specs.MarkSets.{AreMarkSets, LiesOn, with_sets};
 ghost use Rattle.copy_schedule.specs.Log.{logged, draws_asked, IsCutEntry};
 
 use crate::chosen::{choose, first_rects, left_after};
-use crate::kept::{Kept, clone_of, forgetting, losing, moving, owing_copies, owing_on_screen};
 use crate::log::take_entries;
+use crate::mark_sets::{
+    MarkSets, clone_of, forgetting, losing, moving, owing_copies, owing_on_screen,
+};
 use crate::sets::{part_of, screen_places};
 use crate::{Cut, LogEntry};
 use listed::Listed;
@@ -30,7 +32,7 @@ pub struct Marks {
     alloc: Global,
     width: u32,
     height: u32,
-    kept: Kept,
+    sets: MarkSets,
     offset_x: i32,
     offset_y: i32,
     asked: Region,
@@ -38,7 +40,7 @@ pub struct Marks {
 
 impl Model for Marks {
     ghost use Rattle.copy_schedule.specs.Marks.{Marks};
-    ghost use Rattle.copy_schedule.specs.Kept.{kept_mark, IsScreen};
+    ghost use Rattle.copy_schedule.specs.MarkSets.{mark_in_sets, IsScreen};
     ghost use Rattle.region.specs.Places.{by_place};
     ghost use Rattle.region.specs.Region.{covers};
 
@@ -47,13 +49,13 @@ impl Model for Marks {
     ghost view = { λ a. record {
       width = a.width;
       height = a.height;
-      marks = by_place a.width a.height (kept_mark a.kept);
+      marks = by_place a.width a.height (mark_in_sets a.sets);
       offset =
           (a.offset_x, a.offset_y);
       asked = by_place a.width a.height (covers a.asked.list);
     } };
 
-    ghost invariant = { λ a. IsScreen a.width a.height a.kept a.asked.list };
+    ghost invariant = { λ a. IsScreen a.width a.height a.sets a.asked.list };
 }
 
 /// Marks that a call would leave, ready for `Marks::commit`.
@@ -91,8 +93,8 @@ impl Marks {
     /// At connecting every place is owed, and none is asked for. The width and the height are in places, at most 8192 each.
     /// `AllocError` where memory for a rectangle is refused.
     pub fn new(alloc: Global, width: u32, height: u32) -> Result<Marks, AllocError>
-        requires columns { width ≤ 8192 }
-        requires rows { height ≤ 8192 }
+        requires columns { width ≤ longest_side }
+        requires rows { height ≤ longest_side }
         ensures { IfOk result (λ marks. marks ≡ new_marks width height) }
     {
         let owed = screen_places(alloc, width, height)?;
@@ -100,7 +102,7 @@ impl Marks {
             alloc,
             width,
             height,
-            kept: Kept {
+            sets: MarkSets {
                 owed,
                 copied: Region::new(alloc),
             },
@@ -114,13 +116,13 @@ impl Marks {
     pub fn try_clone(&self) -> Result<Marks, AllocError>
         ensures { IfOk result (λ marks. marks ≡ self.now) }
     {
-        let kept = clone_of(self.alloc, &self.kept)?;
+        let sets = clone_of(self.alloc, &self.sets)?;
         let asked = self.asked.try_clone(self.alloc)?;
         Ok(Marks {
             alloc: self.alloc,
             width: self.width,
             height: self.height,
-            kept,
+            sets,
             offset_x: self.offset_x,
             offset_y: self.offset_y,
             asked,
@@ -131,8 +133,8 @@ impl Marks {
     pub fn prepare_mark(&self, region: &Region) -> Result<Prepared, AllocError>
         ensures { IfOk result (λ prepared. prepared ≡ marked (covers region.now.list) self.now) }
     {
-        let kept = owing_on_screen(self.alloc, &self.kept, region, self.width, self.height)?;
-        let prepared = self.prepared(kept, (self.offset_x, self.offset_y))?;
+        let sets = owing_on_screen(self.alloc, &self.sets, region, self.width, self.height)?;
+        let prepared = self.prepared(sets, (self.offset_x, self.offset_y))?;
         Ok(prepared)
     }
 
@@ -151,9 +153,9 @@ impl Marks {
             return self.prepare_mark(region);
         }
         let stays = self.has_offset(dx, dy);
-        let left = losing(self.alloc, &self.kept, region, (dx, dy), stays)?;
-        let kept = moving(self.alloc, &left, region, (dx, dy))?;
-        let prepared = self.prepared(kept, (dx, dy))?;
+        let left = losing(self.alloc, &self.sets, region, (dx, dy), stays)?;
+        let sets = moving(self.alloc, &left, region, (dx, dy))?;
+        let prepared = self.prepared(sets, (dx, dy))?;
         Ok(prepared)
     }
 
@@ -231,8 +233,8 @@ impl Marks {
         }
         let offset = (self.offset_x, self.offset_y);
         let awaiting = part_of(self.alloc, rect, offset, width, height)?;
-        let kept = forgetting(&self.kept, &part, &awaiting)?;
-        self.kept = kept;
+        let sets = forgetting(&self.sets, &part, &awaiting)?;
+        self.sets = sets;
         self.asked = asked;
         Ok(())
     }
@@ -243,8 +245,8 @@ impl Marks {
         ensures ok { OnOk result (self.new ≡ without_copyrect self.old) }
         ensures err { OnErr result (self.new ≡ self.old) }
     {
-        let kept = owing_copies(&self.kept)?;
-        self.kept = kept;
+        let sets = owing_copies(&self.sets)?;
+        self.sets = sets;
         Ok(())
     }
 
@@ -260,7 +262,7 @@ impl Marks {
     pub fn pending(&self) -> bool
         ensures { result ≡ pending self.now }
     {
-        self.asked.meets(&self.kept.owed) || self.asked.meets(&self.kept.copied)
+        self.asked.meets(&self.sets.owed) || self.asked.meets(&self.sets.copied)
     }
 
     /// The same once the drawing is known that stands in a log, whether the viewer uses CopyRect or not. This takes no memory.
@@ -305,7 +307,7 @@ impl Marks {
     /// The columns of the screen, at most 8192.
     pub fn width(&self) -> u32
         ensures same { result ≡ self.now.width }
-        ensures limit { result ≤ 8192 }
+        ensures limit { result ≤ longest_side }
     {
         self.width
     }
@@ -313,7 +315,7 @@ impl Marks {
     /// The rows of the screen, at most 8192.
     pub fn height(&self) -> u32
         ensures same { result ≡ self.now.height }
-        ensures limit { result ≤ 8192 }
+        ensures limit { result ≤ longest_side }
     {
         self.height
     }
@@ -329,16 +331,16 @@ impl Marks {
     pub fn modified(&self) -> &Region
         ensures { result.now.list ≡ rects_of self.now.width self.now.height (λ x y. is_owed (mark_at self.now x y)) }
     {
-        self.kept.owed.list_is_canonical();
-        &self.kept.owed
+        self.sets.owed.list_is_canonical();
+        &self.sets.owed
     }
 
     /// The places that await a copy.
     pub fn copied(&self) -> &Region
         ensures { result.now.list ≡ rects_of self.now.width self.now.height (λ x y. is_copied (mark_at self.now x y)) }
     {
-        self.kept.copied.list_is_canonical();
-        &self.kept.copied
+        self.sets.copied.list_is_canonical();
+        &self.sets.copied
     }
 
     /// The places that are asked for.
@@ -350,9 +352,9 @@ impl Marks {
     }
 
     // These places and this offset, with the places that are asked for.
-    fn prepared(&self, kept: Kept, offset: (i32, i32)) -> Result<Prepared, AllocError>
-        requires { IsKept self.now.width self.now.height kept }
-        ensures { IfOk result (λ prepared. prepared ≡ record (with_kept kept self.now) { offset = offset }) }
+    fn prepared(&self, sets: MarkSets, offset: (i32, i32)) -> Result<Prepared, AllocError>
+        requires { AreMarkSets self.now.width self.now.height sets }
+        ensures { IfOk result (λ prepared. prepared ≡ record (with_sets sets self.now) { offset = offset }) }
     {
         let asked = self.asked.try_clone(self.alloc)?;
         Ok(Prepared {
@@ -360,7 +362,7 @@ impl Marks {
                 alloc: self.alloc,
                 width: self.width,
                 height: self.height,
-                kept,
+                sets,
                 offset_x: offset.0,
                 offset_y: offset.1,
                 asked,
@@ -377,7 +379,7 @@ impl Marks {
             (not (is_clean (mark_at self.now x y)) && not (covers s.copies.items x y || covers s.pixels.items x y))) }
     {
         let offset = (self.offset_x, self.offset_y);
-        let parts = choose(self.alloc, &self.kept, &self.asked, offset)?;
+        let parts = choose(self.alloc, &self.sets, &self.asked, offset)?;
         let copies = first_rects(self.alloc, &parts.copies, offset, limit)?;
         let pixels = first_rects(self.alloc, &parts.pixels, (0, 0), limit)?;
         let owed = left_after(self.alloc, &parts.unclean, &copies, &pixels)?;
@@ -397,7 +399,7 @@ impl Marks {
           asked = replicate (self.old.width * self.old.height) false;
         } }
     {
-        self.kept = Kept {
+        self.sets = MarkSets {
             owed,
             copied: Region::new(self.alloc),
         };

@@ -2,20 +2,18 @@
 
 ghost use Rattle.std.specs.Prelude.{◌≡◌, ◌≤◌, ◌||◌, ◌&&◌, true, ℤ, ◌-ℤ◌, IfOk, All};
 ghost use Rattle.region.specs.Region.{covers, in_rect, on_screen};
-ghost use Rattle.copy_schedule.specs.Kept.{LiesOn};
-ghost use Rattle.copy_schedule.specs.Sets.{is_far_by, lies_between, rect_of};
+ghost use Rattle.region.specs.Places.{longest_side};
+ghost use Rattle.copy_schedule.specs.MarkSets.{LiesOn};
+ghost use Rattle.copy_schedule.specs.Sets.{is_far_by, lies_between, window_rect};
 
 use crate::windows::{Window, window_of};
-use region::{Rect, Region};
+use region::{LONGEST_SIDE, Rect, Region};
 use std::alloc::{AllocError, Global};
-
-/// The most columns, and rows, that a screen has.
-const LARGEST_SIDE: i32 = 8192;
 
 fn is_far(by: i32) -> bool
     ensures { result ≡ is_far_by by }
 {
-    by <= -LARGEST_SIDE || LARGEST_SIDE <= by
+    by <= -LONGEST_SIDE || LONGEST_SIDE <= by
 }
 
 /// Whether (dx, dy) leads from every place of a screen off it.
@@ -27,8 +25,8 @@ pub fn leads_off(offset: (i32, i32)) -> bool
 
 /// The places whose places (dx, dy) before them are in the region, as far as a screen goes.
 pub fn moved_by(alloc: Global, region: &Region, offset: (i32, i32)) -> Result<Region, AllocError>
-    requires { LiesOn 8192 8192 region.now.list }
-    ensures { IfOk result (λ moved. (x y : ℤ) → on_screen 8192 8192 x y ≡ true →
+    requires { LiesOn longest_side longest_side region.now.list }
+    ensures { IfOk result (λ moved. (x y : ℤ) → on_screen longest_side longest_side x y ≡ true →
         covers moved.list x y ≡ covers region.now.list (x -ℤ offset.0) (y -ℤ offset.1)) }
 {
     if leads_off(offset) {
@@ -42,8 +40,8 @@ pub fn moved_by(alloc: Global, region: &Region, offset: (i32, i32)) -> Result<Re
 
 /// The places of a screen.
 pub fn screen_places(alloc: Global, width: u32, height: u32) -> Result<Region, AllocError>
-    requires width { width ≤ 8192 }
-    requires height { height ≤ 8192 }
+    requires width { width ≤ longest_side }
+    requires height { height ≤ longest_side }
     ensures { IfOk result (λ all. (x y : ℤ) → covers all.list x y ≡ on_screen width height x y) }
 {
     let screen = Rect {
@@ -58,11 +56,11 @@ pub fn screen_places(alloc: Global, width: u32, height: u32) -> Result<Region, A
 
 /// The rectangle of a window of a screen.
 fn window_rect(window: Window) -> Rect
-    requires left { window.x1 ≤ 8192 }
-    requires top { window.y1 ≤ 8192 }
-    requires right { window.x2 ≤ 8192 }
-    requires bottom { window.y2 ≤ 8192 }
-    ensures { result ≡ rect_of window }
+    requires left { window.x1 ≤ longest_side }
+    requires top { window.y1 ≤ longest_side }
+    requires right { window.x2 ≤ longest_side }
+    requires bottom { window.y2 ≤ longest_side }
+    ensures { result ≡ window_rect window }
 {
     Rect {
         x1: window.x1 as i32,
@@ -80,8 +78,8 @@ pub fn part_of(
     width: u32,
     height: u32,
 ) -> Result<Region, AllocError>
-    requires width { width ≤ 8192 }
-    requires height { height ≤ 8192 }
+    requires width { width ≤ longest_side }
+    requires height { height ≤ longest_side }
     ensures { IfOk result (λ part. (x y : ℤ) →
         covers part.list x y ≡ (in_rect rect (x -ℤ offset.0) (y -ℤ offset.1) && on_screen width height x y)) }
 {
@@ -98,7 +96,7 @@ fn is_between(low: i32, high: i32, end: u32) -> bool
 }
 
 /// Whether a rectangle lies on the screen.
-fn is_within(rect: Rect, width: u32, height: u32) -> bool
+fn is_rect_on_screen(rect: Rect, width: u32, height: u32) -> bool
     ensures { result ≡ (lies_between width rect.x1 rect.x2 && lies_between height rect.y1 rect.y2) }
 {
     is_between(rect.x1, rect.x2, width) && is_between(rect.y1, rect.y2, height)
@@ -109,7 +107,7 @@ pub fn fits(region: &Region, width: u32, height: u32) -> bool
     ensures { result ≡ true → LiesOn width height region.now.list }
 {
     match region.bbox() {
-        Some(hull) => is_within(hull, width, height),
+        Some(hull) => is_rect_on_screen(hull, width, height),
         None => true,
     }
 }
@@ -121,8 +119,8 @@ pub fn part_on_screen(
     width: u32,
     height: u32,
 ) -> Result<Region, AllocError>
-    requires width { width ≤ 8192 }
-    requires height { height ≤ 8192 }
+    requires width { width ≤ longest_side }
+    requires height { height ≤ longest_side }
     ensures { IfOk result (λ part. (x y : ℤ) → covers part.list x y ≡ (covers region.now.list x y && on_screen width height x y)) }
 {
     let screen = screen_places(alloc, width, height)?;

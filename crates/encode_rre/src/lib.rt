@@ -1,20 +1,13 @@
 //! The encoding RRE (RFC 6143, 7.7.3): a background and subrectangles of one pixel each, or Raw
 //! where that is no shorter.
 //!
-//! Cost, where the area has n places. A colour is its own pixel where the format has the server's
-//! components and no colour has a top byte; else the pixels are kept while the area is encoded, four
-//! bytes each. First one row of 16 is looked at. Where these rows let expect too many subrectangles,
-//! and where there are fewer than 64 rows, the places are counted that begin one whatever the
-//! background is, but for those of the background itself: one pass over the pixels, or two, with 2 KB
-//! of counters. Where these alone are too many to be shorter than Raw, as on noise, that is all. Then
-//! the background is guessed from n / 128 pixels, and the guess is tested in one pass, which ends
-//! once it has more than half of the places, or in two; only where no guess is sure, the pixels are
-//! counted, rows that are alike at once, with one look-up for each run, in a table of the pixels that
-//! differ, so in at most n steps and entries. The scan skips a row that is the one above. Of another
-//! it first writes where the runs begin, two bytes each, in room for one row; it goes over each place
-//! a bounded number of times, and ends with the row in which there are too many subrectangles to be
-//! shorter than Raw; their list has at most one row of them more than that, twelve bytes each. The
-//! rectangle is written to the output itself, whose room is made at once.
+//! An area is looked at in three steps, each of which ends as soon as RRE can't be shorter than Raw. First the places are
+//! counted that begin a subrectangle whatever the background is (`breaks`): in one row of 16, and where these let expect too many
+//! in one pass over all, or in two with 2 KB of counters. Then the background is found (`background`): guessed and tested in one
+//! pass or in two, or else counted in a table of the pixels that differ. Last the subrectangles are found row by row (`scan`),
+//! which goes over each place a bounded number of times and keeps twelve bytes for each subrectangle. Where a colour isn't its own
+//! pixel, the pixels are kept meanwhile, four bytes each. The rectangle is written to the output itself, whose room is made at
+//! once.
 #![tactic(auto)]
 
 ghost use Rattle.std.specs.Prelude.{◌≡◌, ℕ, ◌+◌, ◌*◌, ◌<◌, ◌≤◌, ◌^◌, ◌++◌, true, length, map, flat_map, slice_index, All, IfOk};

@@ -8,8 +8,8 @@ use Rattle.framebuffer.specs.declared.rows.Row.{Row}
 use Rattle.framebuffer.specs.declared.blocks.Block.{Block}
 use Rattle.framebuffer.specs.Rows.{row_colours, colours_of_rows, row_part, parts_of_rows, IsOfWidth, HasRows, frame_of, HasParts, part_of}
 use Rattle.framebuffer.specs.Frame.{Frame, IsPicture, IsPart}
-use Rattle.framebuffer.specs.Blocks.{rect_of, block_colours}
-use Rattle.framebuffer.specs.Picture.{written, moved}
+use Rattle.framebuffer.specs.Blocks.{block_rect, block_colours}
+use Rattle.framebuffer.specs.Picture.{written, moved_colours}
 use Rattle.region.specs.declared.Rect.{Rect}
 use Rattle.region.specs.Region.{covers}
 use Rattle.framebuffer.specs.Moves.{colour_moved}
@@ -35,7 +35,7 @@ frame_kept w h old now same = ap (with_colours w h) (flat_same row_colours w now
     with_colours w h l = record { width = w; height = h; colours = l }
 
 pub frame_written : (w h : ℕ) (b : Block) (colours : List ℕ) (old now : List Row) → HasRows w h old → HasRows w h now → IsWritten w b colours (colours_of_rows old) (colours_of_rows now)
-    → frame_of w h now ≡ record (frame_of w h old) { colours = written w h (rect_of b) colours (colours_of_rows old) }
+    → frame_of w h now ≡ record (frame_of w h old) { colours = written w h (block_rect b) colours (colours_of_rows old) }
 frame_written w h b colours old now had has done =
     ap (with_colours w h) (written_is w h b colours (colours_of_rows old) (colours_of_rows now) had.some_columns (size old had) (size now has ∙ sym (size old had)) done)
   where
@@ -50,7 +50,7 @@ size w h rows has = flat_long row_colours w rows has.wide ∙ ap (λ n. n * w) h
 
 pub frame_moved : (w h : ℕ) (pieces : List Rect) (by : ℤ × ℤ) (old now : List Row) → HasRows w h old → HasRows w h now
     → ((y x : ℕ) → y < h → x < w → get_or (colours_of_rows now) (y * w + x) 0 ≡ colour_moved w h pieces by (λ row. true) (colours_of_rows old) y x)
-    → frame_of w h now ≡ record (frame_of w h old) { colours = moved w h (covers pieces) by (colours_of_rows old) }
+    → frame_of w h now ≡ record (frame_of w h old) { colours = moved_colours w h (covers pieces) by (colours_of_rows old) }
 frame_moved w h pieces by old now had has done =
     ap (with_colours w h) (moved_is w h pieces by (colours_of_rows old) (colours_of_rows now) had.some_columns (size w h old had) (size w h now has ∙ sym (size w h old had)) done)
   where

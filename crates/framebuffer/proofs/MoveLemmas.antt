@@ -96,32 +96,32 @@ pub row_room : (w h y x n : ℕ) (picture : List ℕ) → length picture ≡ w *
 row_room w h y x n picture size below wide = let up : (y + 1) * w ≤ h * w = mul-le-mul_right w (omega arith) in omega (arith, up, size, wide)
 
 -- whether a number is one of n from a number on
-abbrev pub is_within : ℕ → ℕ → ℕ → Bool
-is_within to n k = nat_le to k && nat_lt k (to + n)
+abbrev pub is_between : ℕ → ℕ → ℕ → Bool
+is_between to n k = nat_le to k && nat_lt k (to + n)
 
 module _ (w h : ℕ) (r : Rect) (by : ℤ × ℤ) (y a b s t : ℕ) (old : List ℕ) (is : IsRowOf w h r by y a b s t) where
   -- in another row no place is copied
-  elsewhere : (k x : ℕ) → x < w → (k ≡ y → ⊥) → is_within (y * w + a) (b - a) (k * w + x) ≡ false
+  elsewhere : (k x : ℕ) → x < w → (k ≡ y → ⊥) → is_between (y * w + a) (b - a) (k * w + x) ≡ false
   elsewhere k x left other = by_lt k y
       (λ above. let up : (k + 1) * w ≤ y * w = mul-le-mul_right w (omega arith) in before (y * w + a) (k * w + x) (omega (arith, up, left)))
       (λ not_above. by_lt y k
       (λ below. let up : (y + 1) * w ≤ k * w = mul-le-mul_right w (omega arith) in behind (y * w + a) (k * w + x) (let some = is.some in let wide = is.wide in omega (arith, up)))
       (λ not_below. absurd (other (omega arith))))
     where
-      before : (to j : ℕ) → j < to → is_within to (b - a) j ≡ false
+      before : (to j : ℕ) → j < to → is_between to (b - a) j ≡ false
       before to j less = grind (arith, nat_tests)
 
-      behind : (to j : ℕ) → to + (b - a) ≤ j → is_within to (b - a) j ≡ false
+      behind : (to j : ℕ) → to + (b - a) ≤ j → is_between to (b - a) j ≡ false
       behind to j more = grind (arith, nat_tests)
 
   -- in this row those of the rectangle are
-  here : (x : ℕ) → covers (r ∷ []) (pos x) (pos y) ≡ is_within (y * w + a) (b - a) (y * w + x)
+  here : (x : ℕ) → covers (r ∷ []) (pos x) (pos y) ≡ is_between (y * w + a) (b - a) (y * w + x)
   here x = rw (is.left, is.right) (same (y * w) x is.some is.top is.bottom)
     where
-      same : (m x : ℕ) → a < b → r.y1 ≤ℤ pos y → pos y <ℤ r.y2 → (in_rect (record r { x1 = pos a; x2 = pos b }) (pos x) (pos y) || false) ≡ is_within (m + a) (b - a) (m + x)
+      same : (m x : ℕ) → a < b → r.y1 ≤ℤ pos y → pos y <ℤ r.y2 → (in_rect (record r { x1 = pos a; x2 = pos b }) (pos x) (pos y) || false) ≡ is_between (m + a) (b - a) (m + x)
       same m x some top bottom = grind (arith, ints, nat_tests)
 
-  inside : (m x : ℕ) → is_within (m + a) (b - a) (m + x) ≡ true → (a ≤ x) × (x < b)
+  inside : (m x : ℕ) → is_between (m + a) (b - a) (m + x) ≡ true → (a ≤ x) × (x < b)
   inside m x e = (grind (arith, nat_tests), grind (arith, nat_tests))
 
   -- and a place's source is as far from the source's first
@@ -146,20 +146,20 @@ module _ (w h : ℕ) (r : Rect) (by : ℤ × ℤ) (y a b s t : ℕ) (old : List 
       same_place m n x left = omega arith
 
   -- the row's places in the rectangle have their colours, and no others changed
-  pub row_copied : (new : List ℕ) → ((k : ℕ) → get_or new k 0 ≡ cond (is_within (y * w + a) (b - a) k) (get_or old (t * w + s + (k - (y * w + a))) 0) (get_or old k 0))
+  pub row_copied : (new : List ℕ) → ((k : ℕ) → get_or new k 0 ≡ cond (is_between (y * w + a) (b - a) k) (get_or old (t * w + s + (k - (y * w + a))) 0) (get_or old k 0))
       → (k x : ℕ) → k < h → x < w → get_or new (k * w + x) 0 ≡ colour_moved w h (r ∷ []) by (λ row. row == y) old k x
   row_copied new done k x high left = done (k * w + x) ∙ go (k == y) refl
     where
-      by_test : (v : Bool) → is_within (y * w + a) (b - a) (y * w + x) ≡ v → cond v (get_or old (t * w + s + (y * w + x - (y * w + a))) 0) (get_or old (y * w + x) 0) ≡ cond v (colour_at w h old (pos x -ℤ by.0) (pos y -ℤ by.1)) (get_or old (y * w + x) 0)
+      by_test : (v : Bool) → is_between (y * w + a) (b - a) (y * w + x) ≡ v → cond v (get_or old (t * w + s + (y * w + x - (y * w + a))) 0) (get_or old (y * w + x) 0) ≡ cond v (colour_at w h old (pos x -ℤ by.0) (pos y -ℤ by.1)) (get_or old (y * w + x) 0)
       by_test true e = let there = inside (y * w) x e in sym (source_colour x there.0 there.1)
       by_test false e = refl
 
-      go : (e : Bool) → (k == y) ≡ e → cond (is_within (y * w + a) (b - a) (k * w + x)) (get_or old (t * w + s + (k * w + x - (y * w + a))) 0) (get_or old (k * w + x) 0)
+      go : (e : Bool) → (k == y) ≡ e → cond (is_between (y * w + a) (b - a) (k * w + x)) (get_or old (t * w + s + (k * w + x - (y * w + a))) 0) (get_or old (k * w + x) 0)
           ≡ cond (e && covers (r ∷ []) (pos x) (pos k)) (colour_at w h old (pos x -ℤ by.0) (pos k -ℤ by.1)) (get_or old (k * w + x) 0)
       go false e = ap (λ v. cond v (get_or old (t * w + s + (k * w + x - (y * w + a))) 0) (get_or old (k * w + x) 0)) (elsewhere k x left (λ same. let none : (k == y) ≡ true = (Decides-eqb k y).1 same in absurd cc))
       go true e =
           let same : k ≡ y = (Decides-eqb k y).0 e in
-          rw same (by_test (is_within (y * w + a) (b - a) (y * w + x)) refl
+          rw same (by_test (is_between (y * w + a) (b - a) (y * w + x)) refl
           ∙ sym (ap (λ v. cond v (colour_at w h old (pos x -ℤ by.0) (pos y -ℤ by.1)) (get_or old (y * w + x) 0)) (here x)))
 
 -- ---- all rows of a rectangle

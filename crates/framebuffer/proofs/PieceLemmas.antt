@@ -6,13 +6,13 @@ use Rattle.std.proofs.lemmas.List.{take_more, map-append}
 use Rattle.std.proofs.lemmas.List.Folds.{list_any-append}
 use Rattle.std.proofs.lemmas.List.Elements.{All-append, All-nil}
 use Rattle.region.specs.declared.Rect.{Rect}
-use Rattle.region.specs.Held.{one_if}
+use Rattle.region.specs.RegionView.{one_if}
 use Rattle.region.specs.Region.{in_rect, covers, on_screen}
 use Rattle.region.specs.Places.{cut_destination, IsOnScreen, source_rect}
-use Rattle.framebuffer.specs.Picture.{straight, union_of}
+use Rattle.framebuffer.specs.Picture.{straight, places_in}
 
 pub record ArePieces (w h : ℕ) (by : ℤ × ℤ) (rects pieces : List Rect) : Type 0 where
-  pub places : (x y : ℤ) → covers pieces x y ≡ cut_destination w h (union_of rects) by x y
+  pub places : (x y : ℤ) → covers pieces x y ≡ cut_destination w h (places_in rects) by x y
   pub inside : All (IsOnScreen w h) pieces
   pub sources : All (λ r. IsOnScreen w h (source_rect by r)) pieces
 
@@ -28,12 +28,12 @@ covers_if : (r : Rect) (t : Bool) (x y : ℤ) → t ≡ (int_lt r.x1 r.x2 && int
 covers_if r true x y e = or_false (in_rect r x y)
 covers_if r false x y e = sym (none_in r x y (sym e))
 
-union_more : (rects : List Rect) (i : ℕ) (d : Rect) (x y : ℤ) → i < length rects → union_of (take (i + 1) rects) x y ≡ (union_of (take i rects) x y || in_rect (straight (get_or rects i d)) x y)
+union_more : (rects : List Rect) (i : ℕ) (d : Rect) (x y : ℤ) → i < length rects → places_in (take (i + 1) rects) x y ≡ (places_in (take i rects) x y || in_rect (straight (get_or rects i d)) x y)
 union_more rects i d x y below =
     ap (λ l. covers (map straight l) x y) (take_more rects i d below)
     ∙ ap (λ l. covers l x y) (map-append straight (take i rects) (get_or rects i d ∷ []))
     ∙ list_any-append (λ r. in_rect r x y) (map straight (take i rects)) (straight (get_or rects i d) ∷ [])
-    ∙ ap (λ b. union_of (take i rects) x y || b) (or_false (in_rect (straight (get_or rects i d)) x y))
+    ∙ ap (λ b. places_in (take i rects) x y || b) (or_false (in_rect (straight (get_or rects i d)) x y))
 
 either : (a b s t : Bool) → ((a && s && t) || (b && s && t)) ≡ ((a || b) && s && t)
 either a b s t = grind (arith)
@@ -61,8 +61,8 @@ more_pieces w h by rects i d piece pieces new below places inside sources is old
       places = λ x y.
           list_any-append (λ r. in_rect r x y) pieces (one_if t piece)
           ∙ ap (λ b. b || covers (one_if t piece) x y) (old.places x y)
-          ∙ ap (λ b. cut_destination w h (union_of (take i rects)) by x y || b) (covers_if piece t x y refl ∙ places x y)
-          ∙ either (union_of (take i rects) x y) (in_rect (straight (get_or rects i d)) x y) (on_screen w h x y) (on_screen w h (x -ℤ by.0) (y -ℤ by.1))
+          ∙ ap (λ b. cut_destination w h (places_in (take i rects)) by x y || b) (covers_if piece t x y refl ∙ places x y)
+          ∙ either (places_in (take i rects) x y) (in_rect (straight (get_or rects i d)) x y) (on_screen w h x y) (on_screen w h (x -ℤ by.0) (y -ℤ by.1))
           ∙ ap (λ b. b && on_screen w h x y && on_screen w h (x -ℤ by.0) (y -ℤ by.1)) (sym (union_more rects i d x y below));
       inside = All-append (IsOnScreen w h) pieces (one_if t piece) old.inside (all_if (IsOnScreen w h) piece t (λ e. let some = has_some piece e in inside some.0 some.1));
       sources = All-append (λ r. IsOnScreen w h (source_rect by r)) pieces (one_if t piece) old.sources (all_if (λ r. IsOnScreen w h (source_rect by r)) piece t (λ e. let some = has_some piece e in sources some.0 some.1));

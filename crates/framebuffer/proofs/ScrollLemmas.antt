@@ -13,8 +13,8 @@ use Rattle.region.specs.Places.{IsOnScreen, source_rect}
 use Rattle.region.specs.PlaceLemmas.{number}
 use Rattle.framebuffer.specs.declared.blocks.Block.{Block}
 use Rattle.framebuffer.specs.declared.rows.Row.{Row}
-use Rattle.framebuffer.specs.Blocks.{rect_of}
-use Rattle.framebuffer.specs.Picture.{colour_at, moved}
+use Rattle.framebuffer.specs.Blocks.{block_rect}
+use Rattle.framebuffer.specs.Picture.{colour_at, moved_colours}
 use Rattle.framebuffer.specs.Moves.{colour_moved, rows_copied}
 use Rattle.framebuffer.specs.Rows.{row_colours, colours_of_rows, IsOfWidth}
 use Rattle.framebuffer.specs.PictureLemmas.{moved_is}
@@ -152,7 +152,7 @@ module _ (w h : ℕ) (r : Rect) (by : ℤ × ℤ) (a b s : ℕ) (old : List ℕ)
       ∙ omega (arith, length-append (take ((b - a) * w) (drop (s * w) old)) (drop ((b - a) * w) (drop (a * w) old)), length-take-le (a * w) old (omega (arith, fits_to)), part_size, length-drop ((b - a) * w) (drop (a * w) old), length-drop (a * w) old, fits_to)
 
   -- rows that were copied have moved
-  pub rows_moved : rows_copied w s a (b - a) old ≡ moved w h (covers (r ∷ [])) by old
+  pub rows_moved : rows_copied w s a (b - a) old ≡ moved_colours w h (covers (r ∷ [])) by old
   rows_moved = moved_is w h (r ∷ []) by old now some size now_size place_moved
 
 -- rows with the colours of others are put in the place of as many
@@ -173,7 +173,7 @@ rows_shared w old mid others from to count long fits_from fits_to same are wide 
 
 -- so are they for a rectangle and its block
 pub scroll_moves : (w h s : ℕ) (r : Rect) (b : Block) (by : ℤ × ℤ) (old : List ℕ) → 0 < w → length old ≡ w * h → IsOnScreen w h r → IsOnScreen w h (source_rect by r) → r.x1 ≡ pos 0 → r.x2 ≡ pos w → by.0 ≡ pos 0
-    → r ≡ rect_of b → s ≡ nat_abs (r.y1 -ℤ by.1) → rows_copied w s b.top b.rows old ≡ moved w h (covers (r ∷ [])) by old
+    → r ≡ block_rect b → s ≡ nat_abs (r.y1 -ℤ by.1) → rows_copied w s b.top b.rows old ≡ moved_colours w h (covers (r ∷ [])) by old
 scroll_moves w h s r b by old some size inside source left right upright is from =
     let top : nat_abs r.y1 ≡ b.top = ap (λ (q : Rect). nat_abs q.y1) is in
     let bottom : nat_abs r.y2 ≡ b.top + b.rows = ap (λ (q : Rect). nat_abs q.y2) is in

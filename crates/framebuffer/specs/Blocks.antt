@@ -4,8 +4,8 @@ use Rattle.std.specs.List.{range_with_len}
 use Rattle.region.specs.declared.Rect.{Rect}
 use Rattle.framebuffer.specs.declared.blocks.Block.{Block}
 
-abbrev pub rect_of : Block → Rect
-rect_of b = record { x1 = pos b.left; y1 = pos b.top; x2 = pos (b.left + b.columns); y2 = pos (b.top + b.rows) }
+abbrev pub block_rect : Block → Rect
+block_rect b = record { x1 = pos b.left; y1 = pos b.top; x2 = pos (b.left + b.columns); y2 = pos (b.top + b.rows) }
 
 abbrev pub is_in_block : Block → ℕ → ℕ → Bool
 is_in_block b y x = nat_le b.left x && nat_lt x (b.left + b.columns) && nat_le b.top y && nat_lt y (b.top + b.rows)

@@ -20,20 +20,20 @@ abbrev pub written : ℕ → ℕ → Rect → List ℕ → List ℕ → List ℕ
 written w h r colours picture = by_place w h (λ x y. if in_rect r x y then colour_in r colours x y % 2 ^ 24 else colour_at w h picture x y)
 
 -- the places of a set get the colours of the places that lie (dx, dy) before them, all at once
-abbrev pub moved : ℕ → ℕ → (ℤ → ℤ → Bool) → ℤ × ℤ → List ℕ → List ℕ
-moved w h set by picture = by_place w h (λ x y. if set x y then colour_at w h picture (x -ℤ by.0) (y -ℤ by.1) else colour_at w h picture x y)
+abbrev pub moved_colours : ℕ → ℕ → (ℤ → ℤ → Bool) → ℤ × ℤ → List ℕ → List ℕ
+moved_colours w h set by picture = by_place w h (λ x y. if set x y then colour_at w h picture (x -ℤ by.0) (y -ℤ by.1) else colour_at w h picture x y)
 
 -- a copy of a set moves the colours of its places that are on the screen with their sources
-abbrev pub copied : ℕ → ℕ → (ℤ → ℤ → Bool) → ℤ × ℤ → List ℕ → List ℕ
-copied w h set by picture = moved w h (cut_destination w h set by) by picture
+abbrev pub copied_colours : ℕ → ℕ → (ℤ → ℤ → Bool) → ℤ × ℤ → List ℕ → List ℕ
+copied_colours w h set by picture = moved_colours w h (cut_destination w h set by) by picture
 
 -- a rectangle whose corners may stand in the wrong order
 abbrev pub straight : Rect → Rect
 straight r = record { x1 = int_min r.x1 r.x2; y1 = int_min r.y1 r.y2; x2 = int_max r.x1 r.x2; y2 = int_max r.y1 r.y2 }
 
 -- the places of rectangles, with corners in either order
-abbrev pub union_of : List Rect → ℤ → ℤ → Bool
-union_of rects x y = covers (map straight rects) x y
+abbrev pub places_in : List Rect → ℤ → ℤ → Bool
+places_in rects x y = covers (map straight rects) x y
 
 -- a rectangle's colours, row by row
 abbrev pub colours_of : ℕ → ℕ → List ℕ → Rect → List ℕ

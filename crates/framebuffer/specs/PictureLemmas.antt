@@ -12,11 +12,11 @@ use Rattle.std.specs.Ordering.{int_eq}
 use Rattle.std.proofs.lemmas.Int.{ints}
 use Rattle.region.specs.Places.{by_place, same_offset}
 use Rattle.framebuffer.specs.declared.blocks.Block.{Block}
-use Rattle.framebuffer.specs.Blocks.{rect_of, is_in_block, block_colours}
-use Rattle.framebuffer.specs.Picture.{colour_at, colour_in, written, moved, colours_of}
+use Rattle.framebuffer.specs.Blocks.{block_rect, is_in_block, block_colours}
+use Rattle.framebuffer.specs.Picture.{colour_at, colour_in, written, moved_colours, colours_of}
 use Rattle.framebuffer.specs.BlockLemmas.{IsWritten}
 
-in_rect_of : (b : Block) (x y : ℕ) → in_rect (rect_of b) (pos x) (pos y) ≡ is_in_block b y x
+in_rect_of : (b : Block) (x y : ℕ) → in_rect (block_rect b) (pos x) (pos y) ≡ is_in_block b y x
 in_rect_of b x y = refl
 
 -- how far one number is from another
@@ -32,7 +32,7 @@ inside : (b : Block) (x y : ℕ) → is_in_block b y x ≡ true → (b.left ≤ 
 inside b x y h = (grind (arith, nat_tests), grind (arith, nat_tests))
 
 -- the picture whose places are written is the picture with the rectangle's colours replaced
-pub written_is : (w h : ℕ) (b : Block) (colours old now : List ℕ) → 0 < w → length old ≡ w * h → length now ≡ length old → IsWritten w b colours old now → now ≡ written w h (rect_of b) colours old
+pub written_is : (w h : ℕ) (b : Block) (colours old now : List ℕ) → 0 < w → length old ≡ w * h → length now ≡ length old → IsWritten w b colours old now → now ≡ written w h (block_rect b) colours old
 written_is w h b colours old now some size same done =
     fill_by_all f now (w * h) 0 (same ∙ size) (λ k below.
     let left : k % w < w = mod-lt k some in
@@ -42,10 +42,10 @@ written_is w h b colours old now some size same done =
     ∙ sym (by_test (k % w) (k / w) left top (is_in_block b (k / w) (k % w)) refl))
   where
     f : ℕ → ℕ
-    f i = cond (in_rect (rect_of b) (pos (i % w)) (pos (i / w))) (colour_in (rect_of b) colours (pos (i % w)) (pos (i / w)) % 2 ^ 24) (colour_at w h old (pos (i % w)) (pos (i / w)))
+    f i = cond (in_rect (block_rect b) (pos (i % w)) (pos (i / w))) (colour_in (block_rect b) colours (pos (i % w)) (pos (i / w)) % 2 ^ 24) (colour_at w h old (pos (i % w)) (pos (i / w)))
 
     by_test : (x y : ℕ) → x < w → y < h → (t : Bool) → is_in_block b y x ≡ t
-        → cond t (colour_in (rect_of b) colours (pos x) (pos y) % 2 ^ 24) (colour_at w h old (pos x) (pos y)) ≡ cond t (get_or colours ((y - b.top) * b.columns + (x - b.left)) 0 % 2 ^ 24) (get_or old (y * w + x) 0)
+        → cond t (colour_in (block_rect b) colours (pos x) (pos y) % 2 ^ 24) (colour_at w h old (pos x) (pos y)) ≡ cond t (get_or colours ((y - b.top) * b.columns + (x - b.left)) 0 % 2 ^ 24) (get_or old (y * w + x) 0)
     by_test x y left top true e =
         let here = inside b x y e in
         let wide : nat_abs (pos (b.left + b.columns) -ℤ pos b.left) ≡ b.columns = distance b.left (b.left + b.columns) (omega arith) ∙ omega arith in
@@ -54,7 +54,7 @@ written_is w h b colours old now some size same done =
 
 -- the picture whose places in rectangles have the colours of the places before them
 pub moved_is : (w h : ℕ) (pieces : List Rect) (by : ℤ × ℤ) (old now : List ℕ) → 0 < w → length old ≡ w * h → length now ≡ length old
-    → ((y x : ℕ) → y < h → x < w → get_or now (y * w + x) 0 ≡ colour_moved w h pieces by (λ row. true) old y x) → now ≡ moved w h (covers pieces) by old
+    → ((y x : ℕ) → y < h → x < w → get_or now (y * w + x) 0 ≡ colour_moved w h pieces by (λ row. true) old y x) → now ≡ moved_colours w h (covers pieces) by old
 moved_is w h pieces by old now some size same done =
     fill_by_all f now (w * h) 0 (same ∙ size) (λ k below.
     let left : k % w < w = mod-lt k some in
@@ -75,7 +75,7 @@ no_way : (z x : ℤ) → int_eq z (pos 0) ≡ true → x -ℤ z ≡ x
 no_way z x e = grind (arith, ints)
 
 -- colours that move nowhere, or of no place, leave the picture
-pub idle : (w h : ℕ) (set : ℤ → ℤ → Bool) (by : ℤ × ℤ) (picture : List ℕ) → 0 < w → length picture ≡ w * h → (same_offset by (pos 0, pos 0) ≡ true) ⊎ ((x y : ℤ) → set x y ≡ false) → moved w h set by picture ≡ picture
+pub idle : (w h : ℕ) (set : ℤ → ℤ → Bool) (by : ℤ × ℤ) (picture : List ℕ) → 0 < w → length picture ≡ w * h → (same_offset by (pos 0, pos 0) ≡ true) ⊎ ((x y : ℤ) → set x y ≡ false) → moved_colours w h set by picture ≡ picture
 idle w h set by picture some size why =
     sym (fill_by_all f picture (w * h) 0 size (λ k below.
     let left : k % w < w = mod-lt k some in
@@ -104,7 +104,7 @@ has_some rows zero k below = absurd (omega arith)
 has_some rows (suc columns) k below = omega arith
 
 -- the colours of a block are those of its rectangle
-pub colours_are : (w h : ℕ) (b : Block) (picture : List ℕ) → b.left + b.columns ≤ w → b.top + b.rows ≤ h → block_colours w b picture ≡ colours_of w h picture (rect_of b)
+pub colours_are : (w h : ℕ) (b : Block) (picture : List ℕ) → b.left + b.columns ≤ w → b.top + b.rows ≤ h → block_colours w b picture ≡ colours_of w h picture (block_rect b)
 colours_are w h b picture wide high =
     let width : nat_abs (pos (b.left + b.columns) -ℤ pos b.left) ≡ b.columns = distance b.left (b.left + b.columns) (omega arith) ∙ omega arith in
     let height : nat_abs (pos (b.top + b.rows) -ℤ pos b.top) ≡ b.rows = distance b.top (b.top + b.rows) (omega arith) ∙ omega arith in

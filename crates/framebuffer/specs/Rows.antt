@@ -5,6 +5,7 @@ use Rattle.std.specs.declared.sync.Arc.{Arc}
 use Rattle.std.specs.declared.vec.Vec.{Vec}
 use Rattle.std.specs.declared.alloc.Global.{Global}
 use Rattle.region.specs.declared.Rect.{Rect}
+use Rattle.region.specs.Places.{longest_side}
 use Rattle.framebuffer.specs.declared.rows.Row.{Row}
 use Rattle.framebuffer.specs.declared.rows.Row.TheVariants.{Own, Shared}
 use Rattle.framebuffer.specs.Frame.{Frame}
@@ -53,9 +54,9 @@ StayOwn old new = (k : ℕ) (d : Row) → is_own (get_or old k d) ≡ true → i
 -- a picture of 1 to 8192 columns and rows has as many rows as it is high, each as long as it is wide
 pub record HasRows (w h : ℕ) (held : List Row) : Type 0 where
   pub some_columns : 1 ≤ w
-  pub columns : w ≤ 8192
+  pub columns : w ≤ longest_side
   pub some_rows : 1 ≤ h
-  pub rows : h ≤ 8192
+  pub rows : h ≤ longest_side
   pub count : length held ≡ h
   pub wide : All (IsOfWidth w) held
 
@@ -64,8 +65,8 @@ frame_of w h rows = record { width = w; height = h; colours = colours_of_rows ro
 
 -- the rows of a snapshot have the columns that it is of
 pub record HasParts (left width : ℕ) (held : List Row) : Type 0 where
-  pub columns : width ≤ 8192
-  pub rows : length held ≤ 8192
+  pub columns : width ≤ longest_side
+  pub rows : length held ≤ longest_side
   pub wide : All (λ r. left + width ≤ length (row_colours r)) held
 
 abbrev pub part_of : ℕ → ℕ → List Row → Frame

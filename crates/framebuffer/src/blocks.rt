@@ -2,7 +2,7 @@
 
 ghost use Rattle.std.specs.Prelude.{◌≡◌, pos, ◌≤ℤ◌};
 ghost use Rattle.region.specs.Places.{IsOnScreen};
-ghost use Rattle.framebuffer.specs.Blocks.{rect_of, FitsIn};
+ghost use Rattle.framebuffer.specs.Blocks.{block_rect, FitsIn};
 
 use region::Rect;
 
@@ -21,7 +21,7 @@ pub fn block_of(rect: Rect) -> Block
     requires top { pos 0 ≤ℤ rect.y1 }
     requires wide { rect.x1 ≤ℤ rect.x2 }
     requires high { rect.y1 ≤ℤ rect.y2 }
-    ensures { rect ≡ rect_of result }
+    ensures { rect ≡ block_rect result }
 {
     Block {
         left: rect.x1 as usize,
@@ -34,7 +34,7 @@ pub fn block_of(rect: Rect) -> Block
 /// The block of a rectangle that has places, all of them on a screen.
 pub fn block_within(rect: Rect, width: u32, height: u32) -> Block
     requires { IsOnScreen width height rect }
-    ensures is { rect ≡ rect_of result }
+    ensures is { rect ≡ block_rect result }
     ensures fits { FitsIn width height result }
 {
     block_of(rect)

@@ -4,10 +4,10 @@ ghost use Rattle.std.specs.Prelude.{◌≡◌, ◌+◌, ◌*◌, ◌<◌, ◌≤
 ghost use Rattle.std.specs.Prelude.{IsSome, OnOk, OnErr, [], ◌∷◌, pos};
 ghost use Rattle.region.specs.Region.{covers};
 ghost use Rattle.region.specs.Copies.{InOrder};
-ghost use Rattle.region.specs.Places.{IsOnScreen, source_rect};
+ghost use Rattle.region.specs.Places.{IsOnScreen, source_rect, longest_side};
 ghost use Rattle.framebuffer.specs.Frame.{IsPicture, IsPart};
-ghost use Rattle.framebuffer.specs.Picture.{blank, written, moved};
-ghost use Rattle.framebuffer.specs.Blocks.{rect_of, block_colours};
+ghost use Rattle.framebuffer.specs.Picture.{blank, written, moved_colours};
+ghost use Rattle.framebuffer.specs.Blocks.{block_rect, block_colours};
 ghost use Rattle.framebuffer.specs.Moves.{rows_copied};
 
 use crate::blocks::{Block, block_within};
@@ -68,9 +68,9 @@ impl Framebuffer {
     /// A picture that is 0 everywhere.
     pub fn new(alloc: Global, width: u32, height: u32) -> Result<Framebuffer, AllocError>
         requires some_columns { 1 ≤ width }
-        requires columns { width ≤ 8192 }
+        requires columns { width ≤ longest_side }
         requires some_rows { 1 ≤ height }
-        requires rows { height ≤ 8192 }
+        requires rows { height ≤ longest_side }
         ensures { IfOk result (λ f. f ≡ record { width = width; height = height; colours = blank width height }) }
     {
         let rows = blank_rows(alloc, width as usize, height as usize)?;
@@ -146,7 +146,7 @@ impl Framebuffer {
         requires high { block.top + block.rows ≤ self.old.height }
         requires whole { length colours.now ≡ block.rows * block.columns }
         ensures ok { OnOk result (self.new ≡
-            record self.old { colours = written self.old.width self.old.height (rect_of block) colours.now self.old.colours }) }
+            record self.old { colours = written self.old.width self.old.height (block_rect block) colours.now self.old.colours }) }
         ensures err { OnErr result (self.new ≡ self.old) }
     {
         if block.columns == self.width as usize && self.shares(block) {
@@ -172,7 +172,7 @@ impl Framebuffer {
         requires high { block.top + block.rows ≤ self.old.height }
         requires whole { length colours.now ≡ block.rows * block.columns }
         ensures ok { OnOk result (self.new ≡
-            record self.old { colours = written self.old.width self.old.height (rect_of block) colours.now self.old.colours }) }
+            record self.old { colours = written self.old.width self.old.height (block_rect block) colours.now self.old.colours }) }
         ensures err { OnErr result (self.new ≡ self.old) }
     {
         make_room(self.alloc, &mut self.retired, block.top + block.rows)?;
@@ -188,7 +188,7 @@ impl Framebuffer {
         requires high { block.top + block.rows ≤ self.old.height }
         requires whole { length colours.now ≡ block.rows * block.columns }
         ensures ok { OnOk result (self.new ≡
-            record self.old { colours = written self.old.width self.old.height (rect_of block) colours.now self.old.colours }) }
+            record self.old { colours = written self.old.width self.old.height (block_rect block) colours.now self.old.colours }) }
         ensures err { OnErr result (self.new ≡ self.old) }
     {
         make_room(self.alloc, &mut self.retired, block.top + block.rows)?;
@@ -209,8 +209,9 @@ impl Framebuffer {
     pub fn move_colours(&mut self, pieces: &[Rect], offset: (i32, i32)) -> Result<(), AllocError>
         requires inside { All (IsOnScreen self.old.width self.old.height) pieces.now }
         requires sources { All (λ r. IsOnScreen self.old.width self.old.height (source_rect offset r)) pieces.now }
-        ensures ok { OnOk result (self.new ≡
-            record self.old { colours = moved self.old.width self.old.height (covers pieces.now) offset self.old.colours }) }
+        ensures ok { OnOk result (self.new ≡ record self.old {
+          colours = moved_colours self.old.width self.old.height (covers pieces.now) offset self.old.colours;
+        }) }
         ensures err { OnErr result (self.new ≡ self.old) }
     {
         let rects = in_copy_order(self.alloc, pieces, offset)?;
@@ -227,8 +228,9 @@ impl Framebuffer {
         requires left { piece.x1 ≡ pos 0 }
         requires right { piece.x2 ≡ pos self.old.width }
         requires upright { offset.0 ≡ pos 0 }
-        ensures ok { OnOk result (self.new ≡
-            record self.old { colours = moved self.old.width self.old.height (covers (piece ∷ [])) offset self.old.colours }) }
+        ensures ok { OnOk result (self.new ≡ record self.old {
+          colours = moved_colours self.old.width self.old.height (covers (piece ∷ [])) offset self.old.colours;
+        }) }
         ensures err { OnErr result (self.new ≡ self.old) }
     {
         let to = block_within(piece, self.width, self.height);
@@ -256,8 +258,9 @@ impl Framebuffer {
         requires inside { All (IsOnScreen self.old.width self.old.height) pieces.now }
         requires sources { All (λ r. IsOnScreen self.old.width self.old.height (source_rect offset r)) pieces.now }
         requires ordered { InOrder offset pieces.now }
-        ensures ok { OnOk result (self.new ≡
-            record self.old { colours = moved self.old.width self.old.height (covers pieces.now) offset self.old.colours }) }
+        ensures ok { OnOk result (self.new ≡ record self.old {
+          colours = moved_colours self.old.width self.old.height (covers pieces.now) offset self.old.colours;
+        }) }
         ensures err { OnErr result (self.new ≡ self.old) }
     {
         let mut buffer = vec![in self.alloc; 0u32; self.width as usize]?;

@@ -6,7 +6,7 @@ ghost use Rattle.std.specs.Prelude.{pos, nat_abs, slice_index, false, true, if�
 ghost use Rattle.std.specs.Prelude.{IfSome};
 ghost use Rattle.region.specs.Region.{covers};
 ghost use Rattle.region.specs.Copies.{InOrder};
-ghost use Rattle.region.specs.Places.{IsOnScreen, source_rect};
+ghost use Rattle.region.specs.Places.{IsOnScreen, source_rect, longest_side};
 ghost use Rattle.framebuffer.specs.Moves.{between, colour_moved, is_among, row_number};
 ghost use Rattle.framebuffer.specs.declared.rows.Row.{Row};
 ghost use Rattle.framebuffer.specs.Rows.{row_colours, colours_of_rows, is_own, IsOfWidth, AreOwn, AreOwnIn, StayOwn};
@@ -21,7 +21,7 @@ pub fn in_copy_order(
     pieces: &[Rect],
     offset: (i32, i32),
 ) -> Result<Vec<Rect>, AllocError>
-    requires { All (IsOnScreen 8192 8192) pieces.now }
+    requires { All (IsOnScreen longest_side longest_side) pieces.now }
     ensures places { IfOk result (λ rects. (x y : ℤ) → covers rects.items x y ≡ covers pieces.now x y) }
     ensures inside { IfOk result (λ rects. (w h : ℕ) → All (IsOnScreen w h) pieces.now → All (IsOnScreen w h) rects.items) }
     ensures sources { IfOk result (λ rects. (w h : ℕ) → All (λ r. IsOnScreen w h (source_rect offset r)) pieces.now →
@@ -35,7 +35,7 @@ pub fn in_copy_order(
 
 /// The rectangle, if it is the only one, has whole rows and moves straight up or down.
 pub fn whole_rows(pieces: &[Rect], offset: (i32, i32), width: u32) -> Option<Rect>
-    requires { width ≤ 8192 }
+    requires { width ≤ longest_side }
     ensures only { IfSome result (λ r. pieces.now ≡ r ∷ []) }
     ensures left { IfSome result (λ r. r.x1 ≡ pos 0) }
     ensures right { IfSome result (λ r. r.x2 ≡ pos width) }
@@ -49,9 +49,9 @@ pub fn whole_rows(pieces: &[Rect], offset: (i32, i32), width: u32) -> Option<Rec
 
 /// The row that a rectangle's first row is moved from.
 pub fn first_source(piece: Rect, offset: (i32, i32), height: u32) -> usize
-    requires rows { height ≤ 8192 }
-    requires inside { IsOnScreen 8192 height piece }
-    requires source { IsOnScreen 8192 height (source_rect offset piece) }
+    requires rows { height ≤ longest_side }
+    requires inside { IsOnScreen longest_side height piece }
+    requires source { IsOnScreen longest_side height (source_rect offset piece) }
     ensures { result ≡ nat_abs (piece.y1 -ℤ offset.1) }
 {
     (piece.y1 - offset.1) as usize
@@ -64,7 +64,7 @@ fn own_piece(
     retired: &mut [Row],
     piece: Rect,
 ) -> Result<(), AllocError>
-    requires inside { IsOnScreen 8192 (length rows.old) piece }
+    requires inside { IsOnScreen longest_side (length rows.old) piece }
     requires room { length rows.old ≤ length retired.old }
     ensures same { map row_colours rows.new ≡ map row_colours rows.old }
     ensures stay { StayOwn rows.old rows.new }
@@ -80,7 +80,7 @@ pub fn own_pieces(
     retired: &mut [Row],
     pieces: &[Rect],
 ) -> Result<(), AllocError>
-    requires inside { All (IsOnScreen 8192 (length rows.old)) pieces.now }
+    requires inside { All (IsOnScreen longest_side (length rows.old)) pieces.now }
     requires room { length rows.old ≤ length retired.old }
     ensures same { map row_colours rows.new ≡ map row_colours rows.old }
     ensures own { IfOk result (λ _. AreOwnIn pieces.now rows.new) }
@@ -150,8 +150,8 @@ fn move_row(
     offset: (i32, i32),
     buffer: &mut [u32],
 )
-    requires columns { width ≤ 8192 }
-    requires rows { height ≤ 8192 }
+    requires columns { width ≤ longest_side }
+    requires rows { height ≤ longest_side }
     requires count { length rows.old ≡ height }
     requires wide { All (IsOfWidth width) rows.old }
     requires own { AreOwn (nat_abs piece.y1) (nat_abs piece.y2) rows.old }
@@ -188,7 +188,7 @@ fn rows_of(piece: Rect, height: u32, down: bool) -> (u32, u32)
     requires top { pos 0 ≤ℤ piece.y1 }
     requires some { piece.y1 <ℤ piece.y2 }
     requires bottom { piece.y2 ≤ℤ pos height }
-    requires rows { height ≤ 8192 }
+    requires rows { height ≤ longest_side }
     ensures none { (k : ℕ) → k < height → between piece.y1 (pos k) piece.y2 ≡ true → is_among down height result.0 k ≡ false }
     ensures all { (n k : ℕ) → result.1 ≤ n → k < height → between piece.y1 (pos k) piece.y2 ≡ true →
         is_among down height n k ≡ true }
@@ -213,8 +213,8 @@ fn move_piece(
     offset: (i32, i32),
     buffer: &mut [u32],
 )
-    requires columns { width ≤ 8192 }
-    requires rows { height ≤ 8192 }
+    requires columns { width ≤ longest_side }
+    requires rows { height ≤ longest_side }
     requires count { length rows.old ≡ height }
     requires wide { All (IsOfWidth width) rows.old }
     requires own { AreOwn (nat_abs piece.y1) (nat_abs piece.y2) rows.old }
@@ -247,8 +247,8 @@ pub fn move_pieces(
     offset: (i32, i32),
     buffer: &mut [u32],
 )
-    requires columns { width ≤ 8192 }
-    requires rows { height ≤ 8192 }
+    requires columns { width ≤ longest_side }
+    requires rows { height ≤ longest_side }
     requires count { length rows.old ≡ height }
     requires wide { All (IsOfWidth width) rows.old }
     requires own { AreOwnIn pieces.now rows.old }

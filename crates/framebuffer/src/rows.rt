@@ -71,7 +71,7 @@ fn fresh_copy(alloc: Global, colours: &[u32]) -> Result<Vec<u32>, AllocError>
 }
 
 /// A copy of colours, in the memory of a retired row where that can be had.
-fn copied(alloc: Global, retired: &mut Row, colours: &[u32]) -> Result<Vec<u32>, AllocError>
+fn copied_row(alloc: Global, retired: &mut Row, colours: &[u32]) -> Result<Vec<u32>, AllocError>
     ensures { IfOk result (λ places. places.items ≡ colours.now) }
 {
     match reclaimed(alloc, retired, colours.len()) {
@@ -95,7 +95,7 @@ fn taken_back(
 {
     match Arc::try_unwrap(places) {
         Ok(own) => Ok(own),
-        Err(shared) => match copied(alloc, retired, shared.as_slice()) {
+        Err(shared) => match copied_row(alloc, retired, shared.as_slice()) {
             Ok(own) => {
                 *retired = Row::Shared(shared);
                 Ok(own)

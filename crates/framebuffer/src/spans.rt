@@ -2,9 +2,9 @@
 
 ghost use Rattle.std.specs.Prelude.{◌≡◌, ℤ, ◌≤◌, ◌≤ℤ◌, ◌<ℤ◌, ◌+ℤ◌, ◌-ℤ◌, ◌&&◌, All, pos, ◌++◌, int_le, int_lt, IfOk, OnOk};
 ghost use Rattle.region.specs.Region.{in_rect, covers, on_screen};
-ghost use Rattle.region.specs.Held.{one_if};
-ghost use Rattle.region.specs.Places.{cut_destination, IsOnScreen, source_rect};
-ghost use Rattle.framebuffer.specs.Picture.{straight, union_of};
+ghost use Rattle.region.specs.RegionView.{one_if};
+ghost use Rattle.region.specs.Places.{cut_destination, IsOnScreen, source_rect, longest_side};
+ghost use Rattle.framebuffer.specs.Picture.{straight, places_in};
 ghost use Rattle.framebuffer.specs.Moves.{between};
 
 use region::Rect;
@@ -36,7 +36,7 @@ fn smaller(a: i64, b: i64) -> i64
 /// The span of these numbers, or an empty one.
 fn span_of(start: i64, end: i64) -> Span
     requires low { pos 0 ≤ℤ start }
-    requires high { end ≤ℤ pos 8192 }
+    requires high { end ≤ℤ pos longest_side }
     ensures same { (x : ℤ) → between result.from x result.to ≡ between start x end }
     ensures start { result.from <ℤ result.to → start ≤ℤ result.from }
     ensures end { result.from <ℤ result.to → result.to ≤ℤ end }
@@ -53,7 +53,7 @@ fn span_of(start: i64, end: i64) -> Span
 
 /// Of the numbers from `from` to below `to`, those that are from 0 to below `limit`, and so when they are `by` less.
 fn kept_span(from: i32, to: i32, by: i32, limit: u32) -> Span
-    requires { limit ≤ 8192 }
+    requires { limit ≤ longest_side }
     ensures same { (x : ℤ) → between result.from x result.to ≡
         (between from x to && between (pos 0) x (pos limit) && between (pos 0) (x -ℤ by) (pos limit)) }
     ensures low { result.from <ℤ result.to → pos 0 ≤ℤ result.from }
@@ -70,8 +70,8 @@ fn kept_span(from: i32, to: i32, by: i32, limit: u32) -> Span
 
 /// Of a rectangle's places, those that are on the screen with the places (dx, dy) before them.
 fn destination(rect: Rect, dx: i32, dy: i32, width: u32, height: u32) -> Rect
-    requires width { width ≤ 8192 }
-    requires height { height ≤ 8192 }
+    requires width { width ≤ longest_side }
+    requires height { height ≤ longest_side }
     ensures places { (x y : ℤ) → in_rect result x y ≡
         (in_rect rect x y && on_screen width height x y && on_screen width height (x -ℤ dx) (y -ℤ dy)) }
     ensures inside { result.x1 <ℤ result.x2 → result.y1 <ℤ result.y2 → IsOnScreen width height result }
@@ -128,9 +128,9 @@ pub fn destinations(
     width: u32,
     height: u32,
 ) -> Result<Vec<Rect>, AllocError>
-    requires width { width ≤ 8192 }
-    requires height { height ≤ 8192 }
-    ensures places { IfOk result (λ pieces. covers pieces.items ≡ cut_destination width height (union_of rects.now) (dx, dy)) }
+    requires width { width ≤ longest_side }
+    requires height { height ≤ longest_side }
+    ensures places { IfOk result (λ pieces. covers pieces.items ≡ cut_destination width height (places_in rects.now) (dx, dy)) }
     ensures inside { IfOk result (λ pieces. All (IsOnScreen width height) pieces.items) }
     ensures sources { IfOk result (λ pieces. All (λ r. IsOnScreen width height (source_rect (dx, dy) r)) pieces.items) }
 {

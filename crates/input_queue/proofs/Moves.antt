@@ -13,7 +13,7 @@ use Rattle.input_queue.specs.declared.rule.Note.{Note}
 use Rattle.input_queue.specs.declared.rule.View.{View}
 use Rattle.input_queue.specs.Views.{spent, newcomer, hub, taker, seat, joined}
 use Rattle.input_queue.specs.Rule.{those_of, Interleaves, noted_of, known_or, accepted_by, EachNote, AreApart, weigh, noted_items, seats_in, Keeps, AreHeads, Runs, Holds, Reached, Closed}
-use Rattle.input_queue.specs.Ends.{HeldBeside}
+use Rattle.input_queue.specs.Ends.{QueuedBeside}
 use Rattle.input_queue.proofs.Places.{weigh_set, weigh_snoc, weigh_none, none_weigh, here, those_append, of_seat, of_other, each_note}
 
 pub begins : Holds [] (newcomer ∷ [])
@@ -331,7 +331,7 @@ joins p v q w vm vt wt items views h at two at' =
 
 -- ---- what the passes learn
 
-pub learns_held : (p : ℕ) (v : View) → v.puts ≡ true → Learns Holds p v (λ items. HeldBeside v.number v.accepted items)
+pub learns_held : (p : ℕ) (v : View) → v.puts ≡ true → Learns Holds p v (λ items. QueuedBeside v.number v.accepted items)
 learns_held p v vp items views h at = ⊎_elim
     (λ (e : (items ≡ []) × (views ≡ newcomer ∷ [])). absurd (true≢false (sym vp ∙ ap (λ (u : View). u.puts) (sym (only newcomer v p (ap (λ l. get_elem? l p) (sym e.1) ∙ at)).1))))
     (λ (r : Runs items views).

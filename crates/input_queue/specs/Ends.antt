@@ -33,8 +33,8 @@ abbrev pub ViewersApart : List Putting → Type 0
 ViewersApart seats = IsDistinct nat_eq (map (λ s. s.viewer) seats)
 
 -- At one moment the queue held these: what was taken by then, followed by them, was an interleaving of what the seats had accepted, which was this list at the seat with this number.
-abbrev pub HeldBeside : ℕ → List Told → List Told → Type 0
-HeldBeside number accepted items = (taken : List Told) × (lists : ℕ → List Told) × (lists number ≡ accepted) × Interleaves lists (taken ++ items)
+abbrev pub QueuedBeside : ℕ → List Told → List Told → Type 0
+QueuedBeside number accepted items = (taken : List Told) × (lists : ℕ → List Told) × (lists number ≡ accepted) × Interleaves lists (taken ++ items)
 
 -- At one moment the queue was empty: what was taken was an interleaving of what the seats had accepted.
 abbrev pub AllTaken : List Told → Type 0

@@ -1,7 +1,7 @@
 //! The queue's ends.
 ghost use Rattle.std.specs.Prelude.{◌≡◌, ◌≤◌, ◌<◌, ◌+◌, ◌-◌, ◌^◌, [], ◌++◌, ◌∷◌, ℕ, List, length, map, All, min, IfOk, MatchResult};
 ghost use Rattle.std.specs.Prelude.{MatchOption, IsOkUnless, nat_le, ◌&&◌, MatchBool};
-ghost use Rattle.input_queue.specs.Ends.{Putting, of_viewer, ViewersApart, HeldBeside, AllTaken, note_of};
+ghost use Rattle.input_queue.specs.Ends.{Putting, of_viewer, ViewersApart, QueuedBeside, AllTaken, note_of};
 ghost use Rattle.input_queue.specs.declared.Told.{Told};
 ghost use Rattle.crossbeam_queue.specs.Passes.{view as known, IsPassOf};
 ghost use Rattle.crossbeam_queue.specs.Fifo.{Held};
@@ -137,7 +137,7 @@ impl InputHub {
             record seat.old { accepted = seat.old.accepted ++ record { viewer = seat.old.viewer; input = input } ∷ [] }) }
         ensures back { MatchResult result (λ _. Unit {0}) (λ full. (full.0 ≡ input) × (seat.new ≡ seat.old)) }
         ensures full { MatchResult result (λ _. Unit {0}) (λ _. (items : List Told) × (length items ≡ self.now.capacity) ×
-            HeldBeside seat.old.number seat.old.accepted items) }
+            QueuedBeside seat.old.number seat.old.accepted items) }
     {
         let told = Told {
             viewer: seat.viewer,

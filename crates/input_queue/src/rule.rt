@@ -75,9 +75,9 @@ impl Outcome<Told, View> for Puts {
 }
 
 impl Lesson<Told, View> for Puts {
-    ghost use Rattle.input_queue.specs.Ends.{HeldBeside};
+    ghost use Rattle.input_queue.specs.Ends.{QueuedBeside};
 
-    ghost fact = { λ v items. HeldBeside v.number v.accepted items };
+    ghost fact = { λ v items. QueuedBeside v.number v.accepted items };
 }
 
 pub struct Takes;

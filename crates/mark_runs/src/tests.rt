@@ -4,7 +4,7 @@
 
 ghost use Rattle.std.specs.Prelude.{◌≡◌, ◌≤◌, All, IfOk};
 ghost use Rattle.region.specs.Region.{covers};
-ghost use Rattle.region.specs.Places.{IsOnScreen};
+ghost use Rattle.region.specs.Places.{IsOnScreen, longest_side};
 ghost use Rattle.copy_schedule.specs.Marks.{IsCutTo};
 
 use copy_schedule::{Cut, Mark, Marks};
@@ -30,7 +30,7 @@ fn region_of(alloc: Global, rects: &[Rect]) -> Result<Region, AllocError> {
 
 /// The region of rectangles of a screen.
 fn region_on_screen(alloc: Global, rects: &[Rect]) -> Result<Region, AllocError>
-    requires { All (IsOnScreen 8192 8192) rects.now }
+    requires { All (IsOnScreen longest_side longest_side) rects.now }
     ensures { IfOk result (λ region. covers region.list ≡ covers rects.now) }
 {
     Region::from_rects_in_range(alloc, rects)
@@ -44,8 +44,8 @@ fn cut_region(
     width: u32,
     height: u32,
 ) -> Result<Region, AllocError>
-    requires width { width ≤ 8192 }
-    requires height { height ≤ 8192 }
+    requires width { width ≤ longest_side }
+    requires height { height ≤ longest_side }
     ensures { IfOk result (λ part. IsCutTo width height offset part.list) }
 {
     let pieces = destinations(alloc, rects, offset.0, offset.1, width, height)?;

@@ -8,12 +8,12 @@ use Rattle.messages.specs.declared.Item.{Item}
 use Rattle.messages.specs.declared.Phase.{Phase}
 use Rattle.messages.specs.declared.Phase.TheVariants as phase
 use Rattle.messages.specs.Grammar.{End, waiting, faulty}
-use Rattle.messages.specs.Reading.{heard, Unfinished, plain, encodings, cut_text, faulted, Rest, rest, unfinished_of, fault_in, fault_kept, fault_of, new_items, KeepsEnough, KeepsTheFault}
+use Rattle.messages.specs.Reading.{heard, Unfinished, plain, encodings, cut_text, faulted, Rest, rest, unfinished_of, fault_in, fault_in_rest, fault_of, new_items, KeepsEnough, KeepsTheFault}
 use Rattle.messages.specs.Steps.{Told, keeps, tells}
 use Rattle.messages.specs.declared.ear.Prepared.{Prepared}
 use Rattle.messages.specs.declared.text.Text.{Text}
 use Rattle.messages.specs.Grammar.{text_limit}
-use Rattle.messages.specs.Kept.{kept, unfinished_text}
+use Rattle.messages.specs.Partial.{rest_at, unfinished_text}
 use Rattle.messages.specs.Progress.{Progress, becomes, text_goes_on, advanced, CanAdvance}
 use Rattle.messages.proofs.Bulk.{text_waits, fault_stays}
 use Rattle.messages.proofs.Telling.{heard_tells}
@@ -43,8 +43,8 @@ fault_by_end (phase.Open v) waiting bytes =
 pub keeps_the_fault : KeepsTheFault
 keeps_the_fault bytes = fault_by_end (heard bytes).phase (heard bytes).end (heard bytes).unfinished
 
-pub fed_fault : (s piece : List ℕ) (r : Rest) (t : Told) → r ≡ rest s → t ≡ tells r piece → fault_kept t.rest ≡ fault_of (heard (s ++ piece)).end
-fed_fault s piece r t e f = ap fault_kept (fed_rest s piece r t e f) ∙ keeps_the_fault (s ++ piece)
+pub fed_fault : (s piece : List ℕ) (r : Rest) (t : Told) → r ≡ rest s → t ≡ tells r piece → fault_in_rest t.rest ≡ fault_of (heard (s ++ piece)).end
+fed_fault s piece r t e f = ap fault_in_rest (fed_rest s piece r t e f) ∙ keeps_the_fault (s ++ piece)
 
 -- what is kept tells all that a further piece adds
 same_behind : (is js ks : List Item) → is ++ js ≡ is ++ ks → js ≡ ks
@@ -64,27 +64,27 @@ keeps_enough s r t e =
 -- what was prepared is what a piece tells behind what is kept
 pub record Foretells (r : Rest) (piece : List ℕ) (p : Prepared) : Type 0 where
   pub items : p.heard.items ≡ (tells r piece).items
-  pub fault : p.heard.fault ≡ fault_kept (tells r piece).rest
+  pub fault : p.heard.fault ≡ fault_in_rest (tells r piece).rest
   pub rest : advanced r p.change ≡ (tells r piece).rest
 
 -- a text that goes on
-pub keeping_foretells : (r : Rest) (p : Phase) (t : Text) (piece : List ℕ) → r ≡ kept p (unfinished_text t) → t.come + length piece < t.length → length t.kept.items ≤ text_limit
+pub keeping_foretells : (r : Rest) (p : Phase) (t : Text) (piece : List ℕ) → r ≡ rest_at p (unfinished_text t) → t.come + length piece < t.length → length t.bytes.items ≤ text_limit
     → (q : Prepared) → q ≡ record { heard = record { items = []; fault = None }; change = text_goes_on piece } → Foretells r piece q
 keeping_foretells r p t piece e more short q f =
-    let told : tells r piece ≡ keeps p _ = ap (λ (s : Rest). tells s piece) e ∙ text_waits p t.length piece t.kept.items t.come more short in
+    let told : tells r piece ≡ keeps p _ = ap (λ (s : Rest). tells s piece) e ∙ text_waits p t.length piece t.bytes.items t.come more short in
     record {
       items = ap (λ (x : Prepared). x.heard.items) f ∙ sym (ap (λ (u : Told). u.items) told);
-      fault = ap (λ (x : Prepared). x.heard.fault) f ∙ sym (ap (λ (u : Told). fault_kept u.rest) told);
+      fault = ap (λ (x : Prepared). x.heard.fault) f ∙ sym (ap (λ (u : Told). fault_in_rest u.rest) told);
       rest = ap (λ (x : Prepared). advanced r x.change) f ∙ ap (λ (s : Rest). advanced s (text_goes_on piece)) e ∙ sym (ap (λ (u : Told). u.rest) told);
     }
 
 -- what was read
 pub reading_foretells : (r s : Rest) (piece : List ℕ) → r ≡ s
-    → (q : Prepared) → q ≡ record { heard = record { items = (tells s piece).items; fault = fault_kept (tells s piece).rest }; change = becomes (tells s piece).rest } → Foretells r piece q
+    → (q : Prepared) → q ≡ record { heard = record { items = (tells s piece).items; fault = fault_in_rest (tells s piece).rest }; change = becomes (tells s piece).rest } → Foretells r piece q
 reading_foretells r s piece e q f =
     record {
       items = ap (λ (x : Prepared). x.heard.items) f ∙ sym (ap (λ (u : Rest). (tells u piece).items) e);
-      fault = ap (λ (x : Prepared). x.heard.fault) f ∙ sym (ap (λ (u : Rest). fault_kept (tells u piece).rest) e);
+      fault = ap (λ (x : Prepared). x.heard.fault) f ∙ sym (ap (λ (u : Rest). fault_in_rest (tells u piece).rest) e);
       rest = ap (λ (x : Prepared). advanced r x.change) f ∙ sym (ap (λ (u : Rest). (tells u piece).rest) e);
     }
 
@@ -101,18 +101,18 @@ foretold_rest s piece r e p f = f.rest ∙ fed_rest s piece r (tells r piece) e 
 abbrev pub SameFault : Rest → Fault → Prepared → Type 0
 SameFault r k p = (p.heard.items ≡ []) × (p.heard.fault ≡ Some k) × (advanced r p.change ≡ r)
 
-pub foretold_faulted : (w : Phase) (k : Fault) (piece : List ℕ) (p : Prepared) → Foretells (kept w (faulted k)) piece p → SameFault (kept w (faulted k)) k p
+pub foretold_faulted : (w : Phase) (k : Fault) (piece : List ℕ) (p : Prepared) → Foretells (rest_at w (faulted k)) piece p → SameFault (rest_at w (faulted k)) k p
 foretold_faulted w k piece p f =
-    let stays : tells (kept w (faulted k)) piece ≡ keeps w (faulted k) = fault_stays w k piece in (
+    let stays : tells (rest_at w (faulted k)) piece ≡ keeps w (faulted k) = fault_stays w k piece in (
       f.items ∙ ap (λ (u : Told). u.items) stays,
-      f.fault ∙ ap (λ (u : Told). fault_kept u.rest) stays,
+      f.fault ∙ ap (λ (u : Told). fault_in_rest u.rest) stays,
       f.rest ∙ ap (λ (u : Told). u.rest) stays,
     )
 
-pub faulted_then : {E : Type 0} (piece : List ℕ) (r : Rest) (prepared : Result Prepared E) → IfOk prepared (Foretells r piece) → IfSome (fault_kept r) (λ k. IfOk prepared (SameFault r k))
+pub faulted_then : {E : Type 0} (piece : List ℕ) (r : Rest) (prepared : Result Prepared E) → IfOk prepared (Foretells r piece) → IfSome (fault_in_rest r) (λ k. IfOk prepared (SameFault r k))
 faulted_then piece r prepared f = by_kept r.phase r.unfinished f
   where
-    by_kept : (w : Phase) (u : Unfinished) → IfOk prepared (Foretells (kept w u) piece) → IfSome (fault_in u) (λ k. IfOk prepared (SameFault (kept w u) k))
+    by_kept : (w : Phase) (u : Unfinished) → IfOk prepared (Foretells (rest_at w u) piece) → IfSome (fault_in u) (λ k. IfOk prepared (SameFault (rest_at w u) k))
     by_kept w (plain bytes) f = tt
     by_kept w (encodings count come given bytes) f = tt
     by_kept w (cut_text long text come) f = tt
@@ -120,7 +120,7 @@ faulted_then piece r prepared f = by_kept r.phase r.unfinished f
 
 -- ---- what is put in place
 
-pub can_take : (r : Rest) (g : Progress) (p : Phase) (t : Text) (bytes : List ℕ) → r ≡ kept p (unfinished_text t) → g ≡ text_goes_on bytes → CanAdvance r g → t.come + length bytes < t.length
+pub can_take : (r : Rest) (g : Progress) (p : Phase) (t : Text) (bytes : List ℕ) → r ≡ rest_at p (unfinished_text t) → g ≡ text_goes_on bytes → CanAdvance r g → t.come + length bytes < t.length
 can_take r g p t bytes e f h =
     let Along : Rest → Type 0 = λ s. CanAdvance s (text_goes_on bytes) in
     let Behind : Progress → Type 0 = λ q. CanAdvance r q in

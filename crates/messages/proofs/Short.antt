@@ -5,7 +5,7 @@ use Rattle.messages.specs.declared.Item.{Item}
 use Rattle.messages.specs.declared.Phase.TheVariants as phase
 use Rattle.messages.specs.Reading.{request_in, key_in, pointer_in}
 use Rattle.messages.specs.Steps.{Told, fresh, adds, tells}
-use Rattle.messages.specs.Kept.{TellSame}
+use Rattle.messages.specs.Partial.{TellSame}
 
 -- an item more, and what follows it
 said : (items : List Item) (i : Item) (t : Told) → adds (items ++ i ∷ []) t ≡ adds items (adds (i ∷ []) t)

@@ -2,7 +2,7 @@ pub mod Grammar
 pub mod Reading
 pub mod Server
 pub mod Steps
-pub mod Kept
+pub mod Partial
 pub mod Progress
 pub mod Examples
 pub mod PieceLemmas

@@ -179,8 +179,8 @@ fault_in (encodings count come given bytes) = None
 fault_in (cut_text long text come) = None
 fault_in (faulted k) = Some k
 
-abbrev pub fault_kept : Rest → Option Fault
-fault_kept r = fault_in r.unfinished
+abbrev pub fault_in_rest : Rest → Option Fault
+fault_in_rest r = fault_in r.unfinished
 
 abbrev pub is_open_phase : Phase → Bool
 is_open_phase (phase.Open v) = true
@@ -188,7 +188,7 @@ is_open_phase _ = false
 
 -- 7.3.2: the ServerInit has been earned, and there is no fault
 abbrev pub is_open_rest : Rest → Bool
-is_open_rest r = is_none (fault_kept r) && is_open_phase r.phase
+is_open_rest r = is_none (fault_in_rest r) && is_open_phase r.phase
 
 -- ---- what a piece adds
 
@@ -221,4 +221,4 @@ KeepsEnough = (s r t : List ℕ) → rest s ≡ rest r → (rest (s ++ t) ≡ re
 
 -- what is kept tells the fault
 abbrev pub KeepsTheFault : Type 0
-KeepsTheFault = (bytes : List ℕ) → fault_kept (rest bytes) ≡ fault_of (heard bytes).end
+KeepsTheFault = (bytes : List ℕ) → fault_in_rest (rest bytes) ≡ fault_of (heard bytes).end

@@ -65,9 +65,9 @@ head_of (phase.Init v) bytes = head_meaning (meaning (phase.Init v) bytes)
 head_of (phase.Open v) bytes = message_head bytes
 
 -- these bytes and so many of a piece behind them are a whole front, which says this
-pub record IsHead (p : Phase) (held piece : List ℕ) (said : Head) (used : ℕ) : Type 0 where
-  pub whole : used + length held ≡ head_length p (slice_index (held ++ piece) 0)
-  pub said_by : said ≡ head_of p (held ++ take used piece)
+pub record IsHead (p : Phase) (partial piece : List ℕ) (said : Head) (used : ℕ) : Type 0 where
+  pub whole : used + length partial ≡ head_length p (slice_index (partial ++ piece) 0)
+  pub said_by : said ≡ head_of p (partial ++ take used piece)
 
 -- ---- what bytes tell
 

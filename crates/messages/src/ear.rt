@@ -1,11 +1,11 @@
 //! The reader of a viewer's bytes.
 ghost use Rattle.std.specs.Prelude.{◌≡◌, ℕ, List, [], ◌++◌, IfOk, IfSome, OnOk, OnErr};
-ghost use Rattle.messages.specs.Reading.{rest, fault_kept, is_open_rest, fault_of, new_items, heard};
+ghost use Rattle.messages.specs.Reading.{rest, fault_in_rest, is_open_rest, fault_of, new_items, heard};
 ghost use Rattle.messages.specs.Steps.{IsShort, tells};
 ghost use Rattle.messages.specs.Progress.{becomes, text_goes_on, advanced, CanAdvance};
-ghost use Rattle.messages.specs.Kept.{unfinished_held, rest_held};
+ghost use Rattle.messages.specs.Partial.{unfinished_in, rest_in};
 
-use crate::held::Held;
+use crate::partial::Partial;
 use crate::reading::{Reading, hear};
 use crate::{Fault, Heard, Phase};
 use arrayvec::ArrayVec;
@@ -20,7 +20,7 @@ use std::marker::Model;
 #[derive(Debug, Drop)]
 pub struct Ear {
     phase: Phase,
-    held: Held,
+    partial: Partial,
     alloc: Global,
 }
 
@@ -30,11 +30,11 @@ impl Model for Ear {
     ghost Value = { Rest };
 
     ghost use Rattle.messages.specs.Steps.{IsShort};
-    ghost use Rattle.messages.specs.Kept.{rest_held, unfinished_held};
+    ghost use Rattle.messages.specs.Partial.{rest_in, unfinished_in};
 
-    ghost view = { λ a. rest_held a.phase a.held };
+    ghost view = { λ a. rest_in a.phase a.partial };
 
-    ghost invariant = { λ a. IsShort a.phase (unfinished_held a.held) };
+    ghost invariant = { λ a. IsShort a.phase (unfinished_in a.partial) };
 }
 
 /// What an ear becomes by a piece that it was prepared for.
@@ -47,7 +47,7 @@ pub struct Change {
 #[derive(Debug, Drop)]
 enum Kind {
     /// It keeps this.
-    Becomes(Phase, Held),
+    Becomes(Phase, Partial),
     /// It keeps more bytes of its text, which they don't end.
     TextGoesOn(Vec<u8>),
 }
@@ -57,7 +57,7 @@ impl Model for Change {
 
     ghost Value = { Progress };
 
-    ghost use Rattle.messages.specs.Kept.{progress_of, IsShortBehind};
+    ghost use Rattle.messages.specs.Partial.{progress_of, IsShortBehind};
 
     ghost view = { λ a. progress_of a.kind };
 
@@ -89,21 +89,30 @@ fn keep_on(alloc: Global, piece: &[u8]) -> Result<Prepared, AllocError>
 }
 
 /// A piece is read behind what is kept.
-fn read_on(alloc: Global, phase: Phase, held: &Held, piece: &[u8]) -> Result<Prepared, AllocError>
-    requires { IsShort phase (unfinished_held held.now) }
-    ensures { let told = tells (rest_held phase held.now) piece.now in
+fn read_on(
+    alloc: Global,
+    phase: Phase,
+    partial: &Partial,
+    piece: &[u8],
+) -> Result<Prepared, AllocError>
+    requires { IsShort phase (unfinished_in partial.now) }
+    ensures { let told = tells (rest_in phase partial.now) piece.now in
         IfOk result (λ p. p ≡ record
-        { heard = record { items = told.items; fault = fault_kept told.rest }; change = becomes told.rest }) }
+        { heard = record { items = told.items; fault = fault_in_rest told.rest }; change = becomes told.rest }) }
 {
-    let Reading { phase, held, items } = hear(alloc, phase, held, piece)?;
-    let fault = held.fault();
+    let Reading {
+        phase,
+        partial,
+        items,
+    } = hear(alloc, phase, partial, piece)?;
+    let fault = partial.fault();
     Ok(Prepared {
         heard: Heard {
             items: Listed::from_vec(items),
             fault,
         },
         change: Change {
-            kind: Kind::Becomes(phase, held),
+            kind: Kind::Becomes(phase, partial),
         },
     })
 }
@@ -115,7 +124,7 @@ impl Ear {
     {
         Ear {
             phase: Phase::Version,
-            held: Held::Plain(ArrayVec::new()),
+            partial: Partial::Plain(ArrayVec::new()),
             alloc,
         }
     }
@@ -126,7 +135,7 @@ impl Ear {
     {
         Ok(Ear {
             phase: self.phase,
-            held: self.held.try_clone(self.alloc)?,
+            partial: self.partial.try_clone(self.alloc)?,
             alloc: self.alloc,
         })
     }
@@ -140,16 +149,16 @@ impl Ear {
 
     /// The fault behind which nothing is heard, if there is one.
     pub fn fault(&self) -> Option<Fault>
-        ensures { result ≡ fault_kept self.now }
+        ensures { result ≡ fault_in_rest self.now }
     {
-        self.held.fault()
+        self.partial.fault()
     }
 
     /// Whether the ServerInit has been earned, and there is no fault (RFC 6143 section 7.3.2).
     pub fn is_open(&self) -> bool
         ensures { result ≡ is_open_rest self.now }
     {
-        self.held.fault().is_none() && matches!(self.phase, Phase::Open(_))
+        self.partial.fault().is_none() && matches!(self.phase, Phase::Open(_))
     }
 
     /// What a piece of the viewer's bytes would tell, and what the ear would become: the items that end in the piece, and
@@ -162,13 +171,13 @@ impl Ear {
         ensures fault { (s : List ℕ) → self.now ≡ rest s →
             IfOk result (λ p. p.heard.fault ≡ fault_of (heard (s ++ piece.now)).end) }
         ensures rest { (s : List ℕ) → self.now ≡ rest s → IfOk result (λ p. advanced self.now p.change ≡ rest (s ++ piece.now)) }
-        ensures faulted { IfSome (fault_kept self.now) (λ fault. IfOk result (λ p.
+        ensures faulted { IfSome (fault_in_rest self.now) (λ fault. IfOk result (λ p.
             (p.heard.items ≡ []) × (p.heard.fault ≡ Some fault) × (advanced self.now p.change ≡ self.now))) }
         ensures fits { IfOk result (λ p. CanAdvance self.now p.change) }
     {
-        match &self.held {
-            Held::Text(text) if piece.len() < text.missing() => keep_on(self.alloc, piece),
-            held => read_on(self.alloc, self.phase, held, piece),
+        match &self.partial {
+            Partial::Text(text) if piece.len() < text.missing() => keep_on(self.alloc, piece),
+            partial => read_on(self.alloc, self.phase, partial, piece),
         }
     }
 
@@ -179,12 +188,12 @@ impl Ear {
         ensures { self.new ≡ advanced self.old change }
     {
         match change.kind {
-            Kind::Becomes(phase, held) => {
+            Kind::Becomes(phase, partial) => {
                 self.phase = phase;
-                self.held = held;
+                self.partial = partial;
             }
             Kind::TextGoesOn(bytes) => {
-                if let Held::Text(text) = &mut self.held {
+                if let Partial::Text(text) = &mut self.partial {
                     text.take(&bytes);
                 }
             }
@@ -198,7 +207,7 @@ impl Ear {
         ensures items { (s : List ℕ) → self.old ≡ rest s → IfOk result (λ h. h.items ≡ new_items s piece.now) }
         ensures fault { (s : List ℕ) → self.old ≡ rest s → IfOk result (λ h. h.fault ≡ fault_of (heard (s ++ piece.now)).end) }
         ensures rest { (s : List ℕ) → self.old ≡ rest s → OnOk result (self.new ≡ rest (s ++ piece.now)) }
-        ensures faulted { IfSome (fault_kept self.old) (λ fault. IfOk result (λ h.
+        ensures faulted { IfSome (fault_in_rest self.old) (λ fault. IfOk result (λ h.
             (h.items ≡ []) × (h.fault ≡ Some fault) × (self.new ≡ self.old))) }
         ensures err { OnErr result (self.new ≡ self.old) }
     {

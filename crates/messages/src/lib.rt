@@ -3,10 +3,10 @@
 
 mod ear;
 mod heads;
-mod held;
 mod laws;
 mod numbers;
 mod opening;
+mod partial;
 mod reading;
 mod text;
 mod writers;

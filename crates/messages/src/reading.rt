@@ -2,10 +2,10 @@
 ghost use Rattle.std.specs.Prelude.{◌≡◌, ◌+◌, ◌<◌, ◌≤◌, [], ◌∷◌, ◌++◌, length, drop, slice_index, IfOk, OnOk, IfSome, IfNone};
 ghost use Rattle.messages.specs.Grammar.{after};
 ghost use Rattle.messages.specs.Steps.{fresh, head_length, head_tells, IsHead, tells, IsBegun, IsShort};
-ghost use Rattle.messages.specs.Kept.{unfinished_held, rest_held, reads, told_of, TellSame};
+ghost use Rattle.messages.specs.Partial.{unfinished_in, rest_in, reads, told_of, TellSame};
 
 use crate::heads::{Head, head_length, head_of, key, pointer, request};
-use crate::held::{Held, Numbers};
+use crate::partial::{Numbers, Partial};
 use crate::text::Text;
 use crate::{Item, Phase, Version};
 use arrayvec::ArrayVec;
@@ -18,7 +18,7 @@ const SHORT_MESSAGE: usize = 10;
 #[derive(Debug, Drop)]
 pub struct Reading {
     pub phase: Phase,
-    pub held: Held,
+    pub partial: Partial,
     pub items: Vec<Item>,
 }
 
@@ -37,15 +37,15 @@ pub fn phase_after(phase: Phase, item: &Item) -> Phase
 }
 
 /// How many bytes a front lacks, of which these have come and a piece follows.
-fn missing(phase: Phase, held: &[u8], piece: &[u8]) -> usize
-    requires short { length held.now < head_length phase (slice_index held.now 0) }
+fn missing(phase: Phase, partial: &[u8], piece: &[u8]) -> usize
+    requires short { length partial.now < head_length phase (slice_index partial.now 0) }
     requires more { 0 < length piece.now }
     ensures some { 0 < result }
-    ensures all { result + length held.now ≡ head_length phase (slice_index (held.now ++ piece.now) 0) }
+    ensures all { result + length partial.now ≡ head_length phase (slice_index (partial.now ++ piece.now) 0) }
 {
-    match held {
+    match partial {
         [] => head_length(phase, piece[0]),
-        [first, ..] => head_length(phase, *first) - held.len(),
+        [first, ..] => head_length(phase, *first) - partial.len(),
     }
 }
 
@@ -54,26 +54,26 @@ fn missing(phase: Phase, held: &[u8], piece: &[u8]) -> usize
 fn complete(
     alloc: Global,
     phase: Phase,
-    held: &mut ArrayVec<u8, 20>,
+    partial: &mut ArrayVec<u8, 20>,
     piece: &[u8],
 ) -> Option<(Head, usize)>
-    requires short { length held.old.items < head_length phase (slice_index held.old.items 0) }
+    requires short { length partial.old.items < head_length phase (slice_index partial.old.items 0) }
     requires more { 0 < length piece.now }
-    ensures none { IfNone result ((held.new.items ≡ held.old.items ++ piece.now)
-        × (length held.new.items < head_length phase (slice_index held.new.items 0))) }
+    ensures none { IfNone result ((partial.new.items ≡ partial.old.items ++ piece.now)
+        × (length partial.new.items < head_length phase (slice_index partial.new.items 0))) }
     ensures some { IfSome result (λ found. (0 < found.1) × (found.1 ≤ length piece.now)
-        × IsHead phase held.old.items piece.now found.0 found.1) }
+        × IsHead phase partial.old.items piece.now found.0 found.1) }
 {
-    let missing = missing(phase, held, piece);
+    let missing = missing(phase, partial, piece);
     if piece.len() < missing {
-        held.try_extend_from_slice(piece).unwrap();
+        partial.try_extend_from_slice(piece).unwrap();
         return None;
     }
-    if held.is_empty() {
+    if partial.is_empty() {
         return Some((head_of(alloc, phase, &piece[..missing]), missing));
     }
-    held.try_extend_from_slice(&piece[..missing]).unwrap();
-    Some((head_of(alloc, phase, held), missing))
+    partial.try_extend_from_slice(&piece[..missing]).unwrap();
+    Some((head_of(alloc, phase, partial), missing))
 }
 
 /// Reads a request, a key or a pointer from the front of an open conversation's bytes, and says how many bytes it has: 0
@@ -121,11 +121,11 @@ impl Reading {
     /// Adds an item. The next message hasn't begun.
     fn say(&mut self, item: Item) -> Result<(), AllocError>
         ensures items { OnOk result (self.new.items.items ≡ self.old.items.items ++ item ∷ []) }
-        ensures rest { OnOk result (rest_held self.new.phase self.new.held ≡ fresh (after self.old.phase item)) }
-        ensures short { OnOk result (IsShort self.new.phase (unfinished_held self.new.held)) }
+        ensures rest { OnOk result (rest_in self.new.phase self.new.partial ≡ fresh (after self.old.phase item)) }
+        ensures short { OnOk result (IsShort self.new.phase (unfinished_in self.new.partial)) }
     {
         self.phase = phase_after(self.phase, &item);
-        self.held = Held::Plain(ArrayVec::new());
+        self.partial = Partial::Plain(ArrayVec::new());
         self.items.push(item)?;
         Ok(())
     }
@@ -134,14 +134,14 @@ impl Reading {
     fn follow(&mut self, alloc: Global, head: Head) -> Result<(), AllocError>
         requires { IsBegun head }
         ensures items { OnOk result (self.new.items.items ≡ self.old.items.items ++ (head_tells self.old.phase head).items) }
-        ensures rest { OnOk result (rest_held self.new.phase self.new.held ≡ (head_tells self.old.phase head).rest) }
-        ensures short { OnOk result (IsShort self.new.phase (unfinished_held self.new.held)) }
+        ensures rest { OnOk result (rest_in self.new.phase self.new.partial ≡ (head_tells self.old.phase head).rest) }
+        ensures short { OnOk result (IsShort self.new.phase (unfinished_in self.new.partial)) }
     {
         match head {
             Head::Item(item) => self.say(item)?,
-            Head::Fault(fault) => self.held = Held::Faulted(fault),
-            Head::Encodings(count) => self.held = Held::Encodings(Numbers::new(count)),
-            Head::Text(length) => self.held = Held::Text(Text::new(alloc, length)?),
+            Head::Fault(fault) => self.partial = Partial::Faulted(fault),
+            Head::Encodings(count) => self.partial = Partial::Encodings(Numbers::new(count)),
+            Head::Text(length) => self.partial = Partial::Text(Text::new(alloc, length)?),
         }
         Ok(())
     }
@@ -149,21 +149,21 @@ impl Reading {
     /// Takes bytes from the front of a piece, and gives what is left of it.
     fn step<'a>(&mut self, alloc: Global, piece: &'a [u8]) -> Result<&'a [u8], AllocError>
         requires more { 0 < length piece.now }
-        requires short { IsShort self.old.phase (unfinished_held self.old.held) }
-        ensures reads { IfOk result (λ left. reads self.new.items.items self.new.phase self.new.held left.now
-            ≡ reads self.old.items.items self.old.phase self.old.held piece.now) }
-        ensures short { OnOk result (IsShort self.new.phase (unfinished_held self.new.held)) }
+        requires short { IsShort self.old.phase (unfinished_in self.old.partial) }
+        ensures reads { IfOk result (λ left. reads self.new.items.items self.new.phase self.new.partial left.now
+            ≡ reads self.old.items.items self.old.phase self.old.partial piece.now) }
+        ensures short { OnOk result (IsShort self.new.phase (unfinished_in self.new.partial)) }
         ensures less { IfOk result (λ left. length left.now < length piece.now) }
     {
-        match &mut self.held {
-            Held::Plain(held) => match complete(alloc, self.phase, held, piece) {
+        match &mut self.partial {
+            Partial::Plain(partial) => match complete(alloc, self.phase, partial, piece) {
                 None => Ok(&[]),
                 Some((head, used)) => {
                     self.follow(alloc, head)?;
                     Ok(&piece[used..])
                 }
             },
-            Held::Encodings(numbers) => match numbers.take(piece) {
+            Partial::Encodings(numbers) => match numbers.take(piece) {
                 None => Ok(&[]),
                 Some(used) => {
                     if numbers.come < numbers.count {
@@ -174,7 +174,7 @@ impl Reading {
                     Ok(&piece[used..])
                 }
             },
-            Held::Text(text) => {
+            Partial::Text(text) => {
                 let used = text.missing().min(piece.len());
                 text.take(&piece[..used]);
                 if text.come < text.length {
@@ -184,20 +184,20 @@ impl Reading {
                 self.say(item)?;
                 Ok(&piece[used..])
             }
-            Held::Faulted(_) => Ok(&[]),
+            Partial::Faulted(_) => Ok(&[]),
         }
     }
 
     /// Reads the short messages at the front of a piece, where a message begins there, and gives what is left.
     fn skim<'a>(&mut self, piece: &'a [u8]) -> Result<&'a [u8], AllocError>
-        requires { IsShort self.old.phase (unfinished_held self.old.held) }
-        ensures reads { IfOk result (λ left. reads self.new.items.items self.new.phase self.new.held left.now
-            ≡ reads self.old.items.items self.old.phase self.old.held piece.now) }
-        ensures short { OnOk result (IsShort self.new.phase (unfinished_held self.new.held)) }
+        requires { IsShort self.old.phase (unfinished_in self.old.partial) }
+        ensures reads { IfOk result (λ left. reads self.new.items.items self.new.phase self.new.partial left.now
+            ≡ reads self.old.items.items self.old.phase self.old.partial piece.now) }
+        ensures short { OnOk result (IsShort self.new.phase (unfinished_in self.new.partial)) }
         ensures within { IfOk result (λ left. length left.now ≤ length piece.now) }
     {
-        match (self.phase, &self.held) {
-            (Phase::Open(_), Held::Plain(held)) if held.is_empty() => {
+        match (self.phase, &self.partial) {
+            (Phase::Open(_), Partial::Plain(partial)) if partial.is_empty() => {
                 short_messages(&mut self.items, piece)
             }
             _ => Ok(piece),
@@ -206,9 +206,9 @@ impl Reading {
 
     /// Reads a piece.
     pub fn read(&mut self, alloc: Global, piece: &[u8]) -> Result<(), AllocError>
-        requires { IsShort self.old.phase (unfinished_held self.old.held) }
-        ensures told { OnOk result (told_of self.new ≡ reads self.old.items.items self.old.phase self.old.held piece.now) }
-        ensures short { OnOk result (IsShort self.new.phase (unfinished_held self.new.held)) }
+        requires { IsShort self.old.phase (unfinished_in self.old.partial) }
+        ensures told { OnOk result (told_of self.new ≡ reads self.old.items.items self.old.phase self.old.partial piece.now) }
+        ensures short { OnOk result (IsShort self.new.phase (unfinished_in self.new.partial)) }
     {
         let mut left = self.skim(piece)?;
         while !left.is_empty() {
@@ -220,14 +220,19 @@ impl Reading {
 }
 
 /// What a piece tells behind what is kept, which stays.
-pub fn hear(alloc: Global, phase: Phase, held: &Held, piece: &[u8]) -> Result<Reading, AllocError>
-    requires { IsShort phase (unfinished_held held.now) }
-    ensures told { IfOk result (λ reading. told_of reading ≡ tells (rest_held phase held.now) piece.now) }
-    ensures short { IfOk result (λ reading. IsShort reading.phase (unfinished_held reading.held)) }
+pub fn hear(
+    alloc: Global,
+    phase: Phase,
+    partial: &Partial,
+    piece: &[u8],
+) -> Result<Reading, AllocError>
+    requires { IsShort phase (unfinished_in partial.now) }
+    ensures told { IfOk result (λ reading. told_of reading ≡ tells (rest_in phase partial.now) piece.now) }
+    ensures short { IfOk result (λ reading. IsShort reading.phase (unfinished_in reading.partial)) }
 {
     let mut reading = Reading {
         phase,
-        held: held.try_clone(alloc)?,
+        partial: partial.try_clone(alloc)?,
         items: Vec::new(alloc),
     };
     reading.read(alloc, piece)?;

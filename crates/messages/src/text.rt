@@ -18,17 +18,17 @@ pub struct Text {
     /// How many have come.
     pub come: u32,
     /// The first of them.
-    pub kept: Vec<u8>,
+    pub bytes: Vec<u8>,
     // While bytes are to come, there is room for those that will be kept.
-    ghost room: { come < length → min length text_limit ≤ vec_capacity kept },
-    ghost within: { vec_len kept ≤ come },
+    ghost room: { come < length → min length text_limit ≤ vec_capacity bytes },
+    ghost within: { vec_len bytes ≤ come },
 }
 
 impl Text {
     ghost use Rattle.messages.specs.declared.Item.TheVariants as item;
     ghost use Rattle.messages.specs.declared.Input.TheVariants as input;
     ghost use Rattle.messages.specs.Reading.{cut_text};
-    ghost use Rattle.messages.specs.Kept.{unfinished_text};
+    ghost use Rattle.messages.specs.Partial.{unfinished_text};
 
     /// A text of so many bytes, of which none has come. Takes memory for what is kept of it.
     pub fn new(alloc: Global, length: u32) -> Result<Text, AllocError>
@@ -38,7 +38,7 @@ impl Text {
         Ok(Text {
             length,
             come: 0,
-            kept: Vec::with_capacity(alloc, room)?,
+            bytes: Vec::with_capacity(alloc, room)?,
         })
     }
 
@@ -46,12 +46,12 @@ impl Text {
     pub fn take(&mut self, bytes: &[u8])
         requires more { self.old.come < self.old.length }
         requires fits { self.old.come + length bytes.now ≤ self.old.length }
-        requires kept { length self.old.kept.items ≤ text_limit }
+        requires kept { length self.old.bytes.items ≤ text_limit }
         ensures { unfinished_text self.new
-            ≡ cut_text self.old.length (take text_limit (self.old.kept.items ++ bytes.now)) (self.old.come + length bytes.now) }
+            ≡ cut_text self.old.length (take text_limit (self.old.bytes.items ++ bytes.now)) (self.old.come + length bytes.now) }
     {
-        let room = TEXT_LIMIT - self.kept.len();
-        self.kept
+        let room = TEXT_LIMIT - self.bytes.len();
+        self.bytes
             .extend_from_slice(&bytes[..room.min(bytes.len())])
             .unwrap();
         self.come += bytes.len() as u32;
@@ -68,11 +68,11 @@ impl Text {
     /// What the text says, whose bytes are taken out of it.
     pub fn finish(&mut self, alloc: Global) -> Item
         requires { self.old.length ≤ self.old.come }
-        ensures { result ≡ item.Input (input.Text self.old.kept.items (nat_lt text_limit self.old.length)) }
+        ensures { result ≡ item.Input (input.Text self.old.bytes.items (nat_lt text_limit self.old.length)) }
     {
-        let kept = mem::replace(&mut self.kept, Vec::new(alloc));
+        let bytes = mem::replace(&mut self.bytes, Vec::new(alloc));
         Item::Input(Input::Text {
-            text: Listed::from_vec(kept),
+            text: Listed::from_vec(bytes),
             shortened: self.length as usize > TEXT_LIMIT,
         })
     }
@@ -83,7 +83,7 @@ impl Text {
     {
         let mut text = Text::new(alloc, self.length)?;
         text.come = self.come;
-        text.kept.extend_from_slice(&self.kept)?;
+        text.bytes.extend_from_slice(&self.bytes)?;
         Ok(text)
     }
 }

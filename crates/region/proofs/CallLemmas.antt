@@ -7,13 +7,13 @@ use Rattle.std.proofs.lemmas.Int.{ints}
 use Rattle.std.proofs.lemmas.List.{length-append, length-map}
 use Rattle.region.specs.declared.Rect.{Rect}
 use Rattle.region.specs.Region.{in_rect, covers}
-use Rattle.region.specs.Held.{SharePlace, IsBox}
+use Rattle.region.specs.RegionView.{SharePlace, IsBox}
 use Rattle.band_queries.specs.declared.Rectangle.{Rectangle}
 use Rattle.band_queries.specs.Queries.{intervals_in_all, in_rectangle, IsBounds, SharePlace as BandsShare}
 use Rattle.band_list.specs.declared.Interval.{Interval}
 use Rattle.band_list.specs.Bands.{Band, Bands, rows_of, nothing}
 use Rattle.row_walks.specs.declared.Keep.{Keep}
-use Rattle.row_walks.specs.Rows.{kept}
+use Rattle.row_walks.specs.Rows.{keeps_place}
 use Rattle.band_walks.specs.Sets.{has, AreBands, IsKept}
 use Rattle.region.specs.Rects.{rect_of, rect_in, rects_of_band, rects_in, band_of, AreRectBands}
 use Rattle.region.proofs.BandRectLemmas.{covers_has}
@@ -122,8 +122,8 @@ boxed_some bands found result list e some is = subst (λ o. IfSome o (λ r. IsBo
 
 -- ---- what is kept of bands is what is kept of their rectangles
 
-pub kept_covers : (keep : Keep) (a b c : List Band) (old other new : List Rect) → IsKept keep a b c → old ≡ rects_in a → other ≡ rects_in b → new ≡ rects_in c → (x y : ℤ) → covers new x y ≡ kept keep (covers old x y) (covers other x y)
+pub kept_covers : (keep : Keep) (a b c : List Band) (old other new : List Rect) → IsKept keep a b c → old ≡ rects_in a → other ≡ rects_in b → new ≡ rects_in c → (x y : ℤ) → covers new x y ≡ keeps_place keep (covers old x y) (covers other x y)
 kept_covers keep a b c old other new h e f g x y =
     ap (λ r. covers r x y) g ∙ covers_has c x y ∙ h.has x y
-    ∙ ap (λ p. kept keep p (has b x y)) (sym (covers_has a x y) ∙ ap (λ r. covers r x y) (sym e))
-    ∙ ap (λ p. kept keep (covers old x y) p) (sym (covers_has b x y) ∙ ap (λ r. covers r x y) (sym f))
+    ∙ ap (λ p. keeps_place keep p (has b x y)) (sym (covers_has a x y) ∙ ap (λ r. covers r x y) (sym e))
+    ∙ ap (λ p. keeps_place keep (covers old x y) p) (sym (covers_has b x y) ∙ ap (λ r. covers r x y) (sym f))

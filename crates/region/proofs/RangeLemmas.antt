@@ -6,7 +6,7 @@ use Rattle.std.specs.Option.{option_map}
 use Rattle.std.specs.List.{AllByRecursion}
 use Rattle.std.proofs.lemmas.List.Folds.{list_any-append}
 use Rattle.std.proofs.lemmas.Option.{same_Some}
-use Rattle.region.specs.Held.{coordinate, in_range, moved, leaves_range}
+use Rattle.region.specs.RegionView.{coordinate, in_range, moved_rect, leaves_range}
 use Rattle.band_list.specs.declared.Interval.{Interval}
 use Rattle.band_list.specs.declared.Rows.{Rows}
 use Rattle.band_list.specs.Bands.{Band, Reading, reading, rows_of, first_row}
@@ -28,7 +28,7 @@ pub record BandsStay (dx dy : ℤ) (start now : Reading) : Type 0 where
 abbrev pub both_stay : ℤ → ℤ → ℤ → Bool
 both_stay from to by = coordinate (from +ℤ by) && coordinate (to +ℤ by)
 
-pub in_sides : (dx dy : ℤ) (rows : Rows) (i : Interval) → in_range (moved dx dy (rect_of rows i)) ≡ (both_stay rows.top rows.bottom dy && both_stay i.from i.to dx)
+pub in_sides : (dx dy : ℤ) (rows : Rows) (i : Interval) → in_range (moved_rect dx dy (rect_of rows i)) ≡ (both_stay rows.top rows.bottom dy && both_stay i.from i.to dx)
 in_sides dx dy rows i = go (coordinate (i.from +ℤ dx)) (coordinate (rows.top +ℤ dy)) (coordinate (i.to +ℤ dx)) (coordinate (rows.bottom +ℤ dy))
   where
     go : (a b c d : Bool) → ((a && b) && (c && d)) ≡ ((b && d) && (a && c))
@@ -44,7 +44,7 @@ in_sides dx dy rows i = go (coordinate (i.from +ℤ dx)) (coordinate (rows.top +
     go false false c d = refl
 
 pub row_more : (dx dy : ℤ) (rows : Rows) (start now after : Reading) → RowStays dx dy rows start now → (i : Interval) (found : Option Interval) → found ≡ slice_get now.left 0 → found ≡ Some i
-    → not (in_range (moved dx dy (rect_of rows i))) ≡ false → ((f : Interval) (rest : List Interval) → now.left ≡ f ∷ rest → after ≡ record now { left = rest })
+    → not (in_range (moved_rect dx dy (rect_of rows i))) ≡ false → ((f : Interval) (rest : List Interval) → now.left ≡ f ∷ rest → after ≡ record now { left = rest })
     → RowStays dx dy rows start after × (length after.left < length now.left)
 row_more dx dy rows start now after h i found e some stays skip = (
   record {
@@ -61,7 +61,7 @@ row_more dx dy rows start now after h i found e some stays skip = (
     past = skip i there.0 there.1
 
 pub row_leaves : (dx dy : ℤ) (rows : Rows) (start now : Reading) → RowStays dx dy rows start now → (i : Interval) (found : Option Interval) → found ≡ slice_get now.left 0 → found ≡ Some i
-    → not (in_range (moved dx dy (rect_of rows i))) ≡ true → true ≡ leaves_range dx dy (map (rect_of rows) start.left)
+    → not (in_range (moved_rect dx dy (rect_of rows i))) ≡ true → true ≡ leaves_range dx dy (map (rect_of rows) start.left)
 row_leaves dx dy rows start now h i found e some leaves =
     let there = first_there now.left i (sym e ∙ some) in
     sym (h.stays ∙ ap (λ l. leaves_range dx dy (map (rect_of rows) l)) there.1 ∙ ap (λ b. b || leaves_range dx dy (map (rect_of rows) there.0)) leaves)
@@ -79,7 +79,7 @@ bands_on dx dy start now passed after h rows found e some stays read advance = g
     go (b ∷ rest) is = (
       record {
         begun = past ∙ ap reading (sym (ap (λ r. r.bands) past));
-        stays = h.stays ∙ ap (λ l. leaves_range dx dy (rects_in l)) is ∙ list_any-append (λ r. not (in_range (moved dx dy r))) (rects_of_band b) (rects_in rest)
+        stays = h.stays ∙ ap (λ l. leaves_range dx dy (rects_in l)) is ∙ list_any-append (λ r. not (in_range (moved_rect dx dy r))) (rects_of_band b) (rects_in rest)
             ∙ ap (λ t. t || leaves_range dx dy (rects_in rest)) (sym (stays ∙ ap (leaves_range dx dy) row)) ∙ ap (λ r. leaves_range dx dy (rects_in r.bands)) (sym past);
       },
       subst (λ r. length r.bands < length now.bands) (sym past) (subst (λ l. length rest < length l) (sym is) (omega arith)),
@@ -116,9 +116,9 @@ record Stays (dx dy : ℤ) (rows : Rows) (i : Interval) : Type 0 where
   moves : AreMovableRows dy rows
   ends : IsMovableInterval dx i
 
-one_stays : (dx dy : ℤ) (rows : Rows) (i : Interval) → not (in_range (moved dx dy (rect_of rows i))) ≡ false → Stays dx dy rows i
+one_stays : (dx dy : ℤ) (rows : Rows) (i : Interval) → not (in_range (moved_rect dx dy (rect_of rows i))) ≡ false → Stays dx dy rows i
 one_stays dx dy rows i e =
-    let all = both_of (both_stay rows.top rows.bottom dy) (both_stay i.from i.to dx) (sym (in_sides dx dy rows i) ∙ so_true (in_range (moved dx dy (rect_of rows i))) e) in
+    let all = both_of (both_stay rows.top rows.bottom dy) (both_stay i.from i.to dx) (sym (in_sides dx dy rows i) ∙ so_true (in_range (moved_rect dx dy (rect_of rows i))) e) in
     let high = both_of (coordinate (rows.top +ℤ dy)) (coordinate (rows.bottom +ℤ dy)) all.0 in
     let wide = both_of (coordinate (i.from +ℤ dx)) (coordinate (i.to +ℤ dx)) all.1 in
     record {
@@ -129,12 +129,12 @@ one_stays dx dy rows i e =
 row_movable : (dx dy : ℤ) (rows : Rows) (row : List Interval) → leaves_range dx dy (map (rect_of rows) row) ≡ false → AllByRecursion (IsMovableInterval dx) row
 row_movable dx dy rows [] e = tt
 row_movable dx dy rows (i ∷ row) e =
-    let parts = none_of (not (in_range (moved dx dy (rect_of rows i)))) (leaves_range dx dy (map (rect_of rows) row)) e in
+    let parts = none_of (not (in_range (moved_rect dx dy (rect_of rows i)))) (leaves_range dx dy (map (rect_of rows) row)) e in
     ((one_stays dx dy rows i parts.0).ends, row_movable dx dy rows row parts.1)
 
 rows_movable : (dx dy : ℤ) (rows : Rows) (row : List Interval) → row ≢ [] → leaves_range dx dy (map (rect_of rows) row) ≡ false → AreMovableRows dy rows
 rows_movable dx dy rows [] some e = absurd (some refl)
-rows_movable dx dy rows (i ∷ row) some e = (one_stays dx dy rows i (none_of (not (in_range (moved dx dy (rect_of rows i)))) (leaves_range dx dy (map (rect_of rows) row)) e).0).moves
+rows_movable dx dy rows (i ∷ row) some e = (one_stays dx dy rows i (none_of (not (in_range (moved_rect dx dy (rect_of rows i)))) (leaves_range dx dy (map (rect_of rows) row)) e).0).moves
 
 band_movable : (dx dy : ℤ) (b : Band) → IsBand b → leaves_range dx dy (rects_of_band b) ≡ false → IsMovable dx dy b
 band_movable dx dy b h e = record { rows = rows_movable dx dy (rows_of b) b.row h.columns e; row = row_movable dx dy (rows_of b) b.row e }
@@ -142,8 +142,8 @@ band_movable dx dy b h e = record { rows = rows_movable dx dy (rows_of b) b.row 
 pub bands_movable : (dx dy : ℤ) (bands : List Band) → AreBands bands → leaves_range dx dy (rects_in bands) ≡ false → AllByRecursion (IsMovable dx dy) bands
 bands_movable dx dy [] h e = tt
 bands_movable dx dy (b ∷ []) h e =
-    let parts = none_of (leaves_range dx dy (rects_of_band b)) (leaves_range dx dy (rects_in [])) (sym (list_any-append (λ r. not (in_range (moved dx dy r))) (rects_of_band b) (rects_in [])) ∙ e) in
+    let parts = none_of (leaves_range dx dy (rects_of_band b)) (leaves_range dx dy (rects_in [])) (sym (list_any-append (λ r. not (in_range (moved_rect dx dy r))) (rects_of_band b) (rects_in [])) ∙ e) in
     (band_movable dx dy b h parts.0, tt)
 bands_movable dx dy (b ∷ c ∷ rest) h e =
-    let parts = none_of (leaves_range dx dy (rects_of_band b)) (leaves_range dx dy (rects_in (c ∷ rest))) (sym (list_any-append (λ r. not (in_range (moved dx dy r))) (rects_of_band b) (rects_in (c ∷ rest))) ∙ e) in
+    let parts = none_of (leaves_range dx dy (rects_of_band b)) (leaves_range dx dy (rects_in (c ∷ rest))) (sym (list_any-append (λ r. not (in_range (moved_rect dx dy r))) (rects_of_band b) (rects_in (c ∷ rest))) ∙ e) in
     (band_movable dx dy b h.0 parts.0, bands_movable dx dy (c ∷ rest) h.2 parts.1)

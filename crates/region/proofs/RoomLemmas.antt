@@ -5,7 +5,7 @@ use Rattle.std.proofs.Math.Dec.{leb}
 use Rattle.std.proofs.lemmas.Bool.{le-leb, leb-true}
 use Rattle.region.specs.declared.Rect.{Rect}
 use Rattle.region.specs.Region.{covers}
-use Rattle.region.specs.Held.{Held}
+use Rattle.region.specs.RegionView.{RegionView}
 use Rattle.band_list.specs.Bands.{Band, nodes_in}
 use Rattle.row_walks.specs.declared.Keep.TheVariants.{Either}
 use Rattle.band_walks.specs.Sets.{AreBands, has, IsKept}
@@ -27,14 +27,14 @@ kept_both : (a b bands : List Band) (v w : List Rect) → rects_in a ≡ v → r
 kept_both a b bands v w e f h = record { are_bands = h.are_bands; has = λ x y. h.has x y ∙ sym (either a b v w e f x y) }
 
 -- the bands that are kept are the bands of both
-pub has_room : (a b : List Band) (v w : Held) → rects_in a ≡ v.list → rects_in b ≡ w.list → ((bands : List Band) → IsKept Either a b bands → 2 * nodes_in bands ≤ v.room) → IsRoomFor v w
+pub has_room : (a b : List Band) (v w : RegionView) → rects_in a ≡ v.list → rects_in b ≡ w.list → ((bands : List Band) → IsKept Either a b bands → 2 * nodes_in bands ≤ v.room) → IsRoomFor v w
 has_room a b v w e f few = λ bands both. few bands (both_kept a b bands v.list w.list e f both)
 
-pub kept_fit : (a b : List Band) (v w : Held) (spare : ℕ) → rects_in a ≡ v.list → rects_in b ≡ w.list → IsRoomFor v w → v.room ≤ spare → (bands : List Band) → IsKept Either a b bands → nodes_in bands + nodes_in bands ≤ spare
+pub kept_fit : (a b : List Band) (v w : RegionView) (spare : ℕ) → rects_in a ≡ v.list → rects_in b ≡ w.list → IsRoomFor v w → v.room ≤ spare → (bands : List Band) → IsKept Either a b bands → nodes_in bands + nodes_in bands ≤ spare
 kept_fit a b v w spare e f h within bands kept = let few : 2 * nodes_in bands ≤ v.room = h bands (kept_both a b bands v.list w.list e f kept) in omega (arith, few, within)
 
 -- by how many nodes they take, since there are such bands
-pub whether_room : (a b : List Band) (v w : Held) (nodes : ℕ) → AreBands a → AreBands b → rects_in a ≡ v.list → rects_in b ≡ w.list → ((bands : List Band) → IsKept Either a b bands → nodes ≡ nodes_in bands) → IsTrue (leb nodes (v.room / 2)) ↔ IsRoomFor v w
+pub whether_room : (a b : List Band) (v w : RegionView) (nodes : ℕ) → AreBands a → AreBands b → rects_in a ≡ v.list → rects_in b ≡ w.list → ((bands : List Band) → IsKept Either a b bands → nodes ≡ nodes_in bands) → IsTrue (leb nodes (v.room / 2)) ↔ IsRoomFor v w
 whether_room a b v w nodes ha hb e f count = (
   λ yes. let low : nodes ≤ v.room / 2 = leb-true nodes (v.room / 2) yes in has_room a b v w e f (λ bands kept. let is = count bands kept in omega (arith, is, low)),
   λ room. let made = whole_bands Either a b ha hb in

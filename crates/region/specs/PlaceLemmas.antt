@@ -8,8 +8,8 @@ use Rattle.std.proofs.lemmas.Nat.{div-mul-add, mod-mul-add, mul-add-lt}
 use Rattle.std.proofs.lemmas.List.FromFn.{fill_by_all, get_or-map-range_with_len, length-map-range_with_len}
 use Rattle.region.specs.declared.Rect.{Rect}
 use Rattle.region.specs.Region.{on_screen}
-use Rattle.region.specs.Held.{in_range}
-use Rattle.region.specs.Places.{by_place, at_place, IsOnScreen}
+use Rattle.region.specs.RegionView.{in_range}
+use Rattle.region.specs.Places.{by_place, at_place, IsOnScreen, longest_side}
 
 -- the places of a screen
 pub record IsPlace (w h : ℕ) (x y : ℤ) : Type 0 where
@@ -85,7 +85,7 @@ value_at d w h f off x y = go (on_screen w h x y) refl
     go false is_off = ap (λ b. cond b (get_or (by_place w h f) (nat_abs y * w + nat_abs x) d) d) is_off ∙ sym (off x y is_off)
 
 -- a rectangle of the largest screen has coordinates that regions can have
-rect-in_range : (r : Rect) → IsOnScreen 8192 8192 r → in_range r ≡ true
+rect-in_range : (r : Rect) → IsOnScreen longest_side longest_side r → in_range r ≡ true
 rect-in_range r on =
     let left = on.left in
     let columns = on.columns in
@@ -95,7 +95,7 @@ rect-in_range r on =
     let bottom = on.bottom in
     grind (arith, ints)
 
-pub all-in_range : (rects : List Rect) → All (IsOnScreen 8192 8192) rects → list_any (λ r. not (in_range r)) rects ≡ false
+pub all-in_range : (rects : List Rect) → All (IsOnScreen longest_side longest_side) rects → list_any (λ r. not (in_range r)) rects ≡ false
 all-in_range [] all = refl
 all-in_range (r ∷ rects) all =
     ap (λ b. not b || list_any (λ r. not (in_range r)) rects) (rect-in_range r (all 0 r (omega arith)))

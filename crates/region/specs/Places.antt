@@ -5,6 +5,10 @@ use Rattle.std.specs.Ordering.{int_eq}
 use Rattle.region.specs.declared.Rect.{Rect}
 use Rattle.region.specs.Region.{on_screen}
 
+-- the longest side of a screen: at most so many columns, and so many rows
+abbrev pub longest_side : ℕ
+longest_side = 8192
+
 -- the value of each place of a w by h screen
 abbrev pub by_place : {X : Type 0} → ℕ → ℕ → (ℤ → ℤ → X) → List X
 by_place w h value = map (λ i. value (pos (i % w)) (pos (i / w))) (range_with_len 0 (w * h))

@@ -38,7 +38,7 @@ pub record AreRectBands (r : Rect) (b : Bands) : Type 0 where
   pub places : (x y : ℤ) → has (b.above ++ b.below) x y ≡ in_rect r x y
 
 -- maximal bands, no row in the making, and room that is there
-pub record IsHeld (b : Bands) (room : ℕ) : Type 0 where
+pub record AreBandsWithRoom (b : Bands) (room : ℕ) : Type 0 where
   pub bands : AreBands (b.above ++ b.below)
   pub no_row : b.row ≡ []
   pub there : room ≤ b.spare

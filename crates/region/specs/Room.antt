@@ -2,7 +2,7 @@
 use Rattle.std.specs.Prelude.{◌≡◌, ◌*◌, ◌≤◌, ◌||◌, ℤ, List}
 use Rattle.region.specs.declared.Rect.{Rect}
 use Rattle.region.specs.Region.{covers}
-use Rattle.region.specs.Held.{Held}
+use Rattle.region.specs.RegionView.{RegionView}
 use Rattle.band_list.specs.Bands.{Band, nodes_in}
 use Rattle.band_walks.specs.Sets.{AreBands, has}
 
@@ -13,5 +13,5 @@ pub record AreBandsOfBoth (a b : List Rect) (bands : List Band) : Type 0 where
 
 -- the room of the first is enough for the bands of the places of both, twice over: a band takes two nodes, and one more for
 -- each of its intervals
-abbrev pub IsRoomFor : Held → Held → Type 0
+abbrev pub IsRoomFor : RegionView → RegionView → Type 0
 IsRoomFor a b = (bands : List Band) → AreBandsOfBoth a.list b.list bands → 2 * nodes_in bands ≤ a.room

@@ -2,7 +2,7 @@
 
 ghost use Rattle.std.specs.Prelude.{◌≡◌, ℤ, ◌+ℤ◌, ◌&&◌, not, map};
 ghost use Rattle.std.specs.List.{list_any};
-ghost use Rattle.region.specs.Held.{coordinate, in_range, moved, leaves_range};
+ghost use Rattle.region.specs.RegionView.{coordinate, in_range, moved_rect, leaves_range};
 ghost use Rattle.band_list.specs.Bands.{first_row};
 ghost use Rattle.region.specs.Rects.{rect_of, rects_in};
 
@@ -67,7 +67,7 @@ fn sides_stay(rows: Rows, columns: Interval, by: Offset) -> bool
 }
 
 fn leaves_range(rows: Rows, columns: Interval, by: Offset) -> bool
-    ensures { result ≡ not (in_range (moved by.dx by.dy (rect_of rows columns))) }
+    ensures { result ≡ not (in_range (moved_rect by.dx by.dy (rect_of rows columns))) }
 {
     !sides_stay(rows, columns, by)
 }

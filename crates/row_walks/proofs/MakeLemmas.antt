@@ -9,7 +9,7 @@ use Rattle.band_list.specs.declared.Interval.{Interval}
 use Rattle.band_list.specs.Bands.{Bands, Reading}
 use Rattle.row_walks.specs.declared.Keep.{Keep}
 use Rattle.row_walks.specs.declared.steps.Step.{Step}
-use Rattle.row_walks.specs.Rows.{IsRow, kept, IsKept}
+use Rattle.row_walks.specs.Rows.{IsRow, keeps_place, IsKept}
 use Rattle.row_walks.specs.Steps.{next_step, start_of, later, closed}
 use Rattle.row_walks.specs.StepLemmas.{ends_left, starts, no_step}
 use Rattle.row_walks.specs.WalkLemmas.{span, length-closed, RowState, row_begins, step_at, stepped_on, stepped_turn, state_done, Whole, whole, only_kept, by_same}
@@ -70,7 +70,7 @@ module _ (k : Keep) (old now : Bands) (other left : Reading) (on : Bool) (from x
       let E : ℤ → Type 0 = λ u. Made k old w' other p' on' from' u in
       subst E (sym e) (subst D (sym d) (subst C (sym c) (subst B (sym b) (subst A (sym a) m))))
 
-  pub made_on : (s : Step) (v w : Bands) (p : Reading) (on' : Bool) (from' x' : ℤ) → next_step x (slice_get now.left 0) (slice_get left.left 0) ≡ Some s → kept k s.in_first s.in_second ≡ on
+  pub made_on : (s : Step) (v w : Bands) (p : Reading) (on' : Bool) (from' x' : ℤ) → next_step x (slice_get now.left 0) (slice_get left.left 0) ≡ Some s → keeps_place k s.in_first s.in_second ≡ on
       → v ≡ now → w ≡ record v { left = later s.edge v.left } → p ≡ record left { left = later s.edge left.left } → on' ≡ on → from' ≡ from → x' ≡ s.edge → Made k old w other p on' from' x'
   made_on s v w p on' from' x' is same v_is w_is p_is on_is from_is x_is =
       made_at (record now { left = later s.edge now.left }) w (record left { left = later s.edge left.left }) p on on' from from' s.edge x'
@@ -81,11 +81,11 @@ module _ (k : Keep) (old now : Bands) (other left : Reading) (on : Bool) (from x
         read = ap (λ (u : Reading). record u { left = later s.edge left.left }) made.read;
       })
 
-  pub made_turn : (s : Step) (c v w : Bands) (p : Reading) (on' : Bool) (from' x' : ℤ) → next_step x (slice_get now.left 0) (slice_get left.left 0) ≡ Some s → kept k s.in_first s.in_second ≢ on
+  pub made_turn : (s : Step) (c v w : Bands) (p : Reading) (on' : Bool) (from' x' : ℤ) → next_step x (slice_get now.left 0) (slice_get left.left 0) ≡ Some s → keeps_place k s.in_first s.in_second ≢ on
       → now.spare ≤ c.spare + cond on 1 0 → c ≡ record now { row = closed on (span from x) now.row; spare = c.spare }
-      → v ≡ c → w ≡ record v { left = later s.edge v.left } → p ≡ record left { left = later s.edge left.left } → on' ≡ kept k s.in_first s.in_second → from' ≡ x → x' ≡ s.edge → Made k old w other p on' from' x'
+      → v ≡ c → w ≡ record v { left = later s.edge v.left } → p ≡ record left { left = later s.edge left.left } → on' ≡ keeps_place k s.in_first s.in_second → from' ≡ x → x' ≡ s.edge → Made k old w other p on' from' x'
   made_turn s c v w p on' from' x' is differs c_spare c_is v_is w_is p_is on_is from_is x_is =
-      made_at (record now { row = closed on (span from x) now.row; left = later s.edge now.left; spare = c.spare }) w (record left { left = later s.edge left.left }) p (kept k s.in_first s.in_second) on' x from' s.edge x'
+      made_at (record now { row = closed on (span from x) now.row; left = later s.edge now.left; spare = c.spare }) w (record left { left = later s.edge left.left }) p (keeps_place k s.in_first s.in_second) on' x from' s.edge x'
       (w_is ∙ ap (λ (u : Bands). record u { left = later s.edge u.left }) (v_is ∙ c_is)) p_is on_is from_is x_is (record {
         state = stepped_turn k old.left other.left now.row on from x now.left left.left made.state s (step_at k old.left other.left now.row on from x now.left left.left made.state s is) differs;
         spare = omega (arith, made.spare, c_spare, length-closed on (span from x) now.row);
@@ -176,20 +176,20 @@ module _ (k : Keep) (a b left right : Reading) (on : Bool) (x : ℤ) (count : �
   counted_after s is = (step_at k a.left b.left counted.row on counted.from x left.left right.left counted.state s is).edge_a.after
 
   pub counted_more : (s : Step) (p q : Reading) (on' : Bool) (x' : ℤ) (n' : ℕ) → next_step x (slice_get left.left 0) (slice_get right.left 0) ≡ Some s
-      → n' ≡ count + cond (on && not (kept k s.in_first s.in_second)) 1 0 → p ≡ record left { left = later s.edge left.left } → q ≡ record right { left = later s.edge right.left }
-      → on' ≡ kept k s.in_first s.in_second → x' ≡ s.edge → Counted k a b p q on' x' n'
+      → n' ≡ count + cond (on && not (keeps_place k s.in_first s.in_second)) 1 0 → p ≡ record left { left = later s.edge left.left } → q ≡ record right { left = later s.edge right.left }
+      → on' ≡ keeps_place k s.in_first s.in_second → x' ≡ s.edge → Counted k a b p q on' x' n'
   counted_more s p q on' x' n' is n_is p_is q_is on_is x_is =
       let step = step_at k a.left b.left counted.row on counted.from x left.left right.left counted.state s is in
-      counted_at (record left { left = later s.edge left.left }) p (record right { left = later s.edge right.left }) q (kept k s.in_first s.in_second) on' s.edge x' n' n' p_is q_is on_is x_is refl
-      (by_same k a.left b.left (kept k s.in_first s.in_second) on
+      counted_at (record left { left = later s.edge left.left }) p (record right { left = later s.edge right.left }) q (keeps_place k s.in_first s.in_second) on' s.edge x' n' n' p_is q_is on_is x_is refl
+      (by_same k a.left b.left (keeps_place k s.in_first s.in_second) on
       (λ same. record {
         row = counted.row;
         from = counted.from;
         state = subst (λ t. RowState k a.left b.left counted.row t counted.from s.edge (later s.edge left.left) (later s.edge right.left)) (sym same)
             (stepped_on k a.left b.left counted.row on counted.from x left.left right.left counted.state s step same);
-        is = omega (arith, n_is, counted.is, none (kept k s.in_first s.in_second) on same);
-        few = let after : x <ℤ s.edge = step.edge_a.after in omega (arith, ints, n_is, counted.few, none (kept k s.in_first s.in_second) on same);
-        fewer = stay_few (kept k s.in_first s.in_second) on counted.from x s.edge count n' same step.edge_a.after (omega (arith, n_is, none (kept k s.in_first s.in_second) on same)) counted.fewer;
+        is = omega (arith, n_is, counted.is, none (keeps_place k s.in_first s.in_second) on same);
+        few = let after : x <ℤ s.edge = step.edge_a.after in omega (arith, ints, n_is, counted.few, none (keeps_place k s.in_first s.in_second) on same);
+        fewer = stay_few (keeps_place k s.in_first s.in_second) on counted.from x s.edge count n' same step.edge_a.after (omega (arith, n_is, none (keeps_place k s.in_first s.in_second) on same)) counted.fewer;
         left_is = ap (λ (u : Reading). record u { left = later s.edge left.left }) counted.left_is;
         right_is = ap (λ (u : Reading). record u { left = later s.edge right.left }) counted.right_is;
       })
@@ -197,9 +197,9 @@ module _ (k : Keep) (a b left right : Reading) (on : Bool) (x : ℤ) (count : �
         row = closed on (span counted.from x) counted.row;
         from = x;
         state = stepped_turn k a.left b.left counted.row on counted.from x left.left right.left counted.state s step other;
-        is = omega (arith, n_is, counted.is, some (kept k s.in_first s.in_second) on other, length-closed on (span counted.from x) counted.row);
-        few = let after : x <ℤ s.edge = step.edge_a.after in omega (arith, ints, n_is, counted.few, some (kept k s.in_first s.in_second) on other, most on);
-        fewer = turn_few (kept k s.in_first s.in_second) on counted.from x s.edge count n' other step.edge_a.after (λ is_on. (counted.state.ends_on is_on).0) (omega (arith, n_is, some (kept k s.in_first s.in_second) on other)) counted.fewer;
+        is = omega (arith, n_is, counted.is, some (keeps_place k s.in_first s.in_second) on other, length-closed on (span counted.from x) counted.row);
+        few = let after : x <ℤ s.edge = step.edge_a.after in omega (arith, ints, n_is, counted.few, some (keeps_place k s.in_first s.in_second) on other, most on);
+        fewer = turn_few (keeps_place k s.in_first s.in_second) on counted.from x s.edge count n' other step.edge_a.after (λ is_on. (counted.state.ends_on is_on).0) (omega (arith, n_is, some (keeps_place k s.in_first s.in_second) on other)) counted.fewer;
         left_is = ap (λ (u : Reading). record u { left = later s.edge left.left }) counted.left_is;
         right_is = ap (λ (u : Reading). record u { left = later s.edge right.left }) counted.right_is;
       }))

@@ -5,7 +5,7 @@ use Rattle.band_list.specs.declared.Interval.{Interval}
 use Rattle.band_list.specs.Bands.{Bands, Reading}
 use Rattle.row_walks.specs.declared.Keep.{Keep}
 use Rattle.row_walks.specs.declared.steps.Step.{Step}
-use Rattle.row_walks.specs.Rows.{IsRow, kept, IsKept}
+use Rattle.row_walks.specs.Rows.{IsRow, keeps_place, IsKept}
 use Rattle.row_walks.specs.Steps.{next_step, start_of, later, closed}
 use Rattle.row_walks.specs.StepLemmas.{starts, no_step}
 use Rattle.row_walks.specs.WalkLemmas.{span, RowState, row_begins, step_at, stepped_on, stepped_turn, state_done}
@@ -42,7 +42,7 @@ module _ (k : Keep) (old now : Bands) (a left b right : Reading) (on : Bool) (fr
   pub merge_after : (s : Step) → next_step x (slice_get left.left 0) (slice_get right.left 0) ≡ Some s → x <ℤ s.edge
   merge_after s is = (step_at k a.left b.left now.row on from x left.left right.left merged.state s is).edge_a.after
 
-  pub merge_on : (s : Step) (w : Bands) (p q : Reading) (on' : Bool) (from' x' : ℤ) → next_step x (slice_get left.left 0) (slice_get right.left 0) ≡ Some s → kept k s.in_first s.in_second ≡ on
+  pub merge_on : (s : Step) (w : Bands) (p q : Reading) (on' : Bool) (from' x' : ℤ) → next_step x (slice_get left.left 0) (slice_get right.left 0) ≡ Some s → keeps_place k s.in_first s.in_second ≡ on
       → w ≡ now → p ≡ record left { left = later s.edge left.left } → q ≡ record right { left = later s.edge right.left } → on' ≡ on → from' ≡ from → x' ≡ s.edge → Merged k old w a p b q on' from' x'
   merge_on s w p q on' from' x' is same w_is p_is q_is on_is from_is x_is =
       merged_at now w (record left { left = later s.edge left.left }) p (record right { left = later s.edge right.left }) q on on' from from' s.edge x' w_is p_is q_is on_is from_is x_is (record {
@@ -52,11 +52,11 @@ module _ (k : Keep) (old now : Bands) (a left b right : Reading) (on : Bool) (fr
         right_is = ap (λ (u : Reading). record u { left = later s.edge right.left }) merged.right_is;
       })
 
-  pub merge_turn : (s : Step) (c w : Bands) (p q : Reading) (on' : Bool) (from' x' : ℤ) → next_step x (slice_get left.left 0) (slice_get right.left 0) ≡ Some s → kept k s.in_first s.in_second ≢ on
+  pub merge_turn : (s : Step) (c w : Bands) (p q : Reading) (on' : Bool) (from' x' : ℤ) → next_step x (slice_get left.left 0) (slice_get right.left 0) ≡ Some s → keeps_place k s.in_first s.in_second ≢ on
       → c ≡ record now { row = closed on (span from x) now.row; spare = c.spare }
-      → w ≡ c → p ≡ record left { left = later s.edge left.left } → q ≡ record right { left = later s.edge right.left } → on' ≡ kept k s.in_first s.in_second → from' ≡ x → x' ≡ s.edge → Merged k old w a p b q on' from' x'
+      → w ≡ c → p ≡ record left { left = later s.edge left.left } → q ≡ record right { left = later s.edge right.left } → on' ≡ keeps_place k s.in_first s.in_second → from' ≡ x → x' ≡ s.edge → Merged k old w a p b q on' from' x'
   merge_turn s c w p q on' from' x' is differs c_is w_is p_is q_is on_is from_is x_is =
-      merged_at (record now { row = closed on (span from x) now.row; spare = c.spare }) w (record left { left = later s.edge left.left }) p (record right { left = later s.edge right.left }) q (kept k s.in_first s.in_second) on' x from' s.edge x'
+      merged_at (record now { row = closed on (span from x) now.row; spare = c.spare }) w (record left { left = later s.edge left.left }) p (record right { left = later s.edge right.left }) q (keeps_place k s.in_first s.in_second) on' x from' s.edge x'
       (w_is ∙ c_is) p_is q_is on_is from_is x_is (record {
         state = stepped_turn k a.left b.left now.row on from x left.left right.left merged.state s (step_at k a.left b.left now.row on from x left.left right.left merged.state s is) differs;
         same = ap (λ (u : Bands). record u { row = closed on (span from x) now.row; spare = c.spare }) merged.same;

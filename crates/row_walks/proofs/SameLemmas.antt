@@ -9,11 +9,11 @@ use Rattle.band_list.specs.Bands.{Reading}
 use Rattle.row_walks.specs.declared.Keep.{Keep}
 use Rattle.row_walks.specs.declared.steps.Step.{Step}
 use Rattle.row_walks.specs.declared.steps.Common.{Common}
-use Rattle.row_walks.specs.Rows.{IsRow, row_has, kept}
+use Rattle.row_walks.specs.Rows.{IsRow, row_has, keeps_place}
 use Rattle.row_walks.specs.Steps.{next_step, start_of, later, nearer, common_step}
 use Rattle.row_walks.specs.RowLemmas.{true_false}
 use Rattle.row_walks.specs.StepLemmas.{Ahead, IsEdge, IsStep, step_is, no_step, no_edge, nearer_edge, nearer_is, earlier_start, starts, later_is}
-use Rattle.row_walks.specs.WalkLemmas.{kept-none}
+use Rattle.row_walks.specs.WalkLemmas.{keeps_place-none}
 use Rattle.row_walks.proofs.MakeLemmas.{from_firsts}
 
 pub not_true : (b : Bool) → not b ≡ true → b ≡ false
@@ -44,20 +44,20 @@ left_flat whole x e left l edge z low high = sym (l.same z low) ∙ edge.flat z 
 record Pair (k : Keep) (x e : ℤ) (a b : List Interval) (keeps : Bool) : Type 0 where
   edge_a : IsEdge x e a
   edge_b : IsEdge x e b
-  is : keeps ≡ kept k (row_has a x) (row_has b x)
+  is : keeps ≡ keeps_place k (row_has a x) (row_has b x)
 
-pair_stepped : (k : Keep) (x e : ℤ) (a b : List Interval) (s : Step) → IsStep x a b s → x <ℤ e → e ≤ℤ s.edge → Pair k x e a b (kept k s.in_first s.in_second)
+pair_stepped : (k : Keep) (x e : ℤ) (a b : List Interval) (s : Step) → IsStep x a b s → x <ℤ e → e ≤ℤ s.edge → Pair k x e a b (keeps_place k s.in_first s.in_second)
 pair_stepped k x e a b s step after near = record {
   edge_a = nearer_edge a x s.edge e step.edge_a after near;
   edge_b = nearer_edge b x s.edge e step.edge_b after near;
-  is = ap (λ t. kept k t s.in_second) step.has_a ∙ ap (kept k (row_has a x)) step.has_b;
+  is = ap (λ t. keeps_place k t s.in_second) step.has_a ∙ ap (keeps_place k (row_has a x)) step.has_b;
 }
 
 pair_ended : (k : Keep) (x e : ℤ) (a b : List Interval) → a ≡ [] → b ≡ [] → x <ℤ e → Pair k x e a b false
 pair_ended k x e a b none none' after = record {
   edge_a = subst (IsEdge x e) (sym none) (no_edge x e after);
   edge_b = subst (IsEdge x e) (sym none') (no_edge x e after);
-  is = sym (ap (λ l. kept k (row_has l x) (row_has b x)) none ∙ ap (λ l. kept k false (row_has l x)) none' ∙ kept-none k);
+  is = sym (ap (λ l. keeps_place k (row_has l x) (row_has b x)) none ∙ ap (λ l. keeps_place k false (row_has l x)) none' ∙ keeps_place-none k);
 }
 
 pub record Both (k : Keep) (x e : ℤ) (a b c d : List Interval) (agrees : Bool) : Type 0 where
@@ -65,8 +65,8 @@ pub record Both (k : Keep) (x e : ℤ) (a b c d : List Interval) (agrees : Bool)
   pub edge_b : IsEdge x e b
   pub edge_c : IsEdge x e c
   pub edge_d : IsEdge x e d
-  pub yes_is : agrees ≡ true → kept k (row_has a x) (row_has b x) ≡ kept k (row_has c x) (row_has d x)
-  pub no_is : agrees ≡ false → kept k (row_has a x) (row_has b x) ≢ kept k (row_has c x) (row_has d x)
+  pub yes_is : agrees ≡ true → keeps_place k (row_has a x) (row_has b x) ≡ keeps_place k (row_has c x) (row_has d x)
+  pub no_is : agrees ≡ false → keeps_place k (row_has a x) (row_has b x) ≢ keeps_place k (row_has c x) (row_has d x)
 
 both : (k : Keep) (x e : ℤ) (a b c d : List Interval) (t u agrees : Bool) → Pair k x e a b t → Pair k x e c d u → agrees ≡ beq t u → Both k x e a b c d agrees
 both k x e a b c d t u agrees p q is = record {
@@ -121,13 +121,13 @@ common_is k x a b c d m ha hb hc hd aa ab ac ad = go (next_step x (slice_get a 0
         let ends = no_step x c d g in
         let after : x <ℤ s.edge = step.edge_a.after in
         subst (λ (m : Common). Both k x m.edge a b c d m.agrees) (same_Some _ m is)
-        (both k x s.edge a b c d (kept k s.in_first s.in_second) false (not (kept k s.in_first s.in_second)) (pair_stepped k x s.edge a b s step after (omega (arith, ints))) (pair_ended k x s.edge c d ends.0 ends.1 after) (with_none (kept k s.in_first s.in_second)))
+        (both k x s.edge a b c d (keeps_place k s.in_first s.in_second) false (not (keeps_place k s.in_first s.in_second)) (pair_stepped k x s.edge a b s step after (omega (arith, ints))) (pair_ended k x s.edge c d ends.0 ends.1 after) (with_none (keeps_place k s.in_first s.in_second)))
     go None (Some t) f g is =
         let step = step_is x c d t hc hd ac ad g in
         let ends = no_step x a b f in
         let after : x <ℤ t.edge = step.edge_a.after in
         subst (λ (m : Common). Both k x m.edge a b c d m.agrees) (same_Some _ m is)
-        (both k x t.edge a b c d false (kept k t.in_first t.in_second) (not (kept k t.in_first t.in_second)) (pair_ended k x t.edge a b ends.0 ends.1 after) (pair_stepped k x t.edge c d t step after (omega (arith, ints))) (none_with (kept k t.in_first t.in_second)))
+        (both k x t.edge a b c d false (keeps_place k t.in_first t.in_second) (not (keeps_place k t.in_first t.in_second)) (pair_ended k x t.edge a b ends.0 ends.1 after) (pair_stepped k x t.edge c d t step after (omega (arith, ints))) (none_with (keeps_place k t.in_first t.in_second)))
     go (Some s) (Some t) f g is =
         let step = step_is x a b s ha hb aa ab f in
         let step' = step_is x c d t hc hd ac ad g in
@@ -135,7 +135,7 @@ common_is k x a b c d m ha hb hc hd aa ab ac ad = go (next_step x (slice_get a 0
         let low = lesser s.edge t.edge in
         let after : x <ℤ e = later_both x s.edge t.edge step.edge_a.after step'.edge_a.after in
         subst (λ (m : Common). Both k x m.edge a b c d m.agrees) (same_Some _ m is)
-        (both k x e a b c d (kept k s.in_first s.in_second) (kept k t.in_first t.in_second) (beq (kept k s.in_first s.in_second) (kept k t.in_first t.in_second)) (pair_stepped k x e a b s step after low.0) (pair_stepped k x e c d t step' after low.1) refl)
+        (both k x e a b c d (keeps_place k s.in_first s.in_second) (keeps_place k t.in_first t.in_second) (beq (keeps_place k s.in_first s.in_second) (keeps_place k t.in_first t.in_second)) (pair_stepped k x e a b s step after low.0) (pair_stepped k x e c d t step' after low.1) refl)
 
 no_common : (k : Keep) (o p : Option Step) → common_step k o p ≡ None → (o ≡ None) × (p ≡ None)
 no_common k None None e = (refl, refl)
@@ -151,7 +151,7 @@ pub record Same (k : Keep) (a b c d p q r s : Reading) (x : ℤ) : Type 0 where
   pub left_b : Left b.left x q.left
   pub left_c : Left c.left x r.left
   pub left_d : Left d.left x s.left
-  pub so_far : (z : ℤ) → z <ℤ x → kept k (row_has a.left z) (row_has b.left z) ≡ kept k (row_has c.left z) (row_has d.left z)
+  pub so_far : (z : ℤ) → z <ℤ x → keeps_place k (row_has a.left z) (row_has b.left z) ≡ keeps_place k (row_has c.left z) (row_has d.left z)
   pub read_a : p.bands ≡ a.bands
   pub read_b : q.bands ≡ b.bands
   pub read_c : r.bands ≡ c.bands
@@ -175,8 +175,8 @@ same_begins k a b c d x ha hb hc hd is =
       left_c = record { row = hc; ahead = start_c.ahead; same = λ z low. refl };
       left_d = record { row = hd; ahead = start_d.ahead; same = λ z low. refl };
       so_far = λ z less.
-          ap (λ t. kept k t (row_has b.left z)) (start_a.before z less) ∙ ap (kept k false) (start_b.before z less)
-          ∙ sym (ap (λ t. kept k t (row_has d.left z)) (start_c.before z less) ∙ ap (kept k false) (start_d.before z less));
+          ap (λ t. keeps_place k t (row_has b.left z)) (start_a.before z less) ∙ ap (keeps_place k false) (start_b.before z less)
+          ∙ sym (ap (λ t. keeps_place k t (row_has d.left z)) (start_c.before z less) ∙ ap (keeps_place k false) (start_d.before z less));
       read_a = refl;
       read_b = refl;
       read_c = refl;
@@ -200,13 +200,13 @@ module _ (k : Keep) (a b c d p q r s : Reading) (x : ℤ) (h : Same k a b c d p 
   pub same_after : (m : Common) → Found (Some m) → x <ℤ m.edge
   same_after m is = (step_both m is).edge_a.after
 
-  at_x : kept k (row_has p.left x) (row_has q.left x) ≡ kept k (row_has a.left x) (row_has b.left x)
-  at_x = ap (λ t. kept k t (row_has q.left x)) (h.left_a.same x (omega (arith, ints))) ∙ ap (kept k (row_has a.left x)) (h.left_b.same x (omega (arith, ints)))
+  at_x : keeps_place k (row_has p.left x) (row_has q.left x) ≡ keeps_place k (row_has a.left x) (row_has b.left x)
+  at_x = ap (λ t. keeps_place k t (row_has q.left x)) (h.left_a.same x (omega (arith, ints))) ∙ ap (keeps_place k (row_has a.left x)) (h.left_b.same x (omega (arith, ints)))
 
-  at_x' : kept k (row_has r.left x) (row_has s.left x) ≡ kept k (row_has c.left x) (row_has d.left x)
-  at_x' = ap (λ t. kept k t (row_has s.left x)) (h.left_c.same x (omega (arith, ints))) ∙ ap (kept k (row_has c.left x)) (h.left_d.same x (omega (arith, ints)))
+  at_x' : keeps_place k (row_has r.left x) (row_has s.left x) ≡ keeps_place k (row_has c.left x) (row_has d.left x)
+  at_x' = ap (λ t. keeps_place k t (row_has s.left x)) (h.left_c.same x (omega (arith, ints))) ∙ ap (keeps_place k (row_has c.left x)) (h.left_d.same x (omega (arith, ints)))
 
-  pub same_differs : (m : Common) → Found (Some m) → m.agrees ≡ false → (z : ℤ) × (kept k (row_has a.left z) (row_has b.left z) ≢ kept k (row_has c.left z) (row_has d.left z))
+  pub same_differs : (m : Common) → Found (Some m) → m.agrees ≡ false → (z : ℤ) × (keeps_place k (row_has a.left z) (row_has b.left z) ≢ keeps_place k (row_has c.left z) (row_has d.left z))
   same_differs m is other = (x, λ e. (step_both m is).no_is other (at_x ∙ e ∙ sym at_x'))
 
   pub same_more : (m : Common) (p' q' r' s' : Reading) (x' : ℤ) → Found (Some m) → m.agrees ≡ true → x' ≡ m.edge
@@ -221,9 +221,9 @@ module _ (k : Keep) (a b c d p q r s : Reading) (x : ℤ) (h : Same k a b c d p 
         left_c = left_more c.left x e r.left h.left_c step.edge_c;
         left_d = left_more d.left x e s.left h.left_d step.edge_d;
         so_far = λ z less. by_lt_z z x (λ before. h.so_far z before) (λ low.
-            ap (λ t. kept k t (row_has b.left z)) (left_flat a.left x e p.left h.left_a step.edge_a z low less) ∙ ap (kept k (row_has p.left x)) (left_flat b.left x e q.left h.left_b step.edge_b z low less)
+            ap (λ t. keeps_place k t (row_has b.left z)) (left_flat a.left x e p.left h.left_a step.edge_a z low less) ∙ ap (keeps_place k (row_has p.left x)) (left_flat b.left x e q.left h.left_b step.edge_b z low less)
             ∙ step.yes_is yes_agrees
-            ∙ sym (ap (λ t. kept k t (row_has d.left z)) (left_flat c.left x e r.left h.left_c step.edge_c z low less) ∙ ap (kept k (row_has r.left x)) (left_flat d.left x e s.left h.left_d step.edge_d z low less)));
+            ∙ sym (ap (λ t. keeps_place k t (row_has d.left z)) (left_flat c.left x e r.left h.left_c step.edge_c z low less) ∙ ap (keeps_place k (row_has r.left x)) (left_flat d.left x e s.left h.left_d step.edge_d z low less)));
         read_a = h.read_a;
         read_b = h.read_b;
         read_c = h.read_c;
@@ -236,11 +236,11 @@ module _ (k : Keep) (a b c d p q r s : Reading) (x : ℤ) (h : Same k a b c d p 
       let E : ℤ → Type 0 = λ u. Same k a b c d p' q' r' s' u in
       subst E (sym x_is) (subst D (sym s_is) (subst C (sym r_is) (subst B (sym q_is) (subst A (sym p_is) next))))
 
-  pub same_done : Found None → (z : ℤ) → kept k (row_has a.left z) (row_has b.left z) ≡ kept k (row_has c.left z) (row_has d.left z)
+  pub same_done : Found None → (z : ℤ) → keeps_place k (row_has a.left z) (row_has b.left z) ≡ keeps_place k (row_has c.left z) (row_has d.left z)
   same_done is z =
       let none = no_common k (next_step x (slice_get p.left 0) (slice_get q.left 0)) (next_step x (slice_get r.left 0) (slice_get s.left 0)) is in
       let one = no_step x p.left q.left none.0 in
       let other = no_step x r.left s.left none.1 in
       by_lt_z z x (λ before. h.so_far z before) (λ low.
-      ap (λ t. kept k t (row_has b.left z)) (sym (h.left_a.same z low) ∙ ap (λ l. row_has l z) one.0) ∙ ap (kept k false) (sym (h.left_b.same z low) ∙ ap (λ l. row_has l z) one.1)
-      ∙ sym (ap (λ t. kept k t (row_has d.left z)) (sym (h.left_c.same z low) ∙ ap (λ l. row_has l z) other.0) ∙ ap (kept k false) (sym (h.left_d.same z low) ∙ ap (λ l. row_has l z) other.1)))
+      ap (λ t. keeps_place k t (row_has b.left z)) (sym (h.left_a.same z low) ∙ ap (λ l. row_has l z) one.0) ∙ ap (keeps_place k false) (sym (h.left_b.same z low) ∙ ap (λ l. row_has l z) one.1)
+      ∙ sym (ap (λ t. keeps_place k t (row_has d.left z)) (sym (h.left_c.same z low) ∙ ap (λ l. row_has l z) other.0) ∙ ap (keeps_place k false) (sym (h.left_d.same z low) ∙ ap (λ l. row_has l z) other.1)))

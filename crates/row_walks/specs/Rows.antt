@@ -16,12 +16,12 @@ IsRow (i ∷ []) = i.from <ℤ i.to
 IsRow (i ∷ j ∷ rest) = (i.from <ℤ i.to) × (i.to <ℤ j.from) × IsRow (j ∷ rest)
 
 -- whether a column is kept, by whether it is in the first set and in the second
-abbrev pub kept : Keep → Bool → Bool → Bool
-kept Either a b = a || b
-kept Both a b = a && b
-kept FirstAlone a b = a && not b
+abbrev pub keeps_place : Keep → Bool → Bool → Bool
+keeps_place Either a b = a || b
+keeps_place Both a b = a && b
+keeps_place FirstAlone a b = a && not b
 
 -- the row has the columns that are kept of two rows
 pub record IsKept (keep : Keep) (a b row : List Interval) : Type 0 where
   pub is_row : IsRow row
-  pub has : (x : ℤ) → row_has row x ≡ kept keep (row_has a x) (row_has b x)
+  pub has : (x : ℤ) → row_has row x ≡ keeps_place keep (row_has a x) (row_has b x)

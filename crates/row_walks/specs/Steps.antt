@@ -5,7 +5,7 @@ use Rattle.band_list.specs.declared.Interval.{Interval}
 use Rattle.row_walks.specs.declared.Keep.{Keep}
 use Rattle.row_walks.specs.declared.steps.Step.{Step}
 use Rattle.row_walks.specs.declared.steps.Common.{Common}
-use Rattle.row_walks.specs.Rows.{kept}
+use Rattle.row_walks.specs.Rows.{keeps_place}
 
 -- where the interval begins, or where it ends if it has begun by x
 abbrev pub edge_of : ℤ → Interval → ℤ
@@ -41,6 +41,6 @@ closed false i row = row
 -- the step from x on of two pairs of rows, by each pair's step: how far all four are the same, and whether the pairs agree there
 abbrev pub common_step : Keep → Option Step → Option Step → Option Common
 common_step keep None None = None
-common_step keep (Some s) None = Some (record { edge = s.edge; agrees = not (kept keep s.in_first s.in_second) })
-common_step keep None (Some t) = Some (record { edge = t.edge; agrees = not (kept keep t.in_first t.in_second) })
-common_step keep (Some s) (Some t) = Some (record { edge = nearer s.edge t.edge; agrees = beq (kept keep s.in_first s.in_second) (kept keep t.in_first t.in_second) })
+common_step keep (Some s) None = Some (record { edge = s.edge; agrees = not (keeps_place keep s.in_first s.in_second) })
+common_step keep None (Some t) = Some (record { edge = t.edge; agrees = not (keeps_place keep t.in_first t.in_second) })
+common_step keep (Some s) (Some t) = Some (record { edge = nearer s.edge t.edge; agrees = beq (keeps_place keep s.in_first s.in_second) (keeps_place keep t.in_first t.in_second) })

@@ -8,15 +8,15 @@ use Rattle.band_list.specs.declared.Interval.{Interval}
 use Rattle.row_walks.specs.declared.Keep.{Keep}
 use Rattle.row_walks.specs.declared.Keep.TheVariants.{Either, Both, FirstAlone}
 use Rattle.row_walks.specs.declared.steps.Step.{Step}
-use Rattle.row_walks.specs.Rows.{IsRow, row_has, kept, IsKept}
+use Rattle.row_walks.specs.Rows.{IsRow, row_has, keeps_place, IsKept}
 use Rattle.row_walks.specs.Steps.{next_step, start_of, later, closed}
 use Rattle.row_walks.specs.RowLemmas.{Below, below_more, none_behind, row_longer, below_longer, or_false, has-append, only_row}
 use Rattle.row_walks.specs.StepLemmas.{Ahead, IsEdge, IsStep, step_is, no_step, IsStart, IsLater, later_is, ends_left, ends_less, ends_most, starts}
 
-pub kept-none : (k : Keep) → kept k false false ≡ false
-kept-none Either = refl
-kept-none Both = refl
-kept-none FirstAlone = refl
+pub keeps_place-none : (k : Keep) → keeps_place k false false ≡ false
+keeps_place-none Either = refl
+keeps_place-none Both = refl
+keeps_place-none FirstAlone = refl
 
 pub differ : (a b : Bool) → not (beq a b) ≡ true → a ≢ b
 differ true true e = λ _. absurd (let h : false ≡ true = e in no h)
@@ -58,7 +58,7 @@ pub record RowState (k : Keep) (whole_a whole_b row : List Interval) (on : Bool)
   pub ahead_b : Ahead x b
   pub same_a : (z : ℤ) → x ≤ℤ z → row_has a z ≡ row_has whole_a z
   pub same_b : (z : ℤ) → x ≤ℤ z → row_has b z ≡ row_has whole_b z
-  pub so_far : (z : ℤ) → z <ℤ x → (row_has row z || (on && (int_le from z && int_lt z x))) ≡ kept k (row_has whole_a z) (row_has whole_b z)
+  pub so_far : (z : ℤ) → z <ℤ x → (row_has row z || (on && (int_le from z && int_lt z x))) ≡ keeps_place k (row_has whole_a z) (row_has whole_b z)
   pub ends_on : on ≡ true → (from <ℤ x) × Below from row
   pub ends_off : on ≡ false → Below x row
 
@@ -71,7 +71,7 @@ row_begins k a b x row_a row_b start_a start_b = record {
   ahead_b = start_b.ahead;
   same_a = λ z low. refl;
   same_b = λ z low. refl;
-  so_far = λ z less. sym (ap (λ t. kept k t (row_has b z)) (start_a.before z less) ∙ ap (kept k false) (start_b.before z less) ∙ kept-none k);
+  so_far = λ z less. sym (ap (λ t. keeps_place k t (row_has b z)) (start_a.before z less) ∙ ap (keeps_place k false) (start_b.before z less) ∙ keeps_place-none k);
   ends_on = λ f. absurd (no f);
   ends_off = λ _. tt;
 }
@@ -107,20 +107,20 @@ module _ (k : Keep) (whole_a whole_b : List Interval) where
     has = λ z. by_lt_z z x
         (λ less. closed_has row on from x z ∙ s.so_far z less)
         (λ more. closed_has row on from x z ∙ nothing row on from x z a b s more ∙ sym (
-        ap (λ t. kept k t (row_has whole_b z)) (sym (s.same_a z more) ∙ ap (λ l. row_has l z) none_a)
-        ∙ ap (kept k false) (sym (s.same_b z more) ∙ ap (λ l. row_has l z) none_b) ∙ kept-none k));
+        ap (λ t. keeps_place k t (row_has whole_b z)) (sym (s.same_a z more) ∙ ap (λ l. row_has l z) none_a)
+        ∙ ap (keeps_place k false) (sym (s.same_b z more) ∙ ap (λ l. row_has l z) none_b) ∙ keeps_place-none k));
   }
 
   -- what is kept from x to before the edge
   kept_flat : (row : List Interval) (on : Bool) (from x edge : ℤ) (a b : List Interval) (keeps : Bool) → RowState k whole_a whole_b row on from x a b → IsEdge x edge a → IsEdge x edge b
-      → keeps ≡ kept k (row_has a x) (row_has b x) → (z : ℤ) → x ≤ℤ z → z <ℤ edge → keeps ≡ kept k (row_has whole_a z) (row_has whole_b z)
+      → keeps ≡ keeps_place k (row_has a x) (row_has b x) → (z : ℤ) → x ≤ℤ z → z <ℤ edge → keeps ≡ keeps_place k (row_has whole_a z) (row_has whole_b z)
   kept_flat row on from x edge a b keeps s edge_a edge_b e z low high =
-      e ∙ ap (λ t. kept k t (row_has b x)) (sym (edge_a.flat z low high) ∙ s.same_a z low)
-      ∙ ap (kept k (row_has whole_a z)) (sym (edge_b.flat z low high) ∙ s.same_b z low)
+      e ∙ ap (λ t. keeps_place k t (row_has b x)) (sym (edge_a.flat z low high) ∙ s.same_a z low)
+      ∙ ap (keeps_place k (row_has whole_a z)) (sym (edge_b.flat z low high) ∙ s.same_b z low)
 
   -- the last interval goes on to the edge
   row_on : (row : List Interval) (on : Bool) (from x edge : ℤ) (a b a' b' : List Interval) (keeps : Bool) → RowState k whole_a whole_b row on from x a b → IsEdge x edge a → IsEdge x edge b
-      → keeps ≡ kept k (row_has a x) (row_has b x) → keeps ≡ on → IsLater edge a a' → IsLater edge b b' → RowState k whole_a whole_b row on from edge a' b'
+      → keeps ≡ keeps_place k (row_has a x) (row_has b x) → keeps ≡ on → IsLater edge a a' → IsLater edge b b' → RowState k whole_a whole_b row on from edge a' b'
   row_on row on from x edge a b a' b' keeps s edge_a edge_b e same later_a later_b =
       let after : x <ℤ edge = edge_a.after in
       record {
@@ -150,7 +150,7 @@ module _ (k : Keep) (whole_a whole_b : List Interval) where
 
   -- it ends at x, or one begins there
   row_turn : (row : List Interval) (on : Bool) (from x edge : ℤ) (a b a' b' : List Interval) (keeps : Bool) → RowState k whole_a whole_b row on from x a b → IsEdge x edge a → IsEdge x edge b
-      → keeps ≡ kept k (row_has a x) (row_has b x) → keeps ≢ on → IsLater edge a a' → IsLater edge b b' → RowState k whole_a whole_b (closed on (span from x) row) keeps x edge a' b'
+      → keeps ≡ keeps_place k (row_has a x) (row_has b x) → keeps ≢ on → IsLater edge a a' → IsLater edge b b' → RowState k whole_a whole_b (closed on (span from x) row) keeps x edge a' b'
   row_turn row on from x edge a b a' b' keeps s edge_a edge_b e other later_a later_b =
       let after : x <ℤ edge = edge_a.after in
       record {
@@ -183,17 +183,17 @@ module _ (k : Keep) (whole_a whole_b : List Interval) where
     pub step_at : (s : Step) → next_step x (slice_get a 0) (slice_get b 0) ≡ Some s → IsStep x a b s
     step_at s is = step_is x a b s state.row_a state.row_b state.ahead_a state.ahead_b is
 
-    pub step_keeps : (s : Step) → IsStep x a b s → kept k s.in_first s.in_second ≡ kept k (row_has a x) (row_has b x)
-    step_keeps s step = ap (λ t. kept k t s.in_second) step.has_a ∙ ap (kept k (row_has a x)) step.has_b
+    pub step_keeps : (s : Step) → IsStep x a b s → keeps_place k s.in_first s.in_second ≡ keeps_place k (row_has a x) (row_has b x)
+    step_keeps s step = ap (λ t. keeps_place k t s.in_second) step.has_a ∙ ap (keeps_place k (row_has a x)) step.has_b
 
-    pub stepped_on : (s : Step) → IsStep x a b s → kept k s.in_first s.in_second ≡ on → RowState k whole_a whole_b row on from s.edge (later s.edge a) (later s.edge b)
+    pub stepped_on : (s : Step) → IsStep x a b s → keeps_place k s.in_first s.in_second ≡ on → RowState k whole_a whole_b row on from s.edge (later s.edge a) (later s.edge b)
     stepped_on s step same =
-        row_on row on from x s.edge a b (later s.edge a) (later s.edge b) (kept k s.in_first s.in_second) state step.edge_a step.edge_b (step_keeps s step) same
+        row_on row on from x s.edge a b (later s.edge a) (later s.edge b) (keeps_place k s.in_first s.in_second) state step.edge_a step.edge_b (step_keeps s step) same
         (later_is s.edge a state.row_a step.edge_a.reaches) (later_is s.edge b state.row_b step.edge_b.reaches)
 
-    pub stepped_turn : (s : Step) → IsStep x a b s → kept k s.in_first s.in_second ≢ on → RowState k whole_a whole_b (closed on (span from x) row) (kept k s.in_first s.in_second) x s.edge (later s.edge a) (later s.edge b)
+    pub stepped_turn : (s : Step) → IsStep x a b s → keeps_place k s.in_first s.in_second ≢ on → RowState k whole_a whole_b (closed on (span from x) row) (keeps_place k s.in_first s.in_second) x s.edge (later s.edge a) (later s.edge b)
     stepped_turn s step other =
-        row_turn row on from x s.edge a b (later s.edge a) (later s.edge b) (kept k s.in_first s.in_second) state step.edge_a step.edge_b (step_keeps s step) other
+        row_turn row on from x s.edge a b (later s.edge a) (later s.edge b) (keeps_place k s.in_first s.in_second) state step.edge_a step.edge_b (step_keeps s step) other
         (later_is s.edge a state.row_a step.edge_a.reaches) (later_is s.edge b state.row_b step.edge_b.reaches)
 
     pub state_done : next_step x (slice_get a 0) (slice_get b 0) ≡ None → IsKept k whole_a whole_b (closed on (span from x) row)
@@ -252,17 +252,17 @@ module _ (k : Keep) (whole_a whole_b : List Interval) where
       (λ s is.
       let step = step_at row on from x a b state s is in
       let room : ends_left s.edge (later s.edge a) + ends_left s.edge (later s.edge b) ≤ n = fewer (ends_left s.edge (later s.edge a) + ends_left s.edge (later s.edge b)) (ends_left x a + ends_left x b) n (ends_less x a b s state.row_a state.row_b step) fits in
-      by_same (kept k s.in_first s.in_second) on
+      by_same (keeps_place k s.in_first s.in_second) on
       (λ same.
       let whole = completed n row on from s.edge (later s.edge a) (later s.edge b) room (stepped_on row on from x a b state s step same) in
       record { final = whole.final; is_kept = whole.is_kept; more = whole.more; few = omega (arith, whole.few, ends_less x a b s state.row_a state.row_b step) })
       (λ other.
-      let whole = completed n (closed on (span from x) row) (kept k s.in_first s.in_second) x s.edge (later s.edge a) (later s.edge b) room (stepped_turn row on from x a b state s step other) in
+      let whole = completed n (closed on (span from x) row) (keeps_place k s.in_first s.in_second) x s.edge (later s.edge a) (later s.edge b) room (stepped_turn row on from x a b state s step other) in
       record {
         final = whole.final;
         is_kept = whole.is_kept;
         more = omega (arith, whole.more, length-closed on (span from x) row);
-        few = turned on (kept k s.in_first s.in_second) (length row) (length (closed on (span from x) row)) (ends_left s.edge (later s.edge a) + ends_left s.edge (later s.edge b)) (ends_left x a + ends_left x b) (2 * length whole.final)
+        few = turned on (keeps_place k s.in_first s.in_second) (length row) (length (closed on (span from x) row)) (ends_left s.edge (later s.edge a) + ends_left s.edge (later s.edge b)) (ends_left x a + ends_left x b) (2 * length whole.final)
             other (length-closed on (span from x) row) (ends_less x a b s state.row_a state.row_b step) whole.few;
       }))
     where

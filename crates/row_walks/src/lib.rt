@@ -5,7 +5,7 @@
 
 ghost use Rattle.std.specs.Prelude.{◌≡◌, ◌≢◌, ◌≤◌, ◌+◌, [], List, true, false, length, cond, ℤ, OnOk, OnErr};
 ghost use Rattle.band_list.specs.declared.Interval.{Interval};
-ghost use Rattle.row_walks.specs.Rows.{IsRow, IsKept, row_has, kept};
+ghost use Rattle.row_walks.specs.Rows.{IsRow, IsKept, row_has, keeps_place};
 ghost use Rattle.row_walks.specs.Steps.{closed};
 
 mod steps;
@@ -28,7 +28,7 @@ pub enum Keep {
 impl Keep {
     /// Whether a place is kept.
     pub fn keeps(self, in_first: bool, in_second: bool) -> bool
-        ensures { result ≡ kept self in_first in_second }
+        ensures { result ≡ keeps_place self in_first in_second }
     {
         match self {
             Keep::Either => in_first || in_second,
@@ -95,8 +95,8 @@ fn close_anew(bands: &mut BandList, is_open: bool, interval: Interval) -> Result
 }
 
 /// Makes the row in the making: the columns that are kept of what is left of the two readers' first bands, which are read to
-/// their rows' ends. The room is made as the row grows; after an `AllocError` a part of the row is made, and nothing else of the
-/// bands has changed.
+/// their rows' ends. The room is made as the row grows; after an `AllocError` nothing is promised
+/// of the bands, which are of no more use.
 pub fn merge_row(
     bands: &mut BandList,
     first: &mut Reader,
@@ -173,10 +173,10 @@ pub fn same_kept(
     requires third_row { IsRow third.old.left }
     requires fourth_row { IsRow fourth.old.left }
     ensures yes { result ≡ true → (x : ℤ) →
-        kept keep (row_has first.old.left x) (row_has second.old.left x) ≡
-        kept keep (row_has third.old.left x) (row_has fourth.old.left x) }
+        keeps_place keep (row_has first.old.left x) (row_has second.old.left x) ≡
+        keeps_place keep (row_has third.old.left x) (row_has fourth.old.left x) }
     ensures no { result ≡ false → (x : ℤ) ×
-        (kept keep (row_has first.old.left x) (row_has second.old.left x) ≢ kept keep (row_has third.old.left x)
+        (keeps_place keep (row_has first.old.left x) (row_has second.old.left x) ≢ keeps_place keep (row_has third.old.left x)
         (row_has fourth.old.left x)) }
     ensures first_read { first.new.bands ≡ first.old.bands }
     ensures second_read { second.new.bands ≡ second.old.bands }

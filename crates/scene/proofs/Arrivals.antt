@@ -8,7 +8,7 @@ use Rattle.messages.specs.Reading.{Rest}
 use Rattle.scene.specs.declared.Config.{Config}
 use Rattle.scene.specs.declared.Event.{Event}
 use Rattle.scene.specs.declared.Event.TheVariants.{Write, Paint, Mark, ScheduleCopy, DoCopy, Bell, CutText, Connect, Hear, Cut, Close}
-use Rattle.viewer.specs.Viewer.{Viewer, new_viewer, kept}
+use Rattle.viewer.specs.Viewer.{Viewer, new_viewer, kept_viewer}
 use Rattle.scene.specs.Alone.{own_step, owner_of}
 use Rattle.scene.specs.Answers.{viewer_of, picture_of, live_from, after_arrival, entry_of, SceneState, scene_after}
 use Rattle.scene.proofs.Steps.{live-append}
@@ -130,7 +130,7 @@ all-others c es v (n ∷ ns) h =
     ∙ ap (cons_option (entry_of n (viewer_of c n es))) (all-others c es v ns parts.1)
 
 pub state-connect : (c : Config) (es : List Event) (v : ℕ) → viewer_of c v es ≡ None
-    → scene_after c (es ++ Connect v ∷ []) ≡ record { config = c; picture = (scene_after c es).picture; viewers = (scene_after c es).viewers ++ (v, kept (new_viewer c.width c.height)) ∷ [] }
+    → scene_after c (es ++ Connect v ∷ []) ≡ record { config = c; picture = (scene_after c es).picture; viewers = (scene_after c es).viewers ++ (v, kept_viewer (new_viewer c.width c.height)) ∷ [] }
 state-connect c es v absent =
     let s : List ℕ → List (ℕ × Viewer Rest) → SceneState = λ p vs. record { config = c; picture = p; viewers = vs } in
     let new : ℕ → Option (ℕ × Viewer Rest) = λ u. entry_of u (viewer_of c u (es ++ Connect v ∷ [])) in

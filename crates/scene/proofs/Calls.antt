@@ -11,7 +11,7 @@ use Rattle.scene.specs.declared.Event.TheVariants.{Connect, Hear, Cut, Close}
 use Rattle.scene.specs.declared.Answer.{Answer}
 use Rattle.scene.specs.declared.ScreenError.{ScreenError}
 use Rattle.scene.specs.declared.ScreenError.TheVariants as refusals
-use Rattle.viewer.specs.Viewer.{KeptViewer, kept, Viewer, none_wait, new_viewer}
+use Rattle.viewer.specs.Viewer.{KeptViewer, kept_viewer, Viewer, none_wait, new_viewer}
 use Rattle.viewer.specs.declared.notices.Notice.{Notice}
 use Rattle.viewer.specs.declared.notices.Notice.TheVariants as notice
 use Rattle.copy_schedule.specs.Marks.{Sent, pending, copies_of, pixels_of, after_sending}
@@ -20,7 +20,7 @@ use Rattle.viewer.specs.Sending.{sending_kept, with_update}
 use Rattle.scene.specs.Alone.{own_step, heard_answer, gives, refuses, nothing_to_say, some_bytes, Tells}
 use Rattle.viewer.specs.Hearing.{after_items}
 use Rattle.scene.specs.Answers.{viewer_of, SceneState, scene_after, answer_to}
-use Rattle.scene.specs.Held.{IsSized}
+use Rattle.scene.specs.Consistent.{IsSized}
 use Rattle.scene.proofs.Owners.{one_of, replaced, answer-hit, state-has, state-close, answer-close, state-hear, answer-hear}
 use Rattle.scene.proofs.Arrivals.{state-connect}
 use Rattle.scene.proofs.Connected.{viewer_numbered, with_numbered, StandsFor, stands-for, stands-for_none, numbered-set}
@@ -61,7 +61,7 @@ hear-step c es p pairs now v old piece h there changes =
     let ear : old.heard ≡ rest at.was.heard = sym (ap (λ (w : Viewer Rest). w.heard) at.as_kept) in
     let new : Viewer Rest → Viewer Rest = λ w. after_items c.width c.height (new_items at.was.heard piece) (record w { heard = rest (at.was.heard ++ piece) }) in
     ap (s p) (changes at.was.heard ear ∙ numbered-set c es pairs v (new old) (ap (λ (t : SceneState). t.viewers) h) ∙ ap (λ w. map (replaced v (new w)) (scene_after c es).viewers) (sym at.as_kept))
-    ∙ ap (λ q. s q (map (replaced v (new (kept at.was))) (scene_after c es).viewers)) (ap (λ (t : SceneState). t.picture) h)
+    ∙ ap (λ q. s q (map (replaced v (new (kept_viewer at.was))) (scene_after c es).viewers)) (ap (λ (t : SceneState). t.picture) h)
     ∙ sym (state-hear c es v piece at.was at.there)
 
 pub hear-answer : (c : Config) (es : List Event) (p : List ℕ) (pairs : List (ℕ × KeptViewer)) (v : ℕ) (old : KeptViewer) (piece : List ℕ) → seen c p pairs ≡ scene_after c es → Some old ≡ viewer_numbered pairs v
@@ -83,7 +83,7 @@ cut-step c es p pairs v old new h there viewer =
     let s : List ℕ → List (ℕ × Viewer Rest) → SceneState = λ q vs. record { config = c; picture = q; viewers = vs } in
     let picture : p ≡ (scene_after c es).picture = ap (λ (t : SceneState). t.picture) h in
     ap (s p) (numbered-set c es pairs v new (ap (λ (t : SceneState). t.viewers) h) ∙ ap (λ w. map (replaced v w) (scene_after c es).viewers) (viewer ∙ sym (ap (λ w. (sending_kept c.width c.height c.rects_per_update p w).1) at.as_kept)))
-    ∙ ap (λ q. s q (map (replaced v (sending_kept c.width c.height c.rects_per_update q (kept at.was)).1) (scene_after c es).viewers)) picture
+    ∙ ap (λ q. s q (map (replaced v (sending_kept c.width c.height c.rects_per_update q (kept_viewer at.was)).1) (scene_after c es).viewers)) picture
     ∙ sym (state-cut c es v at.was at.there)
 
 pub cut-answer : (c : Config) (es : List Event) (p : List ℕ) (pairs : List (ℕ × KeptViewer)) (v : ℕ) (old : KeptViewer) → seen c p pairs ≡ scene_after c es → Some old ≡ viewer_numbered pairs v
@@ -91,7 +91,7 @@ pub cut-answer : (c : Config) (es : List Event) (p : List ℕ) (pairs : List (�
 cut-answer c es p pairs v old h there =
     let at = stands_there c es p pairs v old h there in
     answer-cut c es v at.was at.there
-    ∙ ap (λ q. gives (sending_kept c.width c.height c.rects_per_update q (kept at.was)).0) (sym (ap (λ (t : SceneState). t.picture) h))
+    ∙ ap (λ q. gives (sending_kept c.width c.height c.rects_per_update q (kept_viewer at.was)).0) (sym (ap (λ (t : SceneState). t.picture) h))
     ∙ ap (λ w. gives (sending_kept c.width c.height c.rects_per_update p w).0) at.as_kept
 
 -- a cut leaves the size of the viewer's marks
@@ -109,11 +109,11 @@ cut-size c w h limit picture v was = go (is_open_rest v.heard) (pending v.marks)
 -- ---- connecting
 
 pub connect-step : (c : Config) (es : List Event) (p : List ℕ) (pairs new : List (ℕ × KeptViewer)) (v : ℕ) → seen c p pairs ≡ scene_after c es → viewer_numbered pairs v ≡ None
-    → new ≡ pairs ++ (v, kept (new_viewer c.width c.height)) ∷ [] → seen c p new ≡ scene_after c (es ++ Connect v ∷ [])
+    → new ≡ pairs ++ (v, kept_viewer (new_viewer c.width c.height)) ∷ [] → seen c p new ≡ scene_after c (es ++ Connect v ∷ [])
 connect-step c es p pairs new v h away added =
     let s : List ℕ → List (ℕ × Viewer Rest) → SceneState = λ q vs. record { config = c; picture = q; viewers = vs } in
     ap (s p) added
-    ∙ ap (λ (t : SceneState). record { config = c; picture = t.picture; viewers = t.viewers ++ (v, kept (new_viewer c.width c.height)) ∷ [] }) h
+    ∙ ap (λ (t : SceneState). record { config = c; picture = t.picture; viewers = t.viewers ++ (v, kept_viewer (new_viewer c.width c.height)) ∷ [] }) h
     ∙ sym (state-connect c es v (none_there c es p pairs v h away))
 
 pub connect-answer : (c : Config) (es : List Event) (p : List ℕ) (pairs : List (ℕ × KeptViewer)) (v : ℕ) → seen c p pairs ≡ scene_after c es → viewer_numbered pairs v ≡ None → answer_to c es (Connect v) ≡ gives server_version

@@ -11,7 +11,7 @@ use Rattle.client_list.specs.DistinctLemmas.{distinct_none}
 use Rattle.client_list.specs.CallerLemmas.{set-number, find-lookup}
 use Rattle.scene.specs.declared.Config.{Config}
 use Rattle.scene.specs.declared.Event.{Event}
-use Rattle.viewer.specs.Viewer.{KeptViewer, kept, Viewer}
+use Rattle.viewer.specs.Viewer.{KeptViewer, kept_viewer, Viewer}
 use Rattle.scene.specs.Answers.{viewer_of, entry_of, scene_after}
 use Rattle.scene.proofs.Owners.{replaced, state-find}
 use Rattle.scene.proofs.Arrivals.{Distinct, distinct-viewers, or_parts, swap-eq}
@@ -43,11 +43,11 @@ found-viewer v pairs = find-lookup pairs v
 pub record StandsFor (c : Config) (es : List Event) (v : ℕ) (s : KeptViewer) : Type 0 where
   pub was : Viewer (List ℕ)
   pub there : viewer_of c v es ≡ Some was
-  pub as_kept : kept was ≡ s
+  pub as_kept : kept_viewer was ≡ s
 
-some-entry : (v : ℕ) (o : Option (Viewer (List ℕ))) (w : Viewer Rest) → entry_of v o ≡ Some (v, w) → (was : Viewer (List ℕ)) × (o ≡ Some was) × (kept was ≡ w)
+some-entry : (v : ℕ) (o : Option (Viewer (List ℕ))) (w : Viewer Rest) → entry_of v o ≡ Some (v, w) → (was : Viewer (List ℕ)) × (o ≡ Some was) × (kept_viewer was ≡ w)
 some-entry v None w e = absurd cc
-some-entry v (Some was) w e = (was, refl, ap (λ (o : Option Pair). elim o [ None ↦ kept was | Some p ↦ p.1 ]) e)
+some-entry v (Some was) w e = (was, refl, ap (λ (o : Option Pair). elim o [ None ↦ kept_viewer was | Some p ↦ p.1 ]) e)
 
 pub stands-for : (c : Config) (es : List Event) (pairs : List (ℕ × KeptViewer)) (v : ℕ) (s : KeptViewer) → pairs ≡ (scene_after c es).viewers → viewer_numbered pairs v ≡ Some s → StandsFor c es v s
 stands-for c es pairs v s h there =

@@ -9,15 +9,15 @@ use Rattle.std.proofs.lemmas.List.FromFn.{get_or-map-range_with_len, length-map-
 use Rattle.std.proofs.lemmas.List.Folds.{list_any_at}
 use Rattle.region.specs.declared.Rect.{Rect}
 use Rattle.region.specs.Region.{in_rect, covers, on_screen}
-use Rattle.region.specs.Places.{some_place, cut_destination, IsOnScreen, same_offset}
-use Rattle.region.specs.Held.{Held}
+use Rattle.region.specs.Places.{some_place, cut_destination, IsOnScreen, same_offset, longest_side}
+use Rattle.region.specs.RegionView.{RegionView}
 use Rattle.copy_schedule.specs.Marks.{copied_by}
 use Rattle.copy_schedule.specs.Log.{IsCutEntry}
 use Rattle.copy_schedule.specs.declared.LogEntry.TheVariants.{Copy}
 use Rattle.viewer_list.specs.Viewers.{drawn}
 use Rattle.scene.specs.declared.Config.{Config}
 use Rattle.viewer.specs.Viewer.{KeptViewer, does_nothing, viewer_copied}
-use Rattle.scene.specs.Held.{IsSized}
+use Rattle.scene.specs.Consistent.{IsSized}
 
 -- ---- whether a copy does something
 
@@ -71,7 +71,7 @@ inside : (a b c : Bool) → (a && b && c) ≡ true → (b && c) ≡ true
 inside true b c e = e
 inside false b c e = absurd cc
 
-pub all-cut : (c : Config) (set : ℤ → ℤ → Bool) (region : Held) (dx dy : ℤ) (seats : List KeptViewer) → covers region.list ≡ cut_destination c.width c.height set (dx, dy) → All (IsSized c) seats
+pub all-cut : (c : Config) (set : ℤ → ℤ → Bool) (region : RegionView) (dx dy : ℤ) (seats : List KeptViewer) → covers region.list ≡ cut_destination c.width c.height set (dx, dy) → All (IsSized c) seats
     → All (λ s. IsCutEntry s.marks.width s.marks.height (Copy region dx dy)) seats
 all-cut c set region dx dy seats places sized = λ k d below x y is.
     let size = sized k d below in
@@ -86,7 +86,7 @@ pub viewer_still : (w h : ℕ) (set : ℤ → ℤ → Bool) (by : ℤ × ℤ) (s
 viewer_still w h set by s none = sym (ap (λ b. record s { marks = cond b s.marks (copied_by (cut_destination w h set by) by s.uses_copyrect s.marks) }) none)
 
 -- the copy is done
-pub viewer_moved : (w h : ℕ) (set : ℤ → ℤ → Bool) (region : Held) (dx dy : ℤ) (s : KeptViewer) → covers region.list ≡ cut_destination w h set (dx, dy) → does_nothing w h set (dx, dy) ≡ false
+pub viewer_moved : (w h : ℕ) (set : ℤ → ℤ → Bool) (region : RegionView) (dx dy : ℤ) (s : KeptViewer) → covers region.list ≡ cut_destination w h set (dx, dy) → does_nothing w h set (dx, dy) ≡ false
     → drawn (Copy region dx dy) s ≡ viewer_copied w h set (dx, dy) s
 viewer_moved w h set region dx dy s places some =
     ap (λ (f : ℤ → ℤ → Bool). record s { marks = copied_by f (dx, dy) s.uses_copyrect s.marks }) places
@@ -94,10 +94,10 @@ viewer_moved w h set region dx dy s places some =
 
 -- ---- rectangles of a screen are rectangles of a larger one, and of one of the same size
 
-pub within : (w h : ℕ) (pieces now : List Rect) → w ≤ 8192 → h ≤ 8192 → now ≡ pieces → All (IsOnScreen w h) pieces → All (IsOnScreen 8192 8192) now
-within w h pieces now wide high same all = subst (All (IsOnScreen 8192 8192)) (sym same) (λ k d below. larger (slice_index_or pieces k d) (all k d below))
+pub within : (w h : ℕ) (pieces now : List Rect) → w ≤ longest_side → h ≤ longest_side → now ≡ pieces → All (IsOnScreen w h) pieces → All (IsOnScreen longest_side longest_side) now
+within w h pieces now wide high same all = subst (All (IsOnScreen longest_side longest_side)) (sym same) (λ k d below. larger (slice_index_or pieces k d) (all k d below))
   where
-    larger : (r : Rect) → IsOnScreen w h r → IsOnScreen 8192 8192 r
+    larger : (r : Rect) → IsOnScreen w h r → IsOnScreen longest_side longest_side r
     larger r on = record {
       left = on.left;
       columns = on.columns;

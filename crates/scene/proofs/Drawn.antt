@@ -12,7 +12,7 @@ use Rattle.viewer_list.specs.Viewers.{drawn as told_of}
 use Rattle.viewer_list.specs.SizeLemmas.{drawn_size}
 use Rattle.scene.specs.Alone.{drawing_refusal, drawn, shown_drawing, owner_of}
 use Rattle.scene.specs.Answers.{SceneState, scene_after}
-use Rattle.scene.specs.Held.{IsSized}
+use Rattle.scene.specs.Consistent.{IsSized}
 use Rattle.scene.proofs.Steps.{redrawn, state-drawing}
 
 -- a seat changes as the drawing call's viewer does

@@ -3,7 +3,7 @@ use Rattle.std.proofs.Common.{◌≡◌, ◌≢◌, ℕ, Bool, true, false, cond
 use Rattle.std.specs.Prelude.{MatchOption, MatchResult, IsOk, length, nat_abs, not, nat_lt, ◌==◌, ◌*◌, ◌-ℤ◌}
 use Rattle.std.specs.Option.{option_map}
 use Rattle.std.specs.declared.alloc.AllocError.{AllocError}
-use Rattle.viewer.specs.Viewer.{Viewer, KeptViewer, kept}
+use Rattle.viewer.specs.Viewer.{Viewer, KeptViewer, kept_viewer}
 use Rattle.scene.specs.declared.Config.{Config}
 use Rattle.scene.specs.declared.ScreenError.{ScreenError}
 use Rattle.scene.specs.declared.ScreenError.TheVariants as refusals
@@ -17,10 +17,10 @@ use Rattle.scene.proofs.Owners.{one_of, answer-hit, state-find}
 use Rattle.scene.proofs.Connected.{found-viewer}
 
 -- what a screen keeps of a viewer with a number
-kept-at : (c : Config) (es : List Event) (v : ℕ) → viewer_at (scene_after c es) v ≡ option_map kept (viewer_of c v es)
+kept-at : (c : Config) (es : List Event) (v : ℕ) → viewer_at (scene_after c es) v ≡ option_map kept_viewer (viewer_of c v es)
 kept-at c es v = go (viewer_at (scene_after c es) v) (viewer_of c v es) (sym (found-viewer v (scene_after c es).viewers) ∙ state-find c es v)
   where
-    go : (a : Option KeptViewer) (b : Option (Viewer (List ℕ))) → option_map {T = KeptViewer} {U = ℕ × KeptViewer} (λ w. (v, w)) a ≡ entry_of v b → a ≡ option_map kept b
+    go : (a : Option KeptViewer) (b : Option (Viewer (List ℕ))) → option_map {T = KeptViewer} {U = ℕ × KeptViewer} (λ w. (v, w)) a ≡ entry_of v b → a ≡ option_map kept_viewer b
     go None None e = refl
     go (Some w) (Some u) e = ap (λ (o : Option (ℕ × KeptViewer)). elim o [ None ↦ Some w | Some p ↦ Some p.1 ]) e
     go None (Some u) e = absurd cc
@@ -31,7 +31,7 @@ drawing-due None = refl
 drawing-due (Some e) = refl
 
 own-due : (c : Config) (es : List Event) (e : Event) (v : ℕ) (due : Option KeptViewer → Option ScreenError) → answer_to c es e ≡ (own_step c e (one_of c v es) (viewer_of c v es)).1
-    → ((o : Option (Viewer (List ℕ))) → (own_step c e (one_of c v es) o).1.refused ≡ due (option_map kept o)) → (answer_to c es e).refused ≡ due (viewer_at (scene_after c es) v)
+    → ((o : Option (Viewer (List ℕ))) → (own_step c e (one_of c v es) o).1.refused ≡ due (option_map kept_viewer o)) → (answer_to c es e).refused ≡ due (viewer_at (scene_after c es) v)
 own-due c es e v due hit each = ap (λ (a : Answer). a.refused) hit ∙ each (viewer_of c v es) ∙ sym (ap due (kept-at c es v))
 
 -- an event is answered the refusal that is due
@@ -45,22 +45,22 @@ refused-as-due c es Bell = refl
 refused-as-due c es (CutText text) = drawing-due (drawing_refusal c (CutText text))
 refused-as-due c es (Connect v) = own-due c es (Connect v) v presence (answer-hit c v es (Connect v) refl) each
   where
-    each : (o : Option (Viewer (List ℕ))) → (own_step c (Connect v) (one_of c v es) o).1.refused ≡ presence (option_map kept o)
+    each : (o : Option (Viewer (List ℕ))) → (own_step c (Connect v) (one_of c v es) o).1.refused ≡ presence (option_map kept_viewer o)
     each None = refl
     each (Some w) = refl
 refused-as-due c es (Hear v piece) = own-due c es (Hear v piece) v absence (answer-hit c v es (Hear v piece) refl) each
   where
-    each : (o : Option (Viewer (List ℕ))) → (own_step c (Hear v piece) (one_of c v es) o).1.refused ≡ absence (option_map kept o)
+    each : (o : Option (Viewer (List ℕ))) → (own_step c (Hear v piece) (one_of c v es) o).1.refused ≡ absence (option_map kept_viewer o)
     each None = refl
     each (Some w) = refl
 refused-as-due c es (Cut v) = own-due c es (Cut v) v absence (answer-hit c v es (Cut v) refl) each
   where
-    each : (o : Option (Viewer (List ℕ))) → (own_step c (Cut v) (one_of c v es) o).1.refused ≡ absence (option_map kept o)
+    each : (o : Option (Viewer (List ℕ))) → (own_step c (Cut v) (one_of c v es) o).1.refused ≡ absence (option_map kept_viewer o)
     each None = refl
     each (Some w) = refl
 refused-as-due c es (Close v) = own-due c es (Close v) v absence (answer-hit c v es (Close v) refl) each
   where
-    each : (o : Option (Viewer (List ℕ))) → (own_step c (Close v) (one_of c v es) o).1.refused ≡ absence (option_map kept o)
+    each : (o : Option (Viewer (List ℕ))) → (own_step c (Close v) (one_of c v es) o).1.refused ≡ absence (option_map kept_viewer o)
     each None = refl
     each (Some w) = refl
 

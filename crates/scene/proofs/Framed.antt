@@ -3,13 +3,13 @@ use Rattle.std.proofs.Common.{◌≡◌, ℕ, ◌*◌, ℤ, Bool, List, length, 
 use Rattle.region.specs.Places.{cut_destination, IsOnScreen}
 use Rattle.region.specs.declared.Rect.{Rect}
 use Rattle.framebuffer.specs.Frame.{Frame}
-use Rattle.framebuffer.specs.Picture.{written, moved}
+use Rattle.framebuffer.specs.Picture.{written, moved_colours}
 use Rattle.messages.specs.declared.Item.{Item}
 use Rattle.viewer.specs.Viewer.{KeptViewer}
 use Rattle.viewer.specs.Hearing.{after_items, heard_reply}
 use Rattle.viewer.specs.Sending.{sending_kept}
 use Rattle.scene.specs.declared.Config.{Config}
-use Rattle.scene.specs.Held.{IsSized}
+use Rattle.scene.specs.Consistent.{IsSized}
 
 module _ (c : Config) (f : Frame) (wide : f.width ≡ c.width) (high : f.height ≡ c.height) where
   pub written-on : (now : Frame) (r b : Rect) (colours : List ℕ) → now ≡ record f { colours = written f.width f.height b colours f.colours } → b ≡ r → now.colours ≡ written c.width c.height r colours f.colours
@@ -17,8 +17,8 @@ module _ (c : Config) (f : Frame) (wide : f.width ≡ c.width) (high : f.height 
       ap (λ (g : Frame). g.colours) e ∙ ap (λ w. written w f.height b colours f.colours) wide ∙ ap (λ h. written c.width h b colours f.colours) high
       ∙ ap (λ (q : Rect). written c.width c.height q colours f.colours) same
 
-  pub moved-on : (now : Frame) (set : ℤ → ℤ → Bool) (by : ℤ × ℤ) → now ≡ record f { colours = moved f.width f.height set by f.colours } → now.colours ≡ moved c.width c.height set by f.colours
-  moved-on now set by e = ap (λ (g : Frame). g.colours) e ∙ ap (λ w. moved w f.height set by f.colours) wide ∙ ap (λ h. moved c.width h set by f.colours) high
+  pub moved-on : (now : Frame) (set : ℤ → ℤ → Bool) (by : ℤ × ℤ) → now ≡ record f { colours = moved_colours f.width f.height set by f.colours } → now.colours ≡ moved_colours c.width c.height set by f.colours
+  moved-on now set by e = ap (λ (g : Frame). g.colours) e ∙ ap (λ w. moved_colours w f.height set by f.colours) wide ∙ ap (λ h. moved_colours c.width h set by f.colours) high
 
   pub wide-now : (now : Frame) (colours : List ℕ) → now ≡ record f { colours = colours } → now.width ≡ c.width
   wide-now now colours e = ap (λ (g : Frame). g.width) e ∙ wide

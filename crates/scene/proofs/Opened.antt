@@ -5,7 +5,7 @@ use Rattle.messages.specs.declared.Phase.{Phase}
 use Rattle.messages.specs.declared.Phase.TheVariants as phase
 use Rattle.messages.specs.Grammar.{End, waiting, faulty}
 use Rattle.messages.specs.Reading.{heard, Unfinished, unfinished_of, is_open_rest}
-use Rattle.viewer.specs.Viewer.{Viewer, is_open, is_open_viewer, kept}
+use Rattle.viewer.specs.Viewer.{Viewer, is_open, is_open_viewer, kept_viewer}
 
 open-by-rest : (p : Phase) (end : End) (bytes : List ℕ) → is_open p end ≡ is_open_rest (record { phase = p; unfinished = unfinished_of p end bytes })
 open-by-rest phase.Version waiting bytes = refl
@@ -26,5 +26,5 @@ open-by-rest (phase.Open v) waiting bytes = one_of_three ((slice_index bytes 0 =
     one_of_three false false x y z h k l = l
 
 -- a viewer is open where what is kept of it says so
-pub open-kept : (v : Viewer (List ℕ)) → is_open_viewer v ≡ is_open_rest (kept v).heard
+pub open-kept : (v : Viewer (List ℕ)) → is_open_viewer v ≡ is_open_rest (kept_viewer v).heard
 open-kept v = open-by-rest (heard v.heard).phase (heard v.heard).end (heard v.heard).unfinished

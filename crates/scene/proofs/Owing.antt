@@ -16,12 +16,12 @@ use Rattle.copy_schedule.specs.declared.Mark.{Mark}
 use Rattle.copy_schedule.specs.declared.Mark.TheVariants.{Clean, Owed}
 use Rattle.region.specs.Places.{cut_destination}
 use Rattle.copy_schedule.specs.Marks.{Marks, mark_at, marked}
-use Rattle.framebuffer.specs.Picture.{straight, union_of}
+use Rattle.framebuffer.specs.Picture.{straight, places_in}
 use Rattle.scene.specs.declared.Config.{Config}
 use Rattle.viewer.specs.Viewer.{KeptViewer, viewer_marked}
 use Rattle.viewer_list.specs.Viewers.{IsWhole}
 use Rattle.viewer_list.specs.SizeLemmas.{marked_none}
-use Rattle.scene.specs.Held.{IsSized}
+use Rattle.scene.specs.Consistent.{IsSized}
 use Rattle.scene.proofs.Kept.{all-head, all-tail}
 
 on_it : (w h k : ℕ) → 0 < w → k < w * h → on_screen w h (pos (k % w)) (pos (k / w)) ≡ true
@@ -94,5 +94,5 @@ straight-all : (rs : List Rect) → AllByRecursion HasPlaces rs → map straight
 straight-all [] all = refl
 straight-all (r ∷ rs) all = ap (λ q. q ∷ map straight rs) (straight-one r all.0.0 all.0.1) ∙ ap (λ l. r ∷ l) (straight-all rs all.1)
 
-pub region-straight : (rs : List Rect) → IsCanonical rs → union_of rs ≡ covers rs
+pub region-straight : (rs : List Rect) → IsCanonical rs → places_in rs ≡ covers rs
 region-straight rs canonical = ap covers (straight-all rs (rects_some rs canonical))

@@ -10,7 +10,7 @@ use Rattle.scene.specs.declared.Event.{Event}
 use Rattle.scene.specs.declared.Event.TheVariants.{Write, Paint, Mark, ScheduleCopy, DoCopy, Bell, CutText, Connect, Hear, Cut, Close}
 use Rattle.messages.specs.declared.Item.{Item}
 use Rattle.messages.specs.declared.Item.TheVariants as item
-use Rattle.viewer.specs.Viewer.{Viewer, is_open_viewer, after_item, kept}
+use Rattle.viewer.specs.Viewer.{Viewer, is_open_viewer, after_item, kept_viewer}
 use Rattle.scene.specs.Alone.{One, step, own_step, draw_step, after, answers_from, alone, owner_of, drawing_refusal, drawn, shown_drawing, hearing, empty_screen, nothing_to_say, refuses}
 use Rattle.viewer.specs.Hearing.{after_items}
 use Rattle.scene.specs.Answers.{own, is_owner, is_drawing, last_of, answer_to, picture_of, viewer_of, live_from, after_arrival, entry_of, SceneState, scene_after}
@@ -308,7 +308,7 @@ abbrev pub replaced : ℕ → Viewer Rest → ℕ × Viewer Rest → ℕ × View
 replaced v w p = cond (p.0 == v) (v, w) p
 
 entries-own : (c : Config) (es : List Event) (e : Event) (v : ℕ) (was now : Viewer (List ℕ)) → owner_of e ≡ Some v → viewer_of c v es ≡ Some was → viewer_of c v (es ++ e ∷ []) ≡ Some now
-    → (ns : List ℕ) → filter_map (λ u. entry_of u (viewer_of c u (es ++ e ∷ []))) ns ≡ map (replaced v (kept now)) (filter_map (λ u. entry_of u (viewer_of c u es)) ns)
+    → (ns : List ℕ) → filter_map (λ u. entry_of u (viewer_of c u (es ++ e ∷ []))) ns ≡ map (replaced v (kept_viewer now)) (filter_map (λ u. entry_of u (viewer_of c u es)) ns)
 entries-own c es e v was now h before behind [] = refl
 entries-own c es e v was now h before behind (n ∷ ns) =
     let new : ℕ → Option (ℕ × Viewer Rest) = λ u. entry_of u (viewer_of c u (es ++ e ∷ [])) in
@@ -318,25 +318,25 @@ entries-own c es e v was now h before behind (n ∷ ns) =
     (λ other. viewer-miss c n v es e h (swap-eq n v other)) (filter_map new ns) (filter_map old ns) rest
   where
     first : (b : Bool) (n : ℕ) → (n == v) ≡ b → (o p : Option (Viewer (List ℕ))) → ((n == v) ≡ true → o ≡ Some was) → ((n == v) ≡ true → p ≡ Some now) → ((n == v) ≡ false → p ≡ o)
-        → (news olds : List (ℕ × Viewer Rest)) → news ≡ map (replaced v (kept now)) olds → cons_option (entry_of n p) news ≡ map (replaced v (kept now)) (cons_option (entry_of n o) olds)
+        → (news olds : List (ℕ × Viewer Rest)) → news ≡ map (replaced v (kept_viewer now)) olds → cons_option (entry_of n p) news ≡ map (replaced v (kept_viewer now)) (cons_option (entry_of n o) olds)
     first true n same o p was_so now_so other news olds rest =
-        ap (λ q. cons_option (entry_of n q) news) (now_so same) ∙ ap (λ m. (m, kept now) ∷ news) ((Decides-eqb n v).0 same)
-        ∙ ap (λ l. (v, kept now) ∷ l) rest
-        ∙ ap (λ b. cond b (v, kept now) (n, kept was) ∷ map (replaced v (kept now)) olds) (sym same)
-        ∙ sym (ap (λ q. map (replaced v (kept now)) (cons_option (entry_of n q) olds)) (was_so same))
+        ap (λ q. cons_option (entry_of n q) news) (now_so same) ∙ ap (λ m. (m, kept_viewer now) ∷ news) ((Decides-eqb n v).0 same)
+        ∙ ap (λ l. (v, kept_viewer now) ∷ l) rest
+        ∙ ap (λ b. cond b (v, kept_viewer now) (n, kept_viewer was) ∷ map (replaced v (kept_viewer now)) olds) (sym same)
+        ∙ sym (ap (λ q. map (replaced v (kept_viewer now)) (cons_option (entry_of n q) olds)) (was_so same))
     first false n same o p was_so now_so other news olds rest =
         ap (λ q. cons_option (entry_of n q) news) (other same) ∙ ap (cons_option (entry_of n o)) rest ∙ stays o
       where
-        stays : (o : Option (Viewer (List ℕ))) → cons_option (entry_of n o) (map (replaced v (kept now)) olds) ≡ map (replaced v (kept now)) (cons_option (entry_of n o) olds)
+        stays : (o : Option (Viewer (List ℕ))) → cons_option (entry_of n o) (map (replaced v (kept_viewer now)) olds) ≡ map (replaced v (kept_viewer now)) (cons_option (entry_of n o) olds)
         stays None = refl
-        stays (Some w) = ap (λ b. cond b (v, kept now) (n, kept w) ∷ map (replaced v (kept now)) olds) (sym same)
+        stays (Some w) = ap (λ b. cond b (v, kept_viewer now) (n, kept_viewer w) ∷ map (replaced v (kept_viewer now)) olds) (sym same)
 
 abbrev pub Stays : Event → Type 0
 Stays e = (there : List ℕ) → after_arrival e there ≡ there
 
 -- the screen after a piece is heard, or an update cut, of a viewer that is there
 pub state-own : (c : Config) (es : List Event) (e : Event) (v : ℕ) (was now : Viewer (List ℕ)) → owner_of e ≡ Some v → Stays e → viewer_of c v es ≡ Some was → viewer_of c v (es ++ e ∷ []) ≡ Some now
-    → scene_after c (es ++ e ∷ []) ≡ record { config = c; picture = (scene_after c es).picture; viewers = map (replaced v (kept now)) (scene_after c es).viewers }
+    → scene_after c (es ++ e ∷ []) ≡ record { config = c; picture = (scene_after c es).picture; viewers = map (replaced v (kept_viewer now)) (scene_after c es).viewers }
 state-own c es e v was now h stays before behind =
     let s : List ℕ → List (ℕ × Viewer Rest) → SceneState = λ p vs. record { config = c; picture = p; viewers = vs } in
     ap (λ p. s p (scene_after c (es ++ e ∷ [])).viewers) (picture-own c v es e h)
@@ -372,11 +372,11 @@ pub state-find : (c : Config) (es : List Event) (v : ℕ) → find (λ p. p.0 ==
 state-find c es v = entries-find c es v (live_from [] es) (there-is c v es)
 
 -- the items' effects don't look at what is kept of the bytes
-pub kept-items : (c : Config) (items : List Item) (v : Viewer (List ℕ)) → kept (after_items c.width c.height items v) ≡ after_items c.width c.height items (kept v)
+pub kept-items : (c : Config) (items : List Item) (v : Viewer (List ℕ)) → kept_viewer (after_items c.width c.height items v) ≡ after_items c.width c.height items (kept_viewer v)
 kept-items c [] v = refl
 kept-items c (i ∷ items) v = kept-items c items (after_item c.width c.height i v) ∙ ap (after_items c.width c.height items) (kept-item c.width c.height i v)
   where
-    kept-item : (w h : ℕ) (i : Item) (v : Viewer (List ℕ)) → kept (after_item w h i v) ≡ after_item w h i (kept v)
+    kept-item : (w h : ℕ) (i : Item) (v : Viewer (List ℕ)) → kept_viewer (after_item w h i v) ≡ after_item w h i (kept_viewer v)
     kept-item w h (item.Version version) v = refl
     kept-item w h item.Choice v = refl
     kept-item w h (item.Init shared) v = refl
@@ -390,7 +390,7 @@ pub state-hear : (c : Config) (es : List Event) (v : ℕ) (piece : List ℕ) (wa
     → scene_after c (es ++ Hear v piece ∷ []) ≡ record {
       config = c;
       picture = (scene_after c es).picture;
-      viewers = map (replaced v (after_items c.width c.height (new_items was.heard piece) (record (kept was) { heard = rest (was.heard ++ piece) }))) (scene_after c es).viewers;
+      viewers = map (replaced v (after_items c.width c.height (new_items was.heard piece) (record (kept_viewer was) { heard = rest (was.heard ++ piece) }))) (scene_after c es).viewers;
     }
 state-hear c es v piece was h =
     let items = new_items was.heard piece in

@@ -14,7 +14,7 @@ use Rattle.region.specs.Region.{in_rect, on_screen}
 use Rattle.region.specs.Places.{by_place, some_place, cut_destination, same_offset}
 use Rattle.copy_schedule.specs.Marks.{Marks, copied_by}
 use Rattle.region.specs.PlaceLemmas.{value_on, is_place}
-use Rattle.framebuffer.specs.Picture.{colour_at, written, copied, union_of, colour_in}
+use Rattle.framebuffer.specs.Picture.{colour_at, written, copied_colours, places_in, colour_in}
 use Rattle.viewer_picture.specs.Messages.{may_come}
 use Rattle.viewer_picture.specs.MarkLemmas.{Shows, recoloured, marked-shows, moved-shows}
 use Rattle.scene.specs.declared.Config.{Config}
@@ -39,7 +39,7 @@ written-out w h r colours picture x y on out =
     ∙ ap (λ b. cond b (colour_in r colours x y % 2 ^ 24) (colour_at w h picture x y)) out
 
 copied-is : (w h : ℕ) (set : ℤ → ℤ → Bool) (by : ℤ × ℤ) (picture : List ℕ) (x y : ℤ) → on_screen w h x y ≡ true
-    → colour_at w h (copied w h set by picture) x y ≡ cond (cut_destination w h set by x y) (colour_at w h picture (x -ℤ by.0) (y -ℤ by.1)) (colour_at w h picture x y)
+    → colour_at w h (copied_colours w h set by picture) x y ≡ cond (cut_destination w h set by x y) (colour_at w h picture (x -ℤ by.0) (y -ℤ by.1)) (colour_at w h picture x y)
 copied-is w h set by picture x y on =
     value_on 0 w h (λ x y. cond (cut_destination w h set by x y) (colour_at w h picture (x -ℤ by.0) (y -ℤ by.1)) (colour_at w h picture x y)) x y on
 
@@ -65,7 +65,7 @@ no-place w h test none x y on = go (test x y) refl
         never : true ≡ false → ⊥
         never e = cc
 
-still : (w h : ℕ) (set : ℤ → ℤ → Bool) (by : ℤ × ℤ) (picture : List ℕ) → does_nothing w h set by ≡ true → (x y : ℤ) → on_screen w h x y ≡ true → colour_at w h (copied w h set by picture) x y ≡ colour_at w h picture x y
+still : (w h : ℕ) (set : ℤ → ℤ → Bool) (by : ℤ × ℤ) (picture : List ℕ) → does_nothing w h set by ≡ true → (x y : ℤ) → on_screen w h x y ≡ true → colour_at w h (copied_colours w h set by picture) x y ≡ colour_at w h picture x y
 still w h set by picture idle x y on = copied-is w h set by picture x y on ∙ why (same_offset by (pos 0, pos 0)) (some_place w h (cut_destination w h set by)) refl refl idle
   where
     same : {A : Type 0} (b : Bool) (z : A) → cond b z z ≡ z
@@ -134,7 +134,7 @@ module _ (c : Config) (picture : List ℕ) (v : Viewer (List ℕ)) (s : Watching
 
   -- a copy
   copy-watched : (set : ℤ → ℤ → Bool) (by : ℤ × ℤ) (b : Bool) → does_nothing c.width c.height set by ≡ b
-      → Watches c (copied c.width c.height set by picture) (record v { marks = cond b v.marks (copied_by (cut_destination c.width c.height set by) by v.uses_copyrect v.marks) }) s
+      → Watches c (copied_colours c.width c.height set by picture) (record v { marks = cond b v.marks (copied_by (cut_destination c.width c.height set by) by v.uses_copyrect v.marks) }) s
   unfolding colour
   copy-watched set by true e = remarked _ v.marks refl refl (recoloured _ colour _ v.marks s.shown (λ x y there. still c.width c.height set by picture e x y (on x y there)) h.follows.shows)
   copy-watched set by false e = by-copyrect v.uses_copyrect refl
@@ -142,7 +142,7 @@ module _ (c : Config) (picture : List ℕ) (v : Viewer (List ℕ)) (s : Watching
       cut : ℤ → ℤ → Bool
       cut = cut_destination c.width c.height set by
 
-      unset : (x y : ℤ) → on_screen v.marks.width v.marks.height x y ≡ true → colour_at c.width c.height (copied c.width c.height set by picture) x y ≡ cond (cut x y) (colour (x -ℤ by.0) (y -ℤ by.1)) (colour x y)
+      unset : (x y : ℤ) → on_screen v.marks.width v.marks.height x y ≡ true → colour_at c.width c.height (copied_colours c.width c.height set by picture) x y ≡ cond (cut x y) (colour (x -ℤ by.0) (y -ℤ by.1)) (colour x y)
       unset x y there = copied-is c.width c.height set by picture x y (on x y there)
 
       source : (a b d : Bool) → (a && b && d) ≡ true → d ≡ true
@@ -150,7 +150,7 @@ module _ (c : Config) (picture : List ℕ) (v : Viewer (List ℕ)) (s : Watching
       source true false d e = absurd cc
       source false b d e = absurd cc
 
-      by-copyrect : (uses : Bool) → v.uses_copyrect ≡ uses → Watches c (copied c.width c.height set by picture) (record v { marks = copied_by cut by uses v.marks }) s
+      by-copyrect : (uses : Bool) → v.uses_copyrect ≡ uses → Watches c (copied_colours c.width c.height set by picture) (record v { marks = copied_by cut by uses v.marks }) s
       by-copyrect true e = remarked _ _ refl refl (moved-shows _ (h.follows.copyrect e) colour _ cut by v.marks s.shown
           (λ x y hit. off (x -ℤ by.0) (y -ℤ by.1) (source (set x y) (on_screen c.width c.height x y) (on_screen c.width c.height (x -ℤ by.0) (y -ℤ by.1)) hit)) unset h.follows.shows)
       by-copyrect false e = remarked _ _ refl refl (marked-shows _ colour _ cut v.marks s.shown
@@ -160,8 +160,8 @@ module _ (c : Config) (picture : List ℕ) (v : Viewer (List ℕ)) (s : Watching
   pub drawing-watched : (e : Event) → owner_of e ≡ None → is_told e ≡ true → drawing_refusal c e ≡ None → Watches c (drawn c e picture) (shown_drawing c e (is_open_viewer v) v) s
   unfolding colour
   drawing-watched (event.Paint r colours) mine told accepted = remarked _ _ refl refl (marked-shows _ colour _ (in_rect r) v.marks s.shown (λ x y there out. written-out c.width c.height r colours picture x y (on x y there) out) h.follows.shows)
-  drawing-watched (event.Mark rects) mine told accepted = remarked _ _ refl refl (marked-shows _ colour colour (union_of rects) v.marks s.shown (λ x y there out. refl) h.follows.shows)
-  drawing-watched (event.DoCopy rects dx dy) mine told accepted = copy-watched (union_of rects) (dx, dy) (does_nothing c.width c.height (union_of rects) (dx, dy)) refl
+  drawing-watched (event.Mark rects) mine told accepted = remarked _ _ refl refl (marked-shows _ colour colour (places_in rects) v.marks s.shown (λ x y there out. refl) h.follows.shows)
+  drawing-watched (event.DoCopy rects dx dy) mine told accepted = copy-watched (places_in rects) (dx, dy) (does_nothing c.width c.height (places_in rects) (dx, dy)) refl
   drawing-watched event.Bell mine told accepted = noticed-watched notice.Bell (is_open_viewer v) tt
   drawing-watched (event.CutText text) mine told accepted = noticed-watched (notice.CutText text) (is_open_viewer v) (text-short (length text) (nat_lt 65536 (length text)) refl accepted)
   drawing-watched (event.Write r colours) mine told accepted = absurd cc

@@ -17,6 +17,7 @@ use Rattle.messages.specs.Server.{server_version}
 use Rattle.copy_schedule.specs.declared.Mark.TheVariants.{Clean, Copied, Owed}
 use Rattle.copy_schedule.specs.Marks.{Marks, mark_at, new_marks, copies_of, pixels_of, after_sending, pending, cut_of}
 use Rattle.region.specs.PlaceLemmas.{is_place}
+use Rattle.region.specs.Places.{longest_side}
 use Rattle.framebuffer.specs.Picture.{colour_at}
 use Rattle.viewer_picture.specs.Messages.{Agreed, messages_in, may_come}
 use Rattle.viewer_picture.specs.Claims.{RectanglesAreRead}
@@ -51,10 +52,10 @@ limits c e = let parts = accepted (is_size c.width c.height) (nat_lt 255 (length
     accepted true true d e = absurd cc
     accepted false b d e = absurd cc
 
-    wide : (w h : ℕ) → is_size w h ≡ true → w ≤ 8192
+    wide : (w h : ℕ) → is_size w h ≡ true → w ≤ longest_side
     wide w h e = grind (arith, nat_tests)
 
-    high : (w h : ℕ) → is_size w h ≡ true → h ≤ 8192
+    high : (w h : ℕ) → is_size w h ≡ true → h ≤ longest_side
     high w h e = grind (arith, nat_tests)
 
     short : (n : ℕ) → nat_lt 255 n ≡ false → n < 2 ^ 32

@@ -6,7 +6,7 @@ use Rattle.messages.specs.Reading.{Rest, is_open_rest}
 use Rattle.scene.specs.declared.Config.{Config}
 use Rattle.scene.specs.declared.Event.{Event}
 use Rattle.scene.specs.declared.Event.TheVariants.{Write, Paint, Mark, ScheduleCopy, DoCopy, Bell, CutText, Connect, Hear, Cut, Close}
-use Rattle.viewer.specs.Viewer.{Viewer, is_open_viewer, kept}
+use Rattle.viewer.specs.Viewer.{Viewer, is_open_viewer, kept_viewer}
 use Rattle.scene.specs.Alone.{One, step, after, owner_of, drawing_refusal, drawn, shown_drawing, empty_screen}
 use Rattle.scene.proofs.Opened.{open-kept}
 use Rattle.scene.specs.Answers.{own, is_owner, is_drawing, picture_of, viewer_of, live_from, after_arrival, entry_of, SceneState, scene_after}
@@ -69,7 +69,7 @@ viewer-drawing c v es e h =
 abbrev pub redrawn : Config → Event → ℕ × Viewer Rest → ℕ × Viewer Rest
 redrawn c e entry = (entry.0, shown_drawing c e (is_open_rest entry.1.heard) entry.1)
 
-kept-drawing : (c : Config) (e : Event) (b : Bool) (v : Viewer (List ℕ)) → kept (shown_drawing c e b v) ≡ shown_drawing c e b (kept v)
+kept-drawing : (c : Config) (e : Event) (b : Bool) (v : Viewer (List ℕ)) → kept_viewer (shown_drawing c e b v) ≡ shown_drawing c e b (kept_viewer v)
 kept-drawing c (Connect n) b v = refl
 kept-drawing c (Close n) b v = refl
 kept-drawing c (Hear n piece) b v = refl
@@ -84,7 +84,7 @@ kept-drawing c (CutText text) b v = refl
 
 entry-drawing : (c : Config) (e : Event) (v : ℕ) (o : Option (Viewer (List ℕ))) → entry_of v (option_map (λ w. shown_drawing c e (is_open_viewer w) w) o) ≡ option_map (redrawn c e) (entry_of v o)
 entry-drawing c e v None = refl
-entry-drawing c e v (Some w) = ap (λ k. Some (v, k)) (kept-drawing c e (is_open_viewer w) w ∙ ap (λ b. shown_drawing c e b (kept w)) (open-kept w))
+entry-drawing c e v (Some w) = ap (λ k. Some (v, k)) (kept-drawing c e (is_open_viewer w) w ∙ ap (λ b. shown_drawing c e b (kept_viewer w)) (open-kept w))
 
 all-entries : (c : Config) (es : List Event) (e : Event) → IsDrawing c e → (there : List ℕ) → filter_map (λ v. entry_of v (viewer_of c v (es ++ e ∷ []))) there ≡ map (redrawn c e) (filter_map (λ v. entry_of v (viewer_of c v es)) there)
 all-entries c es e h [] = refl

@@ -15,7 +15,7 @@ use Rattle.messages.specs.declared.Encoding.{Encoding}
 use Rattle.messages.specs.declared.Encoding.TheVariants as encoding
 use Rattle.messages.specs.Server.{cut_text, update_head}
 use Rattle.region.specs.Region.{on_screen}
-use Rattle.region.specs.Places.{IsOnScreen, source_rect}
+use Rattle.region.specs.Places.{IsOnScreen, source_rect, longest_side}
 use Rattle.copy_schedule.specs.declared.Mark.TheVariants.{Copied}
 use Rattle.copy_schedule.specs.Marks.{Marks, mark_at, copies_of, pixels_of}
 use Rattle.copy_schedule.specs.CutLemmas.{copies_on_screen, sources_inside, pixels_on_screen}
@@ -50,7 +50,7 @@ notices-read g (notice.CutText text ∷ notices) short n shown more room =
 
 -- ---- rectangles of a screen
 
-fits : (w h : ℕ) → w ≤ 8192 → h ≤ 8192 → (r : Rect) → IsOnScreen w h r → IsArea (area_of r)
+fits : (w h : ℕ) → w ≤ longest_side → h ≤ longest_side → (r : Rect) → IsOnScreen w h r → IsArea (area_of r)
 fits w h wide high r on = record {
   x = low r.x1 r.x2 w wide on.left on.columns on.right;
   y = low r.y1 r.y2 h high on.top on.rows on.bottom;
@@ -58,10 +58,10 @@ fits w h wide high r on = record {
   h = size r.y1 r.y2 h high on.top on.rows on.bottom;
 }
   where
-    low : (a b : ℤ) (n : ℕ) → n ≤ 8192 → pos 0 ≤ℤ a → a <ℤ b → b ≤ℤ pos n → nat_abs a < 2 ^ 16
+    low : (a b : ℤ) (n : ℕ) → n ≤ longest_side → pos 0 ≤ℤ a → a <ℤ b → b ≤ℤ pos n → nat_abs a < 2 ^ 16
     low a b n small h k l = omega (arith, ints)
 
-    size : (a b : ℤ) (n : ℕ) → n ≤ 8192 → pos 0 ≤ℤ a → a <ℤ b → b ≤ℤ pos n → nat_abs (b -ℤ a) < 2 ^ 16
+    size : (a b : ℤ) (n : ℕ) → n ≤ longest_side → pos 0 ≤ℤ a → a <ℤ b → b ≤ℤ pos n → nat_abs (b -ℤ a) < 2 ^ 16
     size a b n small h k l = omega (arith, ints)
 
 -- and it is in the picture of a viewer that knows the screen's size
@@ -74,7 +74,7 @@ inside g w h wide high r on = tests (nat_abs r.x1 + nat_abs (r.x2 -ℤ r.x1)) (n
     tests : (x y : ℕ) → x ≤ g.width → y ≤ g.height → (nat_le x g.width && nat_le y g.height) ≡ true
     tests x y h k = grind (arith, nat_tests)
 
-part : (g : Agreed) (w h : ℕ) → g.width ≡ w → g.height ≡ h → w ≤ 8192 → h ≤ 8192 → (r : Rect) → IsOnScreen w h r → IsPart g (area_of r)
+part : (g : Agreed) (w h : ℕ) → g.width ≡ w → g.height ≡ h → w ≤ longest_side → h ≤ longest_side → (r : Rect) → IsOnScreen w h r → IsPart g (area_of r)
 part g w h is-wide is-high wide high r on = record { fits = fits w h wide high r on; inside = inside g w h is-wide is-high r on }
 
 -- its colours are as many as its places
@@ -108,7 +108,7 @@ same-size by r = ap (λ w. record { x = nat_abs (r.x1 -ℤ by.0); y = nat_abs (r
     same a b d = let moved : (b -ℤ d) -ℤ (a -ℤ d) ≡ b -ℤ a = omega (arith, ints) in ap nat_abs moved
 
 -- a viewer that knows the screen's size
-module _ (reads : RectanglesAreRead) (g : Agreed) (w h : ℕ) (is-wide : g.width ≡ w) (is-high : g.height ≡ h) (wide : w ≤ 8192) (high : h ≤ 8192) where
+module _ (reads : RectanglesAreRead) (g : Agreed) (w h : ℕ) (is-wide : g.width ≡ w) (is-high : g.height ≡ h) (wide : w ≤ longest_side) (high : h ≤ longest_side) where
   copy-read : (by : ℤ × ℤ) (r : Rect) → may_come g.listed (pos 1) ≡ true → IsOnScreen w h r → IsOnScreen w h (source_rect by r) → IsReadAs g (copy_bytes by) (copy_of by) r
   unfolding copy_of
   copy-read by r comes on source shown more =
@@ -124,7 +124,7 @@ module _ (reads : RectanglesAreRead) (g : Agreed) (w h : ℕ) (is-wide : g.width
       (subst (λ (n : ℕ). 0 < n) (sym (colours-count w h picture r)) (some-places w h r on)) (colours-count w h picture r) shown more
 
 -- a viewer that knows the screen's size, by the marks; CopyRect may come where a place is copied
-module _ (reads : RectanglesAreRead) (g : Agreed) (m : Marks) (is-wide : g.width ≡ m.width) (is-high : g.height ≡ m.height) (wide : m.width ≤ 8192) (high : m.height ≤ 8192)
+module _ (reads : RectanglesAreRead) (g : Agreed) (m : Marks) (is-wide : g.width ≡ m.width) (is-high : g.height ≡ m.height) (wide : m.width ≤ longest_side) (high : m.height ≤ longest_side)
     (may : (x y : ℤ) → on_screen m.width m.height x y ≡ true → mark_at m x y ≡ Copied → may_come g.listed (pos 1) ≡ true) where
   -- the rectangles of an update
   rectangles-read : (e : Encoding) → may_come g.listed (number_of e) ≡ true → (picture : List ℕ) (limit : ℕ) (shown : Shown) (more : List ℕ)

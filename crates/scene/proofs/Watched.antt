@@ -8,6 +8,7 @@ use Rattle.pixel_translate.specs.declared.Area.{Area}
 use Rattle.pixel_translate.specs.Pixel.{server_format}
 use Rattle.region.specs.declared.Rect.{Rect}
 use Rattle.region.specs.Region.{in_rect, on_screen}
+use Rattle.region.specs.Places.{longest_side}
 use Rattle.encode_raw.specs.Reading.{◌>>=◌, bytes_at, Shown, is_inside}
 use Rattle.messages.specs.declared.Encoding.{Encoding}
 use Rattle.messages.specs.declared.Encoding.TheVariants as encoding
@@ -34,8 +35,8 @@ use Rattle.scene.specs.Shown.{Watching, forgotten, item_at, items_at, all_read, 
 
 -- the limits of a screen, as far as they are used
 pub record Limits (c : Config) : Type 0 where
-  pub width : c.width ≤ 8192
-  pub height : c.height ≤ 8192
+  pub width : c.width ≤ longest_side
+  pub height : c.height ≤ longest_side
   pub name : length c.name < 2 ^ 32
   pub limit : c.rects_per_update ≤ 1000
 
@@ -125,7 +126,7 @@ copyrect-comes encoding.Raw = refl
 copyrect-comes encoding.Rre = refl
 copyrect-comes encoding.Hextile = refl
 
-size-told : (n : ℕ) → n ≤ 8192 → from_be_bytes w16 (to_be_bytes w16 n) ≡ n
+size-told : (n : ℕ) → n ≤ longest_side → from_be_bytes w16 (to_be_bytes w16 n) ≡ n
 size-told n small = from_be_bytes-to_be_bytes_2 n (omega (arith, small))
 
 item-read : (c : Config) (colour : ℤ → ℤ → ℕ) → Limits c → (p : Phase) (i : Item) → Comes p i → (v : Viewer (List ℕ)) (s : Watching) (more : List ℕ) → Follows c colour p v s → Item-read c colour p i v s more

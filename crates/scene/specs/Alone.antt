@@ -3,6 +3,7 @@ use Rattle.std.specs.Prelude.{◌≡◌, MatchOption, MatchResult, ℕ, ◌*◌,
 use Rattle.std.specs.declared.alloc.AllocError.{AllocError}
 use Rattle.region.specs.declared.Rect.{Rect}
 use Rattle.region.specs.Region.{in_rect}
+use Rattle.region.specs.Places.{longest_side}
 use Rattle.messages.specs.Reading.{new_items}
 use Rattle.messages.specs.Server.{server_version}
 use Rattle.scene.specs.declared.Config.{Config}
@@ -12,7 +13,7 @@ use Rattle.scene.specs.declared.Event.{Event}
 use Rattle.scene.specs.declared.Event.TheVariants.{Write, Paint, Mark, ScheduleCopy, DoCopy, Bell, CutText, Connect, Hear, Cut, Close}
 use Rattle.scene.specs.declared.Answer.{Answer}
 use Rattle.viewer.specs.declared.notices.Notice.TheVariants as notice
-use Rattle.framebuffer.specs.Picture.{blank, written, copied, union_of}
+use Rattle.framebuffer.specs.Picture.{blank, written, copied_colours, places_in}
 use Rattle.viewer.specs.Viewer.{Viewer, new_viewer, is_open_viewer, noticed, viewer_marked, viewer_copied}
 use Rattle.viewer.specs.declared.Reply.{Reply}
 use Rattle.viewer.specs.Hearing.{after_items, heard_reply}
@@ -51,7 +52,7 @@ settled e = Ok (refuses e)
 
 -- The limits of a screen: 1 to 8192 columns and rows each, at most 2 ^ 24 places, 255 bytes of name, 1 to 1000 rectangles.
 abbrev pub is_size : ℕ → ℕ → Bool
-is_size w h = nat_le 1 w && nat_le w 8192 && nat_le 1 h && nat_le h 8192 && nat_le (w * h) (2 ^ 24)
+is_size w h = nat_le 1 w && nat_le w longest_side && nat_le 1 h && nat_le h longest_side && nat_le (w * h) (2 ^ 24)
 
 abbrev pub config_refusal : Config → Option ScreenError
 config_refusal c =
@@ -90,15 +91,15 @@ drawing_refusal c _ = None
 abbrev pub drawn : Config → Event → List ℕ → List ℕ
 drawn c (Write r colours) picture = written c.width c.height r colours picture
 drawn c (Paint r colours) picture = written c.width c.height r colours picture
-drawn c (DoCopy rects dx dy) picture = copied c.width c.height (union_of rects) (dx, dy) picture
+drawn c (DoCopy rects dx dy) picture = copied_colours c.width c.height (places_in rects) (dx, dy) picture
 drawn c _ picture = picture
 
 -- and to a viewer, which is open or not
 abbrev pub shown_drawing : {B : Type 0} → Config → Event → Bool → Viewer B → Viewer B
 shown_drawing c (Paint r colours) open_now v = viewer_marked (in_rect r) v
-shown_drawing c (Mark rects) open_now v = viewer_marked (union_of rects) v
-shown_drawing c (ScheduleCopy rects dx dy) open_now v = viewer_copied c.width c.height (union_of rects) (dx, dy) v
-shown_drawing c (DoCopy rects dx dy) open_now v = viewer_copied c.width c.height (union_of rects) (dx, dy) v
+shown_drawing c (Mark rects) open_now v = viewer_marked (places_in rects) v
+shown_drawing c (ScheduleCopy rects dx dy) open_now v = viewer_copied c.width c.height (places_in rects) (dx, dy) v
+shown_drawing c (DoCopy rects dx dy) open_now v = viewer_copied c.width c.height (places_in rects) (dx, dy) v
 shown_drawing c Bell open_now v = noticed notice.Bell open_now v
 shown_drawing c (CutText text) open_now v = noticed (notice.CutText text) open_now v
 shown_drawing c _ open_now v = v

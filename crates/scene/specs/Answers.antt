@@ -7,7 +7,7 @@ use Rattle.scene.specs.declared.ScreenError.{ScreenError}
 use Rattle.scene.specs.declared.Event.{Event}
 use Rattle.scene.specs.declared.Event.TheVariants.{Connect, Close}
 use Rattle.scene.specs.declared.Answer.{Answer}
-use Rattle.viewer.specs.Viewer.{Viewer, kept}
+use Rattle.viewer.specs.Viewer.{Viewer, kept_viewer}
 use Rattle.scene.specs.Alone.{owner_of, drawing_refusal, nothing_to_say, refuses, empty_screen, after, alone}
 
 abbrev pub is_owner : ℕ → Option ℕ → Bool
@@ -71,7 +71,7 @@ pub record SceneState : Type 0 where
   pub viewers : List (ℕ × Viewer Rest)
 
 abbrev pub entry_of : ℕ → Option (Viewer (List ℕ)) → Option (ℕ × Viewer Rest)
-entry_of v o = option_map (λ viewer. (v, kept viewer)) o
+entry_of v o = option_map (λ viewer. (v, kept_viewer viewer)) o
 
 abbrev pub scene_after : Config → List Event → SceneState
 scene_after c es = record {

@@ -5,7 +5,7 @@ pub mod Claims
 pub mod Shown
 pub mod Pictures
 pub mod Checked
-pub mod Held
+pub mod Consistent
 pub mod Examples
 pub mod Drawing
 pub mod Shows

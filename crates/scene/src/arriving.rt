@@ -3,9 +3,10 @@
 ghost use Rattle.std.specs.Prelude.{◌≡◌, None, ◌∷◌, ◌++◌, [], All, ◌≤◌, IfOk, OnOk, OnErr};
 ghost use Rattle.std.specs.Map.{values_of};
 ghost use Rattle.messages.specs.Server.{server_version};
-ghost use Rattle.viewer.specs.Viewer.{new_viewer, kept};
+ghost use Rattle.viewer.specs.Viewer.{new_viewer, kept_viewer};
 ghost use Rattle.viewer_list.specs.Viewers.{viewer_of};
-ghost use Rattle.scene.specs.Held.{IsSized};
+ghost use Rattle.scene.specs.Consistent.{IsSized};
+ghost use Rattle.region.specs.Places.{longest_side};
 
 use crate::Config;
 use listed::Listed;
@@ -24,12 +25,12 @@ pub fn let_in(
 ) -> Result<Listed<u8>, AllocError>
     requires absent { viewer_of viewers.old number ≡ None }
     requires some_columns { 1 ≤ config.now.width }
-    requires columns { config.now.width ≤ 8192 }
+    requires columns { config.now.width ≤ longest_side }
     requires some_rows { 1 ≤ config.now.height }
-    requires rows { config.now.height ≤ 8192 }
+    requires rows { config.now.height ≤ longest_side }
     ensures version { IfOk result (λ bytes. bytes ≡ server_version) }
     ensures entries { OnOk result (viewers.new.pairs ≡
-        viewers.old.pairs ++ (number, kept (new_viewer config.now.width config.now.height)) ∷ []) }
+        viewers.old.pairs ++ (number, kept_viewer (new_viewer config.now.width config.now.height)) ∷ []) }
     ensures sized { All (IsSized config.now) (values_of viewers.old.pairs) →
         All (IsSized config.now) (values_of viewers.new.pairs) }
     ensures err { OnErr result (viewers.new ≡ viewers.old) }

@@ -7,13 +7,13 @@ ghost use Rattle.std.specs.Prelude.{◌≡◌, ◌≢◌, ◌⊎◌, true, false
 ghost use Rattle.std.specs.Map.{values_of};
 ghost use Rattle.client_list.specs.Connected.{changed};
 ghost use Rattle.region.specs.Region.{covers, in_rect, on_screen};
-ghost use Rattle.region.specs.Held.{in_range};
-ghost use Rattle.region.specs.Places.{same_offset, IsOnScreen};
+ghost use Rattle.region.specs.RegionView.{in_range};
+ghost use Rattle.region.specs.Places.{same_offset, IsOnScreen, longest_side};
 ghost use Rattle.copy_schedule.specs.Log.{IsCutEntry};
-ghost use Rattle.framebuffer.specs.Picture.{union_of};
+ghost use Rattle.framebuffer.specs.Picture.{places_in};
 ghost use Rattle.viewer.specs.Viewer.{viewer_marked};
 ghost use Rattle.viewer_list.specs.Viewers.{drawn, IsWhole};
-ghost use Rattle.scene.specs.Held.{IsSized};
+ghost use Rattle.scene.specs.Consistent.{IsSized};
 
 use crate::Config;
 use framebuffer::destinations;
@@ -32,7 +32,7 @@ pub fn moves_nothing(rects: &[Rect], offset: (i32, i32)) -> bool
 
 /// The region of rectangles of a screen.
 pub fn region_of(alloc: Global, rects: &[Rect]) -> Result<Region, AllocError>
-    requires { All (IsOnScreen 8192 8192) rects.now }
+    requires { All (IsOnScreen longest_side longest_side) rects.now }
     ensures { IfOk result (λ region. covers region.list ≡ covers rects.now) }
 {
     Region::from_rects_in_range(alloc, rects)
@@ -78,10 +78,10 @@ pub fn owe_rects(
     rects: &[Rect],
 ) -> Result<(), AllocError>
     requires some_columns { 1 ≤ config.now.width }
-    requires columns { config.now.width ≤ 8192 }
-    requires rows { config.now.height ≤ 8192 }
+    requires columns { config.now.width ≤ longest_side }
+    requires rows { config.now.height ≤ longest_side }
     requires sized { All (IsSized config.now) (values_of viewers.old.pairs) }
-    ensures ok { OnOk result (viewers.new.pairs ≡ changed (viewer_marked (union_of rects.now)) viewers.old.pairs) }
+    ensures ok { OnOk result (viewers.new.pairs ≡ changed (viewer_marked (places_in rects.now)) viewers.old.pairs) }
     ensures err { OnErr result (viewers.new.pairs ≡ viewers.old.pairs) }
 {
     if viewers.is_empty() {
@@ -94,8 +94,8 @@ pub fn owe_rects(
 
 /// Whether no place of a region is off the screen, for certain.
 fn is_on_screen(config: &Config, region: &Region) -> bool
-    requires columns { config.now.width ≤ 8192 }
-    requires rows { config.now.height ≤ 8192 }
+    requires columns { config.now.width ≤ longest_side }
+    requires rows { config.now.height ≤ longest_side }
 {
     match region.bbox() {
         Some(rect) => {
@@ -110,8 +110,8 @@ fn is_on_screen(config: &Config, region: &Region) -> bool
 
 /// A region with the places of another that are on the screen. It is a plain copy where its box is on the screen.
 fn cut_to_screen(alloc: Global, config: &Config, region: &Region) -> Result<Region, AllocError>
-    requires columns { config.now.width ≤ 8192 }
-    requires rows { config.now.height ≤ 8192 }
+    requires columns { config.now.width ≤ longest_side }
+    requires rows { config.now.height ≤ longest_side }
     ensures { IfOk result (λ cut. (x y : ℤ) → on_screen config.now.width config.now.height x y ≡ true →
         covers cut.list x y ≡ covers region.now.list x y) }
 {
@@ -136,8 +136,8 @@ pub fn owe_region(
     region: &Region,
 ) -> Result<(), AllocError>
     requires some_columns { 1 ≤ config.now.width }
-    requires columns { config.now.width ≤ 8192 }
-    requires rows { config.now.height ≤ 8192 }
+    requires columns { config.now.width ≤ longest_side }
+    requires rows { config.now.height ≤ longest_side }
     requires sized { All (IsSized config.now) (values_of viewers.old.pairs) }
     ensures ok { OnOk result (viewers.new.pairs ≡ changed (viewer_marked (covers region.now.list)) viewers.old.pairs) }
     ensures err { OnErr result (viewers.new.pairs ≡ viewers.old.pairs) }

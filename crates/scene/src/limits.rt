@@ -6,13 +6,14 @@ ghost use Rattle.scene.specs.Checked.{IsChecked};
 
 use crate::{Config, ScreenError};
 use framebuffer::{Block, block_of};
-use region::Rect;
+use region::{LONGEST_SIDE, Rect};
 
 /// Whether a screen may have so many columns and rows.
 fn is_size(width: u32, height: u32) -> bool
     ensures { result ≡ is_size width height }
 {
-    1 <= width && width <= 8192 && 1 <= height && height <= 8192 && width * height <= 1 << 24
+    let longest = LONGEST_SIDE as u32;
+    1 <= width && width <= longest && 1 <= height && height <= longest && width * height <= 1 << 24
 }
 
 /// Why no screen is made of a configuration.

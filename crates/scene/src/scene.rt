@@ -3,7 +3,7 @@
 ghost use Rattle.std.specs.Prelude.{◌≡◌, ◌≢◌, ◌++◌, ◌∷◌, [], List, IfSome, IfOk, OnOk, OnErr, MatchOption, MatchResult, IsOk};
 ghost use Rattle.std.specs.Prelude.{IsOkUnless, IsSome, None, Some, length, slice_index, is_some, ◌↔◌, ◌<◌, ◌≤◌, ◌+◌, ◌*◌};
 ghost use Rattle.std.specs.Map.{keys_of};
-ghost use Rattle.messages.specs.Reading.{fault_kept, is_open_rest};
+ghost use Rattle.messages.specs.Reading.{fault_in_rest, is_open_rest};
 ghost use Rattle.messages.specs.Server.{server_version};
 ghost use Rattle.scene.specs.declared.Config.{Config};
 ghost use Rattle.scene.specs.declared.Event.{Event};
@@ -42,11 +42,11 @@ impl Model for Scene {
 
     ghost Value = { SceneState };
 
-    ghost use Rattle.scene.specs.Held.{IsHeld};
+    ghost use Rattle.scene.specs.Consistent.{IsConsistent};
 
     ghost view = { λ a. record { config = a.config; picture = a.picture.colours; viewers = a.viewers.pairs } };
 
-    ghost invariant = { λ a. IsHeld a.config a.picture (values_of a.viewers.pairs) };
+    ghost invariant = { λ a. IsConsistent a.config a.picture (values_of a.viewers.pairs) };
 }
 
 impl Scene {
@@ -128,7 +128,7 @@ impl Scene {
     /// Why a viewer is heard no further, if it met a fault. Refused as `NoViewer` where there is none with the number.
     pub fn fault(&self, number: u64) -> Result<Option<Fault>, ScreenError>
         ensures { MatchOption (viewer_at self.now number) (result ≡ Err ScreenError.NoViewer) (λ viewer. result ≡
-            Ok (fault_kept viewer.heard)) }
+            Ok (fault_in_rest viewer.heard)) }
     {
         match self.viewers.fault(number) {
             Some(fault) => Ok(fault),

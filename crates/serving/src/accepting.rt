@@ -4,7 +4,7 @@ ghost use Rattle.std.specs.Prelude.{◌≡◌, All, IfOk, length};
 ghost use Rattle.serving.specs.Serving.{AreNumbered, AreSeated};
 
 use crate::connection::serve_connection;
-use crate::doors::{Doors, Place};
+use crate::doors::{Doors, Slot};
 use crate::serving::ServeError;
 use input_queue::{InputHub, InputSeat};
 use receipts::Receipt;
@@ -21,7 +21,7 @@ use update_sender::{Line, Shared};
 struct Caller {
     line: Line,
     stream: TcpStream,
-    place: Place,
+    slot: Slot,
 }
 
 /// A viewer's thread gives a receipt with this number.
@@ -45,13 +45,9 @@ fn accept<L: Ledger, R: Wait>(
     let Ok((stream, _address)) = listener.accept() else {
         return Err(ServeError::Network);
     };
-    let place = doors.admit(rt, &stream)?;
+    let slot = doors.admit(rt, &stream)?;
     let line = shared.connect(rt, number)?;
-    Ok(Caller {
-        line,
-        stream,
-        place,
-    })
+    Ok(Caller { line, stream, slot })
 }
 
 /// Serves a connection until its viewer has ended; its handle is not kept any longer then.
@@ -67,13 +63,9 @@ fn serve_caller<L: Ledger + Send + Sync, R: Threads + Wait + Sync>(
     requires viewer { seat.viewer ≡ caller.line.listener.viewer }
     ensures { result.viewer ≡ caller.line.listener.viewer }
 {
-    let Caller {
-        line,
-        stream,
-        place,
-    } = caller;
+    let Caller { line, stream, slot } = caller;
     let receipt = serve_connection(rt, shared, line, stream, hub, seat);
-    doors.leave(rt, place);
+    doors.leave(rt, slot);
     receipt
 }
 

@@ -21,7 +21,7 @@ pub(crate) struct Doors {
 
 /// Where a connection's handle is kept.
 #[derive(Clone, Copy, Debug)]
-pub(crate) struct Place {
+pub(crate) struct Slot {
     key: usize,
 }
 
@@ -33,17 +33,17 @@ pub(crate) fn shut(stream: &TcpStream) {
 
 impl Streams {
     /// Keeps a handle of a connection. Refused where all are shut.
-    fn admit(&mut self, stream: TcpStream) -> Result<Place, ServeError> {
+    fn admit(&mut self, stream: TcpStream) -> Result<Slot, ServeError> {
         if self.are_shut {
             return Err(ServeError::Network);
         }
         let key = self.streams.insert(stream)?;
-        Ok(Place { key })
+        Ok(Slot { key })
     }
 
     /// A handle is kept no longer.
-    fn leave(&mut self, place: Place) {
-        let _stream = self.streams.try_remove(place.key);
+    fn leave(&mut self, slot: Slot) {
+        let _stream = self.streams.try_remove(slot.key);
     }
 
     /// Shuts all that are served, and lets in no other.
@@ -67,7 +67,7 @@ impl Doors {
     }
 
     /// A connection is let in. Refused where all were shut, and where the system has no room for a further handle.
-    pub fn admit<R: Wait>(&self, rt: &R, stream: &TcpStream) -> Result<Place, ServeError> {
+    pub fn admit<R: Wait>(&self, rt: &R, stream: &TcpStream) -> Result<Slot, ServeError> {
         let Ok(handle) = stream.try_clone() else {
             return Err(ServeError::Network);
         };
@@ -75,8 +75,8 @@ impl Doors {
     }
 
     /// A connection has ended.
-    pub fn leave<R: Wait>(&self, rt: &R, place: Place) {
-        self.streams.lock(rt).leave(place);
+    pub fn leave<R: Wait>(&self, rt: &R, slot: Slot) {
+        self.streams.lock(rt).leave(slot);
     }
 
     /// Shuts all connections, and lets in no other.

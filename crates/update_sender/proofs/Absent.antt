@@ -4,7 +4,7 @@ use Rattle.std.specs.Prelude.{◌&&◌, ◌||◌, ◌==◌, nat_lt, not, if◌th
 use Rattle.std.specs.List.{list_any, filter_map, cons_option}
 use Rattle.std.specs.Map.{lookup}
 use Rattle.messages.specs.Reading.{Rest}
-use Rattle.viewer.specs.Viewer.{Viewer, KeptViewer, kept}
+use Rattle.viewer.specs.Viewer.{Viewer, KeptViewer, kept_viewer}
 use Rattle.scene.specs.declared.Config.{Config}
 use Rattle.scene.specs.declared.ScreenError.{ScreenError}
 use Rattle.scene.specs.declared.ScreenError.TheVariants as refusals
@@ -115,7 +115,7 @@ lookup-lacks n viewers (v ∷ vs) a = go (viewers v) (v == n) refl (λ e. lookup
         → lookup {X = KeptViewer} (λ k. k == n) (cons_option (entry_of v o) rest) ≡ None
     go o true is more e = absurd cc
     go None false is more e = more e
-    go (Some w) false is more e = ap (λ b. cond b (Some (kept w)) (lookup {X = KeptViewer} (λ k. k == n) rest)) is ∙ more e
+    go (Some w) false is more e = ap (λ b. cond b (Some (kept_viewer w)) (lookup {X = KeptViewer} (λ k. k == n) rest)) is ∙ more e
 
 pub absent : (s : State) (h : List Event) (greatest : Option ℕ) (counted n : ℕ) → Stands s h greatest counted → is_next greatest n ≡ true → viewer_at s n ≡ None
 absent s h greatest counted n k next =

@@ -1,6 +1,6 @@
 -- What stands behind the lock, and what each hold does to it.
 use Rattle.std.specs.Prelude.{◌≡◌, ℕ, suc, Bool, true, false, List, [], ◌∷◌, ◌++◌, length, Option, Some, None}
-use Rattle.messages.specs.Reading.{fault_kept, is_open_rest}
+use Rattle.messages.specs.Reading.{fault_in_rest, is_open_rest}
 use Rattle.viewer.specs.Viewer.{KeptViewer}
 use Rattle.scene.specs.declared.Event.{Event}
 use Rattle.scene.specs.declared.Event.TheVariants.{Cut}
@@ -11,7 +11,7 @@ use Rattle.update_sender.specs.declared.turn.Turn.TheVariants.{Send, Stopped, Cl
 use Rattle.update_sender.specs.Numbers.{rises, newest}
 
 -- what is held: the screen, the greatest number that connected, whether all was stopped, and how many drawing calls were counted
-pub record Held : Type 0 where
+pub record Locked : Type 0 where
   pub screen : State
   pub newest : Option ℕ
   pub stopped : Bool
@@ -27,30 +27,30 @@ pub record Stands (screen : State) (history : List Event) (greatest : Option ℕ
   pub as_many : counted ≡ length (drawings history)
 
 -- one event more: whatever list the screen stood for, it stands for that list with the event behind it
-abbrev pub Steps : Event → Held → Held → Type 0
+abbrev pub Steps : Event → Locked → Locked → Type 0
 Steps e old new = (c : _) (list : List Event) → old.screen ≡ state c list → new.screen ≡ state c (list ++ e ∷ [])
 
 -- one event more, and nothing else is another
-abbrev pub StepsAlone : Event → Held → Held → Type 0
+abbrev pub StepsAlone : Event → Locked → Locked → Type 0
 StepsAlone e old new = Steps e old new × (new ≡ record old { screen = new.screen })
 
 -- a viewer that connects is the newest
-abbrev pub Joins : ℕ → Event → Held → Held → Type 0
+abbrev pub Joins : ℕ → Event → Locked → Locked → Type 0
 Joins v e old new = Steps e old new × (new ≡ record old { screen = new.screen; newest = Some v })
 
 -- a drawing call is counted
-abbrev pub Draws : Event → Held → Held → Type 0
+abbrev pub Draws : Event → Locked → Locked → Type 0
 Draws e old new = Steps e old new × (new ≡ record old { screen = new.screen; drawn = suc old.drawn })
 
 abbrev faulty : KeptViewer → Option Turn
-faulty viewer = elim (fault_kept viewer.heard) [ None ↦ None | Some fault ↦ Some (Faulty fault) ]
+faulty viewer = elim (fault_in_rest viewer.heard) [ None ↦ None | Some fault ↦ Some (Faulty fault) ]
 
 abbrev pub ending_of : Option KeptViewer → Option Turn
 ending_of None = Some Closed
 ending_of (Some viewer) = faulty viewer
 
 -- why a viewer is sent nothing any more: all was stopped, or it is closed, or it has a fault, the first of these
-abbrev pub ending : Held → ℕ → Option Turn
+abbrev pub ending : Locked → ℕ → Option Turn
 ending held v = if_stopped held.stopped (ending_of (viewer_at held.screen v))
   where
     if_stopped : Bool → Option Turn → Option Turn
@@ -63,6 +63,6 @@ is_open_now None = false
 is_open_now (Some viewer) = is_open_rest viewer.heard
 
 -- a turn is an event where it sends
-abbrev pub Takes : ℕ → Held → Held → Option Turn → Type 0
+abbrev pub Takes : ℕ → Locked → Locked → Option Turn → Type 0
 Takes v old new (Some (Send update)) = StepsAlone (Cut v) old new
 Takes v old new _ = new ≡ old

@@ -37,9 +37,9 @@ pub struct Desk<L: Ledger> {
 impl<L: Ledger> Model for Desk<L> {
     ghost use Rattle.std.specs.Prelude.{List};
     ghost use Rattle.scene.specs.declared.Event.{Event};
-    ghost use Rattle.update_sender.specs.Standing.{Held, Stands};
+    ghost use Rattle.update_sender.specs.Standing.{Locked, Stands};
 
-    ghost Value = { Held };
+    ghost Value = { Locked };
 
     ghost view = { λ a. record { screen = a.screen; newest = a.newest; stopped = a.stopped; drawn = a.drawings.total } };
 

@@ -29,8 +29,8 @@ pub record Viewer (Bytes : Type 0) : Type 0 where
 abbrev pub KeptViewer : Type 0
 KeptViewer = Viewer Rest
 
-abbrev pub kept : Viewer (List ℕ) → KeptViewer
-kept v = record { heard = rest v.heard; format = v.format; encoding = v.encoding; uses_copyrect = v.uses_copyrect; marks = v.marks; notices = v.notices }
+abbrev pub kept_viewer : Viewer (List ℕ) → KeptViewer
+kept_viewer v = record { heard = rest v.heard; format = v.format; encoding = v.encoding; uses_copyrect = v.uses_copyrect; marks = v.marks; notices = v.notices }
 
 -- at connecting
 abbrev pub new_viewer : ℕ → ℕ → Viewer (List ℕ)

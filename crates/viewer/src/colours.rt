@@ -6,6 +6,7 @@ ghost use Rattle.pixel_translate.specs.Pixel.{colour_bytes};
 ghost use Rattle.encode_raw.specs.Raw.{raw};
 ghost use Rattle.framebuffer.specs.Blocks.{block_colours};
 ghost use Rattle.viewer.specs.Sending.{encoded};
+ghost use Rattle.region.specs.Places.{longest_side};
 
 use encode_hextile::encode_hextile_with_table;
 use encode_raw::{encode_raw_with_table, put_raw_pixels, rect_header};
@@ -13,6 +14,7 @@ use encode_rre::{encode_rre_by_rows, encode_rre_with_table};
 use framebuffer::{Block, Framebuffer, Snapshot};
 use messages::Encoding;
 use pixel_translate::{Area, Table};
+use region::LONGEST_SIDE;
 use std::alloc::{AllocError, Global};
 use std::marker::Model;
 
@@ -20,12 +22,9 @@ use std::marker::Model;
 /// which takes less time and keeps no row of the picture.
 const SHARED_COLUMNS: usize = 256;
 
-/// The colours that are written in Raw at once are at most so many: 8192, as many as the widest row has.
-const RUN: usize = 8192;
-
 /// How a rectangle's colours are held.
 #[derive(Drop)]
-pub enum Held {
+pub enum Storage {
     Copied(Vec<u32>),
     Shared(Snapshot),
 }
@@ -33,16 +32,16 @@ pub enum Held {
 /// The colours of a rectangle, row by row. Contracts see the list of them.
 #[derive(Drop)]
 pub struct Colours {
-    held: Held,
+    storage: Storage,
 }
 
 impl Model for Colours {
     ghost use Rattle.std.specs.Prelude.{ℕ, List};
-    ghost use Rattle.viewer.specs.HeldColours.{held_colours};
+    ghost use Rattle.viewer.specs.StoredColours.{stored_colours};
 
     ghost Value = { List ℕ };
 
-    ghost view = { λ c. held_colours c.held };
+    ghost view = { λ c. stored_colours c.storage };
 }
 
 /// The colours of a snapshot from a place on, to the end of that place's row.
@@ -50,7 +49,7 @@ fn rest_of_row(snapshot: &Snapshot, done: usize) -> &[u32]
     requires { done < length snapshot.now.colours }
     ensures part { result.now ≡ take (length result.now) (drop done snapshot.now.colours) }
     ensures some { 1 ≤ length result.now }
-    ensures few { length result.now ≤ 8192 }
+    ensures few { length result.now ≤ longest_side }
     ensures small { length snapshot.now.colours < 2 ^ 64 }
 {
     let columns = snapshot.width();
@@ -116,21 +115,21 @@ impl Colours {
         ensures same { picture.new ≡ picture.old }
         ensures colours { IfOk result (λ c. c ≡ block_colours picture.old.width block picture.old.colours) }
     {
-        let held = if block.columns < SHARED_COLUMNS {
-            Held::Copied(picture.read(block)?)
+        let storage = if block.columns < SHARED_COLUMNS {
+            Storage::Copied(picture.read(block)?)
         } else {
-            Held::Shared(picture.snapshot(block)?)
+            Storage::Shared(picture.snapshot(block)?)
         };
-        Ok(Colours { held })
+        Ok(Colours { storage })
     }
 
     /// Whether there are colours from a place on, which are so many before it.
     pub fn goes_on(&self, done: usize) -> bool
         ensures { IsTrue result ↔ (done < length self.now) }
     {
-        match &self.held {
-            Held::Copied(colours) => done < colours.len(),
-            Held::Shared(snapshot) => done < snapshot.width() * snapshot.height(),
+        match &self.storage {
+            Storage::Copied(colours) => done < colours.len(),
+            Storage::Shared(snapshot) => done < snapshot.width() * snapshot.height(),
         }
     }
 
@@ -139,15 +138,17 @@ impl Colours {
         requires { done < length self.now }
         ensures part { result.now ≡ take (length result.now) (drop done self.now) }
         ensures some { 1 ≤ length result.now }
-        ensures few { length result.now ≤ 8192 }
+        ensures few { length result.now ≤ longest_side }
         ensures small { length self.now < 2 ^ 64 }
     {
-        match &self.held {
-            Held::Copied(colours) => {
-                let end = colours.len().min(done.saturating_add(RUN));
+        match &self.storage {
+            Storage::Copied(colours) => {
+                let end = colours
+                    .len()
+                    .min(done.saturating_add(LONGEST_SIDE as usize));
                 &colours[done..end]
             }
-            Held::Shared(snapshot) => rest_of_row(snapshot, done),
+            Storage::Shared(snapshot) => rest_of_row(snapshot, done),
         }
     }
 
@@ -194,9 +195,9 @@ impl Colours {
         ensures ok { OnOk result (out.new.items ≡ out.old.items ++ encoded encoding table.now area self.now) }
         ensures err { OnErr result (out.new.items ≡ out.old.items) }
     {
-        match &self.held {
-            Held::Copied(colours) => put_whole(out, area, colours, encoding, table),
-            Held::Shared(snapshot) => put_shared(out, area, snapshot, encoding, table),
+        match &self.storage {
+            Storage::Copied(colours) => put_whole(out, area, colours, encoding, table),
+            Storage::Shared(snapshot) => put_shared(out, area, snapshot, encoding, table),
         }
     }
 

@@ -2,7 +2,7 @@
 
 ghost use Rattle.std.specs.Prelude.{◌≡◌, ◌<◌, ◌≤◌, ◌+◌, ◌*◌, ◌^◌, All, length, flat_map, IfOk, ◌-ℤ◌, nat_abs, [], ◌≢◌, IfSome};
 ghost use Rattle.std.specs.Prelude.{OnOk, OnErr};
-ghost use Rattle.region.specs.Places.{IsOnScreen, source_rect};
+ghost use Rattle.region.specs.Places.{IsOnScreen, source_rect, longest_side};
 ghost use Rattle.copy_schedule.specs.Marks.{IsInside, HasSourcesInside, cut_of};
 ghost use Rattle.pixel_translate.specs.declared.PixelFormat.{PixelFormat};
 ghost use Rattle.messages.specs.declared.Encoding.{Encoding};
@@ -10,7 +10,7 @@ ghost use Rattle.viewer_picture.specs.Areas.{area_of};
 ghost use Rattle.framebuffer.specs.Picture.{colours_of};
 ghost use Rattle.viewer.specs.Sending.{copy_bytes, pixel_rectangle, bytes_of, sending_kept};
 ghost use Rattle.viewer.specs.Standings.{viewer_in};
-ghost use Rattle.framebuffer.specs.Blocks.{rect_of, FitsIn};
+ghost use Rattle.framebuffer.specs.Blocks.{block_rect, FitsIn};
 ghost use Rattle.viewer.specs.Updates.{moved_bytes, coloured_bytes, rectangles_bytes, maybe_bytes};
 ghost use Rattle.viewer.specs.Given.{bytes_given, marks_put, sent_bytes, sent_marks};
 
@@ -27,7 +27,7 @@ use std::alloc::{AllocError, Global};
 
 /// The area of a rectangle of a screen.
 fn area_of(rect: Rect) -> Area
-    requires inside { IsOnScreen 8192 8192 rect }
+    requires inside { IsOnScreen longest_side longest_side rect }
     ensures { result ≡ area_of rect }
 {
     Area {
@@ -40,8 +40,8 @@ fn area_of(rect: Rect) -> Area
 
 /// A copy, with its source.
 fn moved_of(rect: Rect, offset: (i32, i32)) -> Moved
-    requires inside { IsOnScreen 8192 8192 rect }
-    requires source { IsOnScreen 8192 8192 (source_rect offset rect) }
+    requires inside { IsOnScreen longest_side longest_side rect }
+    requires source { IsOnScreen longest_side longest_side (source_rect offset rect) }
     ensures area { result.area ≡ area_of rect }
     ensures src_x { result.src_x ≡ nat_abs (rect.x1 -ℤ offset.0) }
     ensures src_y { result.src_y ≡ nat_abs (rect.y1 -ℤ offset.1) }
@@ -55,8 +55,8 @@ fn moved_of(rect: Rect, offset: (i32, i32)) -> Moved
 
 /// The copies, with their sources.
 fn moves_of(alloc: Global, rects: &[Rect], offset: (i32, i32)) -> Result<Vec<Moved>, AllocError>
-    requires inside { All (IsOnScreen 8192 8192) rects.now }
-    requires sources { All (λ r. IsOnScreen 8192 8192 (source_rect offset r)) rects.now }
+    requires inside { All (IsOnScreen longest_side longest_side) rects.now }
+    requires sources { All (λ r. IsOnScreen longest_side longest_side (source_rect offset r)) rects.now }
     ensures bytes { IfOk result (λ moves. flat_map moved_bytes moves.items ≡ flat_map (copy_bytes offset) rects.now) }
     ensures count { IfOk result (λ moves. length moves.items ≡ length rects.now) }
 {
@@ -70,12 +70,12 @@ fn moves_of(alloc: Global, rects: &[Rect], offset: (i32, i32)) -> Result<Vec<Mov
 /// A block of the screen, with its colours.
 fn coloured_of(picture: &mut Framebuffer, block: Block) -> Result<Coloured, AllocError>
     requires fits { FitsIn picture.old.width picture.old.height block }
-    requires width { picture.old.width ≤ 8192 }
-    requires height { picture.old.height ≤ 8192 }
+    requires width { picture.old.width ≤ longest_side }
+    requires height { picture.old.height ≤ longest_side }
     ensures same { picture.new ≡ picture.old }
-    ensures area { IfOk result (λ c. c.area ≡ area_of (rect_of block)) }
+    ensures area { IfOk result (λ c. c.area ≡ area_of (block_rect block)) }
     ensures colours { IfOk result (λ c. c.colours ≡
-        colours_of picture.old.width picture.old.height picture.old.colours (rect_of block)) }
+        colours_of picture.old.width picture.old.height picture.old.colours (block_rect block)) }
 {
     let colours = Colours::of_block(picture, block)?;
     let area = Area {
@@ -117,8 +117,8 @@ fn rectangles_of(
     format: PixelFormat,
     cut: &Cut,
 ) -> Result<Rectangles, AllocError>
-    requires width { picture.old.width ≤ 8192 }
-    requires height { picture.old.height ≤ 8192 }
+    requires width { picture.old.width ≤ longest_side }
+    requires height { picture.old.height ≤ longest_side }
     requires inside { IsInside picture.old.width picture.old.height cut.now }
     requires sources { HasSourcesInside picture.old.width picture.old.height cut.now }
     requires count { length cut.now.copies + length cut.now.pixels < 2 ^ 16 }

@@ -5,9 +5,10 @@ ghost use Rattle.std.specs.Prelude.{vec_len, vec_capacity, IfOk, OnOk};
 ghost use Rattle.std.specs.List.{filter_map};
 ghost use Rattle.messages.specs.Reading.{rest, new_items, is_open_rest};
 ghost use Rattle.region.specs.Region.{in_rect};
+ghost use Rattle.region.specs.Places.{longest_side};
 ghost use Rattle.copy_schedule.specs.Marks.{pending, requested, without_copyrect};
 ghost use Rattle.viewer.specs.Hearing.{input_of, after_items, heard_reply};
-ghost use Rattle.viewer.specs.Viewer.{none_wait, area_places, after_item, new_viewer, kept};
+ghost use Rattle.viewer.specs.Viewer.{none_wait, area_places, after_item, new_viewer, kept_viewer};
 ghost use Rattle.copy_schedule.specs.Log.{logged, IsCutEntry};
 ghost use Rattle.viewer.specs.Standings.{viewer_in, viewer_by};
 ghost use Rattle.viewer.specs.Told.{viewer_told};
@@ -173,10 +174,10 @@ fn draft_after(
 /// A viewer that has just connected.
 pub fn new_standing(alloc: Global, width: u32, height: u32) -> Result<Standing, AllocError>
     requires some_columns { 1 ≤ width }
-    requires columns { width ≤ 8192 }
+    requires columns { width ≤ longest_side }
     requires some_rows { 1 ≤ height }
-    requires rows { height ≤ 8192 }
-    ensures { IfOk result (λ standing. viewer_in standing ≡ kept (new_viewer width height)) }
+    requires rows { height ≤ longest_side }
+    ensures { IfOk result (λ standing. viewer_in standing ≡ kept_viewer (new_viewer width height)) }
 {
     Ok(Standing {
         ear: Ear::new(alloc),

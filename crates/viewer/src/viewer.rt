@@ -2,15 +2,16 @@
 
 ghost use Rattle.std.specs.Prelude.{◌≡◌, ◌≢◌, ◌&&◌, ◌||◌, not, ℕ, List, ◌++◌, ◌≤◌, ◌<◌, ◌^◌, [], length, All, IfOk, IfSome, OnOk};
 ghost use Rattle.std.specs.Prelude.{OnErr};
-ghost use Rattle.messages.specs.Reading.{rest, new_items, is_open_rest, fault_kept};
+ghost use Rattle.messages.specs.Reading.{rest, new_items, is_open_rest, fault_in_rest};
 ghost use Rattle.copy_schedule.specs.Marks.{Marks, pending};
 ghost use Rattle.copy_schedule.specs.Log.{logged, IsCutEntry};
-ghost use Rattle.viewer.specs.Viewer.{none_wait, noticed, new_viewer, kept};
+ghost use Rattle.viewer.specs.Viewer.{none_wait, noticed, new_viewer, kept_viewer};
 ghost use Rattle.viewer.specs.Hearing.{after_items, heard_reply};
 ghost use Rattle.viewer.specs.Sending.{sending_kept};
 ghost use Rattle.viewer.specs.Given.{bytes_given, keeps_notices};
 ghost use Rattle.viewer.specs.Short.{IsShort};
 ghost use Rattle.viewer.specs.Told.{viewer_told};
+ghost use Rattle.region.specs.Places.{longest_side};
 
 use crate::Reply;
 use crate::cutting::{cut_bytes_in, cut_in};
@@ -47,10 +48,10 @@ impl Viewer {
     /// `AllocError` where memory is refused.
     pub fn new(alloc: Global, width: u32, height: u32) -> Result<Viewer, AllocError>
         requires some_columns { 1 ≤ width }
-        requires columns { width ≤ 8192 }
+        requires columns { width ≤ longest_side }
         requires some_rows { 1 ≤ height }
-        requires rows { height ≤ 8192 }
-        ensures { IfOk result (λ viewer. viewer ≡ kept (new_viewer width height)) }
+        requires rows { height ≤ longest_side }
+        ensures { IfOk result (λ viewer. viewer ≡ kept_viewer (new_viewer width height)) }
     {
         let standing = new_standing(alloc, width, height)?;
         Ok(Viewer { alloc, standing })
@@ -112,7 +113,7 @@ impl Viewer {
 
     /// Why the viewer is heard no further, if a fault was met.
     pub fn fault(&self) -> Option<Fault>
-        ensures { result ≡ fault_kept self.now.heard }
+        ensures { result ≡ fault_in_rest self.now.heard }
     {
         self.standing.ear.fault()
     }

@@ -4,7 +4,7 @@ use Rattle.std.specs.Prelude.{min, nat_le}
 use Rattle.std.proofs.lemmas.Bool.Decides.{nat_tests}
 use Rattle.std.proofs.lemmas.List.{nil_from_length, drop_all, length-append, length-take-le, take-append-drop, drop-append-le}
 use Rattle.std.proofs.lemmas.List.Elements.{All-append, All-head, All-tail}
-use Rattle.region.specs.Held.{Held}
+use Rattle.region.specs.RegionView.{RegionView}
 use Rattle.region.specs.Region.{covers}
 use Rattle.copy_schedule.specs.declared.LogEntry.{LogEntry}
 use Rattle.copy_schedule.specs.declared.LogEntry.TheVariants.{Mark, Copy}
@@ -110,42 +110,42 @@ brought_up_current log l = subst (IsCurrent log) (sym (brought_up_is log 0 l (om
 
 -- Entries that are joined.
 
-module _ (log : List LogEntry) (place end : ℕ) (region : Held) (within : place < length log) (ends : end ≡ place + 1) (joins : IsJoined (drop place log) region) where
+module _ (log : List LogEntry) (position end : ℕ) (region : RegionView) (within : position < length log) (ends : end ≡ position + 1) (joins : IsJoined (drop position log) region) where
   -- the log then
   abbrev pub joined_log : List LogEntry
-  joined_log = take place log ++ Mark region ∷ []
+  joined_log = take position log ++ Mark region ∷ []
 
   joined_length : length joined_log ≡ end
-  joined_length = omega (arith, ends, length-append (take place log) (Mark region ∷ []), length-take-le place log (omega (arith, within)))
+  joined_length = omega (arith, ends, length-append (take position log) (Mark region ∷ []), length-take-le position log (omega (arith, within)))
 
   -- a viewer that was brought up stands at its end
   ends_current : (l : Lagging) → IsCurrent log l → IsCurrent joined_log (within_end end l)
   ends_current l current = omega (arith, within, ends, current, joined_length)
 
-  module _ (l : Lagging) (before : l.taken ≤ place) where
+  module _ (l : Lagging) (before : l.taken ≤ position) where
     -- another one stays, and lacks one entry for those that were joined
     stays : min l.taken end ≡ l.taken
     stays = omega (arith, before, ends)
 
-    waited : drop l.taken log ≡ drop l.taken (take place log) ++ drop place log
+    waited : drop l.taken log ≡ drop l.taken (take position log) ++ drop position log
     waited =
-        ap (drop l.taken) (sym (take-append-drop place log))
-        ∙ drop-append-le l.taken (take place log) (drop place log) (omega (arith, before, length-take-le place log (omega (arith, within))))
+        ap (drop l.taken) (sym (take-append-drop position log))
+        ∙ drop-append-le l.taken (take position log) (drop position log) (omega (arith, before, length-take-le position log (omega (arith, within))))
 
-    waits : waiting joined_log (within_end end l) ≡ drop l.taken (take place log) ++ Mark region ∷ []
+    waits : waiting joined_log (within_end end l) ≡ drop l.taken (take position log) ++ Mark region ∷ []
     waits =
         ap (λ (n : ℕ). drop n joined_log) stays
-        ∙ drop-append-le l.taken (take place log) (Mark region ∷ []) (omega (arith, before, length-take-le place log (omega (arith, within))))
+        ∙ drop-append-le l.taken (take position log) (Mark region ∷ []) (omega (arith, before, length-take-le position log (omega (arith, within))))
 
     stays_same : caught_up joined_log (within_end end l) ≡ caught_up log l
     stays_same =
         let u : Bool = l.viewer.uses_copyrect in
-        let front : List LogEntry = drop l.taken (take place log) in
+        let front : List LogEntry = drop l.taken (take position log) in
         ap (λ (es : List LogEntry). record l.viewer { marks = logged u es l.viewer.marks }) waits
         ∙ ap (λ (m : Marks). record l.viewer { marks = m })
         (logged-last u front (Mark region) l.viewer.marks
         ∙ joins.same u (logged u front l.viewer.marks)
-        ∙ sym (logged_append u front (drop place log) l.viewer.marks)
+        ∙ sym (logged_append u front (drop position log) l.viewer.marks)
         ∙ ap (λ (es : List LogEntry). logged u es l.viewer.marks) (sym waited))
 
     stays_fit : Fits log l → Fits joined_log (within_end end l)
@@ -155,26 +155,26 @@ module _ (log : List LogEntry) (place end : ℕ) (region : Held) (within : place
           let w : ℕ = l.viewer.marks.width in
           let h : ℕ = l.viewer.marks.height in
           subst (All (IsCutEntry w h)) (sym waits)
-          (cut_append w h (drop l.taken (take place log)) (Mark region) (front_is_cut w h (drop l.taken (take place log)) (drop place log) (subst (All (IsCutEntry w h)) waited fits.cut)) tt);
+          (cut_append w h (drop l.taken (take position log)) (Mark region) (front_is_cut w h (drop l.taken (take position log)) (drop position log) (subst (All (IsCutEntry w h)) waited fits.cut)) tt);
     }
 
-  pub joined_same : (l : Lagging) → caught_up joined_log (within_end end (brought_up log (place + 1) l)) ≡ caught_up log l
-  joined_same l = go (nat_le (place + 1) l.taken) refl
+  pub joined_same : (l : Lagging) → caught_up joined_log (within_end end (brought_up log (position + 1) l)) ≡ caught_up log l
+  joined_same l = go (nat_le (position + 1) l.taken) refl
     where
-      stood : nat_le (place + 1) l.taken ≡ false → l.taken ≤ place
-      stood is = omega (arith, above_of (place + 1) l.taken is)
+      stood : nat_le (position + 1) l.taken ≡ false → l.taken ≤ position
+      stood is = omega (arith, above_of (position + 1) l.taken is)
 
-      go : (b : Bool) → nat_le (place + 1) l.taken ≡ b → caught_up joined_log (within_end end (cond b (up_to_date log l) l)) ≡ caught_up log l
+      go : (b : Bool) → nat_le (position + 1) l.taken ≡ b → caught_up joined_log (within_end end (cond b (up_to_date log l) l)) ≡ caught_up log l
       go true is = current_viewer joined_log (within_end end (up_to_date log l)) (ends_current (up_to_date log l) refl)
       go false is = stays_same l (stood is)
 
-  pub joined_fits : (l : Lagging) → Fits log l → Fits joined_log (within_end end (brought_up log (place + 1) l))
-  joined_fits l fits = go (nat_le (place + 1) l.taken) refl
+  pub joined_fits : (l : Lagging) → Fits log l → Fits joined_log (within_end end (brought_up log (position + 1) l))
+  joined_fits l fits = go (nat_le (position + 1) l.taken) refl
     where
-      stood : nat_le (place + 1) l.taken ≡ false → l.taken ≤ place
-      stood is = omega (arith, above_of (place + 1) l.taken is)
+      stood : nat_le (position + 1) l.taken ≡ false → l.taken ≤ position
+      stood is = omega (arith, above_of (position + 1) l.taken is)
 
-      go : (b : Bool) → nat_le (place + 1) l.taken ≡ b → Fits joined_log (within_end end (cond b (up_to_date log l) l))
+      go : (b : Bool) → nat_le (position + 1) l.taken ≡ b → Fits joined_log (within_end end (cond b (up_to_date log l) l))
       go true is = current_fits joined_log (within_end end (up_to_date log l)) (ends_current (up_to_date log l) refl)
       go false is = stays_fit l (stood is) fits
 
@@ -185,7 +185,7 @@ marks_alike u (Mark region ∷ es) all m = marks_alike u es (All-tail IsMark (Ma
 marks_alike u (Copy region dx dy ∷ es) all m = absurd (true≢false (sym (All-head IsMark (Copy region dx dy) es all)))
 
 -- what marks alone are joined to, where that is one entry
-pub joined_is : (entries out front : List LogEntry) (region : Held) → All IsMark entries → ((m : Marks) → logged false out m ≡ logged false entries m) → out ≡ front ++ Mark region ∷ [] → length out ≡ 1 → IsJoined entries region
+pub joined_is : (entries out front : List LogEntry) (region : RegionView) → All IsMark entries → ((m : Marks) → logged false out m ≡ logged false entries m) → out ≡ front ++ Mark region ∷ [] → length out ≡ 1 → IsJoined entries region
 joined_is entries out front region all same is one = record { same = λ u m. sym (ap (λ (es : List LogEntry). logged false es m) alone) ∙ same m ∙ marks_alike u entries all m }
   where
     alone : out ≡ Mark region ∷ []

@@ -11,14 +11,14 @@ use Rattle.std.proofs.lemmas.List.Elements.{All-append, filter_map-append}
 use Rattle.client_list.specs.WalkLemmas.{take_next, drop_next}
 use Rattle.client_list.specs.Connected.{Connected, IsListed, changed, set_value_at, index_of, value_at, passed}
 use Rattle.client_list.specs.CallerLemmas.{lookup-mapped, keys-mapped, mapped-set_value_at}
-use Rattle.region.specs.Held.{Held}
+use Rattle.region.specs.RegionView.{RegionView}
 use Rattle.copy_schedule.specs.declared.LogEntry.{LogEntry}
 use Rattle.copy_schedule.specs.declared.LogEntry.TheVariants.{Mark}
 use Rattle.copy_schedule.specs.Log.{IsCutEntry}
 use Rattle.viewer.specs.declared.notices.Notice.{Notice}
 use Rattle.viewer.specs.Viewer.{KeptViewer}
 use Rattle.viewer_list.specs.declared.lagging.Lagging.{Lagging}
-use Rattle.viewer_list.specs.Lagging.{waiting, caught_up, brought_up, within_end, seen, told_of, IsCurrent, Fits, IsJoined, place_within, last_place}
+use Rattle.viewer_list.specs.Lagging.{waiting, caught_up, brought_up, within_end, seen, told_of, IsCurrent, Fits, IsJoined, position_within, last_position}
 use Rattle.viewer_list.specs.Viewers.{Viewers, IsOfSize, viewer_of, with_viewer, drawn, viewer_noticed}
 use Rattle.viewer_list.proofs.LagLemmas.{brought_up_same, brought_up_current, started_same, started_fits, joined_same, joined_fits, drawn_viewer, drawn_fits, logged-alike}
 
@@ -133,16 +133,16 @@ changed-twice f g [] = refl
 changed-twice f g (pair ∷ pairs) = ap (λ (ps : List (ℕ × Lagging)). (pair.0, g (f pair.1)) ∷ ps) (changed-twice f g pairs)
 
 -- some entries are joined
-module _ (log : List LogEntry) (place end : ℕ) (region : Held) (within : place < length log) (ends : end ≡ place + 1) (joins : IsJoined (drop place log) region) (pairs : List (ℕ × Lagging)) (all : All (Fits log) (values_of pairs)) where
-  pub seen-joined : seen (take place log ++ Mark region ∷ []) (changed (within_end end) (changed (brought_up log (place + 1)) pairs)) ≡ seen log pairs
+module _ (log : List LogEntry) (position end : ℕ) (region : RegionView) (within : position < length log) (ends : end ≡ position + 1) (joins : IsJoined (drop position log) region) (pairs : List (ℕ × Lagging)) (all : All (Fits log) (values_of pairs)) where
+  pub seen-joined : seen (take position log ++ Mark region ∷ []) (changed (within_end end) (changed (brought_up log (position + 1)) pairs)) ≡ seen log pairs
   seen-joined =
-      ap (seen (take place log ++ Mark region ∷ [])) (changed-twice (brought_up log (place + 1)) (within_end end) pairs)
-      ∙ seen-changed (λ l. within_end end (brought_up log (place + 1) l)) log (take place log ++ Mark region ∷ []) (Fits log) (λ l fits. joined_same log place end region within ends joins l) pairs all
+      ap (seen (take position log ++ Mark region ∷ [])) (changed-twice (brought_up log (position + 1)) (within_end end) pairs)
+      ∙ seen-changed (λ l. within_end end (brought_up log (position + 1) l)) log (take position log ++ Mark region ∷ []) (Fits log) (λ l fits. joined_same log position end region within ends joins l) pairs all
 
-  pub fit-joined : All (Fits (take place log ++ Mark region ∷ [])) (values_of (changed (within_end end) (changed (brought_up log (place + 1)) pairs)))
+  pub fit-joined : All (Fits (take position log ++ Mark region ∷ [])) (values_of (changed (within_end end) (changed (brought_up log (position + 1)) pairs)))
   fit-joined =
-      subst (λ (ps : List (ℕ × Lagging)). All (Fits (take place log ++ Mark region ∷ [])) (values_of ps)) (sym (changed-twice (brought_up log (place + 1)) (within_end end) pairs))
-      (all-changed (Fits log) (Fits (take place log ++ Mark region ∷ [])) (λ l. within_end end (brought_up log (place + 1) l)) (joined_fits log place end region within ends joins) pairs all)
+      subst (λ (ps : List (ℕ × Lagging)). All (Fits (take position log ++ Mark region ∷ [])) (values_of ps)) (sym (changed-twice (brought_up log (position + 1)) (within_end end) pairs))
+      (all-changed (Fits log) (Fits (take position log ++ Mark region ∷ [])) (λ l. within_end end (brought_up log (position + 1) l)) (joined_fits log position end region within ends joins) pairs all)
 
 -- a drawing call
 pub seen-drawn : (log : List LogEntry) (e : LogEntry) (pairs : List (ℕ × Lagging)) → All (Fits log) (values_of pairs) → seen (log ++ e ∷ []) pairs ≡ changed (drawn e) (seen log pairs)
@@ -250,28 +250,28 @@ size-set s log pairs room number was l is there w h keeps sized =
 -- ---- a walk over the viewers
 
 module _ (c : Connected Lagging) where
-  value-there : (place : ℕ) (v : Lagging) → value_at c place ≡ Some v → slice_get (values_of c.pairs) (index_of c.places place) ≡ Some v
-  value-there place v is = slice_get-map (λ pair. pair.1) c.pairs (index_of c.places place) ∙ is
+  value-there : (position : ℕ) (v : Lagging) → value_at c position ≡ Some v → slice_get (values_of c.pairs) (index_of c.positions position) ≡ Some v
+  value-there position v is = slice_get-map (λ pair. pair.1) c.pairs (index_of c.positions position) ∙ is
 
-  passed-next : (here next : Option ℕ) (place : ℕ) (v : Lagging) → here ≡ Some place → value_at c place ≡ Some v → passed c next ≡ index_of c.places place + 1 → take (passed c next) (values_of c.pairs) ≡ take (passed c here) (values_of c.pairs) ++ v ∷ []
-  passed-next here next place v is value step =
-      let i : ℕ = index_of c.places place in
+  passed-next : (here next : Option ℕ) (position : ℕ) (v : Lagging) → here ≡ Some position → value_at c position ≡ Some v → passed c next ≡ index_of c.positions position + 1 → take (passed c next) (values_of c.pairs) ≡ take (passed c here) (values_of c.pairs) ++ v ∷ []
+  passed-next here next position v is value step =
+      let i : ℕ = index_of c.positions position in
       let count : passed c next ≡ suc i = omega (arith, step) in
       ap (λ (n : ℕ). take n (values_of c.pairs)) count
-      ∙ take_next (values_of c.pairs) i v (value-there place v value)
+      ∙ take_next (values_of c.pairs) i v (value-there position v value)
       ∙ ap (λ (o : Option ℕ). take (passed c o) (values_of c.pairs) ++ v ∷ []) (sym is)
 
   all-passed : (here : Option ℕ) → IsListed c → here ≡ None → take (passed c here) (values_of c.pairs) ≡ values_of c.pairs
   all-passed here listed is =
       ap (λ (o : Option ℕ). take (passed c o) (values_of c.pairs)) is
-      ∙ take_all (length c.places) (values_of c.pairs) (omega (arith, length-map c.pairs (λ e. e.1), listed.as_many))
+      ∙ take_all (length c.positions) (values_of c.pairs) (omega (arith, length-map c.pairs (λ e. e.1), listed.as_many))
 
   module _ {X : Type 0} (g : Lagging → Option X) where
-    pub picked-step : (made : List X) (here next : Option ℕ) (place : ℕ) (v : Lagging) → made ≡ filter_map g (take (passed c here) (values_of c.pairs)) → here ≡ Some place → value_at c place ≡ Some v → passed c next ≡ index_of c.places place + 1 → made ++ cons_option (g v) [] ≡ filter_map g (take (passed c next) (values_of c.pairs))
-    picked-step made here next place v so_far is value step =
+    pub picked-step : (made : List X) (here next : Option ℕ) (position : ℕ) (v : Lagging) → made ≡ filter_map g (take (passed c here) (values_of c.pairs)) → here ≡ Some position → value_at c position ≡ Some v → passed c next ≡ index_of c.positions position + 1 → made ++ cons_option (g v) [] ≡ filter_map g (take (passed c next) (values_of c.pairs))
+    picked-step made here next position v so_far is value step =
         ap (λ (l : List X). l ++ cons_option (g v) []) so_far
         ∙ sym (filter_map-append g (take (passed c here) (values_of c.pairs)) (v ∷ []))
-        ∙ ap (filter_map g) (sym (passed-next here next place v is value step))
+        ∙ ap (filter_map g) (sym (passed-next here next position v is value step))
 
     pub picked-end : (made : List X) (here : Option ℕ) → IsListed c → made ≡ filter_map g (take (passed c here) (values_of c.pairs)) → here ≡ None → made ≡ filter_map g (values_of c.pairs)
     picked-end made here listed so_far is = so_far ∙ ap (filter_map g) (all-passed here listed is)
@@ -280,42 +280,42 @@ module _ (c : Connected Lagging) where
     one : (v : Lagging) → P v → All P (v ∷ [])
     one v is = all-cons P v [] is (λ k d below. absurd (omega (arith, below)))
 
-    pub all-step : (here next : Option ℕ) (place : ℕ) (v : Lagging) → All P (take (passed c here) (values_of c.pairs)) → here ≡ Some place → value_at c place ≡ Some v → P v → passed c next ≡ index_of c.places place + 1 → All P (take (passed c next) (values_of c.pairs))
-    all-step here next place v so_far is value holds step =
-        subst (All P) (sym (passed-next here next place v is value step)) (All-append P (take (passed c here) (values_of c.pairs)) (v ∷ []) so_far (one v holds))
+    pub all-step : (here next : Option ℕ) (position : ℕ) (v : Lagging) → All P (take (passed c here) (values_of c.pairs)) → here ≡ Some position → value_at c position ≡ Some v → P v → passed c next ≡ index_of c.positions position + 1 → All P (take (passed c next) (values_of c.pairs))
+    all-step here next position v so_far is value holds step =
+        subst (All P) (sym (passed-next here next position v is value step)) (All-append P (take (passed c here) (values_of c.pairs)) (v ∷ []) so_far (one v holds))
 
     pub all-end : (here : Option ℕ) → IsListed c → All P (take (passed c here) (values_of c.pairs)) → here ≡ None → All P (values_of c.pairs)
     all-end here listed so_far is = subst (All P) (all-passed here listed is) so_far
 
   module _ (end : ℕ) where
-    last-append : (ls : List Lagging) (v : Lagging) → last_place end (ls ++ v ∷ []) ≡ max (last_place end ls) (place_within end v)
+    last-append : (ls : List Lagging) (v : Lagging) → last_position end (ls ++ v ∷ []) ≡ max (last_position end ls) (position_within end v)
     last-append [] v = refl
-    last-append (l ∷ ls) v = ap (λ (n : ℕ). max n (place_within end l)) (last-append ls v) ∙ turn (last_place end ls) (place_within end v) (place_within end l)
+    last-append (l ∷ ls) v = ap (λ (n : ℕ). max n (position_within end l)) (last-append ls v) ∙ turn (last_position end ls) (position_within end v) (position_within end l)
       where
         turn : (i j k : ℕ) → max (max i j) k ≡ max (max i k) j
         turn i j k = omega arith
 
-    last-within : (ls : List Lagging) → last_place end ls ≤ end
+    last-within : (ls : List Lagging) → last_position end ls ≤ end
     last-within [] = omega arith
     last-within (l ∷ ls) = go (nat_le l.taken end) refl (last-within ls)
       where
         taken_within : nat_le l.taken end ≡ true → l.taken ≤ end
         taken_within is = grind (arith, nat_tests)
 
-        go : (b : Bool) → nat_le l.taken end ≡ b → last_place end ls ≤ end → max (last_place end ls) (cond b l.taken 0) ≤ end
+        go : (b : Bool) → nat_le l.taken end ≡ b → last_position end ls ≤ end → max (last_position end ls) (cond b l.taken 0) ≤ end
         go true is rest = omega (arith, taken_within is, rest)
         go false is rest = omega (arith, rest)
 
-    pub last-step : (last : ℕ) (here next : Option ℕ) (place : ℕ) (v : Lagging) → last ≡ last_place end (take (passed c here) (values_of c.pairs)) → here ≡ Some place → value_at c place ≡ Some v → passed c next ≡ index_of c.places place + 1 → max last (place_within end v) ≡ last_place end (take (passed c next) (values_of c.pairs))
-    last-step last here next place v so_far is value step =
-        ap (λ (n : ℕ). max n (place_within end v)) so_far
+    pub last-step : (last : ℕ) (here next : Option ℕ) (position : ℕ) (v : Lagging) → last ≡ last_position end (take (passed c here) (values_of c.pairs)) → here ≡ Some position → value_at c position ≡ Some v → passed c next ≡ index_of c.positions position + 1 → max last (position_within end v) ≡ last_position end (take (passed c next) (values_of c.pairs))
+    last-step last here next position v so_far is value step =
+        ap (λ (n : ℕ). max n (position_within end v)) so_far
         ∙ sym (last-append (take (passed c here) (values_of c.pairs)) v)
-        ∙ sym (ap (last_place end) (passed-next here next place v is value step))
+        ∙ sym (ap (last_position end) (passed-next here next position v is value step))
 
-    pub last-end : (last : ℕ) (here : Option ℕ) → IsListed c → last ≡ last_place end (take (passed c here) (values_of c.pairs)) → here ≡ None → last ≡ last_place end (values_of c.pairs)
-    last-end last here listed so_far is = so_far ∙ ap (last_place end) (all-passed here listed is)
+    pub last-end : (last : ℕ) (here : Option ℕ) → IsListed c → last ≡ last_position end (take (passed c here) (values_of c.pairs)) → here ≡ None → last ≡ last_position end (values_of c.pairs)
+    last-end last here listed so_far is = so_far ∙ ap (last_position end) (all-passed here listed is)
 
-    pub last-is_within : (last : ℕ) (ls : List Lagging) → last ≡ last_place end ls → last ≤ end
+    pub last-is_within : (last : ℕ) (ls : List Lagging) → last ≡ last_position end ls → last ≤ end
     last-is_within last ls is = subst (λ (n : ℕ). n ≤ end) (sym is) (last-within ls)
 
 -- ---- marks that are taken from the end of a list, turned round

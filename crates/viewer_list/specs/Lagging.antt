@@ -1,7 +1,7 @@
 -- One viewer that lags behind a log of drawing, and what it stands for.
 use Rattle.std.specs.Prelude.{◌≡◌, ℕ, ◌≤◌, ◌+◌, min, max, Bool, true, false, nat_le, if◌then◌else◌, List, [], ◌∷◌, length, drop, map, All}
 use Rattle.std.specs.Map.{values_of}
-use Rattle.region.specs.Held.{Held}
+use Rattle.region.specs.RegionView.{RegionView}
 use Rattle.region.specs.Region.{covers}
 use Rattle.copy_schedule.specs.declared.LogEntry.{LogEntry}
 use Rattle.copy_schedule.specs.declared.LogEntry.TheVariants.{Mark, Copy}
@@ -41,7 +41,7 @@ seen log pairs = map (λ pair. (pair.0, caught_up log pair.1)) pairs
 abbrev pub IsCurrent : List LogEntry → Lagging → Type 0
 IsCurrent log l = l.taken ≡ length log
 
--- a viewer's place is in the log, and each copy that it lacks is on its screen
+-- a viewer's position is in the log, and each copy that it lacks is on its screen
 pub record Fits (log : List LogEntry) (l : Lagging) : Type 0 where
   pub stands : l.taken ≤ length log
   pub cut : All (IsCutEntry l.viewer.marks.width l.viewer.marks.height) (waiting log l)
@@ -61,7 +61,7 @@ pub record AllFit (log : List LogEntry) (joined : ℕ) (pairs : List (ℕ × Lag
   pub short : IsBounded log joined
   pub each : All (Fits log) (values_of pairs)
 
--- entries that make of a viewer's marks what the log's from a place on make of them, where it uses CopyRect alike
+-- entries that make of a viewer's marks what the log's from a position on make of them, where it uses CopyRect alike
 pub record IsShared (log : List LogEntry) (s : Shared) : Type 0 where
   pub same : (m : Marks) → logged s.uses_copyrect s.entries.items m ≡ logged s.uses_copyrect (drop s.taken log) m
   pub cut : (w h : ℕ) → All (IsCutEntry w h) (drop s.taken log) → All (IsCutEntry w h) s.entries.items
@@ -80,14 +80,14 @@ abbrev pub IsMark : LogEntry → Type 0
 IsMark entry = is_mark entry ≡ true
 
 -- a region that, once it is marked, makes of each viewer's marks what the entries make of them
-pub record IsJoined (entries : List LogEntry) (region : Held) : Type 0 where
+pub record IsJoined (entries : List LogEntry) (region : RegionView) : Type 0 where
   pub same : (uses_copyrect : Bool) (m : Marks) → marked (covers region.list) m ≡ logged uses_copyrect entries m
 
--- a viewer's place, if it is at most `end`
-abbrev pub place_within : ℕ → Lagging → ℕ
-place_within end l = if nat_le l.taken end then l.taken else 0
+-- a viewer's position, if it is at most `end`
+abbrev pub position_within : ℕ → Lagging → ℕ
+position_within end l = if nat_le l.taken end then l.taken else 0
 
--- the last place of the log at which a viewer stands, of those up to `end`; 0 where nobody stands there
-abbrev pub last_place : ℕ → List Lagging → ℕ
-last_place end [] = 0
-last_place end (l ∷ ls) = max (last_place end ls) (place_within end l)
+-- the last position of the log at which a viewer stands, of those up to `end`; 0 where nobody stands there
+abbrev pub last_position : ℕ → List Lagging → ℕ
+last_position end [] = 0
+last_position end (l ∷ ls) = max (last_position end ls) (position_within end l)

@@ -1,4 +1,4 @@
--- Viewers whose marks are of a size, one for each place.
+-- Viewers whose marks are of a size, one for each position.
 use Rattle.std.proofs.Common.{◌≡◌, ℕ, zero, suc, ◌*◌, ◌/◌, ◌%◌, ◌<◌, Bool, true, false, cond, List, [], ◌∷◌, ◌++◌, length, refl, sym, subst, ◌∙◌, ap, arith}
 use Rattle.std.specs.Prelude.{ℤ, pos}
 use Rattle.std.proofs.lemmas.List.{length-replicate}
@@ -14,10 +14,10 @@ use Rattle.messages.specs.declared.Item.{Item}
 use Rattle.messages.specs.declared.Item.TheVariants as item
 use Rattle.messages.specs.Reading.{rest, new_items}
 use Rattle.viewer.specs.Hearing.{after_items}
-use Rattle.viewer.specs.Viewer.{KeptViewer, kept, new_viewer, after_item, viewer_marked}
+use Rattle.viewer.specs.Viewer.{KeptViewer, kept_viewer, new_viewer, after_item, viewer_marked}
 use Rattle.viewer_list.specs.Viewers.{IsOfSize, drawn}
 
--- ---- marks of no place
+-- ---- marks of no position
 
 pub marked_none : (set : ℤ → ℤ → Bool) (m : Marks) → ((x y : ℤ) → set x y ≡ false) → length m.marks ≡ m.width * m.height → marked set m ≡ m
 marked_none set m none whole = ap (λ (ms : List mark.Mark). record m { marks = ms }) (sym (by_place-numbers Clean m.width m.height (λ x y. cond (set x y) Owed (mark_at m x y)) m.marks whole (λ k below.
@@ -32,7 +32,7 @@ marked_none set m none whole = ap (λ (ms : List mark.Mark). record m { marks = 
 
 module _ (w h : ℕ) where
   -- at connecting
-  pub new_size : (v : KeptViewer) → v ≡ kept (new_viewer w h) → IsOfSize w h v
+  pub new_size : (v : KeptViewer) → v ≡ kept_viewer (new_viewer w h) → IsOfSize w h v
   new_size v is = subst (IsOfSize w h) (sym is) (record { width = refl; height = refl; whole = length-replicate (w * h) Owed; heard = ([], refl) })
 
   pub marked_size : (set : ℤ → ℤ → Bool) (v : KeptViewer) → IsOfSize w h v → IsOfSize w h (viewer_marked set v)

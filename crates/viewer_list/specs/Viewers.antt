@@ -25,11 +25,11 @@ viewer_of s number = lookup (λ n. n == number) s.pairs
 abbrev pub with_viewer : Viewers → ℕ → KeptViewer → List (ℕ × KeptViewer)
 with_viewer s number viewer = set_value_at s.pairs (index_of (keys_of s.pairs) number) viewer
 
--- a viewer's marks are one for each place
+-- a viewer's marks are one for each position
 abbrev pub IsWhole : KeptViewer → Type 0
 IsWhole v = length v.marks.marks ≡ v.marks.width * v.marks.height
 
--- a viewer's marks are of a size, one for each place, and what is kept of its bytes is that of some bytes
+-- a viewer's marks are of a size, one for each position, and what is kept of its bytes is that of some bytes
 pub record IsOfSize (w h : ℕ) (v : KeptViewer) : Type 0 where
   pub width : v.marks.width ≡ w
   pub height : v.marks.height ≡ h

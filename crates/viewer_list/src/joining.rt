@@ -5,7 +5,7 @@ ghost use Rattle.std.specs.Map.{values_of};
 ghost use Rattle.viewer_list.specs.Lagging.{seen, is_mark, IsMark, IsCurrent, Fits, IsJoined};
 
 use crate::lagging::Lagging;
-use crate::walks::{catch_up_from, last_place, move_all_within};
+use crate::walks::{catch_up_from, last_position, move_all_within};
 use client_list::Clients;
 use copy_schedule::joined_log;
 use region::Region;
@@ -81,49 +81,51 @@ fn empty(
     Ok(())
 }
 
-/// The entries from a place on become one, that marks a region. The viewers that stand behind the place catch up first, and stand
-/// behind the new entry then; the others lack one entry in place of those. After an `AllocError` the log stands as it was.
+/// The entries from a position on become one, that marks a region. The viewers that stand behind the position catch up first,
+/// and stand behind the new entry then; the others lack one entry in place of those. After an `AllocError` the log stands as it
+/// was.
 fn join(
     alloc: Global,
     viewers: &mut Clients<Lagging>,
     log: &mut Vec<LogEntry>,
-    place: usize,
+    position: usize,
     region: Region,
 ) -> Result<(), AllocError>
-    requires place { place < length log.old.items }
-    requires joined { IsJoined (drop place log.old.items) region }
+    requires position { position < length log.old.items }
+    requires joined { IsJoined (drop position log.old.items) region }
     requires fits { All (Fits log.old.items) (values_of viewers.old.pairs) }
-    ensures ok { OnOk result (length log.new.items ≡ place + 1) }
+    ensures ok { OnOk result (length log.new.items ≡ position + 1) }
     ensures seen { seen log.new.items viewers.new.pairs ≡ seen log.old.items viewers.old.pairs }
     ensures fits { All (Fits log.new.items) (values_of viewers.new.pairs) }
     ensures err { OnErr result (log.new.items ≡ log.old.items) }
 {
-    catch_up_from(alloc, viewers, log, place + 1)?;
-    log.truncate(place);
+    catch_up_from(alloc, viewers, log, position + 1)?;
+    log.truncate(position);
     log.push_reserved(LogEntry::Mark(region));
     move_all_within(viewers, log.len());
     Ok(())
 }
 
-/// The entries from a place on become one, where all are marks; whether they are. After an `AllocError` the log stands as it was.
+/// The entries from a position on become one, where all are marks; whether they are. After an `AllocError` the log stands as it
+/// was.
 fn join_from(
     alloc: Global,
     viewers: &mut Clients<Lagging>,
     log: &mut Vec<LogEntry>,
-    place: usize,
+    position: usize,
 ) -> Result<bool, AllocError>
-    requires place { place < length log.old.items }
+    requires position { position < length log.old.items }
     requires fits { All (Fits log.old.items) (values_of viewers.old.pairs) }
-    ensures joined { IfOk result (λ joined. joined ≡ true → length log.new.items ≡ place + 1) }
+    ensures joined { IfOk result (λ joined. joined ≡ true → length log.new.items ≡ position + 1) }
     ensures apart { IfOk result (λ joined. joined ≡ false → log.new.items ≡ log.old.items) }
     ensures seen { seen log.new.items viewers.new.pairs ≡ seen log.old.items viewers.old.pairs }
     ensures fits { All (Fits log.new.items) (values_of viewers.new.pairs) }
     ensures err { OnErr result (log.new.items ≡ log.old.items) }
 {
-    let Some(region) = joined_region(alloc, &log[place..])? else {
+    let Some(region) = joined_region(alloc, &log[position..])? else {
         return Ok(false);
     };
-    join(alloc, viewers, log, place, region)?;
+    join(alloc, viewers, log, position, region)?;
     Ok(true)
 }
 
@@ -135,19 +137,24 @@ fn is_last_small(log: &[LogEntry]) -> bool
     before / 2 > log[log.len() - 1].region().count_rects()
 }
 
-/// The last two entries from a place on become one for as long as the last is not small beside the one before it. So a region is
-/// joined again only as more and more is drawn behind it, and the entries from the place on are few. Where the memory for it is
+/// The last two entries from a position on become one for as long as the last is not small beside the one before it. So a region is
+/// joined again only as more and more is drawn behind it, and the entries from the position on are few. Where the memory for it is
 /// refused,
 /// they stay apart.
-fn join_alike(alloc: Global, viewers: &mut Clients<Lagging>, log: &mut Vec<LogEntry>, place: usize)
-    requires place { place < length log.old.items }
+fn join_alike(
+    alloc: Global,
+    viewers: &mut Clients<Lagging>,
+    log: &mut Vec<LogEntry>,
+    position: usize,
+)
+    requires position { position < length log.old.items }
     requires fits { All (Fits log.old.items) (values_of viewers.old.pairs) }
-    ensures place { place < length log.new.items }
+    ensures position { position < length log.new.items }
     ensures len { length log.new.items ≤ length log.old.items }
     ensures seen { seen log.new.items viewers.new.pairs ≡ seen log.old.items viewers.old.pairs }
     ensures fits { All (Fits log.new.items) (values_of viewers.new.pairs) }
 {
-    while log.len() - place > 1 && !is_last_small(log) {
+    while log.len() - position > 1 && !is_last_small(log) {
         let last = log.len() - 2;
         match join_from(alloc, viewers, log, last) {
             Ok(true) => {}
@@ -179,7 +186,7 @@ pub fn join_entries(
         empty(alloc, viewers, log)?;
         return Ok(0);
     }
-    let place = last_place(viewers, joined);
-    join_alike(alloc, viewers, log, place);
+    let position = last_position(viewers, joined);
+    join_alike(alloc, viewers, log, position);
     Ok(log.len())
 }

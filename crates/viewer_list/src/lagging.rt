@@ -15,7 +15,7 @@ use framebuffer::Framebuffer;
 use std::alloc::{AllocError, Global};
 use viewer::{LogEntry, Reply, Update, Viewer};
 
-/// A viewer, and its place in the log: how many of the log's first entries its marks have taken. They lack the others.
+/// A viewer, and its position in the log: how many of the log's first entries its marks have taken. They lack the others.
 #[derive(Drop)]
 pub struct Lagging {
     pub viewer: Viewer,
@@ -37,7 +37,7 @@ pub fn lags(log: &[LogEntry], lagging: &Lagging) -> bool
     lagging.taken != log.len()
 }
 
-/// What a viewer lacks of a log, in fewer entries: the same for each that has the same place and uses CopyRect as it does.
+/// What a viewer lacks of a log, in fewer entries: the same for each that has the same position and uses CopyRect as it does.
 #[derive(Drop)]
 pub struct Shared {
     taken: usize,

@@ -1,12 +1,10 @@
 //! The viewers of a screen, and one log of the drawing that some of them lack.
 //!
 //! A viewer's marks are needed where an update is cut for it, and where its messages change them. Until then it only lags: a
-//! drawing
-//! call appends an entry to the log, which stands there once for all viewers, and visits none of them, however many there are and
-//! whatever they ask for. A viewer keeps its place in the log, and catches up before its next bytes are heard or an update is cut
-//! for
-//! it. Whether something is to be sent to it is read from its marks and from the entries that they lack. Contracts see each viewer
-//! as it would be had it been told of all drawing at once; the log is in no clause.
+//! drawing call appends an entry to the log, which stands there once for all viewers, and visits none of them, however many there
+//! are and whatever they ask for. A viewer keeps its position in the log, and catches up before its next bytes are heard or an
+//! update is cut for it. Whether something is to be sent to it is read from its marks and from the entries that they lack.
+//! Contracts see each viewer as it would be had it been told of all drawing at once; the log is in no clause.
 //!
 //! The log has at most 256 entries besides joined ones, which are its first. Before a further one comes, they are joined as well:
 //! where all are marks, one region takes their place, and a viewer that lacked them all lacks one entry in their place. Nobody's
@@ -27,7 +25,7 @@ ghost use Rattle.std.specs.Option.{option_map};
 ghost use Rattle.client_list.specs.Connected.{changed};
 ghost use Rattle.client_list.specs.declared.ConnectError.TheVariants.{NumberInUse, OutOfMemory};
 ghost use Rattle.copy_schedule.specs.Log.{IsCutEntry};
-ghost use Rattle.messages.specs.Reading.{rest, new_items, fault_kept, is_open_rest};
+ghost use Rattle.messages.specs.Reading.{rest, new_items, fault_in_rest, is_open_rest};
 ghost use Rattle.viewer.specs.declared.notices.Notice.{Notice};
 ghost use Rattle.viewer.specs.Hearing.{after_items, heard_reply};
 ghost use Rattle.viewer.specs.Sending.{sending_kept};
@@ -144,7 +142,7 @@ impl ViewerList {
 
     /// Why the viewer with a number is heard no further, if it met a fault; None where there is no such viewer.
     pub fn fault(&self, number: u64) -> Option<Option<Fault>>
-        ensures { result ≡ option_map (λ viewer. fault_kept viewer.heard) (viewer_of self.now number) }
+        ensures { result ≡ option_map (λ viewer. fault_in_rest viewer.heard) (viewer_of self.now number) }
     {
         match self.viewers.get(number) {
             Some(lagging) => Some(lagging.viewer.fault()),

@@ -17,10 +17,10 @@ use viewer::Notice;
 pub fn ring_all(viewers: &mut Clients<Lagging>)
     ensures { viewers.new.pairs ≡ changed (told_of Notice.Bell) viewers.old.pairs }
 {
-    let mut place = viewers.first();
-    while let Some(at) = place {
+    let mut position = viewers.first();
+    while let Some(at) = position {
         viewers.at_mut(at).viewer.keep(Notice::Bell);
-        place = viewers.next(at);
+        position = viewers.next(at);
     }
 }
 
@@ -44,10 +44,10 @@ pub fn texts(
     ensures { IfOk result (λ notices. notices.items ≡ map (λ l. text_for text.now l.viewer) (values_of viewers.now.pairs)) }
 {
     let mut notices = Vec::with_capacity(alloc, viewers.len())?;
-    let mut place = viewers.first();
-    while let Some(at) = place {
+    let mut position = viewers.first();
+    while let Some(at) = position {
         notices.push(text_for(alloc, viewers.at(at), text)?)?;
-        place = viewers.next(at);
+        position = viewers.next(at);
     }
     Ok(notices)
 }
@@ -70,11 +70,11 @@ pub fn keep_texts(viewers: &mut Clients<Lagging>, text: &[u8], mut notices: Vec<
     ensures { viewers.new.pairs ≡ changed (told_of (Notice.CutText text.now)) viewers.old.pairs }
 {
     notices.reverse();
-    let mut place = viewers.first();
-    while let Some(at) = place {
+    let mut position = viewers.first();
+    while let Some(at) = position {
         if let Some(notice) = notices.pop() {
             keep_text(viewers.at_mut(at), text, notice);
         }
-        place = viewers.next(at);
+        position = viewers.next(at);
     }
 }

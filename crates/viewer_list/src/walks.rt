@@ -3,7 +3,8 @@
 ghost use Rattle.std.specs.Prelude.{◌≡◌, ◌≤◌, max, All, false, OnOk, OnErr};
 ghost use Rattle.std.specs.Map.{values_of};
 ghost use Rattle.client_list.specs.Connected.{changed};
-ghost use Rattle.viewer_list.specs.Lagging.{brought_up, within_end, seen, IsCurrent, Fits, IsShared, place_within, last_place};
+ghost use Rattle.viewer_list.specs.Lagging.{brought_up, within_end, seen, IsCurrent, Fits, IsShared};
+ghost use Rattle.viewer_list.specs.Lagging.{position_within, last_position};
 
 use crate::lagging::{Lagging, Shared, catch_up_sharing, lags, nothing_shared};
 use client_list::Clients;
@@ -43,10 +44,10 @@ pub fn catch_up_from(
     ensures fits { All (Fits log.now) (values_of viewers.new.pairs) }
 {
     let mut shared = nothing_shared(alloc, log);
-    let mut place = viewers.first();
-    while let Some(at) = place {
+    let mut position = viewers.first();
+    while let Some(at) = position {
         bring_up(log, least, &mut shared, viewers.at_mut(at))?;
-        place = viewers.next(at);
+        position = viewers.next(at);
     }
     Ok(())
 }
@@ -55,37 +56,37 @@ pub fn catch_up_from(
 pub fn some_lags(log: &[LogEntry], viewers: &Clients<Lagging>) -> bool
     ensures { result ≡ false → All (IsCurrent log.now) (values_of viewers.now.pairs) }
 {
-    let mut place = viewers.first();
-    while let Some(at) = place {
+    let mut position = viewers.first();
+    while let Some(at) = position {
         if lags(log, viewers.at(at)) {
             return true;
         }
-        place = viewers.next(at);
+        position = viewers.next(at);
     }
     false
 }
 
-/// The later of a place and a viewer's, if that is at most `end`.
-fn later(place: usize, lagging: &Lagging, end: usize) -> usize
-    ensures { result ≡ max place (place_within end lagging.now) }
+/// The later of a position and a viewer's, if that is at most `end`.
+fn later(position: usize, lagging: &Lagging, end: usize) -> usize
+    ensures { result ≡ max position (position_within end lagging.now) }
 {
-    if lagging.taken <= end && place < lagging.taken {
+    if lagging.taken <= end && position < lagging.taken {
         lagging.taken
     } else {
-        place
+        position
     }
 }
 
-/// The last place of the log at which a viewer stands, of those up to `end`; 0 where nobody stands there.
-pub fn last_place(viewers: &Clients<Lagging>, end: usize) -> usize
-    ensures last { result ≡ last_place end (values_of viewers.now.pairs) }
+/// The last position of the log at which a viewer stands, of those up to `end`; 0 where nobody stands there.
+pub fn last_position(viewers: &Clients<Lagging>, end: usize) -> usize
+    ensures last { result ≡ last_position end (values_of viewers.now.pairs) }
     ensures within { result ≤ end }
 {
     let mut last = 0;
-    let mut place = viewers.first();
-    while let Some(at) = place {
+    let mut position = viewers.first();
+    while let Some(at) = position {
         last = later(last, viewers.at(at), end);
-        place = viewers.next(at);
+        position = viewers.next(at);
     }
     last
 }
@@ -103,9 +104,9 @@ fn move_within(lagging: &mut Lagging, end: usize)
 pub fn move_all_within(viewers: &mut Clients<Lagging>, end: usize)
     ensures { viewers.new.pairs ≡ changed (within_end end) viewers.old.pairs }
 {
-    let mut place = viewers.first();
-    while let Some(at) = place {
+    let mut position = viewers.first();
+    while let Some(at) = position {
         move_within(viewers.at_mut(at), end);
-        place = viewers.next(at);
+        position = viewers.next(at);
     }
 }

@@ -7,7 +7,7 @@ use Rattle.pixel_translate.specs.declared.Area.{Area}
 use Rattle.pixel_translate.specs.declared.PixelFormat.{PixelFormat}
 use Rattle.pixel_translate.specs.Pixel.{be16}
 use Rattle.encode_raw.specs.Raw.{head, copyrect}
-use Rattle.encode_raw.specs.Reading.{◌>>=◌, Head, Shown, Patch, patched, copied}
+use Rattle.encode_raw.specs.Reading.{◌>>=◌, Head, Shown, Patch, patched, shown_after_copy}
 use Rattle.encode_raw.specs.Claims.{pixels_of, raw_reads_back}
 use Rattle.encode_raw.specs.Back.{head_back}
 use Rattle.encode_rre.specs.Claims.{IsReadAs, rre_reads_back}
@@ -41,16 +41,16 @@ data-is g a e shown body patch more inside comes (inr h) =
     ap (λ n. guarded g shown (is_in_picture g a && may_come g.listed n) a n body) h.0 ∙ legal g a (pos 2) shown body inside comes ∙ ap (written g.format a shown) h.1
 
 copy-is : (g : Agreed) (a : Area) (sx sy : ℕ) → IsPart g a → IsPart g (record a { x = sx; y = sy }) → may_come g.listed (pos 1) ≡ true → (shown : Shown) (more : List ℕ)
-    → rectangle_at g shown (copyrect a sx sy ++ more) ≡ Some (copied a sx sy shown, more)
+    → rectangle_at g shown (copyrect a sx sy ++ more) ≡ Some (shown_after_copy a sx sy shown, more)
 copy-is g a sx sy part source comes shown more =
     let small : FitsSigned w32 (pos 1) = record { sfits = omega arith } in
-    let from : ℕ → ℕ → Option (Shown × List ℕ) = λ x y. cond (is_in_picture g (record a { x = x; y = y })) (some (copied a x y shown) more) None in
+    let from : ℕ → ℕ → Option (Shown × List ℕ) = λ x y. cond (is_in_picture g (record a { x = x; y = y })) (some (shown_after_copy a x y shown) more) None in
     ap (rectangle_at g shown) (append_assoc (head a (pos 1)) (be16 sx ++ be16 sy) more)
     ∙ ap (headed g shown) (head_back a (pos 1) (be16 sx ++ be16 sy ++ more) part.fits small)
     ∙ legal g a (pos 1) shown (be16 sx ++ be16 sy ++ more) part.inside comes
     ∙ ap (λ (n : ℕ). from n (from_be_bytes w16 (to_be_bytes w16 sy))) (from_be_bytes-to_be_bytes_2 sx source.fits.x)
     ∙ ap (from sx) (from_be_bytes-to_be_bytes_2 sy source.fits.y)
-    ∙ ap (λ b. cond b (some (copied a sx sy shown) more) None) source.inside
+    ∙ ap (λ b. cond b (some (shown_after_copy a sx sy shown) more) None) source.inside
 
 pub rectangles-read : raw_reads_back → rre_reads_back → hextile_reads_back → RectanglesAreRead
 rectangles-read as_raw as_rre as_hextile = record {

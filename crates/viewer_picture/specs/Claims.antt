@@ -4,7 +4,7 @@ use Rattle.std.specs.Int.{w16}
 use Rattle.pixel_translate.specs.declared.Area.{Area}
 use Rattle.pixel_translate.specs.Pixel.{IsArea}
 use Rattle.encode_raw.specs.Raw.{raw, copyrect}
-use Rattle.encode_raw.specs.Reading.{number_at, Head, head_at, Shown, patched, copied}
+use Rattle.encode_raw.specs.Reading.{number_at, Head, head_at, Shown, patched, shown_after_copy}
 use Rattle.encode_raw.specs.Claims.{pixels_of}
 use Rattle.encode_rre.specs.Rre.{rre}
 use Rattle.encode_hextile.specs.Hextile.{hextile}
@@ -34,7 +34,7 @@ pub record RectanglesAreRead : Type 0 where
       → 0 < length colours → length colours ≡ a.w * a.h → IsRead agreed a colours (hextile agreed.format a colours)
   pub copyrect : (agreed : Agreed) (a : Area) (src_x src_y : ℕ) → IsPart agreed a → IsPart agreed (record a { x = src_x; y = src_y })
       → may_come agreed.listed (pos 1) ≡ true
-      → (shown : Shown) (more : List ℕ) → rectangle_at agreed shown (copyrect a src_x src_y ++ more) ≡ Some (copied a src_x src_y shown, more)
+      → (shown : Shown) (more : List ℕ) → rectangle_at agreed shown (copyrect a src_x src_y ++ more) ≡ Some (shown_after_copy a src_x src_y shown, more)
 
 -- an area whose places are all in the picture
 pub record IsIn (agreed : Agreed) (a : Area) : Type 0 where

@@ -15,7 +15,7 @@ use Rattle.region.specs.CanonicalLemmas.{rects_of_covers-holds}
 use Rattle.region.specs.Copies.{InOrder}
 use Rattle.region.specs.ScreenLemmas.{All-in_order}
 use Rattle.region.specs.CopyOrderLemmas.{copies-in-order, covers-take, in-order-take}
-use Rattle.encode_raw.specs.Reading.{Dot, Shown, patched, copied}
+use Rattle.encode_raw.specs.Reading.{Dot, Shown, patched, shown_after_copy}
 use Rattle.encode_raw.specs.Claims.{pixels_of as colour_pixels}
 use Rattle.copy_schedule.specs.declared.Mark.{Mark}
 use Rattle.copy_schedule.specs.declared.Mark.TheVariants.{Clean, Copied, Owed}
@@ -24,7 +24,7 @@ use Rattle.copy_schedule.specs.Marks.{Marks, is_clean, is_copied, mark_at, asked
 use Rattle.region.specs.PlaceLemmas.{value_on, is_place}
 use Rattle.copy_schedule.specs.CutLemmas.{copies_on_screen, pixels_on_screen}
 use Rattle.framebuffer.specs.declared.blocks.Block.{Block}
-use Rattle.framebuffer.specs.Blocks.{rect_of}
+use Rattle.framebuffer.specs.Blocks.{block_rect}
 use Rattle.viewer_picture.specs.Areas.{area_of}
 use Rattle.framebuffer.specs.Picture.{colour_at, colours_of}
 use Rattle.viewer_picture.specs.AreaLemmas.{area_is}
@@ -36,7 +36,7 @@ use Rattle.viewer_picture.specs.MarkLemmas.{Shows, tells, mark-is}
 
 pub record Placed (r : Rect) : Type 0 where
   pub block : Block
-  pub is : r ≡ rect_of block
+  pub is : r ≡ block_rect block
 
 placed : (w h : ℕ) (r : Rect) → IsOnScreen w h r → Placed r
 placed w h r on =
@@ -67,22 +67,22 @@ place-is w h x y on = let p = is_place w h x y on in (number x p.left, number y 
 -- ---- copies
 
 unfoldable pub copy_of : ℤ × ℤ → Rect → Shown → Shown
-copy_of by r = copied (area_of r) (nat_abs (r.x1 -ℤ by.0)) (nat_abs (r.y1 -ℤ by.1))
+copy_of by r = shown_after_copy (area_of r) (nat_abs (r.x1 -ℤ by.0)) (nat_abs (r.y1 -ℤ by.1))
 
 abbrev if_in : Bool → Option Dot → Option Dot → Option Dot
 if_in b x y = cond b x y
 
 copy-block : (b : Block) (by : ℤ × ℤ) (sx sy : ℕ) (shown : Shown) (x y : ℕ) → pos sx ≡ pos b.left -ℤ by.0 → pos sy ≡ pos b.top -ℤ by.1
-    → copied (record { x = b.left; y = b.top; w = b.columns; h = b.rows }) sx sy shown x y ≡ if_in (in_rect (rect_of b) (pos x) (pos y)) (shown (nat_abs (pos x -ℤ by.0)) (nat_abs (pos y -ℤ by.1))) (shown x y)
-copy-block b by sx sy shown x y is-x is-y = go (in_rect (rect_of b) (pos x) (pos y)) refl
+    → shown_after_copy (record { x = b.left; y = b.top; w = b.columns; h = b.rows }) sx sy shown x y ≡ if_in (in_rect (block_rect b) (pos x) (pos y)) (shown (nat_abs (pos x -ℤ by.0)) (nat_abs (pos y -ℤ by.1))) (shown x y)
+copy-block b by sx sy shown x y is-x is-y = go (in_rect (block_rect b) (pos x) (pos y)) refl
   where
-    low : (b : Block) (x y : ℕ) → in_rect (rect_of b) (pos x) (pos y) ≡ true → (b.left ≤ x) × (b.top ≤ y)
+    low : (b : Block) (x y : ℕ) → in_rect (block_rect b) (pos x) (pos y) ≡ true → (b.left ≤ x) × (b.top ≤ y)
     low b x y e = (grind (arith, nat_tests), grind (arith, nat_tests))
 
     from : (left x s : ℕ) (d : ℤ) → pos s ≡ pos left -ℤ d → left ≤ x → x - left + s ≡ nat_abs (pos x -ℤ d)
     from left x s d e h = let same : pos x -ℤ d ≡ pos (x - left + s) = omega (arith, ints) in sym (ap nat_abs same)
 
-    go : (t : Bool) → in_rect (rect_of b) (pos x) (pos y) ≡ t → if_in t (shown (x - b.left + sx) (y - b.top + sy)) (shown x y) ≡ if_in t (shown (nat_abs (pos x -ℤ by.0)) (nat_abs (pos y -ℤ by.1))) (shown x y)
+    go : (t : Bool) → in_rect (block_rect b) (pos x) (pos y) ≡ t → if_in t (shown (x - b.left + sx) (y - b.top + sy)) (shown x y) ≡ if_in t (shown (nat_abs (pos x -ℤ by.0)) (nat_abs (pos y -ℤ by.1))) (shown x y)
     go false e = refl
     go true e = let at = low b x y e in ap (λ n. shown n (y - b.top + sy)) (from b.left x sx by.0 is-x at.0) ∙ ap (shown (nat_abs (pos x -ℤ by.0))) (from b.top y sy by.1 is-y at.1)
 
@@ -98,7 +98,7 @@ copy-at w h by r on source shown x y there =
     let sy : ℕ = nat_abs (r.y1 -ℤ by.1) in
     let X : ℕ = nat_abs x in
     let Y : ℕ = nat_abs y in
-    ap (λ a. copied a sx sy shown X Y) (ap area_of p.is ∙ area_is p.block)
+    ap (λ a. shown_after_copy a sx sy shown X Y) (ap area_of p.is ∙ area_is p.block)
     ∙ copy-block p.block by sx sy shown X Y (sym from.0 ∙ ap (λ (q : Rect). q.x1 -ℤ by.0) p.is) (sym from.1 ∙ ap (λ (q : Rect). q.y1 -ℤ by.1) p.is)
     ∙ ap (λ (q : Rect). if_in (in_rect q (pos X) (pos Y)) (shown (nat_abs (pos X -ℤ by.0)) (nat_abs (pos Y -ℤ by.1))) (shown X Y)) (sym p.is)
     ∙ ap (λ a. if_in (in_rect r a (pos Y)) (shown (nat_abs (a -ℤ by.0)) (nat_abs (pos Y -ℤ by.1))) (shown X Y)) (sym at.0)
@@ -162,21 +162,21 @@ block-colour columns rows g i j left top =
     sym (ap (λ b. cond b (get_or (by_place columns rows g) (j * columns + i) 0) 0) on) ∙ value_on 0 columns rows g (pos i) (pos j) on
 
 pixels-block : (w h : ℕ) (picture : List ℕ) (f : PixelFormat) (b : Block) (shown : Shown) (x y : ℕ)
-    → pixel_of w h picture f (rect_of b) shown x y ≡ if_in (in_rect (rect_of b) (pos x) (pos y)) (pixel_dot f (colour_at w h picture (pos x) (pos y))) (shown x y)
+    → pixel_of w h picture f (block_rect b) shown x y ≡ if_in (in_rect (block_rect b) (pos x) (pos y)) (pixel_dot f (colour_at w h picture (pos x) (pos y))) (shown x y)
 unfolding pixel_of
 pixels-block w h picture f b shown x y =
-    ap (λ a. patched f a (colour_pixels f a.w (by_place a.w a.h g)) shown x y) (area_is b) ∙ go (in_rect (rect_of b) (pos x) (pos y)) refl
+    ap (λ a. patched f a (colour_pixels f a.w (by_place a.w a.h g)) shown x y) (area_is b) ∙ go (in_rect (block_rect b) (pos x) (pos y)) refl
   where
     g : ℤ → ℤ → ℕ
     g i j = colour_at w h picture (i +ℤ pos b.left) (j +ℤ pos b.top)
 
-    within : (b : Block) (x y : ℕ) → in_rect (rect_of b) (pos x) (pos y) ≡ true → (b.left ≤ x) × (x < b.left + b.columns) × (b.top ≤ y) × (y < b.top + b.rows)
+    within : (b : Block) (x y : ℕ) → in_rect (block_rect b) (pos x) (pos y) ≡ true → (b.left ≤ x) × (x < b.left + b.columns) × (b.top ≤ y) × (y < b.top + b.rows)
     within b x y e = (grind (arith, nat_tests), grind (arith, nat_tests), grind (arith, nat_tests), grind (arith, nat_tests))
 
     back : (x a : ℕ) → a ≤ x → pos (x - a) +ℤ pos a ≡ pos x
     back x a h = omega (arith, ints)
 
-    go : (t : Bool) → in_rect (rect_of b) (pos x) (pos y) ≡ t
+    go : (t : Bool) → in_rect (block_rect b) (pos x) (pos y) ≡ t
         → if_in t (pixel_dot f (get_or (by_place b.columns b.rows g) ((y - b.top) * b.columns + (x - b.left)) 0)) (shown x y) ≡ if_in t (pixel_dot f (colour_at w h picture (pos x) (pos y))) (shown x y)
     go false e = refl
     go true e =

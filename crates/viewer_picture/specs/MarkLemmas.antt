@@ -11,7 +11,7 @@ use Rattle.encode_raw.specs.Reading.{Dot, Shown}
 use Rattle.copy_schedule.specs.declared.Mark.{Mark}
 use Rattle.copy_schedule.specs.declared.Mark.TheVariants.{Clean, Copied, Owed}
 use Rattle.region.specs.Places.{same_offset}
-use Rattle.copy_schedule.specs.Marks.{Marks, is_copied, mark_at, with_marks, marked, lost_to, moved_mark, moved, asked_for, forgotten, without_copyrect}
+use Rattle.copy_schedule.specs.Marks.{Marks, is_copied, mark_at, with_marks, marked, lost_to, moved_mark, moved_marks, asked_for, forgotten, without_copyrect}
 use Rattle.region.specs.PlaceLemmas.{value_on}
 use Rattle.viewer_picture.specs.Pictures.{dot_at, ShowsColour}
 
@@ -175,7 +175,7 @@ SourceShows colour m by shown x y = (on_screen m.width m.height (x -ℤ by.0) (y
 pub moved-shows : (P : Type 0) → P → (colour colour' : ℤ → ℤ → ℕ) (set : ℤ → ℤ → Bool) (by : ℤ × ℤ) (m : Marks) (shown : Shown)
     → ((x y : ℤ) → set x y ≡ true → on_screen m.width m.height (x -ℤ by.0) (y -ℤ by.1) ≡ true)
     → ((x y : ℤ) → on_screen m.width m.height x y ≡ true → colour' x y ≡ cond (set x y) (colour (x -ℤ by.0) (y -ℤ by.1)) (colour x y))
-    → Shows P colour m shown → Shows P colour' (moved set by (lost_to set by m)) shown
+    → Shows P colour m shown → Shows P colour' (moved_marks set by (lost_to set by m)) shown
 moved-shows P p colour colour' set by m shown cut drawn s = record {
   clean = λ x y on e.
       let after = clean-after (set x y) (mark_at lost x y) (mark_at lost (x -ℤ by.0) (y -ℤ by.1)) (sym (mark-is lost new x y on) ∙ e) in

@@ -22,27 +22,27 @@ fn are_two(clients: &Clients<u32>, seven: u32, eight: u32) -> bool {
         && clients.get(7) == Some(&seven)
         && clients.get(8) == Some(&eight)
         && clients.get(9).is_none()
-        && clients.place_of(7) == clients.first()
+        && clients.position_of(7) == clients.first()
 }
 
 /// Gives a viewer another value; whether the viewer is there.
 fn change(clients: &mut Clients<u32>, number: u64, value: u32) -> bool {
     match clients.get_mut(number) {
-        Some(place) => {
-            *place = value;
+        Some(position) => {
+            *position = value;
             true
         }
         None => false,
     }
 }
 
-/// Gives the first viewer the value 71 by its place; whether it is found there, and 8 behind it.
+/// Gives the first viewer the value 71 by its position; whether it is found there, and 8 behind it.
 fn change_first(clients: &mut Clients<u32>) -> bool {
     match clients.first() {
         Some(first) => {
             *clients.at_mut(first) = 71;
             (clients.number_at(first), *clients.at(first)) == (7, 71)
-                && clients.next(first) == clients.place_of(8)
+                && clients.next(first) == clients.position_of(8)
         }
         None => false,
     }
@@ -50,7 +50,7 @@ fn change_first(clients: &mut Clients<u32>) -> bool {
 
 /// Whether the first viewer goes with its value, and 8 is first then.
 fn remove_first(clients: &mut Clients<u32>) -> bool {
-    clients.remove(7) == Ok(71) && clients.first() == clients.place_of(8)
+    clients.remove(7) == Ok(71) && clients.first() == clients.position_of(8)
 }
 
 /// Whether each call does what it should.

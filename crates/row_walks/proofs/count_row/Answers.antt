@@ -3,7 +3,7 @@ use Rattle.std.specs.Prelude.{slice_get}
 use Rattle.std.specs.Int.{w32}
 use Rattle.std.proofs.lemmas.Int.{ints}
 use Rattle.band_list.specs.Bands.{Reading}
-use Rattle.row_walks.specs.Rows.{kept}
+use Rattle.row_walks.specs.Rows.{keeps_place}
 use Rattle.row_walks.specs.Steps.{later}
 use Rattle.row_walks.proofs.MakeLemmas.{counted_begins, counted_after, counted_more, counted_done, nearer_end, from_firsts, start_from, goes_on, begins_or_none, added_one, added_none, not_counted, counted_few}
 use Rattle.row_walks.proofs.count_row.Goals as goal
@@ -34,7 +34,7 @@ loop-step-preserved c =
     let x = to_z w32 c.loop-step.x-bits in
     let edge = to_z w32 (of_z w32 c.in-Some.step.edge) in
     let same : edge ≡ c.in-Some.step.edge = omega (arith, ints) in
-    let keeps = kept c.args.keep c.in-Some.step.in_first c.in-Some.step.in_second in
+    let keeps = keeps_place c.args.keep c.in-Some.step.in_first c.in-Some.step.in_second in
     let is : c.keeps-keeps.result ≡ keeps = c.keeps-keeps.ensures in (
       counted_more c.args.keep c.args.first.now c.args.second.now c.loop-step.first c.loop-step.second c.loop-step.is_open x c.loop-step.count c.loop-step.invariant.0 c.in-Some.step
           c.first_after_of-a.new.reader c.first_after_of-b.new.reader c.keeps-keeps.result edge c.if-is_open.count

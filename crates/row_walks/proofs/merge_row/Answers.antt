@@ -4,7 +4,7 @@ use Rattle.std.specs.Int.{w32}
 use Rattle.std.proofs.lemmas.Int.{ints}
 use Rattle.std.proofs.lemmas.Result.{on_ok_weaker}
 use Rattle.band_list.specs.Bands.{Reading}
-use Rattle.row_walks.specs.Rows.{kept}
+use Rattle.row_walks.specs.Rows.{keeps_place}
 use Rattle.row_walks.specs.Steps.{later}
 use Rattle.row_walks.specs.WalkLemmas.{differ, agree}
 use Rattle.row_walks.proofs.MakeLemmas.{nearer_end, from_firsts, start_from}
@@ -38,7 +38,7 @@ loop-step-preserved c =
     let from = to_z w32 c.loop-step.from-bits in
     let edge = to_z w32 (of_z w32 c.in-Some.step.edge) in
     let same : edge ≡ c.in-Some.step.edge = omega (arith, ints) in
-    let keeps = kept c.args.keep c.in-Some.step.in_first c.in-Some.step.in_second in
+    let keeps = keeps_place c.args.keep c.in-Some.step.in_first c.in-Some.step.in_second in
     let is : c.keeps-keeps.result ≡ keeps = c.keeps-keeps.ensures in
     let found = from_firsts x c.loop-step.first.left c.loop-step.second.left c.loop-step.a c.loop-step.b c.next_step.result _ c.loop-step.invariant.1 c.loop-step.invariant.2 c.next_step.ensures c.in-Some.is in
     let first_is = c.first_after_of-a.ensures.left ∙ ap (λ n. record c.loop-step.first { left = later n c.loop-step.first.left }) same in

@@ -2,7 +2,7 @@ use Rattle.std.proofs.Common.{◌≡◌, Bool, true, false, cond, ◌&&◌, List
 use Rattle.std.specs.Prelude.{ℤ}
 use Rattle.band_list.specs.declared.Interval.{Interval}
 use Rattle.band_list.specs.Bands.{Reading}
-use Rattle.row_walks.specs.Rows.{row_has, kept, IsKept as IsRowKept}
+use Rattle.row_walks.specs.Rows.{row_has, keeps_place, IsKept as IsRowKept}
 use Rattle.band_walks.specs.RoomLemmas.{holds_nothing}
 use Rattle.band_walks.proofs.counts.count_strip_room.Goals as goal
 
@@ -26,8 +26,8 @@ returns-clause-room c = λ whole row r some.
     let made : IsRowKept k one other row = record {
       is_row = r.is_row;
       has = λ x. r.has x ∙ sym (
-          ap (λ l. kept k (row_has l x) (row_has other x)) one_is ∙ ap (λ t. kept k t (row_has other x)) (part_has c.args.in_first first x)
-          ∙ ap (λ l. kept k (c.args.in_first && row_has first x) (row_has l x)) other_is ∙ ap (kept k (c.args.in_first && row_has first x)) (part_has c.args.in_second second x));
+          ap (λ l. keeps_place k (row_has l x) (row_has other x)) one_is ∙ ap (λ t. keeps_place k t (row_has other x)) (part_has c.args.in_first first x)
+          ∙ ap (λ l. keeps_place k (c.args.in_first && row_has first x) (row_has l x)) other_is ∙ ap (keeps_place k (c.args.in_first && row_has first x)) (part_has c.args.in_second second x));
     } in
     let count : c.count_row.result ≡ length row = c.count_row.ensures.count row made in
     omega (arith, count)

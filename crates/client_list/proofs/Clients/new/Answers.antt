@@ -7,6 +7,6 @@ invariant_of-result g c = record {
   entries = [];
   chain = (refl, refl);
   count = sym (ap (count_by is_some) c.new.ensures.empty);
-  places = distinct_none;
+  positions = distinct_none;
   numbers = distinct_none;
 }

@@ -12,10 +12,10 @@ weaker (Ok a) f h = f h
 weaker (Err e) f h = tt
 
 pub returns-then-not-uses_copyrect-clause-cut : goal.returns-then-not-uses_copyrect-clause-cut
-returns-then-not-uses_copyrect-clause-cut c = weaker c.mark_before-then-not-uses_copyrect.result (λ kept w h all one. kept w h all) c.mark_before-then-not-uses_copyrect.ensures.cut
+returns-then-not-uses_copyrect-clause-cut c = weaker c.mark_before-then-not-uses_copyrect.result (λ sets w h all one. sets w h all) c.mark_before-then-not-uses_copyrect.ensures.cut
 
 pub returns-in-Mark-clause-cut : goal.returns-in-Mark-clause-cut
-returns-in-Mark-clause-cut c = weaker c.mark_before.result (λ kept w h all one. kept w h all) c.mark_before.ensures.cut
+returns-in-Mark-clause-cut c = weaker c.mark_before.result (λ sets w h all one. sets w h all) c.mark_before.ensures.cut
 
 pub returns-in_ok-push-in-Copy-clause-same : goal.returns-in_ok-push-in-Copy-clause-same
 returns-in_ok-push-in-Copy-clause-same c m =

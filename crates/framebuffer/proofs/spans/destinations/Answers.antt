@@ -7,7 +7,7 @@ use mathlib.Core.Path.{fun_ext}
 use Rattle.region.specs.declared.Rect.{Rect}
 use Rattle.region.specs.Region.{in_rect, on_screen}
 use Rattle.region.specs.Places.{cut_destination}
-use Rattle.framebuffer.specs.Picture.{union_of}
+use Rattle.framebuffer.specs.Picture.{places_in}
 use Rattle.framebuffer.proofs.PieceLemmas.{ArePieces, no_pieces, more_pieces}
 use Rattle.framebuffer.proofs.spans.destinations.Goals as goal
 
@@ -26,7 +26,7 @@ returns-clause-places c =
     let dx : FitsSigned w32 c.args.dx = c.ranges.dx in
     let dy : FitsSigned w32 c.args.dy = c.ranges.dy in
     let done : ArePieces c.args.width c.args.height (c.args.dx, c.args.dy) _ c.loop-rect.pieces.items = simp to_z-of_z at c.loop-rect.invariant in
-    fun_ext (λ x. fun_ext (λ y. done.places x y ∙ ap (λ (rs : List Rect). cut_destination c.args.width c.args.height (union_of rs) (c.args.dx, c.args.dy) x y) (take_all c.loop-rect.rect-index c.args.rects.now c.loop-rect-test.false)))
+    fun_ext (λ x. fun_ext (λ y. done.places x y ∙ ap (λ (rs : List Rect). cut_destination c.args.width c.args.height (places_in rs) (c.args.dx, c.args.dy) x y) (take_all c.loop-rect.rect-index c.args.rects.now c.loop-rect-test.false)))
 
 pub returns-clause-inside : goal.returns-clause-inside
 returns-clause-inside c = c.loop-rect.invariant.inside

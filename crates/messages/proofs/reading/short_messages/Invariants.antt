@@ -1,5 +1,5 @@
 use Rattle.std.proofs.Common.{◌≤◌, length}
-use Rattle.messages.specs.Kept.{TellSame}
+use Rattle.messages.specs.Partial.{TellSame}
 use Rattle.messages.proofs.reading.short_messages.Given as goal
 
 abbrev pub invariant-loop-left : goal.invariant-loop-left

@@ -18,8 +18,8 @@ impl Plain {
         }
     }
 
-    fn place_of(&self, number: u64) -> Option<usize>
-        ensures { IfSome result (λ place. place < vec_len self.now.pairs) }
+    fn position_of(&self, number: u64) -> Option<usize>
+        ensures { IfSome result (λ position. position < vec_len self.now.pairs) }
     {
         self.pairs.iter().position(|pair| pair.0 == number)
     }
@@ -35,17 +35,17 @@ impl Plain {
 
 /// Whether a walk finds these pairs, in this order, and no others.
 pub fn is_same(clients: &Clients<u32>, pairs: &[(u64, u32)]) -> bool {
-    let mut place = clients.first();
+    let mut position = clients.first();
     for (number, value) in pairs {
-        let Some(at) = place else {
+        let Some(at) = position else {
             return false;
         };
         if clients.number_at(at) != *number || clients.at(at) != value {
             return false;
         }
-        place = clients.next(at);
+        position = clients.next(at);
     }
-    place.is_none() && clients.len() == pairs.len()
+    position.is_none() && clients.len() == pairs.len()
 }
 
 /// A viewer connects on both sides; whether both then hold the same. One refusal of memory is passed over, and must have
@@ -56,7 +56,7 @@ pub fn connect_both(
     number: u64,
     value: u32,
 ) -> Result<bool, AllocError> {
-    let expected = if plain.place_of(number).is_some() {
+    let expected = if plain.position_of(number).is_some() {
         Err(ConnectError::NumberInUse)
     } else {
         Ok(())
@@ -76,8 +76,8 @@ pub fn connect_both(
 
 /// A viewer is removed on both sides; whether both answer the same and then hold the same.
 pub fn remove_both(clients: &mut Clients<u32>, plain: &mut Plain, number: u64) -> bool {
-    let expected = match plain.place_of(number) {
-        Some(place) => Some(plain.pairs.remove(place).1),
+    let expected = match plain.position_of(number) {
+        Some(position) => Some(plain.pairs.remove(position).1),
         None => None,
     };
     clients.remove(number).ok() == expected && is_same(clients, &plain.pairs)

@@ -17,12 +17,12 @@ fn raise(value: &mut u32)
 /// Changes each value on the way.
 pub fn raise_all(clients: &mut Clients<u32>)
     ensures pairs { clients.new.pairs ≡ changed (λ n. min (n + 1) 4294967295) clients.old.pairs }
-    ensures places { clients.new.places ≡ clients.old.places }
+    ensures positions { clients.new.positions ≡ clients.old.positions }
 {
-    let mut place = clients.first();
-    while let Some(at) = place {
+    let mut position = clients.first();
+    while let Some(at) = position {
         raise(clients.at_mut(at));
-        place = clients.next(at);
+        position = clients.next(at);
     }
 }
 
@@ -31,10 +31,10 @@ fn halves(alloc: Global, clients: &Clients<u32>) -> Result<Vec<u32>, AllocError>
     ensures { IfOk result (λ halves. halves.items ≡ map (λ n. n / 2) (values_of clients.now.pairs)) }
 {
     let mut halves = Vec::new(alloc);
-    let mut place = clients.first();
-    while let Some(at) = place {
+    let mut position = clients.first();
+    while let Some(at) = position {
         halves.push(*clients.at(at) / 2)?;
-        place = clients.next(at);
+        position = clients.next(at);
     }
     Ok(halves)
 }
@@ -43,16 +43,16 @@ fn halves(alloc: Global, clients: &Clients<u32>) -> Result<Vec<u32>, AllocError>
 fn put_halves(clients: &mut Clients<u32>, halves: Vec<u32>)
     requires { halves.items ≡ map (λ n. n / 2) (values_of clients.old.pairs) }
     ensures pairs { clients.new.pairs ≡ changed (λ n. n / 2) clients.old.pairs }
-    ensures places { clients.new.places ≡ clients.old.places }
+    ensures positions { clients.new.positions ≡ clients.old.positions }
 {
     let mut halves = halves;
     halves.reverse();
-    let mut place = clients.first();
-    while let Some(at) = place {
+    let mut position = clients.first();
+    while let Some(at) = position {
         if let Some(half) = halves.pop() {
             *clients.at_mut(at) = half;
         }
-        place = clients.next(at);
+        position = clients.next(at);
     }
 }
 
@@ -60,7 +60,7 @@ fn put_halves(clients: &mut Clients<u32>, halves: Vec<u32>)
 pub fn halve_all(alloc: Global, clients: &mut Clients<u32>) -> Result<(), AllocError>
     ensures ok { OnOk result (clients.new.pairs ≡ changed (λ n. n / 2) clients.old.pairs) }
     ensures err { OnErr result (clients.new ≡ clients.old) }
-    ensures places { clients.new.places ≡ clients.old.places }
+    ensures positions { clients.new.positions ≡ clients.old.positions }
 {
     let halves = halves(alloc, clients)?;
     put_halves(clients, halves);

@@ -4,7 +4,7 @@ use Rattle.std.specs.Int.{w32}
 use Rattle.std.proofs.lemmas.Int.{to_z-of_z}
 use Rattle.std.proofs.lemmas.List.{append-nil}
 use Rattle.region.specs.Region.{covers}
-use Rattle.region.specs.Held.{leaves_range}
+use Rattle.region.specs.RegionView.{leaves_range}
 use Rattle.band_walks.specs.Sets.{has}
 use Rattle.region.specs.Rects.{rects_in}
 use Rattle.region.proofs.Region.offset.Goals as goal

@@ -1,6 +1,6 @@
 use Rattle.std.proofs.Common.{sym, subst, All}
 use Rattle.std.specs.Map.{values_of}
-use Rattle.scene.specs.Held.{IsSized}
+use Rattle.scene.specs.Consistent.{IsSized}
 use Rattle.scene.proofs.Kept.{all-last}
 use Rattle.viewer_list.specs.Viewers.{Viewers}
 use Rattle.viewer_list.specs.SizeLemmas.{new_size}

@@ -21,22 +21,22 @@ pub returns-clause-seen : goal.returns-clause-seen
 returns-clause-seen c =
     let log = c.args.log.now.items in
     let start = c.args.viewers.now.pairs in
-    let end : c.len.result ≡ c.args.place + 1 = omega arith in
-    let entries : c.push_reserved.new.self.items ≡ take c.args.place log ++ Mark c.args.region ∷ [] = c.push_reserved.ensures.items ∙ ap (λ (es : List LogEntry). es ++ Mark c.args.region ∷ []) c.truncate.ensures.items in
-    let moved : c.move_all_within.new.viewers.pairs ≡ changed (within_end c.len.result) (changed (brought_up log (c.args.place + 1)) start) =
-    c.move_all_within.ensures ∙ ap (changed (within_end c.len.result)) (c.in_ok-catch_up_from.ensures.ok ∙ ap (λ (es : List LogEntry). changed (brought_up es (c.args.place + 1)) start) c.deref.ensures.value) in
+    let end : c.len.result ≡ c.args.position + 1 = omega arith in
+    let entries : c.push_reserved.new.self.items ≡ take c.args.position log ++ Mark c.args.region ∷ [] = c.push_reserved.ensures.items ∙ ap (λ (es : List LogEntry). es ++ Mark c.args.region ∷ []) c.truncate.ensures.items in
+    let moved : c.move_all_within.new.viewers.pairs ≡ changed (within_end c.len.result) (changed (brought_up log (c.args.position + 1)) start) =
+    c.move_all_within.ensures ∙ ap (changed (within_end c.len.result)) (c.in_ok-catch_up_from.ensures.ok ∙ ap (λ (es : List LogEntry). changed (brought_up es (c.args.position + 1)) start) c.deref.ensures.value) in
     ap (λ (es : List LogEntry). seen es c.move_all_within.new.viewers.pairs) entries
-    ∙ ap (seen (take c.args.place log ++ Mark c.args.region ∷ [])) moved
-    ∙ seen-joined log c.args.place c.len.result c.args.region c.requires.place end c.requires.joined start c.requires.fits
+    ∙ ap (seen (take c.args.position log ++ Mark c.args.region ∷ [])) moved
+    ∙ seen-joined log c.args.position c.len.result c.args.region c.requires.position end c.requires.joined start c.requires.fits
 
 pub returns-clause-fits : goal.returns-clause-fits
 returns-clause-fits c =
     let log = c.args.log.now.items in
     let start = c.args.viewers.now.pairs in
-    let end : c.len.result ≡ c.args.place + 1 = omega arith in
-    let entries : c.push_reserved.new.self.items ≡ take c.args.place log ++ Mark c.args.region ∷ [] = c.push_reserved.ensures.items ∙ ap (λ (es : List LogEntry). es ++ Mark c.args.region ∷ []) c.truncate.ensures.items in
-    let moved : c.move_all_within.new.viewers.pairs ≡ changed (within_end c.len.result) (changed (brought_up log (c.args.place + 1)) start) =
-    c.move_all_within.ensures ∙ ap (changed (within_end c.len.result)) (c.in_ok-catch_up_from.ensures.ok ∙ ap (λ (es : List LogEntry). changed (brought_up es (c.args.place + 1)) start) c.deref.ensures.value) in
+    let end : c.len.result ≡ c.args.position + 1 = omega arith in
+    let entries : c.push_reserved.new.self.items ≡ take c.args.position log ++ Mark c.args.region ∷ [] = c.push_reserved.ensures.items ∙ ap (λ (es : List LogEntry). es ++ Mark c.args.region ∷ []) c.truncate.ensures.items in
+    let moved : c.move_all_within.new.viewers.pairs ≡ changed (within_end c.len.result) (changed (brought_up log (c.args.position + 1)) start) =
+    c.move_all_within.ensures ∙ ap (changed (within_end c.len.result)) (c.in_ok-catch_up_from.ensures.ok ∙ ap (λ (es : List LogEntry). changed (brought_up es (c.args.position + 1)) start) c.deref.ensures.value) in
     subst (λ (es : List LogEntry). All (Fits es) (values_of c.move_all_within.new.viewers.pairs)) (sym entries)
-    (subst (λ (ps : List (ℕ × Lagging)). All (Fits (take c.args.place log ++ Mark c.args.region ∷ [])) (values_of ps)) (sym moved)
-    (fit-joined log c.args.place c.len.result c.args.region c.requires.place end c.requires.joined start c.requires.fits))
+    (subst (λ (ps : List (ℕ × Lagging)). All (Fits (take c.args.position log ++ Mark c.args.region ∷ [])) (values_of ps)) (sym moved)
+    (fit-joined log c.args.position c.len.result c.args.region c.requires.position end c.requires.joined start c.requires.fits))

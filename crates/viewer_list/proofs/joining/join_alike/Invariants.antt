@@ -6,7 +6,7 @@ use Rattle.viewer_list.proofs.joining.join_alike.Given as goal
 -- the viewers are seen as before, and the log has no more entries
 abbrev pub invariant-loop-log : goal.invariant-loop-log
 invariant-loop-log l = record {
-  place : l.place < length l.log.items;
+  position : l.position < length l.log.items;
   len : length l.log.items ≤ length l.initial.log.items;
   seen : seen l.log.items l.viewers.pairs ≡ seen l.initial.log.items l.initial.viewers.pairs;
   fits : All (Fits l.log.items) (values_of l.viewers.pairs);

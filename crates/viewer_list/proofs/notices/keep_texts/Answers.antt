@@ -15,30 +15,30 @@ keep_text-requires-clause-text c =
     let text = c.args.text.now in
     let f : Lagging → Lagging = told_of (notice.CutText text) in
     let start : Connected Lagging = c.args.viewers.now in
-    let taken = take_step (λ (l : Lagging). text_for text l.viewer) start _ c.loop-place.viewers c.loop-place.place c.in-Some.at c.loop-place.notices.items c.pop.new.self.items c.pop.result (keys-changed f start.pairs) c.first-place.ensures.listed c.loop-place.invariant.walk c.in-Some.is c.loop-place.invariant.left c.pop.ensures.items
+    let taken = take_step (λ (l : Lagging). text_for text l.viewer) start _ c.loop-position.viewers c.loop-position.position c.in-Some.at c.loop-position.notices.items c.pop.new.self.items c.pop.result (keys-changed f start.pairs) c.first-position.ensures.listed c.loop-position.invariant.walk c.in-Some.is c.loop-position.invariant.left c.pop.ensures.items
     (λ some. c.pop.ensures.variant.1 (omega (arith, some))) in
     same_Some c.in-Some-pop.notice (text_for text taken.value.viewer) (sym c.in-Some-pop.is ∙ taken.next)
     ∙ ap (λ (l : Lagging). text_for text l.viewer) (same_Some taken.value c.at_mut.result.now (sym taken.was ∙ c.at_mut.ensures.value))
 
-pub loop-place-preserved : goal.loop-place-preserved
-loop-place-preserved c =
+pub loop-position-preserved : goal.loop-position-preserved
+loop-position-preserved c =
     let text = c.args.text.now in
     let f : Lagging → Lagging = told_of (notice.CutText text) in
     let start : Connected Lagging = c.args.viewers.now in
-    let now : Connected Lagging = c.loop-place.viewers in
-    let taken = take_step (λ (l : Lagging). text_for text l.viewer) start _ now c.loop-place.place c.in-Some.at c.loop-place.notices.items c.pop.new.self.items c.pop.result (keys-changed f start.pairs) c.first-place.ensures.listed c.loop-place.invariant.walk c.in-Some.is c.loop-place.invariant.left c.pop.ensures.items
+    let now : Connected Lagging = c.loop-position.viewers in
+    let taken = take_step (λ (l : Lagging). text_for text l.viewer) start _ now c.loop-position.position c.in-Some.at c.loop-position.notices.items c.pop.new.self.items c.pop.result (keys-changed f start.pairs) c.first-position.ensures.listed c.loop-position.invariant.walk c.in-Some.is c.loop-position.invariant.left c.pop.ensures.items
     (λ some. c.pop.ensures.variant.1 (omega (arith, some))) in
     elim c.match-pop.branch [
       | in-Some-pop w ↦
-          let step = rw w.viewers-is at c.next-place.ensures.passed in
+          let step = rw w.viewers-is at c.next-position.ensures.passed in
           rw w.viewers-is (record {
             walk =
-                change_step f start now c.loop-place.place c.next-place.result c.in-Some.at w.at_mut.result.now w.keep_text.new.lagging c.loop-place.invariant.walk c.in-Some.is w.at_mut.ensures.value
-                w.keep_text.ensures (rw w.viewers-is at c.next-place.ensures.place) step;
+                change_step f start now c.loop-position.position c.next-position.result c.in-Some.at w.at_mut.result.now w.keep_text.new.lagging c.loop-position.invariant.walk c.in-Some.is w.at_mut.ensures.value
+                w.keep_text.ensures (rw w.viewers-is at c.next-position.ensures.position) step;
             left = taken.left ∙ sym (ap (λ (m : ℕ). reverse (drop m (map (λ (l : Lagging). text_for text l.viewer) (values_of start.pairs)))) step);
           })
       | in_default-pop w ↦ absurd (none-some (text_for text taken.value.viewer) (sym w.in_default-pop.is ∙ taken.next))
     ]
 
 pub returns : goal.returns
-returns c = change_end (told_of (notice.CutText c.args.text.now)) c.args.viewers.now c.loop-place.viewers c.loop-place.place c.first-place.ensures.listed c.loop-place.invariant.walk c.in_default.is
+returns c = change_end (told_of (notice.CutText c.args.text.now)) c.args.viewers.now c.loop-position.viewers c.loop-position.position c.first-position.ensures.listed c.loop-position.invariant.walk c.in_default.is

@@ -9,11 +9,11 @@ use Rattle.viewer_list.specs.Viewers.{text_for}
 use Rattle.viewer_list.proofs.notices.keep_texts.Given as goal
 
 -- the viewers that were passed keep their texts, and those of the others are left, the last one's first
-abbrev pub invariant-loop-place : goal.invariant-loop-place
-invariant-loop-place l = record {
-  walk : IsWalk l.fn.viewers (changed (told_of (notice.CutText l.text)) l.fn.viewers.pairs) l.viewers l.place;
-  left : l.notices.items ≡ reverse (drop (passed l.viewers l.place) (map (λ (v : Lagging). text_for l.text v.viewer) (values_of l.fn.viewers.pairs)));
+abbrev pub invariant-loop-position : goal.invariant-loop-position
+invariant-loop-position l = record {
+  walk : IsWalk l.fn.viewers (changed (told_of (notice.CutText l.text)) l.fn.viewers.pairs) l.viewers l.position;
+  left : l.notices.items ≡ reverse (drop (passed l.viewers l.position) (map (λ (v : Lagging). text_for l.text v.viewer) (values_of l.fn.viewers.pairs)));
 }
 
-abbrev pub decreases-loop-place : goal.decreases-loop-place
-decreases-loop-place l = length l.viewers.places - passed l.viewers l.place
+abbrev pub decreases-loop-position : goal.decreases-loop-position
+decreases-loop-position l = length l.viewers.positions - passed l.viewers l.position

@@ -6,8 +6,8 @@ use Rattle.viewer_list.specs.Lagging.{told_of}
 use Rattle.viewer_list.proofs.notices.ring_all.Given as goal
 
 -- the viewers that were passed keep a bell
-abbrev pub invariant-loop-place : goal.invariant-loop-place
-invariant-loop-place l = IsWalk l.fn.viewers (changed (told_of notice.Bell) l.fn.viewers.pairs) l.viewers l.place
+abbrev pub invariant-loop-position : goal.invariant-loop-position
+invariant-loop-position l = IsWalk l.fn.viewers (changed (told_of notice.Bell) l.fn.viewers.pairs) l.viewers l.position
 
-abbrev pub decreases-loop-place : goal.decreases-loop-place
-decreases-loop-place l = length l.viewers.places - passed l.viewers l.place
+abbrev pub decreases-loop-position : goal.decreases-loop-position
+decreases-loop-position l = length l.viewers.positions - passed l.viewers l.position

@@ -5,11 +5,11 @@ use Rattle.viewer_list.specs.declared.lagging.Lagging.{Lagging}
 use Rattle.viewer_list.specs.Viewers.{text_for}
 use Rattle.viewer_list.proofs.notices.texts.Goals as goal
 
-pub loop-place-preserved : goal.loop-place-preserved
-loop-place-preserved c = record {
-  place = c.next-place.ensures.place;
+pub loop-position-preserved : goal.loop-position-preserved
+loop-position-preserved c = record {
+  position = c.next-position.ensures.position;
   made =
       c.in_ok-push.ensures.items
-      ∙ ap (λ (n : Option Notice). c.loop-place.notices.items ++ n ∷ []) c.in_ok-text_for.ensures
-      ∙ read_step (λ (l : Lagging). text_for c.args.text.now l.viewer) c.args.viewers.now c.loop-place.notices.items c.loop-place.place c.next-place.result c.in-Some.at c.at.result.now c.loop-place.invariant.made c.in-Some.is c.at.ensures c.next-place.ensures.passed;
+      ∙ ap (λ (n : Option Notice). c.loop-position.notices.items ++ n ∷ []) c.in_ok-text_for.ensures
+      ∙ read_step (λ (l : Lagging). text_for c.args.text.now l.viewer) c.args.viewers.now c.loop-position.notices.items c.loop-position.position c.next-position.result c.in-Some.at c.at.result.now c.loop-position.invariant.made c.in-Some.is c.at.ensures c.next-position.ensures.passed;
 }

@@ -12,32 +12,32 @@ pub bring_up-requires-clause-fits : goal.bring_up-requires-clause-fits
 bring_up-requires-clause-fits c =
     let log = c.args.log.now in
     let start : Connected Lagging = c.args.viewers.now in
-    all-at (Fits log) start.pairs (index_of start.places c.in-Some.at) c.at_mut.result.now c.requires
-    (sym (walk_value start (changed (brought_up log c.args.least) start.pairs) c.loop-place.viewers c.loop-place.place c.in-Some.at (keys-changed (brought_up log c.args.least) start.pairs) c.loop-place.invariant.walk c.in-Some.is) ∙ c.at_mut.ensures.value)
+    all-at (Fits log) start.pairs (index_of start.positions c.in-Some.at) c.at_mut.result.now c.requires
+    (sym (walk_value start (changed (brought_up log c.args.least) start.pairs) c.loop-position.viewers c.loop-position.position c.in-Some.at (keys-changed (brought_up log c.args.least) start.pairs) c.loop-position.invariant.walk c.in-Some.is) ∙ c.at_mut.ensures.value)
 
 pub returns-in_err-bring_up-clause-same : goal.returns-in_err-bring_up-clause-same
 returns-in_err-bring_up-clause-same c =
     let log = c.args.log.now in
     let start : Connected Lagging = c.args.viewers.now in
-    let now : Connected Lagging = c.loop-place.viewers in
-    let i : ℕ = index_of now.places c.in-Some.at in
-    ap (seen log) (ap (set_value_at now.pairs i) c.in_err-bring_up.ensures.err ∙ set-at-same now.pairs i c.at_mut.result.now c.at_mut.ensures.value ∙ c.loop-place.invariant.walk.pairs)
-    ∙ seen-partly log c.args.least start.pairs (passed now c.loop-place.place)
+    let now : Connected Lagging = c.loop-position.viewers in
+    let i : ℕ = index_of now.positions c.in-Some.at in
+    ap (seen log) (ap (set_value_at now.pairs i) c.in_err-bring_up.ensures.err ∙ set-at-same now.pairs i c.at_mut.result.now c.at_mut.ensures.value ∙ c.loop-position.invariant.walk.pairs)
+    ∙ seen-partly log c.args.least start.pairs (passed now c.loop-position.position)
 
 pub returns-in_err-bring_up-clause-fits : goal.returns-in_err-bring_up-clause-fits
 returns-in_err-bring_up-clause-fits c =
     let log = c.args.log.now in
     let start : Connected Lagging = c.args.viewers.now in
-    let now : Connected Lagging = c.loop-place.viewers in
-    let i : ℕ = index_of now.places c.in-Some.at in
+    let now : Connected Lagging = c.loop-position.viewers in
+    let i : ℕ = index_of now.positions c.in-Some.at in
     subst (λ (ps : List (ℕ × Lagging)). All (Fits log) (values_of ps))
-    (sym (ap (set_value_at now.pairs i) c.in_err-bring_up.ensures.err ∙ set-at-same now.pairs i c.at_mut.result.now c.at_mut.ensures.value ∙ c.loop-place.invariant.walk.pairs))
-    (all-partly (Fits log) (brought_up log c.args.least) (brought_up_fits log c.args.least) start.pairs (passed now c.loop-place.place) c.requires)
+    (sym (ap (set_value_at now.pairs i) c.in_err-bring_up.ensures.err ∙ set-at-same now.pairs i c.at_mut.result.now c.at_mut.ensures.value ∙ c.loop-position.invariant.walk.pairs))
+    (all-partly (Fits log) (brought_up log c.args.least) (brought_up_fits log c.args.least) start.pairs (passed now c.loop-position.position) c.requires)
 
-pub loop-place-preserved : goal.loop-place-preserved
-loop-place-preserved c = record {
-  walk = change_step (brought_up c.args.log.now c.args.least) c.args.viewers.now c.loop-place.viewers c.loop-place.place c.next-place.result c.in-Some.at c.at_mut.result.now c.bring_up.new.lagging c.loop-place.invariant.walk c.in-Some.is c.at_mut.ensures.value
-      c.in_ok-bring_up.ensures.ok c.next-place.ensures.place c.next-place.ensures.passed;
+pub loop-position-preserved : goal.loop-position-preserved
+loop-position-preserved c = record {
+  walk = change_step (brought_up c.args.log.now c.args.least) c.args.viewers.now c.loop-position.viewers c.loop-position.position c.next-position.result c.in-Some.at c.at_mut.result.now c.bring_up.new.lagging c.loop-position.invariant.walk c.in-Some.is c.at_mut.ensures.value
+      c.in_ok-bring_up.ensures.ok c.next-position.ensures.position c.next-position.ensures.passed;
   shared = c.bring_up.ensures.shared;
 }
 
@@ -45,12 +45,12 @@ pub returns-clause-same : goal.returns-clause-same
 returns-clause-same c =
     let log = c.args.log.now in
     let start : Connected Lagging = c.args.viewers.now in
-    ap (seen log) (change_end (brought_up log c.args.least) start c.loop-place.viewers c.loop-place.place c.first-place.ensures.listed c.loop-place.invariant.walk c.in_default.is) ∙ seen-brought_up log c.args.least start.pairs c.requires
+    ap (seen log) (change_end (brought_up log c.args.least) start c.loop-position.viewers c.loop-position.position c.first-position.ensures.listed c.loop-position.invariant.walk c.in_default.is) ∙ seen-brought_up log c.args.least start.pairs c.requires
 
 pub returns-clause-fits : goal.returns-clause-fits
 returns-clause-fits c =
     let log = c.args.log.now in
     let start : Connected Lagging = c.args.viewers.now in
     subst (λ (ps : List (ℕ × Lagging)). All (Fits log) (values_of ps))
-    (sym (change_end (brought_up log c.args.least) start c.loop-place.viewers c.loop-place.place c.first-place.ensures.listed c.loop-place.invariant.walk c.in_default.is))
+    (sym (change_end (brought_up log c.args.least) start c.loop-position.viewers c.loop-position.position c.first-position.ensures.listed c.loop-position.invariant.walk c.in_default.is))
     (all-changed (Fits log) (Fits log) (brought_up log c.args.least) (brought_up_fits log c.args.least) start.pairs c.requires)

@@ -5,11 +5,11 @@ use Rattle.viewer_list.specs.Lagging.{brought_up, IsShared}
 use Rattle.viewer_list.proofs.walks.catch_up_from.Given as goal
 
 -- the viewers that were passed have caught up where they have taken so many entries
-abbrev pub invariant-loop-place : goal.invariant-loop-place
-invariant-loop-place l = record {
-  walk : IsWalk l.fn.viewers (changed (brought_up l.log l.least) l.fn.viewers.pairs) l.viewers l.place;
+abbrev pub invariant-loop-position : goal.invariant-loop-position
+invariant-loop-position l = record {
+  walk : IsWalk l.fn.viewers (changed (brought_up l.log l.least) l.fn.viewers.pairs) l.viewers l.position;
   shared : IsShared l.log l.shared;
 }
 
-abbrev pub decreases-loop-place : goal.decreases-loop-place
-decreases-loop-place l = length l.viewers.places - passed l.viewers l.place
+abbrev pub decreases-loop-position : goal.decreases-loop-position
+decreases-loop-position l = length l.viewers.positions - passed l.viewers l.position

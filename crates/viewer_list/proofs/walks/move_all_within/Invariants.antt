@@ -5,8 +5,8 @@ use Rattle.viewer_list.specs.Lagging.{within_end}
 use Rattle.viewer_list.proofs.walks.move_all_within.Given as goal
 
 -- the viewers that were passed stand within the log
-abbrev pub invariant-loop-place : goal.invariant-loop-place
-invariant-loop-place l = IsWalk l.fn.viewers (changed (within_end l.end) l.fn.viewers.pairs) l.viewers l.place
+abbrev pub invariant-loop-position : goal.invariant-loop-position
+invariant-loop-position l = IsWalk l.fn.viewers (changed (within_end l.end) l.fn.viewers.pairs) l.viewers l.position
 
-abbrev pub decreases-loop-place : goal.decreases-loop-place
-decreases-loop-place l = length l.viewers.places - passed l.viewers l.place
+abbrev pub decreases-loop-position : goal.decreases-loop-position
+decreases-loop-position l = length l.viewers.positions - passed l.viewers l.position

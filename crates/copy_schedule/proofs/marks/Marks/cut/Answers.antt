@@ -6,7 +6,7 @@ use Rattle.region.specs.CopyOrderLemmas.{copies-in-order, in-order-take}
 use Rattle.region.specs.Places.{IsOnScreen, source_rect}
 use Rattle.copy_schedule.specs.Marks.{after_sending, copies_of, pixels_of, pending, copyable}
 use Rattle.copy_schedule.specs.CutLemmas.{copies_on_screen, sources_inside, pixels_on_screen}
-use Rattle.copy_schedule.specs.KeptLemmas.{settled_are}
+use Rattle.copy_schedule.specs.MarkSetLemmas.{settled_are}
 use Rattle.copy_schedule.proofs.marks.Marks.cut.Goals as goal
 
 pub returns-clause-after : goal.returns-clause-after

@@ -1,10 +1,10 @@
 use Rattle.std.proofs.Common.{subst, refl}
 use Rattle.copy_schedule.specs.Marks.{Marks}
-use Rattle.copy_schedule.specs.KeptLemmas.{Shows, owed_listed}
+use Rattle.copy_schedule.specs.MarkSetLemmas.{Shows, owed_listed}
 use Rattle.copy_schedule.proofs.marks.Marks.modified.Goals as goal
 
 pub returns : goal.returns
 returns c =
     let f = c.self.inside in
-    let shows : Shows c.args.self.now f.kept f.asked.list = subst (λ (m : Marks). Shows m f.kept f.asked.list) c.self.view_is (record { screen = c.self.invariant; marks = refl; places = refl }) in
-    owed_listed c.args.self.now f.kept f.asked.list shows c.list_is_canonical.ensures
+    let shows : Shows c.args.self.now f.sets f.asked.list = subst (λ (m : Marks). Shows m f.sets f.asked.list) c.self.view_is (record { screen = c.self.invariant; marks = refl; places = refl }) in
+    owed_listed c.args.self.now f.sets f.asked.list shows c.list_is_canonical.ensures

@@ -4,7 +4,7 @@ use Rattle.region.specs.Region.{covers}
 use Rattle.copy_schedule.specs.declared.Mark.TheVariants.{Owed}
 use Rattle.region.specs.Places.{by_place}
 use Rattle.copy_schedule.specs.Marks.{Marks}
-use Rattle.copy_schedule.specs.KeptLemmas.{all_owed, none_asked}
+use Rattle.copy_schedule.specs.MarkSetLemmas.{all_owed, none_asked}
 use Rattle.copy_schedule.proofs.marks.Marks.new.Goals as goal
 
 pub returns : goal.returns

@@ -4,60 +4,60 @@ use Rattle.std.specs.Int.{w32}
 use Rattle.std.specs.List.{All}
 use Rattle.std.proofs.lemmas.Int.{to_z-of_z}
 use Rattle.region.specs.Region.{covers, order}
-use Rattle.region.specs.Places.{by_place, IsOnScreen}
+use Rattle.region.specs.Places.{by_place, IsOnScreen, longest_side}
 use Rattle.copy_schedule.specs.Marks.{Marks, copies_of, pixels_of, mark_at, is_clean}
-use Rattle.copy_schedule.specs.Kept.{kept_mark}
+use Rattle.copy_schedule.specs.MarkSets.{mark_in_sets}
 use Rattle.copy_schedule.specs.CutLemmas.{copies_on_screen, pixels_on_screen}
 use Rattle.region.specs.OrderLemmas.{in_order-plain}
-use Rattle.copy_schedule.specs.KeptLemmas.{Shows, copies_listed, pixels_listed, left_is, screen_wider}
+use Rattle.copy_schedule.specs.MarkSetLemmas.{Shows, copies_listed, pixels_listed, left_is, screen_wider}
 use Rattle.copy_schedule.proofs.marks.Marks.sending.Goals as goal
 
 pub left_after-requires-clause-copies : goal.left_after-requires-clause-copies
 left_after-requires-clause-copies c =
     let f = c.self.inside in
-    let m : Marks = record { width = f.width; height = f.height; marks = by_place f.width f.height (kept_mark f.kept); offset = (f.offset_x, f.offset_y); asked = by_place f.width f.height (covers f.asked.list) } in
-    let shows : Shows m f.kept f.asked.list = record { screen = c.self.invariant; marks = refl; places = refl } in
+    let m : Marks = record { width = f.width; height = f.height; marks = by_place f.width f.height (mark_in_sets f.sets); offset = (f.offset_x, f.offset_y); asked = by_place f.width f.height (covers f.asked.list) } in
+    let shows : Shows m f.sets f.asked.list = record { screen = c.self.invariant; marks = refl; places = refl } in
     let x : FitsSigned w32 f.offset_x = search rules in
     let y : FitsSigned w32 f.offset_y = search rules in
-    let copies : c.in_ok-copies.copies.items ≡ copies_of c.args.limit m = (simp to_z-of_z at c.in_ok-copies.ensures.rects) ∙ ap (λ rs. take c.args.limit (order f.offset_x f.offset_y rs)) (copies_listed m f.kept f.asked.list shows c.in_ok-parts.parts.copies.list c.in_ok-copies.ensures.canonical (λ a b. simp to_z-of_z at (c.in_ok-parts.ensures.copies a b))) in
-    subst (All (IsOnScreen 8192 8192)) (sym (c.deref.ensures.value ∙ copies)) (screen_wider m.width m.height (copies_of c.args.limit m) shows.screen.columns shows.screen.rows (copies_on_screen c.args.limit m))
+    let copies : c.in_ok-copies.copies.items ≡ copies_of c.args.limit m = (simp to_z-of_z at c.in_ok-copies.ensures.rects) ∙ ap (λ rs. take c.args.limit (order f.offset_x f.offset_y rs)) (copies_listed m f.sets f.asked.list shows c.in_ok-parts.parts.copies.list c.in_ok-copies.ensures.canonical (λ a b. simp to_z-of_z at (c.in_ok-parts.ensures.copies a b))) in
+    subst (All (IsOnScreen longest_side longest_side)) (sym (c.deref.ensures.value ∙ copies)) (screen_wider m.width m.height (copies_of c.args.limit m) shows.screen.columns shows.screen.rows (copies_on_screen c.args.limit m))
 
 pub left_after-requires-clause-pixels : goal.left_after-requires-clause-pixels
 left_after-requires-clause-pixels c =
     let f = c.self.inside in
-    let m : Marks = record { width = f.width; height = f.height; marks = by_place f.width f.height (kept_mark f.kept); offset = (f.offset_x, f.offset_y); asked = by_place f.width f.height (covers f.asked.list) } in
-    let shows : Shows m f.kept f.asked.list = record { screen = c.self.invariant; marks = refl; places = refl } in
+    let m : Marks = record { width = f.width; height = f.height; marks = by_place f.width f.height (mark_in_sets f.sets); offset = (f.offset_x, f.offset_y); asked = by_place f.width f.height (covers f.asked.list) } in
+    let shows : Shows m f.sets f.asked.list = record { screen = c.self.invariant; marks = refl; places = refl } in
     let x : FitsSigned w32 f.offset_x = search rules in
     let y : FitsSigned w32 f.offset_y = search rules in
-    let pixels : c.in_ok-pixels.pixels.items ≡ pixels_of c.args.limit m = c.in_ok-pixels.ensures.rects ∙ ap (take c.args.limit) (in_order-plain c.in_ok-parts.parts.pixels.list ∙ pixels_listed m f.kept f.asked.list shows c.in_ok-parts.parts.copies.list c.in_ok-parts.parts.pixels.list c.in_ok-pixels.ensures.canonical (λ a b. simp to_z-of_z at (c.in_ok-parts.ensures.copies a b)) c.in_ok-parts.ensures.pixels) in
-    subst (All (IsOnScreen 8192 8192)) (sym (c.deref-2.ensures.value ∙ pixels)) (screen_wider m.width m.height (pixels_of c.args.limit m) shows.screen.columns shows.screen.rows (pixels_on_screen c.args.limit m))
+    let pixels : c.in_ok-pixels.pixels.items ≡ pixels_of c.args.limit m = c.in_ok-pixels.ensures.rects ∙ ap (take c.args.limit) (in_order-plain c.in_ok-parts.parts.pixels.list ∙ pixels_listed m f.sets f.asked.list shows c.in_ok-parts.parts.copies.list c.in_ok-parts.parts.pixels.list c.in_ok-pixels.ensures.canonical (λ a b. simp to_z-of_z at (c.in_ok-parts.ensures.copies a b)) c.in_ok-parts.ensures.pixels) in
+    subst (All (IsOnScreen longest_side longest_side)) (sym (c.deref-2.ensures.value ∙ pixels)) (screen_wider m.width m.height (pixels_of c.args.limit m) shows.screen.columns shows.screen.rows (pixels_on_screen c.args.limit m))
 
 pub returns-clause-copies : goal.returns-clause-copies
 returns-clause-copies c =
     let f = c.self.inside in
-    let m : Marks = record { width = f.width; height = f.height; marks = by_place f.width f.height (kept_mark f.kept); offset = (f.offset_x, f.offset_y); asked = by_place f.width f.height (covers f.asked.list) } in
-    let shows : Shows m f.kept f.asked.list = record { screen = c.self.invariant; marks = refl; places = refl } in
+    let m : Marks = record { width = f.width; height = f.height; marks = by_place f.width f.height (mark_in_sets f.sets); offset = (f.offset_x, f.offset_y); asked = by_place f.width f.height (covers f.asked.list) } in
+    let shows : Shows m f.sets f.asked.list = record { screen = c.self.invariant; marks = refl; places = refl } in
     let x : FitsSigned w32 f.offset_x = search rules in
     let y : FitsSigned w32 f.offset_y = search rules in
-    let copies : c.in_ok-copies.copies.items ≡ copies_of c.args.limit m = (simp to_z-of_z at c.in_ok-copies.ensures.rects) ∙ ap (λ rs. take c.args.limit (order f.offset_x f.offset_y rs)) (copies_listed m f.kept f.asked.list shows c.in_ok-parts.parts.copies.list c.in_ok-copies.ensures.canonical (λ a b. simp to_z-of_z at (c.in_ok-parts.ensures.copies a b))) in
+    let copies : c.in_ok-copies.copies.items ≡ copies_of c.args.limit m = (simp to_z-of_z at c.in_ok-copies.ensures.rects) ∙ ap (λ rs. take c.args.limit (order f.offset_x f.offset_y rs)) (copies_listed m f.sets f.asked.list shows c.in_ok-parts.parts.copies.list c.in_ok-copies.ensures.canonical (λ a b. simp to_z-of_z at (c.in_ok-parts.ensures.copies a b))) in
     copies ∙ ap (copies_of c.args.limit) c.self.view_is
 
 pub returns-clause-pixels : goal.returns-clause-pixels
 returns-clause-pixels c =
     let f = c.self.inside in
-    let m : Marks = record { width = f.width; height = f.height; marks = by_place f.width f.height (kept_mark f.kept); offset = (f.offset_x, f.offset_y); asked = by_place f.width f.height (covers f.asked.list) } in
-    let shows : Shows m f.kept f.asked.list = record { screen = c.self.invariant; marks = refl; places = refl } in
+    let m : Marks = record { width = f.width; height = f.height; marks = by_place f.width f.height (mark_in_sets f.sets); offset = (f.offset_x, f.offset_y); asked = by_place f.width f.height (covers f.asked.list) } in
+    let shows : Shows m f.sets f.asked.list = record { screen = c.self.invariant; marks = refl; places = refl } in
     let x : FitsSigned w32 f.offset_x = search rules in
     let y : FitsSigned w32 f.offset_y = search rules in
-    let pixels : c.in_ok-pixels.pixels.items ≡ pixels_of c.args.limit m = c.in_ok-pixels.ensures.rects ∙ ap (take c.args.limit) (in_order-plain c.in_ok-parts.parts.pixels.list ∙ pixels_listed m f.kept f.asked.list shows c.in_ok-parts.parts.copies.list c.in_ok-parts.parts.pixels.list c.in_ok-pixels.ensures.canonical (λ a b. simp to_z-of_z at (c.in_ok-parts.ensures.copies a b)) c.in_ok-parts.ensures.pixels) in
+    let pixels : c.in_ok-pixels.pixels.items ≡ pixels_of c.args.limit m = c.in_ok-pixels.ensures.rects ∙ ap (take c.args.limit) (in_order-plain c.in_ok-parts.parts.pixels.list ∙ pixels_listed m f.sets f.asked.list shows c.in_ok-parts.parts.copies.list c.in_ok-parts.parts.pixels.list c.in_ok-pixels.ensures.canonical (λ a b. simp to_z-of_z at (c.in_ok-parts.ensures.copies a b)) c.in_ok-parts.ensures.pixels) in
     pixels ∙ ap (pixels_of c.args.limit) c.self.view_is
 
 pub returns-clause-owed : goal.returns-clause-owed
 returns-clause-owed c = λ a b.
     let f = c.self.inside in
-    let m : Marks = record { width = f.width; height = f.height; marks = by_place f.width f.height (kept_mark f.kept); offset = (f.offset_x, f.offset_y); asked = by_place f.width f.height (covers f.asked.list) } in
-    let shows : Shows m f.kept f.asked.list = record { screen = c.self.invariant; marks = refl; places = refl } in
-    left_is m f.kept f.asked.list shows c.in_ok-parts.parts.unclean.list c.in_ok-owed.owed.list c.in_ok-copies.copies.items c.in_ok-pixels.pixels.items c.in_ok-parts.ensures.unclean (λ x y.
+    let m : Marks = record { width = f.width; height = f.height; marks = by_place f.width f.height (mark_in_sets f.sets); offset = (f.offset_x, f.offset_y); asked = by_place f.width f.height (covers f.asked.list) } in
+    let shows : Shows m f.sets f.asked.list = record { screen = c.self.invariant; marks = refl; places = refl } in
+    left_is m f.sets f.asked.list shows c.in_ok-parts.parts.unclean.list c.in_ok-owed.owed.list c.in_ok-copies.copies.items c.in_ok-pixels.pixels.items c.in_ok-parts.ensures.unclean (λ x y.
     c.in_ok-owed.ensures x y
     ∙ ap (λ rs. covers c.in_ok-parts.parts.unclean.list x y && not (covers rs x y || covers c.deref-2.result.now x y)) c.deref.ensures.value
     ∙ ap (λ rs. covers c.in_ok-parts.parts.unclean.list x y && not (covers c.in_ok-copies.copies.items x y || covers rs x y)) c.deref-2.ensures.value) a b

@@ -4,7 +4,7 @@ use Rattle.region.specs.declared.Rect.{Rect}
 use Rattle.region.specs.Region.{covers}
 use Rattle.framebuffer.specs.Rows.{row_colours, colours_of_rows}
 use Rattle.framebuffer.specs.Moves.{colour_moved}
-use Rattle.framebuffer.specs.Picture.{moved}
+use Rattle.framebuffer.specs.Picture.{moved_colours}
 use Rattle.framebuffer.specs.Frame.{Frame}
 use Rattle.framebuffer.specs.Rows.{HasRows, frame_of}
 use Rattle.framebuffer.proofs.RowLemmas.{wide_same, flat_same}
@@ -43,4 +43,4 @@ returns-clause-ok c =
     ∙ ap (moved_in c.args.pieces.now c.args.offset) c.self.view_is
   where
     moved_in : List Rect → ℤ × ℤ → Frame → Frame
-    moved_in pieces by f = record f { colours = moved f.width f.height (covers pieces) by f.colours }
+    moved_in pieces by f = record f { colours = moved_colours f.width f.height (covers pieces) by f.colours }

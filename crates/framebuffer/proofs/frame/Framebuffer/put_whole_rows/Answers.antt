@@ -2,7 +2,7 @@ use Rattle.std.proofs.Common.{◌≡◌, ℕ, ◌+◌, ◌≤◌, ◌++◌, List
 use Rattle.std.proofs.lemmas.List.{take_at}
 use Rattle.framebuffer.specs.declared.blocks.Block.{Block}
 use Rattle.framebuffer.specs.declared.rows.Row.{Row}
-use Rattle.framebuffer.specs.Blocks.{rect_of}
+use Rattle.framebuffer.specs.Blocks.{block_rect}
 use Rattle.framebuffer.specs.Picture.{written}
 use Rattle.framebuffer.specs.Rows.{HasRows, frame_of}
 use Rattle.framebuffer.specs.Frame.{Frame}
@@ -43,4 +43,4 @@ returns-clause-ok c =
     ∙ ap (written_in b c.args.colours.now) c.self.view_is
   where
     written_in : Block → List ℕ → Frame → Frame
-    written_in b colours f = record f { colours = written f.width f.height (rect_of b) colours f.colours }
+    written_in b colours f = record f { colours = written f.width f.height (block_rect b) colours f.colours }

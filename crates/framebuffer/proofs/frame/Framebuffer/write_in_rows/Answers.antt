@@ -2,7 +2,7 @@ use Rattle.std.proofs.Common.{◌≡◌, ℕ, List, length, map, drop, sym, ap, 
 use Rattle.std.proofs.lemmas.List.{take_at}
 use Rattle.framebuffer.specs.declared.blocks.Block.{Block}
 use Rattle.framebuffer.specs.Rows.{row_colours}
-use Rattle.framebuffer.specs.Blocks.{colour_written, rect_of}
+use Rattle.framebuffer.specs.Blocks.{colour_written, block_rect}
 use Rattle.framebuffer.specs.Picture.{written}
 use Rattle.framebuffer.specs.Frame.{Frame}
 use Rattle.framebuffer.specs.Rows.{HasRows, frame_of}
@@ -40,4 +40,4 @@ returns-clause-ok c =
     ∙ ap (written_in c.args.block c.args.colours.now) c.self.view_is
   where
     written_in : Block → List ℕ → Frame → Frame
-    written_in b colours f = record f { colours = written f.width f.height (rect_of b) colours f.colours }
+    written_in b colours f = record f { colours = written f.width f.height (block_rect b) colours f.colours }

@@ -1,7 +1,7 @@
 use Rattle.std.proofs.Common.{ap, sym, ◌∙◌, arith}
 use Rattle.std.specs.Prelude.{IfOk}
 use Rattle.std.proofs.lemmas.Result.{IfOk-weaker}
-use Rattle.messages.specs.Kept.{rest_held}
+use Rattle.messages.specs.Partial.{rest_in}
 use Rattle.messages.proofs.Feeding.{Foretells, keeping_foretells, reading_foretells, foretold_items, foretold_fault, foretold_rest, faulted_then}
 use Rattle.messages.proofs.ear.Ear.prepare.Goals as goal
 
@@ -9,12 +9,12 @@ by_keeping : (c : goal.After-keep_on) → IfOk c.keep_on.result (Foretells c.arg
 by_keeping c =
     let short = rw c.in-Text.is at c.self.invariant in
     IfOk-weaker c.keep_on.result _ _
-    (keeping_foretells c.args.self.now c.self.inside.phase c.in-Text.text c.args.piece.now (sym c.self.view_is ∙ ap (rest_held c.self.inside.phase) c.in-Text.is) (omega (arith, c.missing.ensures, c.if-piece-missing.true)) short.1)
+    (keeping_foretells c.args.self.now c.self.inside.phase c.in-Text.text c.args.piece.now (sym c.self.view_is ∙ ap (rest_in c.self.inside.phase) c.in-Text.is) (omega (arith, c.missing.ensures, c.if-piece-missing.true)) short.1)
     c.keep_on.ensures
 
 by_reading : (c : goal.After-read_on) → IfOk c.read_on.result (Foretells c.args.self.now c.args.piece.now)
 by_reading c =
-    IfOk-weaker c.read_on.result _ _ (reading_foretells c.args.self.now (rest_held c.self.inside.phase c.self.inside.held) c.args.piece.now (sym c.self.view_is)) c.read_on.ensures
+    IfOk-weaker c.read_on.result _ _ (reading_foretells c.args.self.now (rest_in c.self.inside.phase c.self.inside.partial) c.args.piece.now (sym c.self.view_is)) c.read_on.ensures
 
 pub returns-in-Text-clause-items : goal.returns-in-Text-clause-items
 returns-in-Text-clause-items c s e = IfOk-weaker c.keep_on.result _ _ (foretold_items s c.args.piece.now c.args.self.now e) (by_keeping c)

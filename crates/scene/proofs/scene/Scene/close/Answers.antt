@@ -3,7 +3,7 @@ use Rattle.std.specs.Prelude.{◌==◌, not}
 use Rattle.std.specs.Map.{values_of}
 use Rattle.viewer_list.specs.Viewers.{Viewers}
 use Rattle.scene.specs.declared.Event.TheVariants.{Close}
-use Rattle.scene.specs.Held.{IsHeld, IsSized}
+use Rattle.scene.specs.Consistent.{IsConsistent, IsSized}
 use Rattle.scene.specs.Answers.{scene_after, answer_to}
 use Rattle.scene.specs.Alone.{nothing_to_say, told}
 use Rattle.scene.proofs.Connected.{viewer_numbered}
@@ -21,7 +21,7 @@ invariant_of-self c = elim c.match-remove.branch [
     height = c.self.invariant.height;
     sized = rw w.in-Ok.ensures.ok (all-some (IsSized c.self.inside.config) (λ pair. not (pair.0 == c.args.number)) c.self.inside.viewers.pairs c.self.invariant.sized);
   }
-  | in-Err w ↦ subst (λ (l : Viewers). IsHeld c.self.inside.config c.self.inside.picture (values_of l.pairs)) (sym w.in-Err.ensures.err) c.self.invariant
+  | in-Err w ↦ subst (λ (l : Viewers). IsConsistent c.self.inside.config c.self.inside.picture (values_of l.pairs)) (sym w.in-Err.ensures.err) c.self.invariant
 ]
 
 pub returns-clause-step : goal.returns-clause-step

@@ -11,7 +11,7 @@ use Rattle.client_list.specs.Connected.{index_of}
 use Rattle.std.specs.Map.{keys_of}
 use Rattle.viewer.specs.Viewer.{KeptViewer}
 use Rattle.viewer.specs.Sending.{sending_kept}
-use Rattle.scene.specs.Held.{IsSized}
+use Rattle.scene.specs.Consistent.{IsSized}
 use Rattle.scene.specs.Answers.{scene_after, answer_to}
 use Rattle.scene.proofs.Connected.{viewer_numbered}
 use Rattle.scene.proofs.Found.{given-some, given-none, error-some}

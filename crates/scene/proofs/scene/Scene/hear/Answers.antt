@@ -7,7 +7,7 @@ use Rattle.scene.specs.declared.Event.TheVariants.{Hear}
 use Rattle.scene.specs.declared.Answer.{Answer}
 use Rattle.scene.specs.declared.ScreenError.TheVariants as refusals
 use Rattle.viewer.specs.Viewer.{KeptViewer}
-use Rattle.scene.specs.Held.{IsSized}
+use Rattle.scene.specs.Consistent.{IsSized}
 use Rattle.scene.specs.Answers.{scene_after, answer_to}
 use Rattle.scene.proofs.Connected.{viewer_numbered, with_numbered}
 use Rattle.scene.proofs.Found.{test-some, test-none, error-some}

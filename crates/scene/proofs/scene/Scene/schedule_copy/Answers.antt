@@ -9,7 +9,7 @@ use Rattle.copy_schedule.specs.Log.{IsCutEntry}
 use Rattle.copy_schedule.specs.declared.LogEntry.TheVariants.{Copy}
 use Rattle.client_list.specs.Connected.{changed}
 use Rattle.viewer_list.specs.Viewers.{drawn}
-use Rattle.framebuffer.specs.Picture.{union_of}
+use Rattle.framebuffer.specs.Picture.{places_in}
 use Rattle.scene.specs.declared.Event.TheVariants.{ScheduleCopy}
 use Rattle.viewer.specs.Viewer.{KeptViewer}
 use Rattle.std.specs.Map.{values_of}
@@ -24,11 +24,11 @@ returns-then-moves_nothing-clause-step c = λ config list h.
     let dx : FitsSigned w32 c.args.dx = c.ranges.dx in
     let dy : FitsSigned w32 c.args.dy = c.ranges.dy in
     let pieces : List Rect = c.in_ok-pieces.pieces.items in
-    let places : covers pieces ≡ cut_destination here.config.width here.config.height (union_of c.args.rects.now) (c.args.dx, c.args.dy) = simp to_z-of_z at c.in_ok-pieces.ensures.places in
+    let places : covers pieces ≡ cut_destination here.config.width here.config.height (places_in c.args.rects.now) (c.args.dx, c.args.dy) = simp to_z-of_z at c.in_ok-pieces.ensures.places in
     let why : (same_offset (c.args.dx, c.args.dy) (pos 0, pos 0) ≡ true) ⊎ (c.deref.result.now ≡ []) = simp to_z-of_z at (c.moves_nothing.ensures.yes c.if-moves_nothing.true) in
-    let idle = nothing here.config.width here.config.height (union_of c.args.rects.now) (c.args.dx, c.args.dy) pieces places (subst (λ (l : List Rect). (same_offset (c.args.dx, c.args.dy) (pos 0, pos 0) ≡ true) ⊎ (l ≡ [])) c.deref.ensures.value why) in
+    let idle = nothing here.config.width here.config.height (places_in c.args.rects.now) (c.args.dx, c.args.dy) pieces places (subst (λ (l : List Rect). (same_offset (c.args.dx, c.args.dy) (pos 0, pos 0) ≡ true) ⊎ (l ≡ [])) c.deref.ensures.value why) in
     sym c.self.view_is ∙ state-unseen config here.config here.picture.colours here.picture.colours here.viewers.pairs (ScheduleCopy c.args.rects.now c.args.dx c.args.dy) list refl refl refl
-    (λ s. viewer_still here.config.width here.config.height (union_of c.args.rects.now) (c.args.dx, c.args.dy) s idle) (c.self.view_is ∙ h)
+    (λ s. viewer_still here.config.width here.config.height (places_in c.args.rects.now) (c.args.dx, c.args.dy) s idle) (c.self.view_is ∙ h)
 
 pub region_of-requires : goal.region_of-requires
 region_of-requires c = within c.self.inside.config.width c.self.inside.config.height c.in_ok-pieces.pieces.items c.deref-2.result.now c.self.invariant.accepted.columns c.self.invariant.accepted.rows c.deref-2.ensures.value c.in_ok-pieces.ensures.inside
@@ -39,9 +39,9 @@ tell-requires c =
     let dx : FitsSigned w32 c.args.dx = c.ranges.dx in
     let dy : FitsSigned w32 c.args.dy = c.ranges.dy in
     let pieces : List Rect = c.in_ok-pieces.pieces.items in
-    let places : covers pieces ≡ cut_destination here.config.width here.config.height (union_of c.args.rects.now) (c.args.dx, c.args.dy) = simp to_z-of_z at c.in_ok-pieces.ensures.places in
-    let region : covers c.in_ok-region.region.list ≡ cut_destination here.config.width here.config.height (union_of c.args.rects.now) (c.args.dx, c.args.dy) = c.in_ok-region.ensures ∙ ap covers c.deref-2.ensures.value ∙ places in
-    let cut : All (λ (s : KeptViewer). IsCutEntry s.marks.width s.marks.height (Copy c.in_ok-region.region c.args.dx c.args.dy)) (values_of here.viewers.pairs) = all-cut here.config (union_of c.args.rects.now) c.in_ok-region.region c.args.dx c.args.dy (values_of here.viewers.pairs) region c.self.invariant.sized in
+    let places : covers pieces ≡ cut_destination here.config.width here.config.height (places_in c.args.rects.now) (c.args.dx, c.args.dy) = simp to_z-of_z at c.in_ok-pieces.ensures.places in
+    let region : covers c.in_ok-region.region.list ≡ cut_destination here.config.width here.config.height (places_in c.args.rects.now) (c.args.dx, c.args.dy) = c.in_ok-region.ensures ∙ ap covers c.deref-2.ensures.value ∙ places in
+    let cut : All (λ (s : KeptViewer). IsCutEntry s.marks.width s.marks.height (Copy c.in_ok-region.region c.args.dx c.args.dy)) (values_of here.viewers.pairs) = all-cut here.config (places_in c.args.rects.now) c.in_ok-region.region c.args.dx c.args.dy (values_of here.viewers.pairs) region c.self.invariant.sized in
     record { cut = simp to_z-of_z cut }
 
 pub invariant_of-self-2 : goal.invariant_of-self-2
@@ -63,15 +63,15 @@ returns-clause-step c = λ config list h.
     let dx : FitsSigned w32 c.args.dx = c.ranges.dx in
     let dy : FitsSigned w32 c.args.dy = c.ranges.dy in
     let pieces : List Rect = c.in_ok-pieces.pieces.items in
-    let places : covers pieces ≡ cut_destination here.config.width here.config.height (union_of c.args.rects.now) (c.args.dx, c.args.dy) = simp to_z-of_z at c.in_ok-pieces.ensures.places in
-    let region : covers c.in_ok-region.region.list ≡ cut_destination here.config.width here.config.height (union_of c.args.rects.now) (c.args.dx, c.args.dy) = c.in_ok-region.ensures ∙ ap covers c.deref-2.ensures.value ∙ places in
+    let places : covers pieces ≡ cut_destination here.config.width here.config.height (places_in c.args.rects.now) (c.args.dx, c.args.dy) = simp to_z-of_z at c.in_ok-pieces.ensures.places in
+    let region : covers c.in_ok-region.region.list ≡ cut_destination here.config.width here.config.height (places_in c.args.rects.now) (c.args.dx, c.args.dy) = c.in_ok-region.ensures ∙ ap covers c.deref-2.ensures.value ∙ places in
     let why : (same_offset (c.args.dx, c.args.dy) (pos 0, pos 0) ≡ false) × (c.deref.result.now ≢ []) = simp to_z-of_z at (c.moves_nothing.ensures.no c.if-moves_nothing.false) in
-    let busy = something here.config.width here.config.height (union_of c.args.rects.now) (c.args.dx, c.args.dy) pieces places c.in_ok-pieces.ensures.inside (subst (λ (l : List Rect). (same_offset (c.args.dx, c.args.dy) (pos 0, pos 0) ≡ false) × (l ≢ [])) c.deref.ensures.value why) in
+    let busy = something here.config.width here.config.height (places_in c.args.rects.now) (c.args.dx, c.args.dy) pieces places c.in_ok-pieces.ensures.inside (subst (λ (l : List Rect). (same_offset (c.args.dx, c.args.dy) (pos 0, pos 0) ≡ false) × (l ≢ [])) c.deref.ensures.value why) in
     let told : c.tell.new.viewers.pairs ≡ changed (drawn (Copy c.in_ok-region.region c.args.dx c.args.dy)) here.viewers.pairs = simp to_z-of_z at c.in_ok-tell.ensures.ok in
     let after : List (ℕ × KeptViewer) → SceneState = λ l. record { config = here.config; picture = here.picture.colours; viewers = l } in
     ap after told
     ∙ state-drawn config here.config here.picture.colours here.picture.colours here.viewers.pairs (drawn (Copy c.in_ok-region.region c.args.dx c.args.dy)) (ScheduleCopy c.args.rects.now c.args.dx c.args.dy) list refl refl refl
-    (λ s. viewer_moved here.config.width here.config.height (union_of c.args.rects.now) c.in_ok-region.region c.args.dx c.args.dy s region busy) (c.self.view_is ∙ h)
+    (λ s. viewer_moved here.config.width here.config.height (places_in c.args.rects.now) c.in_ok-region.region c.args.dx c.args.dy s region busy) (c.self.view_is ∙ h)
 
 pub returns-then-is_empty-clause-step : goal.returns-then-is_empty-clause-step
 returns-then-is_empty-clause-step c = λ config list h.

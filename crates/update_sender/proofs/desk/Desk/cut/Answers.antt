@@ -6,11 +6,11 @@ use Rattle.scene.specs.Alone.{gives}
 use Rattle.scene.specs.Answers.{answer_to}
 use Rattle.viewer.specs.Given.{bytes_given}
 use Rattle.screen.specs.State.{State}
-use Rattle.update_sender.specs.Standing.{Held, Stands}
+use Rattle.update_sender.specs.Standing.{Locked, Stands}
 use Rattle.update_sender.proofs.Stepped.{quiet, cut-something, cut-idle}
 use Rattle.update_sender.proofs.desk.Desk.cut.Goals as goal
 
-abbrev held : State → Option ℕ → Bool → ℕ → Held
+abbrev held : State → Option ℕ → Bool → ℕ → Locked
 held s n b d = record { screen = s; newest = n; stopped = b; drawn = d }
 
 abbrev given : Option (List ℕ) → Answer

@@ -6,20 +6,20 @@ use Rattle.client_list.specs.WalkLemmas.{keys-changed, change_step, take_step}
 use Rattle.place_runs.proofs.tests.clients.walks.put_halves.Goals as goal
 use Rattle.place_runs.proofs.tests.clients.walks.put_halves.Goals.{in-Some-pop, in_default-pop}
 
-pub loop-place-preserved : goal.loop-place-preserved
-loop-place-preserved c =
+pub loop-position-preserved : goal.loop-position-preserved
+loop-position-preserved c =
     let half : ℕ → ℕ = λ n. n / 2 in
     let start : Connected ℕ = c.args.clients.now in
     let taken =
-    take_step half start (changed half start.pairs) c.loop-place.clients c.loop-place.place c.in-Some.at c.loop-place.halves.items c.pop.new.self.items c.pop.result (keys-changed half start.pairs) c.first-place.ensures.listed c.loop-place.invariant.walk c.in-Some.is c.loop-place.invariant.left c.pop.ensures.items (λ some. c.pop.ensures.variant.1 (omega (arith, some))) in
+    take_step half start (changed half start.pairs) c.loop-position.clients c.loop-position.position c.in-Some.at c.loop-position.halves.items c.pop.new.self.items c.pop.result (keys-changed half start.pairs) c.first-position.ensures.listed c.loop-position.invariant.walk c.in-Some.is c.loop-position.invariant.left c.pop.ensures.items (λ some. c.pop.ensures.variant.1 (omega (arith, some))) in
     elim c.match-pop.branch [
       | in-Some-pop w ↦
-          let step = rw w.clients-is at c.next-place.ensures.passed in
+          let step = rw w.clients-is at c.next-position.ensures.passed in
           rw w.clients-is (record {
             walk =
-                change_step half start c.loop-place.clients c.loop-place.place c.next-place.result c.in-Some.at taken.value w.in-Some-pop.half c.loop-place.invariant.walk c.in-Some.is taken.was
+                change_step half start c.loop-position.clients c.loop-position.position c.next-position.result c.in-Some.at taken.value w.in-Some-pop.half c.loop-position.invariant.walk c.in-Some.is taken.was
                 (same_Some w.in-Some-pop.half (half taken.value) (sym w.in-Some-pop.is ∙ taken.next))
-                (rw w.clients-is at c.next-place.ensures.place)
+                (rw w.clients-is at c.next-position.ensures.position)
                 step;
             left = taken.left ∙ sym (ap (λ (n : ℕ). reverse (drop n (map half (values_of start.pairs)))) step);
           })

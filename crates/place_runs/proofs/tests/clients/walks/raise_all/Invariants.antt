@@ -4,8 +4,8 @@ use Rattle.client_list.specs.WalkLemmas.{IsWalk}
 use Rattle.place_runs.proofs.tests.clients.walks.raise_all.Given as goal
 
 -- the viewers that were passed have their new values
-abbrev pub invariant-loop-place : goal.invariant-loop-place
-invariant-loop-place l = IsWalk l.fn.clients (changed (λ n. min (n + 1) 4294967295) l.fn.clients.pairs) l.clients l.place
+abbrev pub invariant-loop-position : goal.invariant-loop-position
+invariant-loop-position l = IsWalk l.fn.clients (changed (λ n. min (n + 1) 4294967295) l.fn.clients.pairs) l.clients l.position
 
-abbrev pub decreases-loop-place : goal.decreases-loop-place
-decreases-loop-place l = length l.clients.places - passed l.clients l.place
+abbrev pub decreases-loop-position : goal.decreases-loop-position
+decreases-loop-position l = length l.clients.positions - passed l.clients l.position
