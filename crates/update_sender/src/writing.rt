@@ -15,7 +15,7 @@ use viewer::Stream;
 pub const BUFFER: usize = 65_536;
 
 /// How many bytes a stream appends at once, at most.
-const PIECE: usize = 32_768;
+const PIECE: usize = 8192;
 
 /// Fills a buffer with the next bytes of an update, until all are in it or fewer than a piece's places are left.
 pub fn fill(buffer: &mut Vec<u8>, stream: &mut Stream) -> Result<(), AllocError>

@@ -25,7 +25,6 @@ use Rattle.viewer.specs.declared.notices.Notice.{Notice}
 use Rattle.viewer.specs.Sending.{encoded, notice_bytes}
 use Rattle.viewer.specs.Updates.{coloured_bytes}
 use Rattle.viewer.specs.Left.{rest_of, rest_within, rectangles_left, reached_after, IsBegun, GoesOn, IsWithin}
-use Rattle.region.specs.Places.{longest_side}
 
 some_byte : (b : BitsPerPixel) → 1 ≤ bit_count b / 8
 some_byte Eight = omega arith
@@ -52,7 +51,7 @@ few_pixels f (c ∷ colours) =
     omega (arith, long, pixel_length f (pixel f c), few_bytes f.bits, few_pixels f colours)
 
 -- a run of pixels that is appended
-pub few_added : (f : PixelFormat) (old new run : List ℕ) → new ≡ old ++ flat_map (colour_bytes f) run → length run ≤ longest_side → length new ≤ length old + 32768
+pub few_added : (f : PixelFormat) (old new run : List ℕ) → new ≡ old ++ flat_map (colour_bytes f) run → length run ≤ 2048 → length new ≤ length old + 8192
 few_added f old new run e few = omega (arith, ap (λ (l : List ℕ). length l) e, length-append old (flat_map (colour_bytes f) run), few_pixels f run, few)
 
 -- more is there once bytes are appended

@@ -29,6 +29,11 @@ rest_is_run w done colours row some e =
     ∙ ap (take (w - x)) (drop-drop x (done / w * w) colours ∙ ap (λ n. drop n colours) (div-add-mod' done w)) in
     rest ∙ take_own (w - x) (drop done colours) ∙ ap (λ l. take (length l) (drop done colours)) (sym rest)
 
+-- the front of a run is a run
+pub front_is_run : (all run : List ℕ) (done k : ℕ) → k ≤ length run → run ≡ take (length run) (drop done all) → take k run ≡ take (length (take k run)) (drop done all)
+front_is_run all run done k le is =
+    ap (take k) is ∙ take-take k (length run) (drop done all) le ∙ ap (λ n. take n (drop done all)) (sym (length-take-le k run le))
+
 -- what is left behind a run
 pub run_on : (f : ℕ → List ℕ) (old new colours run : List ℕ) (done : ℕ) → run ≡ take (length run) (drop done colours) → new ≡ old ++ flat_map f run
     → new ++ flat_map f (drop (done + length run) colours) ≡ old ++ flat_map f (drop done colours)

@@ -6,7 +6,6 @@ ghost use Rattle.pixel_translate.specs.Pixel.{colour_bytes};
 ghost use Rattle.encode_raw.specs.Raw.{raw};
 ghost use Rattle.framebuffer.specs.Blocks.{block_colours};
 ghost use Rattle.viewer.specs.Sending.{encoded};
-ghost use Rattle.region.specs.Places.{longest_side};
 
 use encode_hextile::encode_hextile_with_table;
 use encode_raw::{encode_raw_with_table, put_raw_pixels, rect_header};
@@ -14,13 +13,15 @@ use encode_rre::{encode_rre_by_rows, encode_rre_with_table};
 use framebuffer::{Block, Framebuffer, Snapshot};
 use messages::Encoding;
 use pixel_translate::{Area, Table};
-use region::LONGEST_SIDE;
 use std::alloc::{AllocError, Global};
 use std::marker::Model;
 
 /// The colours of a rectangle of so many columns, or more, are shared with the picture; those of a narrower one are copied,
 /// which takes less time and keeps no row of the picture.
 const SHARED_COLUMNS: usize = 256;
+
+/// How many colours are encoded in Raw at once, at most: 8 KB of pixels.
+const AT_ONCE: usize = 2048;
 
 /// How a rectangle's colours are held.
 #[derive(Drop)]
@@ -49,7 +50,6 @@ fn rest_of_row(snapshot: &Snapshot, done: usize) -> &[u32]
     requires { done < length snapshot.now.colours }
     ensures part { result.now ≡ take (length result.now) (drop done snapshot.now.colours) }
     ensures some { 1 ≤ length result.now }
-    ensures few { length result.now ≤ longest_side }
     ensures small { length snapshot.now.colours < 2 ^ 64 }
 {
     let columns = snapshot.width();
@@ -133,23 +133,29 @@ impl Colours {
         }
     }
 
-    /// The colours from a place on: shared ones to the end of a row, copied ones to their end, and at most 8192.
+    /// The colours from a place on: shared ones to the end of a row, copied ones to their end.
     pub fn run_from(&self, done: usize) -> &[u32]
         requires { done < length self.now }
         ensures part { result.now ≡ take (length result.now) (drop done self.now) }
         ensures some { 1 ≤ length result.now }
-        ensures few { length result.now ≤ longest_side }
         ensures small { length self.now < 2 ^ 64 }
     {
         match &self.storage {
-            Storage::Copied(colours) => {
-                let end = colours
-                    .len()
-                    .min(done.saturating_add(LONGEST_SIDE as usize));
-                &colours[done..end]
-            }
+            Storage::Copied(colours) => &colours[done..],
             Storage::Shared(snapshot) => rest_of_row(snapshot, done),
         }
+    }
+
+    /// The colours from a place on that are encoded at once in Raw: at most 2,048, and of shared ones none behind their row.
+    pub fn piece_from(&self, done: usize) -> &[u32]
+        requires { done < length self.now }
+        ensures part { result.now ≡ take (length result.now) (drop done self.now) }
+        ensures some { 1 ≤ length result.now }
+        ensures few { length result.now ≤ 2048 }
+        ensures small { length self.now < 2 ^ 64 }
+    {
+        let run = self.run_from(done);
+        &run[..run.len().min(AT_ONCE)]
     }
 
     /// So many of the colours, from a place on.

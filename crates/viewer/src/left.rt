@@ -87,7 +87,7 @@ fn begin_rectangle(
     }
 }
 
-/// Goes on with a rectangle in Raw, by one run of its colours: at most 32,768 bytes. How far it is encoded then, where not all of
+/// Goes on with a rectangle in Raw, by one piece of its colours: at most 8,192 bytes. How far it is encoded then, where not all of
 /// it is. Where memory is refused, nothing is appended.
 fn go_on_in_raw(
     out: &mut Vec<u8>,
@@ -99,13 +99,13 @@ fn go_on_in_raw(
     ensures bytes { IfOk result (λ next. out.new.items ++ rest_of table.now rectangle.now next ≡
         out.old.items ++ rest_of table.now rectangle.now (Some (begun.Colours done))) }
     ensures more { OnOk result (length out.old.items < length out.new.items) }
-    ensures bound { OnOk result (length out.new.items ≤ length out.old.items + 32768) }
+    ensures bound { OnOk result (length out.new.items ≤ length out.old.items + 8192) }
     ensures within { IfOk result (λ next. IfSome next (λ b. IsBegun b rectangle.now)) }
     ensures err { OnErr result (out.new.items ≡ out.old.items) }
 {
-    let run = rectangle.colours.run_from(done);
-    put_raw_pixels(out, run, table)?;
-    let next = done + run.len();
+    let piece = rectangle.colours.piece_from(done);
+    put_raw_pixels(out, piece, table)?;
+    let next = done + piece.len();
     if rectangle.colours.goes_on(next) {
         Ok(Some(Begun::Colours(next)))
     } else {
@@ -224,7 +224,7 @@ fn put_next(
     }
 }
 
-/// Appends the next run of the pixels of a rectangle in Raw, of which so many are encoded: at most 32,768 bytes. What is reached
+/// Appends the next piece of the pixels of a rectangle in Raw, of which so many are encoded: at most 8,192 bytes. What is reached
 /// then. Where memory is refused, nothing is appended.
 fn put_run(
     out: &mut Vec<u8>,
@@ -237,7 +237,7 @@ fn put_run(
     ensures bytes { IfOk result (λ r. out.new.items ++ left_of rectangles.now table.now r ≡
         out.old.items ++ left_of rectangles.now table.now (so_far.Within next (begun.Colours done))) }
     ensures more { OnOk result (length out.old.items < length out.new.items) }
-    ensures bound { OnOk result (length out.new.items ≤ length out.old.items + 32768) }
+    ensures bound { OnOk result (length out.new.items ≤ length out.old.items + 8192) }
     ensures within { IfOk result (λ r. IsWithin rectangles.now.coloured.items r) }
     ensures err { OnErr result (out.new.items ≡ out.old.items) }
 {
@@ -280,11 +280,11 @@ impl RectanglesLeft {
         Ok(())
     }
 
-    /// Appends the next part where it is some of the pixels of a rectangle in Raw, which are at most 32,768 bytes. Whether it is.
+    /// Appends the next part where it is some of the pixels of a rectangle in Raw, which are at most 8,192 bytes. Whether it is.
     pub fn put_run(&mut self, out: &mut Vec<u8>) -> Result<bool, AllocError>
         ensures bytes { OnOk result (out.new.items ++ self.new ≡ out.old.items ++ self.old) }
         ensures more { result ≡ Ok true → length out.old.items < length out.new.items }
-        ensures bound { OnOk result (length out.new.items ≤ length out.old.items + 32768) }
+        ensures bound { OnOk result (length out.new.items ≤ length out.old.items + 8192) }
         ensures other { result ≡ Ok false → out.new.items ≡ out.old.items }
         ensures same { result ≡ Ok false → self.new ≡ self.old }
         ensures err { OnErr result (out.new.items ≡ out.old.items) }
@@ -365,11 +365,11 @@ impl UpdateLeft {
         }
     }
 
-    /// Appends the next part where it is some of the pixels of a rectangle in Raw, which are at most 32,768 bytes. Whether it is.
+    /// Appends the next part where it is some of the pixels of a rectangle in Raw, which are at most 8,192 bytes. Whether it is.
     pub fn put_run(&mut self, out: &mut Vec<u8>) -> Result<bool, AllocError>
         ensures bytes { OnOk result (out.new.items ++ self.new ≡ out.old.items ++ self.old) }
         ensures more { result ≡ Ok true → length out.old.items < length out.new.items }
-        ensures bound { OnOk result (length out.new.items ≤ length out.old.items + 32768) }
+        ensures bound { OnOk result (length out.new.items ≤ length out.old.items + 8192) }
         ensures other { result ≡ Ok false → out.new.items ≡ out.old.items }
         ensures same { result ≡ Ok false → self.new ≡ self.old }
         ensures err { OnErr result (out.new.items ≡ out.old.items) }

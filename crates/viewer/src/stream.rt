@@ -6,8 +6,8 @@ use crate::left::UpdateLeft;
 use std::alloc::{AllocError, Global};
 use std::marker::Model;
 
-/// How many bytes a piece has at most: 32,768, as many as the pixels of the widest row.
-pub const PIECE: usize = 32_768;
+/// How many bytes a piece has at most. So little is left of a buffer of 64 KB where no further piece fits for certain.
+pub const PIECE: usize = 8192;
 
 /// An update on its way to a viewer, piece by piece. Contracts see it as the bytes that are still to come.
 ///
@@ -64,12 +64,12 @@ impl Stream {
         self.given == self.made.len() && self.left.is_ended()
     }
 
-    /// Appends the next piece of the update, of at most 32,768 bytes; nothing where all of it was given. The pieces one after
+    /// Appends the next piece of the update, of at most 8,192 bytes; nothing where all of it was given. The pieces one after
     /// the other are the update's bytes. Where memory is refused, nothing is appended, and the same call may be made again.
     pub fn put(&mut self, out: &mut Vec<u8>) -> Result<(), AllocError>
         ensures ok { OnOk result (out.new.items ++ self.new ≡ out.old.items ++ self.old) }
         ensures more { OnOk result (self.old ≢ [] → length out.old.items < length out.new.items) }
-        ensures bound { length out.new.items ≤ length out.old.items + 32768 }
+        ensures bound { length out.new.items ≤ length out.old.items + 8192 }
         ensures err { OnErr result (out.new.items ≡ out.old.items) }
         ensures kept { OnErr result (self.new ≡ self.old) }
     {
