@@ -1,4 +1,4 @@
-// What command lines choose. `help` has what clap prints, `serve` and `own` the servers that are started and their options.
+// What command lines choose. `help` has what clap prints, `serve` and `own` the options of the servers that are started.
 
 mod help;
 mod own;

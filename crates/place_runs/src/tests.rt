@@ -1,3 +1,0 @@
-mod clients;
-mod pictures;
-mod spans;

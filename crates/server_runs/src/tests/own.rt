@@ -1,0 +1,52 @@
+// `self`: what is printed, and the status. The bytes are written out from RFC 6143.
+
+use demo_app::self_on;
+use std::alloc::Global;
+use std::io;
+use std::io::Write;
+use std::net::{Net, TcpListener, TcpStream};
+use std::sync::Wait;
+use std::thread::Threads;
+
+static EIGHT: &str =
+    "viewer 1 shows the screen\nviewer 2 shows the screen\nviewer 3 shows the screen\nviewer 4 shows the screen\n\
+    viewer 5 shows the screen\nviewer 6 shows the screen\nviewer 7 shows the screen\nviewer 8 shows the screen\nfinish ok\n";
+
+// Whether so many viewers are served, and this is printed.
+fn prints<R: Threads + Wait + Net<Listener = TcpListener, Stream = TcpStream> + Sync>(
+    rt: &R,
+    alloc: Global,
+    viewers: u32,
+    printed: &str,
+) -> bool {
+    let mut out = Vec::new(alloc);
+    let status = self_on(rt, alloc, viewers, &mut out);
+    status == 0 && out.as_slice() == printed.as_bytes()
+}
+
+#[test]
+fn viewers_show_the_screen(rt: HostRuntime) {
+    assert!(rt; prints(&rt, rt.alloc(), 1, "viewer 1 shows the screen\nfinish ok\n"));
+    let two = "viewer 1 shows the screen\nviewer 2 shows the screen\nfinish ok\n";
+    assert!(rt; prints(&rt, rt.alloc(), 2, two));
+    assert!(rt; prints(&rt, rt.alloc(), 8, EIGHT));
+}
+
+// Takes nothing.
+#[derive(Drop)]
+struct Full;
+
+impl Write for Full {
+    fn write(&mut self, _buf: &[u8]) -> io::Result<usize> {
+        Err(io::Error::from(io::ErrorKind::BrokenPipe))
+    }
+
+    fn flush(&mut self) -> io::Result<()> {
+        Ok(())
+    }
+}
+
+#[test]
+fn a_writer_that_takes_nothing(rt: HostRuntime) {
+    assert_eq!(rt; self_on(&rt, rt.alloc(), 2, &mut Full), 5);
+}
