@@ -2,7 +2,15 @@
 //! sent, and numbers from which calls are drawn. Nothing but tests uses it.
 #![tactic(auto)]
 
-ghost use Rattle.std.specs.Prelude.{◌≡◌, IfOk};
+ghost use Rattle.std.specs.Prelude.{◌≡◌, ◌≢◌, ◌++◌, ◌∷◌, [], ℤ, List, true, false, if◌then◌else◌, IfOk, OnOk, OnErr, Err};
+ghost use Rattle.pixel_translate.specs.Pixel.{be16};
+ghost use Rattle.region.specs.Region.{covers, in_rect};
+ghost use Rattle.region.specs.RegionView.{in_range};
+ghost use Rattle.scene.specs.declared.Config.{Config};
+ghost use Rattle.scene.specs.declared.Event.{Event};
+ghost use Rattle.scene.specs.declared.Event.TheVariants as event;
+ghost use Rattle.scene.specs.declared.ScreenError.TheVariants.{BadRect};
+ghost use Rattle.screen.specs.State.{state};
 
 mod copies;
 mod numbers;
@@ -59,7 +67,11 @@ pub fn rect(x1: i32, y1: i32, x2: i32, y2: i32) -> Rect
 }
 
 /// The places of a rectangle.
-pub fn region(alloc: Global, rect: Rect) -> Result<Region, ScreenError> {
+pub fn region(alloc: Global, rect: Rect) -> Result<Region, ScreenError>
+    ensures ok { IfOk result (λ region. (x y : ℤ) → covers region.list x y ≡ in_rect rect x y) }
+    ensures refused { in_range rect ≡ false → result ≡ Err BadRect }
+    ensures accepted { in_range rect ≡ true → result ≢ Err BadRect }
+{
     match Region::from_rect(alloc, rect) {
         Ok(region) => Ok(region),
         Err(RegionError::OutOfRange) => Err(ScreenError::BadRect),
@@ -67,8 +79,10 @@ pub fn region(alloc: Global, rect: Rect) -> Result<Region, ScreenError> {
     }
 }
 
-/// A request of a rectangle.
-pub fn request(incremental: bool, x: u16, y: u16, w: u16, h: u16) -> [u8; 10] {
+/// A FramebufferUpdateRequest of a rectangle (RFC 6143 section 7.5.3).
+pub fn request(incremental: bool, x: u16, y: u16, w: u16, h: u16) -> [u8; 10]
+    ensures { result ≡ 3 ∷ (if incremental then 1 else 0) ∷ be16 x ++ be16 y ++ be16 w ++ be16 h }
+{
     let [x1, x0] = x.to_be_bytes();
     let [y1, y0] = y.to_be_bytes();
     let [w1, w0] = w.to_be_bytes();
@@ -77,7 +91,11 @@ pub fn request(incremental: bool, x: u16, y: u16, w: u16, h: u16) -> [u8; 10] {
 }
 
 /// A viewer sends bytes, whatever it is answered.
-pub fn say(screen: &mut Screen, viewer: u64, piece: &[u8]) -> Result<(), ScreenError> {
+pub fn say(screen: &mut Screen, viewer: u64, piece: &[u8]) -> Result<(), ScreenError>
+    ensures step { (config : Config) (list : List Event) → screen.old ≡ state config list →
+        OnOk result (screen.new ≡ state config (list ++ event.Hear viewer piece.now ∷ [])) }
+    ensures err { OnErr result (screen.new ≡ screen.old) }
+{
     screen.hear(viewer, piece)?;
     Ok(())
 }
