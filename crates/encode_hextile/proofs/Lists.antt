@@ -54,30 +54,6 @@ raw_most w h n p e narrow low few =
     let all : n * p ≤ 256 * 4 = mul-le-mul (let a : n ≤ 256 = omega arith in a) few in
     all
 
--- ---- the subrectangles of a row
-
-pub put_yes : (sb : Subrectangle → List ℕ) (old now : List ℕ) (b : ℕ) (rows : List (List ℕ)) (y x n : ℕ) (s : Subrectangle) → Step b rows y x n
-    → now ≡ old ++ flat_map sb (found_before b rows y x) → begins_subrectangle b rows y x ≡ true → s ≡ subrectangle_from rows y x
-    → now ++ sb s ≡ old ++ flat_map sb (found_before b rows y (x + n))
-put_yes sb old now b rows y x n s step before begins same =
-    ap (λ (t : List ℕ). t ++ sb s) before ∙ append_assoc old (flat_map sb (found_before b rows y x)) (sb s)
-    ∙ ap (λ (t : Subrectangle). old ++ (flat_map sb (found_before b rows y x) ++ sb t)) same
-    ∙ ap (λ (t : List ℕ). old ++ t) (sym all)
-  where
-    one : List Subrectangle
-    one = subrectangle_from rows y x ∷ []
-
-    all : flat_map sb (found_before b rows y (x + n)) ≡ flat_map sb (found_before b rows y x) ++ sb (subrectangle_from rows y x)
-    all =
-        ap (flat_map sb) (step.found ∙ ap (λ (t : Bool). found_before b rows y x ++ cond t one []) begins) ∙ flat_map-append sb (found_before b rows y x) one
-        ∙ ap (λ (t : List ℕ). flat_map sb (found_before b rows y x) ++ t) (append-nil (sb (subrectangle_from rows y x)))
-
-pub put_no : (sb : Subrectangle → List ℕ) (old now : List ℕ) (b : ℕ) (rows : List (List ℕ)) (y x n : ℕ) → Step b rows y x n
-    → now ≡ old ++ flat_map sb (found_before b rows y x) → begins_subrectangle b rows y x ≡ false → now ≡ old ++ flat_map sb (found_before b rows y (x + n))
-put_no sb old now b rows y x n step before begins =
-    before ∙ ap (λ (t : List Subrectangle). old ++ flat_map sb t)
-    (sym (step.found ∙ ap (λ (t : Bool). found_before b rows y x ++ cond t (subrectangle_from rows y x ∷ []) []) begins ∙ append-nil (found_before b rows y x)))
-
 is_not : (b : Bool) → not b ≡ true → b ≡ false
 is_not true e = absurd cc
 is_not false e = refl

@@ -5,5 +5,8 @@ pub mod Early
 pub mod Lengths
 pub mod Plain
 pub mod Written
+pub mod RowsAsPixels
+pub mod ColourRuns
+pub mod Coded
 mod ReadBack
 mod InOrder

@@ -4,6 +4,7 @@ pub mod Subrectangles
 pub mod Rows
 pub mod Laid
 pub mod Lines
+pub mod Pixels
 pub mod Starts
 pub mod Breaks
 pub mod Counted

@@ -1,5 +1,5 @@
 -- RRE, as RFC 6143 section 7.7.3 has it.
-use Rattle.std.specs.Prelude.{◌≡◌, ℕ, ◌*◌, ◌<◌, ◌^◌, nat_lt, if◌then◌else◌, pos, List, ◌++◌, length, map, flat_map}
+use Rattle.std.specs.Prelude.{ℕ, ◌*◌, nat_lt, if◌then◌else◌, pos, List, ◌++◌, length, map, flat_map}
 use Rattle.pixel_translate.specs.declared.Area.{Area}
 use Rattle.pixel_translate.specs.declared.PixelFormat.{PixelFormat}
 use Rattle.pixel_translate.specs.Pixel.{be16, be32, bytes_per_pixel, pixel, pixel_bytes}
@@ -26,7 +26,3 @@ abbrev pub rre : PixelFormat → Area → List ℕ → List ℕ
 rre f a colours =
     let coded = rre_of f a.w a.h (map (pixel f) colours) in
     if nat_lt (length coded) (a.w * a.h * bytes_per_pixel f) then head a (pos 2) ++ coded else raw f a colours
-
--- a background and subrectangles, fewer than 2^32, whose data are the rectangle's in RRE
-abbrev pub IsCodingOf : PixelFormat → Area → List ℕ → ℕ → List Subrectangle → Type 0
-IsCodingOf f a colours b subs = (length subs < 2 ^ 32) × (head a (pos 2) ++ rre_data f b subs ≡ rre f a colours)

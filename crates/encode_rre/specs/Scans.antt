@@ -172,18 +172,27 @@ scan_step b rows y x n inside e =
         let p : x + n ≡ x + 1 + (n - 1) = omega (arith, some) in
         ap (found_before b rows y) p ∙ within_run b rows y x (n - 1) (λ k le lt. same k le (omega (arith, lt, some))) ∙ one_more b rows y x
 
-pub found_yes : (old now : List Subrectangle) (b : ℕ) (rows : List (List ℕ)) (y x n : ℕ) (s : Subrectangle) → Step b rows y x n → now ≡ old ++ found_before b rows y x
-    → begins_subrectangle b rows y x ≡ true → s ≡ subrectangle_from rows y x → now ++ s ∷ [] ≡ old ++ found_before b rows y (x + n)
-found_yes old now b rows y x n s step before begins same =
-    ap (λ (t : List Subrectangle). t ++ s ∷ []) before ∙ append_assoc old (found_before b rows y x) (s ∷ [])
-    ∙ ap (λ (t : Subrectangle). old ++ (found_before b rows y x ++ t ∷ [])) same
-    ∙ ap (λ (t : List Subrectangle). old ++ t)
-    (sym (step.found ∙ ap (λ (t : Bool). found_before b rows y x ++ cond t (subrectangle_from rows y x ∷ []) []) begins))
+-- the bytes of a subrectangle that begins with the run, and none where none does
+pub put_yes : (sb : Subrectangle → List ℕ) (old now : List ℕ) (b : ℕ) (rows : List (List ℕ)) (y x n : ℕ) (s : Subrectangle) → Step b rows y x n
+    → now ≡ old ++ flat_map sb (found_before b rows y x) → begins_subrectangle b rows y x ≡ true → s ≡ subrectangle_from rows y x
+    → now ++ sb s ≡ old ++ flat_map sb (found_before b rows y (x + n))
+put_yes sb old now b rows y x n s step before begins same =
+    ap (λ (t : List ℕ). t ++ sb s) before ∙ append_assoc old (flat_map sb (found_before b rows y x)) (sb s)
+    ∙ ap (λ (t : Subrectangle). old ++ (flat_map sb (found_before b rows y x) ++ sb t)) same
+    ∙ ap (λ (t : List ℕ). old ++ t) (sym all)
+  where
+    one : List Subrectangle
+    one = subrectangle_from rows y x ∷ []
 
-pub found_no : (old now : List Subrectangle) (b : ℕ) (rows : List (List ℕ)) (y x n : ℕ) → Step b rows y x n → now ≡ old ++ found_before b rows y x
-    → begins_subrectangle b rows y x ≡ false → now ≡ old ++ found_before b rows y (x + n)
-found_no old now b rows y x n step before begins =
-    before ∙ ap (λ (t : List Subrectangle). old ++ t)
+    all : flat_map sb (found_before b rows y (x + n)) ≡ flat_map sb (found_before b rows y x) ++ sb (subrectangle_from rows y x)
+    all =
+        ap (flat_map sb) (step.found ∙ ap (λ (t : Bool). found_before b rows y x ++ cond t one []) begins) ∙ flat_map-append sb (found_before b rows y x) one
+        ∙ ap (λ (t : List ℕ). flat_map sb (found_before b rows y x) ++ t) (append-nil (sb (subrectangle_from rows y x)))
+
+pub put_no : (sb : Subrectangle → List ℕ) (old now : List ℕ) (b : ℕ) (rows : List (List ℕ)) (y x n : ℕ) → Step b rows y x n
+    → now ≡ old ++ flat_map sb (found_before b rows y x) → begins_subrectangle b rows y x ≡ false → now ≡ old ++ flat_map sb (found_before b rows y (x + n))
+put_no sb old now b rows y x n step before begins =
+    before ∙ ap (λ (t : List Subrectangle). old ++ flat_map sb t)
     (sym (step.found ∙ ap (λ (t : Bool). found_before b rows y x ++ cond t (subrectangle_from rows y x ∷ []) []) begins ∙ append-nil (found_before b rows y x)))
 
 abbrev run : ℕ → ℕ → ℕ → Run

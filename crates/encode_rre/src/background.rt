@@ -6,10 +6,12 @@ ghost use Rattle.std.specs.HashMap as hash;
 ghost use Rattle.std.specs.Option.{unwrap_or};
 ghost use Rattle.encode_rre.specs.Counted.{count_in, IsBestOf};
 ghost use Rattle.encode_rre.specs.Subrectangles.{background_of, times, row_at};
-ghost use Rattle.encode_rre.specs.Lines.{values_in, lines_in};
+ghost use Rattle.encode_rre.specs.Lines.{lines_in};
+ghost use Rattle.encode_rre.specs.Pixels.{pixels_in};
 
 use crate::lines::Lines;
 use crate::scan::stretch_from;
+use crate::translated::Pixels;
 use std::alloc::{AllocError, Global};
 use std::collections::HashMap;
 
@@ -45,13 +47,13 @@ fn vote(guess: &mut Guess, pixel: u32) {
     }
 }
 
-/// One in 128 pixels of a row has a vote, from a place on, but none that is `beside`.
-fn vote_in_row(guess: &mut Guess, row: &[u32], first: usize, beside: Option<u32>)
+/// One in 128 pixels of a row of colours has a vote, from a place on, but none that is `beside`.
+fn vote_in_row(guess: &mut Guess, pixels: &Pixels, row: &[u32], first: usize, beside: Option<u32>)
     requires { length row.now < 2 ^ 16 }
 {
     let mut x = first;
     while x < row.len() {
-        let pixel = row[x];
+        let pixel = pixels.pixel_of(row[x]);
         if beside != Some(pixel) {
             vote(guess, pixel);
         }
@@ -61,11 +63,17 @@ fn vote_in_row(guess: &mut Guess, row: &[u32], first: usize, beside: Option<u32>
 
 /// A pixel that may be the most frequent one, or the most frequent beside another: one in 128 pixels
 /// has a vote, and a pixel that more than half of them have wins. It is only a guess.
-fn likely(pixels: &Lines, beside: Option<u32>) -> u32 {
+fn likely(pixels: &Pixels, beside: Option<u32>) -> u32 {
     let mut guess = Guess { pixel: 0, votes: 0 };
-    let some = pixels.width.min(128);
-    for y in 0..pixels.height {
-        vote_in_row(&mut guess, pixels.row(y), 37 * y % some, beside);
+    let some = pixels.colours.width.min(128);
+    for y in 0..pixels.colours.height {
+        vote_in_row(
+            &mut guess,
+            pixels,
+            pixels.colours.row(y),
+            37 * y % some,
+            beside,
+        );
     }
     guess.pixel
 }
@@ -85,34 +93,47 @@ pub fn times(pixels: &[u32], pixel: u32) -> usize
 
 /// How often a pixel stands there, counted row by row, and no further once there are more than
 /// `enough`.
-fn times_until(pixels: &Lines, pixel: u32, enough: usize) -> usize
-    ensures some { result ≤ times pixel (values_in pixels.now) }
-    ensures all { result ≤ enough → result ≡ times pixel (values_in pixels.now) }
+fn times_until(
+    alloc: Global,
+    pixels: &Pixels,
+    pixel: u32,
+    enough: usize,
+) -> Result<usize, AllocError>
+    ensures some { IfOk result (λ count. count ≤ times pixel (pixels_in pixels.now)) }
+    ensures all { IfOk result (λ count. count ≤ enough → count ≡ times pixel (pixels_in pixels.now)) }
 {
+    let mut rows = pixels.first_rows(alloc)?;
     let mut count = 0;
     let mut y = 0;
-    while y < pixels.height && count <= enough {
-        count += times(pixels.row(y), pixel);
+    while y < pixels.colours.height && count <= enough {
+        pixels.go_on(&mut rows, y);
+        count += times(pixels.row(y, &rows.row), pixel);
         y += 1;
     }
-    count
+    Ok(count)
 }
 
 /// The better background of two pixels, where no other can be as frequent as the one of them that
 /// stands there more often: all others together have fewer places.
-fn best_of_two(pixels: &Lines, one: u32, ones: usize, other: u32) -> Option<u32>
-    requires { ones ≡ times one (values_in pixels.now) }
-    ensures { IfSome result (λ b. b ≡ background_of (values_in pixels.now)) }
+fn best_of_two(
+    alloc: Global,
+    pixels: &Pixels,
+    one: u32,
+    ones: usize,
+    other: u32,
+) -> Result<Option<u32>, AllocError>
+    requires { ones ≡ times one (pixels_in pixels.now) }
+    ensures { IfOk result (λ best. IfSome best (λ b. b ≡ background_of (pixels_in pixels.now))) }
 {
-    let places = pixels.width * pixels.height;
-    let others = times_until(pixels, other, places);
+    let places = pixels.colours.width * pixels.colours.height;
+    let others = times_until(alloc, pixels, other, places)?;
     if one == other || ones + others + ones.max(others) <= places {
-        return None;
+        return Ok(None);
     }
     if is_better(one, ones, other, others) {
-        Some(one)
+        Ok(Some(one))
     } else {
-        Some(other)
+        Ok(Some(other))
     }
 }
 
@@ -162,36 +183,38 @@ fn count_row(counter: &mut Counter, row: &[u32], rows: usize) -> Result<(), Allo
     Ok(())
 }
 
-/// How many rows from `top` on are like the one there.
-fn rows_like(pixels: &Lines, top: usize) -> usize
-    requires inside { top < pixels.now.height }
+/// How many rows of colours from `top` on are like the one there.
+fn rows_like(colours: &Lines, top: usize) -> usize
+    requires inside { top < colours.now.height }
     ensures some { 0 < result }
-    ensures within { top + result ≤ pixels.now.height }
-    ensures same { (k : ℕ) → k < result → row_at (lines_in pixels.now) (top + k) ≡ row_at (lines_in pixels.now) top }
+    ensures within { top + result ≤ colours.now.height }
+    ensures same { (k : ℕ) → k < result → row_at (lines_in colours.now) (top + k) ≡ row_at (lines_in colours.now) top }
 {
-    let row = pixels.row(top);
-    for y in top + 1..pixels.height {
-        if pixels.row(y) != row {
+    let row = colours.row(top);
+    for y in top + 1..colours.height {
+        if colours.row(y) != row {
             return y - top;
         }
     }
-    pixels.height - top
+    colours.height - top
 }
 
 /// The most frequent pixel, of several the smallest, counted row by row; rows that are alike are
 /// counted at once.
-fn counted_background(alloc: Global, pixels: &Lines) -> Result<u32, AllocError>
-    ensures { IfOk result (λ b. b ≡ background_of (values_in pixels.now)) }
+fn counted_background(alloc: Global, pixels: &Pixels) -> Result<u32, AllocError>
+    ensures { IfOk result (λ b. b ≡ background_of (pixels_in pixels.now)) }
 {
+    let mut places = pixels.places(alloc)?;
     let mut counter = Counter {
         counts: HashMap::new(alloc),
         best: 0,
         most: 0,
     };
     let mut y = 0;
-    while y < pixels.height {
-        let rows = rows_like(pixels, y);
-        count_row(&mut counter, pixels.row(y), rows)?;
+    while y < pixels.colours.height {
+        let rows = rows_like(&pixels.colours, y);
+        pixels.fill(y, &mut places);
+        count_row(&mut counter, pixels.row(y, &places), rows)?;
         y += rows;
     }
     Ok(counter.best)
@@ -200,17 +223,17 @@ fn counted_background(alloc: Global, pixels: &Lines) -> Result<u32, AllocError>
 /// The most frequent pixel, of several the smallest. Where a pixel that seems likely has more than
 /// half of the places, it is the one, and where two have enough of them, it is one of these; else
 /// all pixels are counted.
-pub(crate) fn background_of(alloc: Global, pixels: &Lines) -> Result<u32, AllocError>
-    ensures { IfOk result (λ b. b ≡ background_of (values_in pixels.now)) }
+pub(crate) fn background_of(alloc: Global, pixels: &Pixels) -> Result<u32, AllocError>
+    ensures { IfOk result (λ b. b ≡ background_of (pixels_in pixels.now)) }
 {
     let guess = likely(pixels, None);
-    let half = pixels.width * pixels.height / 2;
-    let count = times_until(pixels, guess, half);
+    let half = pixels.colours.width * pixels.colours.height / 2;
+    let count = times_until(alloc, pixels, guess, half)?;
     if half < count {
         return Ok(guess);
     }
     let other = likely(pixels, Some(guess));
-    match best_of_two(pixels, guess, count, other) {
+    match best_of_two(alloc, pixels, guess, count, other)? {
         Some(best) => Ok(best),
         None => counted_background(alloc, pixels),
     }

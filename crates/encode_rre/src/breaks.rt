@@ -5,12 +5,13 @@
 //! such places and stand side by side, so at most half of a row's places are left out. Where that is
 //! too many, such places are counted by their pixels.
 
-ghost use Rattle.std.specs.Prelude.{◌≡◌, ℕ, ◌+◌, ◌*◌, ◌^◌, ◌<◌, ◌≤◌, true, length, slice_index};
+ghost use Rattle.std.specs.Prelude.{◌≡◌, ℕ, ◌+◌, ◌*◌, ◌^◌, ◌<◌, ◌≤◌, true, length, slice_index, IfOk};
 ghost use Rattle.encode_rre.specs.Breaks.{breaks, breaks_like};
 ghost use Rattle.encode_rre.specs.Subrectangles.{subrectangles};
-ghost use Rattle.encode_rre.specs.Lines.{lines_in};
+ghost use Rattle.encode_rre.specs.Pixels.{pixel_lines};
 
-use crate::lines::Lines;
+use crate::translated::Pixels;
+use std::alloc::{AllocError, Global};
 
 /// How many places of a row differ from the one before them and from the one above them. This has
 /// no branch in its loop, so that many places are looked at in one step.
@@ -61,51 +62,62 @@ fn most_of(buckets: &[usize; 251]) -> usize
 
 /// Whether more than `limit` such places are left when those with the background's pixel are left
 /// out, of which there are at most as many as in the fullest bucket.
-fn has_too_many_kinds(pixels: &Lines, limit: usize) -> bool
-    ensures { result ≡ true → (b : ℕ) → limit < length (subrectangles b (lines_in pixels.now)) }
+fn has_too_many_kinds(alloc: Global, pixels: &Pixels, limit: usize) -> Result<bool, AllocError>
+    ensures { IfOk result (λ many. many ≡ true → (b : ℕ) → limit < length (subrectangles b (pixel_lines pixels.now))) }
 {
+    let mut rows = pixels.first_rows(alloc)?;
     let mut buckets = [0usize; 251];
     let mut count = 0;
-    for y in 1..pixels.height {
-        let row = pixels.row(y);
-        let above = pixels.row(y - 1);
+    for y in 1..pixels.colours.height {
+        pixels.go_on(&mut rows, y);
+        let row = pixels.row(y, &rows.row);
+        let above = pixels.row(y - 1, &rows.above);
         count += add_breaks(&mut buckets, row, above);
     }
-    limit < count.saturating_sub(most_of(&buckets))
+    Ok(limit < count.saturating_sub(most_of(&buckets)))
 }
 
 /// Whether there may be enough such places to be too many: there are few rows, or in one row of 16
 /// there are more than half as many as would be too many there. It is only a guess.
-fn may_have_too_many(pixels: &Lines, limit: usize) -> bool {
-    if pixels.height < 64 {
-        return true;
+fn may_have_too_many(alloc: Global, pixels: &Pixels, limit: usize) -> Result<bool, AllocError> {
+    if pixels.colours.height < 64 {
+        return Ok(true);
     }
+    let mut rows = pixels.first_rows(alloc)?;
     let mut count = 0usize;
-    for k in 0..pixels.height / 16 {
+    for k in 0..pixels.colours.height / 16 {
         let y = 16 * k + 1 + k % 15;
-        let row = pixels.row(y);
-        count = count.saturating_add(breaks_in(row, pixels.row(y - 1)));
+        pixels.go_to(&mut rows, y);
+        let row = pixels.row(y, &rows.row);
+        let above = pixels.row(y - 1, &rows.above);
+        count = count.saturating_add(breaks_in(row, above));
     }
-    limit / 32 < count
+    Ok(limit / 32 < count)
 }
 
 /// Whether there are more than `limit` subrectangles for certain: where a part of the rows has many
 /// such places, first with the half of each row left out, and then, where such places are enough, by
 /// their pixels.
-pub(crate) fn has_too_many(pixels: &Lines, limit: usize) -> bool
+pub(crate) fn has_too_many(alloc: Global, pixels: &Pixels, limit: usize) -> Result<bool, AllocError>
     requires limited { limit < 2 ^ 32 }
-    ensures { result ≡ true → (b : ℕ) → limit < length (subrectangles b (lines_in pixels.now)) }
+    ensures { IfOk result (λ many. many ≡ true → (b : ℕ) → limit < length (subrectangles b (pixel_lines pixels.now))) }
 {
-    if !may_have_too_many(pixels, limit) {
-        return false;
+    if !may_have_too_many(alloc, pixels, limit)? {
+        return Ok(false);
     }
+    let mut rows = pixels.first_rows(alloc)?;
     let mut count = 0;
-    for y in 1..pixels.height {
-        let row = pixels.row(y);
-        count += breaks_in(row, pixels.row(y - 1));
-        if limit + (y + 1) * pixels.width / 2 < count {
-            return true;
+    for y in 1..pixels.colours.height {
+        pixels.go_on(&mut rows, y);
+        let row = pixels.row(y, &rows.row);
+        let above = pixels.row(y - 1, &rows.above);
+        count += breaks_in(row, above);
+        if limit + (y + 1) * pixels.colours.width / 2 < count {
+            return Ok(true);
         }
     }
-    limit < count && has_too_many_kinds(pixels, limit)
+    if count <= limit {
+        return Ok(false);
+    }
+    has_too_many_kinds(alloc, pixels, limit)
 }

@@ -1,11 +1,11 @@
 //! A rectangle in RRE as bytes.
 
-ghost use Rattle.std.specs.Prelude.{◌≡◌, ◌<◌, ◌^◌, ◌++◌, length, flat_map, pos, OnOk, OnErr};
+ghost use Rattle.std.specs.Prelude.{◌≡◌, ◌+◌, ◌≤◌, ◌++◌, length, take, drop, pos, OnOk, OnErr};
 ghost use Rattle.encode_rre.specs.Begins.{BeginsWith};
 ghost use Rattle.std.specs.Int.{w32, to_le_bytes};
-ghost use Rattle.pixel_translate.specs.Pixel.{be16, pixel_bytes};
+ghost use Rattle.pixel_translate.specs.Pixel.{be16, be32, pixel_bytes};
 ghost use Rattle.encode_raw.specs.Raw.{head};
-ghost use Rattle.encode_rre.specs.Rre.{subrectangle_bytes, rre_data};
+ghost use Rattle.encode_rre.specs.Rre.{subrectangle_bytes};
 
 use crate::Subrectangle;
 use encode_raw::rect_header;
@@ -28,7 +28,7 @@ fn put_twelve(out: &mut Vec<u8>, number: u32, sub: Subrectangle) -> Result<(), A
 }
 
 /// Appends a subrectangle: its pixel, place and size.
-fn put_subrectangle(
+pub(crate) fn put_subrectangle(
     out: &mut Vec<u8>,
     format: &PixelFormat,
     sub: Subrectangle,
@@ -47,40 +47,26 @@ fn put_subrectangle(
     out.extend_from_slice(&[x_high, x_low, y_high, y_low, w_high, w_low, h_high, h_low])
 }
 
-/// Appends the background and each subrectangle.
-fn put_pixels(
-    out: &mut Vec<u8>,
-    format: &PixelFormat,
-    background: u32,
-    subs: &[Subrectangle],
-) -> Result<(), AllocError>
-    ensures ok { OnOk result (out.new.items ≡
-        out.old.items ++ (pixel_bytes format.now background ++ flat_map (subrectangle_bytes format.now) subs.now)) }
-    ensures err { OnErr result (BeginsWith out.old.items out.new.items) }
-{
-    put_bytes(out, format, background)?;
-    for sub in subs {
-        put_subrectangle(out, format, *sub)?;
-    }
-    Ok(())
-}
-
-/// Appends a rectangle in RRE: its head, how many subrectangles there are, the background, and each of them. The room
-/// is made at once. Where memory is refused, what was there stays in front.
-pub(crate) fn put_rre(
+/// Appends what stands before the subrectangles: the rectangle's head, four places for their number, and the background.
+pub(crate) fn put_front(
     out: &mut Vec<u8>,
     area: Area,
     format: &PixelFormat,
     background: u32,
-    subs: &[Subrectangle],
 ) -> Result<(), AllocError>
-    requires { length subs.now < 2 ^ 32 }
-    ensures ok { OnOk result (out.new.items ≡ out.old.items ++ (head area (pos 2) ++ rre_data format.now background subs.now)) }
+    ensures ok { OnOk result (out.new.items ≡
+        (out.old.items ++ head area (pos 2)) ++ (be32 0 ++ pixel_bytes format.now background)) }
     ensures err { OnErr result (BeginsWith out.old.items out.new.items) }
 {
-    let pixel_len = format.bytes_per_pixel();
-    out.reserve(16 + pixel_len + subs.len() * (pixel_len + 8))?;
     rect_header(out, area, 2)?;
-    out.extend_from_slice(&(subs.len() as u32).to_be_bytes())?;
-    put_pixels(out, format, background, subs)
+    out.extend_from_slice(&0u32.to_be_bytes())?;
+    put_bytes(out, format, background)
+}
+
+/// Writes the number of subrectangles in its four places.
+pub(crate) fn write_count(out: &mut Vec<u8>, start: usize, count: u32)
+    requires { start + 4 ≤ length out.old.items }
+    ensures { out.new.items ≡ take start out.old.items ++ (be32 count ++ drop (start + 4) out.old.items) }
+{
+    out[start..start + 4].copy_from_slice(&count.to_be_bytes());
 }

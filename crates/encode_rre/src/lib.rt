@@ -5,44 +5,43 @@
 //! counted that begin a subrectangle whatever the background is (`breaks`): in one row of 16, and where these let expect too many
 //! in one pass over all, or in two with 2 KB of counters. Then the background is found (`background`): guessed and tested in one
 //! pass or in two, or else counted in a table of the pixels that differ. Last the subrectangles are found row by row (`scan`),
-//! which goes over each place a bounded number of times and keeps twelve bytes for each subrectangle. Where a colour isn't its own
-//! pixel, the pixels are kept meanwhile, four bytes each. The rectangle is written to the output itself, whose room is made at
-//! once.
+//! which goes over each place a bounded number of times, and are written to the output as they are found. Where a colour isn't its
+//! own pixel, each step translates the rows as it comes to them, and keeps two of them (`translated`).
 #![tactic(auto)]
 
-ghost use Rattle.std.specs.Prelude.{◌≡◌, ℕ, ◌+◌, ◌*◌, ◌<◌, ◌≤◌, ◌^◌, ◌++◌, true, length, map, flat_map, slice_index, All, IfOk};
-ghost use Rattle.std.specs.Prelude.{MatchOption, OnOk, OnErr};
+ghost use Rattle.std.specs.Prelude.{◌≡◌, ℕ, ◌+◌, ◌*◌, ◌<◌, ◌≤◌, ◌^◌, ◌++◌, true, false, length, map, flat_map, slice_index, All};
+ghost use Rattle.std.specs.Prelude.{IfOk, OnOk, OnErr};
 ghost use Rattle.pixel_translate.specs.Pixel.{pixel, colour_bytes};
 ghost use Rattle.encode_raw.specs.Raw.{raw};
 ghost use Rattle.encode_rre.specs.Claims.{rre_reads_back};
-ghost use Rattle.encode_rre.specs.Rre.{rre, IsCodingOf};
+ghost use Rattle.encode_rre.specs.Rre.{rre};
 ghost use Rattle.encode_rre.specs.Begins.{BeginsWith};
 ghost use Rattle.encode_rre.specs.Lines.{values_in};
+ghost use Rattle.encode_rre.specs.Pixels.{pixels_in};
 ghost use Rattle.encode_rre.specs.Subrectangles.{ListsTheSubrectangles, ListsInOrder, FindsTheBackground};
 
 mod background;
 mod breaks;
 mod bytes;
+mod colour_runs;
 pub mod lines;
 mod pixels;
 pub mod rows;
 mod scan;
+mod translated;
 
 use crate::background::background_of;
 use crate::breaks::has_too_many;
-use crate::bytes::put_rre;
+use crate::bytes::{put_front, write_count};
 use crate::lines::{Lines, Values};
-use crate::pixels::write_piece;
-use crate::scan::subrectangles_within;
+use crate::scan::put_subrectangles;
+use crate::translated::Pixels;
 pub use background::{is_better, times};
 use encode_raw::{put_raw_pixels, raw_is_read_back, rect_header};
 use pixel_translate::{Table, server_pixels_are_colours};
 pub use pixel_translate::{Area, PixelFormat};
 pub use scan::{stretch_from, subrectangle_at};
-use std::alloc::{AllocError, Global};
-
-/// How many colours of a row are translated at a time: so few that their places are still near when they are written.
-const PIECE: usize = 256;
+use std::alloc::AllocError;
 
 /// A subrectangle of one pixel: its place relative to the rectangle that it belongs to, and its
 /// size, in pixels.
@@ -87,82 +86,39 @@ fn are_pixels(colours: &Lines, format: &PixelFormat) -> bool
     format.has_server_components() && are_low(colours)
 }
 
-/// Appends the pixel of each colour of a piece of a row. Their places are made first, and then written.
-fn put_piece(pixels: &mut Vec<u32>, piece: &[u32], table: &Table) -> Result<(), AllocError>
-    requires some { 0 < length piece.now }
-    requires columns { length piece.now < 2 ^ 16 }
-    ensures { OnOk result (pixels.new.items ≡ pixels.old.items ++ map (pixel table.now) piece.now) }
-{
-    let start = pixels.len();
-    let Some(end) = start.checked_add(piece.len()) else {
-        return Err(AllocError);
-    };
-    pixels.resize(end, 0)?;
-    write_piece(&mut pixels[start..], piece, table);
-    Ok(())
-}
-
-/// Appends the pixel of each colour of a row, a piece of it at a time.
-fn put_pixels_of(pixels: &mut Vec<u32>, row: &[u32], table: &Table) -> Result<(), AllocError>
-    ensures { OnOk result (pixels.new.items ≡ pixels.old.items ++ map (pixel table.now) row.now) }
-{
-    let mut from = 0;
-    while from < row.len() {
-        let end = from + (row.len() - from).min(PIECE);
-        put_piece(pixels, &row[from..end], table)?;
-        from = end;
-    }
-    Ok(())
-}
-
-/// The pixel of each colour.
-fn pixels_of(alloc: Global, colours: &Lines, table: &Table) -> Result<Vec<u32>, AllocError>
-    ensures { IfOk result (λ pixels. pixels.items ≡ map (pixel table.now) (values_in colours.now)) }
-{
-    let mut pixels = Vec::with_capacity(alloc, colours.width * colours.height)?;
-    for y in 0..colours.height {
-        put_pixels_of(&mut pixels, colours.row(y), table)?;
-    }
-    Ok(pixels)
-}
-
-/// The background and the subrectangles of a rectangle whose data in RRE is shorter than in Raw.
-#[derive(Drop)]
-pub(crate) struct Coding {
-    pub(crate) background: u32,
-    pub(crate) subs: Vec<Subrectangle>,
-}
-
-/// How a rectangle is coded, from the pixels of its colours; nothing where RRE's data is no shorter than Raw's.
-fn coding_of(
-    alloc: Global,
+/// Appends a rectangle in RRE, from the pixels of its colours, and tells whether its data is shorter than Raw's. Else a part of it
+/// may be appended.
+fn put_coded(
+    out: &mut Vec<u8>,
     area: Area,
-    colours: &Lines,
-    pixels: &Lines,
+    pixels: &Pixels,
     format: &PixelFormat,
-) -> Result<Option<Coding>, AllocError>
-    requires width { pixels.now.width ≡ area.w }
-    requires height { pixels.now.height ≡ area.h }
-    requires translated { values_in pixels.now ≡ map (pixel format.now) (values_in colours.now) }
-    ensures { IfOk result (λ found. MatchOption found (rre format.now area (values_in colours.now) ≡
-        raw format.now area (values_in colours.now))
-        (λ coding. IsCodingOf format.now area (values_in colours.now) coding.background coding.subs.items)) }
+) -> Result<bool, AllocError>
+    requires width { pixels.now.colours.width ≡ area.w }
+    requires height { pixels.now.colours.height ≡ area.h }
+    requires translated { pixels_in pixels.now ≡ map (pixel format.now) (values_in pixels.now.colours) }
+    ensures coded { IfOk result (λ shorter. shorter ≡ true → out.new.items ≡
+        out.old.items ++ rre format.now area (values_in pixels.now.colours)) }
+    ensures longer { IfOk result (λ shorter. shorter ≡ false → rre format.now area (values_in pixels.now.colours) ≡
+        raw format.now area (values_in pixels.now.colours)) }
+    ensures front { BeginsWith out.old.items out.new.items }
 {
-    let _ = colours.width;
+    let alloc = *out.allocator();
     let pixel_len = format.bytes_per_pixel();
-    let raw_len = pixels.width * pixels.height * pixel_len;
-    let limit = raw_len / (pixel_len + 8);
-    if has_too_many(pixels, limit) {
-        return Ok(None);
+    let raw_len = pixels.colours.width * pixels.colours.height * pixel_len;
+    let many = has_too_many(alloc, pixels, raw_len / (pixel_len + 8))?;
+    if many {
+        return Ok(false);
     }
     let background = background_of(alloc, pixels)?;
-    let Some(subs) = subrectangles_within(alloc, pixels, background, limit)? else {
-        return Ok(None);
-    };
-    if 4 + pixel_len + subs.len() * (pixel_len + 8) >= raw_len {
-        return Ok(None);
+    let start = out.len() + 12;
+    put_front(out, area, format, background)?;
+    let shorter = put_subrectangles(out, pixels, format, background, start + raw_len)?;
+    if shorter {
+        let count = (out.len() - (start + 4 + pixel_len)) / (pixel_len + 8);
+        write_count(out, start, count as u32);
     }
-    Ok(Some(Coding { background, subs }))
+    Ok(shorter)
 }
 
 /// Appends a rectangle in Raw, row by row, in room that is made at once.
@@ -183,22 +139,22 @@ fn put_raw(out: &mut Vec<u8>, area: Area, colours: &Lines, table: &Table) -> Res
 fn put_shorter(
     out: &mut Vec<u8>,
     area: Area,
-    colours: &Lines,
-    pixels: &Lines,
+    pixels: &Pixels,
     table: &Table,
 ) -> Result<(), AllocError>
-    requires width { pixels.now.width ≡ area.w }
-    requires height { pixels.now.height ≡ area.h }
-    requires translated { values_in pixels.now ≡ map (pixel table.now) (values_in colours.now) }
-    ensures ok { OnOk result (out.new.items ≡ out.old.items ++ rre table.now area (values_in colours.now)) }
+    requires width { pixels.now.colours.width ≡ area.w }
+    requires height { pixels.now.colours.height ≡ area.h }
+    requires translated { pixels_in pixels.now ≡ map (pixel table.now) (values_in pixels.now.colours) }
+    ensures ok { OnOk result (out.new.items ≡ out.old.items ++ rre table.now area (values_in pixels.now.colours)) }
     ensures err { OnErr result (BeginsWith out.old.items out.new.items) }
 {
-    let format = table.format();
-    let alloc = *out.allocator();
-    match coding_of(alloc, area, colours, pixels, &format)? {
-        Some(coding) => put_rre(out, area, &format, coding.background, &coding.subs),
-        None => put_raw(out, area, colours, table),
+    let before = out.len();
+    let shorter = put_coded(out, area, pixels, &table.format())?;
+    if shorter {
+        return Ok(());
     }
+    out.truncate(before);
+    put_raw(out, area, &pixels.colours, table)
 }
 
 /// Appends a rectangle. Where memory is refused, what was there stays in front.
@@ -213,17 +169,16 @@ fn put_rectangle(
     ensures ok { OnOk result (out.new.items ≡ out.old.items ++ rre table.now area (values_in colours.now)) }
     ensures err { OnErr result (BeginsWith out.old.items out.new.items) }
 {
-    if are_pixels(colours, &table.format()) {
-        let pixels = *colours;
-        return put_shorter(out, area, colours, &pixels, table);
-    }
-    let pixels = pixels_of(*out.allocator(), colours, table)?;
-    let pixels = Lines {
-        values: Values::Whole(&pixels),
-        width: colours.width,
-        height: colours.height,
+    let table_used = if are_pixels(colours, &table.format()) {
+        None
+    } else {
+        Some(table)
     };
-    put_shorter(out, area, colours, &pixels, table)
+    let pixels = Pixels {
+        colours: *colours,
+        table: table_used,
+    };
+    put_shorter(out, area, &pixels, table)
 }
 
 /// Appends a rectangle. Where memory is refused, nothing is appended.

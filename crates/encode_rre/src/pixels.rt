@@ -1,10 +1,13 @@
-//! Pieces of rows of colours translated, in places that are there already.
+//! Rows of colours translated, in places that are there already.
 
 ghost use Rattle.std.specs.Prelude.{◌≡◌, ◌<◌, ◌^◌, true, length, map};
 ghost use Rattle.pixel_translate.specs.Pixel.{pixel};
 
 use crate::scan::stretch_from;
 use pixel_translate::Table;
+
+/// How many colours of a row are translated at a time: so few that their places are still near when they are written.
+const PIECE: usize = 256;
 
 /// Writes the pixel of one colour where a piece has it, and that of another everywhere else, and tells whether the piece
 /// has just these two colours. This has no branch in its loop, so that many places are written in one step.
@@ -62,7 +65,7 @@ fn other_colour(piece: &[u32]) -> Option<u32>
 
 /// Writes the pixel of each colour of a piece. Where it may have just two colours, as a piece of text has, it is taken for
 /// one that has.
-pub(crate) fn write_piece(places: &mut [u32], piece: &[u32], table: &Table)
+fn write_piece(places: &mut [u32], piece: &[u32], table: &Table)
     requires room { length places.old ≡ length piece.now }
     requires some { 0 < length piece.now }
     requires columns { length piece.now < 2 ^ 16 }
@@ -74,4 +77,18 @@ pub(crate) fn write_piece(places: &mut [u32], piece: &[u32], table: &Table)
         }
     }
     write_each(places, piece, table);
+}
+
+/// Writes the pixel of each colour of a row, a piece of it at a time.
+pub(crate) fn write_row(places: &mut [u32], row: &[u32], table: &Table)
+    requires room { length places.old ≡ length row.now }
+    requires columns { length row.now < 2 ^ 16 }
+    ensures { places.new ≡ map (pixel table.now) row.now }
+{
+    let mut from = 0;
+    while from < row.len() {
+        let end = from + (row.len() - from).min(PIECE);
+        write_piece(&mut places[from..end], &row[from..end], table);
+        from = end;
+    }
 }

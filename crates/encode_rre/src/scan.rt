@@ -1,28 +1,36 @@
 //! The subrectangles of a rectangle, found row by row.
 
-ghost use Rattle.std.specs.Prelude.{◌≡◌, ℕ, ◌+◌, ◌*◌, ◌<◌, ◌≤◌, ◌^◌, ◌++◌, true, false, length, drop, slice_index, IfOk, IfSome};
-ghost use Rattle.std.specs.Prelude.{MatchOption, OnOk};
+ghost use Rattle.std.specs.Prelude.{◌≡◌, ℕ, ◌+◌, ◌-◌, ◌*◌, ◌<◌, ◌≤◌, ◌^◌, ◌++◌, true, false, length, drop, slice_index};
+ghost use Rattle.std.specs.Prelude.{IfOk, IfSome, MatchOption, OnOk, OnErr, flat_map};
+ghost use Rattle.encode_rre.specs.Begins.{BeginsWith};
+ghost use Rattle.encode_rre.specs.Rre.{subrectangle_bytes};
 ghost use Rattle.std.specs.List.{prefix_len};
 ghost use Rattle.encode_rre.specs.Starts.{AreRuns, Found};
 ghost use Rattle.encode_rre.specs.Lines.{lines_in};
+ghost use Rattle.encode_rre.specs.Pixels.{pixel_lines, translated_lines, HasRows};
+ghost use Rattle.pixel_translate.specs.Pixel.{pixel};
 ghost use Rattle.encode_rre.specs.Subrectangles.{row_at, stretch, has_run, begins_run, begins_subrectangle, subrectangle_from};
 ghost use Rattle.encode_rre.specs.Subrectangles.{run_at, subrectangles_in, subrectangles};
 
 use crate::Subrectangle;
+use crate::bytes::put_subrectangle;
+use crate::colour_runs::ColourRun;
 use crate::lines::Lines;
-use std::alloc::{AllocError, Global};
+use crate::translated::{Pixels, TwoRows};
+use pixel_translate::{PixelFormat, Table};
+use std::alloc::AllocError;
 
 /// A maximal stretch of one row with one pixel.
 #[derive(Clone, Copy)]
 pub(crate) struct Run {
-    x: usize,
-    w: usize,
-    pixel: u32,
+    pub(crate) x: usize,
+    pub(crate) w: usize,
+    pub(crate) pixel: u32,
 }
 
 /// Whether the pixels are all one. This has no branch in its loop, so that many are looked at in one
 /// step.
-fn are_all(pixels: &[u32], pixel: u32) -> bool
+pub(crate) fn are_all(pixels: &[u32], pixel: u32) -> bool
     requires { length pixels.now < 2 ^ 16 }
     ensures yes { result ≡ true → (k : ℕ) → k < length pixels.now → slice_index pixels.now k ≡ pixel }
     ensures no { ((k : ℕ) → k < length pixels.now → slice_index pixels.now k ≡ pixel) → result ≡ true }
@@ -180,6 +188,77 @@ pub fn subrectangle_at(
     })
 }
 
+/// The same where the pixels are translated by a table: those of the row and of the one above it are there, and the rows below
+/// are looked at as colours.
+fn translated_subrectangle_at(
+    pixels: &Pixels,
+    table: &Table,
+    rows: &TwoRows,
+    background: u32,
+    y: usize,
+    x: usize,
+    w: usize,
+) -> Option<Subrectangle>
+    requires inside { y < pixels.now.colours.height }
+    requires row { rows.now.row.items ≡ row_at (translated_lines table.now pixels.now.colours) y }
+    requires above { rows.now.above.items ≡ row_at (translated_lines table.now pixels.now.colours) (y - 1) }
+    requires begins { begins_run (row_at (translated_lines table.now pixels.now.colours) y) x ≡ true }
+    requires run { w ≡ stretch (row_at (translated_lines table.now pixels.now.colours) y) x }
+    requires some { 0 < w }
+    requires within { x + w ≤ pixels.now.colours.width }
+    ensures found { MatchOption result (begins_subrectangle background (translated_lines table.now pixels.now.colours) y x ≡ false)
+        (λ sub. (begins_subrectangle background (translated_lines table.now pixels.now.colours) y x ≡ true) ×
+        (sub ≡ subrectangle_from (translated_lines table.now pixels.now.colours) y x)) }
+{
+    let run = Run {
+        x,
+        w,
+        pixel: rows.row[x],
+    };
+    if run.pixel == background || 0 < y && has_run(&rows.above, run) {
+        return None;
+    }
+    let sought = ColourRun {
+        run,
+        colour: pixels.colours.row(y)[x],
+        table,
+    };
+    let height = sought.rows_with(&pixels.colours, y);
+    Some(Subrectangle {
+        x: x as u16,
+        y: y as u16,
+        w: w as u16,
+        h: height as u16,
+        pixel: run.pixel,
+    })
+}
+
+/// The same of pixels that may be translated.
+#[inline(always)]
+fn subrectangle_of(
+    pixels: &Pixels,
+    rows: &TwoRows,
+    background: u32,
+    y: usize,
+    x: usize,
+    w: usize,
+) -> Option<Subrectangle>
+    requires inside { y < pixels.now.colours.height }
+    requires has { HasRows pixels.now y rows.now }
+    requires begins { begins_run (row_at (pixel_lines pixels.now) y) x ≡ true }
+    requires run { w ≡ stretch (row_at (pixel_lines pixels.now) y) x }
+    requires some { 0 < w }
+    requires within { x + w ≤ pixels.now.colours.width }
+    ensures { MatchOption result (begins_subrectangle background (pixel_lines pixels.now) y x ≡ false)
+        (λ sub. (begins_subrectangle background (pixel_lines pixels.now) y x ≡ true) ×
+        (sub ≡ subrectangle_from (pixel_lines pixels.now) y x)) }
+{
+    match pixels.table {
+        Some(table) => translated_subrectangle_at(pixels, table, rows, background, y, x, w),
+        None => subrectangle_at(&pixels.colours, background, y, x, w),
+    }
+}
+
 /// Goes on from a place up to another with where the runs of a row begin: so many begin before it, and one more is written for
 /// each that begins from there on. How many begin before `end`. This has no branch in its loop, so runs of any lengths take the
 /// same time.
@@ -231,52 +310,65 @@ fn find_runs(starts: &mut [u16], row: &[u32]) -> usize
     count
 }
 
-/// Appends the subrectangles that begin in the row at `y`. The places where its runs begin are
-/// written to `starts` first.
-fn push_row(
-    subs: &mut Vec<Subrectangle>,
+/// Appends the subrectangles that begin in the row at `y`, as bytes. The places where its runs begin are written to `starts`
+/// first.
+fn put_row(
+    out: &mut Vec<u8>,
     starts: &mut [u16],
-    pixels: &Lines,
+    pixels: &Pixels,
+    rows: &TwoRows,
+    format: &PixelFormat,
     background: u32,
     y: usize,
 ) -> Result<(), AllocError>
-    requires inside { y < pixels.now.height }
-    requires room { pixels.now.width < length starts.old }
-    ensures found { OnOk result (subs.new.items ≡ subs.old.items ++ subrectangles_in background (lines_in pixels.now) y) }
+    requires inside { y < pixels.now.colours.height }
+    requires has { HasRows pixels.now y rows.now }
+    requires room { pixels.now.colours.width < length starts.old }
+    ensures ok { OnOk result (out.new.items ≡
+        out.old.items ++ flat_map (subrectangle_bytes format.now) (subrectangles_in background (pixel_lines pixels.now) y)) }
+    ensures err { OnErr result (BeginsWith out.old.items out.new.items) }
     ensures len { length starts.new ≡ length starts.old }
 {
     if pixels.repeats(y) {
         return Ok(());
     }
-    let row = pixels.row(y);
+    let row = pixels.row(y, &rows.row);
     let count = find_runs(starts, row);
     for k in 0..count {
         let x = usize::from(starts[k]);
         let w = usize::from(starts[k + 1]) - x;
-        if let Some(sub) = subrectangle_at(pixels, background, y, x, w) {
-            subs.push(sub)?;
+        if let Some(sub) = subrectangle_of(pixels, rows, background, y, x, w) {
+            put_subrectangle(out, format, sub)?;
         }
     }
     Ok(())
 }
 
-/// The subrectangles by y and then by x, or nothing where there are more than `limit`.
-pub(crate) fn subrectangles_within(
-    alloc: Global,
-    pixels: &Lines,
+/// Appends the subrectangles by y and then by x, as bytes, and tells whether they leave `out` shorter than `end`. Else a part of
+/// them is appended.
+pub(crate) fn put_subrectangles(
+    out: &mut Vec<u8>,
+    pixels: &Pixels,
+    format: &PixelFormat,
     background: u32,
-    limit: usize,
-) -> Result<Option<Vec<Subrectangle>>, AllocError>
-    ensures { IfOk result (λ found. MatchOption found (limit < length (subrectangles background (lines_in pixels.now)))
-        (λ subs. subs.items ≡ subrectangles background (lines_in pixels.now))) }
+    end: usize,
+) -> Result<bool, AllocError>
+    ensures all { IfOk result (λ shorter. shorter ≡ true → out.new.items ≡
+        out.old.items ++ flat_map (subrectangle_bytes format.now) (subrectangles background (pixel_lines pixels.now))) }
+    ensures shorter { IfOk result (λ shorter. shorter ≡ true → length out.new.items < end) }
+    ensures longer { IfOk result (λ shorter. shorter ≡ false → end ≤ length out.old.items +
+        length (flat_map (subrectangle_bytes format.now) (subrectangles background (pixel_lines pixels.now)))) }
+    ensures front { BeginsWith out.old.items out.new.items }
 {
-    let mut starts = vec![in alloc; 0u16; pixels.width + 1]?;
-    let mut subs = Vec::new(alloc);
-    for y in 0..pixels.height {
-        push_row(&mut subs, &mut starts, pixels, background, y)?;
-        if limit < subs.len() {
-            return Ok(None);
+    let alloc = *out.allocator();
+    let mut rows = pixels.first_rows(alloc)?;
+    let mut starts = vec![in alloc; 0u16; pixels.colours.width + 1]?;
+    for y in 0..pixels.colours.height {
+        pixels.go_on(&mut rows, y);
+        put_row(out, &mut starts, pixels, &rows, format, background, y)?;
+        if end <= out.len() {
+            return Ok(false);
         }
     }
-    Ok(Some(subs))
+    Ok(true)
 }

@@ -5,4 +5,4 @@ use Rattle.encode_rre.proofs.background.rows_like.Given as goal
 
 -- the rows passed are like the first
 abbrev pub invariant-loop-y : goal.invariant-loop-y
-invariant-loop-y l = (k : ℕ) → l.top ≤ k → k < l.y → row_at (lines_in l.pixels) k ≡ row_at (lines_in l.pixels) l.top
+invariant-loop-y l = (k : ℕ) → l.top ≤ k → k < l.y → row_at (lines_in l.colours) k ≡ row_at (lines_in l.colours) l.top

@@ -1,12 +1,13 @@
-use Rattle.std.proofs.Common.{◌≡◌, ◌≤◌, ◌-◌, ◌++◌, length, take, map}
+use Rattle.std.proofs.Common.{◌≡◌, ◌≤◌, ◌-◌, length, take, map}
 use Rattle.pixel_translate.specs.Pixel.{pixel}
-use Rattle.encode_rre.proofs.put_pixels_of.Given as goal
+use Rattle.encode_rre.proofs.pixels.write_row.Given as goal
 
 -- the colours passed are translated
 abbrev pub invariant-loop-from : goal.invariant-loop-from
 invariant-loop-from l = record {
-  translated : l.pixels.items ≡ l.fn.pixels.items ++ map (pixel l.table) (take l.from l.row);
+  translated : take l.from l.places ≡ map (pixel l.table) (take l.from l.row);
   within : l.from ≤ length l.row;
+  room : length l.places ≡ length l.row;
 }
 
 abbrev pub decreases-loop-from : goal.decreases-loop-from

@@ -1,0 +1,6 @@
+use Rattle.encode_rre.specs.Pixels.{HaveRoom}
+use Rattle.encode_rre.proofs.breaks.may_have_too_many.Given as goal
+
+-- there is room for two rows
+abbrev pub invariant-loop-k : goal.invariant-loop-k
+invariant-loop-k l = HaveRoom l.pixels l.rows
