@@ -1,13 +1,13 @@
 -- Whether something is to be sent once drawing is known that stands in a log.
-use Rattle.std.proofs.Common.{◌≡◌, ℕ, ◌+◌, ◌*◌, ◌/◌, ◌%◌, ◌<◌, zero-add, Bool, true, false, cond, ◌||◌, ◌&&◌, not, List, [], ◌∷◌, map, get_or, refl, sym, ◌∙◌, ap, arith, true≢false}
+use Rattle.std.proofs.Common.{◌≡◌, ℕ, ◌+◌, ◌*◌, ◌/◌, ◌%◌, Bool, true, false, cond, ◌||◌, ◌&&◌, not, List, [], ◌∷◌, map, get_or, refl, sym, ◌∙◌, ap, arith}
 use Rattle.std.specs.Prelude.{ℤ, pos, ◌+ℤ◌, ◌-ℤ◌, nat_abs}
 use Rattle.std.specs.List.{list_any, range_with_len}
 use Rattle.std.proofs.lemmas.Bool.{and_parts}
 use Rattle.std.proofs.lemmas.Nat.{mul-add-lt}
-use Rattle.std.proofs.lemmas.List.FromFn.{get_or-map-range_with_len, length-map-range_with_len}
-use Rattle.std.proofs.lemmas.List.Folds.{list_any_at, list_any_none}
+use Rattle.std.proofs.lemmas.List.FromFn.{length-map-range_with_len}
+use Rattle.std.proofs.lemmas.List.Folds.{list_any_at}
 use Rattle.region.specs.declared.Rect.{Rect}
-use Rattle.region.specs.RegionView.{RegionView, SharePlace}
+use Rattle.region.specs.RegionView.{SharePlace}
 use Rattle.region.specs.Region.{covers, on_screen}
 use Rattle.region.specs.Places.{by_place, some_place, same_offset}
 use Rattle.region.specs.PlaceLemmas.{is_place, same_by_place, below, value_on}
@@ -17,8 +17,8 @@ use Rattle.copy_schedule.specs.declared.LogEntry.{LogEntry}
 use Rattle.copy_schedule.specs.declared.LogEntry.TheVariants.{Mark, Copy}
 use Rattle.copy_schedule.specs.declared.mark_sets.MarkSets.{MarkSets}
 use Rattle.copy_schedule.specs.Marks.{Marks, is_clean, is_copied, is_owed, mark_at, asked_at, marked, lost_to, moved_marks, moved_mark, wanted, pending}
-use Rattle.copy_schedule.specs.Log.{after_entry, logged, drawn_by, draws_asked}
-use Rattle.copy_schedule.specs.MarkSetLemmas.{Shows, not_shared}
+use Rattle.copy_schedule.specs.Log.{after_entry, logged, draws_asked}
+use Rattle.copy_schedule.specs.MarkSetLemmas.{Shows}
 
 -- Some place of a screen.
 

@@ -9,3 +9,4 @@ pub mod SetLemmas
 pub mod DrawnLemmas
 pub mod MarkSetLemmas
 pub mod LogLemmas
+pub mod OwedAloneLemmas

@@ -1,12 +1,12 @@
 //! What an update sends of a screen's places.
 
-ghost use Rattle.std.specs.Prelude.{◌≡◌, ◌&&◌, ◌||◌, not, ℤ, ◌-ℤ◌, IfOk, take, All};
-ghost use Rattle.region.specs.Region.{covers, order, IsCanonical};
+ghost use Rattle.std.specs.Prelude.{◌≡◌, ◌&&◌, ◌||◌, not, ℤ, ◌-ℤ◌, IfOk, take, All, [], true};
+ghost use Rattle.region.specs.Region.{covers, on_screen, order, IsCanonical};
 ghost use Rattle.region.specs.Places.{IsOnScreen, longest_side};
 ghost use Rattle.copy_schedule.specs.MarkSets.{LiesOn, AreMarkSets};
 
 use crate::mark_sets::MarkSets;
-use crate::sets::moved_by;
+use crate::sets::{is_screen, moved_by};
 use region::{Rect, Region};
 use std::alloc::{AllocError, Global};
 
@@ -68,8 +68,16 @@ pub fn choose(
     })
 }
 
+/// What an update sends, and the places that are owed after it.
+#[derive(Drop)]
+pub struct Sending {
+    pub copies: Vec<Rect>,
+    pub pixels: Vec<Rect>,
+    pub owed: Region,
+}
+
 /// The first rectangles of a region, at most `limit`, in the order for copies by (dx, dy).
-pub fn first_rects(
+pub fn first_copies(
     alloc: Global,
     region: &Region,
     offset: (i32, i32),
@@ -81,6 +89,15 @@ pub fn first_rects(
     let mut rects = region.rects(0 < offset.0, 0 < offset.1)?.into_vec();
     rects.truncate(limit as usize);
     Ok(rects)
+}
+
+/// The first rectangles of a region, at most `limit`, from the top.
+pub fn first_pixels(region: &Region, limit: u32) -> Result<Vec<Rect>, AllocError>
+    ensures rects { IfOk result (λ rects. rects.items ≡ take limit region.now.list) }
+    ensures canonical { IsCanonical region.now.list }
+{
+    let rects = region.first_rects(limit as usize)?;
+    Ok(rects.into_vec())
 }
 
 /// The places that are left once the rectangles are sent.
@@ -100,4 +117,31 @@ pub fn left_after(
     let sent = moved.union(&drawn)?;
     let left = unclean.difference(&sent)?;
     Ok(left)
+}
+
+/// Whether all places of the screen are asked for and none awaits a copy, so that what is wanted is what is owed.
+pub fn sends_owed_alone(sets: &MarkSets, asked: &Region, width: u32, height: u32) -> bool
+    ensures copied { result ≡ true → sets.now.copied.list ≡ [] }
+    ensures asked { result ≡ true → (x y : ℤ) → covers asked.now.list x y ≡ on_screen width height x y }
+{
+    sets.copied.is_empty() && is_screen(asked, width, height)
+}
+
+/// What is sent where all that is wanted is owed: no more rectangles are listed than are sent.
+pub fn send_owed(alloc: Global, owed: &Region, limit: u32) -> Result<Sending, AllocError>
+    requires { LiesOn longest_side longest_side owed.now.list }
+    ensures copies { IfOk result (λ s. s.copies.items ≡ []) }
+    ensures pixels { IfOk result (λ s. s.pixels.items ≡ take limit owed.now.list) }
+    ensures left { IfOk result (λ s. (x y : ℤ) →
+        covers s.owed.list x y ≡ (covers owed.now.list x y && not (covers s.copies.items x y || covers s.pixels.items x y))) }
+    ensures canonical { IsCanonical owed.now.list }
+{
+    let copies = Vec::new(alloc);
+    let pixels = first_pixels(owed, limit)?;
+    let left = left_after(alloc, owed, &copies, &pixels)?;
+    Ok(Sending {
+        copies,
+        pixels,
+        owed: left,
+    })
 }

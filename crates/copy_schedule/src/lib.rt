@@ -23,7 +23,7 @@ mod windows;
 
 use listed::Listed;
 pub use log::joined_log;
-pub use marks::{Marks, Prepared};
+pub use marks::{Marks, Prepared, PreparedCut};
 use region::{Rect, Region};
 
 /// A law: in the order in which an update sends copies, none is drawn over what a later one is copied from.

@@ -13,7 +13,9 @@ ghost use Rattle.copy_schedule.specs.Marks.{marks_after, copies_of, pixels_of, I
 ghost use Rattle.copy_schedule.specs.MarkSets.{AreMarkSets, LiesOn, with_sets};
 ghost use Rattle.copy_schedule.specs.Log.{logged, draws_asked, IsCutEntry};
 
-use crate::chosen::{choose, first_rects, left_after};
+use crate::chosen::{
+    Sending, choose, first_copies, first_pixels, left_after, send_owed, sends_owed_alone,
+};
 use crate::log::take_entries;
 use crate::mark_sets::{
     MarkSets, clone_of, forgetting, losing, moving, owing_copies, owing_on_screen,
@@ -72,12 +74,11 @@ impl Model for Prepared {
     ghost view = { λ a. a.marks };
 }
 
-/// What an update sends, and the places that are owed after it.
-#[derive(Drop)]
-struct Sending {
-    copies: Vec<Rect>,
-    pixels: Vec<Rect>,
-    owed: Region,
+/// What an update sends, and the marks that it would leave, ready for `Marks::commit`.
+#[derive(Debug, Drop)]
+pub struct PreparedCut {
+    pub cut: Cut,
+    pub marks: Prepared,
 }
 
 impl Prepared {
@@ -272,12 +273,41 @@ impl Marks {
         self.pending() || self.some_draws_asked(entries)
     }
 
-    /// What the next update sends (`rfbSendFramebufferUpdate` of `rfb.h`). It is marked as sent: its places are clean, every other
-    /// place that is not clean is owed, none is asked for, and the offset is (0, 0).
+    /// What the next update sends (`rfbSendFramebufferUpdate` of `rfb.h`), and the marks once it is sent: its places are clean,
+    /// every other place that is not clean is owed, none is asked for, and the offset is (0, 0).
     ///
     /// A place is sent as a copy where it awaits one and its source is asked for too. Of the copies, and of the pixel
     /// rectangles, the first ones go, at most `limit` of each (`maxRectsPerUpdate` of `rfb.h`). None where no place is asked for
-    /// and not clean; nothing changes then. After an `AllocError` the marks are as they were.
+    /// and not clean. `AllocError` where memory is refused.
+    pub fn prepare_cut(&self, limit: u32) -> Result<Option<PreparedCut>, AllocError>
+        ensures sent { IfOk result (λ p. option_map (λ q. q.cut) p ≡ option_map cut_of_sent (cut_of limit self.now)) }
+        ensures after { IfOk result (λ p. IfSome p (λ q. q.marks ≡ marks_after limit self.now)) }
+        ensures inside { IfOk result (λ p. IfSome p (λ q. IsInside self.now.width self.now.height q.cut)) }
+        ensures sources { IfOk result (λ p. IfSome p (λ q. HasSourcesInside self.now.width self.now.height q.cut)) }
+        ensures count { IfOk result (λ p. IfSome p (λ q. IsWithin limit q.cut)) }
+        ensures ordered { IfOk result (λ p. IfSome p (λ q. InOrder q.cut.offset q.cut.copies)) }
+    {
+        if !self.pending() {
+            return Ok(None);
+        }
+        let Sending {
+            copies,
+            pixels,
+            owed,
+        } = self.sending(limit)?;
+        let marks = self.settled(owed);
+        Ok(Some(PreparedCut {
+            cut: Cut {
+                copies: Listed::from_vec(copies),
+                offset: self.offset(),
+                pixels: Listed::from_vec(pixels),
+            },
+            marks,
+        }))
+    }
+
+    /// What `prepare_cut` gives, marked as sent. Where it is None nothing changes; after an `AllocError` the marks are as they
+    /// were.
     pub fn cut(&mut self, limit: u32) -> Result<Option<Cut>, AllocError>
         ensures sent { IfOk result (λ cut. cut ≡ option_map cut_of_sent (cut_of limit self.old)) }
         ensures after { OnOk result (self.new ≡ marks_after limit self.old) }
@@ -287,21 +317,11 @@ impl Marks {
         ensures ordered { IfOk result (λ cut. IfSome cut (λ c. InOrder c.offset c.copies)) }
         ensures err { OnErr result (self.new ≡ self.old) }
     {
-        if !self.pending() {
+        let Some(PreparedCut { cut, marks }) = self.prepare_cut(limit)? else {
             return Ok(None);
-        }
-        let offset = self.offset();
-        let Sending {
-            copies,
-            pixels,
-            owed,
-        } = self.sending(limit)?;
-        self.settle(owed);
-        Ok(Some(Cut {
-            copies: Listed::from_vec(copies),
-            offset,
-            pixels: Listed::from_vec(pixels),
-        }))
+        };
+        self.commit(marks);
+        Ok(Some(cut))
     }
 
     /// The columns of the screen, at most 8192.
@@ -378,10 +398,13 @@ impl Marks {
             covers s.owed.list x y ≡
             (not (is_clean (mark_at self.now x y)) && not (covers s.copies.items x y || covers s.pixels.items x y))) }
     {
+        if sends_owed_alone(&self.sets, &self.asked, self.width, self.height) {
+            return send_owed(self.alloc, &self.sets.owed, limit);
+        }
         let offset = (self.offset_x, self.offset_y);
         let parts = choose(self.alloc, &self.sets, &self.asked, offset)?;
-        let copies = first_rects(self.alloc, &parts.copies, offset, limit)?;
-        let pixels = first_rects(self.alloc, &parts.pixels, (0, 0), limit)?;
+        let copies = first_copies(self.alloc, &parts.copies, offset, limit)?;
+        let pixels = first_pixels(&parts.pixels, limit)?;
         let owed = left_after(self.alloc, &parts.unclean, &copies, &pixels)?;
         Ok(Sending {
             copies,
@@ -390,22 +413,29 @@ impl Marks {
         })
     }
 
-    // These places are owed and no others, and none is asked for.
-    fn settle(&mut self, owed: Region)
-        requires { LiesOn self.old.width self.old.height owed.list }
-        ensures { self.new ≡ record (with_marks self.old (λ x y. if covers owed.list x y then Owed else Clean)) {
+    // The marks where these places are owed and no others, and none is asked for.
+    fn settled(&self, owed: Region) -> Prepared
+        requires { LiesOn self.now.width self.now.height owed.list }
+        ensures { result ≡ record (with_marks self.now (λ x y. if covers owed.list x y then Owed else Clean)) {
           offset =
               (pos 0, pos 0);
-          asked = replicate (self.old.width * self.old.height) false;
+          asked = replicate (self.now.width * self.now.height) false;
         } }
     {
-        self.sets = MarkSets {
-            owed,
-            copied: Region::new(self.alloc),
-        };
-        self.asked.clear();
-        self.offset_x = 0;
-        self.offset_y = 0;
+        Prepared {
+            marks: Marks {
+                alloc: self.alloc,
+                width: self.width,
+                height: self.height,
+                sets: MarkSets {
+                    owed,
+                    copied: Region::new(self.alloc),
+                },
+                offset_x: 0,
+                offset_y: 0,
+                asked: Region::new(self.alloc),
+            },
+        }
     }
 
     // Whether an entry of a log draws a place that is asked for.

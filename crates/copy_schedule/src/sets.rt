@@ -112,6 +112,25 @@ pub fn fits(region: &Region, width: u32, height: u32) -> bool
     }
 }
 
+/// Whether a rectangle is all of a screen.
+fn is_screen_rect(rect: Rect, width: u32, height: u32) -> bool
+    ensures { result ≡ true → (x y : ℤ) → in_rect rect x y ≡ on_screen width height x y }
+{
+    let right = i64::from(rect.x2);
+    let bottom = i64::from(rect.y2);
+    rect.x1 == 0 && rect.y1 == 0 && right == i64::from(width) && bottom == i64::from(height)
+}
+
+/// Whether a region is known to be all of a screen.
+pub fn is_screen(region: &Region, width: u32, height: u32) -> bool
+    ensures { result ≡ true → (x y : ℤ) → covers region.now.list x y ≡ on_screen width height x y }
+{
+    match region.only_rect() {
+        Some(rect) => is_screen_rect(rect, width, height),
+        None => false,
+    }
+}
+
 /// The region's places that are on a screen, as a region of its own.
 pub fn part_on_screen(
     alloc: Global,

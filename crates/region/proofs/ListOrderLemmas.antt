@@ -13,7 +13,7 @@ mapped : (bands : List Band) → flat_map reverse (map rects_of_band bands) ≡ 
 mapped [] = refl
 mapped (b ∷ bands) = ap (λ l. reverse (rects_of_band b) ++ l) (mapped bands)
 
-plain : (bands : List Band) → rects_in bands ≡ lines_in false bands
+pub plain : (bands : List Band) → rects_in bands ≡ lines_in false bands
 plain [] = refl
 plain (b ∷ bands) = ap (λ l. rects_of_band b ++ l) (plain bands)
 

@@ -1,5 +1,5 @@
 -- What contracts see of a region, and what its calls do to it.
-use Rattle.std.specs.Prelude.{◌≡◌, ℕ, Bool, true, false, [], ◌∷◌, ◌&&◌, not, List, ℤ, pos, negsuc, ◌+ℤ◌, ◌≤ℤ◌, int_le}
+use Rattle.std.specs.Prelude.{◌≡◌, ℕ, Bool, true, false, [], ◌∷◌, ◌&&◌, not, List, ℤ, Option, None, Some, pos, negsuc, ◌+ℤ◌, ◌≤ℤ◌, int_le}
 use Rattle.std.specs.List.{list_any}
 use Rattle.region.specs.declared.Rect.{Rect}
 use Rattle.region.specs.Region.{covers, in_rect}
@@ -26,6 +26,12 @@ moved_rect dx dy r = record { x1 = r.x1 +ℤ dx; y1 = r.y1 +ℤ dy; x2 = r.x2 +�
 -- a rectangle, moved, leaves the range
 abbrev pub leaves_range : ℤ → ℤ → List Rect → Bool
 leaves_range dx dy rs = list_any (λ r. not (in_range (moved_rect dx dy r))) rs
+
+-- the rectangle of a list of one
+abbrev pub only : List Rect → Option Rect
+only [] = None
+only (r ∷ []) = Some r
+only (r ∷ q ∷ rs) = None
 
 -- some place is in both
 abbrev pub SharePlace : List Rect → List Rect → Type 0

@@ -1,10 +1,12 @@
 //! The rectangles of bands, as a list.
 
-ghost use Rattle.std.specs.Prelude.{◌≡◌, ◌≤◌, ◌++◌, [], OnOk, map, length, take, drop};
+ghost use Rattle.std.specs.Prelude.{◌≡◌, ◌≤◌, ◌++◌, [], OnOk, map, length, take, drop, false};
 ghost use Rattle.band_list.specs.Bands.{reading, first_row};
+ghost use Rattle.band_walks.specs.Sets.{AreBands};
+ghost use Rattle.region.specs.RegionView.{only};
 ghost use Rattle.std.specs.Option.{option_map};
 ghost use Rattle.region.specs.Region.{reversed_if};
-ghost use Rattle.region.specs.Rects.{rect_of, rect_in, lines_in};
+ghost use Rattle.region.specs.Rects.{rect_of, rect_in, rects_in, lines_in};
 
 use crate::Rect;
 use band_list::{Interval, Reader, Rows};
@@ -90,4 +92,43 @@ pub(crate) fn push_rects(
         bands.advance();
     }
     Ok(())
+}
+
+/// Puts the rectangles of the bands that are to be read behind the others, band by band from the top, each from the left,
+/// until the list has `most` rectangles or more.
+pub(crate) fn push_first(
+    out: &mut Vec<Rect>,
+    bands: &mut Reader,
+    most: usize,
+) -> Result<(), AllocError>
+    requires { bands.old.left ≡ first_row bands.old.bands }
+    ensures { OnOk result (take most out.new.items ≡ take most (out.old.items ++ lines_in false bands.old.bands)) }
+{
+    while let Some(rows) = bands.first_rows() {
+        if most <= out.len() {
+            return Ok(());
+        }
+        push_band(out, bands, rows)?;
+        bands.advance();
+    }
+    Ok(())
+}
+
+/// The only rectangle of the bands that are to be read; None where there is none, or more than one.
+pub(crate) fn only_rect(bands: &mut Reader) -> Option<Rect>
+    requires bands { AreBands bands.old.bands }
+    requires left { bands.old.left ≡ first_row bands.old.bands }
+    ensures { result ≡ only (rects_in bands.old.bands) }
+{
+    let rows = bands.first_rows()?;
+    let columns = bands.first_left()?;
+    bands.skip_left();
+    if bands.first_left().is_some() {
+        return None;
+    }
+    bands.advance();
+    if bands.first_rows().is_some() {
+        return None;
+    }
+    Some(rect_of(rows, columns))
 }

@@ -18,7 +18,7 @@ use crate::colours::Colours;
 use crate::parts::{Coloured, Moved, Rectangles};
 use crate::standing::{Planned, Standing, put_marks};
 use crate::update::{Update, encode_all};
-use copy_schedule::Cut;
+use copy_schedule::{Cut, PreparedCut};
 use framebuffer::{Block, Framebuffer, block_within};
 use messages::Encoding;
 use pixel_translate::{Area, PixelFormat};
@@ -158,14 +158,7 @@ fn plan(
     ensures width { IfOk result (λ planned. IfSome planned.marks (λ m. m.width ≡ standing.now.marks.width)) }
     ensures height { IfOk result (λ planned. IfSome planned.marks (λ m. m.height ≡ standing.now.marks.height)) }
 {
-    if !standing.marks.pending() {
-        return Ok(Planned {
-            rectangles: None,
-            marks: None,
-        });
-    }
-    let mut marks = standing.marks.try_clone()?;
-    let Some(cut) = marks.cut(limit)? else {
+    let Some(PreparedCut { cut, marks }) = standing.marks.prepare_cut(limit)? else {
         return Ok(Planned {
             rectangles: None,
             marks: None,
@@ -174,7 +167,7 @@ fn plan(
     let rectangles = rectangles_of(alloc, picture, standing.encoding, standing.format, &cut)?;
     Ok(Planned {
         rectangles: Some(rectangles),
-        marks: Some(marks),
+        marks: Some(marks.into_marks()),
     })
 }
 

@@ -3,7 +3,6 @@ use Rattle.region.specs.declared.Rect.{Rect}
 use Rattle.region.specs.RegionView.{SharePlace}
 use Rattle.region.specs.Region.{covers}
 use Rattle.region.specs.Places.{by_place, some_place}
-use Rattle.copy_schedule.specs.declared.LogEntry.{LogEntry}
 use Rattle.copy_schedule.specs.declared.mark_sets.MarkSets.{MarkSets}
 use Rattle.copy_schedule.specs.Marks.{Marks, asked_at}
 use Rattle.copy_schedule.specs.MarkSets.{mark_in_sets}

@@ -1,6 +1,5 @@
 use Rattle.std.proofs.Common.{◌∙◌, sym, ap, ◌||◌}
 use Rattle.std.specs.List.{list_any}
-use Rattle.copy_schedule.specs.Marks.{pending}
 use Rattle.copy_schedule.specs.Log.{draws_asked}
 use Rattle.copy_schedule.specs.DrawnLemmas.{pending_after_log}
 use Rattle.copy_schedule.proofs.marks.Marks.pending_after.Goals as goal
