@@ -1,5 +1,7 @@
 //! The calls that copy, as one.
 
+ghost use Rattle.std.specs.Prelude.{◌≡◌, OnErr};
+
 use crate::region;
 use region::Rect;
 use screen::{Screen, ScreenError};
@@ -26,14 +28,17 @@ pub static COPYING: [Copying; 4] = [
     Copying::ScheduleRegion,
 ];
 
-/// A copy to a rectangle by one of the calls.
+/// A copy to a rectangle from the places `by` before it, by one of the calls. Refused as that call is, or as the region is.
 pub fn copy(
     alloc: Global,
     screen: &mut Screen,
     copying: Copying,
     to: Rect,
-    (dx, dy): (i32, i32),
-) -> Result<(), ScreenError> {
+    by: (i32, i32),
+) -> Result<(), ScreenError>
+    ensures err { OnErr result (screen.new ≡ screen.old) }
+{
+    let (dx, dy) = by;
     match copying {
         Copying::DoRect => screen.do_copy_rect(to.x1, to.y1, to.x2, to.y2, dx, dy),
         Copying::DoRegion => screen.do_copy_region(&region(alloc, to)?, dx, dy),

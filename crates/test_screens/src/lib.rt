@@ -2,15 +2,20 @@
 //! sent, and numbers from which calls are drawn. Nothing but tests uses it.
 #![tactic(auto)]
 
-ghost use Rattle.std.specs.Prelude.{◌≡◌, ◌≢◌, ◌++◌, ◌∷◌, [], ℤ, List, true, false, if◌then◌else◌, IfOk, OnOk, OnErr, Err};
+ghost use Rattle.std.specs.Prelude.{◌≡◌, ◌≢◌, ◌++◌, ◌∷◌, [], ℤ, List, true, false, if◌then◌else◌, IfOk, IfErr, OnOk, OnErr, Err, Some, ◌⊎◌};
+ghost use Rattle.std.specs.Option.{option_map};
 ghost use Rattle.pixel_translate.specs.Pixel.{be16};
 ghost use Rattle.region.specs.Region.{covers, in_rect};
 ghost use Rattle.region.specs.RegionView.{in_range};
 ghost use Rattle.scene.specs.declared.Config.{Config};
 ghost use Rattle.scene.specs.declared.Event.{Event};
 ghost use Rattle.scene.specs.declared.Event.TheVariants as event;
-ghost use Rattle.scene.specs.declared.ScreenError.TheVariants.{BadRect};
+ghost use Rattle.scene.specs.declared.ScreenError.TheVariants.{BadRect, OutOfMemory};
+ghost use Rattle.scene.specs.Alone.{Tells, gives, config_refusal};
+ghost use Rattle.scene.specs.Answers.{answer_to};
+ghost use Rattle.viewer.specs.Given.{bytes_given};
 ghost use Rattle.screen.specs.State.{state};
+ghost use Rattle.test_screens.specs.Demo.{demo_config, opened, shown};
 
 mod copies;
 mod numbers;
@@ -35,8 +40,7 @@ pub fn config(
     limit: u32,
     history: History,
 ) -> Result<Config, AllocError>
-    ensures limit { IfOk result (λ config. config.rects_per_update ≡ limit) }
-    ensures history { IfOk result (λ config. config.history ≡ history) }
+    ensures { IfOk result (λ config. config ≡ demo_config size limit history) }
 {
     let (width, height) = size;
     Ok(Config {
@@ -54,7 +58,10 @@ pub fn new_screen(
     size: (u16, u16),
     limit: u32,
     history: History,
-) -> Result<Screen, ScreenError> {
+) -> Result<Screen, ScreenError>
+    ensures made { IfOk result (λ screen. screen ≡ state (demo_config size limit history) []) }
+    ensures refused { IfErr result (λ e. (e ≡ OutOfMemory) ⊎ (config_refusal (demo_config size limit history) ≡ Some e)) }
+{
     let config = config(alloc, size, limit, history)?;
     Screen::new(alloc, config)
 }
@@ -101,13 +108,20 @@ pub fn say(screen: &mut Screen, viewer: u64, piece: &[u8]) -> Result<(), ScreenE
 }
 
 /// A viewer connects and opens.
-pub fn open(screen: &mut Screen, viewer: u64) -> Result<(), ScreenError> {
+pub fn open(screen: &mut Screen, viewer: u64) -> Result<(), ScreenError>
+    ensures step { (config : Config) (list : List Event) → screen.old ≡ state config list →
+        OnOk result (screen.new ≡ state config (opened list viewer)) }
+{
     screen.connect(viewer)?;
     say(screen, viewer, OPENING)
 }
 
 /// The whole of a screen is painted; viewer 1, which uses CopyRect, opens and is sent it.
-pub fn show(screen: &mut Screen, (w, h): (u16, u16), colours: &[u32]) -> Result<(), ScreenError> {
+pub fn show(screen: &mut Screen, size: (u16, u16), colours: &[u32]) -> Result<(), ScreenError>
+    ensures step { (config : Config) (list : List Event) → screen.old ≡ state config list →
+        OnOk result (screen.new ≡ state config (shown list size colours.now)) }
+{
+    let (w, h) = size;
     screen.paint(rect(0, 0, i32::from(w), i32::from(h)), colours)?;
     open(screen, 1)?;
     say(screen, 1, WITH_COPYRECT)?;
@@ -117,7 +131,12 @@ pub fn show(screen: &mut Screen, (w, h): (u16, u16), colours: &[u32]) -> Result<
 }
 
 /// What a viewer is sent now, if anything.
-pub fn sent(screen: &mut Screen, viewer: u64) -> Result<Option<Vec<u8>>, ScreenError> {
+pub fn sent(screen: &mut Screen, viewer: u64) -> Result<Option<Vec<u8>>, ScreenError>
+    ensures step { (config : Config) (list : List Event) → screen.old ≡ state config list →
+        OnOk result (screen.new ≡ state config (list ++ event.Cut viewer ∷ [])) }
+    ensures answer { (config : Config) (list : List Event) → screen.old ≡ state config list →
+        Tells (λ sent. gives (bytes_given (option_map (λ v. v.items) sent))) result (answer_to config list (event.Cut viewer)) }
+{
     match screen.cut(viewer)? {
         Some(update) => Ok(Some(update.encode()?)),
         None => Ok(None),
