@@ -2,7 +2,7 @@
 //! are keys of it. Contracts see the list of pairs of number and value, and beside it the list of their positions.
 //!
 //! `links` has the nodes and changes their links. A walk goes from `first` by `next`, and `at_mut` may change each value
-//! on the way; `proofs/Walks.antt` has what a caller's loop needs.
+//! on the way; `specs/WalkLemmas.antt` has what a caller's loop needs.
 #![tactic(auto)]
 
 ghost use Rattle.std.specs.Prelude.{◌≡◌, ◌+◌, ◌++◌, ◌∷◌, ◌↔◌, [], ℕ, None, Some, IsTrue, IfSome, IfOk, MatchOption, MatchResult};

@@ -5,7 +5,7 @@
 //! the canonical list of a set of places: its rows in maximal bands of equal contents, each band in maximal intervals.
 //!
 //! `marks` holds three regions: the owed, the copied and the asked places. `sets` has set operations, of which `windows` finds
-//! a rectangle's part of a screen; `kept` has what drawing and requests do to the owed and the copied places, and `chosen` what
+//! a rectangle's part of a screen; `mark_sets` has what drawing and requests do to the owed and the copied places, and `chosen` what
 //! an update sends. `log` has drawing that a viewer's marks lack yet: a list of entries, as several viewers share it, of which
 //! each may catch up later. Every call makes its new regions first and then puts them in place, so a refused one changes nothing.
 #![tactic(auto)]

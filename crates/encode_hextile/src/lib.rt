@@ -7,6 +7,14 @@
 //! background before it. A tile in which too many places differ from the one before and the one
 //! above is raw at once; else the scan ends with the row in which the subrectangles are as long as
 //! the pixels, and passes over each row that is as the one above.
+//!
+//! A white tile, which appends the head and `02 ffffff00`, a background and no subrectangle:
+//!
+//! ```
+//! let mut out = Vec::new(alloc);
+//! let area = Area { x: 0, y: 0, w: 2, h: 2 };
+//! encode_hextile(&mut out, area, &[0xff_ffff; 4], &PixelFormat::server())?;
+//! ```
 #![tactic(auto)]
 
 ghost use Rattle.std.specs.Prelude.{◌≡◌, ℕ, List, ◌+◌, ◌*◌, ◌<◌, ◌≤◌, ◌++◌, length, map, IfOk, OnOk, OnErr};

@@ -7,6 +7,16 @@
 //! pass or in two, or else counted in a table of the pixels that differ. Last the subrectangles are found row by row (`scan`),
 //! which goes over each place a bounded number of times, and are written to the output as they are found. Where a colour isn't its
 //! own pixel, each step translates the rows as it comes to them, and keeps two of them (`translated`).
+//!
+//! A white line of two places on four by two black ones, which appends the head, the count `00000001`, the background `00000000`
+//! and the subrectangle `ffffff00 0002 0000 0002 0001`:
+//!
+//! ```
+//! let mut out = Vec::new(alloc);
+//! let area = Area { x: 0, y: 0, w: 4, h: 2 };
+//! let colours = [0, 0, 0xff_ffff, 0xff_ffff, 0, 0, 0, 0];
+//! encode_rre(&mut out, area, &colours, &PixelFormat::server())?;
+//! ```
 #![tactic(auto)]
 
 ghost use Rattle.std.specs.Prelude.{◌≡◌, ℕ, ◌+◌, ◌*◌, ◌<◌, ◌≤◌, ◌^◌, ◌++◌, true, false, length, map, flat_map, slice_index, All};

@@ -74,6 +74,27 @@ both_same false b e = absurd cc
 no_way : (z x : ℤ) → int_eq z (pos 0) ≡ true → x -ℤ z ≡ x
 no_way z x e = grind (arith, ints)
 
+-- a block without places has no place
+empty_block : (b : Block) → b.rows * b.columns ≡ 0 → (x y : ℤ) → in_rect (block_rect b) x y ≡ false
+empty_block b none x y = by b.rows b.columns none refl refl
+  where
+    by : (rows columns : ℕ) → rows * columns ≡ 0 → b.rows ≡ rows → b.columns ≡ columns → in_rect (block_rect b) x y ≡ false
+    by zero columns none rows_is columns_is = grind (arith, ints)
+    by (suc rows) zero none rows_is columns_is = grind (arith, ints)
+    by (suc rows) (suc columns) none rows_is columns_is = absurd (omega arith)
+
+-- colours that are written to no place leave the picture
+pub written_nowhere : (w h : ℕ) (b : Block) (colours picture : List ℕ) → 0 < w → length picture ≡ w * h → b.rows * b.columns ≡ 0 → written w h (block_rect b) colours picture ≡ picture
+written_nowhere w h b colours picture some size none =
+    sym (fill_by_all f picture (w * h) 0 size (λ k below.
+    let left : k % w < w = mod-lt k some in
+    let top : k / w < h = (div-lt_iff_lt-mul {k = w} {x = k} {y = h} some).1 (let e = mul_comm w h in omega (arith, e)) in
+    ap (λ n. get_or picture n 0) (let e = mod-add-div k w in omega (arith, e)) ∙ sym (ap (λ t. cond t (get_or picture (k / w * w + k % w) 0) 0) (on_it w h (k % w) (k / w) left top))
+    ∙ sym (ap (λ t. cond t (colour_in (block_rect b) colours (pos (k % w)) (pos (k / w)) % 2 ^ 24) (colour_at w h picture (pos (k % w)) (pos (k / w)))) (empty_block b none (pos (k % w)) (pos (k / w))))))
+  where
+    f : ℕ → ℕ
+    f i = cond (in_rect (block_rect b) (pos (i % w)) (pos (i / w))) (colour_in (block_rect b) colours (pos (i % w)) (pos (i / w)) % 2 ^ 24) (colour_at w h picture (pos (i % w)) (pos (i / w)))
+
 -- colours that move nowhere, or of no place, leave the picture
 pub idle : (w h : ℕ) (set : ℤ → ℤ → Bool) (by : ℤ × ℤ) (picture : List ℕ) → 0 < w → length picture ≡ w * h → (same_offset by (pos 0, pos 0) ≡ true) ⊎ ((x y : ℤ) → set x y ≡ false) → moved_colours w h set by picture ≡ picture
 idle w h set by picture some size why =

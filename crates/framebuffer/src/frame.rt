@@ -140,7 +140,7 @@ impl Framebuffer {
     }
 
     /// Replaces the colours of a block of the picture by others, row by row, whose top bytes are cleared. The block may have no
-    /// places. Refused for want of memory alone.
+    /// places: then this takes no memory. Refused for want of memory alone.
     pub fn write(&mut self, block: Block, colours: &[u32]) -> Result<(), AllocError>
         requires wide { block.left + block.columns ≤ self.old.width }
         requires high { block.top + block.rows ≤ self.old.height }
@@ -149,6 +149,9 @@ impl Framebuffer {
             record self.old { colours = written self.old.width self.old.height (block_rect block) colours.now self.old.colours }) }
         ensures err { OnErr result (self.new ≡ self.old) }
     {
+        if colours.is_empty() {
+            return Ok(());
+        }
         if block.columns == self.width as usize && self.shares(block) {
             self.put_whole_rows(block, colours)
         } else {

@@ -1,4 +1,12 @@
 //! What a viewer says, and what the server says, in bytes: the reader of a viewer's messages and the writers of the server's.
+//!
+//! An opening that comes in two pieces, of which the first has no whole item:
+//!
+//! ```
+//! let mut ear = Ear::new(alloc);
+//! let first = ear.feed(b"RFB 003.00")?; // no item
+//! let then = ear.feed(b"8\n\x01\x01")?; // Version, Choice, Init { shared: true }
+//! ```
 #![tactic(auto)]
 
 mod ear;

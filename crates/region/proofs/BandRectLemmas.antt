@@ -4,10 +4,10 @@ use Rattle.std.specs.Prelude.{ℤ, int_lt, int_le, ◌||◌}
 use Rattle.std.specs.List.{list_any, AllByRecursion}
 use Rattle.std.proofs.lemmas.List.Folds.{list_any-append}
 use Rattle.std.proofs.lemmas.Int.{ints}
-use Rattle.band_list.specs.declared.Interval.{Interval}
-use Rattle.band_list.specs.Bands.{Band, rows_of}
-use Rattle.row_walks.specs.Rows.{IsRow, row_has}
-use Rattle.band_walks.specs.Sets.{in_rows, has, AreBands}
+use Rattle.region_bands.specs.declared.Interval.{Interval}
+use Rattle.region_bands.specs.Bands.{Band, rows_of}
+use Rattle.region_rows.specs.Rows.{IsRow, row_has}
+use Rattle.region_sets.specs.Sets.{in_rows, has, AreBands}
 use Rattle.region.specs.declared.Rect.{Rect}
 use Rattle.region.specs.Runs.{Run, AreRuns}
 use Rattle.region.specs.Region.{in_rect, covers, rects_of_bands, IsCanonical, IsBand}

@@ -2,19 +2,19 @@
 use Rattle.std.proofs.Common.{◌≡◌, ◌≢◌, ◌+◌, length, Bool, true, false, ◌&&◌, List, [], ◌∷◌, refl, sym, ◌∙◌, ap, subst, arith, Option, Some, None}
 use Rattle.std.specs.Prelude.{ℤ, ◌<ℤ◌, int_lt, int_le, ◌||◌, IsTrue, ◌↔◌, IfSome, not, slice_get}
 use Rattle.std.specs.Option.{option_map, is_some}
-use Rattle.band_list.specs.declared.Rows.{Rows}
+use Rattle.region_bands.specs.declared.Rows.{Rows}
 use Rattle.std.proofs.lemmas.Int.{ints}
 use Rattle.std.proofs.lemmas.List.{length-append, length-map}
 use Rattle.region.specs.declared.Rect.{Rect}
 use Rattle.region.specs.Region.{in_rect, covers}
 use Rattle.region.specs.RegionView.{SharePlace, IsBox}
-use Rattle.band_queries.specs.declared.Rectangle.{Rectangle}
-use Rattle.band_queries.specs.Queries.{intervals_in_all, in_rectangle, IsBounds, SharePlace as BandsShare}
-use Rattle.band_list.specs.declared.Interval.{Interval}
-use Rattle.band_list.specs.Bands.{Band, Bands, rows_of, nothing}
-use Rattle.row_walks.specs.declared.Keep.{Keep}
-use Rattle.row_walks.specs.Rows.{keeps_place}
-use Rattle.band_walks.specs.Sets.{has, AreBands, IsKept}
+use Rattle.region_queries.specs.declared.Rectangle.{Rectangle}
+use Rattle.region_queries.specs.Queries.{intervals_in_all, in_rectangle, IsBounds, SharePlace as BandsShare}
+use Rattle.region_bands.specs.declared.Interval.{Interval}
+use Rattle.region_bands.specs.Bands.{Band, Bands, rows_of, nothing}
+use Rattle.region_rows.specs.declared.Keep.{Keep}
+use Rattle.region_rows.specs.Rows.{keeps_place}
+use Rattle.region_sets.specs.Sets.{has, AreBands, IsKept}
 use Rattle.region.specs.Rects.{rect_of, rect_in, rects_of_band, rects_in, band_of, AreRectBands}
 use Rattle.region.proofs.BandRectLemmas.{covers_has}
 

@@ -7,9 +7,9 @@ use Rattle.std.specs.Global.{Vec}
 use Rattle.std.specs.Vec.{with_items}
 use Rattle.std.proofs.lemmas.List.{with_items_is, append_assoc, append-nil, map-append}
 use Rattle.region.specs.declared.Rect.{Rect}
-use Rattle.band_list.specs.declared.Interval.{Interval}
-use Rattle.band_list.specs.declared.Rows.{Rows}
-use Rattle.band_list.specs.Bands.{Band, Reading, reading, rows_of, first_row}
+use Rattle.region_bands.specs.declared.Interval.{Interval}
+use Rattle.region_bands.specs.declared.Rows.{Rows}
+use Rattle.region_bands.specs.Bands.{Band, Reading, reading, rows_of, first_row}
 use Rattle.region.specs.Region.{reversed_if}
 use Rattle.region.specs.Rects.{rect_of, rects_of_band, lines_in}
 

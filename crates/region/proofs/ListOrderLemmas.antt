@@ -4,8 +4,8 @@ use Rattle.std.specs.Prelude.{not, flat_map, reverse}
 use mathlib.Core.Bool.{beq}
 use Rattle.region.specs.Region.{reversed_if, in_order}
 use Rattle.region.specs.OrderLemmas.{in_order-plain, in_order-both, in_order-bands}
-use Rattle.band_list.specs.Bands.{Band}
-use Rattle.band_walks.specs.Sets.{AreBands}
+use Rattle.region_bands.specs.Bands.{Band}
+use Rattle.region_sets.specs.Sets.{AreBands}
 use Rattle.region.specs.Rects.{rects_of_band, rects_in, lines_in}
 use Rattle.region.proofs.PopLemmas.{lines_of}
 

@@ -6,10 +6,10 @@ use Rattle.std.proofs.lemmas.Option.{same_Some}
 use Rattle.region.specs.RegionView.{only}
 use Rattle.region.specs.Rects.{rect_of, rects_in}
 use Rattle.region.proofs.ListLemmas.{first_there, none_there}
-use Rattle.band_list.specs.declared.Interval.{Interval}
-use Rattle.band_list.specs.declared.Rows.{Rows}
-use Rattle.band_list.specs.Bands.{Band, Reading, reading, rows_of, first_row}
-use Rattle.band_walks.specs.Sets.{AreBands}
+use Rattle.region_bands.specs.declared.Interval.{Interval}
+use Rattle.region_bands.specs.declared.Rows.{Rows}
+use Rattle.region_bands.specs.Bands.{Band, Reading, reading, rows_of, first_row}
+use Rattle.region_sets.specs.Sets.{AreBands}
 
 columns : (b : Band) (rest : List Band) → AreBands (b ∷ rest) → b.row ≢ []
 columns b [] h = h.columns

@@ -10,12 +10,12 @@ use Rattle.std.proofs.lemmas.List.{map-append, reverse-append}
 use Rattle.region.specs.declared.Rect.{Rect}
 use Rattle.region.specs.Region.{covers, beside, by_band, reversed_if, in_order}
 use Rattle.region.specs.Pops.{IsFirst, IsWithout}
-use Rattle.band_list.specs.declared.Interval.{Interval}
-use Rattle.band_list.specs.Bands.{Band, rows_of}
-use Rattle.band_walks.specs.Sets.{AreBands, has}
-use Rattle.band_queries.specs.Queries.{in_rectangle}
-use Rattle.band_queries.specs.declared.Rectangle.{Rectangle}
-use Rattle.band_changes.specs.Ends.{end_in_band, end_rectangle}
+use Rattle.region_bands.specs.declared.Interval.{Interval}
+use Rattle.region_bands.specs.Bands.{Band, rows_of}
+use Rattle.region_sets.specs.Sets.{AreBands, has}
+use Rattle.region_queries.specs.Queries.{in_rectangle}
+use Rattle.region_queries.specs.declared.Rectangle.{Rectangle}
+use Rattle.region_edits.specs.Ends.{end_in_band, end_rectangle}
 use Rattle.region.specs.Rects.{rect_of, rect_in, rects_of_band, rects_in}
 use Rattle.region.proofs.BandRectLemmas.{covers_has}
 use Rattle.region.proofs.CallLemmas.{in_same}

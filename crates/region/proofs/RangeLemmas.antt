@@ -7,11 +7,11 @@ use Rattle.std.specs.List.{AllByRecursion}
 use Rattle.std.proofs.lemmas.List.Folds.{list_any-append}
 use Rattle.std.proofs.lemmas.Option.{same_Some}
 use Rattle.region.specs.RegionView.{coordinate, in_range, moved_rect, leaves_range}
-use Rattle.band_list.specs.declared.Interval.{Interval}
-use Rattle.band_list.specs.declared.Rows.{Rows}
-use Rattle.band_list.specs.Bands.{Band, Reading, reading, rows_of, first_row}
-use Rattle.band_walks.specs.Sets.{AreBands, IsBand}
-use Rattle.band_changes.specs.Moves.{IsMovableInterval, AreMovableRows, IsMovable}
+use Rattle.region_bands.specs.declared.Interval.{Interval}
+use Rattle.region_bands.specs.declared.Rows.{Rows}
+use Rattle.region_bands.specs.Bands.{Band, Reading, reading, rows_of, first_row}
+use Rattle.region_sets.specs.Sets.{AreBands, IsBand}
+use Rattle.region_edits.specs.Moves.{IsMovableInterval, AreMovableRows, IsMovable}
 use Rattle.region.specs.Rects.{rect_of, rects_of_band, rects_in}
 use Rattle.region.proofs.ListLemmas.{first_there, none_there, left_is}
 

@@ -6,10 +6,10 @@ use Rattle.std.proofs.lemmas.Bool.{le-leb, leb-true}
 use Rattle.region.specs.declared.Rect.{Rect}
 use Rattle.region.specs.Region.{covers}
 use Rattle.region.specs.RegionView.{RegionView}
-use Rattle.band_list.specs.Bands.{Band, nodes_in}
-use Rattle.row_walks.specs.declared.Keep.TheVariants.{Either}
-use Rattle.band_walks.specs.Sets.{AreBands, has, IsKept}
-use Rattle.band_walks.specs.WholeLemmas.{whole_bands}
+use Rattle.region_bands.specs.Bands.{Band, nodes_in}
+use Rattle.region_rows.specs.declared.Keep.TheVariants.{Either}
+use Rattle.region_sets.specs.Sets.{AreBands, has, IsKept}
+use Rattle.region_sets.specs.WholeLemmas.{whole_bands}
 use Rattle.region.specs.Rects.{rects_in}
 use Rattle.region.specs.Room.{AreBandsOfBoth, IsRoomFor}
 use Rattle.region.proofs.BandRectLemmas.{covers_has}

@@ -2,8 +2,8 @@
 use Rattle.std.proofs.Common.{◌≡◌, ◌≢◌, ℕ, ◌+◌, ◌<◌, Bool, true, false, List, [], ◌∷◌, length, refl, sym, ◌∙◌, ap, arith, Option}
 use Rattle.std.specs.Prelude.{IsTrue, ◌↔◌, not, slice_get}
 use Rattle.std.specs.Option.{option_map, is_some}
-use Rattle.band_list.specs.declared.Rows.{Rows}
-use Rattle.band_list.specs.Bands.{Band, Reading, rows_of, reading}
+use Rattle.region_bands.specs.declared.Rows.{Rows}
+use Rattle.region_bands.specs.Bands.{Band, Reading, rows_of, reading}
 
 pub some_left : (bs : List Band) (found : Option Rows) (t : Bool) → found ≡ option_map rows_of (slice_get bs 0) → t ≡ is_some found → t ≡ true → (first : Band) × (rest : List Band) × (bs ≡ first ∷ rest)
 some_left [] found t e f g = absurd (let clash : true ≡ false = sym g ∙ f ∙ ap is_some e in cc)

@@ -6,13 +6,13 @@ use Rattle.std.proofs.lemmas.Int.{ints}
 use Rattle.std.proofs.lemmas.List.Folds.{list_any_more}
 use Rattle.region.specs.declared.Rect.{Rect}
 use Rattle.region.specs.Region.{in_rect, covers}
-use Rattle.band_list.specs.declared.Interval.{Interval}
-use Rattle.band_list.specs.declared.Rows.{Rows}
-use Rattle.band_list.specs.Bands.{Bands, band_with}
-use Rattle.row_walks.specs.Rows.{IsRow, row_has}
-use Rattle.row_walks.specs.RowLemmas.{row_longer, below_longer, has-append as row_has-append}
-use Rattle.band_walks.specs.Sets.{AreBands, EndBy, has, in_rows}
-use Rattle.band_walks.specs.SetLemmas.{Parts, row_put, end_later, has-append}
+use Rattle.region_bands.specs.declared.Interval.{Interval}
+use Rattle.region_bands.specs.declared.Rows.{Rows}
+use Rattle.region_bands.specs.Bands.{Bands, band_with}
+use Rattle.region_rows.specs.Rows.{IsRow, row_has}
+use Rattle.region_rows.specs.RowLemmas.{row_longer, below_longer, has-append as row_has-append}
+use Rattle.region_sets.specs.Sets.{AreBands, EndBy, has, in_rows}
+use Rattle.region_sets.specs.SetLemmas.{Parts, row_put, end_later, has-append}
 use Rattle.region.specs.Rects.{rows_in, columns_in, AreBandsOf, IsStack, IsClosed, stack_has}
 
 -- what pushing the columns of a rectangle makes

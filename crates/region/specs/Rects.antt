@@ -2,13 +2,13 @@
 use Rattle.std.specs.Prelude.{◌≡◌, ◌≢◌, ℕ, ◌≤◌, ℤ, ◌<ℤ◌, List, [], ◌∷◌, ◌++◌, map, flat_map, Bool, ◌&&◌, ◌||◌}
 use Rattle.region.specs.declared.Rect.{Rect}
 use Rattle.region.specs.Region.{in_rect, covers, reversed_if}
-use Rattle.band_list.specs.declared.Interval.{Interval}
-use Rattle.band_list.specs.declared.Rows.{Rows}
-use Rattle.band_list.specs.Bands.{Band, Bands, rows_of}
-use Rattle.band_queries.specs.declared.Rectangle.{Rectangle}
-use Rattle.row_walks.specs.Rows.{IsRow, row_has}
-use Rattle.row_walks.specs.RowLemmas.{Below}
-use Rattle.band_walks.specs.Sets.{AreBands, EndBy, has, in_rows}
+use Rattle.region_bands.specs.declared.Interval.{Interval}
+use Rattle.region_bands.specs.declared.Rows.{Rows}
+use Rattle.region_bands.specs.Bands.{Band, Bands, rows_of}
+use Rattle.region_queries.specs.declared.Rectangle.{Rectangle}
+use Rattle.region_rows.specs.Rows.{IsRow, row_has}
+use Rattle.region_rows.specs.RowLemmas.{Below}
+use Rattle.region_sets.specs.Sets.{AreBands, EndBy, has, in_rows}
 
 abbrev pub rect_of : Rows → Interval → Rect
 rect_of rows i = record { x1 = i.from; y1 = rows.top; x2 = i.to; y2 = rows.bottom }

@@ -3,8 +3,8 @@ use Rattle.std.specs.Prelude.{◌≡◌, ◌*◌, ◌≤◌, ◌||◌, ℤ, List
 use Rattle.region.specs.declared.Rect.{Rect}
 use Rattle.region.specs.Region.{covers}
 use Rattle.region.specs.RegionView.{RegionView}
-use Rattle.band_list.specs.Bands.{Band, nodes_in}
-use Rattle.band_walks.specs.Sets.{AreBands, has}
+use Rattle.region_bands.specs.Bands.{Band, nodes_in}
+use Rattle.region_sets.specs.Sets.{AreBands, has}
 
 -- the maximal bands of the places of both lists
 pub record AreBandsOfBoth (a b : List Rect) (bands : List Band) : Type 0 where

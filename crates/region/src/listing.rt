@@ -1,16 +1,16 @@
 //! The rectangles of bands, as a list.
 
 ghost use Rattle.std.specs.Prelude.{◌≡◌, ◌≤◌, ◌++◌, [], OnOk, map, length, take, drop, false};
-ghost use Rattle.band_list.specs.Bands.{reading, first_row};
-ghost use Rattle.band_walks.specs.Sets.{AreBands};
+ghost use Rattle.region_bands.specs.Bands.{reading, first_row};
+ghost use Rattle.region_sets.specs.Sets.{AreBands};
 ghost use Rattle.region.specs.RegionView.{only};
 ghost use Rattle.std.specs.Option.{option_map};
 ghost use Rattle.region.specs.Region.{reversed_if};
 ghost use Rattle.region.specs.Rects.{rect_of, rect_in, rects_in, lines_in};
 
 use crate::Rect;
-use band_list::{Interval, Reader, Rows};
-use band_queries::Rectangle;
+use region_bands::{Interval, Reader, Rows};
+use region_queries::Rectangle;
 use std::alloc::AllocError;
 
 fn rect_of(rows: Rows, columns: Interval) -> Rect

@@ -3,11 +3,11 @@
 ghost use Rattle.std.specs.Prelude.{◌≡◌, ℤ, ◌+ℤ◌, ◌&&◌, not, map};
 ghost use Rattle.std.specs.List.{list_any};
 ghost use Rattle.region.specs.RegionView.{coordinate, in_range, moved_rect, leaves_range};
-ghost use Rattle.band_list.specs.Bands.{first_row};
+ghost use Rattle.region_bands.specs.Bands.{first_row};
 ghost use Rattle.region.specs.Rects.{rect_of, rects_in};
 
 use crate::Rect;
-use band_list::{Interval, Reader, Rows};
+use region_bands::{Interval, Reader, Rows};
 
 /// The largest coordinate; the smallest is its negative.
 const LIMIT: i64 = 1 << 20;

@@ -2,7 +2,7 @@
 
 ghost use Rattle.std.specs.Prelude.{◌≡◌, ◌<◌, ◌↔◌, IsTrue, length};
 
-use band_list::{BandList, Reader};
+use region_bands::{BandList, Reader};
 
 /// Whether the first reader has fewer bands to read than the second. Both are read as far as it takes to know.
 pub(crate) fn has_fewer(first: &mut Reader, second: &mut Reader) -> bool

@@ -4,13 +4,13 @@ ghost use Rattle.std.specs.Prelude.{◌≡◌, ◌≢◌, ◌≤◌, ◌+◌, �
 ghost use Rattle.std.specs.Prelude.{int_le, IfOk, IfSome};
 ghost use Rattle.std.specs.Ordering.{int_eq};
 ghost use Rattle.region.specs.Region.{in_rect};
-ghost use Rattle.band_list.specs.Bands.{Band, nothing};
-ghost use Rattle.row_walks.specs.Rows.{IsRow};
-ghost use Rattle.band_walks.specs.Sets.{AreBands, EndBy};
+ghost use Rattle.region_bands.specs.Bands.{Band, nothing};
+ghost use Rattle.region_rows.specs.Rows.{IsRow};
+ghost use Rattle.region_sets.specs.Sets.{AreBands, EndBy};
 ghost use Rattle.region.specs.Rects.{rows_in, columns_in, AreBandsOf, IsStack, IsClosed, stack_has};
 
 use crate::Rect;
-use band_list::{BandList, Interval, Rows};
+use region_bands::{BandList, Interval, Rows};
 use std::alloc::{AllocError, Global};
 
 pub(crate) fn has_places(rect: Rect) -> bool

@@ -220,7 +220,7 @@ impl Scene {
         ensures err { OnErr result (self.new ≡ self.old) }
     {
         let block = checked(&self.config, rect, colours)?;
-        if self.viewers.is_empty() {
+        if colours.is_empty() || self.viewers.is_empty() {
             self.picture.write(block, colours)?;
             return Ok(());
         }

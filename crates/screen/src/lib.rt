@@ -1,4 +1,17 @@
 //! One screen, many viewers, and the events that led to what stands there, where they are kept.
+//!
+//! A viewer opens, asks for the framebuffer, and is sent the place that was painted red beside a black one:
+//!
+//! ```
+//! let mut screen = Screen::new(alloc, config)?; // 2 by 1
+//! screen.connect(1)?;
+//! screen.hear(1, b"RFB 003.008\n\x01\x01")?;
+//! screen.hear(1, b"\x03\x00\x00\x00\x00\x00\x00\x02\x00\x01")?;
+//! screen.paint(Rect { x1: 0, y1: 0, x2: 1, y2: 1 }, &[0xff_0000])?;
+//! if let Some(update) = screen.cut(1)? {
+//!     let bytes = update.encode()?; // 0000 0001 0000 0000 0002 0001 00000000 0000ff00 00000000
+//! }
+//! ```
 #![tactic(auto)]
 
 mod kept_events;

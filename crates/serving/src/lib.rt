@@ -2,6 +2,14 @@
 //! application draws, and is told what the viewers do.
 //!
 //! No clause says what a socket delivers, or that two threads ran: tests over loopback show it.
+//!
+//! A server of one viewer, whole in the crate `follow_pointer`:
+//!
+//! ```
+//! let (shared, mut brush) = Shared::<L>::new(alloc, blank, config)?;
+//! let mut application = Square::at(0, 0); // an Application
+//! let receipts = serve_viewers(rt, alloc, &listener, &shared, &mut brush, 1, &mut application)?;
+//! ```
 #![tactic(auto)]
 
 mod accepting;

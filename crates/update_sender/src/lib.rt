@@ -1,6 +1,16 @@
 //! A screen that threads share: one lock round the screen, one condition on which a viewer's sender waits, the
 //! application's brush, and each viewer's two ends. What is done in one hold of the lock is one event of the screen, or
 //! none.
+//!
+//! A number connects once, whoever draws meanwhile:
+//!
+//! ```
+//! let (shared, mut brush) = Shared::<L>::new(alloc, blank, config)?;
+//! let line = shared.connect(rt, 1)?;
+//! brush.paint(&shared, rt, Rect { x1: 0, y1: 0, x2: 1, y2: 1 }, &[0xff_0000])?;
+//! shared.close(rt, 1)?;
+//! // shared.connect(rt, 1) is refused as NumberInUse from now on
+//! ```
 #![tactic(auto)]
 
 mod brush;

@@ -57,25 +57,10 @@ impl Viewer {
         Ok(Viewer { alloc, standing })
     }
 
-    /// A piece of the viewer's bytes is heard (RFC 6143, 7.1 to 7.5): what it is answered, what it tells the application, and
-    /// why it is heard no further. The desktop's name is what its ServerInit tells it (7.3.2). After an `AllocError` the viewer
-    /// is as it was.
-    pub fn hear(&mut self, name: &[u8], piece: &[u8]) -> Result<Reply, AllocError>
-        requires { length name.now ≤ u32.MAX }
-        ensures reply { (before : List ℕ) → self.old.heard ≡ rest before →
-            IfOk result (λ reply. reply ≡ heard_reply self.old.marks.width self.old.marks.height name.now before piece.now) }
-        ensures viewer { (before : List ℕ) → self.old.heard ≡ rest before →
-            OnOk result (self.new ≡ after_items self.old.marks.width self.old.marks.height (new_items before piece.now)
-            (record self.old { heard = rest (before ++ piece.now) })) }
-        ensures width { self.new.marks.width ≡ self.old.marks.width }
-        ensures height { self.new.marks.height ≡ self.old.marks.height }
-        ensures err { OnErr result (self.new ≡ self.old) }
-    {
-        hear_in(self.alloc, &mut self.standing, &[], name, piece)
-    }
-
-    /// The same, once the viewer is told of the drawing that stands in a log, the first entry's first. After an `AllocError` it is
-    /// not told either. Its marks are made anew once, for the log and the piece.
+    /// The viewer is told of the drawing that stands in a log, the first entry's first, and then a piece of its bytes is heard
+    /// (RFC 6143, 7.1 to 7.5): what it is answered, what it tells the application, and why it is heard no further. The desktop's
+    /// name is what its ServerInit tells it (7.3.2). After an `AllocError` the viewer is as it was. Its marks are made anew once,
+    /// for the log and the piece.
     pub fn hear_after(
         &mut self,
         log: &[LogEntry],
@@ -96,14 +81,8 @@ impl Viewer {
         hear_in(self.alloc, &mut self.standing, log, name, piece)
     }
 
-    /// Whether an update that is cut now would have something to send (`FB_UPDATE_PENDING` of `rfb.h`, and the notices).
-    pub fn is_pending(&self) -> bool
-        ensures { result ≡ (is_open_rest self.now.heard && (not (none_wait self.now.notices) || pending self.now.marks)) }
-    {
-        is_pending(&self.standing, &[])
-    }
-
-    /// The same, once the viewer is told of the drawing that stands in a log, the first entry's first. This takes no memory.
+    /// Whether an update would have something to send (`FB_UPDATE_PENDING` of `rfb.h`, and the notices), if it were cut once the
+    /// viewer is told of the drawing that stands in a log, the first entry's first. This takes no memory.
     pub fn is_pending_after(&self, log: &[LogEntry]) -> bool
         ensures { result ≡ (is_open_rest self.now.heard &&
             (not (none_wait self.now.notices) || pending (viewer_told log.now self.now).marks)) }

@@ -1,10 +1,10 @@
 use Rattle.std.proofs.Common.{◌≡◌, ◌++◌, sym, ◌∙◌, ap, subst, arith}
 use Rattle.std.proofs.lemmas.Result.{on_ok_weaker}
-use Rattle.band_list.specs.Bands.{Bands, Reading, first_row}
-use Rattle.band_walks.specs.Sets.{AreBands}
-use Rattle.band_walks.specs.Room.{Enough, IsGap, start}
-use Rattle.band_walks.specs.GapLemmas.{still_bands, bands_back}
-use Rattle.band_walks.specs.RoomLemmas.{enough_more}
+use Rattle.region_bands.specs.Bands.{Bands, Reading, first_row}
+use Rattle.region_sets.specs.Sets.{AreBands}
+use Rattle.region_sets.specs.Room.{Enough, IsGap, start}
+use Rattle.region_sets.specs.GapLemmas.{still_bands, bands_back}
+use Rattle.region_sets.specs.RoomLemmas.{enough_more}
 use Rattle.region.proofs.make_room.Goals as goal
 
 pub count_room-room-requires-clause-first : goal.count_room-room-requires-clause-first

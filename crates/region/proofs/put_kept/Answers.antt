@@ -1,7 +1,7 @@
 use Rattle.std.proofs.Common.{◌≡◌, ◌++◌, sym, ◌∙◌, ap, subst, arith, inr}
-use Rattle.band_list.specs.Bands.{Bands, Reading, first_row}
-use Rattle.band_walks.specs.Sets.{AreBands, IsKept}
-use Rattle.band_walks.specs.GapLemmas.{still_bands}
+use Rattle.region_bands.specs.Bands.{Bands, Reading, first_row}
+use Rattle.region_sets.specs.Sets.{AreBands, IsKept}
+use Rattle.region_sets.specs.GapLemmas.{still_bands}
 use Rattle.region.proofs.put_kept.Goals as goal
 
 pub keep_bands-requires-clause-empty : goal.keep_bands-requires-clause-empty

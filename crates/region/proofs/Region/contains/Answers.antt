@@ -3,7 +3,7 @@ use Rattle.std.specs.Prelude.{FitsSigned}
 use Rattle.std.specs.Int.{w32}
 use Rattle.std.proofs.lemmas.Int.{to_z-of_z}
 use Rattle.region.specs.Region.{covers}
-use Rattle.band_walks.specs.Sets.{has}
+use Rattle.region_sets.specs.Sets.{has}
 use Rattle.region.proofs.Region.contains.Goals as goal
 use Rattle.region.proofs.BandRectLemmas.{covers_has}
 

@@ -1,7 +1,7 @@
 use Rattle.std.proofs.Common.{◌≡◌, [], ◌++◌, ◌∙◌, ap, subst}
 use Rattle.std.specs.Prelude.{IsTrue, ◌↔◌, slice_get}
 use Rattle.std.specs.Option.{option_map}
-use Rattle.band_list.specs.Bands.{rows_of}
+use Rattle.region_bands.specs.Bands.{rows_of}
 use Rattle.region.proofs.Region.is_empty.Goals as goal
 use Rattle.region.proofs.CallLemmas.{whether_empty}
 

@@ -1,6 +1,6 @@
 use Rattle.std.proofs.Common.{◌++◌, ◌∙◌, ap, refl, sym, subst, inl}
-use Rattle.band_list.specs.Bands.{Reading, first_row}
-use Rattle.band_walks.specs.Sets.{AreBands, IsKept}
+use Rattle.region_bands.specs.Bands.{Reading, first_row}
+use Rattle.region_sets.specs.Sets.{AreBands, IsKept}
 use Rattle.region.specs.Rects.{rects_in}
 use Rattle.region.proofs.Region.keep_in_place.Goals as goal
 use Rattle.region.proofs.CallLemmas.{kept_covers}

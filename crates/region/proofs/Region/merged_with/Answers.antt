@@ -1,7 +1,7 @@
 use Rattle.std.proofs.Common.{◌≡◌, ◌++◌, ◌∙◌, ap, refl, sym, subst}
 use Rattle.std.proofs.lemmas.List.{append-nil}
-use Rattle.band_list.specs.Bands.{Bands, Reading}
-use Rattle.band_walks.specs.Sets.{IsKept}
+use Rattle.region_bands.specs.Bands.{Bands, Reading}
+use Rattle.region_sets.specs.Sets.{IsKept}
 use Rattle.region.specs.Rects.{rects_in}
 use Rattle.region.proofs.Region.merged_with.Goals as goal
 use Rattle.region.proofs.CallLemmas.{kept_covers}

@@ -5,7 +5,7 @@ use Rattle.std.proofs.lemmas.Int.{to_z-of_z}
 use Rattle.std.proofs.lemmas.List.{append-nil}
 use Rattle.region.specs.Region.{covers}
 use Rattle.region.specs.RegionView.{leaves_range}
-use Rattle.band_walks.specs.Sets.{has}
+use Rattle.region_sets.specs.Sets.{has}
 use Rattle.region.specs.Rects.{rects_in}
 use Rattle.region.proofs.Region.offset.Goals as goal
 use Rattle.region.proofs.RangeLemmas.{bands_movable}

@@ -1,5 +1,5 @@
 use Rattle.std.proofs.Common.{◌++◌, ◌≤◌, ap, refl, sym, subst}
-use Rattle.row_walks.specs.declared.Keep.TheVariants.{Either}
+use Rattle.region_rows.specs.declared.Keep.TheVariants.{Either}
 use Rattle.region.specs.Rects.{rects_in}
 use Rattle.region.proofs.Region.or_reserved.Goals as goal
 use Rattle.region.proofs.CallLemmas.{kept_covers}

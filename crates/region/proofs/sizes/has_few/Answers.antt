@@ -1,5 +1,5 @@
 use Rattle.std.proofs.Common.{ap, length, arith}
-use Rattle.band_list.specs.Bands.{Reading}
+use Rattle.region_bands.specs.Bands.{Reading}
 use Rattle.region.proofs.SizeLemmas.{some_left}
 use Rattle.region.proofs.sizes.has_few.Goals as goal
 

@@ -1,4 +1,4 @@
-use Rattle.band_walks.specs.SetLemmas.{other_row}
+use Rattle.region_sets.specs.SetLemmas.{other_row}
 use Rattle.region.proofs.stacking.goes_on_last.Goals as goal
 
 pub returns-then-touches_last : goal.returns-then-touches_last

@@ -3,7 +3,7 @@ use Rattle.std.specs.Prelude.{FitsSigned}
 use Rattle.std.specs.Int.{w32}
 use Rattle.std.specs.Ordering.{int_eq}
 use Rattle.std.proofs.lemmas.Int.{to_z-of_z}
-use Rattle.band_walks.specs.SetLemmas.{ends_elsewhere, none_last}
+use Rattle.region_sets.specs.SetLemmas.{ends_elsewhere, none_last}
 use Rattle.region.proofs.stacking.touches_last.Goals as goal
 
 pub returns-in-Some : goal.returns-in-Some

@@ -1,5 +1,0 @@
-use Rattle.band_walks.proofs.StayLemmas.{not_true}
-use Rattle.band_walks.proofs.first_stays.Goals as goal
-
-pub returns-then-keeps-clause-apart : goal.returns-then-keeps-clause-apart
-returns-then-keeps-clause-apart c = λ e. c.first_goes_on.ensures.no (not_true c.first_goes_on.result e)

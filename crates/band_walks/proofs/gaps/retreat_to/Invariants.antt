@@ -1,9 +1,0 @@
-use Rattle.std.specs.Prelude.{length}
-use Rattle.band_walks.specs.Room.{GapMoved}
-use Rattle.band_walks.proofs.gaps.retreat_to.Given as goal
-
-abbrev pub invariant-bands : goal.invariant-bands
-invariant-bands l = GapMoved l.fn.bands l.bands
-
-abbrev pub decreases-bands : goal.decreases-bands
-decreases-bands l = length l.bands.above

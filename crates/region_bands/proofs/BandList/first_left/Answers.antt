@@ -1,0 +1,16 @@
+use Rattle.std.proofs.Common.{rules}
+use Rattle.std.specs.Prelude.{FitsSigned}
+use Rattle.std.specs.Int.{w32}
+use Rattle.std.proofs.lemmas.Int.{to_z-of_z}
+use Rattle.region_bands.proofs.CallLemmas.{left_live, left_is}
+use Rattle.region_bands.proofs.BandList.first_left.Goals as goal
+
+pub get-span-requires : goal.get-span-requires
+get-span-requires c = left_live c.self.inside.spans c.self.inside.lists c.self.inside.gap c.self.inside.left c.args.self.now c.self.invariant c.self.view_is c.in_ok-self.field-0 c.in_ok-self.was
+
+pub returns : goal.returns
+returns c =
+    let start : FitsSigned w32 c.get-span.result.start = search rules in
+    let stop : FitsSigned w32 c.get-span.result.stop = search rules in
+    simp to_z-of_z
+    (left_is c.self.inside.spans c.self.inside.lists c.self.inside.gap c.self.inside.left c.args.self.now c.self.invariant c.self.view_is c.in_ok-self.field-0 c.in_ok-self.was c.get-span.result c.get-span.ensures)

@@ -1,0 +1,17 @@
+use Rattle.region_bands.proofs.SeenLemmas.{seen}
+use Rattle.region_bands.proofs.StepLemmas.{first_there}
+use Rattle.region_bands.proofs.CallLemmas.{left_live, skipped_shows}
+use Rattle.region_bands.proofs.BandList.skip_left.Goals as goal
+
+pub next-self-inside-requires : goal.next-self-inside-requires
+next-self-inside-requires c = left_live c.self.inside.spans c.self.inside.lists c.self.inside.gap c.self.inside.left c.args.self.now c.self.invariant c.self.view_is c.in-Some.at c.in-Some.is
+
+pub invariant_of-self : goal.invariant_of-self
+invariant_of-self c =
+    let there = first_there c.args.self.now.left c.requires in
+    (_, skipped_shows c.self.inside.spans c.self.inside.lists c.self.inside.gap c.self.inside.left c.args.self.now c.self.invariant c.self.view_is c.in-Some.at c.in-Some.is c.next-self-inside.result c.next-self-inside.ensures there.0 there.1 there.2)
+
+pub returns : goal.returns
+returns c = λ first rest left_is.
+    seen c.self.inside.spans c.self.inside.lists c.self.inside.gap c.next-self-inside.result _
+    (skipped_shows c.self.inside.spans c.self.inside.lists c.self.inside.gap c.self.inside.left c.args.self.now c.self.invariant c.self.view_is c.in-Some.at c.in-Some.is c.next-self-inside.result c.next-self-inside.ensures first rest left_is)
