@@ -149,10 +149,11 @@ impl Framebuffer {
             record self.old { colours = written self.old.width self.old.height (block_rect block) colours.now self.old.colours }) }
         ensures err { OnErr result (self.new ≡ self.old) }
     {
+        let has_whole_rows = block.columns == self.width as usize;
         if colours.is_empty() {
             return Ok(());
         }
-        if block.columns == self.width as usize && self.shares(block) {
+        if has_whole_rows && self.shares(block) {
             self.put_whole_rows(block, colours)
         } else {
             self.write_in_rows(block, colours)

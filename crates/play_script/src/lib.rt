@@ -7,6 +7,7 @@ mod lines;
 mod texts;
 mod words;
 
+pub use hex::{hex_bytes, hex_colours};
 pub use laws::{answers_are_printed, printed_is_read};
 pub use lines::{Line, parse_line};
 pub use texts::{answer_text, bad_line_text, ok_text, refusal_text};

@@ -5,7 +5,7 @@ ghost use Rattle.scene.specs.Alone.{config_refusal, owner_of};
 ghost use Rattle.scene.specs.Answers.{is_owner};
 ghost use Rattle.receipts.specs.Histories.{bytes_of};
 
-use scene::{Config, Event, Listed, Scene, one_viewer_is_alone};
+use scene::{Config, Event, Scene, one_viewer_is_alone};
 use std::alloc::{AllocError, Global};
 
 /// The bytes that a viewer is to be sent.
@@ -19,7 +19,7 @@ pub fn bytes_of(
     ensures { IfOk result (λ bytes. bytes.items ≡ bytes_of config.now viewer history.now) }
 {
     one_viewer_is_alone();
-    let config = copy_of(alloc, config)?;
+    let config = config.try_clone(alloc)?;
     // The configuration is within its limits, so only memory can be wanting.
     let mut scene = Scene::new(alloc, config).map_err(|_| AllocError)?;
     let mut sent = Vec::new(alloc);
@@ -30,19 +30,6 @@ pub fn bytes_of(
         }
     }
     Ok(sent)
-}
-
-/// The same configuration again.
-fn copy_of(alloc: Global, config: &Config) -> Result<Config, AllocError>
-    ensures { IfOk result (λ copy. copy ≡ config.now) }
-{
-    Ok(Config {
-        width: config.width,
-        height: config.height,
-        name: Listed::from_slice(alloc, config.name.as_slice())?,
-        rects_per_update: config.rects_per_update,
-        history: config.history,
-    })
 }
 
 /// Whether an event is a drawing call or the viewer's own.

@@ -16,10 +16,10 @@ mod ends;
 mod moves;
 mod seams;
 
-use region_bands::{BandList, Reader};
-use region_queries::Rectangle;
 use ends::{pop_bottom, pop_top};
 use moves::{move_row, moved_rows};
+use region_bands::{BandList, Reader};
+use region_queries::Rectangle;
 use region_rows::copy_other;
 pub use seams::join_seam;
 

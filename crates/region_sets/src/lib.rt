@@ -21,10 +21,10 @@ mod gaps;
 mod merges;
 mod strips;
 
-use region_bands::{BandList, Reader, Rows};
 pub use counts::count_room;
 pub use gaps::move_gap;
 pub use merges::merge_bands;
+use region_bands::{BandList, Reader, Rows};
 use region_rows::{Keep, copy_left, copy_other, count_row, make_row, same_kept, skip_row};
 use strips::{Strip, bands_start, drop_ended, enter_strip, leave_strip, next_strip, pass_ended};
 

@@ -2,6 +2,8 @@
 //! nothing of how it came to that.
 #![tactic(auto)]
 
+ghost use Rattle.std.specs.Prelude.{◌≡◌, IfOk};
+
 mod answers;
 mod arriving;
 mod drawing;
@@ -17,7 +19,7 @@ pub use listed::Listed;
 pub use messages::{Fault, Input};
 pub use region::{Rect, Region, RegionError};
 pub use scene::Scene;
-use std::alloc::{AllocError, AllocFailed};
+use std::alloc::{AllocError, AllocFailed, Global};
 use thiserror::Error;
 pub use viewer::Update;
 
@@ -34,6 +36,21 @@ pub struct Config {
     pub rects_per_update: u32,
     /// Whether the events are kept.
     pub history: History,
+}
+
+impl Config {
+    /// The same configuration once more. `AllocError` where the room for its name is refused.
+    pub fn try_clone(&self, alloc: Global) -> Result<Config, AllocError>
+        ensures { IfOk result (λ config. config ≡ self.now) }
+    {
+        Ok(Config {
+            width: self.width,
+            height: self.height,
+            name: Listed::from_slice(alloc, self.name.as_slice())?,
+            rects_per_update: self.rects_per_update,
+            history: self.history,
+        })
+    }
 }
 
 /// Whether a screen keeps the events that it accepted.

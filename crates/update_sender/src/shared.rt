@@ -11,7 +11,6 @@ use crate::brush::Brush;
 use crate::desk::Desk;
 use crate::ends::{Line, Listener, Speaker};
 use crate::turn::Turn;
-use listed::Listed;
 use screen::{Answer, Config, Screen, ScreenError, Update};
 use std::alloc::{AllocError, Global};
 use std::marker::Model;
@@ -51,19 +50,6 @@ pub(crate) struct Heard {
     has_turn: bool,
 }
 
-/// The same configuration once more.
-fn copy_of(alloc: Global, config: &Config) -> Result<Config, AllocError>
-    ensures { IfOk result (λ copy. copy ≡ config.now) }
-{
-    Ok(Config {
-        width: config.width,
-        height: config.height,
-        name: Listed::from_slice(alloc, config.name.as_slice())?,
-        rects_per_update: config.rects_per_update,
-        history: config.history,
-    })
-}
-
 impl<L: Ledger> Shared<L> {
     /// A screen behind a lock, and its one brush. The blank is one of the ledger that the type names; the drawing calls are
     /// counted in it. Refused as `Screen::new` is.
@@ -79,7 +65,7 @@ impl<L: Ledger> Shared<L> {
         ensures shared { IfOk result (λ made. made.0 ≡ config) }
         ensures brush { IfOk result (λ made. made.1 ≡ first_of config.history) }
     {
-        let copy = copy_of(alloc, &config);
+        let copy = config.try_clone(alloc);
         let screen = Screen::new(alloc, config)?;
         let config = copy?;
         let (book, share) = blank.open::<L>();

@@ -66,12 +66,7 @@ fn in_hextile(alloc: Global) -> Result<Vec<u8>, AllocError> {
         w: 2,
         h: 2,
     };
-    encode_hextile(
-        &mut out,
-        area,
-        &[0xff_ffff; 4],
-        &PixelFormat::server(),
-    )?;
+    encode_hextile(&mut out, area, &[0xff_ffff; 4], &PixelFormat::server())?;
     Ok(out)
 }
 

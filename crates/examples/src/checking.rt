@@ -1,0 +1,188 @@
+//! What is checked of a transcript. One whose first line isn't `encode`, `viewer` or `args` is a script of `vncdemo play`.
+
+use crate::difference::{Difference, compare, make_difference};
+use crate::playing::play;
+use crate::replaying::{check_history, check_pieces, check_run};
+use crate::script::{Script, played, script_of, text_of};
+use crate::transcripts::{Exchange, Transcript};
+use crate::viewing::Viewing;
+use crate::watching::check_shown;
+use crate::{commands, encoding};
+use screen::{Screen, ScreenError};
+use std::alloc::{AllocError, Global};
+
+/// A transcript ends with this status.
+fn check_status(
+    alloc: Global,
+    transcript: &Transcript<'_>,
+    status: u8,
+) -> Result<Option<Difference>, AllocError> {
+    let given = format!(in alloc; "status {status}")?;
+    if transcript.ending == given.as_str() {
+        return Ok(None);
+    }
+    let wanted = transcript.ending;
+    Ok(Some(make_difference(alloc, "played", transcript.line, wanted, &given)?))
+}
+
+/// What `play` prints of a script, and its status.
+fn check_played(
+    alloc: Global,
+    transcript: &Transcript<'_>,
+) -> Result<Option<Difference>, AllocError> {
+    let script = text_of(alloc, &transcript.exchanges)?;
+    let mut printed = Vec::new(alloc);
+    let status = play(alloc, &script, &mut printed);
+    let text = str::from_utf8(&printed).unwrap_or("(no text)");
+    let wanted = played(alloc, &transcript.exchanges)?;
+    match compare(alloc, "played", &wanted, text)? {
+        Some(found) => Ok(Some(found)),
+        None => check_status(alloc, transcript, status),
+    }
+}
+
+/// The ways in which the events of a script are done again.
+#[derive(Clone, Copy)]
+enum Way {
+    Run,
+    History,
+    Pieces,
+    Shown,
+}
+
+fn check_way(
+    alloc: Global,
+    transcript: &Transcript<'_>,
+    script: &Script,
+    way: Way,
+) -> Result<Option<Difference>, ScreenError> {
+    match way {
+        Way::Run => check_run(alloc, transcript, script),
+        Way::History => check_history(alloc, transcript, script),
+        Way::Pieces => check_pieces(alloc, transcript, script),
+        Way::Shown => check_shown(alloc, transcript, script),
+    }
+}
+
+fn check_replayed(
+    alloc: Global,
+    transcript: &Transcript<'_>,
+    script: &Script,
+) -> Result<Option<Difference>, ScreenError> {
+    for way in [Way::Run, Way::History, Way::Pieces, Way::Shown] {
+        let found = check_way(alloc, transcript, script, way)?;
+        if found.is_some() {
+            return Ok(found);
+        }
+    }
+    Ok(None)
+}
+
+/// Whether a script's screen is accepted.
+fn is_accepted(alloc: Global, script: &Script) -> Result<bool, ScreenError> {
+    match Screen::new(alloc, script.config.try_clone(alloc)?) {
+        Ok(_) => Ok(true),
+        Err(ScreenError::OutOfMemory) => Err(ScreenError::OutOfMemory),
+        Err(_) => Ok(false),
+    }
+}
+
+fn check_script(
+    alloc: Global,
+    transcript: &Transcript<'_>,
+) -> Result<Option<Difference>, ScreenError> {
+    let found = check_played(alloc, transcript)?;
+    if found.is_some() {
+        return Ok(found);
+    }
+    match script_of(alloc, &transcript.exchanges)? {
+        Some(script) if is_accepted(alloc, &script)? => check_replayed(alloc, transcript, &script),
+        _ => Ok(None),
+    }
+}
+
+/// Who answers a transcript's lines.
+#[derive(Drop)]
+enum Answerer {
+    Encoder,
+    Viewer(Viewing),
+    CommandLine,
+}
+
+impl Answerer {
+    fn answer(&mut self, alloc: Global, words: &[&str]) -> Result<String, AllocError> {
+        match (self, words) {
+            (Answerer::Encoder, ["encode", words @ ..]) => encoding::answer(alloc, words),
+            (Answerer::CommandLine, ["args", words @ ..]) => commands::answer(alloc, words),
+            (Answerer::Viewer(viewing), words) => viewing.answer(words),
+            _ => String::from_str(alloc, "bad line\n"),
+        }
+    }
+
+    fn answer_line(&mut self, alloc: Global, said: &str) -> Result<String, AllocError> {
+        if said.is_empty() || said.starts_with("#") {
+            return Ok(String::new(alloc));
+        }
+        let words: Vec<&str> = said.split(' ').collect(alloc)?;
+        self.answer(alloc, &words)
+    }
+}
+
+/// Each line is answered as it is written.
+fn check_lines(
+    alloc: Global,
+    transcript: &Transcript<'_>,
+    tried: &'static str,
+    mut answerer: Answerer,
+) -> Result<Option<Difference>, AllocError> {
+    for exchange in &transcript.exchanges {
+        let text = answerer.answer_line(alloc, exchange.said)?;
+        let found = compare(alloc, tried, &[exchange], &text)?;
+        if found.is_some() {
+            return Ok(found);
+        }
+    }
+    check_status(alloc, transcript, 0)
+}
+
+/// A test viewer answers the same, however the bytes are cut that it is told.
+fn check_viewing(
+    alloc: Global,
+    transcript: &Transcript<'_>,
+) -> Result<Option<Difference>, AllocError> {
+    for (length, tried) in [
+        (usize::MAX, "told"),
+        (1, "told byte by byte"),
+        (3, "told in pieces of 3"),
+    ] {
+        let answerer = Answerer::Viewer(Viewing::new(alloc, length));
+        let found = check_lines(alloc, transcript, tried, answerer)?;
+        if found.is_some() {
+            return Ok(found);
+        }
+    }
+    Ok(None)
+}
+
+/// The first word that a transcript says, but for comments.
+fn first_word<'a>(exchanges: &[Exchange<'a>]) -> &'a str {
+    for exchange in exchanges {
+        if !exchange.said.is_empty() && !exchange.said.starts_with("#") {
+            return exchange.said.split(' ').next().unwrap_or("");
+        }
+    }
+    ""
+}
+
+/// Where a transcript isn't as written, if it isn't.
+pub fn check(
+    alloc: Global,
+    transcript: &Transcript<'_>,
+) -> Result<Option<Difference>, ScreenError> {
+    match first_word(&transcript.exchanges) {
+        "encode" => Ok(check_lines(alloc, transcript, "encoded", Answerer::Encoder)?),
+        "viewer" => Ok(check_viewing(alloc, transcript)?),
+        "args" => Ok(check_lines(alloc, transcript, "chosen", Answerer::CommandLine)?),
+        _ => check_script(alloc, transcript),
+    }
+}

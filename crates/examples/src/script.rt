@@ -1,0 +1,138 @@
+//! A transcript as a screen and its events.
+
+use crate::transcripts::{Exchange, Transcript};
+use play_script::{Line, parse_line};
+use screen::{Config, Event};
+use std::alloc::{AllocError, Global};
+
+/// A line `shows V`: what viewer V shows once the events before it have happened.
+#[derive(Clone, Copy)]
+pub struct Look {
+    pub viewer: u64,
+    /// How many events come before.
+    pub events: usize,
+    /// Which exchange it is.
+    pub exchange: usize,
+}
+
+/// A script that makes a screen.
+#[derive(Drop)]
+pub struct Script {
+    pub config: Config,
+    pub events: Vec<Event>,
+    /// The exchange of each event.
+    pub exchanges: Vec<usize>,
+    pub looks: Vec<Look>,
+}
+
+/// The viewer of a line `shows V`.
+pub fn look_of(said: &str) -> Option<u64> {
+    match said.strip_prefix("shows ")?.parse::<u64>() {
+        Ok(viewer) => Some(viewer),
+        Err(_) => None,
+    }
+}
+
+/// The text of a script: the lines that a transcript says, but for the looks.
+pub fn text_of(alloc: Global, exchanges: &[Exchange<'_>]) -> Result<String, AllocError> {
+    let mut text = String::new(alloc);
+    for exchange in exchanges {
+        if look_of(exchange.said).is_none() {
+            text.push_str(exchange.said)?;
+            text.push('\n')?;
+        }
+    }
+    Ok(text)
+}
+
+/// The exchanges that `play` answers.
+pub fn played<'t, 'a>(
+    alloc: Global,
+    exchanges: &'t [Exchange<'a>],
+) -> Result<Vec<&'t Exchange<'a>>, AllocError> {
+    let mut played = Vec::new(alloc);
+    for exchange in exchanges {
+        if look_of(exchange.said).is_none() {
+            played.push(exchange)?;
+        }
+    }
+    Ok(played)
+}
+
+/// The exchanges of events, by their places in the list of events.
+pub fn exchanges_of<'t, 'a>(
+    alloc: Global,
+    transcript: &'t Transcript<'a>,
+    places: &[usize],
+) -> Result<Vec<&'t Exchange<'a>>, AllocError> {
+    let mut exchanges = Vec::new(alloc);
+    for place in places {
+        if let Some(exchange) = transcript.exchanges.get(*place) {
+            exchanges.push(exchange)?;
+        }
+    }
+    Ok(exchanges)
+}
+
+/// What has been read of a script.
+#[derive(Drop)]
+struct Read {
+    config: Option<Config>,
+    events: Vec<Event>,
+    exchanges: Vec<usize>,
+    looks: Vec<Look>,
+}
+
+impl Read {
+    /// The next line, which isn't a look. Whether the script goes on behind it.
+    fn take(&mut self, exchange: usize, line: Line) -> Result<bool, AllocError> {
+        match line {
+            Line::Skipped => Ok(true),
+            Line::Start(config) if self.config.is_none() => {
+                self.config = Some(config);
+                Ok(true)
+            }
+            Line::Do(event) if self.config.is_some() => {
+                self.events.push(event)?;
+                self.exchanges.push(exchange)?;
+                Ok(true)
+            }
+            _ => Ok(false),
+        }
+    }
+
+    fn look(&mut self, exchange: usize, viewer: u64) -> Result<(), AllocError> {
+        self.looks.push(Look {
+            viewer,
+            events: self.events.len(),
+            exchange,
+        })?;
+        Ok(())
+    }
+}
+
+/// The screen and the events of a script, up to its end or the first line that is bad; None where it makes no screen.
+pub fn script_of(alloc: Global, exchanges: &[Exchange<'_>]) -> Result<Option<Script>, AllocError> {
+    let mut read = Read {
+        config: None,
+        events: Vec::new(alloc),
+        exchanges: Vec::new(alloc),
+        looks: Vec::new(alloc),
+    };
+    for (at, exchange) in exchanges.iter().enumerate() {
+        if let Some(viewer) = look_of(exchange.said) {
+            read.look(at, viewer)?;
+        } else if !read.take(at, parse_line(alloc, exchange.said.as_bytes())?)? {
+            break;
+        }
+    }
+    Ok(match read.config {
+        Some(config) => Some(Script {
+            config,
+            events: read.events,
+            exchanges: read.exchanges,
+            looks: read.looks,
+        }),
+        None => None,
+    })
+}

@@ -1,0 +1,126 @@
+//! A file of transcripts: blocks of lines, parted by empty lines. A line behind `> ` is said, the lines under it are what is
+//! answered to it, and the last line of a block is `status N`.
+
+use std::alloc::{AllocError, AllocFailed, Global};
+use std::mem;
+
+/// A line that is said, and what is answered to it.
+#[derive(Drop)]
+pub struct Exchange<'a> {
+    /// The number of the said line in its file, from 1.
+    pub line: usize,
+    pub said: &'a str,
+    /// The lines under it.
+    pub answered: Vec<&'a str>,
+}
+
+/// Lines that are said one after the other, and how that ends.
+#[derive(Drop)]
+pub struct Transcript<'a> {
+    pub exchanges: Vec<Exchange<'a>>,
+    /// The last line: `status` and a number.
+    pub ending: &'a str,
+    /// The last line's number in its file.
+    pub line: usize,
+}
+
+/// Why a file has no list of transcripts.
+#[derive(Clone, Copy, Debug, PartialEq, Eq)]
+pub enum Malformed {
+    /// The line with this number can't stand where it stands.
+    Line(usize),
+    OutOfMemory,
+}
+
+impl From<AllocError> for Malformed {
+    fn from(_error: AllocError) -> Malformed {
+        Malformed::OutOfMemory
+    }
+}
+
+impl<T: Drop> From<AllocFailed<T>> for Malformed {
+    fn from(_error: AllocFailed<T>) -> Malformed {
+        Malformed::OutOfMemory
+    }
+}
+
+/// What has been read of a file: whole transcripts, and the beginning of one.
+#[derive(Drop)]
+struct Read<'a> {
+    alloc: Global,
+    whole: Vec<Transcript<'a>>,
+    begun: Vec<Exchange<'a>>,
+}
+
+/// What is said in a line, if it is a said one. `>` alone says an empty line.
+fn said_in(text: &str) -> Option<&str> {
+    if text == ">" {
+        return Some("");
+    }
+    text.strip_prefix("> ")
+}
+
+impl<'a> Read<'a> {
+    fn say(&mut self, line: usize, said: &'a str) -> Result<(), Malformed> {
+        let answered = Vec::new(self.alloc);
+        self.begun.push(Exchange {
+            line,
+            said,
+            answered,
+        })?;
+        Ok(())
+    }
+
+    fn answer(&mut self, line: usize, text: &'a str) -> Result<(), Malformed> {
+        match self.begun.last_mut() {
+            Some(exchange) => {
+                exchange.answered.push(text)?;
+                Ok(())
+            }
+            None => Err(Malformed::Line(line)),
+        }
+    }
+
+    fn end(&mut self, line: usize, ending: &'a str) -> Result<(), Malformed> {
+        let exchanges = mem::replace(&mut self.begun, Vec::new(self.alloc));
+        self.whole.push(Transcript {
+            exchanges,
+            ending,
+            line,
+        })?;
+        Ok(())
+    }
+
+    /// The next line of the file.
+    fn take(&mut self, line: usize, text: &'a str) -> Result<(), Malformed> {
+        if let Some(said) = said_in(text) {
+            return self.say(line, said);
+        }
+        if text.starts_with("status ") && !self.begun.is_empty() {
+            return self.end(line, text);
+        }
+        if text.is_empty() && self.begun.is_empty() {
+            return Ok(());
+        }
+        self.answer(line, text)
+    }
+}
+
+/// The transcripts of a file's text.
+pub fn transcripts(alloc: Global, text: &str) -> Result<Vec<Transcript<'_>>, Malformed> {
+    let mut read = Read {
+        alloc,
+        whole: Vec::new(alloc),
+        begun: Vec::new(alloc),
+    };
+    let mut line = 0usize;
+    for text in text.split('\n') {
+        line = line.saturating_add(1);
+        read.take(line, text)?;
+    }
+    if read.begun.is_empty() {
+        Ok(read.whole)
+    } else {
+        Err(Malformed::Line(line))
+    }
+}

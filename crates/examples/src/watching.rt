@@ -1,0 +1,338 @@
+//! What viewers show while a script is played: each byte that a viewer is sent is told to a test viewer, which knows RFC 6143 and
+//! what the viewer said.
+
+use crate::difference::{Difference, compare, make_difference};
+use crate::script::{Look, Script};
+use crate::showing::put_places;
+use crate::transcripts::Transcript;
+use messages::{Ear, Item};
+use pixel_translate::{Area, translate};
+use screen::{Answer, Event, Screen, ScreenError};
+use std::alloc::{AllocError, Global};
+use std::collections::BTreeMap;
+use test_viewer::Shown;
+
+/// A viewer's own side of its connection.
+#[derive(Drop)]
+struct Watcher {
+    alloc: Global,
+    /// What the viewer said, read as the server reads it.
+    ear: Ear,
+    /// What came before the viewer said its version.
+    greeting: Vec<u8>,
+    shown: Option<Shown>,
+}
+
+impl Watcher {
+    fn new(alloc: Global) -> Watcher {
+        Watcher {
+            alloc,
+            ear: Ear::new(alloc),
+            greeting: Vec::new(alloc),
+            shown: None,
+        }
+    }
+
+    /// The server says these bytes.
+    fn told(&mut self, bytes: &[u8]) -> Result<(), AllocError> {
+        match &mut self.shown {
+            Some(shown) => {
+                // A fault stays, and is looked at by `is_well`.
+                let _ = shown.told(bytes);
+                Ok(())
+            }
+            None => self.greeting.extend_from_slice(bytes),
+        }
+    }
+
+    fn take(&mut self, item: &Item) {
+        if let Item::Version(version) = item {
+            let mut shown = Shown::new(self.alloc, *version);
+            let _ = shown.told(&self.greeting);
+            self.shown = Some(shown);
+            return;
+        }
+        let Some(shown) = &mut self.shown else {
+            return;
+        };
+        match item {
+            Item::Request { incremental, area } => {
+                shown.request(*area, *incremental);
+            }
+            Item::Format(format) => {
+                shown.format(format);
+            }
+            _ => {}
+        }
+    }
+
+    /// The viewer says these bytes, and is answered those.
+    fn say(&mut self, piece: &[u8], answered: &[u8]) -> Result<(), AllocError> {
+        let heard = self.ear.feed(piece)?;
+        for item in heard.items.as_slice() {
+            self.take(item);
+        }
+        self.told(answered)
+    }
+
+    /// Whether all that was told is legal.
+    fn is_well(&mut self) -> bool {
+        match &mut self.shown {
+            Some(shown) => shown.told(b"").is_ok(),
+            None => true,
+        }
+    }
+}
+
+/// A screen, and the live viewers by number.
+#[derive(Drop)]
+struct World {
+    alloc: Global,
+    screen: Screen,
+    watchers: BTreeMap<u64, Watcher>,
+}
+
+impl World {
+    fn connect(&mut self, viewer: u64, greeting: &[u8]) -> Result<(), AllocError> {
+        let mut watcher = Watcher::new(self.alloc);
+        watcher.told(greeting)?;
+        self.watchers.insert(viewer, watcher)?;
+        Ok(())
+    }
+
+    /// What an accepted event means for its viewer.
+    fn follow(&mut self, event: &Event, answer: &Answer) -> Result<(), AllocError> {
+        let bytes = answer.bytes.as_slice();
+        match event {
+            Event::Connect { viewer } => self.connect(*viewer, bytes),
+            Event::Hear { viewer, piece } => match self.watchers.get_mut(viewer) {
+                Some(watcher) => watcher.say(piece.as_slice(), bytes),
+                None => Ok(()),
+            },
+            Event::Cut { viewer } => match self.watchers.get_mut(viewer) {
+                Some(watcher) => watcher.told(bytes),
+                None => Ok(()),
+            },
+            Event::Close { viewer } => {
+                self.watchers.remove(viewer);
+                Ok(())
+            }
+            _ => Ok(()),
+        }
+    }
+
+    fn apply(&mut self, event: &Event) -> Result<(), AllocError> {
+        let answer = self.screen.apply(event)?;
+        if answer.refused.is_some() {
+            return Ok(());
+        }
+        self.follow(event, &answer)
+    }
+
+    /// A viewer that was told what is no message, if there is one.
+    fn unwell(&mut self) -> Option<u64> {
+        for (viewer, watcher) in self.watchers.iter_mut() {
+            if !watcher.is_well() {
+                return Some(*viewer);
+            }
+        }
+        None
+    }
+
+    /// What a viewer shows, a line a row.
+    fn picture(&self, viewer: u64) -> Result<String, AllocError> {
+        let mut text = String::new(self.alloc);
+        if let Some(watcher) = self.watchers.get(&viewer)
+            && let Some(shown) = &watcher.shown
+        {
+            put_places(&mut text, shown, self.screen.width(), self.screen.height())?;
+        }
+        Ok(text)
+    }
+}
+
+/// The area of a whole screen, whose sides are at most 8192.
+fn whole(screen: &Screen) -> Area {
+    Area {
+        x: 0,
+        y: 0,
+        w: u16::try_from(screen.width()).unwrap_or(u16::MAX),
+        h: u16::try_from(screen.height()).unwrap_or(u16::MAX),
+    }
+}
+
+/// So many updates take more than any script leaves owed.
+const MOST_UPDATES: u32 = 1 << 20;
+
+/// A viewer asks for what changed. Whether an update came, which it read.
+fn ask(screen: &mut Screen, viewer: u64, shown: &mut Shown) -> Result<bool, ScreenError> {
+    let request = shown.request(whole(screen), true);
+    screen.hear(viewer, &request)?;
+    match screen.cut(viewer)? {
+        Some(update) => {
+            let _ = shown.told(&update.encode()?);
+            Ok(true)
+        }
+        None => Ok(false),
+    }
+}
+
+/// A viewer asks for what changed until nothing is owed to it.
+fn catch_up(screen: &mut Screen, viewer: u64, shown: &mut Shown) -> Result<(), ScreenError> {
+    for _ in 0..MOST_UPDATES {
+        if !ask(screen, viewer, shown)? {
+            break;
+        }
+    }
+    Ok(())
+}
+
+/// Whether a place shows the picture's colour, in the format in which it was read.
+fn shows_colour(screen: &Screen, shown: &Shown, x: u32, y: u32) -> bool {
+    match (shown.place(x, y), screen.colour(x, y)) {
+        (Some((format, pixel)), Some(colour)) => pixel == translate(&format, colour),
+        _ => false,
+    }
+}
+
+/// The first place that doesn't.
+fn first_wrong(screen: &Screen, shown: &Shown) -> Option<(u32, u32)> {
+    for y in 0..screen.height() {
+        for x in 0..screen.width() {
+            if !shows_colour(screen, shown, x, y) {
+                return Some((x, y));
+            }
+        }
+    }
+    None
+}
+
+const SHOWN: &str = "by what viewers show";
+
+/// Whether a viewer that is open said its last message whole, so that it can ask for what changed.
+fn can_ask(screen: &Screen, ear: &Ear, shown: &mut Shown) -> Result<bool, AllocError> {
+    let mut ear = ear.try_clone()?;
+    let heard = ear.feed(&shown.request(whole(screen), true))?;
+    Ok(matches!(
+        heard.items.as_slice(),
+        [Item::Request { incremental: true, area }] if *area == whole(screen),
+    ))
+}
+
+/// A viewer that was told all that is owed to it shows the picture.
+fn check_viewer(
+    alloc: Global,
+    screen: &mut Screen,
+    viewer: u64,
+    watcher: &mut Watcher,
+    line: usize,
+) -> Result<Option<Difference>, ScreenError> {
+    let Some(shown) = &mut watcher.shown else {
+        return Ok(None);
+    };
+    if !can_ask(screen, &watcher.ear, shown)? {
+        return Ok(None);
+    }
+    catch_up(screen, viewer, shown)?;
+    match first_wrong(screen, shown) {
+        Some((x, y)) => {
+            let wanted = format!(in alloc;
+                "viewer {viewer} shows the picture's colour at {x} {y}"
+            )?;
+            Ok(Some(make_difference(alloc, SHOWN, line, &wanted, "it does not")?))
+        }
+        None => Ok(None),
+    }
+}
+
+/// All viewers show the picture once nothing is owed to them.
+fn check_viewers(
+    alloc: Global,
+    world: &mut World,
+    line: usize,
+) -> Result<Option<Difference>, ScreenError> {
+    for (viewer, watcher) in world.watchers.iter_mut() {
+        let found = check_viewer(alloc, &mut world.screen, *viewer, watcher, line)?;
+        if found.is_some() {
+            return Ok(found);
+        }
+    }
+    Ok(None)
+}
+
+/// What a viewer shows is what is written under a look.
+fn check_look(
+    world: &World,
+    transcript: &Transcript<'_>,
+    look: Look,
+) -> Result<Option<Difference>, AllocError> {
+    let Some(exchange) = transcript.exchanges.get(look.exchange) else {
+        return Ok(None);
+    };
+    let text = world.picture(look.viewer)?;
+    compare(world.alloc, SHOWN, &[exchange], &text)
+}
+
+/// The looks that come behind so many events.
+fn check_looks(
+    world: &World,
+    transcript: &Transcript<'_>,
+    script: &Script,
+    events: usize,
+) -> Result<Option<Difference>, AllocError> {
+    for look in &script.looks {
+        if look.events == events {
+            let found = check_look(world, transcript, *look)?;
+            if found.is_some() {
+                return Ok(found);
+            }
+        }
+    }
+    Ok(None)
+}
+
+/// The looks, as the events happen; and that no viewer is told what is no message.
+fn check_events(
+    world: &mut World,
+    transcript: &Transcript<'_>,
+    script: &Script,
+) -> Result<Option<Difference>, ScreenError> {
+    for (at, event) in script.events.iter().enumerate() {
+        let found = check_looks(world, transcript, script, at)?;
+        if found.is_some() {
+            return Ok(found);
+        }
+        world.apply(event)?;
+        if let Some(viewer) = world.unwell() {
+            let wanted = format!(in world.alloc; "messages for viewer {viewer}")?;
+            let line = transcript.line;
+            let found = make_difference(world.alloc, SHOWN, line, &wanted, "no messages")?;
+            return Ok(Some(found));
+        }
+    }
+    Ok(check_looks(world, transcript, script, script.events.len())?)
+}
+
+/// Whether the viewers are told of all that an event draws.
+fn is_told(event: &Event) -> bool {
+    !matches!(event, Event::Write { .. } | Event::ScheduleCopy { .. })
+}
+
+/// What viewers show while a script is played, and that they show the picture behind it, where they are told of all that is
+/// drawn.
+pub fn check_shown(
+    alloc: Global,
+    transcript: &Transcript<'_>,
+    script: &Script,
+) -> Result<Option<Difference>, ScreenError> {
+    let mut world = World {
+        alloc,
+        screen: Screen::new(alloc, script.config.try_clone(alloc)?)?,
+        watchers: BTreeMap::new(alloc),
+    };
+    let found = check_events(&mut world, transcript, script)?;
+    if found.is_some() || !script.events.iter().all(is_told) {
+        return Ok(found);
+    }
+    check_viewers(alloc, &mut world, transcript.line)
+}
