@@ -58,7 +58,10 @@ def played(program, viewers):
     """processor seconds of `play` over a script of 100,000 marks"""
     text = script(viewers, 100000).encode()
     before = resource.getrusage(resource.RUSAGE_CHILDREN)
-    done = subprocess.run([program, "play"], input=text, stdout=subprocess.PIPE, check=False)
+    try:
+        done = subprocess.run([program, "play"], input=text, stdout=subprocess.PIPE, check=False, timeout=120)
+    except subprocess.TimeoutExpired as why:
+        raise Failed("play took too long") from why
     after = resource.getrusage(resource.RUSAGE_CHILDREN)
     if done.returncode or done.stdout.count(b"\n") < 100000:
         raise Failed(f"play ended with status {done.returncode}")

@@ -43,6 +43,7 @@ int main(int argc, char **argv)
 {
     int port = 5900, width = 640, height = 480, threaded = 0;
     int first = argc > 1 && !strcmp(argv[1], "serve") ? 2 : 1;
+    if ((argc - first) % 2) { fprintf(stderr, "bad options\n"); return 2; }
     for (int i = first; i + 1 < argc; i += 2) {
         const char *a = argv[i], *v = argv[i + 1];
         if (!strcmp(a, "--port")) port = atoi(v);

@@ -60,7 +60,8 @@ const SERVE_HELP: &str = "\
 Viewers connect to 127.0.0.1, with security type None. A pointer whose first button is
 down paints its place white, a key that goes down rings the bell, and a text is sent
 back. The server ends once so many viewers have connected and left; then it prints a
-line for each, and with --check whether each was sent what it was to be sent.
+line for each, and with --check whether each was sent what it was to be sent, or the
+beginning of it where its connection broke.
 
 In two terminals:
   vncdemo serve --port 5901
@@ -75,7 +76,7 @@ const OWN_HELP: &str = "\
 A server and its viewers run in one process, over loopback. Once every viewer is open, a
 picture is drawn; then each viewer asks for everything, takes one update and leaves. It
 prints `viewer V shows the screen` for each, and then `finish ok`, which says that each
-viewer was sent what it was to be sent.
+viewer was sent what it was to be sent, or the beginning of it where its connection broke.
 
 Status: 0; 2 after a refused command line, and after this text; 3 after want of memory;
 4 where a viewer doesn't show the screen, or the check failed; 5 after a network fault,

@@ -1,8 +1,9 @@
 //! What is checked of a transcript. One whose first line isn't `encode`, `viewer` or `args` is a script of `vncdemo play`.
 
 use crate::difference::{Difference, compare, make_difference};
+use crate::pieces::check_pieces;
 use crate::playing::play;
-use crate::replaying::{check_history, check_pieces, check_run};
+use crate::replaying::{check_history, check_run};
 use crate::script::{Script, played, script_of, text_of};
 use crate::transcripts::{Exchange, Transcript};
 use crate::viewing::Viewing;

@@ -2,14 +2,15 @@
 //! prints a line a file. At the first line that differs it prints that one and ends with status 1.
 //!
 //! Each script is played whole as `vncdemo play` plays it. Its events are done again by `run`, by a screen that keeps its history,
-//! by one that is given that history, and with the viewers' bytes heard byte by byte and in pieces of 3; and each viewer's bytes are
-//! told to a test viewer, which shows the picture once nothing is owed to it.
+//! by one that is given that history, and with the viewers' bytes heard byte by byte and in pieces of 3 and updates encoded piece by
+//! piece; and each viewer's bytes are told to a test viewer, which shows the picture once nothing is owed to it.
 #![tactic(auto)]
 
 mod checking;
 mod commands;
 mod difference;
 mod encoding;
+mod pieces;
 mod playing;
 mod replaying;
 mod script;

@@ -1,14 +1,13 @@
-//! The events of a script, done in other ways than by `play`: by `run`, with the history kept, by a screen that is given that
-//! history, and with the viewers' bytes heard in pieces.
+//! The events of a script, done in other ways than by `play`: by `run`, with the history kept, and by a screen that is given that
+//! history.
 
 use crate::difference::{Difference, compare, make_difference};
 use crate::script::{Script, exchanges_of};
 use crate::transcripts::Transcript;
-use listed::Listed;
 use play_script::answer_text;
+use receipts::same_event;
 use screen::{Answer, Config, Event, History, Screen, ScreenError, run};
 use std::alloc::{AllocError, Global};
-use std::collections::BTreeMap;
 
 /// What is printed of answers.
 fn text_of(alloc: Global, events: &[Event], answers: &[Answer]) -> Result<String, AllocError> {
@@ -54,43 +53,35 @@ fn has_happened(event: &Event, answer: &Answer) -> bool {
     answer.refused.is_none() && !is_idle
 }
 
-/// The places of the events that happened.
-fn happened(
-    alloc: Global,
-    screen: &mut Screen,
-    events: &[Event],
-) -> Result<Vec<usize>, ScreenError> {
+/// A run with the history kept: what is printed of it, and which events happened, by place.
+#[derive(Drop)]
+struct Kept {
+    text: String,
+    happened: Vec<usize>,
+}
+
+fn run_kept(alloc: Global, screen: &mut Screen, events: &[Event]) -> Result<Kept, ScreenError> {
+    let mut text = String::new(alloc);
     let mut happened = Vec::new(alloc);
     for (at, event) in events.iter().enumerate() {
         let answer = screen.apply(event)?;
+        put_answer(alloc, &mut text, event, &answer)?;
         if has_happened(event, &answer) {
             happened.push(at)?;
         }
     }
-    Ok(happened)
-}
-
-/// Whether two events are the same, by what is printed of them.
-fn is_same(alloc: Global, one: &Event, other: &Event) -> Result<bool, AllocError> {
-    let one = format!(in alloc; "{one:?}")?;
-    let other = format!(in alloc; "{other:?}")?;
-    Ok(one == other)
+    Ok(Kept { text, happened })
 }
 
 /// The first of the events that happened which isn't the history's at its place.
-fn first_other(
-    alloc: Global,
-    script: &Script,
-    happened: &[usize],
-    history: &[Event],
-) -> Result<Option<usize>, AllocError> {
+fn first_other(script: &Script, happened: &[usize], history: &[Event]) -> Option<usize> {
     for (at, kept) in happened.iter().zip(history) {
         match script.events.get(*at) {
-            Some(event) if is_same(alloc, event, kept)? => {}
-            _ => return Ok(Some(*at)),
+            Some(event) if same_event(event, kept) => {}
+            _ => return Some(*at),
         }
     }
-    Ok(None)
+    None
 }
 
 fn line_of(transcript: &Transcript<'_>, script: &Script, event: usize) -> usize {
@@ -118,7 +109,47 @@ fn answers_to(alloc: Global, config: Config, history: &[Event]) -> Result<String
 
 const KEPT: &str = "with the history kept";
 
-/// The history that a screen keeps is the events that happened, and a screen that is given it answers the same.
+/// How the history that a screen keeps differs from the events that happened, if it does.
+fn check_kept(
+    alloc: Global,
+    transcript: &Transcript<'_>,
+    script: &Script,
+    happened: &[usize],
+    history: &[Event],
+) -> Result<Option<Difference>, AllocError> {
+    if history.len() != happened.len() {
+        let wanted = format!(in alloc; "{} events", happened.len())?;
+        let given = format!(in alloc; "{} events", history.len())?;
+        let found = make_difference(alloc, KEPT, transcript.line, &wanted, &given)?;
+        return Ok(Some(found));
+    }
+    match first_other(script, happened, history) {
+        Some(event) => {
+            let line = line_of(transcript, script, event);
+            let found = make_difference(alloc, KEPT, line, "the event", "another one")?;
+            Ok(Some(found))
+        }
+        None => Ok(None),
+    }
+}
+
+/// A screen that is given a history answers as the events in it were answered.
+fn check_given(
+    alloc: Global,
+    transcript: &Transcript<'_>,
+    script: &Script,
+    happened: &[usize],
+    history: &[Event],
+) -> Result<Option<Difference>, ScreenError> {
+    let config = config_with(alloc, &script.config, History::NotKept)?;
+    let text = answers_to(alloc, config, history)?;
+    let places = places_of(alloc, script, happened)?;
+    let wanted = exchanges_of(alloc, transcript, &places)?;
+    Ok(compare(alloc, "given its history", &wanted, &text)?)
+}
+
+/// With its history kept a screen answers the same, the history is the events that happened, and a screen that is given it answers
+/// the same again.
 pub fn check_history(
     alloc: Global,
     transcript: &Transcript<'_>,
@@ -126,114 +157,14 @@ pub fn check_history(
 ) -> Result<Option<Difference>, ScreenError> {
     let config = config_with(alloc, &script.config, History::Kept)?;
     let mut screen = Screen::new(alloc, config)?;
-    let happened = happened(alloc, &mut screen, &script.events)?;
+    let Kept { text, happened } = run_kept(alloc, &mut screen, &script.events)?;
+    let wanted = exchanges_of(alloc, transcript, &script.exchanges)?;
+    if let Some(found) = compare(alloc, KEPT, &wanted, &text)? {
+        return Ok(Some(found));
+    }
     let history = screen.history().unwrap_or(&[]);
-    if history.len() != happened.len() {
-        let wanted = format!(in alloc; "{} events", happened.len())?;
-        let given = format!(in alloc; "{} events", history.len())?;
-        return Ok(Some(make_difference(alloc, KEPT, transcript.line, &wanted, &given)?));
+    if let Some(found) = check_kept(alloc, transcript, script, &happened, history)? {
+        return Ok(Some(found));
     }
-    if let Some(event) = first_other(alloc, script, &happened, history)? {
-        let line = line_of(transcript, script, event);
-        return Ok(Some(make_difference(alloc, KEPT, line, "the event", "another one")?));
-    }
-    let config = config_with(alloc, &script.config, History::NotKept)?;
-    let text = answers_to(alloc, config, history)?;
-    let places = places_of(alloc, script, &happened)?;
-    let wanted = exchanges_of(alloc, transcript, &places)?;
-    Ok(compare(alloc, "given its history", &wanted, &text)?)
-}
-
-/// What each viewer was sent in all.
-type Sent = BTreeMap<u64, Vec<u8>>;
-
-fn send(alloc: Global, sent: &mut Sent, viewer: u64, bytes: &[u8]) -> Result<(), AllocError> {
-    match sent.get_mut(&viewer) {
-        Some(all) => all.extend_from_slice(bytes),
-        None => {
-            sent.insert(viewer, bytes.to_vec(alloc)?)?;
-            Ok(())
-        }
-    }
-}
-
-/// A piece of a viewer's bytes is heard in shorter ones.
-fn hear_in(
-    alloc: Global,
-    screen: &mut Screen,
-    sent: &mut Sent,
-    viewer: u64,
-    piece: &[u8],
-    length: usize,
-) -> Result<(), ScreenError> {
-    for piece in piece.chunks(length.max(1)) {
-        let piece = Listed::from_slice(alloc, piece)?;
-        let answer = screen.apply(&Event::Hear { viewer, piece })?;
-        send(alloc, sent, viewer, answer.bytes.as_slice())?;
-    }
-    Ok(())
-}
-
-fn do_in(
-    alloc: Global,
-    screen: &mut Screen,
-    sent: &mut Sent,
-    event: &Event,
-    length: usize,
-) -> Result<(), ScreenError> {
-    match event {
-        Event::Hear { viewer, piece } => {
-            hear_in(alloc, screen, sent, *viewer, piece.as_slice(), length)
-        }
-        Event::Connect { viewer } | Event::Cut { viewer } => {
-            let answer = screen.apply(event)?;
-            Ok(send(alloc, sent, *viewer, answer.bytes.as_slice())?)
-        }
-        _ => {
-            screen.apply(event)?;
-            Ok(())
-        }
-    }
-}
-
-/// What each viewer is sent in all, where its bytes are heard in pieces of at most this length.
-fn sent_in(alloc: Global, script: &Script, length: usize) -> Result<Sent, ScreenError> {
-    let mut screen = Screen::new(alloc, script.config.try_clone(alloc)?)?;
-    let mut sent = BTreeMap::new(alloc);
-    for event in &script.events {
-        do_in(alloc, &mut screen, &mut sent, event, length)?;
-    }
-    Ok(sent)
-}
-
-/// The first viewer that is sent other bytes.
-fn first_unlike(whole: &Sent, pieces: &Sent) -> Option<u64> {
-    for (viewer, bytes) in whole {
-        let same = match pieces.get(viewer) {
-            Some(others) => others.as_slice() == bytes.as_slice(),
-            None => bytes.is_empty(),
-        };
-        if !same {
-            return Some(*viewer);
-        }
-    }
-    None
-}
-
-/// Each viewer is sent the same in all, whether its bytes are heard as they stand in the script or in pieces of 1 and of 3.
-pub fn check_pieces(
-    alloc: Global,
-    transcript: &Transcript<'_>,
-    script: &Script,
-) -> Result<Option<Difference>, ScreenError> {
-    let whole = sent_in(alloc, script, usize::MAX)?;
-    for (length, tried) in [(1, "heard byte by byte"), (3, "heard in pieces of 3")] {
-        let pieces = sent_in(alloc, script, length)?;
-        if let Some(viewer) = first_unlike(&whole, &pieces) {
-            let wanted = format!(in alloc; "viewer {viewer} is sent the same bytes")?;
-            let line = transcript.line;
-            return Ok(Some(make_difference(alloc, tried, line, &wanted, "others")?));
-        }
-    }
-    Ok(None)
+    check_given(alloc, transcript, script, &happened, history)
 }

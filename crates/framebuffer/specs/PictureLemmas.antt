@@ -75,7 +75,7 @@ no_way : (z x : ℤ) → int_eq z (pos 0) ≡ true → x -ℤ z ≡ x
 no_way z x e = grind (arith, ints)
 
 -- a block without places has no place
-empty_block : (b : Block) → b.rows * b.columns ≡ 0 → (x y : ℤ) → in_rect (block_rect b) x y ≡ false
+pub empty_block : (b : Block) → b.rows * b.columns ≡ 0 → (x y : ℤ) → in_rect (block_rect b) x y ≡ false
 empty_block b none x y = by b.rows b.columns none refl refl
   where
     by : (rows columns : ℕ) → rows * columns ≡ 0 → b.rows ≡ rows → b.columns ≡ columns → in_rect (block_rect b) x y ≡ false

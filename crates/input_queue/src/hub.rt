@@ -130,7 +130,8 @@ impl InputHub {
     }
 
     /// Puts an input behind the others, and wakes the taker where it waits. The input comes back where the
-    /// queue held as many as it can at that step. After 2^62 accepted inputs this waits for ever.
+    /// queue held as many as it can at that step: that it does so nowhere else rests on this body, since no
+    /// clause can tell. After 2^62 accepted inputs this waits for ever.
     pub fn put<R: Wait>(&self, rt: &R, seat: &mut InputSeat, input: Input) -> Result<(), Full>
         requires { seat.old.queue ≡ self.now.queue }
         ensures accepted { IfOk result (λ _. seat.new ≡
@@ -152,7 +153,8 @@ impl InputHub {
         }
     }
 
-    /// Takes the input in front. None where the queue was empty at some moment of the call.
+    /// Takes the input in front. None where the queue was empty at some moment of the call: that it comes
+    /// nowhere else rests on this body, since no clause can tell.
     pub fn take<R: Wait>(&self, rt: &R, taker: &mut Taker) -> Option<Told>
         requires { taker.old.queue ≡ self.now.queue }
         ensures { MatchOption result ((taker.new ≡ taker.old) ×
@@ -162,7 +164,7 @@ impl InputHub {
     }
 
     /// Takes the input in front, and sleeps until there is one. None once the hub is closed, where the queue
-    /// was empty at some moment after that.
+    /// was empty at some moment after that, as tests show.
     pub fn take_wait<R: Wait>(&self, rt: &R, taker: &mut Taker) -> Option<Told>
         requires { taker.old.queue ≡ self.now.queue }
         ensures { MatchOption result ((taker.new ≡ taker.old) ×

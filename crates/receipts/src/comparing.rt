@@ -51,8 +51,8 @@ pub fn is_drawing(event: &Event) -> bool
     )
 }
 
-/// Whether two events are equal.
-fn same_event(a: &Event, b: &Event) -> bool
+/// Whether two events are equal, with all that they hold.
+pub fn same_event(a: &Event, b: &Event) -> bool
     ensures { result ≡ same_event a.now b.now }
 {
     match a {

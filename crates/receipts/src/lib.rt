@@ -9,6 +9,7 @@ mod laws;
 mod replaying;
 
 pub use checking::check;
+pub use comparing::same_event;
 pub use laws::{refusals_are_true, reports_are_true};
 pub use listed::Listed;
 use messages::Fault;

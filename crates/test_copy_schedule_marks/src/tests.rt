@@ -1,19 +1,21 @@
 //! The marks over regions beside worked examples and beside the plain marks, and the canonical lists beside a plain program.
 //! `worked` has the examples: scripts of calls, in which a call that is refused for memory is made again. `plain` has the marks
-//! as they are defined, a mark for each place, and `beside` compares both over a long row of calls.
+//! as they are defined, a mark for each place, and `beside` compares both over a long row of calls. `logs` has drawing that stands
+//! in a log.
 
 ghost use Rattle.std.specs.Prelude.{◌≡◌, ◌≤◌, All, IfOk};
 ghost use Rattle.region.specs.Region.{covers};
 ghost use Rattle.region.specs.Places.{IsOnScreen, longest_side};
 ghost use Rattle.copy_schedule.specs.Marks.{IsCutTo};
 
-use copy_schedule::{Cut, Mark, Marks};
+use copy_schedule::{Cut, LogEntry, Mark, Marks};
 use framebuffer::destinations;
 use region::{Rect, Region};
 use std::alloc::{AllocError, Global};
 use std::test::Fail;
 
 mod beside;
+mod logs;
 mod plain;
 mod worked;
 
@@ -51,6 +53,13 @@ fn cut_region(
     let pieces = destinations(alloc, rects, offset.0, offset.1, width, height)?;
     let part = region_on_screen(alloc, &pieces)?;
     Ok(part)
+}
+
+/// The whole screen is asked for, and sent.
+fn show_all(marks: &mut Marks) -> Result<(), AllocError> {
+    marks.request(ALL, false)?;
+    marks.cut(50)?;
+    Ok(())
 }
 
 fn mark(marks: &mut Marks, alloc: Global, rects: &[Rect]) -> Result<(), AllocError> {

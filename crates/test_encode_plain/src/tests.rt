@@ -1,3 +1,4 @@
+mod calls;
 mod hextile;
 mod pixel_bytes;
 mod rre;

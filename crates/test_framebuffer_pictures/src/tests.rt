@@ -45,9 +45,8 @@ fn corners_are_put_in_order(rt: HostRuntime) -> Result<(), Fail> {
 }
 
 /// A rectangle and an offset, and where its places are on a screen of 4 by 3 with their sources.
-static DESTINATIONS: [(Rect, (i32, i32), Option<Rect>); 15] = [
-    // Corners in the wrong order, and off the screen.
-    (rect!(3, 3, 1, 0), (1, 0), Some(rect!(1, 0, 3, 3))),
+static DESTINATIONS: [(Rect, (i32, i32), Option<Rect>); 12] = [
+    // Off the screen.
     (rect!(-5, 1, 2, 9), (0, 0), Some(rect!(0, 1, 2, 3))),
     // Corners far away, and every direction.
     (rect!(MIN, MIN, MAX, MAX), (0, 0), Some(rect!(0, 0, 4, 3))),
@@ -61,9 +60,7 @@ static DESTINATIONS: [(Rect, (i32, i32), Option<Rect>); 15] = [
     (rect!(MIN, MIN, MAX, MAX), (MIN, 0), None),
     (rect!(MIN, MIN, MAX, MAX), (MAX, MAX), None),
     (rect!(0, 0, 4, 3), (0, MIN), None),
-    // No places, or none on the screen.
-    (rect!(2, 0, 2, 3), (1, 0), None),
-    (rect!(4, 0, MAX, 3), (1, 0), None),
+    // No places on the screen.
     (rect!(MIN, 0, 0, 3), (-1, 0), None),
 ];
 
@@ -210,6 +207,7 @@ fn expect_written(rt: &impl Abort, picture: &mut Framebuffer) -> Result<(), Allo
     };
     write(rt, picture, all, &[1, 2, 3, 4, 5, 6, 7, 8, 9, 10, 11, 12])?;
     expect_read(rt, picture, block, &[6, 7, 10, 11])?;
+    expect_read(rt, picture, whole(0, 2), &[])?;
     write(rt, picture, block, &[0x77_123456, 0x16, 0x17, 0xff_000000])?;
     expect_read(rt, picture, block, &[0x123456, 0x16, 0x17, 0])?;
     let written = [1, 2, 3, 4, 5, 0x123456, 0x16, 8, 9, 0x17, 0, 12];
@@ -220,20 +218,6 @@ fn expect_written(rt: &impl Abort, picture: &mut Framebuffer) -> Result<(), Allo
 fn a_block_is_written_and_read(rt: HostRuntime) -> Result<(), Fail> {
     let mut picture = Framebuffer::new(rt.alloc(), 4, 3)?;
     expect_written(&rt, &mut picture)?;
-    Ok(())
-}
-
-/// A picture of 3 by 2 is black.
-fn expect_black(rt: &impl Abort, picture: &Framebuffer) -> Result<(), AllocError> {
-    assert!(rt; (picture.width(), picture.height()) == (3, 2));
-    expect_read(rt, picture, whole(3, 2), &[0, 0, 0, 0, 0, 0])?;
-    expect_read(rt, picture, whole(0, 2), &[])
-}
-
-#[test]
-fn a_new_framebuffer_is_black(rt: HostRuntime) -> Result<(), Fail> {
-    let picture = Framebuffer::new(rt.alloc(), 3, 2)?;
-    expect_black(&rt, &picture)?;
     Ok(())
 }
 
@@ -430,26 +414,6 @@ fn moves_in_eight_directions_are_those_of_a_plain_move(rt: HostRuntime) -> Resul
             expect_moves(&rt, rt.alloc(), size, far)?;
         }
     }
-    Ok(())
-}
-
-#[test]
-fn a_worked_move_downwards(rt: HostRuntime) -> Result<(), Fail> {
-    let given = moved(&rt, rt.alloc(), (2, 3), &[rect!(0, 1, 2, 3)], (0, 1))?;
-    assert_eq!(rt; given.as_slice(), [1, 2, 1, 2, 3, 4].as_slice());
-    let given = moved(&rt, rt.alloc(), (3, 1), &[rect!(0, 0, 3, 1)], (-1, 0))?;
-    assert_eq!(rt; given.as_slice(), [2, 3, 3].as_slice());
-    Ok(())
-}
-
-#[test]
-fn a_wide_move_and_one_of_a_single_place(rt: HostRuntime) -> Result<(), Fail> {
-    let wide = moved(&rt, rt.alloc(), (8192, 2), &[rect!(0, 1, 8192, 2)], (0, 1))?;
-    assert_eq!(rt; wide.len(), 16384);
-    assert_eq!(rt; wide.get(8191).copied(), Some(8192));
-    assert_eq!(rt; wide.last().copied(), Some(8192));
-    let single = moved(&rt, rt.alloc(), (1, 1), &[rect!(0, 0, 1, 1)], (0, 0))?;
-    assert_eq!(rt; single.as_slice(), [1].as_slice());
     Ok(())
 }
 

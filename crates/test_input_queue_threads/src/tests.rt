@@ -15,7 +15,7 @@ fn key(key: u32) -> Input {
 }
 
 /// The viewer and the key of an input, if it is one.
-fn key_of(told: &Option<Told>) -> Option<(u64, u32)> {
+fn key_of(told: Option<&Told>) -> Option<(u64, u32)> {
     match told {
         Some(
             Told {
@@ -36,12 +36,15 @@ fn two_seats_take_turns(rt: HostRuntime) -> Result<(), Fail> {
     assert!(rt; hub.put(&rt, &mut two, key(2)).is_ok());
     assert!(rt; hub.put(&rt, &mut one, key(3)).is_ok());
     let first = hub.take(&rt, &mut taker);
-    assert_eq!(rt; key_of(&first), Some((1, 1)));
+    assert_eq!(rt; key_of(first.as_ref()), Some((1, 1)));
     let mut seats = Vec::new(rt.alloc());
     seats.push(one)?;
     seats.push(two)?;
     let left = hub.join(&rt, taker, seats)?;
-    assert_eq!(rt; left.items.len(), 2);
+    let left = left.items.as_slice();
+    assert_eq!(rt; left.len(), 2);
+    assert_eq!(rt; key_of(left.first()), Some((2, 2)));
+    assert_eq!(rt; key_of(left.last()), Some((1, 3)));
     Ok(())
 }
 
@@ -53,8 +56,10 @@ fn a_full_queue_gives_the_input_back(rt: HostRuntime) -> Result<(), Fail> {
     assert!(rt; hub.put(&rt, &mut one, key(2)).is_ok());
     let back = hub.put(&rt, &mut one, key(3));
     assert!(rt; matches!(&back, Err(Full(Input::Key { down: true, key: 3 }))));
-    assert_eq!(rt; key_of(&hub.take(&rt, &mut taker)), Some((1, 1)));
-    assert_eq!(rt; key_of(&hub.take(&rt, &mut taker)), Some((1, 2)));
+    let first = hub.take(&rt, &mut taker);
+    let second = hub.take(&rt, &mut taker);
+    assert_eq!(rt; key_of(first.as_ref()), Some((1, 1)));
+    assert_eq!(rt; key_of(second.as_ref()), Some((1, 2)));
     assert!(rt; hub.take(&rt, &mut taker).is_none());
     let mut seats = Vec::new(rt.alloc());
     seats.push(one)?;
@@ -99,18 +104,45 @@ fn put_all<R: Wait>(
     (seat, next)
 }
 
-/// Takes until the hub is closed.
-fn take_all<R: Wait>(rt: &R, alloc: Global, hub: &InputHub, mut taker: Taker) -> (Taker, Vec<Told>)
+/// Takes the next input, which it waits for or not.
+fn take_next<R: Wait>(rt: &R, hub: &InputHub, taker: &mut Taker, waits: bool) -> Option<Told>
+    requires { taker.old.queue ≡ hub.now.queue }
+    ensures { taker.new.queue ≡ taker.old.queue }
+{
+    if waits {
+        hub.take_wait(rt, taker)
+    } else {
+        hub.take(rt, taker)
+    }
+}
+
+/// Takes, in so many turns at most: where it waits, until the hub is closed, and else until it has so many, trying again where
+/// there is nothing.
+fn take_all<R: Wait>(
+    rt: &R,
+    alloc: Global,
+    hub: &InputHub,
+    mut taker: Taker,
+    waits: bool,
+    count: usize,
+    turns: u32,
+) -> (Taker, Vec<Told>)
     requires { taker.queue ≡ hub.now.queue }
     ensures { result.0.queue ≡ taker.queue }
 {
     let mut all = Vec::new(alloc);
-    for _ in rt.forever() {
-        let Some(told) = hub.take_wait(rt, &mut taker) else {
+    for _ in 0..turns {
+        if !waits && all.len() >= count {
             break;
-        };
-        if all.push(told).is_err() {
-            break;
+        }
+        match take_next(rt, hub, &mut taker, waits) {
+            Some(told) => {
+                if all.push(told).is_err() {
+                    break;
+                }
+            }
+            None if waits => break,
+            None => thread::yield_now(),
         }
     }
     (taker, all)
@@ -170,8 +202,9 @@ fn is_accepted(taken: &[Told], left: &[Told], of: u64, count: u32) -> bool {
     in_both(taken, left, of) == Some(count)
 }
 
-/// Two seats put and a third thread takes. Whether what was taken, and nothing else, is what the seats accepted.
-fn three<R: Threads + Wait + Sync>(rt: &R, alloc: Global) -> Result<bool, QueueError> {
+/// Two seats put and a third thread takes, which waits or not. Whether all was accepted, and what was taken and what is left is
+/// that, in order, and nothing else.
+fn three<R: Threads + Wait + Sync>(rt: &R, alloc: Global, waits: bool) -> Result<bool, QueueError> {
     let (mut hub, taker) = InputHub::new(alloc, 64)?;
     let one = hub.seat(1);
     let two = hub.seat(2);
@@ -189,22 +222,25 @@ fn three<R: Threads + Wait + Sync>(rt: &R, alloc: Global) -> Result<bool, QueueE
         move || -> (Taker, Vec<Told>)
             requires { taker.queue ≡ shared.now.queue }
             ensures { result.0.queue ≡ shared.entry.now.queue }
-        { take_all(rt, alloc, shared, taker) },
+        { take_all(rt, alloc, shared, taker, waits, 2000, 1_000_000) },
     );
     let mut seats = Vec::new(alloc);
     seats.push(one).map_err(|_| QueueError::OutOfMemory)?;
     seats.push(two).map_err(|_| QueueError::OutOfMemory)?;
     let left = hub.join(rt, taker, seats)?;
-    let is_empty = left.items.as_slice().is_empty();
+    let left = left.items.as_slice();
     Ok(
-        is_empty
-            && is_accepted(&taken, left.items.as_slice(), 1, first)
-            && is_accepted(&taken, left.items.as_slice(), 2, second),
+        (first, second) == (1000, 1000)
+            && (taken.len(), left.len()) == (2000, 0)
+            && is_accepted(&taken, left, 1, first)
+            && is_accepted(&taken, left, 2, second),
     )
 }
 
 #[test]
 fn threads_put_and_take(rt: HostRuntime) -> Result<(), Fail> {
-    assert!(rt; three(&rt, rt.alloc())?);
+    for waits in [true, false] {
+        assert!(rt; three(&rt, rt.alloc(), waits)?, "waits: {waits}");
+    }
     Ok(())
 }

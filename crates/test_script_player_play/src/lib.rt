@@ -1,5 +1,5 @@
-//! Scripts played by the program's call, whole conversations and what goes wrong, each with what is printed. There are tests
-//! here, and nothing else.
+//! Scripts played by the program's call: the one that the program's help shows, and readers, writers and memory that fail. There
+//! are tests here, and nothing else.
 #![tactic(auto)]
 
 #[cfg(test)]

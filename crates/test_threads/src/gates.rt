@@ -9,6 +9,8 @@ use update_sender::Gate;
 struct Progress {
     // bytes of updates that were written whole
     wrote: AtomicU64,
+    // how many updates these are
+    updates: AtomicU64,
     // how often it has ended
     ended: AtomicU64,
 }
@@ -44,6 +46,7 @@ impl Progress {
     fn new() -> Progress {
         Progress {
             wrote: AtomicU64::new(0),
+            updates: AtomicU64::new(0),
             ended: AtomicU64::new(0),
         }
     }
@@ -71,6 +74,11 @@ impl Watch {
     /// How many bytes of updates that were written whole a viewer was sent.
     pub fn wrote(&self, viewer: u64) -> u64 {
         self.of(viewer).wrote.load(Ordering::SeqCst)
+    }
+
+    /// How many updates these are.
+    pub fn updates(&self, viewer: u64) -> u64 {
+        self.of(viewer).updates.load(Ordering::SeqCst)
     }
 
     /// How often a viewer's sender has ended.
@@ -108,6 +116,7 @@ impl Watch {
     /// An update of so many bytes was written whole.
     fn note_update(&self, viewer: u64, bytes: u64) {
         self.of(viewer).wrote.fetch_add(bytes, Ordering::SeqCst);
+        self.of(viewer).updates.fetch_add(1, Ordering::SeqCst);
     }
 
     /// The sender has ended, or never began.

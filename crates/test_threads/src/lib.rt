@@ -3,10 +3,12 @@
 //!
 //! `bytes` is what a viewer of that screen says and is sent, written out from RFC 6143; `sharing` makes the screen, `drawing` has
 //! each drawing call once, `gates` what the threads tell one another, `memory` readers and writers, `running` a viewer from its
-//! connection to its receipt, and `verdict` what its run comes to. What waits here looks at most 1,000,000 times.
+//! connection to its receipt, `calls` one that asks by calls, and `verdict` what a run comes to. What waits here looks at most
+//! 1,000,000 times.
 #![tactic(auto)]
 
 mod bytes;
+mod calls;
 mod drawing;
 mod gates;
 mod memory;
@@ -15,6 +17,7 @@ mod sharing;
 mod verdict;
 
 pub use bytes::{GREETED, OPENING, OPENING_AND_REQUEST, UPDATED, WHOLE, whole};
+pub use calls::{ask, is_update, opened};
 pub use drawing::{draw_each, region_of};
 pub use gates::{Guard, Hold, Watch, is_reached, take_turns};
 pub use memory::{Sink, Source, failing, in_one_piece, in_pieces, taking};

@@ -4,62 +4,13 @@
 
 ghost use Rattle.std.specs.Prelude.{◌≡◌, ◌<◌};
 
-use screen::Update;
-use std::alloc::{AllocError, Global};
+use std::alloc::Global;
 use std::marker::Brand;
 use std::sync::Wait;
 use std::sync::ledger::{Blank, Ledger};
 use std::test::*;
-use test_threads::{
-    Ends, GREETED, Hold, Joined, OPENING, Watch, draw_each, fresh, in_one_piece, join_over, taking,
-};
+use test_threads::{Ends, ask, draw_each, fresh, is_update, opened};
 use update_sender::{Brush, History, Listener, Rect, ScreenError, Shared, Speaker};
-
-/// A FramebufferUpdateRequest of the whole screen (RFC 6143, 7.5.3).
-fn request(incremental: u8) -> [u8; 10] {
-    [3, incremental, 0, 0, 0, 0, 0, 4, 0, 3]
-}
-
-/// A viewer asks for the whole screen, or for what changes.
-fn ask<L: Ledger, R: Wait>(
-    rt: &R,
-    shared: &Shared<L>,
-    listener: &mut Listener,
-    incremental: u8,
-) -> Result<(), ScreenError> {
-    shared.hear(rt, listener, &request(incremental))?;
-    Ok(())
-}
-
-/// The ends of a viewer that connected and went through the opening (7.1 to 7.3).
-fn opened<L: Ledger, R: Wait>(
-    rt: &R,
-    alloc: Global,
-    shared: &Shared<L>,
-    number: u64,
-) -> Result<Ends, ScreenError> {
-    let watch = Watch::new();
-    let mut sink = taking(alloc, number, GREETED, Hold::Nowhere, &watch);
-    match join_over(rt, shared, number, &mut in_one_piece(OPENING), &mut sink)? {
-        Joined::Open(ends) => Ok(ends),
-        Joined::Over(_) => Err(ScreenError::NoViewer),
-    }
-}
-
-/// Whether what was cut is an update of these bytes.
-fn is_update(cut: Result<Option<Update>, AllocError>, bytes: &[u8]) -> bool {
-    match cut {
-        Ok(Some(update)) => has_bytes(&update, bytes),
-        _ => false,
-    }
-}
-
-fn has_bytes(update: &Update, bytes: &[u8]) -> bool {
-    match update.encode() {
-        Ok(sent) => sent.as_slice() == bytes,
-        Err(_) => false,
-    }
-}
 
 /// Whether a viewer connects by this number.
 fn connects<L: Ledger, R: Wait>(rt: &R, shared: &Shared<L>, number: u64) -> bool {

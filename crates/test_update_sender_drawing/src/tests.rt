@@ -1,4 +1,5 @@
-//! One viewer, before or while the application draws: what it is sent, its receipt, and that `finish` accepts it.
+//! One viewer, before or while the application draws: what it is sent, its receipt, and that `finish` accepts it. `long` has an
+//! update that is written in parts.
 //!
 //! A function that owns a shared screen lends it to others: each place where it may end on its way would be one more to prove.
 
@@ -22,6 +23,8 @@ use test_threads::{
 use update_sender::{
     Brush, Ended, Listener, OpenGate, Sent, Shared, WriteHalf, receipt, serve_sender,
 };
+
+mod long;
 
 /// The receipt of a viewer that was sent the whole screen in the colour 00000a, and that was stopped.
 fn receipt_of(alloc: Global, served: Served) -> Result<Option<Receipt>, AllocError> {

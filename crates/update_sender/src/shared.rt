@@ -176,7 +176,8 @@ impl<L: Ledger> Shared<L> {
         unreachable!()
     }
 
-    /// Waits until there is something to send, and cuts it. None after `stop`, and where the viewer is closed or met a fault.
+    /// Waits until there is something to send, and cuts it. None after `stop`, and where the viewer is closed or met a fault: that
+    /// it comes nowhere else, no clause says.
     pub fn cut_wait<R: Wait>(
         &self,
         rt: &R,

@@ -28,6 +28,8 @@ enum Step {
     Mark(Rects),
     /// The same in two parts: nothing is owed before the second.
     PreparedMark(Rects),
+    /// The same by a log of this one entry.
+    LoggedMark(Rects),
     /// These rectangles are drawn so often, one a call.
     MarkInTurn(usize, Rects),
     /// A copy by this offset draws these rectangles, and the viewer uses CopyRect.
@@ -56,15 +58,9 @@ enum Step {
 }
 
 use Step::{
-    Asked, Cloned, Copied, Copy, CopyAsPixels, MarkInTurn, NoCopyrect, Offset, Owed, Pending,
-    PreparedCopy, PreparedMark, Request, RequestChanges, Sends, SendsNothing, Shown,
+    Asked, Cloned, Copied, Copy, CopyAsPixels, LoggedMark, MarkInTurn, NoCopyrect, Offset, Owed,
+    Pending, PreparedCopy, PreparedMark, Request, RequestChanges, Sends, SendsNothing, Shown,
 };
-
-fn show_all(marks: &mut Marks) -> Result<(), AllocError> {
-    marks.request(ALL, false)?;
-    marks.cut(50)?;
-    Ok(())
-}
 
 fn mark_in_turn(
     marks: &mut Marks,
@@ -85,6 +81,13 @@ fn mark_in_two(marks: &mut Marks, alloc: Global, rects: &[Rect]) -> Result<bool,
     let waits = marks.modified().is_empty();
     marks.commit(prepared);
     Ok(waits)
+}
+
+fn mark_by_log(marks: &mut Marks, alloc: Global, rects: &[Rect]) -> Result<(), AllocError> {
+    let log = [LogEntry::Mark(region_of(alloc, rects)?)];
+    let prepared = marks.apply_log(&log, true)?;
+    marks.commit(prepared);
+    Ok(())
 }
 
 /// Whether no copy is pending before `commit`.
@@ -111,6 +114,7 @@ fn call(marks: &mut Marks, alloc: Global, step: Step) -> Result<(), AllocError> 
     match step {
         Shown => show_all(marks),
         Step::Mark(rects) => mark(marks, alloc, rects),
+        LoggedMark(rects) => mark_by_log(marks, alloc, rects),
         MarkInTurn(count, rects) => mark_in_turn(marks, alloc, count, rects),
         Copy(rects, offset) => copy(marks, alloc, rects, offset, true),
         CopyAsPixels(rects, offset) => copy(marks, alloc, rects, offset, false),
@@ -190,7 +194,7 @@ fn worked_examples_whichever_allocation_is_refused(rt: HostRuntime) -> Result<()
     Ok(())
 }
 
-static EXAMPLES: [Example; 19] = [
+static EXAMPLES: [Example; 18] = [
     Example {
         name: "a new screen is owed, and then only what is marked",
         size: (4, 3),
@@ -391,7 +395,7 @@ static EXAMPLES: [Example; 19] = [
         ],
     },
     Example {
-        name: "a prepared mark counts once it is committed",
+        name: "what is prepared counts once it is committed",
         size: (4, 1),
         steps: &[
             Shown,
@@ -399,19 +403,12 @@ static EXAMPLES: [Example; 19] = [
             Owed(&[rect!(0, 0, 1, 1)]),
             Cloned,
             Owed(&[rect!(0, 0, 1, 1)]),
-        ],
-    },
-    Example {
-        name: "a prepared copy counts once it is committed",
-        size: (4, 1),
-        steps: &[
-            Shown,
-            Step::Mark(&[rect!(0, 0, 2, 1)]),
+            Step::Mark(&[rect!(1, 0, 2, 1)]),
             PreparedCopy(&[rect!(3, 0, 4, 1)], (1, 0)),
             Copied(&[rect!(3, 0, 4, 1)]),
             Offset((1, 0)),
             NoCopyrect,
-            Step::Mark(&[rect!(2, 0, 3, 1)]),
+            LoggedMark(&[rect!(2, 0, 3, 1)]),
             Owed(&[rect!(0, 0, 4, 1)]),
         ],
     },

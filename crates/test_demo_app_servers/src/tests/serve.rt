@@ -12,21 +12,125 @@ use std::test::Fail;
 use std::thread::Threads;
 use std::{io, thread};
 
-// A viewer's opening, and a request of the whole screen of 4 by 3 (7.1 to 7.3, 7.5.3).
-static SAID: &[u8] = b"RFB 003.008\n\x01\x01\x03\0\0\0\0\0\0\x04\0\x03";
+// What a client says, and what it reads then.
+type Step = (&'static [u8], &'static [u8]);
 
-// How many bytes the answers have.
-const ANSWERED: usize = 110;
+// A server: the screen's size, how many viewers it has, one after the other, whether the history is kept, what each client does
+// before it goes away, and what is printed then, with which status.
+#[derive(Clone, Copy, Debug)]
+struct Run {
+    size: (u32, u32),
+    viewers: u32,
+    check: bool,
+    steps: &'static [Step],
+    printed: &'static [u8],
+    status: u8,
+}
+
+// The opening in 3.8, and a request of the whole screen of 4 by 3 (7.1 to 7.3, 7.5.3); its answers, and an update of that screen in
+// Raw, all of it black (7.6.1, 7.7.1).
+const SEES_ALL: Run = Run {
+    size: (4, 3),
+    viewers: 1,
+    check: true,
+    steps: &[(
+        b"RFB 003.008\n\x01\x01\x03\0\0\0\0\0\0\x04\0\x03",
+        b"RFB 003.008\n\x01\x01\0\0\0\0\0\x04\0\x03\x20\x18\0\x01\0\xff\0\xff\0\xff\x10\x08\0\0\0\0\0\0\0\x04demo\
+            \0\0\0\x01\0\0\0\0\0\x04\0\x03\0\0\0\0\
+            \0\0\0\0\0\0\0\0\0\0\0\0\0\0\0\0\0\0\0\0\0\0\0\0\
+            \0\0\0\0\0\0\0\0\0\0\0\0\0\0\0\0\0\0\0\0\0\0\0\0",
+    )],
+    printed: b"viewer 1 Closed\nfinish ok\n",
+    status: 0,
+};
+
+static RUNS: [Run; 8] = [
+    SEES_ALL,
+    // no history
+    Run {
+        viewers: 2,
+        check: false,
+        printed: b"viewer 1 Closed\nviewer 2 Closed\n",
+        ..SEES_ALL
+    },
+    // no such screen
+    Run {
+        size: (0, 3),
+        viewers: 0,
+        printed: b"refused 1 BadSize\n",
+        status: 1,
+        ..SEES_ALL
+    },
+    // inputs, and what they come to
+    Run {
+        steps: &[
+            (
+                b"RFB 003.008\n\x01\x01",
+                b"RFB 003.008\n\x01\x01\0\0\0\0\0\x04\0\x03\x20\x18\0\x01\0\xff\0\xff\0\xff\x10\x08\0\0\0\0\0\0\0\x04demo",
+            ),
+            // a key goes down (7.5.4): the bell (7.6.3)
+            (b"\x04\x01\0\0\0\0\xff\x0d", b"\x02"),
+            // the key goes up, and a text (7.5.6), which comes back (7.6.4)
+            (
+                b"\x04\0\0\0\0\0\xff\x0d\x06\0\0\0\0\0\0\x02hi",
+                b"\x03\0\0\0\0\0\0\x02hi",
+            ),
+            // a request of the place (1, 1)
+            (
+                b"\x03\0\0\x01\0\x01\0\x01\0\x01",
+                b"\0\0\0\x01\0\x01\0\x01\0\x01\0\x01\0\0\0\0\0\0\0\0",
+            ),
+            // a request of what changes there, and pointers (7.5.5): with the second button, off the screen, and with the first
+            // button and the third, which makes the place white
+            (
+                b"\x03\x01\0\x01\0\x01\0\x01\0\x01\
+                    \x05\x02\0\x01\0\x01\x05\x01\0\x04\0\x01\x05\x05\0\x01\0\x01",
+                b"\0\0\0\x01\0\x01\0\x01\0\x01\0\x01\0\0\0\0\xff\xff\xff\0",
+            ),
+        ],
+        ..SEES_ALL
+    },
+    // the client takes the server for another one's
+    Run {
+        steps: &[(b"GET / HTTP/1.0\r\n\r\n", b"RFB 003.008\n")],
+        printed: b"viewer 1 Fault\nfinish ok\n",
+        ..SEES_ALL
+    },
+    // it goes away in its opening, once it has read all
+    Run {
+        steps: &[(b"RFB 003", b"RFB 003.008\n")],
+        printed: b"viewer 1 EndOfInput\nfinish ok\n",
+        ..SEES_ALL
+    },
+    // it goes away with a byte unread, which resets the connection
+    Run {
+        steps: &[(b"", b"RFB 003.008")],
+        printed: b"viewer 1 ReadFailed\nfinish ok\n",
+        ..SEES_ALL
+    },
+    // it goes away once an update of 16 MB has begun, of which a connection holds a part
+    Run {
+        size: (2048, 2048),
+        check: false,
+        steps: &[(
+            b"RFB 003.008\n\x01\x01\x03\0\0\0\0\0\x08\0\x08\0",
+            b"RFB 003.008\n\x01\x01\0\0\0\0\x08\0\x08\0\x20\x18\0\x01\0\xff\0\xff\0\xff\x10\x08\0\0\0\0\0\0\0\x04demo\
+                \0\0\0\x01\0\0\0\0\x08\0\x08\0\0\0\0\0",
+        )],
+        printed: b"viewer 1 WriteFailed\n",
+        ..SEES_ALL
+    },
+];
 
 fn options(
     alloc: Global,
-    width: u32,
+    (width, height): (u32, u32),
     viewers: u32,
     check: bool,
 ) -> Result<ServeOptions, AllocError> {
     Ok(ServeOptions {
         width,
-        height: 3,
+        height,
         name: Listed::from_slice(alloc, b"demo")?,
         limit: 50,
         viewers,
@@ -34,71 +138,71 @@ fn options(
     })
 }
 
-// A client says that, reads its answers, and goes away.
+// Reads as many bytes. Whether they are these.
+fn reads(stream: &mut TcpStream, wanted: &[u8]) -> io::Result<bool> {
+    let mut byte = [0];
+    for expected in wanted {
+        stream.read_exact(&mut byte)?;
+        if byte[0] != *expected {
+            return Ok(false);
+        }
+    }
+    Ok(true)
+}
+
+// A client's steps, and then it goes away. Whether it read what it says.
 fn talk<R: Net<Listener = TcpListener, Stream = TcpStream>>(
     rt: &R,
     address: SocketAddr,
-) -> io::Result<()> {
+    steps: &[Step],
+) -> io::Result<bool> {
     let mut stream = rt.connect(address)?;
-    stream.write_all(SAID)?;
-    let mut answers = [0; ANSWERED];
-    stream.read_exact(&mut answers)
+    for (says, wanted) in steps {
+        stream.write_all(says)?;
+        if !reads(&mut stream, wanted)? {
+            return Ok(false);
+        }
+    }
+    Ok(true)
 }
 
-// So many clients, one after the other.
+// So many clients, one after the other. Whether each read what it says.
 fn talk_each<R: Net<Listener = TcpListener, Stream = TcpStream>>(
     rt: &R,
     address: SocketAddr,
     viewers: u32,
-) -> io::Result<()> {
+    steps: &[Step],
+) -> io::Result<bool> {
+    let mut right = true;
     for _ in 0..viewers {
-        talk(rt, address)?;
+        right = talk(rt, address, steps)? && right;
     }
-    Ok(())
+    Ok(right)
 }
 
-// Whether this is printed, with this status, once the clients have gone.
-fn prints<R: Threads + Wait + Net<Listener = TcpListener, Stream = TcpStream> + Sync>(
+// Whether the clients read what they say, and what is printed is as it says, with its status, once they have gone.
+fn comes_out<R: Threads + Wait + Net<Listener = TcpListener, Stream = TcpStream> + Sync>(
     rt: &R,
     alloc: Global,
-    options: &ServeOptions,
-    printed: &[u8],
-    status: u8,
+    run: &Run,
 ) -> io::Result<bool> {
+    let options = options(alloc, run.size, run.viewers, run.check)?;
     let listener = rt.bind(SocketAddr::from((Ipv4Addr::LOCALHOST, 0)))?;
     let address = listener.local_addr()?;
-    let viewers = options.viewers;
     let mut out = Vec::new(alloc);
     let (talked, ended) = thread::join(
         rt,
-        move || talk_each(rt, address, viewers),
-        || serve_on(rt, alloc, &listener, options, &mut out),
+        move || talk_each(rt, address, run.viewers, run.steps),
+        || serve_on(rt, alloc, &listener, &options, &mut out),
     );
-    talked?;
-    Ok(ended == status && out.as_slice() == printed)
-}
-
-// The same of a screen of this many columns with this many viewers, whose history is kept or not.
-fn serves<R: Threads + Wait + Net<Listener = TcpListener, Stream = TcpStream> + Sync>(
-    rt: &R,
-    alloc: Global,
-    (width, viewers, check): (u32, u32, bool),
-    printed: &[u8],
-    status: u8,
-) -> io::Result<bool> {
-    let options = options(alloc, width, viewers, check)?;
-    prints(rt, alloc, &options, printed, status)
+    Ok(talked? && ended == run.status && out.as_slice() == run.printed)
 }
 
 #[test]
 fn viewers_are_served(rt: HostRuntime) -> Result<(), Fail> {
-    let alloc = rt.alloc();
-    let printed = b"viewer 1 Closed\nfinish ok\n";
-    assert!(rt; serves(&rt, alloc, (4, 1, true), printed, 0)?);
-    let printed = b"viewer 1 Closed\nviewer 2 Closed\n";
-    assert!(rt; serves(&rt, alloc, (4, 2, false), printed, 0)?);
-    let printed = b"refused 1 BadSize\n";
-    assert!(rt; serves(&rt, alloc, (0, 0, true), printed, 1)?);
+    for run in &RUNS {
+        assert!(rt; comes_out(&rt, rt.alloc(), run)?, "{run:?}");
+    }
     Ok(())
 }
 
@@ -110,7 +214,7 @@ fn prints_of<R: Threads + Wait + Net<Listener = TcpListener, Stream = TcpStream>
     printed: &[u8],
     status: u8,
 ) -> Result<bool, AllocError> {
-    let options = options(alloc, 4, 1, false)?;
+    let options = options(alloc, (4, 3), 1, false)?;
     let mut out = Vec::new(alloc);
     let ended = serve_on(rt, alloc, listener, &options, &mut out);
     Ok(ended == status && out.as_slice() == printed)

@@ -97,3 +97,28 @@ fn many_encodings(rt: HostRuntime) -> Result<(), Fail> {
     assert!(rt; says_by(rt.alloc(), &bytes, 4096, said)?);
     Ok(())
 }
+
+/// A list of 65,534 encodings that nobody knows and Hextile behind the opening, and then a list of none (RFC 6143, section 7.5.2).
+fn unknown_encodings(alloc: Global) -> Result<Vec<u8>, AllocError> {
+    let mut bytes = opened(alloc, b"\x02\x00\xff\xff")?;
+    for _ in 0..65_534u32 {
+        bytes.extend_from_slice(&[0, 0, 0, 7])?;
+    }
+    bytes.extend_from_slice(b"\x00\x00\x00\x05\x02\x00\x00\x00")?;
+    Ok(bytes)
+}
+
+#[test]
+fn many_unknown_encodings(rt: HostRuntime) -> Result<(), Fail> {
+    let bytes = unknown_encodings(rt.alloc())?;
+    let items = format!(in rt.alloc();
+        "{OPENED}Encodings {{ preferred: Hextile, copyrect: false }};\
+            Encodings {{ preferred: Raw, copyrect: false }};"
+    )?;
+    let said = Said {
+        items: &items,
+        fault: None,
+    };
+    assert!(rt; says_by(rt.alloc(), &bytes, 4096, said)?);
+    Ok(())
+}

@@ -89,7 +89,52 @@ fn openings(rt: HostRuntime) -> Result<(), Fail> {
     Ok(())
 }
 
+/// The items that are whole in so many bytes of `TALK`.
+fn whole_in(alloc: Global, length: usize) -> Result<String, AllocError> {
+    let mut items = String::new(alloc);
+    for (end, item) in &ITEMS {
+        if *end <= length {
+            items.push_str(item)?;
+        }
+    }
+    Ok(items)
+}
+
+#[test]
+fn beginnings_say_what_is_whole(rt: HostRuntime) -> Result<(), Fail> {
+    for length in 0..=TALK.len() {
+        let (front, _) = TALK.split_at(length);
+        let items = whole_in(rt.alloc(), length)?;
+        let said = Said {
+            items: &items,
+            fault: None,
+        };
+        assert!(rt;
+            is_heard_by_pieces(rt.alloc(), front, said)?,
+            "{length} bytes"
+        );
+    }
+    Ok(())
+}
+
 type Row = (&'static [u8], &'static str, Option<Fault>);
+
+/// An opening, and a key, a pointer and a text.
+static TALK: [u8; 38] =
+    *b"RFB 003.008\n\x01\x01\x04\x01\0\0\0\0\xff\x0d\x05\x01\0\x02\0\x01\x06\0\0\0\0\0\0\x02hi";
+
+/// What it says, each item with how many bytes it is whole in.
+static ITEMS: [(usize, &str); 6] = [
+    (12, "Version(V38);"),
+    (13, "Choice;"),
+    (14, "Init { shared: true };"),
+    (22, "Input(Key { down: true, key: 65293 });"),
+    (28, "Input(Pointer { mask: 1, x: 2, y: 1 });"),
+    (
+        38,
+        "Input(Text { text: Listed { elements: [104, 105] }, shortened: false });",
+    ),
+];
 
 /// Bytes behind the opening, the items that they say, and their fault.
 static MESSAGES: [Row; 12] = [

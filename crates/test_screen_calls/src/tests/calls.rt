@@ -81,11 +81,9 @@ const FAR: Rect = Rect {
 
 /// A copy down over itself by one of the calls, by the corners of the lower three places or by those beyond the screen, and the
 /// picture behind it.
-static DOWN: [(Copying, Rect, [u8; 4]); 6] = [
-    (Copying::DoRect, LOWER, [1, 1, 2, 3]),
+static DOWN: [(Copying, Rect, [u8; 4]); 4] = [
     (Copying::DoRect, FAR, [1, 1, 2, 3]),
     (Copying::DoRegion, LOWER, [1, 1, 2, 3]),
-    (Copying::ScheduleRect, LOWER, [1, 2, 3, 4]),
     (Copying::ScheduleRect, FAR, [1, 2, 3, 4]),
     (Copying::ScheduleRegion, LOWER, [1, 2, 3, 4]),
 ];

@@ -15,6 +15,9 @@ fn draw_and_fail(screen: &mut Screen) -> Result<(), ScreenError> {
 /// Whether the screen holds that then.
 fn is_held(screen: &Screen) -> bool {
     (screen.width(), screen.height()) == (4, 3)
+        && screen.viewer_count() == 1
+        && screen.is_live(5)
+        && !screen.is_live(9)
         && screen.colour(2, 1) == Some(0xff8000)
         && screen.colour(4, 0).is_none()
         && screen.fault(5) == Ok(Some(Fault::BadVersion))

@@ -1,13 +1,11 @@
 //! The events that a screen keeps: those that were accepted, in order, without the cuts that gave nothing.
 
-use super::answers::expect_answers;
 use super::lists::Call::{self, Cut, DoCopy, Hear, Mark, Paint, ScheduleCopy, Write};
-use super::lists::Want::{Bytes, Refused};
-use super::lists::{Row, events, lists, rect_of};
+use super::lists::{Row, rect_of};
 use super::new_screen;
 use region::{Rect, Region};
 use screen::{Event, History, Screen, ScreenError};
-use std::alloc::{AllocError, Global};
+use std::alloc::Global;
 use std::process::Abort;
 use std::test::Fail;
 use test_screens::region;
@@ -64,77 +62,22 @@ fn is_of(event: &Event, call: Call) -> bool {
 }
 
 /// The event with a number is that of the call there.
-fn expect_event(rt: &impl Abort, calls: &[Call], number: usize, event: &Event) {
-    let is_kept = match calls.get(number) {
-        Some(call) => is_of(event, *call),
+fn expect_event(rt: &impl Abort, rows: &[Row], number: usize, event: &Event) {
+    let is_kept = match rows.get(number) {
+        Some((call, _)) => is_of(event, *call),
         None => false,
     };
     assert!(rt; is_kept, "event {number} is {event:?}");
 }
 
 /// The screen keeps the events of these calls, in order, and no others.
-fn expect_kept(rt: &impl Abort, screen: &Screen, calls: &[Call]) {
+pub(crate) fn expect_kept(rt: &impl Abort, screen: &Screen, rows: &[Row]) {
     let kept = screen.history().expect(rt, "the events are kept");
     let count = kept.len();
-    assert!(rt; count == calls.len(), "{count} events");
+    assert!(rt; count == rows.len(), "{count} events");
     for (number, event) in kept.iter().enumerate() {
-        expect_event(rt, calls, number, event);
+        expect_event(rt, rows, number, event);
     }
-}
-
-/// Whether something happens at a call.
-fn happens((call, want): &Row) -> bool {
-    match (call, want) {
-        (_, Refused(_)) => false,
-        (Cut(_), Bytes(bytes)) => !bytes.is_empty(),
-        _ => true,
-    }
-}
-
-/// The calls of a list at which something happens.
-fn calls_of(alloc: Global, rows: &[Row]) -> Result<Vec<Call>, AllocError> {
-    let mut calls = Vec::with_capacity(alloc, rows.len())?;
-    for row in rows {
-        if happens(row) {
-            calls.push(row.0)?;
-        }
-    }
-    Ok(calls)
-}
-
-/// A screen keeps these calls, which are those of a list's events at which something happens.
-fn expect_kept_calls(
-    rt: &impl Abort,
-    alloc: Global,
-    rows: &[Row],
-    calls: &[Call],
-) -> Result<(), ScreenError> {
-    let events = events(alloc, rows)?;
-    let mut screen = new_screen(alloc, History::Kept)?;
-    expect_answers(rt, &mut screen, &events, rows);
-    expect_kept(rt, &screen, calls);
-    Ok(())
-}
-
-/// After a list of calls a screen keeps those at which something happens, so many.
-fn expect_kept_of(
-    rt: &impl Abort,
-    alloc: Global,
-    rows: &[Row],
-    count: usize,
-) -> Result<(), ScreenError> {
-    let calls = calls_of(alloc, rows)?;
-    let happened = calls.len();
-    assert!(rt; happened == count, "{happened} calls");
-    expect_kept_calls(rt, alloc, rows, &calls)
-}
-
-#[test]
-fn accepted_events_are_kept(rt: HostRuntime) -> Result<(), Fail> {
-    for (rows, count) in lists() {
-        expect_kept_of(&rt, rt.alloc(), rows, count)?;
-    }
-    Ok(())
 }
 
 /// Each drawing call for a rectangle or a region.
@@ -164,15 +107,15 @@ fn draw(alloc: Global, screen: &mut Screen) -> Result<(), ScreenError> {
 }
 
 /// A rectangle is kept as it was given, a region as its canonical list; the cut of a viewer that has not opened gives nothing.
-static DRAWN: [Call; 8] = [
-    Mark(&[[3, 2, 1, 0]]),
-    Mark(&[[0, 0, 2, 1]]),
-    ScheduleCopy(&[[3, 1, 0, 0]], 1, 0),
-    ScheduleCopy(&[[0, 0, 2, 1]], 0, 0),
-    DoCopy(&[[0, 0, 9, 9]], i32::MIN, 7),
-    DoCopy(&[[0, 0, 2, 1]], -1, 0),
-    Call::Connect(1),
-    Call::Close(1),
+static DRAWN: [Row; 8] = [
+    (Mark(&[[3, 2, 1, 0]]), &[]),
+    (Mark(&[[0, 0, 2, 1]]), &[]),
+    (ScheduleCopy(&[[3, 1, 0, 0]], 1, 0), &[]),
+    (ScheduleCopy(&[[0, 0, 2, 1]], 0, 0), &[]),
+    (DoCopy(&[[0, 0, 9, 9]], i32::MIN, 7), &[]),
+    (DoCopy(&[[0, 0, 2, 1]], -1, 0), &[]),
+    (Call::Connect(1), &[]),
+    (Call::Close(1), &[]),
 ];
 
 #[test]

@@ -1,8 +1,9 @@
-//! Lists of calls, each beside its answer; the bytes are written out from RFC 6143. What a list's events are is made here, too.
+//! Lists of calls, each beside the bytes that it is answered, which are written out from RFC 6143. What a list's events are is made
+//! here, too.
 
 use listed::Listed;
 use region::Rect;
-use screen::{Event, Fault, ScreenError};
+use screen::Event;
 use std::alloc::{AllocError, Global};
 use test_screens::{OPENING, WITH_COPYRECT, rect};
 
@@ -22,21 +23,10 @@ pub(crate) enum Call {
     Close(u64),
 }
 
-/// What an event is answered.
-#[derive(Clone, Copy)]
-pub(crate) enum Want {
-    Bytes(&'static [u8]),
-    Closed(Fault),
-    Refused(ScreenError),
-}
-
 use Call::{Bell, Close, Connect, Cut, CutText, DoCopy, Hear, Mark, Paint, ScheduleCopy, Write};
-use Fault::UnknownMessage;
-use ScreenError::{BadPixelCount, BadRect, NoViewer, NumberInUse};
-use Want::{Bytes, Closed, Refused};
 
-/// An event, and what it is answered.
-pub(crate) type Row = (Call, Want);
+/// An event, and the bytes that it is answered.
+pub(crate) type Row = (Call, &'static [u8]);
 
 const WHOLE: [i32; 4] = [0, 0, 4, 1];
 
@@ -64,132 +54,75 @@ const BLACK: &[u8] = &[
 
 /// A copy for viewers with and without CopyRect.
 pub(crate) static TWO_VIEWERS: [Row; 15] = [
-    (Paint(WHOLE, &[1, 2, 3, 4]), Bytes(&[])),
-    (Connect(1), Bytes(VERSION)),
-    (Connect(2), Bytes(VERSION)),
-    (Hear(1, OPENING), Bytes(OPENED)),
-    (Hear(2, OPENING), Bytes(OPENED)),
-    (Hear(1, WITH_COPYRECT), Bytes(&[])),
-    (Hear(1, ALL), Bytes(&[])),
-    (Hear(2, ALL), Bytes(&[])),
-    (Cut(1), Bytes(FOUR)),
-    (Cut(2), Bytes(FOUR)),
-    (DoCopy(&[[1, 0, 4, 1]], 1, 0), Bytes(&[])),
-    (Hear(1, CHANGES), Bytes(&[])),
-    (Hear(2, CHANGES), Bytes(&[])),
+    (Paint(WHOLE, &[1, 2, 3, 4]), &[]),
+    (Connect(1), VERSION),
+    (Connect(2), VERSION),
+    (Hear(1, OPENING), OPENED),
+    (Hear(2, OPENING), OPENED),
+    (Hear(1, WITH_COPYRECT), &[]),
+    (Hear(1, ALL), &[]),
+    (Hear(2, ALL), &[]),
+    (Cut(1), FOUR),
+    (Cut(2), FOUR),
+    (DoCopy(&[[1, 0, 4, 1]], 1, 0), &[]),
+    (Hear(1, CHANGES), &[]),
+    (Hear(2, CHANGES), &[]),
     (
         Cut(1),
-        Bytes(&[0, 0, 0, 1, 0, 1, 0, 0, 0, 3, 0, 1, 0, 0, 0, 1, 0, 0, 0, 0]),
+        &[0, 0, 0, 1, 0, 1, 0, 0, 0, 3, 0, 1, 0, 0, 0, 1, 0, 0, 0, 0],
     ),
     (
         Cut(2),
-        Bytes(&[
+        &[
             0, 0, 0, 1, 0, 1, 0, 0, 0, 3, 0, 1, 0, 0, 0, 0, 1, 0, 0, 0, 2, 0, 0, 0, 3, 0, 0, 0,
-        ]),
+        ],
     ),
 ];
 
 /// Every kind of event.
 pub(crate) static EVERY_KIND: [Row; 21] = [
-    (Connect(1), Bytes(VERSION)),
-    (Hear(1, OPENING), Bytes(OPENED)),
-    (Hear(1, WITH_COPYRECT), Bytes(&[])),
-    (Hear(1, ALL), Bytes(&[])),
-    (Cut(1), Bytes(BLACK)),
-    (Write([0, 0, 2, 1], &[1, 2]), Bytes(&[])),
-    (Mark(&[[0, 0, 1, 1], [2, 1, 1, 0]]), Bytes(&[])),
-    (Bell, Bytes(&[])),
-    (CutText(b"hi"), Bytes(&[])),
-    (Hear(1, CHANGES), Bytes(&[])),
+    (Connect(1), VERSION),
+    (Hear(1, OPENING), OPENED),
+    (Hear(1, WITH_COPYRECT), &[]),
+    (Hear(1, ALL), &[]),
+    (Cut(1), BLACK),
+    (Write([0, 0, 2, 1], &[1, 2]), &[]),
+    (Mark(&[[0, 0, 1, 1], [2, 1, 1, 0]]), &[]),
+    (Bell, &[]),
+    (CutText(b"hi"), &[]),
+    (Hear(1, CHANGES), &[]),
     (
         Cut(1),
-        Bytes(&[
+        &[
             2, 3, 0, 0, 0, 0, 0, 0, 2, 0x68, 0x69, 0, 0, 0, 1, 0, 0, 0, 0, 0, 2, 0, 1, 0, 0, 0, 0,
             1, 0, 0, 0, 2, 0, 0, 0,
-        ]),
+        ],
     ),
-    (ScheduleCopy(&[[2, 0, 4, 1]], 2, 0), Bytes(&[])),
-    (Hear(1, CHANGES), Bytes(&[])),
+    (ScheduleCopy(&[[2, 0, 4, 1]], 2, 0), &[]),
+    (Hear(1, CHANGES), &[]),
     (
         Cut(1),
-        Bytes(&[0, 0, 0, 1, 0, 2, 0, 0, 0, 2, 0, 1, 0, 0, 0, 1, 0, 0, 0, 0]),
+        &[0, 0, 0, 1, 0, 2, 0, 0, 0, 2, 0, 1, 0, 0, 0, 1, 0, 0, 0, 0],
     ),
-    (DoCopy(&[[1, 0, 2, 1], [3, 0, 4, 1]], 1, 0), Bytes(&[])),
-    (Hear(1, CHANGES), Bytes(&[])),
+    (DoCopy(&[[1, 0, 2, 1], [3, 0, 4, 1]], 1, 0), &[]),
+    (Hear(1, CHANGES), &[]),
     (
         Cut(1),
-        Bytes(&[
+        &[
             0, 0, 0, 2, 0, 3, 0, 0, 0, 1, 0, 1, 0, 0, 0, 1, 0, 2, 0, 0, 0, 1, 0, 0, 0, 1, 0, 1, 0,
             0, 0, 1, 0, 0, 0, 0,
-        ]),
+        ],
     ),
-    (Paint([0, 0, 1, 1], &[0xff8000]), Bytes(&[])),
-    (Hear(1, CHANGES), Bytes(&[])),
+    (Paint([0, 0, 1, 1], &[0xff8000]), &[]),
+    (Hear(1, CHANGES), &[]),
     (
         Cut(1),
-        Bytes(&[
+        &[
             0, 0, 0, 1, 0, 0, 0, 0, 0, 1, 0, 1, 0, 0, 0, 0, 0, 0x80, 0xff, 0,
-        ]),
+        ],
     ),
-    (Close(1), Bytes(&[])),
+    (Close(1), &[]),
 ];
-
-/// Calls that are refused, and then what is sent: nothing changed.
-static REFUSED: [Row; 21] = [
-    (Paint(WHOLE, &[1, 2, 3, 4]), Bytes(&[])),
-    (Connect(1), Bytes(VERSION)),
-    (Hear(1, OPENING), Bytes(OPENED)),
-    (Hear(1, ALL), Bytes(&[])),
-    (Cut(1), Bytes(FOUR)),
-    (Hear(1, CHANGES), Bytes(&[])),
-    (Write([-1, 0, 1, 1], &[9, 9]), Refused(BadRect)),
-    (Write([3, 0, 5, 1], &[9, 9]), Refused(BadRect)),
-    (Write([2, 0, 1, 1], &[]), Refused(BadRect)),
-    (Write([0, 0, 2, 1], &[9]), Refused(BadPixelCount)),
-    (Paint([-1, 0, 1, 1], &[9, 9]), Refused(BadRect)),
-    (Paint([3, 0, 5, 1], &[9]), Refused(BadRect)),
-    (Paint([2, 0, 1, 1], &[]), Refused(BadRect)),
-    (Paint([0, 0, 1, 1], &[9, 9]), Refused(BadPixelCount)),
-    (Connect(1), Refused(NumberInUse)),
-    (Hear(9, &[]), Refused(NoViewer)),
-    (Cut(9), Refused(NoViewer)),
-    (Close(9), Refused(NoViewer)),
-    (Cut(1), Bytes(&[])),
-    (Mark(&[WHOLE]), Bytes(&[])),
-    (Cut(1), Bytes(FOUR)),
-];
-
-/// What is no message of viewer 1: it is heard no further, and viewer 2 is sent its bytes all the same.
-static FAULT: [Row; 12] = [
-    (Connect(1), Bytes(VERSION)),
-    (Connect(2), Bytes(VERSION)),
-    (Hear(1, OPENING), Bytes(OPENED)),
-    (Hear(2, OPENING), Bytes(OPENED)),
-    (Hear(2, ALL), Bytes(&[])),
-    (Cut(2), Bytes(BLACK)),
-    (Hear(2, CHANGES), Bytes(&[])),
-    (Hear(1, &[7]), Closed(UnknownMessage(7))),
-    (Hear(1, &[0]), Closed(UnknownMessage(7))),
-    (Paint([2, 0, 3, 1], &[0x12_ff_8000]), Bytes(&[])),
-    (Cut(1), Bytes(&[])),
-    (
-        Cut(2),
-        Bytes(&[
-            0, 0, 0, 1, 0, 2, 0, 0, 0, 1, 0, 1, 0, 0, 0, 0, 0, 0x80, 0xff, 0,
-        ]),
-    ),
-];
-
-/// The lists, and at how many of a list's calls something happens: of the third list 12 calls are refused, and one cut gives
-/// nothing; so does one of the fourth.
-pub(crate) fn lists() -> [(&'static [Row], usize); 4] {
-    [
-        (&TWO_VIEWERS, 15),
-        (&EVERY_KIND, 21),
-        (&REFUSED, 8),
-        (&FAULT, 11),
-    ]
-}
 
 fn listed<T: Copy>(alloc: Global, items: &[T]) -> Result<Listed<T>, AllocError> {
     Listed::from_slice(alloc, items)
@@ -209,7 +142,7 @@ fn rects(alloc: Global, corners: &[[i32; 4]]) -> Result<Listed<Rect>, AllocError
 }
 
 /// The event of a call.
-fn event(alloc: Global, call: Call) -> Result<Event, AllocError> {
+pub(crate) fn event(alloc: Global, call: Call) -> Result<Event, AllocError> {
     Ok(match call {
         Write(corners, colours) => Event::Write {
             rect: rect_of(corners),

@@ -4,16 +4,21 @@ use std::io;
 use std::io::{BufWriter, Read, Write};
 use std::test::Fail;
 
-// A viewer is sent a screen, and a place that was painted.
+// Two viewers are sent a screen and then a copy, the one by CopyRect, the other one its pixels.
 static SCRIPT: &str =
-    "screen 4 3 demo\nconnect 1\nhear 1 524642203030332e3030380a0101\nhear 1 03000000000000040003\ncut 1\n\
-        hear 1 03010000000000040003\ncut 1\npaint 2 1 1 1 ff8000\ncut 1\ncut 1\n";
+    "screen 4 1 demo\npaint 0 0 4 1 000001000002000003000004\nconnect 1\nhear 1 524642203030332e3030380a0101\n\
+        connect 2\nhear 2 524642203030332e3030380a0101\nhear 1 020000020000000100000000\nhear 1 03000000000000040001\n\
+        cut 1\nhear 2 03000000000000040001\ncut 2\ndocopy 1 0 4 1 1 0\nhear 1 03010000000000040001\n\
+        hear 2 03010000000000040001\ncut 1\ncut 2\n";
 
-static ANSWERS: &str = "ok\nconnect 1 524642203030332e3030380a\n\
-        hear 1 010100000000000400032018000100ff00ff00ff1008000000000000000464656d6f\nhear 1 -\n\
-        cut 1 00000001000000000004000300000000\
-        000000000000000000000000000000000000000000000000000000000000000000000000000000000000000000000000\nhear 1 -\n\
-        cut 1 -\nok\ncut 1 000000010002000100010001000000000080ff00\ncut 1 -\n";
+static ANSWERS: &str = "ok\nok\nconnect 1 524642203030332e3030380a\n\
+        hear 1 010100000000000400012018000100ff00ff00ff1008000000000000000464656d6f\n\
+        connect 2 524642203030332e3030380a\n\
+        hear 2 010100000000000400012018000100ff00ff00ff1008000000000000000464656d6f\nhear 1 -\nhear 1 -\n\
+        cut 1 0000000100000000000400010000000001000000020000000300000004000000\nhear 2 -\n\
+        cut 2 0000000100000000000400010000000001000000020000000300000004000000\nok\nhear 1 -\nhear 2 -\n\
+        cut 1 0000000100010000000300010000000100000000\n\
+        cut 2 00000001000100000003000100000000010000000200000003000000\n";
 
 // Gives a byte a read, comments without an end, and then fails or ends.
 #[derive(Drop)]
@@ -52,6 +57,20 @@ fn drip(left: usize, fails: bool) -> Dripping {
 fn a_reader_that_fails(rt: HostRuntime) {
     for left in [0, 1, 100] {
         expect(&rt, rt.alloc(), &mut drip(left, true), "read fault\n", 5);
+    }
+}
+
+// Scripts whose last line lacks its line feed, ends with it, and is empty.
+static LAST_LINES: [(&str, &str); 3] = [
+    ("screen 4 1 demo\ncut 2", "ok\nrefused 7 NoViewer\n"),
+    ("screen 4 1 demo\ncut 2\n", "ok\nrefused 7 NoViewer\n"),
+    ("screen 4 1 demo\n\n", "ok\n"),
+];
+
+#[test]
+fn last_lines(rt: HostRuntime) {
+    for (script, printed) in &LAST_LINES {
+        expect(&rt, rt.alloc(), &mut script.as_bytes(), printed, 0);
     }
 }
 

@@ -2,6 +2,7 @@
 
 ghost use Rattle.std.specs.Prelude.{◌≡◌, ◌<◌};
 
+use super::is_made_of;
 use receipts::Receipt;
 use screen::{Fault, History, ScreenError};
 use std::alloc::Global;
@@ -143,17 +144,6 @@ static OPENINGS: [Opening; 14] = [
         ended: Ended::EndOfInput,
     },
 ];
-
-/// Whether bytes are these parts, one after the other.
-fn is_made_of(mut bytes: &[u8], parts: &[&[u8]]) -> bool {
-    for part in parts {
-        match bytes.strip_prefix(*part) {
-            Some(rest) => bytes = rest,
-            None => return false,
-        }
-    }
-    bytes.is_empty()
-}
 
 /// Whether a receipt is that of an opening.
 fn is_of(receipt: &Receipt, opening: &Opening) -> bool {

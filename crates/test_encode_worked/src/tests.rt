@@ -1,4 +1,0 @@
-mod hextile;
-mod pixels;
-mod raw;
-mod rre;
