@@ -1,5 +1,5 @@
 -- What drawing calls do to a screen, by its viewers' seats.
-use Rattle.std.proofs.Common.{◌≡◌, ℕ, List, [], ◌∷◌, ◌++◌, map, All, None, refl, sym, ◌∙◌, ap, subst}
+use Rattle.std.proofs.Common.{◌≡◌, ℕ, ℤ, Bool, false, List, [], ◌∷◌, ◌++◌, map, All, None, refl, sym, ◌∙◌, ap, subst}
 use Rattle.std.specs.Map.{values_of}
 use Rattle.std.proofs.lemmas.List.Elements.{All-map}
 use Rattle.messages.specs.Reading.{Rest, is_open_rest}
@@ -7,12 +7,13 @@ use Rattle.client_list.specs.Connected.{changed}
 use Rattle.copy_schedule.specs.declared.LogEntry.{LogEntry}
 use Rattle.scene.specs.declared.Config.{Config}
 use Rattle.scene.specs.declared.Event.{Event}
-use Rattle.viewer.specs.Viewer.{KeptViewer, Viewer}
+use Rattle.viewer.specs.Viewer.{KeptViewer, Viewer, viewer_marked}
 use Rattle.viewer_list.specs.Viewers.{drawn as told_of}
 use Rattle.viewer_list.specs.SizeLemmas.{drawn_size}
 use Rattle.scene.specs.Alone.{drawing_refusal, drawn, shown_drawing, owner_of}
 use Rattle.scene.specs.Answers.{SceneState, scene_after}
 use Rattle.scene.specs.Consistent.{IsSized}
+use Rattle.scene.proofs.Owing.{unmarked}
 use Rattle.scene.proofs.Steps.{redrawn, state-drawing}
 
 -- a seat changes as the drawing call's viewer does
@@ -59,6 +60,15 @@ state-unseen config kept_config picture new_picture pairs e es everyone accepted
     all_same : (pairs : List (ℕ × KeptViewer)) → changed (λ s. s) pairs ≡ pairs
     all_same [] = refl
     all_same (pair ∷ pairs) = ap (λ (l : List (ℕ × KeptViewer)). pair ∷ l) (all_same pairs)
+
+-- the same where no place is drawn: each viewer's marks stay
+pub state-empty : (config kept_config : Config) (picture new_picture : List ℕ) (pairs : List (ℕ × KeptViewer)) (set : ℤ → ℤ → Bool) (e : Event) (es : List Event) → owner_of e ≡ None → drawing_refusal kept_config e ≡ None
+    → new_picture ≡ drawn kept_config e picture → IsShown kept_config e (viewer_marked set) → ((x y : ℤ) → set x y ≡ false) → All (IsSized kept_config) (values_of pairs)
+    → record { config = kept_config; picture = picture; viewers = pairs } ≡ scene_after config es
+    → record { config = kept_config; picture = new_picture; viewers = pairs } ≡ scene_after config (es ++ e ∷ [])
+state-empty config kept_config picture new_picture pairs set e es everyone accepted painted each none sized h =
+    ap (λ (l : List (ℕ × KeptViewer)). record { config = kept_config; picture = new_picture; viewers = l }) (sym (unmarked set pairs none (λ k d below. (sized k d below).whole)))
+    ∙ state-drawn config kept_config picture new_picture pairs (viewer_marked set) e es everyone accepted painted each h
 
 pub values-changed : (g : KeptViewer → KeptViewer) (pairs : List (ℕ × KeptViewer)) → values_of (changed g pairs) ≡ map g (values_of pairs)
 values-changed g [] = refl

@@ -1,5 +1,8 @@
 //! Drawing in a log: a mark of many rectangles that stands before another one.
 
+ghost use Rattle.std.specs.Prelude.{All};
+ghost use Rattle.copy_schedule.specs.Log.{IsCutEntry};
+
 use super::*;
 use copy_schedule::joined_log;
 
@@ -21,14 +24,12 @@ fn columns_from(alloc: Global, first: u8) -> Result<Region, AllocError> {
     region_of(alloc, &rects)
 }
 
-/// Whether marks that a log comes to are those of all columns, whether the log is joined first or not.
-fn marks_all(marks: &Marks, alloc: Global) -> Result<bool, AllocError> {
-    let log = [
-        LogEntry::Mark(columns_from(alloc, 0)?),
-        LogEntry::Mark(columns_from(alloc, 1)?),
-    ];
-    let joined = joined_log(alloc, &log, true)?;
-    let by_log = marks.apply_log(&log, true)?.into_marks();
+/// Whether a log comes to one entry, and marks all columns, whether it is joined first or not.
+fn marks_all(marks: &Marks, alloc: Global, log: &[LogEntry]) -> Result<bool, AllocError>
+    requires cut { All (IsCutEntry marks.now.width marks.now.height) log.now }
+{
+    let joined = joined_log(alloc, log, true)?;
+    let by_log = marks.apply_log(log, true)?.into_marks();
     let by_joined = marks.apply_log(&joined, true)?.into_marks();
     let all = [Rect {
         x1: 0,
@@ -49,6 +50,10 @@ fn a_mark_of_many_rectangles_is_joined(rt: HostRuntime) -> Result<(), Fail> {
     let mut marks = Marks::new(rt.alloc(), 130, 2)?;
     show_all(&mut marks)?;
     assert!(rt; marks.modified().is_empty());
-    assert!(rt; marks_all(&marks, rt.alloc())?);
+    let log = [
+        LogEntry::Mark(columns_from(rt.alloc(), 0)?),
+        LogEntry::Mark(columns_from(rt.alloc(), 1)?),
+    ];
+    assert!(rt; marks_all(&marks, rt.alloc(), &log)?);
     Ok(())
 }
