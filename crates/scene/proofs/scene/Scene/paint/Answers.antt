@@ -40,12 +40,13 @@ returns-then-is_empty-clause-step c = λ config list h.
     let here = c.self.inside in
     let block = c.in_ok-block.block in
     let painted = written-on here.config here.picture c.self.invariant.width c.self.invariant.height c.write.new.self c.args.rect (block_rect block) c.args.colours.now c.in_ok-write.ensures.ok (sym c.in_ok-block.ensures.is) in
-    elim c.then-is_empty.branch [ then-is_empty-via-then-is_empty w ↦
-      let none = no_place block c.args.colours.now c.in_ok-block.ensures.whole (sym c.is_empty.ensures ∙ w.if-is_empty.true) in
-      state-empty config here.config here.picture.colours c.write.new.self.colours here.viewers.pairs (in_rect c.args.rect) (Paint c.args.rect c.args.colours.now) list refl c.in_ok-block.ensures.refusal painted (λ s. refl)
-      (λ x y. ap (λ (r : Rect). in_rect r x y) c.in_ok-block.ensures.is ∙ empty_block block none x y) c.self.invariant.sized (c.self.view_is ∙ h)
-    | then-is_empty-via-else-is_empty+then-is_empty-2 w ↦
-      state-nobody config here.config here.picture.colours c.write.new.self.colours here.viewers.pairs (Paint c.args.rect c.args.colours.now) list (w.is_empty-else-is_empty.ensures.0 w.if-is_empty-2.true) refl c.in_ok-block.ensures.refusal painted (c.self.view_is ∙ h)
+    elim c.then-is_empty.branch [
+      | then-is_empty-via-then-is_empty w ↦
+          let none = no_place block c.args.colours.now c.in_ok-block.ensures.whole (sym c.is_empty.ensures ∙ w.if-is_empty.true) in
+          state-empty config here.config here.picture.colours c.write.new.self.colours here.viewers.pairs (in_rect c.args.rect) (Paint c.args.rect c.args.colours.now) list refl c.in_ok-block.ensures.refusal painted (λ s. refl)
+          (λ x y. ap (λ (r : Rect). in_rect r x y) c.in_ok-block.ensures.is ∙ empty_block block none x y) c.self.invariant.sized (c.self.view_is ∙ h)
+      | then-is_empty-via-else-is_empty+then-is_empty-2 w ↦
+          state-nobody config here.config here.picture.colours c.write.new.self.colours here.viewers.pairs (Paint c.args.rect c.args.colours.now) list (w.is_empty-else-is_empty.ensures.0 w.if-is_empty-2.true) refl c.in_ok-block.ensures.refusal painted (c.self.view_is ∙ h)
     ]
   where
     no_place : (b : Block) (colours : List ℕ) → length colours ≡ b.rows * b.columns → (length colours == 0) ≡ true → b.rows * b.columns ≡ 0
