@@ -1,22 +1,13 @@
 //! Calls that no line `encode` of a transcript makes: a head, a copy, one table for two rectangles, tiles row by row, and a colour
 //! with a top byte. The bytes are written out from RFC 6143.
 
+use super::RGB565;
 use encode_hextile::{Carried, Rows, encode_hextile_with_table, encode_row_of_tiles};
 use encode_raw::{Area, PixelFormat, encode_copy, encode_raw_with_table, rect_header};
 use encode_rre::encode_rre_with_table;
-use pixel_translate::{BitsPerPixel, Component, Table, put_pixel, translate};
+use pixel_translate::{Table, put_pixel, translate};
 use std::alloc::AllocError;
 use std::test::Fail;
-
-/// Sixteen bits, 5-6-5, the highest byte first.
-const RGB565: PixelFormat = PixelFormat {
-    bits: BitsPerPixel::Sixteen,
-    depth: 16,
-    big_endian: true,
-    red: Component { max: 31, shift: 11 },
-    green: Component { max: 63, shift: 5 },
-    blue: Component { max: 31, shift: 0 },
-};
 
 /// A head with an encoding below 0, and a copy of three places from the corner, behind a byte.
 fn head_and_copy(out: &mut Vec<u8>) -> Result<(), AllocError> {

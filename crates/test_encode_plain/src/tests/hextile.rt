@@ -3,20 +3,12 @@
 
 ghost use Rattle.std.specs.Prelude.{◌≡◌, ◌*◌, ◌≤◌, length};
 
+use super::RGB565;
 use super::pixel_bytes::append_pixel;
 use encode_hextile::encode_hextile;
 use pixel_translate::{Area, BitsPerPixel, Component, PixelFormat, translate};
 use std::alloc::{AllocError, Global};
 use std::test::Fail;
-
-const RGB565: PixelFormat = PixelFormat {
-    bits: BitsPerPixel::Sixteen,
-    depth: 16,
-    big_endian: true,
-    red: Component { max: 31, shift: 11 },
-    green: Component { max: 63, shift: 5 },
-    blue: Component { max: 31, shift: 0 },
-};
 
 /// Eight bits, which are the colour's lowest.
 const LOWEST: PixelFormat = PixelFormat {
