@@ -30,6 +30,7 @@ fn what_a_screen_holds_can_be_read(rt: HostRuntime) -> Result<(), Fail> {
     let mut screen = new_screen(rt.alloc(), (4, 3))?;
     draw_and_fail(&mut screen)?;
     assert!(rt; is_held(&screen));
+    assert!(rt; screen.numbers()?.as_slice() == [5].as_slice());
     Ok(())
 }
 
