@@ -15,25 +15,22 @@ use std::alloc::{AllocError, Global};
 /// A transcript ends with this status.
 fn check_status(
     alloc: Global,
-    transcript: &Transcript<'_>,
+    transcript: &Transcript,
     status: u8,
 ) -> Result<Option<Difference>, AllocError> {
     let given = format!(in alloc; "status {status}")?;
-    if transcript.ending == given.as_str() {
+    if transcript.ending.as_str() == given.as_str() {
         return Ok(None);
     }
-    let wanted = transcript.ending;
+    let wanted = transcript.ending.as_str();
     Ok(Some(make_difference(alloc, "played", transcript.line, wanted, &given)?))
 }
 
 /// What `play` prints of a script, and its status.
-fn check_played(
-    alloc: Global,
-    transcript: &Transcript<'_>,
-) -> Result<Option<Difference>, AllocError> {
+fn check_played(alloc: Global, transcript: &Transcript) -> Result<Option<Difference>, AllocError> {
     let script = text_of(alloc, &transcript.exchanges)?;
     let mut printed = Vec::new(alloc);
-    let status = play(alloc, &script, &mut printed);
+    let status = play(alloc, &mut script.as_bytes(), &mut printed);
     let text = str::from_utf8(&printed).unwrap_or("(no text)");
     let wanted = played(alloc, &transcript.exchanges)?;
     match compare(alloc, "played", &wanted, text)? {
@@ -53,7 +50,7 @@ enum Way {
 
 fn check_way(
     alloc: Global,
-    transcript: &Transcript<'_>,
+    transcript: &Transcript,
     script: &Script,
     way: Way,
 ) -> Result<Option<Difference>, ScreenError> {
@@ -67,7 +64,7 @@ fn check_way(
 
 fn check_replayed(
     alloc: Global,
-    transcript: &Transcript<'_>,
+    transcript: &Transcript,
     script: &Script,
 ) -> Result<Option<Difference>, ScreenError> {
     for way in [Way::Run, Way::History, Way::Pieces, Way::Shown] {
@@ -88,10 +85,7 @@ fn is_accepted(alloc: Global, script: &Script) -> Result<bool, ScreenError> {
     }
 }
 
-fn check_script(
-    alloc: Global,
-    transcript: &Transcript<'_>,
-) -> Result<Option<Difference>, ScreenError> {
+fn check_script(alloc: Global, transcript: &Transcript) -> Result<Option<Difference>, ScreenError> {
     let found = check_played(alloc, transcript)?;
     if found.is_some() {
         return Ok(found);
@@ -132,12 +126,12 @@ impl Answerer {
 /// Each line is answered as it is written.
 fn check_lines(
     alloc: Global,
-    transcript: &Transcript<'_>,
+    transcript: &Transcript,
     tried: &'static str,
     mut answerer: Answerer,
 ) -> Result<Option<Difference>, AllocError> {
     for exchange in &transcript.exchanges {
-        let text = answerer.answer_line(alloc, exchange.said)?;
+        let text = answerer.answer_line(alloc, &exchange.said)?;
         let found = compare(alloc, tried, &[exchange], &text)?;
         if found.is_some() {
             return Ok(found);
@@ -147,10 +141,7 @@ fn check_lines(
 }
 
 /// A test viewer answers the same, however the bytes are cut that it is told.
-fn check_viewing(
-    alloc: Global,
-    transcript: &Transcript<'_>,
-) -> Result<Option<Difference>, AllocError> {
+fn check_viewing(alloc: Global, transcript: &Transcript) -> Result<Option<Difference>, AllocError> {
     for (length, tried) in [
         (usize::MAX, "told"),
         (1, "told byte by byte"),
@@ -166,7 +157,7 @@ fn check_viewing(
 }
 
 /// The first word that a transcript says, but for comments.
-fn first_word<'a>(exchanges: &[Exchange<'a>]) -> &'a str {
+fn first_word(exchanges: &[Exchange]) -> &str {
     for exchange in exchanges {
         if !exchange.said.is_empty() && !exchange.said.starts_with("#") {
             return exchange.said.split(' ').next().unwrap_or("");
@@ -176,10 +167,7 @@ fn first_word<'a>(exchanges: &[Exchange<'a>]) -> &'a str {
 }
 
 /// Where a transcript isn't as written, if it isn't.
-pub fn check(
-    alloc: Global,
-    transcript: &Transcript<'_>,
-) -> Result<Option<Difference>, ScreenError> {
+pub fn check(alloc: Global, transcript: &Transcript) -> Result<Option<Difference>, ScreenError> {
     match first_word(&transcript.exchanges) {
         "encode" => Ok(check_lines(alloc, transcript, "encoded", Answerer::Encoder)?),
         "viewer" => Ok(check_viewing(alloc, transcript)?),

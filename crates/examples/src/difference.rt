@@ -50,22 +50,19 @@ impl<'a> Given<'a> {
     }
 
     /// The first of an exchange's lines that is not the next one given.
-    fn compare(&mut self, exchange: &Exchange<'_>) -> Result<Option<Difference>, AllocError> {
+    fn compare(&mut self, exchange: &Exchange) -> Result<Option<Difference>, AllocError> {
         let mut line = exchange.line;
         for wanted in &exchange.answered {
             line = line.saturating_add(1);
             let given = self.next();
-            if *wanted != given {
+            if wanted.as_str() != given {
                 return Ok(Some(make_difference(self.alloc, self.tried, line, wanted, given)?));
             }
         }
         Ok(None)
     }
 
-    fn compare_all(
-        &mut self,
-        exchanges: &[&Exchange<'_>],
-    ) -> Result<Option<Difference>, AllocError> {
+    fn compare_all(&mut self, exchanges: &[&Exchange]) -> Result<Option<Difference>, AllocError> {
         for exchange in exchanges {
             if let Some(difference) = self.compare(exchange)? {
                 return Ok(Some(difference));
@@ -79,7 +76,7 @@ impl<'a> Given<'a> {
 pub fn compare(
     alloc: Global,
     tried: &'static str,
-    exchanges: &[&Exchange<'_>],
+    exchanges: &[&Exchange],
     text: &str,
 ) -> Result<Option<Difference>, AllocError> {
     let mut given = Given {

@@ -42,10 +42,7 @@ fn put_difference(text: &mut String, found: &Difference) -> Result<(), AllocErro
 }
 
 /// The first of the transcripts that isn't as written.
-fn first_difference(
-    alloc: Global,
-    all: &[Transcript<'_>],
-) -> Result<Option<Difference>, ScreenError> {
+fn first_difference(alloc: Global, all: &[Transcript]) -> Result<Option<Difference>, ScreenError> {
     for transcript in all {
         let found = check(alloc, transcript)?;
         if found.is_some() {
@@ -56,11 +53,7 @@ fn first_difference(
 }
 
 /// What is found in a file's text, and whether all is as written.
-fn put_found(
-    alloc: Global,
-    text: &mut String,
-    all: &[Transcript<'_>],
-) -> Result<bool, ScreenError> {
+fn put_found(alloc: Global, text: &mut String, all: &[Transcript]) -> Result<bool, ScreenError> {
     match first_difference(alloc, all)? {
         Some(found) => {
             put_difference(text, &found)?;

@@ -131,7 +131,7 @@ fn first_unlike(whole: &Sent, pieces: &Sent) -> Option<u64> {
 /// Each viewer is sent the same in all, whether its bytes are heard as they stand in the script or in pieces of 1 and of 3.
 pub fn check_pieces(
     alloc: Global,
-    transcript: &Transcript<'_>,
+    transcript: &Transcript,
     script: &Script,
 ) -> Result<Option<Difference>, ScreenError> {
     let whole = sent_whole(alloc, script)?;

@@ -4,19 +4,25 @@ ghost use Rattle.std.specs.Prelude.{◌≡◌};
 
 use script_player::{Steps, play_over};
 use std::alloc::Global;
+use std::io::{Read, Write};
 use std::marker::Brand;
 use std::sync::ledger::{Blank, Ledger};
 
-fn counted<L: Ledger>(alloc: Global, blank: Blank, script: &str, out: &mut Vec<u8>) -> u8
+fn counted<L: Ledger, R: Read, W: Write>(
+    alloc: Global,
+    blank: Blank,
+    reader: &mut R,
+    writer: &mut W,
+) -> u8
     requires name { blank.name ≡ L.name }
     requires parts { blank.parts ≡ L.parts }
     requires one { L.parts ≡ 1 }
 {
     let mut steps = Steps::<L>::new(blank);
-    play_over(alloc, &mut script.as_bytes(), out, &mut steps)
+    play_over(alloc, reader, writer, &mut steps)
 }
 
-/// What a script prints is appended. Its status.
-pub fn play(alloc: Global, script: &str, out: &mut Vec<u8>) -> u8 {
-    counted::<Brand>(alloc, Blank::new(1), script, out)
+/// What the script that a reader has prints is written. Its status.
+pub fn play<R: Read, W: Write>(alloc: Global, reader: &mut R, writer: &mut W) -> u8 {
+    counted::<Brand, R, W>(alloc, Blank::new(1), reader, writer)
 }

@@ -38,7 +38,7 @@ fn config_with(alloc: Global, config: &Config, history: History) -> Result<Confi
 /// What `run` answers to a script's events.
 pub fn check_run(
     alloc: Global,
-    transcript: &Transcript<'_>,
+    transcript: &Transcript,
     script: &Script,
 ) -> Result<Option<Difference>, ScreenError> {
     let answers = run(alloc, script.config.try_clone(alloc)?, &script.events)?;
@@ -84,7 +84,7 @@ fn first_other(script: &Script, happened: &[usize], history: &[Event]) -> Option
     None
 }
 
-fn line_of(transcript: &Transcript<'_>, script: &Script, event: usize) -> usize {
+fn line_of(transcript: &Transcript, script: &Script, event: usize) -> usize {
     let exchange = script.exchanges.get(event).copied().unwrap_or(0);
     transcript
         .exchanges
@@ -112,7 +112,7 @@ const KEPT: &str = "with the history kept";
 /// How the history that a screen keeps differs from the events that happened, if it does.
 fn check_kept(
     alloc: Global,
-    transcript: &Transcript<'_>,
+    transcript: &Transcript,
     script: &Script,
     happened: &[usize],
     history: &[Event],
@@ -136,7 +136,7 @@ fn check_kept(
 /// A screen that is given a history answers as the events in it were answered.
 fn check_given(
     alloc: Global,
-    transcript: &Transcript<'_>,
+    transcript: &Transcript,
     script: &Script,
     happened: &[usize],
     history: &[Event],
@@ -152,7 +152,7 @@ fn check_given(
 /// the same again.
 pub fn check_history(
     alloc: Global,
-    transcript: &Transcript<'_>,
+    transcript: &Transcript,
     script: &Script,
 ) -> Result<Option<Difference>, ScreenError> {
     let config = config_with(alloc, &script.config, History::Kept)?;

@@ -34,11 +34,11 @@ pub fn look_of(said: &str) -> Option<u64> {
 }
 
 /// The text of a script: the lines that a transcript says, but for the looks.
-pub fn text_of(alloc: Global, exchanges: &[Exchange<'_>]) -> Result<String, AllocError> {
+pub fn text_of(alloc: Global, exchanges: &[Exchange]) -> Result<String, AllocError> {
     let mut text = String::new(alloc);
     for exchange in exchanges {
-        if look_of(exchange.said).is_none() {
-            text.push_str(exchange.said)?;
+        if look_of(&exchange.said).is_none() {
+            text.push_str(&exchange.said)?;
             text.push('\n')?;
         }
     }
@@ -46,13 +46,13 @@ pub fn text_of(alloc: Global, exchanges: &[Exchange<'_>]) -> Result<String, Allo
 }
 
 /// The exchanges that `play` answers.
-pub fn played<'t, 'a>(
+pub fn played<'t>(
     alloc: Global,
-    exchanges: &'t [Exchange<'a>],
-) -> Result<Vec<&'t Exchange<'a>>, AllocError> {
+    exchanges: &'t [Exchange],
+) -> Result<Vec<&'t Exchange>, AllocError> {
     let mut played = Vec::new(alloc);
     for exchange in exchanges {
-        if look_of(exchange.said).is_none() {
+        if look_of(&exchange.said).is_none() {
             played.push(exchange)?;
         }
     }
@@ -60,11 +60,11 @@ pub fn played<'t, 'a>(
 }
 
 /// The exchanges of events, by their places in the list of events.
-pub fn exchanges_of<'t, 'a>(
+pub fn exchanges_of<'t>(
     alloc: Global,
-    transcript: &'t Transcript<'a>,
+    transcript: &'t Transcript,
     places: &[usize],
-) -> Result<Vec<&'t Exchange<'a>>, AllocError> {
+) -> Result<Vec<&'t Exchange>, AllocError> {
     let mut exchanges = Vec::new(alloc);
     for place in places {
         if let Some(exchange) = transcript.exchanges.get(*place) {
@@ -112,7 +112,7 @@ impl Read {
 }
 
 /// The screen and the events of a script, up to its end or the first line that is bad; None where it makes no screen.
-pub fn script_of(alloc: Global, exchanges: &[Exchange<'_>]) -> Result<Option<Script>, AllocError> {
+pub fn script_of(alloc: Global, exchanges: &[Exchange]) -> Result<Option<Script>, AllocError> {
     let mut read = Read {
         config: None,
         events: Vec::new(alloc),
@@ -120,18 +120,24 @@ pub fn script_of(alloc: Global, exchanges: &[Exchange<'_>]) -> Result<Option<Scr
         looks: Vec::new(alloc),
     };
     for (at, exchange) in exchanges.iter().enumerate() {
-        if let Some(viewer) = look_of(exchange.said) {
+        if let Some(viewer) = look_of(&exchange.said) {
             read.look(at, viewer)?;
         } else if !read.take(at, parse_line(alloc, exchange.said.as_bytes())?)? {
             break;
         }
     }
-    Ok(match read.config {
+    let Read {
+        config,
+        events,
+        exchanges,
+        looks,
+    } = read;
+    Ok(match config {
         Some(config) => Some(Script {
             config,
-            events: read.events,
-            exchanges: read.exchanges,
-            looks: read.looks,
+            events,
+            exchanges,
+            looks,
         }),
         None => None,
     })

@@ -6,20 +6,20 @@ use std::mem;
 
 /// A line that is said, and what is answered to it.
 #[derive(Drop)]
-pub struct Exchange<'a> {
+pub struct Exchange {
     /// The number of the said line in its file, from 1.
     pub line: usize,
-    pub said: &'a str,
+    pub said: String,
     /// The lines under it.
-    pub answered: Vec<&'a str>,
+    pub answered: Vec<String>,
 }
 
 /// Lines that are said one after the other, and how that ends.
 #[derive(Drop)]
-pub struct Transcript<'a> {
-    pub exchanges: Vec<Exchange<'a>>,
+pub struct Transcript {
+    pub exchanges: Vec<Exchange>,
     /// The last line: `status` and a number.
-    pub ending: &'a str,
+    pub ending: String,
     /// The last line's number in its file.
     pub line: usize,
 }
@@ -46,10 +46,10 @@ impl<T: Drop> From<AllocFailed<T>> for Malformed {
 
 /// What has been read of a file: whole transcripts, and the beginning of one.
 #[derive(Drop)]
-struct Read<'a> {
+struct Read {
     alloc: Global,
-    whole: Vec<Transcript<'a>>,
-    begun: Vec<Exchange<'a>>,
+    whole: Vec<Transcript>,
+    begun: Vec<Exchange>,
 }
 
 /// What is said in a line, if it is a said one. `>` alone says an empty line.
@@ -60,8 +60,9 @@ fn said_in(text: &str) -> Option<&str> {
     text.strip_prefix("> ")
 }
 
-impl<'a> Read<'a> {
-    fn say(&mut self, line: usize, said: &'a str) -> Result<(), Malformed> {
+impl Read {
+    fn say(&mut self, line: usize, said: &str) -> Result<(), Malformed> {
+        let said = String::from_str(self.alloc, said)?;
         let answered = Vec::new(self.alloc);
         self.begun.push(Exchange {
             line,
@@ -71,7 +72,8 @@ impl<'a> Read<'a> {
         Ok(())
     }
 
-    fn answer(&mut self, line: usize, text: &'a str) -> Result<(), Malformed> {
+    fn answer(&mut self, line: usize, text: &str) -> Result<(), Malformed> {
+        let text = String::from_str(self.alloc, text)?;
         match self.begun.last_mut() {
             Some(exchange) => {
                 exchange.answered.push(text)?;
@@ -81,7 +83,8 @@ impl<'a> Read<'a> {
         }
     }
 
-    fn end(&mut self, line: usize, ending: &'a str) -> Result<(), Malformed> {
+    fn end(&mut self, line: usize, ending: &str) -> Result<(), Malformed> {
+        let ending = String::from_str(self.alloc, ending)?;
         let exchanges = mem::replace(&mut self.begun, Vec::new(self.alloc));
         self.whole.push(Transcript {
             exchanges,
@@ -92,7 +95,7 @@ impl<'a> Read<'a> {
     }
 
     /// The next line of the file.
-    fn take(&mut self, line: usize, text: &'a str) -> Result<(), Malformed> {
+    fn take(&mut self, line: usize, text: &str) -> Result<(), Malformed> {
         if let Some(said) = said_in(text) {
             return self.say(line, said);
         }
@@ -107,7 +110,7 @@ impl<'a> Read<'a> {
 }
 
 /// The transcripts of a file's text.
-pub fn transcripts(alloc: Global, text: &str) -> Result<Vec<Transcript<'_>>, Malformed> {
+pub fn transcripts(alloc: Global, text: &str) -> Result<Vec<Transcript>, Malformed> {
     let mut read = Read {
         alloc,
         whole: Vec::new(alloc),

@@ -263,7 +263,7 @@ fn check_viewers(
 /// What a viewer shows is what is written under a look.
 fn check_look(
     world: &World,
-    transcript: &Transcript<'_>,
+    transcript: &Transcript,
     look: Look,
 ) -> Result<Option<Difference>, AllocError> {
     let Some(exchange) = transcript.exchanges.get(look.exchange) else {
@@ -276,7 +276,7 @@ fn check_look(
 /// The looks that come behind so many events.
 fn check_looks(
     world: &World,
-    transcript: &Transcript<'_>,
+    transcript: &Transcript,
     script: &Script,
     events: usize,
 ) -> Result<Option<Difference>, AllocError> {
@@ -294,7 +294,7 @@ fn check_looks(
 /// The looks, as the events happen; and that no viewer is told what is no message.
 fn check_events(
     world: &mut World,
-    transcript: &Transcript<'_>,
+    transcript: &Transcript,
     script: &Script,
 ) -> Result<Option<Difference>, ScreenError> {
     for (at, event) in script.events.iter().enumerate() {
@@ -322,7 +322,7 @@ fn is_told(event: &Event) -> bool {
 /// drawn.
 pub fn check_shown(
     alloc: Global,
-    transcript: &Transcript<'_>,
+    transcript: &Transcript,
     script: &Script,
 ) -> Result<Option<Difference>, ScreenError> {
     let mut world = World {
