@@ -1,6 +1,7 @@
-//! What is checked of a transcript. One whose first line isn't `encode`, `viewer` or `args` is a script of `vncdemo play`.
+//! What is checked of a transcript. One whose first line isn't `encode` or `viewer` is a script of `vncdemo play`.
 
 use crate::difference::{Difference, compare, make_difference};
+use crate::encoding;
 use crate::pieces::check_pieces;
 use crate::playing::play;
 use crate::replaying::{check_history, check_run};
@@ -8,7 +9,6 @@ use crate::script::{Script, played, script_of, text_of};
 use crate::transcripts::{Exchange, Transcript};
 use crate::viewing::Viewing;
 use crate::watching::check_shown;
-use crate::{commands, encoding};
 use screen::{Screen, ScreenError};
 use std::alloc::{AllocError, Global};
 
@@ -101,14 +101,12 @@ fn check_script(alloc: Global, transcript: &Transcript) -> Result<Option<Differe
 enum Answerer {
     Encoder,
     Viewer(Viewing),
-    CommandLine,
 }
 
 impl Answerer {
     fn answer(&mut self, alloc: Global, words: &[&str]) -> Result<String, AllocError> {
         match (self, words) {
             (Answerer::Encoder, ["encode", words @ ..]) => encoding::answer(alloc, words),
-            (Answerer::CommandLine, ["args", words @ ..]) => commands::answer(alloc, words),
             (Answerer::Viewer(viewing), words) => viewing.answer(words),
             _ => String::from_str(alloc, "bad line\n"),
         }
@@ -171,7 +169,6 @@ pub fn check(alloc: Global, transcript: &Transcript) -> Result<Option<Difference
     match first_word(&transcript.exchanges) {
         "encode" => Ok(check_lines(alloc, transcript, "encoded", Answerer::Encoder)?),
         "viewer" => Ok(check_viewing(alloc, transcript)?),
-        "args" => Ok(check_lines(alloc, transcript, "chosen", Answerer::CommandLine)?),
         _ => check_script(alloc, transcript),
     }
 }

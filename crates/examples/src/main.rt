@@ -7,7 +7,6 @@
 #![tactic(auto)]
 
 mod checking;
-mod commands;
 mod difference;
 mod encoding;
 mod pieces;

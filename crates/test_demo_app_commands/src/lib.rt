@@ -1,4 +1,4 @@
-//! The texts that the program's command line prints. There are tests here, and nothing else.
+//! The program's command lines and their help. There are tests here, and nothing else.
 #![tactic(auto)]
 
 #[cfg(test)]
