@@ -1,5 +1,5 @@
 -- How long the bytes of subrectangles are.
-use Rattle.std.proofs.Common.{◌≡◌, ℕ, zero, suc, inl, inr, ◌+◌, ◌-◌, ◌*◌, ◌/◌, ◌<◌, ◌≤◌, ◌++◌, ◌&&◌, Bool, true, false, not, cond, eqb, List, [], ◌∷◌, length, take, drop, get_or, slice_index, ◌⊎◌, subst, refl, sym, ap, ◌∙◌, arith, length-append, append_assoc, append-nil}
+use Rattle.std.proofs.Common.{◌≡◌, ℕ, zero, suc, inl, inr, ◌+◌, ◌-◌, ◌*◌, ◌/◌, ◌<◌, ◌≤◌, ◌++◌, ◌&&◌, Bool, true, false, not, cond, eqb, List, [], ◌∷◌, length, take, drop, get_or, slice_index, ◌⊎◌, subst, refl, sym, ap, ◌∙◌, arith, length-append}
 use Rattle.std.specs.List.{flat_map, range_with_len}
 use Rattle.std.proofs.lemmas.Grind.{flat_map-append}
 use Rattle.std.proofs.Math.Nat.{suc-mul, zero-mul, mul-le-mul, mul-le-mul_right}
@@ -11,11 +11,11 @@ use Rattle.std.proofs.lemmas.List.Sums.{count_by_more_yes, count_by_more_no, sum
 use Rattle.pixel_translate.specs.declared.PixelFormat.{PixelFormat}
 use Rattle.pixel_translate.specs.declared.BitsPerPixel.{BitsPerPixel}
 use Rattle.pixel_translate.specs.declared.BitsPerPixel.TheVariants.{Eight, Sixteen, ThirtyTwo}
-use Rattle.pixel_translate.specs.Pixel.{bit_count, bytes_per_pixel, pixel_bytes}
+use Rattle.pixel_translate.specs.Pixel.{bit_count, bytes_per_pixel, pixel_bytes, bits_of}
 use Rattle.encode_rre.specs.declared.Subrectangle.{Subrectangle}
 use Rattle.encode_rre.specs.Subrectangles.{FindsTheBackground, rows_of, row_at, times, background_of, run_at, is_above, stretch, subrectangles_in, subrectangles, begins_subrectangle, subrectangle_from}
 use Rattle.pixel_translate.specs.Bounds.{pixel_length}
-use Rattle.encode_rre.specs.Scans.{Step, found_before, one_more, some_run, stretch_is, run_same, row_is, row_more, fewer_rows, rows_count}
+use Rattle.encode_rre.specs.Scans.{found_before, one_more, some_run, stretch_is, run_same, row_is, row_more, fewer_rows, rows_count}
 use Rattle.encode_rre.specs.Runs.{Front, prefix_is}
 use Rattle.encode_rre.specs.Paint.{and_true}
 use Rattle.encode_hextile.specs.Hextile.{subrectangle_bytes}
@@ -140,7 +140,7 @@ few_of Sixteen = omega arith
 few_of ThirtyTwo = omega arith
 
 pub few_bytes_a_pixel : (f : PixelFormat) → bytes_per_pixel f ≤ 4
-few_bytes_a_pixel f = few_of f.bits
+few_bytes_a_pixel f = few_of (bits_of f)
 
 -- ---- places at which subrectangles begin
 

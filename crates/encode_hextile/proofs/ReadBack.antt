@@ -9,7 +9,7 @@ use Rattle.std.proofs.Math.Nat.{mul-lt-mul_of_pos_left}
 use Rattle.std.proofs.lemmas.List.Elements.{Contains-append_left, Contains-append_right}
 use Rattle.std.proofs.lemmas.Nat.{mul-add-lt}
 use Rattle.pixel_translate.specs.declared.PixelFormat.{PixelFormat}
-use Rattle.pixel_translate.specs.Pixel.{bit_count, pixel}
+use Rattle.pixel_translate.specs.Pixel.{bit_count, pixel, bits_of}
 use Rattle.pixel_translate.specs.Bounds.{pixel_below}
 use Rattle.encode_raw.specs.Raw.{head}
 use Rattle.encode_raw.specs.Reading.{◌>>=◌, head_at, Patch}
@@ -31,15 +31,15 @@ use Rattle.encode_hextile.proofs.TileBack.{Below, TileBack, tile_back, place_is}
 
 below_map : (f : PixelFormat) (colours : List ℕ) → Below f (map (pixel f) colours)
 below_map f colours k lt =
-    subst (λ (p : ℕ). p < 2 ^ bit_count f.bits) (sym (get_or-map (pixel f) colours k 0 0 (omega (arith, lt, length-map colours (pixel f))))) (pixel_below f (get_or colours k 0))
+    subst (λ (p : ℕ). p < 2 ^ bit_count (bits_of f)) (sym (get_or-map (pixel f) colours k 0 0 (omega (arith, lt, length-map colours (pixel f))))) (pixel_below f (get_or colours k 0))
 
 below_concat : (f : PixelFormat) (rows : List (List ℕ)) → ((j : ℕ) → j < length rows → Below f (get_or rows j [])) → Below f (concat rows)
 below_concat f [] each k lt = absurd (omega arith)
 below_concat f (r ∷ rows) each k lt =
     let more = below_concat f rows (λ j below. each (suc j) (omega arith)) in
     elim (cases_lt k (length r)) [
-      | inl low ↦ subst (λ (p : ℕ). p < 2 ^ bit_count f.bits) (sym (get_or_append_left r (concat rows) 0 k low)) (each 0 (omega arith) k low)
-      | inr high ↦ subst (λ (p : ℕ). p < 2 ^ bit_count f.bits) (sym (get_or-append_right r (concat rows) k 0 high)) (more (k - length r) (omega (arith, lt, length-append r (concat rows))))
+      | inl low ↦ subst (λ (p : ℕ). p < 2 ^ bit_count (bits_of f)) (sym (get_or_append_left r (concat rows) 0 k low)) (each 0 (omega arith) k low)
+      | inr high ↦ subst (λ (p : ℕ). p < 2 ^ bit_count (bits_of f)) (sym (get_or-append_right r (concat rows) k 0 high)) (more (k - length r) (omega (arith, lt, length-append r (concat rows))))
     ]
 
 -- a place of a tile is a place of the rectangle

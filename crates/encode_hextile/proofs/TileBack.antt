@@ -8,7 +8,7 @@ use Rattle.std.proofs.lemmas.Bool.{cases_eq, cases_lt, ltb-true, leb-true, eqb-t
 use Rattle.std.proofs.lemmas.Bool.Decides.{eqb_tells}
 use Rattle.std.proofs.lemmas.List.{get_or-take, get_or-drop, length-take-le, length-drop}
 use Rattle.pixel_translate.specs.declared.PixelFormat.{PixelFormat}
-use Rattle.pixel_translate.specs.Pixel.{bit_count, bytes_per_pixel, pixel_bytes}
+use Rattle.pixel_translate.specs.Pixel.{bit_count, bytes_per_pixel, pixel_bytes, bits_of as format_bits}
 use Rattle.encode_raw.specs.Reading.{◌>>=◌, number_at, pixels_at, raw_at, row_by_row, Patch}
 use Rattle.encode_raw.specs.Back.{pixel_back}
 use Rattle.encode_rre.specs.declared.Subrectangle.{Subrectangle}
@@ -28,7 +28,7 @@ use Rattle.encode_hextile.proofs.Cuts.{concat_rows}
 
 -- each pixel has room in the format
 abbrev pub Below : PixelFormat → List ℕ → Type 0
-Below f ps = (k : ℕ) → k < length ps → get_or ps k 0 < 2 ^ bit_count f.bits
+Below f ps = (k : ℕ) → k < length ps → get_or ps k 0 < 2 ^ bit_count (format_bits f)
 
 regroup : (a b c d : List ℕ) → ((a ++ b) ++ c) ++ d ≡ a ++ (b ++ (c ++ d))
 regroup a b c d = simp append_assoc
@@ -42,7 +42,7 @@ carried_is : (before : Option ℕ) (p : ℕ) → is_carried before p ≡ true �
 carried_is None p e = absurd cc
 carried_is (Some q) p e = ap (λ (t : ℕ). Some t) (eqb-true q p e)
 
-said_back : (f : PixelFormat) (before : Option ℕ) (p : ℕ) (more : List ℕ) (t : Bool) → is_carried before p ≡ t → p < 2 ^ bit_count f.bits
+said_back : (f : PixelFormat) (before : Option ℕ) (p : ℕ) (more : List ℕ) (t : Bool) → is_carried before p ≡ t → p < 2 ^ bit_count (format_bits f)
     → specified_at f (not t) before (bytes_unless t (pixel_bytes f p) ++ more) ≡ Some (Some p, more)
 said_back f before p more true e below = ap (λ (o : Option ℕ). Some (o, more)) (carried_is before p e)
 said_back f before p more false e below = ap (λ (o : Option (ℕ × List ℕ)). o >>= λ q. Some (Some q.0, q.1)) (pixel_back f p more below)
@@ -57,7 +57,7 @@ pub record Fitting (f : PixelFormat) (s : Subrectangle) : Type 0 where
   pub w : s.w ≤ 16
   pub high : 0 < s.h
   pub h : s.h ≤ 16
-  pub pixel : s.pixel < 2 ^ bit_count f.bits
+  pub pixel : s.pixel < 2 ^ bit_count (format_bits f)
 
 abbrev sub : ℕ → ℕ → ℕ → ℕ → ℕ → List ℕ → Option (Subrectangle × List ℕ)
 sub x y w h p more = Some (record { x = x; y = y; w = w; h = h; pixel = p }, more)
@@ -137,7 +137,7 @@ fitting f w h ps b s narrow low whole below is = record {
   w = omega (arith, has.inside, width, narrow);
   high = is.high;
   h = omega (arith, is.high, last.row, count, low);
-  pixel = subst (λ (p : ℕ). p < 2 ^ bit_count f.bits) (sym (place_is w h ps s.x s.y left top) ∙ has.same s.x (omega arith) (omega (arith, has.some)))
+  pixel = subst (λ (p : ℕ). p < 2 ^ bit_count (format_bits f)) (sym (place_is w h ps s.x s.y left top) ∙ has.same s.x (omega arith) (omega (arith, has.some)))
       (below (s.y * w + s.x) (omega (arith, row_within w h s.y top, left, whole)));
 }
   where
@@ -249,10 +249,10 @@ all_other b o ps e k lt ne =
     sym s.there ∙ are s.at s.within
 
 -- the one other pixel has room in the format
-other_small : (f : PixelFormat) (b o : ℕ) (ps : List ℕ) → Below f ps → others_of b ps ≡ OneOther o → o < 2 ^ bit_count f.bits
+other_small : (f : PixelFormat) (b o : ℕ) (ps : List ℕ) → Below f ps → others_of b ps ≡ OneOther o → o < 2 ^ bit_count (format_bits f)
 other_small f b o ps below e = go (beside b ps) refl
   where
-    go : (xs : List ℕ) → beside b ps ≡ xs → o < 2 ^ bit_count f.bits
+    go : (xs : List ℕ) → beside b ps ≡ xs → o < 2 ^ bit_count (format_bits f)
     go [] h = absurd (different (sym e ∙ ap kind_of h))
       where
         different : OneOther o ≡ Alone → ⊥
@@ -261,7 +261,7 @@ other_small f b o ps below e = go (beside b ps) refl
         let are : Are (beside b ps) (OneOther o) = subst (Are (beside b ps)) e (kind_are (beside b ps)) in
         let first : at (beside b ps) 0 ≡ o = are 0 (omega (arith, ap (length {A = ℕ}) h)) in
         let s = stands_at ps (at (beside b ps) 0) (stands_beside b ps (omega (arith, ap (length {A = ℕ}) h))) in
-        subst (λ (p : ℕ). p < 2 ^ bit_count f.bits) (s.there ∙ first) (below s.at s.within)
+        subst (λ (p : ℕ). p < 2 ^ bit_count (format_bits f)) (s.there ∙ first) (below s.at s.within)
 
 -- ---- bits
 
@@ -312,7 +312,7 @@ done b coloured foreground read = do
   patch ← read
   Some (record { patch = patch.0; next = record { background = Some b; foreground = cond coloured None foreground } }, patch.1)
 
-background_back : (f : PixelFormat) (carried : Carried) (bits : ℕ) (said any coloured : Bool) (b : ℕ) (more : List ℕ) → Bits bits (not (is_carried carried.background b)) said any coloured → b < 2 ^ bit_count f.bits
+background_back : (f : PixelFormat) (carried : Carried) (bits : ℕ) (said any coloured : Bool) (b : ℕ) (more : List ℕ) → Bits bits (not (is_carried carried.background b)) said any coloured → b < 2 ^ bit_count (format_bits f)
     → coded_tile_at f carried bits (bytes_unless (is_carried carried.background b) (pixel_bytes f b) ++ more) ≡ rest_at f carried said any coloured (Some b, more)
 background_back f carried bits said any coloured b more are below =
     ap (λ (t : Bool). specified_at f t carried.background bytes >>= rest_at f carried (has_bit bits 2) (has_bit bits 3) (has_bit bits 4)) are.background_is
@@ -324,14 +324,14 @@ background_back f carried bits said any coloured b more are below =
     bytes : List ℕ
     bytes = bytes_unless (is_carried carried.background b) (pixel_bytes f b) ++ more
 
-alone_back : (f : PixelFormat) (carried : Carried) (b : ℕ) (subs : List Subrectangle) (more : List ℕ) → b < 2 ^ bit_count f.bits
+alone_back : (f : PixelFormat) (carried : Carried) (b : ℕ) (subs : List Subrectangle) (more : List ℕ) → b < 2 ^ bit_count (format_bits f)
     → coded_tile_at f carried (bits_of carried b Alone) ((said_bytes f carried b Alone ++ list_bytes f subs Alone) ++ more) ≡ Some (record { patch = plain b; next = next_of carried b Alone }, more)
 unfolding subrectangles_at
 alone_back f carried b subs more below =
     ap (coded_tile_at f carried (bits_of carried b Alone)) (append_assoc (said_bytes f carried b Alone) [] more)
     ∙ background_back f carried (bits_of carried b Alone) false false false b more (alone_bits (is_carried carried.background b)) below
 
-other_back : (f : PixelFormat) (carried : Carried) (b o : ℕ) (subs : List Subrectangle) (more : List ℕ) → b < 2 ^ bit_count f.bits → o < 2 ^ bit_count f.bits
+other_back : (f : PixelFormat) (carried : Carried) (b o : ℕ) (subs : List Subrectangle) (more : List ℕ) → b < 2 ^ bit_count (format_bits f) → o < 2 ^ bit_count (format_bits f)
     → ((s : Subrectangle) → Contains subs s → Fitting f s) → ((s : Subrectangle) → Contains subs s → s.pixel ≡ o)
     → coded_tile_at f carried (bits_of carried b (OneOther o)) ((said_bytes f carried b (OneOther o) ++ list_bytes f subs (OneOther o)) ++ more) ≡ Some (record { patch = paint subs (plain b); next = next_of carried b (OneOther o) }, more)
 other_back f carried b o subs more below under each one =
@@ -349,7 +349,7 @@ other_back f carried b o subs more below under each one =
     list : List ℕ
     list = length subs ∷ (flat_map (subrectangle_bytes f false) subs ++ more)
 
-several_back : (f : PixelFormat) (carried : Carried) (b : ℕ) (subs : List Subrectangle) (more : List ℕ) → b < 2 ^ bit_count f.bits → ((s : Subrectangle) → Contains subs s → Fitting f s)
+several_back : (f : PixelFormat) (carried : Carried) (b : ℕ) (subs : List Subrectangle) (more : List ℕ) → b < 2 ^ bit_count (format_bits f) → ((s : Subrectangle) → Contains subs s → Fitting f s)
     → coded_tile_at f carried (bits_of carried b Several) ((said_bytes f carried b Several ++ list_bytes f subs Several) ++ more) ≡ Some (record { patch = paint subs (plain b); next = next_of carried b Several }, more)
 several_back f carried b subs more below each =
     ap (coded_tile_at f carried (bits_of carried b Several)) (append_assoc (said_bytes f carried b Several) (length subs ∷ flat_map (subrectangle_bytes f true) subs) more)
@@ -410,8 +410,8 @@ coded_back finds lists f w h ps carried others more is some whole narrow low bel
     stands : StandsAt ps b
     stands = stands_at ps b (finds ps some).stands_there
 
-    small : b < 2 ^ bit_count f.bits
-    small = subst (λ (p : ℕ). p < 2 ^ bit_count f.bits) stands.there (below stands.at stands.within)
+    small : b < 2 ^ bit_count (format_bits f)
+    small = subst (λ (p : ℕ). p < 2 ^ bit_count (format_bits f)) stands.there (below stands.at stands.within)
 
     each : (s : Subrectangle) → Contains subs s → Fitting f s
     each s c = fitting f w h ps b s narrow low whole below ((lists rows b s).0 c)

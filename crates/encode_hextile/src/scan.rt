@@ -57,7 +57,7 @@ pub(crate) fn put_number<const N: usize>(
     ensures items { bytes.new.items ≡ bytes.old.items ++ pixel_bytes format.now number }
     ensures len { array_vec_len bytes.new ≤ array_vec_len bytes.old + 4 }
 {
-    let fits = match format.bits {
+    let fits = match format.bits() {
         BitsPerPixel::Eight => bytes.try_extend_from_slice(&bytes_8(format, number)),
         BitsPerPixel::Sixteen => bytes.try_extend_from_slice(&bytes_16(format, number)),
         BitsPerPixel::ThirtyTwo => bytes.try_extend_from_slice(&bytes_32(format, number)),

@@ -9,7 +9,7 @@ use Rattle.std.proofs.Math.Nat.{suc-mul, mul-le-mul_right}
 use Rattle.std.proofs.lemmas.Bool.Decides.{eqb_tells}
 use Rattle.std.proofs.lemmas.List.Sums.{sum_by-cons}
 use Rattle.pixel_translate.specs.declared.PixelFormat.{PixelFormat}
-use Rattle.pixel_translate.specs.Pixel.{bit_count, bytes_per_pixel, be16, pixel, pixel_bytes}
+use Rattle.pixel_translate.specs.Pixel.{bit_count, bytes_per_pixel, be16, pixel, pixel_bytes, bits_of}
 use Rattle.pixel_translate.specs.Bounds.{pixel_below}
 use Rattle.encode_raw.specs.Raw.{head, raw}
 use Rattle.encode_raw.specs.Reading.{◌>>=◌, number_at, pixel_at, head_at, Patch}
@@ -32,7 +32,7 @@ pub record Fitting (f : PixelFormat) (s : Subrectangle) : Type 0 where
   pub y : s.y < 2 ^ 16
   pub w : s.w < 2 ^ 16
   pub h : s.h < 2 ^ 16
-  pub pixel : s.pixel < 2 ^ bit_count f.bits
+  pub pixel : s.pixel < 2 ^ bit_count (bits_of f)
 
 abbrev read : ℕ → ℕ → ℕ → ℕ → ℕ → List ℕ → Option (Subrectangle × List ℕ)
 read x y w h p more = Some (record { x = x; y = y; w = w; h = h; pixel = p }, more)
@@ -87,7 +87,7 @@ after_count f n bytes = do
 abbrev plain : ℕ → Patch
 plain b x y = b
 
-data_back : (f : PixelFormat) (b : ℕ) (subs : List Subrectangle) (more : List ℕ) → length subs < 2 ^ 32 → b < 2 ^ bit_count f.bits → ((s : Subrectangle) → Contains subs s → Fitting f s)
+data_back : (f : PixelFormat) (b : ℕ) (subs : List Subrectangle) (more : List ℕ) → length subs < 2 ^ 32 → b < 2 ^ bit_count (bits_of f) → ((s : Subrectangle) → Contains subs s → Fitting f s)
     → rre_at f (rre_data f b subs ++ more) ≡ Some (paint subs (plain b), more)
 data_back f b subs more small below each =
     ap (λ (n : ℕ). after_count f n ((pixel_bytes f b ++ flat_map (subrectangle_bytes f) subs) ++ more)) (from_be_bytes-to_be_bytes_4 (length subs) small)
@@ -119,7 +119,7 @@ fitting f w h colours b s narrow low whole is = record {
   y = omega (arith, top);
   w = omega (arith, has.inside, width);
   h = omega (arith, is.high, last.row, count);
-  pixel = subst (λ (p : ℕ). p < 2 ^ bit_count f.bits) (sym (place_is f w h colours s.x s.y whole (omega (arith, has.some, has.inside, width)) top) ∙ has.same s.x (omega arith) (omega (arith, has.some))) (pixel_below f (get_or colours (s.y * w + s.x) 0));
+  pixel = subst (λ (p : ℕ). p < 2 ^ bit_count (bits_of f)) (sym (place_is f w h colours s.x s.y whole (omega (arith, has.some, has.inside, width)) top) ∙ has.same s.x (omega arith) (omega (arith, has.some))) (pixel_below f (get_or colours (s.y * w + s.x) 0));
 }
   where
     rows : List (List ℕ)
@@ -140,11 +140,11 @@ fitting f w h colours b s narrow low whole is = record {
     width : length (row_at rows s.y) ≡ w
     width = wide w h (map (pixel f) colours) s.y (length-map colours (pixel f) ∙ whole) top
 
-stands_below : (f : PixelFormat) (b : ℕ) (colours : List ℕ) → 0 < times b (map (pixel f) colours) → b < 2 ^ bit_count f.bits
+stands_below : (f : PixelFormat) (b : ℕ) (colours : List ℕ) → 0 < times b (map (pixel f) colours) → b < 2 ^ bit_count (bits_of f)
 stands_below f b [] lt = absurd (omega arith)
 stands_below f b (c ∷ colours) lt =
     elim (eqb_tells (pixel f c) b) [
-      | inl e ↦ subst (λ (p : ℕ). p < 2 ^ bit_count f.bits) e.1 (pixel_below f c)
+      | inl e ↦ subst (λ (p : ℕ). p < 2 ^ bit_count (bits_of f)) e.1 (pixel_below f c)
       | inr ne ↦ stands_below f b colours
           (omega (arith, sum_by-cons (λ (q : ℕ). cond (eqb q b) 1 0) (pixel f c) (map (pixel f) colours), ap (λ (t : Bool). cond {A = ℕ} t 1 0) ne.0))
     ]

@@ -36,7 +36,7 @@ pub(crate) fn put_subrectangle(
     ensures ok { OnOk result (out.new.items ≡ out.old.items ++ subrectangle_bytes format.now sub) }
     ensures err { OnErr result (BeginsWith out.old.items out.new.items) }
 {
-    if format.bits == BitsPerPixel::ThirtyTwo && !format.big_endian {
+    if format.bits() == BitsPerPixel::ThirtyTwo && !format.big_endian {
         return put_twelve(out, sub.pixel, sub);
     }
     let [x_high, x_low] = sub.x.to_be_bytes();

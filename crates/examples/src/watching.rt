@@ -6,11 +6,38 @@ use crate::script::{Look, Script};
 use crate::showing::put_places;
 use crate::transcripts::Transcript;
 use messages::{Ear, Item};
-use pixel_translate::{Area, translate};
+use pixel_translate::{Area, PixelFormat, translate};
 use screen::{Answer, Event, Screen, ScreenError};
 use std::alloc::{AllocError, Global};
 use std::collections::BTreeMap;
 use test_viewer::Shown;
+
+/// An entry of the server's colour map, by its number: red in the lowest three bits, green in the next three, and blue in the
+/// highest two, each of them spread over 0 to 65535.
+fn servers_entry(pixel: u8) -> (u16, u16, u16) {
+    let red = u32::from(pixel % 8) * 65535 / 7;
+    let green = u32::from(pixel / 8 % 8) * 65535 / 7;
+    let blue = u32::from(pixel / 64) * 65535 / 3;
+    (red as u16, green as u16, blue as u16)
+}
+
+/// Whether a viewer was told the server's whole colour map.
+fn has_servers_map(shown: &Shown) -> bool {
+    for pixel in 0..=u8::MAX {
+        if shown.map(pixel) != Some(servers_entry(pixel)) {
+            return false;
+        }
+    }
+    true
+}
+
+/// The same, where the format that it asked for last needs one.
+fn has_map_for(shown: &Shown, format: Option<PixelFormat>) -> bool {
+    match format {
+        Some(format) if format.is_colour_map() => has_servers_map(shown),
+        _ => true,
+    }
+}
 
 /// A viewer's own side of its connection.
 #[derive(Drop)]
@@ -21,6 +48,10 @@ struct Watcher {
     /// What came before the viewer said its version.
     greeting: Vec<u8>,
     shown: Option<Shown>,
+    /// The format that the viewer asked for last.
+    format: Option<PixelFormat>,
+    /// Nothing was cut for it since then.
+    is_new: bool,
 }
 
 impl Watcher {
@@ -30,6 +61,8 @@ impl Watcher {
             ear: Ear::new(alloc),
             greeting: Vec::new(alloc),
             shown: None,
+            format: None,
+            is_new: false,
         }
     }
 
@@ -61,6 +94,8 @@ impl Watcher {
             }
             Item::Format(format) => {
                 shown.format(format);
+                self.format = Some(*format);
+                self.is_new = true;
             }
             _ => {}
         }
@@ -73,6 +108,20 @@ impl Watcher {
             self.take(item);
         }
         self.told(answered)
+    }
+
+    /// What was cut for the viewer.
+    fn cut(&mut self, bytes: &[u8]) -> Result<(), AllocError> {
+        self.is_new = false;
+        self.told(bytes)
+    }
+
+    /// Whether a viewer that is open has the colour map that its format needs, once something could be sent behind the format.
+    fn has_map(&self) -> bool {
+        match &self.shown {
+            Some(shown) if self.ear.is_open() && !self.is_new => { has_map_for(shown, self.format) }
+            _ => true,
+        }
     }
 
     /// Whether all that was told is legal.
@@ -110,7 +159,7 @@ impl World {
                 None => Ok(()),
             },
             Event::Cut { viewer } => match self.watchers.get_mut(viewer) {
-                Some(watcher) => watcher.told(bytes),
+                Some(watcher) => watcher.cut(bytes),
                 None => Ok(()),
             },
             Event::Close { viewer } => {
@@ -133,6 +182,16 @@ impl World {
     fn unwell(&mut self) -> Option<u64> {
         for (viewer, watcher) in self.watchers.iter_mut() {
             if !watcher.is_well() {
+                return Some(*viewer);
+            }
+        }
+        None
+    }
+
+    /// A viewer that lacks its colour map, if there is one.
+    fn without_map(&self) -> Option<u64> {
+        for (viewer, watcher) in self.watchers.iter() {
+            if !watcher.has_map() {
                 return Some(*viewer);
             }
         }
@@ -219,7 +278,13 @@ fn can_ask(screen: &Screen, ear: &Ear, shown: &mut Shown) -> Result<bool, AllocE
     ))
 }
 
-/// A viewer that was told all that is owed to it shows the picture.
+/// A viewer lacks the colour map.
+fn lacks_map(alloc: Global, viewer: u64, line: usize) -> Result<Difference, AllocError> {
+    let wanted = format!(in alloc; "viewer {viewer} has the server's colour map")?;
+    make_difference(alloc, SHOWN, line, &wanted, "it has not")
+}
+
+/// A viewer that was told all that is owed to it shows the picture, and has the colour map that its format needs.
 fn check_viewer(
     alloc: Global,
     screen: &mut Screen,
@@ -227,6 +292,7 @@ fn check_viewer(
     watcher: &mut Watcher,
     line: usize,
 ) -> Result<Option<Difference>, ScreenError> {
+    let format = watcher.format;
     let Some(shown) = &mut watcher.shown else {
         return Ok(None);
     };
@@ -234,6 +300,9 @@ fn check_viewer(
         return Ok(None);
     }
     catch_up(screen, viewer, shown)?;
+    if !has_map_for(shown, format) {
+        return Ok(Some(lacks_map(alloc, viewer, line)?));
+    }
     match first_wrong(screen, shown) {
         Some((x, y)) => {
             let wanted = format!(in alloc;
@@ -291,7 +360,20 @@ fn check_looks(
     Ok(None)
 }
 
-/// The looks, as the events happen; and that no viewer is told what is no message.
+/// No viewer was told what is no message, and none lacks its colour map.
+fn check_told(world: &mut World, line: usize) -> Result<Option<Difference>, AllocError> {
+    if let Some(viewer) = world.unwell() {
+        let wanted = format!(in world.alloc; "messages for viewer {viewer}")?;
+        let found = make_difference(world.alloc, SHOWN, line, &wanted, "no messages")?;
+        return Ok(Some(found));
+    }
+    match world.without_map() {
+        Some(viewer) => Ok(Some(lacks_map(world.alloc, viewer, line)?)),
+        None => Ok(None),
+    }
+}
+
+/// The looks, as the events happen; and what the viewers were told by then.
 fn check_events(
     world: &mut World,
     transcript: &Transcript,
@@ -303,11 +385,9 @@ fn check_events(
             return Ok(found);
         }
         world.apply(event)?;
-        if let Some(viewer) = world.unwell() {
-            let wanted = format!(in world.alloc; "messages for viewer {viewer}")?;
-            let line = transcript.line;
-            let found = make_difference(world.alloc, SHOWN, line, &wanted, "no messages")?;
-            return Ok(Some(found));
+        let found = check_told(world, transcript.line)?;
+        if found.is_some() {
+            return Ok(found);
         }
     }
     Ok(check_looks(world, transcript, script, script.events.len())?)

@@ -26,7 +26,8 @@ pub use opening::{Desktop, greetings, put_greeting};
 use pixel_translate::{Area, PixelFormat};
 pub use reading::phase_after;
 pub use writers::{
-    put_bell, put_cut_text, put_result, put_security, put_server_init, put_update_head, put_version,
+    put_bell, put_colour_map, put_cut_text, put_result, put_security, put_server_init,
+    put_update_head, put_version,
 };
 
 /// A version of the protocol, as it is served (RFC 6143 section 7.1.1 and appendix A).
@@ -107,7 +108,7 @@ pub enum Fault {
     /// A pixel format has other than 8, 16 or 32 bits per pixel (RFC 6143 section 7.4), found at the last byte of its
     /// SetPixelFormat.
     BadBitsPerPixel,
-    /// A pixel format needs a colour map, found there too.
+    /// A pixel format of more than 8 bits needs a colour map, found there too.
     ColourMapUnsupported,
 }
 

@@ -1,9 +1,11 @@
 //! The writers of the server's messages. Each appends to a vector, and takes memory at most once.
 //!
 //! An error is want of memory, and leaves the vector's elements as they were.
-ghost use Rattle.std.specs.Prelude.{◌≡◌, ◌+◌, ◌≤◌, ◌++◌, length, vec_len, vec_capacity, OnOk, OnErr};
+ghost use Rattle.std.specs.Prelude.{◌≡◌, ◌+◌, ◌≤◌, ◌++◌, length, slice_index, map, flat_map, vec_len, vec_capacity, OnOk, OnErr};
+ghost use Rattle.std.specs.List.{range_with_len};
 ghost use Rattle.pixel_translate.specs.Pixel.{be32};
-ghost use Rattle.messages.specs.Server.{server_version, security, server_init, update_head, bell, cut_text};
+ghost use Rattle.messages.specs.Server.{server_version, security, server_init, update_head, map_entry, entry_bytes, colour_map};
+ghost use Rattle.messages.specs.Server.{bell, cut_text};
 
 use crate::Version;
 use pixel_translate::PixelFormat;
@@ -77,6 +79,50 @@ pub fn put_update_head(out: &mut Vec<u8>, count: u16) -> Result<(), AllocError>
 {
     let [high, low] = count.to_be_bytes();
     out.extend_from_slice(&[0, 0, high, low])
+}
+
+/// The entry of the colour map for a pixel of eight bits: red, green and blue, each from 0 to 65535.
+fn entry_of(pixel: u8) -> [u16; 3]
+    ensures { map_entry pixel ≡ (slice_index result 0, slice_index result 1, slice_index result 2) }
+{
+    let red = u32::from(pixel % 8) * 65535 / 7;
+    let green = u32::from(pixel / 8 % 8) * 65535 / 7;
+    let blue = u32::from(pixel / 64) * 65535 / 3;
+    [red as u16, green as u16, blue as u16]
+}
+
+/// The six bytes of an entry.
+fn entry_bytes(entry: [u16; 3]) -> [u8; 6]
+    ensures { result ≡ entry_bytes (slice_index entry 0, slice_index entry 1, slice_index entry 2) }
+{
+    let [red_high, red_low] = entry[0].to_be_bytes();
+    let [green_high, green_low] = entry[1].to_be_bytes();
+    let [blue_high, blue_low] = entry[2].to_be_bytes();
+    [
+        red_high, red_low, green_high, green_low, blue_high, blue_low,
+    ]
+}
+
+/// Appends the entries of the colour map, for which there is room.
+fn append_entries(out: &mut Vec<u8>)
+    requires { vec_len out.old + 1536 ≤ vec_capacity out.old }
+    ensures { out.new.items ≡ out.old.items ++ flat_map entry_bytes (map map_entry (range_with_len 0 256)) }
+{
+    for pixel in 0..256usize {
+        append(out, &entry_bytes(entry_of(pixel as u8)));
+    }
+}
+
+/// Appends the server's whole colour map, by which a pixel of eight bits is a colour: SetColourMapEntries with 256 entries,
+/// 1,542 bytes (RFC 6143 section 7.6.2; LibVNCServer's `rfbSendSetColourMapEntries`).
+pub fn put_colour_map(out: &mut Vec<u8>) -> Result<(), AllocError>
+    ensures ok { OnOk result (out.new.items ≡ out.old.items ++ colour_map) }
+    ensures err { OnErr result (out.new.items ≡ out.old.items) }
+{
+    out.reserve(1542)?;
+    append(out, &[1, 0, 0, 0, 1, 0]);
+    append_entries(out);
+    Ok(())
 }
 
 /// Appends a Bell (RFC 6143 section 7.6.3; LibVNCServer's `rfbSendBell`).

@@ -2,7 +2,7 @@
 
 ghost use Rattle.std.specs.Prelude.{◌≡◌, ℕ, ◌*◌, ◌++◌, length, flat_map, OnOk, OnErr};
 ghost use Rattle.std.specs.Int.{w16, w32, to_be_bytes, to_le_bytes};
-ghost use Rattle.pixel_translate.specs.Pixel.{pixel_bytes, bytes_per_pixel};
+ghost use Rattle.pixel_translate.specs.Pixel.{pixel_bytes, bytes_per_pixel, bits_of};
 ghost use Rattle.pixel_translate.specs.Bytes.{Gives, bytes_by};
 
 use crate::{BitsPerPixel, PixelFormat};
@@ -10,7 +10,7 @@ use std::alloc::AllocError;
 
 /// The byte of a pixel, in a format of 8 bits.
 pub fn bytes_8(format: &PixelFormat, pixel: u32) -> [u8; 1]
-    requires { format.now.bits ≡ BitsPerPixel.Eight }
+    requires { bits_of format.now ≡ BitsPerPixel.Eight }
     ensures { result ≡ pixel_bytes format.now pixel }
 {
     let [_, _, _, b0] = pixel.to_be_bytes();
@@ -19,7 +19,7 @@ pub fn bytes_8(format: &PixelFormat, pixel: u32) -> [u8; 1]
 
 /// The bytes of a pixel, in a format of 16 bits.
 pub fn bytes_16(format: &PixelFormat, pixel: u32) -> [u8; 2]
-    requires { format.now.bits ≡ BitsPerPixel.Sixteen }
+    requires { bits_of format.now ≡ BitsPerPixel.Sixteen }
     ensures { result ≡ pixel_bytes format.now pixel }
 {
     let [_, _, b1, b0] = pixel.to_be_bytes();
@@ -32,7 +32,7 @@ pub fn bytes_16(format: &PixelFormat, pixel: u32) -> [u8; 2]
 
 /// The bytes of a pixel, in a format of 32 bits.
 pub fn bytes_32(format: &PixelFormat, pixel: u32) -> [u8; 4]
-    requires { format.now.bits ≡ BitsPerPixel.ThirtyTwo }
+    requires { bits_of format.now ≡ BitsPerPixel.ThirtyTwo }
     ensures { result ≡ pixel_bytes format.now pixel }
 {
     if format.big_endian {
@@ -47,7 +47,7 @@ pub fn put_bytes(out: &mut Vec<u8>, format: &PixelFormat, pixel: u32) -> Result<
     ensures ok { OnOk result (out.new.items ≡ out.old.items ++ pixel_bytes format.now pixel) }
     ensures err { OnErr result (out.new.items ≡ out.old.items) }
 {
-    match format.bits {
+    match format.bits() {
         BitsPerPixel::Eight => out.extend_from_slice(&bytes_8(format, pixel)),
         BitsPerPixel::Sixteen => out.extend_from_slice(&bytes_16(format, pixel)),
         BitsPerPixel::ThirtyTwo => out.extend_from_slice(&bytes_32(format, pixel)),
@@ -57,7 +57,7 @@ pub fn put_bytes(out: &mut Vec<u8>, format: &PixelFormat, pixel: u32) -> Result<
 /// Writes the pixel of each value in a format of 8 bits.
 fn write_8<F: Fn(u32) -> u32>(places: &mut [u8], values: &[u32], format: &PixelFormat, pixel_of: F)
     requires callable { F.IsAlwaysCallable pixel_of }
-    requires bits { format.now.bits ≡ BitsPerPixel.Eight }
+    requires bits { bits_of format.now ≡ BitsPerPixel.Eight }
     requires room { length places.old ≡ 1 * length values.now }
     ensures { (number : ℕ → ℕ) → Gives (F.post pixel_of) number → places.new ≡ flat_map (bytes_by format.now number) values.now }
 {
@@ -95,7 +95,7 @@ fn write_16_big<F: Fn(u32) -> u32>(places: &mut [u8], values: &[u32], pixel_of: 
 /// Writes the pixel of each value in a format of 16 bits. The order of bytes is looked at once for all of them.
 fn write_16<F: Fn(u32) -> u32>(places: &mut [u8], values: &[u32], format: &PixelFormat, pixel_of: F)
     requires callable { F.IsAlwaysCallable pixel_of }
-    requires bits { format.now.bits ≡ BitsPerPixel.Sixteen }
+    requires bits { bits_of format.now ≡ BitsPerPixel.Sixteen }
     requires room { length places.old ≡ 2 * length values.now }
     ensures { (number : ℕ → ℕ) → Gives (F.post pixel_of) number → places.new ≡ flat_map (bytes_by format.now number) values.now }
 {
@@ -133,7 +133,7 @@ fn write_32_big<F: Fn(u32) -> u32>(places: &mut [u8], values: &[u32], pixel_of: 
 /// Writes the pixel of each value in a format of 32 bits. The order of bytes is looked at once for all of them.
 fn write_32<F: Fn(u32) -> u32>(places: &mut [u8], values: &[u32], format: &PixelFormat, pixel_of: F)
     requires callable { F.IsAlwaysCallable pixel_of }
-    requires bits { format.now.bits ≡ BitsPerPixel.ThirtyTwo }
+    requires bits { bits_of format.now ≡ BitsPerPixel.ThirtyTwo }
     requires room { length places.old ≡ 4 * length values.now }
     ensures { (number : ℕ → ℕ) → Gives (F.post pixel_of) number → places.new ≡ flat_map (bytes_by format.now number) values.now }
 {
@@ -155,7 +155,7 @@ pub fn write_pixels<F: Fn(u32) -> u32>(
     requires room { length places.old ≡ bytes_per_pixel format.now * length values.now }
     ensures { (number : ℕ → ℕ) → Gives (F.post pixel_of) number → places.new ≡ flat_map (bytes_by format.now number) values.now }
 {
-    match format.bits {
+    match format.bits() {
         BitsPerPixel::Eight => write_8(places, values, format, pixel_of),
         BitsPerPixel::Sixteen => write_16(places, values, format, pixel_of),
         BitsPerPixel::ThirtyTwo => write_32(places, values, format, pixel_of),

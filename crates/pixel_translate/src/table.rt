@@ -1,7 +1,7 @@
 //! Colours translated by table: for each component, what each of its 256 values gives.
 
 ghost use Rattle.std.specs.Prelude.{◌≡◌, ℕ, ◌<◌, ◌^◌, slice_index};
-ghost use Rattle.pixel_translate.specs.Pixel.{pixel, component, bit_count};
+ghost use Rattle.pixel_translate.specs.Pixel.{pixel, component, bit_count, bits_of};
 
 use crate::{BitsPerPixel, Component, PixelFormat, placed};
 use std::marker::Model;
@@ -44,9 +44,9 @@ impl Table {
     {
         Table {
             format: *format,
-            red: scaled(format.bits, format.red),
-            green: scaled(format.bits, format.green),
-            blue: scaled(format.bits, format.blue),
+            red: scaled(format.bits(), format.red()),
+            green: scaled(format.bits(), format.green()),
+            blue: scaled(format.bits(), format.blue()),
         }
     }
 
@@ -61,7 +61,7 @@ impl Table {
     #[tactic(auto, using(crate::specs::Bounds::pixel_below))]
     pub fn translate(&self, colour: u32) -> u32
         ensures pixel { result ≡ pixel self.now colour }
-        ensures below { result < 2 ^ bit_count self.now.bits }
+        ensures below { result < 2 ^ bit_count (bits_of self.now) }
     {
         let [_, red, green, blue] = colour.to_be_bytes();
         self.red[usize::from(red)] | self.green[usize::from(green)] | self.blue[usize::from(blue)]

@@ -3,6 +3,8 @@ use Rattle.std.specs.Prelude.{◌≡◌, ℕ, ◌+◌, ◌%◌, List, [], ◌∷
 use Rattle.std.specs.List.{range_with_len}
 use Rattle.region.specs.Examples.{rect}
 use Rattle.encode_rre.specs.Subrectangles.{rows_of}
+use Rattle.pixel_translate.specs.Pixel.{format_bytes, server_format}
+use Rattle.messages.specs.Server.{colour_map}
 use Rattle.scene.specs.declared.Config.{Config}
 use Rattle.scene.specs.declared.Event.{Event}
 use Rattle.scene.specs.declared.Event.TheVariants.{Write, Paint, Mark, ScheduleCopy, DoCopy, Bell, CutText, Connect, Hear, Cut}
@@ -137,3 +139,19 @@ many_marks = clean 1 9 1 ++ clean 2 9 1 ++ map (λ k. Mark (rect ((k + 1) % 5) 0
 marks_joined : last_answers 4 (answers nine many_marks) ≡
     (nothing_to_say ∷ gives (update 1 ++ head 0 0 5 1 0 ++ replicate 20 0) ∷ nothing_to_say ∷ gives (update 1 ++ head 0 0 5 1 0 ++ replicate 20 0) ∷ [])
 marks_joined = refl
+
+-- a colour map of eight bits: the map comes first, once
+abbrev pub in_map : List ℕ
+in_map = 0 ∷ 0 ∷ 0 ∷ 0 ∷ 8 ∷ 8 ∷ 0 ∷ 0 ∷ 0 ∷ 0 ∷ 0 ∷ 0 ∷ 0 ∷ 0 ∷ 0 ∷ 0 ∷ 0 ∷ 0 ∷ 0 ∷ 0 ∷ []
+
+map_sent : last_answers 5 (answers demo (opens 1 ++ Hear 1 in_map ∷ Cut 1 ∷ Paint (rect 0 0 1 1) (0xff8000 ∷ []) ∷ Hear 1 (ask 0 0 0 1 1) ∷ Cut 1 ∷ [])) ≡
+    (nothing_to_say ∷ gives colour_map ∷ nothing_to_say ∷ nothing_to_say ∷ gives (update 1 ++ head 0 0 1 1 0 ++ 39 ∷ []) ∷ [])
+unfolding colour_map
+map_sent = refl
+
+-- also where 64 notices wait; and not where the format has none any more
+map_before_notices : last_answers 1 (answers demo (opens 1 ++ replicate 64 Bell ++ Hear 1 in_map ∷ Cut 1 ∷ [])) ≡ (gives (colour_map ++ replicate 64 2) ∷ [])
+map_before_notices = refl
+
+no_map_any_more : last_answers 1 (answers demo (opens 1 ++ Hear 1 in_map ∷ Hear 1 (0 ∷ 0 ∷ 0 ∷ 0 ∷ format_bytes server_format) ∷ Cut 1 ∷ [])) ≡ (nothing_to_say ∷ [])
+no_map_any_more = refl

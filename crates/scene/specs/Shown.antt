@@ -9,7 +9,7 @@ use Rattle.messages.specs.declared.Phase.{Phase}
 use Rattle.messages.specs.declared.Phase.TheVariants as phase
 use Rattle.messages.specs.Grammar.{after}
 use Rattle.messages.specs.Reading.{is_version, heard, new_items}
-use Rattle.viewer_picture.specs.Messages.{Agreed, messages_at}
+use Rattle.viewer_picture.specs.Messages.{Agreed, ColourMap, nothing_mapped, messages_at}
 use Rattle.viewer_picture.specs.Encodings.{taken}
 use Rattle.viewer_picture.specs.Opening.{security_at, result_at, init_at}
 use Rattle.scene.specs.declared.Event.{Event}
@@ -18,20 +18,21 @@ use Rattle.scene.specs.declared.Answer.{Answer}
 use Rattle.scene.specs.Alone.{owner_of}
 
 -- A viewer: its bytes so far, whether all that it was sent could be read, what it goes by where it reads an update (the
--- picture's size once it is told, the format of pixels, and of the encodings that it listed those that the server takes), and
--- what it shows.
+-- picture's size once it is told, the format of pixels, and of the encodings that it listed those that the server takes), what it
+-- shows, and its colour map.
 pub record Watching : Type 0 where
   pub said : List ℕ
   pub legal : Bool
   pub agreed : Agreed
   pub shown : Shown
+  pub colours : ColourMap
 
 abbrev pub nothing_shown : Shown
 nothing_shown x y = None
 
 -- before it is sent anything
 abbrev pub at_first : Watching
-at_first = record { said = []; legal = true; agreed = record { width = 0; height = 0; format = server_format; listed = [] }; shown = nothing_shown }
+at_first = record { said = []; legal = true; agreed = record { width = 0; height = 0; format = server_format; listed = [] }; shown = nothing_shown; colours = nothing_mapped }
 
 -- 7.1.1: at connecting the server says a version
 abbrev pub after_version : List ℕ → Watching
@@ -69,9 +70,9 @@ abbrev pub all_read : Watching × List ℕ → Option Watching
 all_read (s, []) = Some s
 all_read (s, b ∷ bytes) = None
 
--- from bytes on that can't be read nothing is shown
+-- from bytes on that can't be read nothing is shown, and no colour map is there
 abbrev pub or_nothing : Watching → Option Watching → Watching
-or_nothing s None = record s { legal = false; shown = nothing_shown }
+or_nothing s None = record s { legal = false; shown = nothing_shown; colours = nothing_mapped }
 or_nothing s (Some t) = t
 
 abbrev pub reading_on : Watching → Option Watching → Watching
@@ -85,7 +86,8 @@ after_piece piece bytes s =
 
 -- the bytes of a sending step
 abbrev pub after_messages : List ℕ → Watching → Watching
-after_messages bytes s = reading_on s (option_map (λ shown. record s { shown = shown }) (messages_at s.agreed s.shown bytes))
+after_messages bytes s =
+    reading_on s (option_map (λ d. record s { shown = d.shown; colours = d.colours }) (messages_at s.agreed (record { shown = s.shown; colours = s.colours }) bytes))
 
 -- an event of the viewer, and what it was answered
 abbrev pub watched : Event → Answer → Watching → Watching

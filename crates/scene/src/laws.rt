@@ -2,7 +2,7 @@
 
 ghost use Rattle.scene.specs.Claims.{told_alike, one_viewer_is_alone};
 ghost use Rattle.scene.specs.History.{accepted_is_enough, accepted_happens_again};
-ghost use Rattle.scene.specs.Pictures.{pictures_are_shown};
+ghost use Rattle.scene.specs.Pictures.{pictures_are_shown, maps_are_there};
 ghost use Rattle.scene.specs.Refusals.{refusals_are_due};
 
 use viewer_picture::rectangles_are_read;
@@ -21,6 +21,14 @@ pub fn one_viewer_is_alone()
 /// no rectangle was beyond the screen, and none in an encoding that it didn't list, but for Raw.
 pub fn pictures_are_shown()
     ensures { pictures_are_shown }
+{
+    rectangles_are_read();
+}
+
+/// Each viewer that is there could read all that it was sent, and one that is open has the server's colour map where its format
+/// needs one and none is owed to it, whatever was drawn.
+pub fn maps_are_there()
+    ensures { maps_are_there }
 {
     rectangles_are_read();
 }

@@ -12,8 +12,8 @@ mod limits;
 mod scene;
 
 pub use laws::{
-    accepted_happens_again, accepted_is_enough, one_viewer_is_alone, pictures_are_shown,
-    refusals_are_due, viewers_are_alone,
+    accepted_happens_again, accepted_is_enough, maps_are_there, one_viewer_is_alone,
+    pictures_are_shown, refusals_are_due, viewers_are_alone,
 };
 pub use listed::Listed;
 pub use messages::{Fault, Input};

@@ -4,6 +4,7 @@ use Rattle.pixel_translate.specs.declared.Area.{Area}
 use Rattle.pixel_translate.specs.declared.BitsPerPixel.{BitsPerPixel}
 use Rattle.pixel_translate.specs.declared.BitsPerPixel.TheVariants.{Eight, Sixteen, ThirtyTwo}
 use Rattle.pixel_translate.specs.declared.PixelFormat.{PixelFormat}
+use Rattle.pixel_translate.specs.Pixel.{bits_of}
 
 -- 3: the highest byte first
 abbrev pub two_at : List ℕ → ℕ → ℕ
@@ -29,5 +30,5 @@ turned ThirtyTwo a b c d = d * 16777216 + c * 65536 + b * 256 + a
 
 abbrev pub pixel_of_bytes : PixelFormat → List ℕ → ℕ → ℕ
 pixel_of_bytes f bytes k =
-    if f.big_endian then pixel_of f.bits (slice_index bytes k) (slice_index bytes (k + 1)) (slice_index bytes (k + 2)) (slice_index bytes (k + 3))
-    else turned f.bits (slice_index bytes k) (slice_index bytes (k + 1)) (slice_index bytes (k + 2)) (slice_index bytes (k + 3))
+    if f.big_endian then pixel_of (bits_of f) (slice_index bytes k) (slice_index bytes (k + 1)) (slice_index bytes (k + 2)) (slice_index bytes (k + 3))
+    else turned (bits_of f) (slice_index bytes k) (slice_index bytes (k + 1)) (slice_index bytes (k + 2)) (slice_index bytes (k + 3))

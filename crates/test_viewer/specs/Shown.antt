@@ -1,5 +1,5 @@
 -- What a viewer keeps, and what it shows.
-use Rattle.std.specs.Prelude.{◌≡◌, ℕ, Bool, true, false, ◌∷◌, ◌++◌, [], List, replicate, is_some, if◌then◌else◌, Option, None, Some, option_map}
+use Rattle.std.specs.Prelude.{◌≡◌, ℕ, Bool, true, false, ◌∷◌, ◌++◌, [], List, replicate, slice_index_or, is_some, if◌then◌else◌, Option, None, Some, option_map}
 use Rattle.pixel_translate.specs.declared.Area.{Area}
 use Rattle.pixel_translate.specs.declared.PixelFormat.{PixelFormat}
 use Rattle.pixel_translate.specs.Pixel.{area_bytes, format_bytes}
@@ -14,10 +14,16 @@ pub record View : Type 0 where
   -- how many bytes of the group that comes are there
   pub kept : ℕ
   pub fault : Option Fault
+  -- the entries of the colour map that were set
+  pub map : List (Option (ℕ × ℕ × ℕ))
 
 -- a place of a viewer that was told a fault shows nothing
 abbrev pub shown_at : View → ℕ → ℕ → Option (PixelFormat × ℕ)
 shown_at v x y = if is_some v.fault then None else option_map (λ d. (d.format, d.pixel)) (dot_at v.canvas x y)
+
+-- 7.6.2: an entry of the colour map of a viewer that was told no fault; a viewer that was told one has none
+abbrev pub mapped_at : View → ℕ → Option (ℕ × ℕ × ℕ)
+mapped_at v entry = if is_some v.fault then None else slice_index_or v.map entry None
 
 -- 7.5.3
 abbrev pub request_bytes : Area → Bool → List ℕ

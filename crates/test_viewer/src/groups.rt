@@ -43,7 +43,7 @@ pub(crate) fn pixel_in(format: &PixelFormat, bytes: &Group, at: usize) -> u32
     ensures { result ≡ pixel_of_bytes format.now bytes.now at }
 {
     let all = [bytes[at], bytes[at + 1], bytes[at + 2], bytes[at + 3]];
-    match format.bits {
+    match format.bits() {
         BitsPerPixel::Eight => u32::from(all[0]),
         BitsPerPixel::Sixteen if format.big_endian => u32::from(u16::from_be_bytes([
             all[0], all[1],

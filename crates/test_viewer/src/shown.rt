@@ -1,11 +1,11 @@
 //! The calls of the viewer.
 
-ghost use Rattle.std.specs.Prelude.{◌≡◌, ℕ, ◌<◌, None, Some, IsSome, OnOk, OnErr, IfErr};
+ghost use Rattle.std.specs.Prelude.{◌≡◌, ℕ, ◌<◌, None, Some, IsSome, OnOk, OnErr, IfErr, slice_set};
 ghost use Rattle.pixel_translate.specs.declared.Area.{Area};
 ghost use Rattle.test_viewer.specs.declared.stages.Block.{Block};
 ghost use Rattle.test_viewer.specs.Canvas.{dot_at, filled, copied_dots};
 ghost use Rattle.test_viewer.specs.Counts.{is_open_at};
-ghost use Rattle.test_viewer.specs.Shown.{shown_at, request_bytes, shown_behind_request, set_format_bytes};
+ghost use Rattle.test_viewer.specs.Shown.{shown_at, mapped_at, request_bytes, shown_behind_request, set_format_bytes};
 
 use crate::canvas::{Canvas, Dot};
 use crate::fault::{Fault, FaultKind};
@@ -17,8 +17,11 @@ use pixel_translate::{Area, PixelFormat};
 use std::alloc::{AllocError, Global};
 use std::marker::Model;
 
+/// Red, green and blue, each from 0 to 65535.
+type Colour = (u16, u16, u16);
+
 /// A viewer that reads what a server sends. Of what isn't read yet it keeps fewer than 24 bytes, and of a text or a name
-/// none: beside those it has what each place of the screen shows.
+/// none: beside those it has what each place of the screen shows, and its colour map.
 #[derive(Drop)]
 pub struct Shown {
     alloc: Global,
@@ -30,6 +33,8 @@ pub struct Shown {
     /// How many bytes stand before the group.
     begun: u64,
     fault: Option<Fault>,
+    /// The entries of the colour map that were set.
+    map: [Option<Colour>; 256],
 }
 
 impl Model for Shown {
@@ -38,7 +43,7 @@ impl Model for Shown {
 
     ghost Value = { View };
 
-    ghost view = { λ s. record { canvas = s.canvas; reading = s.reading; kept = s.count; fault = s.fault } };
+    ghost view = { λ s. record { canvas = s.canvas; reading = s.reading; kept = s.count; fault = s.fault; map = s.map } };
 
     ghost invariant = { λ s. s.count < 24 };
 }
@@ -48,6 +53,7 @@ impl Shown {
     pub fn new(alloc: Global, version: Version) -> Shown
         ensures told { result.fault ≡ None }
         ensures shown { (x y : ℕ) → shown_at result x y ≡ None }
+        ensures map { (entry : ℕ) → mapped_at result entry ≡ None }
     {
         Shown {
             alloc,
@@ -57,6 +63,16 @@ impl Shown {
             count: 0,
             begun: 0,
             fault: None,
+            map: [None; 256],
+        }
+    }
+
+    /// An entry of the colour map is a colour from now on. There are 256; a further one is not kept.
+    fn set_entry(&mut self, entry: u32, colour: Colour)
+        ensures { self.new ≡ record self.old { map = slice_set self.old.map entry (Some colour) } }
+    {
+        if entry < 256 {
+            self.map[entry as usize] = Some(colour);
         }
     }
 
@@ -79,6 +95,10 @@ impl Shown {
                 Ok(())
             }
             Effect::Copy { area, x, y } => self.canvas.copy(area, (x, y)),
+            Effect::Entry { entry, colour } => {
+                self.set_entry(entry, colour);
+                Ok(())
+            }
         }
     }
 
@@ -135,11 +155,12 @@ impl Shown {
     }
 
     /// The server says these bytes, which may be cut anywhere. Where they break the RFC, or memory is refused, nothing is
-    /// read behind that, each further call answers the same fault, and no place shows anything.
+    /// read behind that, each further call answers the same fault, no place shows anything, and there is no colour map.
     pub fn told(&mut self, piece: &[u8]) -> Result<(), Fault>
         ensures ok { OnOk result (self.new.fault ≡ None) }
         ensures err { IfErr result (λ e. self.new.fault ≡ Some e) }
         ensures blank { OnErr result ((x y : ℕ) → shown_at self.new x y ≡ None) }
+        ensures no_map { OnErr result ((entry : ℕ) → mapped_at self.new entry ≡ None) }
         ensures faulted { IsSome self.old.fault → self.new ≡ self.old }
     {
         for byte in piece {
@@ -225,5 +246,15 @@ impl Shown {
         }
         let dot = self.canvas.dot(x as usize, y as usize)?;
         Some((dot.format, dot.pixel))
+    }
+
+    /// What an entry of the colour map was set to (RFC 6143 section 7.6.2): red, green and blue, each from 0 to 65535; or nothing.
+    pub fn map(&self, index: u8) -> Option<(u16, u16, u16)>
+        ensures { result ≡ mapped_at self.now index }
+    {
+        if self.fault.is_some() {
+            return None;
+        }
+        self.map[usize::from(index)]
     }
 }

@@ -7,7 +7,7 @@ use crate::fault::{FaultKind, Halt};
 use crate::groups::Group;
 use crate::{opening, rectangles, tiles, updates};
 use messages::Version;
-use pixel_translate::{Area, BitsPerPixel, Component, PixelFormat};
+use pixel_translate::{Area, BitsPerPixel, Component, PixelFormat, Pixels};
 
 /// The group of bytes that comes next.
 #[derive(Clone, Copy, Debug, PartialEq, Eq)]
@@ -30,6 +30,10 @@ pub(crate) enum Stage {
     Message,
     /// An update up to its rectangles (RFC 6143 section 7.6.1).
     Update,
+    /// Entries of the colour map, up to the first (RFC 6143 section 7.6.2).
+    Map,
+    /// An entry of the colour map.
+    Entry,
     /// A text up to its bytes (RFC 6143 section 7.6.4).
     Text,
     /// A byte of the text.
@@ -97,8 +101,11 @@ pub(crate) struct Reading {
     /// The format in which this update is read.
     pub format: PixelFormat,
     pub stage: Stage,
-    /// How many there are still of what comes one by one: security types, bytes of a text, subrectangles.
+    /// How many there are still of what comes one by one: security types, bytes of a text, subrectangles, entries of the colour
+    /// map.
     pub left: u32,
+    /// Which entry of the colour map comes next.
+    pub entry: u32,
     /// How many rectangles come behind this one.
     pub rectangles: u16,
     pub area: Area,
@@ -120,6 +127,8 @@ pub(crate) enum Effect {
     Fill { block: Block, pixel: u32 },
     /// An area shows what an area of its size showed, all at once.
     Copy { area: Area, x: u16, y: u16 },
+    /// An entry of the colour map is red, green and blue.
+    Entry { entry: u32, colour: (u16, u16, u16) },
 }
 
 /// What is kept behind a group of bytes, and what the group shows.
@@ -133,7 +142,7 @@ pub(crate) struct Step {
 pub(crate) fn pixel_size(format: &PixelFormat) -> usize
     ensures { result ≤ 4 }
 {
-    match format.bits {
+    match format.bits() {
         BitsPerPixel::Eight => 1,
         BitsPerPixel::Sixteen => 2,
         BitsPerPixel::ThirtyTwo => 4,
@@ -152,6 +161,8 @@ pub(crate) fn group_size(stage: Stage, pixel: usize) -> usize
         Stage::Init => 24,
         Stage::Name | Stage::Message | Stage::TextByte => 1,
         Stage::Update => 3,
+        Stage::Map => 5,
+        Stage::Entry => 6,
         Stage::Text => 7,
         Stage::Pixel | Stage::Background | Stage::Foreground => pixel,
         Stage::Rre => 4 + pixel,
@@ -172,15 +183,18 @@ impl Reading {
             rows: 0,
             chosen: None,
             format: PixelFormat {
-                bits: BitsPerPixel::Eight,
                 depth: 0,
                 big_endian: false,
-                red: none,
-                green: none,
-                blue: none,
+                pixels: Pixels::TrueColour {
+                    bits: BitsPerPixel::Eight,
+                    red: none,
+                    green: none,
+                    blue: none,
+                },
             },
             stage: Stage::Version,
             left: 0,
+            entry: 0,
             rectangles: 0,
             area: Area {
                 x: 0,
@@ -303,9 +317,12 @@ impl Reading {
             | Stage::SecurityResult
             | Stage::Init
             | Stage::Name => opening::read(self, bytes),
-            Stage::Message | Stage::Update | Stage::Text | Stage::TextByte => {
-                updates::read(self, bytes)
-            }
+            Stage::Message
+            | Stage::Update
+            | Stage::Map
+            | Stage::Entry
+            | Stage::Text
+            | Stage::TextByte => updates::read(self, bytes),
             Stage::Head | Stage::Source | Stage::Pixel | Stage::Rre | Stage::Subrectangle => {
                 rectangles::read(self, bytes)
             }

@@ -7,11 +7,11 @@ use crate::fault::{FaultKind, Halt};
 use crate::groups::{Group, four, two};
 use crate::stages::{Effect, Reading, Stage, Step, halt, silent};
 
-/// A message's type: an update is 0, a bell 2, a text 3. An update is read in the format that was asked for before it begins.
+/// A message's type: an update is 0, entries of the colour map 1, a bell 2, a text 3. An update is read in the format that was asked for before it begins.
 fn read_type(reading: Reading, kind: u8) -> Result<Step, Halt>
     ensures update { kind ≡ 0 → result ≡ Ok (update_begun reading) }
     ensures bell { kind ≡ 2 → result ≡ Ok (record { reading = reading; effect = Effect.Nothing }) }
-    ensures unknown { (kind ≡ 1) ⊎ (3 < kind) → result ≡ Err (record { kind = FaultKind.Message; offset = 0 }) }
+    ensures unknown { 3 < kind → result ≡ Err (record { kind = FaultKind.Message; offset = 0 }) }
 {
     match kind {
         0 => {
@@ -22,10 +22,36 @@ fn read_type(reading: Reading, kind: u8) -> Result<Step, Halt>
                 ..reading
             })
         }
+        1 => silent(reading.at(Stage::Map)),
         2 => silent(reading),
         3 => silent(reading.at(Stage::Text)),
         _ => halt(FaultKind::Message, 0),
     }
+}
+
+/// Which entry of the colour map comes first, and how many come.
+fn read_map(reading: Reading, bytes: &Group) -> Result<Step, Halt> {
+    let map = Reading {
+        entry: u32::from(two(bytes, 1)),
+        ..reading
+    };
+    let count = u32::from(two(bytes, 3));
+    silent(map.repeated(count, Stage::Entry, Stage::Message))
+}
+
+/// An entry of the colour map: red, green and blue.
+fn read_entry(reading: Reading, bytes: &Group) -> Result<Step, Halt> {
+    let next = Reading {
+        entry: reading.entry.saturating_add(1),
+        ..reading
+    };
+    Ok(Step {
+        reading: next.one_less(Stage::Message),
+        effect: Effect::Entry {
+            entry: reading.entry,
+            colour: (two(bytes, 0), two(bytes, 2), two(bytes, 4)),
+        },
+    })
 }
 
 /// A group of a message.
@@ -39,6 +65,8 @@ pub(crate) fn read(reading: Reading, bytes: &Group) -> Result<Step, Halt> {
             };
             silent(update.next_rectangle())
         }
+        Stage::Map => read_map(reading, bytes),
+        Stage::Entry => read_entry(reading, bytes),
         Stage::Text => silent(reading.text_bytes(four(bytes, 3))),
         _ => silent(reading.text_bytes(reading.left.saturating_sub(1))),
     }

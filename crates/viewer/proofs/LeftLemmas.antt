@@ -10,7 +10,7 @@ use Rattle.pixel_translate.specs.declared.Area.{Area}
 use Rattle.pixel_translate.specs.declared.BitsPerPixel.{BitsPerPixel}
 use Rattle.pixel_translate.specs.declared.BitsPerPixel.TheVariants.{Eight, Sixteen, ThirtyTwo}
 use Rattle.pixel_translate.specs.declared.PixelFormat.{PixelFormat}
-use Rattle.pixel_translate.specs.Pixel.{bit_count, pixel, colour_bytes}
+use Rattle.pixel_translate.specs.Pixel.{bit_count, pixel, colour_bytes, bits_of}
 use Rattle.pixel_translate.specs.Bounds.{pixel_length}
 use Rattle.messages.specs.declared.Encoding.{Encoding}
 use Rattle.messages.specs.declared.Encoding.TheVariants as encoding
@@ -36,7 +36,7 @@ pub some_pixels : (f : PixelFormat) (colours : List ℕ) → 0 < length colours 
 some_pixels f [] some = absurd (omega arith)
 some_pixels f (c ∷ colours) some =
     let long : length (colour_bytes f c ++ flat_map (colour_bytes f) colours) ≡ length (colour_bytes f c) + length (flat_map (colour_bytes f) colours) = length-append (colour_bytes f c) (flat_map (colour_bytes f) colours) in
-    omega (arith, long, pixel_length f (pixel f c), some_byte f.bits)
+    omega (arith, long, pixel_length f (pixel f c), some_byte (bits_of f))
 
 few_bytes : (b : BitsPerPixel) → bit_count b / 8 ≤ 4
 few_bytes Eight = omega arith
@@ -48,7 +48,7 @@ few_pixels : (f : PixelFormat) (colours : List ℕ) → length (flat_map (colour
 few_pixels f [] = omega arith
 few_pixels f (c ∷ colours) =
     let long : length (colour_bytes f c ++ flat_map (colour_bytes f) colours) ≡ length (colour_bytes f c) + length (flat_map (colour_bytes f) colours) = length-append (colour_bytes f c) (flat_map (colour_bytes f) colours) in
-    omega (arith, long, pixel_length f (pixel f c), few_bytes f.bits, few_pixels f colours)
+    omega (arith, long, pixel_length f (pixel f c), few_bytes (bits_of f), few_pixels f colours)
 
 -- a run of pixels that is appended
 pub few_added : (f : PixelFormat) (old new run : List ℕ) → new ≡ old ++ flat_map (colour_bytes f) run → length run ≤ 2048 → length new ≤ length old + 8192

@@ -1,5 +1,5 @@
 -- What is left of an update while it is encoded part by part.
-use Rattle.std.specs.Prelude.{ℕ, ◌+◌, ◌*◌, ◌<◌, List, [], ◌∷◌, ◌++◌, length, drop, map, flat_map, Option, None, Some}
+use Rattle.std.specs.Prelude.{ℕ, ◌+◌, ◌*◌, ◌<◌, Bool, List, [], ◌∷◌, ◌++◌, length, drop, map, flat_map, Option, None, Some}
 use Rattle.pixel_translate.specs.declared.PixelFormat.{PixelFormat}
 use Rattle.pixel_translate.specs.Pixel.{pixel, colour_bytes}
 use Rattle.messages.specs.declared.Encoding.{Encoding}
@@ -12,7 +12,7 @@ use Rattle.viewer.specs.declared.left.Begun.{Begun}
 use Rattle.viewer.specs.declared.left.Begun.TheVariants.{Colours, Tiles}
 use Rattle.viewer.specs.declared.left.Reached.{Reached}
 use Rattle.viewer.specs.declared.left.Reached.TheVariants.{Nothing, Before, Within}
-use Rattle.viewer.specs.Sending.{notice_bytes}
+use Rattle.viewer.specs.Sending.{map_bytes, notice_bytes}
 use Rattle.viewer.specs.Updates.{coloured_bytes, kept_bytes}
 
 -- what is left of a rectangle: in Raw the pixels behind so many, in Hextile the rows of tiles behind so many, or nothing
@@ -58,5 +58,6 @@ abbrev pub maybe_left : Option (List ℕ) → List ℕ
 maybe_left None = []
 maybe_left (Some bytes) = bytes
 
-abbrev pub update_left : List Notice → ℕ → Option (List ℕ) → List ℕ
-update_left notices told rectangles = flat_map notice_bytes (drop told notices) ++ maybe_left rectangles
+-- the colour map is left where it is owed and not told yet
+abbrev pub update_left : Bool → List Notice → ℕ → Option (List ℕ) → List ℕ
+update_left map_owed notices told rectangles = (map_bytes map_owed ++ flat_map notice_bytes (drop told notices)) ++ maybe_left rectangles

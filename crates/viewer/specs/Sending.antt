@@ -1,5 +1,5 @@
 -- What one sending step gives a viewer (RFC 6143, 7.6).
-use Rattle.std.specs.Prelude.{ℕ, ◌+◌, if◌then◌else◌, List, [], ◌++◌, length, flat_map, ℤ, ◌-ℤ◌, nat_abs, Option, Some, None}
+use Rattle.std.specs.Prelude.{ℕ, ◌+◌, Bool, false, if◌then◌else◌, List, [], ◌++◌, length, flat_map, ℤ, ◌-ℤ◌, nat_abs, Option, Some, None}
 use Rattle.region.specs.declared.Rect.{Rect}
 use Rattle.copy_schedule.specs.Marks.{Sent, cut_of}
 use Rattle.pixel_translate.specs.declared.Area.{Area}
@@ -10,12 +10,16 @@ use Rattle.encode_hextile.specs.Hextile.{hextile}
 use Rattle.messages.specs.declared.Encoding.{Encoding}
 use Rattle.messages.specs.declared.Encoding.TheVariants as encoding
 use Rattle.messages.specs.Reading.{Rest, is_open_rest}
-use Rattle.messages.specs.Server.{bell, cut_text, update_head}
+use Rattle.messages.specs.Server.{bell, cut_text, colour_map, update_head}
 use Rattle.viewer_picture.specs.Areas.{area_of}
 use Rattle.framebuffer.specs.Picture.{colours_of}
 use Rattle.viewer.specs.declared.notices.Notice.{Notice}
 use Rattle.viewer.specs.declared.notices.Notice.TheVariants as notice
 use Rattle.viewer.specs.Viewer.{Viewer, is_open_viewer}
+
+-- 7.6.2: the colour map, where it is owed
+abbrev pub map_bytes : Bool → List ℕ
+map_bytes map_owed = if map_owed then colour_map else []
 
 -- 7.6.3 and 7.6.4
 abbrev pub notice_bytes : Notice → List ℕ
@@ -44,10 +48,14 @@ bytes_of w h picture e f copies by pixels =
 abbrev pub update_bytes : {B : Type 0} → ℕ → ℕ → List ℕ → Viewer B → Sent → List ℕ
 update_bytes w h picture v s = bytes_of w h picture v.encoding v.format s.copies s.offset s.pixels
 
--- the bytes of a sending step, and the viewer after it: the notices that wait come first
+-- what comes first: the colour map, and then the notices that wait
+abbrev pub front_bytes : {B : Type 0} → Viewer B → List ℕ
+front_bytes v = map_bytes v.map_owed ++ flat_map notice_bytes v.notices
+
+-- the bytes of a sending step, and the viewer after it
 abbrev pub with_update : {B : Type 0} → ℕ → ℕ → List ℕ → Viewer B → Option Sent → List ℕ × Viewer B
-with_update w h picture v None = (flat_map notice_bytes v.notices, record v { notices = [] })
-with_update w h picture v (Some s) = (flat_map notice_bytes v.notices ++ update_bytes w h picture v s, record v { notices = []; marks = s.after })
+with_update w h picture v None = (front_bytes v, record v { map_owed = false; notices = [] })
+with_update w h picture v (Some s) = (front_bytes v ++ update_bytes w h picture v s, record v { map_owed = false; notices = []; marks = s.after })
 
 -- only an open viewer is sent anything; of the copies and of the pixel rectangles, at most limit
 abbrev pub sending : ℕ → ℕ → ℕ → List ℕ → Viewer (List ℕ) → List ℕ × Viewer (List ℕ)

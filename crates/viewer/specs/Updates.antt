@@ -1,5 +1,5 @@
 -- An update's bytes, by what it keeps.
-use Rattle.std.specs.Prelude.{ℕ, ◌+◌, List, [], ◌++◌, length, flat_map, Option, None, Some}
+use Rattle.std.specs.Prelude.{ℕ, ◌+◌, Bool, List, [], ◌++◌, length, flat_map, Option, None, Some}
 use Rattle.pixel_translate.specs.declared.PixelFormat.{PixelFormat}
 use Rattle.encode_raw.specs.Raw.{copyrect}
 use Rattle.messages.specs.declared.Encoding.{Encoding}
@@ -8,7 +8,7 @@ use Rattle.viewer.specs.declared.notices.Notice.{Notice}
 use Rattle.viewer.specs.declared.parts.Moved.{Moved}
 use Rattle.viewer.specs.declared.parts.Coloured.{Coloured}
 use Rattle.viewer.specs.declared.parts.Rectangles.{Rectangles}
-use Rattle.viewer.specs.Sending.{encoded, notice_bytes}
+use Rattle.viewer.specs.Sending.{encoded, map_bytes, notice_bytes}
 
 abbrev pub moved_bytes : Moved → List ℕ
 moved_bytes m = copyrect m.area m.src_x m.src_y
@@ -27,6 +27,6 @@ abbrev pub maybe_bytes : Option Rectangles → List ℕ
 maybe_bytes None = []
 maybe_bytes (Some r) = rectangles_bytes r
 
--- 7.6: the notices, then the rectangles
-abbrev pub all_bytes : List Notice → Option Rectangles → List ℕ
-all_bytes notices rectangles = flat_map notice_bytes notices ++ maybe_bytes rectangles
+-- 7.6: the colour map where it is owed, the notices, then the rectangles
+abbrev pub all_bytes : Bool → List Notice → Option Rectangles → List ℕ
+all_bytes map_owed notices rectangles = (map_bytes map_owed ++ flat_map notice_bytes notices) ++ maybe_bytes rectangles

@@ -5,7 +5,7 @@ use Rattle.region.specs.Places.{some_place, cut_destination, same_offset}
 use Rattle.copy_schedule.specs.Marks.{Marks, new_marks, marked, copied_by, requested, without_copyrect}
 use Rattle.pixel_translate.specs.declared.Area.{Area}
 use Rattle.pixel_translate.specs.declared.PixelFormat.{PixelFormat}
-use Rattle.pixel_translate.specs.Pixel.{server_format}
+use Rattle.pixel_translate.specs.Pixel.{server_format, is_colour_map}
 use Rattle.messages.specs.declared.Encoding.{Encoding}
 use Rattle.messages.specs.declared.Encoding.TheVariants as encoding
 use Rattle.messages.specs.declared.Item.{Item}
@@ -20,6 +20,8 @@ use Rattle.viewer.specs.declared.notices.Notice.{Notice}
 pub record Viewer (Bytes : Type 0) : Type 0 where
   pub heard : Bytes
   pub format : PixelFormat
+  -- it has not been sent the colour map that its format needs
+  pub map_owed : Bool
   pub encoding : Encoding
   pub uses_copyrect : Bool
   pub marks : Marks
@@ -30,11 +32,11 @@ abbrev pub KeptViewer : Type 0
 KeptViewer = Viewer Rest
 
 abbrev pub kept_viewer : Viewer (List ℕ) → KeptViewer
-kept_viewer v = record { heard = rest v.heard; format = v.format; encoding = v.encoding; uses_copyrect = v.uses_copyrect; marks = v.marks; notices = v.notices }
+kept_viewer v = record { heard = rest v.heard; format = v.format; map_owed = v.map_owed; encoding = v.encoding; uses_copyrect = v.uses_copyrect; marks = v.marks; notices = v.notices }
 
 -- at connecting
 abbrev pub new_viewer : ℕ → ℕ → Viewer (List ℕ)
-new_viewer w h = record { heard = []; format = server_format; encoding = encoding.Raw; uses_copyrect = false; marks = new_marks w h; notices = [] }
+new_viewer w h = record { heard = []; format = server_format; map_owed = false; encoding = encoding.Raw; uses_copyrect = false; marks = new_marks w h; notices = [] }
 
 -- the ServerInit is sent, and there is no fault
 abbrev pub is_open : Phase → End → Bool
@@ -74,7 +76,7 @@ area_places w h a x y = in_rect (record { x1 = pos a.x; y1 = pos a.y; x2 = pos (
 
 -- RFC 6143, 7.5: what a viewer's message does
 abbrev pub after_item : {B : Type 0} → ℕ → ℕ → Item → Viewer B → Viewer B
-after_item w h (item.Format f) v = record v { format = f }
+after_item w h (item.Format f) v = record v { format = f; map_owed = is_colour_map f }
 after_item w h (item.Encodings preferred copyrect) v = record v {
   encoding = preferred;
   uses_copyrect = copyrect;

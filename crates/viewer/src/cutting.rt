@@ -196,12 +196,14 @@ pub fn cut_in(
         return Ok(None);
     }
     let Planned { rectangles, marks } = plan(alloc, picture, limit, standing)?;
-    if rectangles.is_none() && standing.notices.is_empty() {
+    if rectangles.is_none() && standing.notices.is_empty() && !standing.map_owed {
         return Ok(None);
     }
     let notices = standing.notices.take(alloc)?;
+    let map_owed = standing.map_owed;
+    standing.map_owed = false;
     put_marks(standing, marks);
-    Ok(Some(Update::new(alloc, notices, rectangles)))
+    Ok(Some(Update::new(alloc, map_owed, notices, rectangles)))
 }
 
 /// The same, encoded.
@@ -227,7 +229,9 @@ pub fn cut_bytes_in(
         return Ok(Vec::new(alloc));
     }
     let Planned { rectangles, marks } = plan(alloc, picture, limit, standing)?;
-    let bytes = encode_all(alloc, standing.notices.as_slice(), &rectangles)?;
+    let notices = standing.notices.as_slice();
+    let bytes = encode_all(alloc, standing.map_owed, notices, &rectangles)?;
+    standing.map_owed = false;
     standing.notices.clear();
     put_marks(standing, marks);
     Ok(bytes)

@@ -26,10 +26,11 @@ use std::alloc::{AllocError, Global};
 
 /// Whether a viewer would be given something now, that is told of the drawing of a log first.
 pub fn is_pending(standing: &Standing, log: &[LogEntry]) -> bool
-    ensures { result ≡ (is_open_rest standing.now.ear &&
-        (not (none_wait standing.now.notices) || pending (logged standing.now.uses_copyrect log.now standing.now.marks))) }
+    ensures { result ≡ (is_open_rest standing.now.ear && (standing.now.map_owed ||
+        (not (none_wait standing.now.notices) || pending (logged standing.now.uses_copyrect log.now standing.now.marks)))) }
 {
-    standing.ear.is_open() && (!standing.notices.is_empty() || standing.marks.pending_after(log))
+    standing.ear.is_open()
+        && (standing.map_owed || !standing.notices.is_empty() || standing.marks.pending_after(log))
 }
 
 /// The rectangle of an area's places that are on a screen.
@@ -71,6 +72,7 @@ fn draft_of(alloc: Global, standing: &Standing, log: &[LogEntry]) -> Result<Draf
 {
     Ok(Draft {
         format: standing.format,
+        map_owed: standing.map_owed,
         encoding: standing.encoding,
         uses_copyrect: standing.uses_copyrect,
         marks: marks_after(alloc, standing, log)?,
@@ -130,7 +132,7 @@ fn take_request(
     Ok(())
 }
 
-/// What a viewer's message does to it (RFC 6143, 7.5).
+/// What a viewer's message does to it (RFC 6143, 7.5). With a format the colour map is owed, or is owed no longer.
 fn take_item(draft: &mut Draft, standing: &Standing, item: &Item) -> Result<(), AllocError>
     ensures { OnOk result (viewer_by standing.now draft.new ≡
         after_item standing.now.marks.width standing.now.marks.height item.now (viewer_by standing.now draft.old)) }
@@ -138,6 +140,7 @@ fn take_item(draft: &mut Draft, standing: &Standing, item: &Item) -> Result<(), 
     match item {
         Item::Format(format) => {
             draft.format = *format;
+            draft.map_owed = format.is_colour_map();
             Ok(())
         }
         Item::Encodings {
@@ -182,6 +185,7 @@ pub fn new_standing(alloc: Global, width: u32, height: u32) -> Result<Standing, 
     Ok(Standing {
         ear: Ear::new(alloc),
         format: PixelFormat::server(),
+        map_owed: false,
         encoding: Encoding::Raw,
         uses_copyrect: false,
         marks: Marks::new(alloc, width, height)?,
@@ -209,6 +213,7 @@ fn put_draft(standing: &mut Standing, draft: Draft)
     ensures { viewer_in standing.new ≡ viewer_by standing.old draft }
 {
     standing.format = draft.format;
+    standing.map_owed = draft.map_owed;
     standing.encoding = draft.encoding;
     standing.uses_copyrect = draft.uses_copyrect;
     put_marks(standing, draft.marks);

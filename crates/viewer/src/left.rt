@@ -13,7 +13,7 @@ use crate::parts::{Coloured, Rectangles};
 use crate::update::put_opening;
 use encode_hextile::{Carried, Rows, encode_row_of_tiles};
 use encode_raw::{put_raw_pixels, rect_header};
-use messages::Encoding;
+use messages::{Encoding, put_colour_map};
 use pixel_translate::{Area, Table};
 use std::alloc::{AllocError, Global};
 use std::marker::Model;
@@ -298,9 +298,12 @@ impl RectanglesLeft {
     }
 }
 
-/// An update, of which some is encoded: its notices, and then its rectangles. Contracts see it as the bytes of the rest.
+/// An update, of which some is encoded: the colour map where it is owed, its notices, and then its rectangles. Contracts see it
+/// as the bytes of the rest.
 #[derive(Drop)]
 pub struct UpdateLeft {
+    /// The colour map is to be encoded yet.
+    map_owed: bool,
     notices: Vec<Notice>,
     told: usize,
     rectangles: Option<RectanglesLeft>,
@@ -313,22 +316,28 @@ impl Model for UpdateLeft {
 
     ghost Value = { List ℕ };
 
-    ghost view = { λ a. update_left a.notices.items a.told a.rectangles };
+    ghost view = { λ a. update_left a.map_owed a.notices.items a.told a.rectangles };
 
     ghost invariant = { λ a. All IsShort a.notices.items };
 }
 
 impl UpdateLeft {
-    /// All of an update of notices, and of rectangles if there are any.
-    pub fn new(alloc: Global, notices: Vec<Notice>, rectangles: Option<Rectangles>) -> UpdateLeft
+    /// All of an update of the colour map where it is owed, of notices, and of rectangles if there are any.
+    pub fn new(
+        alloc: Global,
+        map_owed: bool,
+        notices: Vec<Notice>,
+        rectangles: Option<Rectangles>,
+    ) -> UpdateLeft
         requires { All IsShort notices.items }
-        ensures { result ≡ all_bytes notices.items rectangles }
+        ensures { result ≡ all_bytes map_owed notices.items rectangles }
     {
         let rectangles = match rectangles {
             Some(rectangles) => Some(RectanglesLeft::new(alloc, rectangles)),
             None => None,
         };
         UpdateLeft {
+            map_owed,
             notices,
             told: 0,
             rectangles,
@@ -339,7 +348,7 @@ impl UpdateLeft {
     pub fn is_ended(&self) -> bool
         ensures { IsTrue result ↔ (self.now ≡ []) }
     {
-        if self.told < self.notices.len() {
+        if self.map_owed || self.told < self.notices.len() {
             return false;
         }
         match &self.rectangles {
@@ -348,12 +357,17 @@ impl UpdateLeft {
         }
     }
 
-    /// Appends the next part: a notice, or one of the rectangles'.
+    /// Appends the next part: the colour map, a notice, or one of the rectangles'.
     pub fn put_part(&mut self, out: &mut Vec<u8>) -> Result<(), AllocError>
         ensures bytes { OnOk result (out.new.items ++ self.new ≡ out.old.items ++ self.old) }
         ensures more { OnOk result (self.old ≢ [] → length out.old.items < length out.new.items) }
         ensures err { OnErr result (self.new ≡ self.old) }
     {
+        if self.map_owed {
+            put_colour_map(out)?;
+            self.map_owed = false;
+            return Ok(());
+        }
         if self.told < self.notices.len() {
             put_notice(out, &self.notices[self.told])?;
             self.told += 1;
@@ -376,7 +390,9 @@ impl UpdateLeft {
         ensures kept { OnErr result (self.new ≡ self.old) }
     {
         match &mut self.rectangles {
-            Some(rectangles) if self.told >= self.notices.len() => rectangles.put_run(out),
+            Some(rectangles) if !self.map_owed && self.told >= self.notices.len() => {
+                rectangles.put_run(out)
+            }
             _ => Ok(false),
         }
     }

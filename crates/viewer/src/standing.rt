@@ -14,6 +14,8 @@ use pixel_translate::PixelFormat;
 pub struct Standing {
     pub ear: Ear,
     pub format: PixelFormat,
+    /// The colour map that its format needs has not been sent yet (RFC 6143, 7.6.2).
+    pub map_owed: bool,
     pub encoding: Encoding,
     pub uses_copyrect: bool,
     pub marks: Marks,
@@ -31,6 +33,7 @@ pub struct Planned {
 #[derive(Drop)]
 pub struct Draft {
     pub format: PixelFormat,
+    pub map_owed: bool,
     pub encoding: Encoding,
     pub uses_copyrect: bool,
     pub marks: Option<Marks>,

@@ -12,7 +12,7 @@ pub const PIECE: usize = 8192;
 /// An update on its way to a viewer, piece by piece. Contracts see it as the bytes that are still to come.
 ///
 /// Pixels in Raw are appended as they are made. Of other parts no more is made at once, in a vector that the stream keeps, than
-/// a row of tiles in Hextile, a rectangle in RRE, or a notice.
+/// a row of tiles in Hextile, a rectangle in RRE, the colour map, or a notice.
 #[derive(Drop)]
 pub struct Stream {
     left: UpdateLeft,

@@ -3,6 +3,7 @@
 ghost use Rattle.std.specs.Prelude.{◌≡◌, ◌+◌, ◌<◌, ◌++◌, All, flat_map, length, IfOk, OnOk};
 ghost use Rattle.messages.specs.Server.{update_head};
 ghost use Rattle.viewer.specs.Short.{IsShort};
+ghost use Rattle.viewer.specs.Sending.{map_bytes};
 ghost use Rattle.viewer.specs.Updates.{moved_bytes, coloured_bytes, rectangles_bytes, all_bytes};
 
 use crate::left::UpdateLeft;
@@ -10,16 +11,17 @@ use crate::notices::{Notice, put_notices};
 use crate::parts::{Coloured, Moved, Rectangles};
 use crate::stream::Stream;
 use encode_raw::encode_copy;
-use messages::{Encoding, put_update_head};
+use messages::{Encoding, put_colour_map, put_update_head};
 use pixel_translate::Table;
 use std::alloc::{AllocError, Global};
 use std::marker::Model;
 
-/// What one viewer is sent in one step: the notices that waited, and then, where places that it asked for are not clean, one
-/// FramebufferUpdate (RFC 6143, 7.6.1). Contracts see it as its bytes.
+/// What one viewer is sent in one step: the colour map where it is owed, the notices that waited, and then, where places that it
+/// asked for are not clean, one FramebufferUpdate (RFC 6143, 7.6.1). Contracts see it as its bytes.
 #[derive(Drop)]
 pub struct Update {
     alloc: Global,
+    map_owed: bool,
     notices: Vec<Notice>,
     rectangles: Option<Rectangles>,
 }
@@ -31,7 +33,7 @@ impl Model for Update {
 
     ghost Value = { List ℕ };
 
-    ghost view = { λ a. all_bytes a.notices.items a.rectangles };
+    ghost view = { λ a. all_bytes a.map_owed a.notices.items a.rectangles };
 
     ghost invariant = { λ a. All IsShort a.notices.items };
 }
@@ -106,16 +108,29 @@ fn put_rectangles(out: &mut Vec<u8>, rectangles: &Rectangles) -> Result<(), Allo
     put_coloured(out, &rectangles.coloured, rectangles.encoding, &table)
 }
 
-/// The bytes of notices, and then of a FramebufferUpdate if there is one.
+/// Appends the colour map where it is owed (RFC 6143, 7.6.2).
+fn put_map(out: &mut Vec<u8>, map_owed: bool) -> Result<(), AllocError>
+    ensures { OnOk result (out.new.items ≡ out.old.items ++ map_bytes map_owed) }
+{
+    if map_owed {
+        put_colour_map(out)
+    } else {
+        Ok(())
+    }
+}
+
+/// The bytes of the colour map where it is owed, of notices, and then of a FramebufferUpdate if there is one.
 pub(crate) fn encode_all(
     alloc: Global,
+    map_owed: bool,
     notices: &[Notice],
     rectangles: &Option<Rectangles>,
 ) -> Result<Vec<u8>, AllocError>
     requires { All IsShort notices.now }
-    ensures { IfOk result (λ bytes. bytes.items ≡ all_bytes notices.now rectangles.now) }
+    ensures { IfOk result (λ bytes. bytes.items ≡ all_bytes map_owed notices.now rectangles.now) }
 {
     let mut out = Vec::new(alloc);
+    put_map(&mut out, map_owed)?;
     put_notices(&mut out, notices)?;
     if let Some(rectangles) = rectangles {
         put_rectangles(&mut out, rectangles)?;
@@ -124,13 +139,19 @@ pub(crate) fn encode_all(
 }
 
 impl Update {
-    /// An update of notices, and of rectangles if there are any.
-    pub(crate) fn new(alloc: Global, notices: Vec<Notice>, rectangles: Option<Rectangles>) -> Update
+    /// An update of the colour map where it is owed, of notices, and of rectangles if there are any.
+    pub(crate) fn new(
+        alloc: Global,
+        map_owed: bool,
+        notices: Vec<Notice>,
+        rectangles: Option<Rectangles>,
+    ) -> Update
         requires { All IsShort notices.items }
-        ensures { result ≡ all_bytes notices.items rectangles }
+        ensures { result ≡ all_bytes map_owed notices.items rectangles }
     {
         Update {
             alloc,
+            map_owed,
             notices,
             rectangles,
         }
@@ -141,7 +162,7 @@ impl Update {
     pub fn encode(&self) -> Result<Vec<u8>, AllocError>
         ensures { IfOk result (λ bytes. bytes.items ≡ self.now) }
     {
-        encode_all(self.alloc, &self.notices, &self.rectangles)
+        encode_all(self.alloc, self.map_owed, &self.notices, &self.rectangles)
     }
 
     /// The same bytes, to be given in pieces: no more is encoded at once than a row in Raw, a row of tiles in
@@ -149,7 +170,7 @@ impl Update {
     pub fn into_stream(self) -> Stream
         ensures { result ≡ self }
     {
-        let left = UpdateLeft::new(self.alloc, self.notices, self.rectangles);
+        let left = UpdateLeft::new(self.alloc, self.map_owed, self.notices, self.rectangles);
         Stream::new(self.alloc, left)
     }
 }

@@ -81,11 +81,11 @@ impl Viewer {
         hear_in(self.alloc, &mut self.standing, log, name, piece)
     }
 
-    /// Whether an update would have something to send (`FB_UPDATE_PENDING` of `rfb.h`, and the notices), if it were cut once the
-    /// viewer is told of the drawing that stands in a log, the first entry's first. This takes no memory.
+    /// Whether an update would have something to send (`FB_UPDATE_PENDING` of `rfb.h`, the colour map, and the notices), if it
+    /// were cut once the viewer is told of the drawing that stands in a log, the first entry's first. This takes no memory.
     pub fn is_pending_after(&self, log: &[LogEntry]) -> bool
-        ensures { result ≡ (is_open_rest self.now.heard &&
-            (not (none_wait self.now.notices) || pending (viewer_told log.now self.now).marks)) }
+        ensures { result ≡ (is_open_rest self.now.heard && (self.now.map_owed ||
+            (not (none_wait self.now.notices) || pending (viewer_told log.now self.now).marks))) }
     {
         is_pending(&self.standing, log)
     }

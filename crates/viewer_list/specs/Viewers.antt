@@ -50,4 +50,4 @@ text_for text v = if keeps_notices v then Some (notice.CutText text) else None
 
 -- whether an update that is cut now would have something to send
 abbrev pub is_pending : KeptViewer → Bool
-is_pending v = is_open_rest v.heard && (not (none_wait v.notices) || pending v.marks)
+is_pending v = is_open_rest v.heard && (v.map_owed || (not (none_wait v.notices) || pending v.marks))

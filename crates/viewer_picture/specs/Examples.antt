@@ -3,16 +3,17 @@ use Rattle.std.specs.Prelude.{◌≡◌, ℕ, ℤ, pos, List, [], ◌∷◌, ◌
 use Rattle.std.specs.List.{range_with_len}
 use Rattle.pixel_translate.specs.declared.BitsPerPixel.TheVariants.{Eight}
 use Rattle.pixel_translate.specs.declared.PixelFormat.{PixelFormat}
-use Rattle.pixel_translate.specs.Pixel.{server_format}
+use Rattle.pixel_translate.specs.declared.Pixels.TheVariants.{TrueColour}
+use Rattle.pixel_translate.specs.Pixel.{server_format, red_in, green_in, blue_in}
 use Rattle.pixel_translate.specs.Examples.{F}
 use Rattle.encode_raw.specs.Reading.{◌>>=◌, Shown, pixels_at}
 use Rattle.encode_rre.specs.Reading.{subrectangles_at}
 use Rattle.messages.specs.declared.Version.TheVariants.{V33, V37, V38}
-use Rattle.viewer_picture.specs.Messages.{rectangles_at, messages_in, messages_at}
+use Rattle.viewer_picture.specs.Messages.{rectangles_at, entries_at, messages_in, messages_at, nothing_mapped}
 use Rattle.viewer_picture.specs.Opening.{security_at, result_at, init_at}
 
 abbrev one_byte : PixelFormat
-one_byte = record server_format { bits = Eight }
+one_byte = record server_format { pixels = TrueColour Eight (red_in server_format.pixels) (green_in server_format.pixels) (blue_in server_format.pixels) }
 
 abbrev blank : Shown
 blank x y = None
@@ -20,8 +21,8 @@ blank x y = None
 -- what the first four places show, by the encodings that were listed
 abbrev shows_by : List ℤ → List ℕ → Option (List (Option ℕ))
 shows_by listed bytes = do
-  shown ← messages_at (record { width = 4; height = 1; format = one_byte; listed = listed }) blank bytes
-  Some (map (λ x. option_map (λ d. d.pixel) (shown x 0)) (range_with_len 0 4))
+  d ← messages_at (record { width = 4; height = 1; format = one_byte; listed = listed }) (record { shown = blank; colours = nothing_mapped }) bytes
+  Some (map (λ x. option_map (λ dot. dot.pixel) (d.shown x 0)) (range_with_len 0 4))
 
 abbrev shows : List ℕ → Option (List (Option ℕ))
 shows bytes = shows_by (pos 1 ∷ pos 2 ∷ []) bytes
@@ -95,6 +96,21 @@ rre_not_listed = refl
 raw_not_listed : shows_by [] three_pixels ≡ Some (Some 1 ∷ Some 2 ∷ Some 3 ∷ None ∷ [])
 unfolding pixels_at rectangles_at messages_in
 raw_not_listed = refl
+
+-- two entries of the colour map, of which the second is set once more behind an update
+abbrev maps : List ℕ → Option (List (Option (ℕ × ℕ × ℕ)))
+maps bytes = do
+  d ← messages_at (record { width = 4; height = 1; format = one_byte; listed = [] }) (record { shown = blank; colours = nothing_mapped }) bytes
+  Some (map d.colours (6 ∷ 7 ∷ 8 ∷ []))
+
+mapped : maps (1 ∷ 0 ∷ 0 ∷ 7 ∷ 0 ∷ 2 ∷ 0 ∷ 1 ∷ 0 ∷ 2 ∷ 1 ∷ 0 ∷ 0 ∷ 4 ∷ 0 ∷ 5 ∷ 0 ∷ 6 ∷ three_pixels ++ 1 ∷ 0 ∷ 0 ∷ 8 ∷ 0 ∷ 1 ∷ 0 ∷ 7 ∷ 0 ∷ 8 ∷ 0 ∷ 9 ∷ [])
+    ≡ Some (None ∷ Some (1, 2, 256) ∷ Some (7, 8, 9) ∷ [])
+unfolding pixels_at rectangles_at entries_at messages_in
+mapped = refl
+
+map_cut_short : maps (1 ∷ 0 ∷ 0 ∷ 7 ∷ 0 ∷ 2 ∷ 0 ∷ 1 ∷ 0 ∷ 2 ∷ 1 ∷ 0 ∷ []) ≡ None
+unfolding entries_at messages_in
+map_cut_short = refl
 
 -- the opening
 security_of_38 : security_at V38 (1 ∷ 1 ∷ 7 ∷ []) ≡ Some (7 ∷ [])

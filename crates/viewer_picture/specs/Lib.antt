@@ -6,6 +6,7 @@ pub mod Pictures
 pub mod Claims
 pub mod Examples
 pub mod MessageLemmas
+pub mod MapLemmas
 pub mod AreaLemmas
 pub mod MarkLemmas
 pub mod CutLemmas

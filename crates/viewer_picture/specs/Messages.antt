@@ -66,29 +66,59 @@ update_at agreed shown bytes = do
   count ← number_at w16 padding.1
   rectangles_at agreed count.0 shown count.1
 
+-- 7.6.2: what the entries of a viewer's colour map are, as far as they were set: red, green and blue
+abbrev pub ColourMap : Type 0
+ColourMap = ℕ → Option (ℕ × ℕ × ℕ)
+
+abbrev pub nothing_mapped : ColourMap
+nothing_mapped entry = None
+
+-- 7.6.2: so many entries, from one on
+unfoldable pub entries_at : ℕ → ℕ → ColourMap → List ℕ → Option (ColourMap × List ℕ)
+entries_at zero first colours bytes = Some (colours, bytes)
+entries_at (suc n) first colours bytes = do
+  red ← number_at w16 bytes
+  green ← number_at w16 red.1
+  blue ← number_at w16 green.1
+  entries_at n (first + 1) (λ entry. if entry == first then Some (red.0, green.0, blue.0) else colours entry) blue.1
+
+-- 7.6.2: entries of the colour map, behind their first byte
+abbrev pub map_at : ColourMap → List ℕ → Option (ColourMap × List ℕ)
+map_at colours bytes = do
+  padding ← bytes_at 1 bytes
+  first ← number_at w16 padding.1
+  count ← number_at w16 first.1
+  entries_at count.0 first.0 colours count.1
+
 -- 7.6.4: a text, behind its first byte; it shows nothing
-abbrev pub text_at : Shown → List ℕ → Option (Shown × List ℕ)
-text_at shown bytes = do
+abbrev pub text_at : List ℕ → Option (List ℕ)
+text_at bytes = do
   padding ← bytes_at 3 bytes
   long ← number_at w32 padding.1
   text ← bytes_at long.0 long.1
-  Some (shown, text.1)
+  Some text.1
 
--- 7.6: a message: an update is of type 0, a bell of type 2, a text of type 3
-abbrev pub message_of : Agreed → Shown → ℕ → List ℕ → Option (Shown × List ℕ)
-message_of agreed shown kind bytes =
-    if kind == 0 then update_at agreed shown bytes
-    else (if kind == 2 then Some (shown, bytes)
-    else (if kind == 3 then text_at shown bytes
-    else None))
+-- what a viewer has of what it was sent: what it shows, and its colour map
+pub record Display : Type 0 where
+  pub shown : Shown
+  pub colours : ColourMap
+
+-- 7.6: a message: an update is of type 0, entries of the colour map of type 1, a bell of type 2, a text of type 3
+abbrev pub message_of : Agreed → Display → ℕ → List ℕ → Option (Display × List ℕ)
+message_of agreed d kind bytes =
+    if kind == 0 then (update_at agreed d.shown bytes >>= λ r. Some (record d { shown = r.0 }, r.1))
+    else (if kind == 1 then (map_at d.colours bytes >>= λ r. Some (record d { colours = r.0 }, r.1))
+    else (if kind == 2 then Some (d, bytes)
+    else (if kind == 3 then (text_at bytes >>= λ more. Some (d, more))
+    else None)))
 
 -- 7.6: messages one after the other, up to the end of the bytes; there are no more than bytes
-unfoldable pub messages_in : Agreed → ℕ → Shown → List ℕ → Option Shown
-messages_in agreed n shown [] = Some shown
-messages_in agreed zero shown (b ∷ bytes) = None
-messages_in agreed (suc n) shown (b ∷ bytes) = do
-  first ← message_of agreed shown b bytes
+unfoldable pub messages_in : Agreed → ℕ → Display → List ℕ → Option Display
+messages_in agreed n d [] = Some d
+messages_in agreed zero d (b ∷ bytes) = None
+messages_in agreed (suc n) d (b ∷ bytes) = do
+  first ← message_of agreed d b bytes
   messages_in agreed n first.0 first.1
 
-abbrev pub messages_at : Agreed → Shown → List ℕ → Option Shown
-messages_at agreed shown bytes = messages_in agreed (length bytes) shown bytes
+abbrev pub messages_at : Agreed → Display → List ℕ → Option Display
+messages_at agreed d bytes = messages_in agreed (length bytes) d bytes

@@ -6,18 +6,20 @@ ghost use Rattle.std.specs.Prelude.{◌≡◌, ◌*◌, ◌≤◌, length};
 use super::RGB565;
 use super::pixel_bytes::append_pixel;
 use encode_hextile::encode_hextile;
-use pixel_translate::{Area, BitsPerPixel, Component, PixelFormat, translate};
+use pixel_translate::{Area, BitsPerPixel, Component, PixelFormat, Pixels, translate};
 use std::alloc::{AllocError, Global};
 use std::test::Fail;
 
 /// Eight bits, which are the colour's lowest.
 const LOWEST: PixelFormat = PixelFormat {
-    bits: BitsPerPixel::Eight,
     depth: 8,
     big_endian: false,
-    red: Component { max: 0, shift: 0 },
-    green: Component { max: 0, shift: 0 },
-    blue: Component { max: 255, shift: 0 },
+    pixels: Pixels::TrueColour {
+        bits: BitsPerPixel::Eight,
+        red: Component { max: 0, shift: 0 },
+        green: Component { max: 0, shift: 0 },
+        blue: Component { max: 255, shift: 0 },
+    },
 };
 
 /// The pixels of a rectangle, row by row.

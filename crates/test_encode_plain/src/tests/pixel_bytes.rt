@@ -22,7 +22,7 @@ pub(crate) fn append_pixel(
     format: &PixelFormat,
     pixel: u32,
 ) -> Result<(), AllocError> {
-    let count = count_of(format.bits);
+    let count = count_of(format.bits());
     if format.big_endian {
         out.extend_from_slice(&pixel.to_be_bytes()[4 - count..])
     } else {

@@ -142,18 +142,18 @@ static MESSAGES: [Row; 12] = [
     // A SetPixelFormat of 16 bits, 5-6-5.
     (
         b"\x00\x00\x00\x00\x10\x10\x00\x01\x00\x1f\x00\x3f\x00\x1f\x0b\x05\x00\x00\x00\x00",
-        "Format(PixelFormat { bits: Sixteen, depth: 16, big_endian: false, red: Component { max: 31, shift: 11 }, \
-            green: Component { max: 63, shift: 5 }, blue: Component { max: 31, shift: 0 } });",
+        "Format(PixelFormat { depth: 16, big_endian: false, pixels: TrueColour { bits: Sixteen, red: Component { max: 31, shift: 11 }, \
+            green: Component { max: 63, shift: 5 }, blue: Component { max: 31, shift: 0 } } });",
         None,
     ),
-    // 24 bits per pixel, a colour map, and both.
+    // 24 bits per pixel, a colour map of 16 bits, and both.
     (
         b"\x00\x00\x00\x00\x18\x18\x00\x01\x00\xff\x00\xff\x00\xff\x10\x08\x00\x00\x00\x00\x07",
         "",
         Some(Fault::BadBitsPerPixel),
     ),
     (
-        b"\x00\x00\x00\x00\x08\x18\x00\x00\x00\xff\x00\xff\x00\xff\x10\x08\x00\x00\x00\x00\x07",
+        b"\x00\x00\x00\x00\x10\x18\x00\x00\x00\xff\x00\xff\x00\xff\x10\x08\x00\x00\x00\x00\x07",
         "",
         Some(Fault::ColourMapUnsupported),
     ),

@@ -3,7 +3,7 @@
 
 ghost use Rattle.std.specs.Prelude.{◌<◌};
 
-use pixel_translate::{BitsPerPixel, Component, PixelFormat};
+use pixel_translate::{BitsPerPixel, Component, PixelFormat, Pixels};
 use std::alloc::{AllocError, Global};
 
 /// Where the sequence is.
@@ -27,31 +27,37 @@ fn colour_of(number: u32) -> u32 {
 /// 3-3-2, 5-6-5 and 8-8-8.
 static FORMATS: [PixelFormat; 3] = [
     PixelFormat {
-        bits: BitsPerPixel::Eight,
         depth: 24,
         big_endian: false,
-        red: Component { max: 7, shift: 5 },
-        green: Component { max: 7, shift: 2 },
-        blue: Component { max: 3, shift: 0 },
-    },
-    PixelFormat {
-        bits: BitsPerPixel::Sixteen,
-        depth: 24,
-        big_endian: false,
-        red: Component { max: 31, shift: 11 },
-        green: Component { max: 63, shift: 5 },
-        blue: Component { max: 31, shift: 0 },
-    },
-    PixelFormat {
-        bits: BitsPerPixel::ThirtyTwo,
-        depth: 24,
-        big_endian: false,
-        red: Component {
-            max: 255,
-            shift: 16,
+        pixels: Pixels::TrueColour {
+            bits: BitsPerPixel::Eight,
+            red: Component { max: 7, shift: 5 },
+            green: Component { max: 7, shift: 2 },
+            blue: Component { max: 3, shift: 0 },
         },
-        green: Component { max: 255, shift: 8 },
-        blue: Component { max: 255, shift: 0 },
+    },
+    PixelFormat {
+        depth: 24,
+        big_endian: false,
+        pixels: Pixels::TrueColour {
+            bits: BitsPerPixel::Sixteen,
+            red: Component { max: 31, shift: 11 },
+            green: Component { max: 63, shift: 5 },
+            blue: Component { max: 31, shift: 0 },
+        },
+    },
+    PixelFormat {
+        depth: 24,
+        big_endian: false,
+        pixels: Pixels::TrueColour {
+            bits: BitsPerPixel::ThirtyTwo,
+            red: Component {
+                max: 255,
+                shift: 16,
+            },
+            green: Component { max: 255, shift: 8 },
+            blue: Component { max: 255, shift: 0 },
+        },
     },
 ];
 
