@@ -4,7 +4,7 @@ use Rattle.std.specs.List.{list_any}
 use Rattle.std.proofs.lemmas.List.FromFn.{length-map-range_with_len}
 use Rattle.std.specs.Prelude.{◌==◌, is_some, filter, not, ◌&&◌, ◌||◌, MatchOption, MatchResult}
 use Rattle.messages.specs.Reading.{Rest, rest, new_items}
-use Rattle.messages.specs.Server.{server_version}
+use Rattle.messages.specs.Server.{server_version, colour_map}
 use Rattle.scene.specs.declared.Config.{Config}
 use Rattle.scene.specs.declared.Event.{Event}
 use Rattle.scene.specs.declared.Event.TheVariants.{Connect, Hear, Cut, Close}
@@ -154,20 +154,24 @@ close-answer_there c es p pairs v old h there = let at = stands_there c es p pai
 
 -- ---- whether there is something to send
 
-pub some-sent : (w h limit : ℕ) (picture : List ℕ) (v : Viewer Rest) → some_bytes (sending_kept w h limit picture v).0 ≡ (is_open_rest v.heard && (not (none_wait v.notices) || pending v.marks))
-some-sent w h limit picture v = go (is_open_rest v.heard) (pending v.marks) v.notices
+pub some-sent : (w h limit : ℕ) (picture : List ℕ) (v : Viewer Rest) → some_bytes (sending_kept w h limit picture v).0 ≡ (is_open_rest v.heard && (v.map_owed || (not (none_wait v.notices) || pending v.marks)))
+unfolding colour_map
+some-sent w h limit picture v = go (is_open_rest v.heard) (pending v.marks) v.map_owed v.notices
   where
     sent : Sent
     sent = record { copies = copies_of limit v.marks; offset = v.marks.offset; pixels = pixels_of limit v.marks; after = after_sending (copies_of limit v.marks) (pixels_of limit v.marks) v.marks }
 
-    go : (a b : Bool) (ns : List Notice) → some_bytes (cond a (with_update w h picture (record v { notices = ns }) (cond b (Some sent) None)) ([], record v { notices = ns })).0 ≡ (a && (not (none_wait ns) || b))
-    go false b ns = refl
-    go true true [] = refl
-    go true false [] = refl
-    go true true (notice.Bell ∷ ns) = refl
-    go true true (notice.CutText text ∷ ns) = refl
-    go true false (notice.Bell ∷ ns) = refl
-    go true false (notice.CutText text ∷ ns) = refl
+    go : (a b owed : Bool) (ns : List Notice)
+        → some_bytes (cond a (with_update w h picture (record v { map_owed = owed; notices = ns }) (cond b (Some sent) None)) ([], record v { map_owed = owed; notices = ns })).0 ≡ (a && (owed || (not (none_wait ns) || b)))
+    go false b owed ns = refl
+    go true true true ns = refl
+    go true false true ns = refl
+    go true true false [] = refl
+    go true false false [] = refl
+    go true true false (notice.Bell ∷ ns) = refl
+    go true true false (notice.CutText text ∷ ns) = refl
+    go true false false (notice.Bell ∷ ns) = refl
+    go true false false (notice.CutText text ∷ ns) = refl
 
 -- ---- what a call tells
 

@@ -24,7 +24,7 @@ use Rattle.scene.specs.declared.ScreenError.TheVariants as refusals
 use Rattle.viewer.specs.declared.notices.Notice.{Notice}
 use Rattle.viewer.specs.declared.notices.Notice.TheVariants as notice
 use Rattle.viewer.specs.Short.{IsShort}
-use Rattle.viewer.specs.Viewer.{Viewer, is_open_viewer, with_notice, does_nothing}
+use Rattle.viewer.specs.Viewer.{Viewer, is_open_viewer, with_notice, viewer_copied, does_nothing}
 use Rattle.scene.specs.Alone.{owner_of, drawing_refusal, drawn, shown_drawing}
 use Rattle.scene.specs.Shown.{Watching}
 use Rattle.scene.specs.Pictures.{is_told}
@@ -105,25 +105,25 @@ text-short n false e f = grind (arith, nat_tests)
 
 -- ---- drawing calls
 
-module _ (c : Config) (picture : List ℕ) (v : Viewer (List ℕ)) (s : Watching) (h : Watches c picture v s) where
+module _ (T : Type 0) (c : Config) (picture : List ℕ) (v : Viewer (List ℕ)) (s : Watching) (h : Watches T c picture v s) where
   colour : ℤ → ℤ → ℕ
   colour = colour_at c.width c.height picture
 
   -- other marks of the same size, which show the colours
-  remarked : (now : List ℕ) (marks : Marks) → marks.width ≡ v.marks.width → marks.height ≡ v.marks.height → Shows (may_come s.agreed.listed (pos 1) ≡ true) (colour_at c.width c.height now) marks s.shown → Watches c now (record v { marks = marks }) s
+  remarked : (now : List ℕ) (marks : Marks) → marks.width ≡ v.marks.width → marks.height ≡ v.marks.height → Shows T (may_come s.agreed.listed (pos 1) ≡ true) (colour_at c.width c.height now) marks s.shown → Watches T c now (record v { marks = marks }) s
   remarked now marks wide high shows = record {
     said = h.said;
     legal = h.legal;
     short = h.short;
-    follows = record { format = h.follows.format; early = h.follows.early; told = h.follows.told; encoding = h.follows.encoding; copyrect = h.follows.copyrect; width = wide ∙ h.follows.width; height = high ∙ h.follows.height; shows = shows };
+    follows = record { format = h.follows.format; early = h.follows.early; told = h.follows.told; encoding = h.follows.encoding; copyrect = h.follows.copyrect; width = wide ∙ h.follows.width; height = high ∙ h.follows.height; map = h.follows.map; shows = shows };
   }
 
-  noticed-watched : (n : Notice) (open_now : Bool) → IsShort n → Watches c picture (record v { notices = cond open_now (with_notice n v.notices) v.notices }) s
+  noticed-watched : (n : Notice) (open_now : Bool) → IsShort n → Watches T c picture (record v { notices = cond open_now (with_notice n v.notices) v.notices }) s
   noticed-watched n open_now short = record {
     said = h.said;
     legal = h.legal;
     short = noticed-short n open_now v.notices short h.short;
-    follows = record { format = h.follows.format; early = h.follows.early; told = h.follows.told; encoding = h.follows.encoding; copyrect = h.follows.copyrect; width = h.follows.width; height = h.follows.height; shows = h.follows.shows };
+    follows = record { format = h.follows.format; early = h.follows.early; told = h.follows.told; encoding = h.follows.encoding; copyrect = h.follows.copyrect; width = h.follows.width; height = h.follows.height; map = h.follows.map; shows = h.follows.shows };
   }
 
   on : (x y : ℤ) → on_screen v.marks.width v.marks.height x y ≡ true → on_screen c.width c.height x y ≡ true
@@ -132,40 +132,50 @@ module _ (c : Config) (picture : List ℕ) (v : Viewer (List ℕ)) (s : Watching
   off : (x y : ℤ) → on_screen c.width c.height x y ≡ true → on_screen v.marks.width v.marks.height x y ≡ true
   off x y e = ap (λ n. on_screen n v.marks.height x y) h.follows.width ∙ ap (λ n. on_screen c.width n x y) h.follows.height ∙ e
 
-  -- a copy
-  copy-watched : (set : ℤ → ℤ → Bool) (by : ℤ × ℤ) (b : Bool) → does_nothing c.width c.height set by ≡ b
-      → Watches c (copied_colours c.width c.height set by picture) (record v { marks = cond b v.marks (copied_by (cut_destination c.width c.height set by) by v.uses_copyrect v.marks) }) s
+  -- marks of a copy: each place of it has the colour of its source where T holds, and no other has another colour
+  copy-watched : (now : List ℕ) (set : ℤ → ℤ → Bool) (by : ℤ × ℤ)
+      → (T → (x y : ℤ) → on_screen c.width c.height x y ≡ true
+      → colour_at c.width c.height now x y ≡ cond (cut_destination c.width c.height set by x y) (colour_at c.width c.height picture (x -ℤ by.0) (y -ℤ by.1)) (colour_at c.width c.height picture x y))
+      → ((x y : ℤ) → on_screen c.width c.height x y ≡ true → cut_destination c.width c.height set by x y ≡ false → colour_at c.width c.height now x y ≡ colour_at c.width c.height picture x y)
+      → (does_nothing c.width c.height set by ≡ true → (x y : ℤ) → on_screen c.width c.height x y ≡ true → colour_at c.width c.height now x y ≡ colour_at c.width c.height picture x y)
+      → (b : Bool) → does_nothing c.width c.height set by ≡ b
+      → Watches T c now (record v { marks = cond b v.marks (copied_by (cut_destination c.width c.height set by) by v.uses_copyrect v.marks) }) s
   unfolding colour
-  copy-watched set by true e = remarked _ v.marks refl refl (recoloured _ colour _ v.marks s.shown (λ x y there. still c.width c.height set by picture e x y (on x y there)) h.follows.shows)
-  copy-watched set by false e = by-copyrect v.uses_copyrect refl
+  copy-watched now set by moved others unmoved true e = remarked _ v.marks refl refl (recoloured _ colour _ v.marks s.shown (λ x y there. unmoved e x y (on x y there)) h.follows.shows)
+  copy-watched now set by moved others unmoved false e = by-copyrect v.uses_copyrect refl
     where
       cut : ℤ → ℤ → Bool
       cut = cut_destination c.width c.height set by
-
-      unset : (x y : ℤ) → on_screen v.marks.width v.marks.height x y ≡ true → colour_at c.width c.height (copied_colours c.width c.height set by picture) x y ≡ cond (cut x y) (colour (x -ℤ by.0) (y -ℤ by.1)) (colour x y)
-      unset x y there = copied-is c.width c.height set by picture x y (on x y there)
 
       source : (a b d : Bool) → (a && b && d) ≡ true → d ≡ true
       source true true d e = e
       source true false d e = absurd cc
       source false b d e = absurd cc
 
-      by-copyrect : (uses : Bool) → v.uses_copyrect ≡ uses → Watches c (copied_colours c.width c.height set by picture) (record v { marks = copied_by cut by uses v.marks }) s
+      by-copyrect : (uses : Bool) → v.uses_copyrect ≡ uses → Watches T c now (record v { marks = copied_by cut by uses v.marks }) s
       by-copyrect true e = remarked _ _ refl refl (moved-shows _ (h.follows.copyrect e) colour _ cut by v.marks s.shown
-          (λ x y hit. off (x -ℤ by.0) (y -ℤ by.1) (source (set x y) (on_screen c.width c.height x y) (on_screen c.width c.height (x -ℤ by.0) (y -ℤ by.1)) hit)) unset h.follows.shows)
-      by-copyrect false e = remarked _ _ refl refl (marked-shows _ colour _ cut v.marks s.shown
-          (λ x y there out. unset x y there ∙ ap (λ b. cond b (colour (x -ℤ by.0) (y -ℤ by.1)) (colour x y)) out) h.follows.shows)
+          (λ x y hit. off (x -ℤ by.0) (y -ℤ by.1) (source (set x y) (on_screen c.width c.height x y) (on_screen c.width c.height (x -ℤ by.0) (y -ℤ by.1)) hit)) (λ t x y there. moved t x y (on x y there)) h.follows.shows)
+      by-copyrect false e = remarked _ _ refl refl (marked-shows _ colour _ cut v.marks s.shown (λ x y there out. others x y (on x y there) out) h.follows.shows)
 
-  -- each drawing call of which the viewers are told
-  pub drawing-watched : (e : Event) → owner_of e ≡ None → is_told e ≡ true → drawing_refusal c e ≡ None → Watches c (drawn c e picture) (shown_drawing c e (is_open_viewer v) v) s
+  -- a copy that is drawn
+  drawn-copy-watched : (set : ℤ → ℤ → Bool) (by : ℤ × ℤ) → Watches T c (copied_colours c.width c.height set by picture) (viewer_copied c.width c.height set by v) s
+  drawn-copy-watched set by = copy-watched (copied_colours c.width c.height set by picture) set by (λ t x y there. copied-is c.width c.height set by picture x y there)
+      (λ x y there out. copied-is c.width c.height set by picture x y there ∙ ap (λ b. cond b (colour_at c.width c.height picture (x -ℤ by.0) (y -ℤ by.1)) (colour_at c.width c.height picture x y)) out)
+      (λ idle x y there. still c.width c.height set by picture idle x y there) (does_nothing c.width c.height set by) refl
+
+  untold : false ≡ true → ⊥
+  untold e = cc
+
+  -- each drawing call; where T holds the viewers are told of it
+  pub drawing-watched : (e : Event) → owner_of e ≡ None → (T → is_told e ≡ true) → drawing_refusal c e ≡ None → Watches T c (drawn c e picture) (shown_drawing c e (is_open_viewer v) v) s
   unfolding colour
   drawing-watched (event.Paint r colours) mine told accepted = remarked _ _ refl refl (marked-shows _ colour _ (in_rect r) v.marks s.shown (λ x y there out. written-out c.width c.height r colours picture x y (on x y there) out) h.follows.shows)
   drawing-watched (event.Mark rects) mine told accepted = remarked _ _ refl refl (marked-shows _ colour colour (places_in rects) v.marks s.shown (λ x y there out. refl) h.follows.shows)
-  drawing-watched (event.DoCopy rects dx dy) mine told accepted = copy-watched (places_in rects) (dx, dy) (does_nothing c.width c.height (places_in rects) (dx, dy)) refl
+  drawing-watched (event.DoCopy rects dx dy) mine told accepted = drawn-copy-watched (places_in rects) (dx, dy)
   drawing-watched event.Bell mine told accepted = noticed-watched notice.Bell (is_open_viewer v) tt
   drawing-watched (event.CutText text) mine told accepted = noticed-watched (notice.CutText text) (is_open_viewer v) (text-short (length text) (nat_lt 65536 (length text)) refl accepted)
-  drawing-watched (event.Write r colours) mine told accepted = absurd cc
-  drawing-watched (event.ScheduleCopy rects dx dy) mine told accepted = absurd cc
+  drawing-watched (event.Write r colours) mine told accepted = remarked _ _ refl refl (record { clean = λ t. absurd (untold (told t)); copied = λ t. absurd (untold (told t)); may = h.follows.shows.may })
+  drawing-watched (event.ScheduleCopy rects dx dy) mine told accepted = copy-watched picture (places_in rects) (dx, dy) (λ t. absurd (untold (told t))) (λ x y there out. refl) (λ idle x y there. refl) (does_nothing c.width c.height (places_in rects) (dx, dy)) refl
   drawing-watched (event.Connect n) mine told accepted = absurd cc
   drawing-watched (event.Hear n piece) mine told accepted = absurd cc
   drawing-watched (event.Cut n) mine told accepted = absurd cc

@@ -6,10 +6,7 @@ use Rattle.scene.specs.declared.Config.{Config}
 use Rattle.scene.specs.declared.Event.{Event}
 use Rattle.scene.specs.declared.Event.TheVariants.{Cut}
 use Rattle.viewer.specs.Viewer.{Viewer, is_open_viewer, kept_viewer}
-use Rattle.viewer.specs.Sending.{notice_bytes, with_update, sending, sending_kept}
-use Rattle.std.specs.Prelude.{flat_map}
-use Rattle.viewer.specs.declared.notices.Notice.{Notice}
-use Rattle.viewer.specs.declared.notices.Notice.TheVariants as notice
+use Rattle.viewer.specs.Sending.{with_update, sending, sending_kept}
 use Rattle.scene.specs.Alone.{own_step, gives}
 use Rattle.scene.specs.Answers.{viewer_of, picture_of, scene_after, answer_to}
 use Rattle.scene.proofs.Opened.{open-kept}
@@ -53,14 +50,3 @@ answer-cut c es v was there =
     answer-hit c v es (Cut v) refl ∙ ap (λ o. (own_step c (Cut v) (one_of c v es) o).1) there
     ∙ ap (λ p. gives (sending c.width c.height c.rects_per_update p was).0) (one-picture c v es)
     ∙ ap gives (both c.width c.height c.rects_per_update (picture_of c es) was).0
-
--- ---- an update that is given isn't empty
-
-pub some_notice : (notices : List Notice) (rest : List ℕ) → (notices ≡ [] → ⊥) → flat_map notice_bytes notices ++ rest ≡ [] → ⊥
-some_notice [] rest some e = some refl
-some_notice (notice.Bell ∷ notices) rest some e = cc
-some_notice (notice.CutText text ∷ notices) rest some e = cc
-
-pub some_rest : (bytes rest : List ℕ) → (rest ≡ [] → ⊥) → bytes ++ rest ≡ [] → ⊥
-some_rest [] rest some e = some e
-some_rest (b ∷ bytes) rest some e = cc

@@ -1,5 +1,5 @@
 -- What a viewer shows behind a sending step.
-use Rattle.std.proofs.Common.{◌≡◌, true, ◌&&◌, ℕ, zero, suc, ◌+◌, ◌*◌, ◌<◌, ◌≤◌, ◌^◌, List, [], ◌∷◌, ◌++◌, length, take, Some, refl, sym, ap, subst, ◌∙◌, arith, append_assoc}
+use Rattle.std.proofs.Common.{◌≡◌, Bool, true, false, cond, ◌&&◌, ℕ, zero, suc, ◌+◌, ◌*◌, ◌<◌, ◌≤◌, ◌^◌, List, [], ◌∷◌, ◌++◌, length, take, Some, refl, sym, ap, subst, ◌∙◌, arith, append_assoc}
 use Rattle.std.specs.Prelude.{ℤ, pos, ◌-ℤ◌, ◌≤ℤ◌, ◌<ℤ◌, nat_abs, nat_le, flat_map}
 use Rattle.std.specs.List.{AllByRecursion}
 use Rattle.std.proofs.lemmas.Int.{ints}
@@ -13,7 +13,7 @@ use Rattle.region.specs.declared.Rect.{Rect}
 use Rattle.encode_raw.specs.Reading.{Shown}
 use Rattle.messages.specs.declared.Encoding.{Encoding}
 use Rattle.messages.specs.declared.Encoding.TheVariants as encoding
-use Rattle.messages.specs.Server.{cut_text, update_head}
+use Rattle.messages.specs.Server.{colour_map, cut_text, update_head}
 use Rattle.region.specs.Region.{on_screen}
 use Rattle.region.specs.Places.{IsOnScreen, source_rect, longest_side}
 use Rattle.copy_schedule.specs.declared.Mark.TheVariants.{Copied}
@@ -21,32 +21,49 @@ use Rattle.copy_schedule.specs.Marks.{Marks, mark_at, copies_of, pixels_of}
 use Rattle.copy_schedule.specs.CutLemmas.{copies_on_screen, sources_inside, pixels_on_screen}
 use Rattle.viewer_picture.specs.Areas.{area_of}
 use Rattle.framebuffer.specs.Picture.{colours_of}
-use Rattle.viewer_picture.specs.Messages.{Agreed, is_in_picture, may_come, rectangles_at, messages_in}
+use Rattle.viewer_picture.specs.Messages.{Agreed, ColourMap, Display, is_in_picture, may_come, rectangles_at, messages_in}
 use Rattle.viewer_picture.specs.Encodings.{number_of}
 use Rattle.viewer_picture.specs.Claims.{IsPart, RectanglesAreRead}
 use Rattle.viewer_picture.specs.MessageLemmas.{IsReadAs, changed, list-read, Reads, bell-read, text-read, update-read}
+use Rattle.viewer_picture.specs.MapLemmas.{all_mapped, map-read}
 use Rattle.viewer_picture.specs.CutLemmas.{copy_of, pixel_of, update_of, copies-may}
 use Rattle.viewer.specs.declared.notices.Notice.{Notice}
 use Rattle.viewer.specs.declared.notices.Notice.TheVariants as notice
 use Rattle.viewer.specs.Short.{IsShort}
-use Rattle.viewer.specs.Sending.{notice_bytes, copy_bytes, pixel_rectangle, bytes_of}
+use Rattle.viewer.specs.Sending.{map_bytes, notice_bytes, copy_bytes, pixel_rectangle, bytes_of}
 
 -- ---- notices
 
 -- what is read further, behind bytes that are the same
-read-on : (g : Agreed) (n : ℕ) (shown : Shown) (bytes same between more : List ℕ) → bytes ≡ same → (one : Reads g n shown same shown between) → Reads g one.left shown between shown more → Reads g n shown bytes shown more
-read-on g n shown bytes same between more e one rest = record { left = rest.left; room = rest.room; is = ap (messages_in g n shown) e ∙ one.is ∙ rest.is }
+read-on : (g : Agreed) (n : ℕ) (d : Display) (bytes same between more : List ℕ) → bytes ≡ same → (one : Reads g n d same d between) → Reads g one.left d between d more → Reads g n d bytes d more
+read-on g n d bytes same between more e one rest = record { left = rest.left; room = rest.room; is = ap (messages_in g n d) e ∙ one.is ∙ rest.is }
 
-pub notices-read : (g : Agreed) (notices : List Notice) → AllByRecursion IsShort notices → (n : ℕ) (shown : Shown) (more : List ℕ) → length (flat_map notice_bytes notices ++ more) ≤ n → Reads g n shown (flat_map notice_bytes notices ++ more) shown more
-notices-read g [] short n shown more room = record { left = n; room = room; is = refl }
-notices-read g (notice.Bell ∷ notices) short n shown more room =
-    let one = bell-read g n shown (flat_map notice_bytes notices ++ more) room in
-    let rest = notices-read g notices short.1 one.left shown more one.room in
+pub notices-read : (g : Agreed) (notices : List Notice) → AllByRecursion IsShort notices → (n : ℕ) (d : Display) (more : List ℕ) → length (flat_map notice_bytes notices ++ more) ≤ n → Reads g n d (flat_map notice_bytes notices ++ more) d more
+notices-read g [] short n d more room = record { left = n; room = room; is = refl }
+notices-read g (notice.Bell ∷ notices) short n d more room =
+    let one = bell-read g n d (flat_map notice_bytes notices ++ more) room in
+    let rest = notices-read g notices short.1 one.left d more one.room in
     record { left = rest.left; room = rest.room; is = one.is ∙ rest.is }
-notices-read g (notice.CutText text ∷ notices) short n shown more room =
+notices-read g (notice.CutText text ∷ notices) short n d more room =
     let same = append_assoc (cut_text text) (flat_map notice_bytes notices) more in
-    let one = text-read g n shown text (flat_map notice_bytes notices ++ more) (let s = short.0 in omega arith) (let size = ap length same in omega (arith, room, size)) in
-    read-on g n shown _ _ _ more same one (notices-read g notices short.1 one.left shown more one.room)
+    let one = text-read g n d text (flat_map notice_bytes notices ++ more) (let s = short.0 in omega arith) (let size = ap length same in omega (arith, room, size)) in
+    read-on g n d _ _ _ more same one (notices-read g notices short.1 one.left d more one.room)
+
+-- ---- the colour map
+
+-- the map of colours once the server's is sent, where it is owed
+abbrev pub colours_after : Bool → ColourMap → ColourMap
+colours_after owed colours = cond owed (all_mapped colours) colours
+
+pub front-read : (g : Agreed) (owed : Bool) (notices : List Notice) → AllByRecursion IsShort notices → (n : ℕ) (d : Display) (more : List ℕ) → length ((map_bytes owed ++ flat_map notice_bytes notices) ++ more) ≤ n
+    → Reads g n d ((map_bytes owed ++ flat_map notice_bytes notices) ++ more) (record d { colours = colours_after owed d.colours }) more
+front-read g false notices short n d more room = notices-read g notices short n d more room
+front-read g true notices short n d more room =
+    let rest : List ℕ = flat_map notice_bytes notices ++ more in
+    let same : (colour_map ++ flat_map notice_bytes notices) ++ more ≡ colour_map ++ rest = append_assoc colour_map (flat_map notice_bytes notices) more in
+    let one = map-read g n d rest (let size = ap length same in omega (arith, room, size)) in
+    let others = notices-read g notices short one.left (record d { colours = all_mapped d.colours }) more one.room in
+    record { left = others.left; room = others.room; is = ap (messages_in g n d) same ∙ one.is ∙ others.is }
 
 -- ---- rectangles of a screen
 
@@ -152,17 +169,17 @@ module _ (reads : RectanglesAreRead) (g : Agreed) (m : Marks) (is-wide : g.width
       (length pixels) 0 (omega arith) (changed (copy_of m.offset) copies shown) more
 
   -- an update whole
-  pub whole-read : (e : Encoding) → may_come g.listed (number_of e) ≡ true → (picture : List ℕ) (limit : ℕ) → limit ≤ 1000 → (n : ℕ) (shown : Shown)
+  pub whole-read : (e : Encoding) → may_come g.listed (number_of e) ≡ true → (picture : List ℕ) (limit : ℕ) → limit ≤ 1000 → (n : ℕ) (d : Display)
       → length (bytes_of m.width m.height picture e g.format (copies_of limit m) m.offset (pixels_of limit m)) ≤ n
-      → Reads g n shown (bytes_of m.width m.height picture e g.format (copies_of limit m) m.offset (pixels_of limit m)) (update_of limit g.format picture m shown) []
-  whole-read e comes picture limit few n shown room =
+      → Reads g n d (bytes_of m.width m.height picture e g.format (copies_of limit m) m.offset (pixels_of limit m)) (record d { shown = update_of limit g.format picture m d.shown }) []
+  whole-read e comes picture limit few n d room =
       let count : ℕ = length (copies_of limit m) + length (pixels_of limit m) in
       let body : List ℕ = flat_map (copy_bytes m.offset) (copies_of limit m) ++ flat_map (pixel_rectangle m.width m.height picture e g.format) (pixels_of limit m) in
       let nothing_more : body ++ [] ≡ body = append-nil body in
       let small : count < 2 ^ 16 = omega (arith, few, copies-few limit m, pixels-few limit m) in
-      subst (λ (l : List ℕ). Reads g n shown (update_head count ++ l) (update_of limit g.format picture m shown) []) nothing_more
-      (update-read g n count shown (update_of limit g.format picture m shown) body [] small (subst (λ (l : List ℕ). length (update_head count ++ l) ≤ n) (sym nothing_more) room)
-      (rectangles-read e comes picture limit shown []))
+      subst (λ (l : List ℕ). Reads g n d (update_head count ++ l) (record d { shown = update_of limit g.format picture m d.shown }) []) nothing_more
+      (update-read g n count d (update_of limit g.format picture m d.shown) body [] small (subst (λ (l : List ℕ). length (update_head count ++ l) ≤ n) (sym nothing_more) room)
+      (rectangles-read e comes picture limit d.shown []))
     where
       copies-few : (limit : ℕ) (m : Marks) → length (copies_of limit m) ≤ limit
       copies-few limit m = length-take limit _

@@ -6,26 +6,33 @@ use Rattle.scene.specs.declared.Config.{Config}
 use Rattle.scene.specs.declared.ScreenError.{ScreenError}
 use Rattle.scene.specs.declared.Event.{Event}
 use Rattle.scene.specs.declared.Event.TheVariants.{Write, Paint, Mark, ScheduleCopy, DoCopy, Bell, CutText, Connect, Hear, Cut, Close}
+use Rattle.messages.specs.Server.{colour_map}
 use Rattle.viewer.specs.declared.notices.Notice.{Notice}
 use Rattle.viewer.specs.declared.notices.Notice.TheVariants as notice
 use Rattle.viewer.specs.Viewer.{Viewer, is_open_viewer}
-use Rattle.viewer.specs.Sending.{notice_bytes, update_bytes, with_update}
+use Rattle.viewer.specs.Sending.{map_bytes, notice_bytes, update_bytes, with_update}
 use Rattle.scene.specs.Alone.{One, step, own_step, draw_step, drawing_refusal, some_bytes}
 use Rattle.scene.specs.History.{has_happened}
 
-no_notices : (ns : List Notice) → some_bytes (flat_map notice_bytes ns) ≡ false → ns ≡ []
-no_notices [] h = refl
-no_notices (notice.Bell ∷ ns) h = absurd (true≢false h)
-no_notices (notice.CutText t ∷ ns) h = absurd (true≢false h)
+no_front : (owed : Bool) (ns : List Notice) → some_bytes (map_bytes owed ++ flat_map notice_bytes ns) ≡ false → (owed ≡ false) × (ns ≡ [])
+unfolding colour_map
+no_front true ns h = absurd (true≢false h)
+no_front false [] h = (refl, refl)
+no_front false (notice.Bell ∷ ns) h = absurd (true≢false h)
+no_front false (notice.CutText t ∷ ns) h = absurd (true≢false h)
 
-some_update : (w h : ℕ) (picture : List ℕ) (v : Viewer (List ℕ)) (s : Sent) (ns : List Notice) → some_bytes (flat_map notice_bytes ns ++ update_bytes w h picture v s) ≡ true
-some_update w h picture v s [] = refl
-some_update w h picture v s (notice.Bell ∷ ns) = refl
-some_update w h picture v s (notice.CutText t ∷ ns) = refl
+some_update : (w h : ℕ) (picture : List ℕ) (v : Viewer (List ℕ)) (s : Sent) (owed : Bool) (ns : List Notice) → some_bytes ((map_bytes owed ++ flat_map notice_bytes ns) ++ update_bytes w h picture v s) ≡ true
+unfolding colour_map
+some_update w h picture v s true ns = refl
+some_update w h picture v s false [] = refl
+some_update w h picture v s false (notice.Bell ∷ ns) = refl
+some_update w h picture v s false (notice.CutText t ∷ ns) = refl
 
 sent_nothing : (w h : ℕ) (picture : List ℕ) (v : Viewer (List ℕ)) (b : Bool) (o : Option Sent) → some_bytes (if b then with_update w h picture v o else ([], v)).0 ≡ false → (if b then with_update w h picture v o else ([], v)).1 ≡ v
-sent_nothing w h picture v true None none = ap (λ (ns : List Notice). record v { notices = ns }) (sym (no_notices v.notices none))
-sent_nothing w h picture v true (Some s) none = absurd (true≢false (sym (some_update w h picture v s v.notices) ∙ none))
+sent_nothing w h picture v true None none =
+    let nothing = no_front v.map_owed v.notices none in
+    ap (λ (owed : Bool). record v { map_owed = owed; notices = [] }) (sym nothing.0) ∙ ap (λ (ns : List Notice). record v { notices = ns }) (sym nothing.1)
+sent_nothing w h picture v true (Some s) none = absurd (true≢false (sym (some_update w h picture v s v.map_owed v.notices) ∙ none))
 sent_nothing w h picture v false o none = refl
 
 drawn_nothing : (c : Config) (e : Event) (s : One) (o : Option ScreenError) → is_none (draw_step c e s o).1.refused ≡ false → (draw_step c e s o).0 ≡ s

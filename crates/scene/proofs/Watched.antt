@@ -5,7 +5,7 @@ use Rattle.std.specs.Int.{w16, to_be_bytes, from_be_bytes}
 use Rattle.std.proofs.lemmas.Int.{ints}
 use Rattle.std.proofs.lemmas.Nat.{from_be_bytes-to_be_bytes_2, from_be_bytes-to_be_bytes_4}
 use Rattle.pixel_translate.specs.declared.Area.{Area}
-use Rattle.pixel_translate.specs.Pixel.{server_format}
+use Rattle.pixel_translate.specs.Pixel.{server_format, is_colour_map}
 use Rattle.region.specs.declared.Rect.{Rect}
 use Rattle.region.specs.Region.{in_rect, on_screen}
 use Rattle.region.specs.Places.{longest_side}
@@ -31,6 +31,7 @@ use Rattle.scene.specs.declared.Config.{Config}
 use Rattle.viewer.specs.Viewer.{Viewer, area_places, after_item}
 use Rattle.scene.specs.Alone.{hearing}
 use Rattle.viewer.specs.Hearing.{after_items}
+use Rattle.scene.specs.Pictures.{IsServers}
 use Rattle.scene.specs.Shown.{Watching, forgotten, item_at, items_at, all_read, or_nothing, after_piece}
 
 -- the limits of a screen, as far as they are used
@@ -41,8 +42,9 @@ pub record Limits (c : Config) : Type 0 where
   pub limit : c.rects_per_update ≤ 1000
 
 -- A viewer reads pixels in its format, and shows its picture; before it is open its format is the server's, and from then on it
--- knows the screen's size. What it is sent may come by what it listed.
-pub record Follows (c : Config) (colour : ℤ → ℤ → ℕ) (p : Phase) (v : Viewer (List ℕ)) (s : Watching) : Type 0 where
+-- knows the screen's size. What it is sent may come by what it listed. Where its format has a colour map that isn't owed, it has
+-- the server's. It shows its picture where T holds.
+pub record Follows (T : Type 0) (c : Config) (colour : ℤ → ℤ → ℕ) (p : Phase) (v : Viewer (List ℕ)) (s : Watching) : Type 0 where
   pub format : s.agreed.format ≡ v.format
   pub early : is_open_phase p ≡ false → v.format ≡ server_format
   pub told : is_open_phase p ≡ true → (s.agreed.width ≡ c.width) × (s.agreed.height ≡ c.height)
@@ -50,7 +52,8 @@ pub record Follows (c : Config) (colour : ℤ → ℤ → ℕ) (p : Phase) (v : 
   pub copyrect : v.uses_copyrect ≡ true → may_come s.agreed.listed (pos 1) ≡ true
   pub width : v.marks.width ≡ c.width
   pub height : v.marks.height ≡ c.height
-  pub shows : Shows (may_come s.agreed.listed (pos 1) ≡ true) colour v.marks s.shown
+  pub map : is_colour_map v.format ≡ true → v.map_owed ≡ false → IsServers s.colours
+  pub shows : Shows T (may_come s.agreed.listed (pos 1) ≡ true) colour v.marks s.shown
 
 -- ---- the ServerInit
 
@@ -90,18 +93,18 @@ not-inside a w h width height shown x y on out =
 -- ---- one item
 
 -- what it does to the viewer, and to the one who watches
-record Item-read (c : Config) (colour : ℤ → ℤ → ℕ) (p : Phase) (i : Item) (v : Viewer (List ℕ)) (s : Watching) (more : List ℕ) : Type 0 where
+record Item-read (T : Type 0) (c : Config) (colour : ℤ → ℤ → ℕ) (p : Phase) (i : Item) (v : Viewer (List ℕ)) (s : Watching) (more : List ℕ) : Type 0 where
   next : Watching
   read : item_at p i s (answer (server_init c.width c.height c.name) p i ++ more) ≡ Some (next, more)
   said : next.said ≡ s.said
   legal : next.legal ≡ s.legal
   notices : (after_item c.width c.height i v).notices ≡ v.notices
   heard : (after_item c.width c.height i v).heard ≡ v.heard
-  follows : Follows c colour (after p i) (after_item c.width c.height i v) next
+  follows : Follows T c colour (after p i) (after_item c.width c.height i v) next
 
 -- the same viewer, in another phase before it is open
-same-phase : (c : Config) (colour : ℤ → ℤ → ℕ) (p q : Phase) (v : Viewer (List ℕ)) (s : Watching) → is_open_phase p ≡ false → is_open_phase q ≡ false → Follows c colour p v s → Follows c colour q v s
-same-phase c colour p q v s shut then-shut f = record {
+same-phase : (T : Type 0) (c : Config) (colour : ℤ → ℤ → ℕ) (p q : Phase) (v : Viewer (List ℕ)) (s : Watching) → is_open_phase p ≡ false → is_open_phase q ≡ false → Follows T c colour p v s → Follows T c colour q v s
+same-phase T c colour p q v s shut then-shut f = record {
   format = f.format;
   early = λ e. f.early shut;
   told = λ e. absurd (never (sym then-shut ∙ e));
@@ -109,6 +112,7 @@ same-phase c colour p q v s shut then-shut f = record {
   copyrect = f.copyrect;
   width = f.width;
   height = f.height;
+  map = f.map;
   shows = f.shows;
 }
   where
@@ -129,14 +133,17 @@ copyrect-comes encoding.Hextile = refl
 size-told : (n : ℕ) → n ≤ longest_side → from_be_bytes w16 (to_be_bytes w16 n) ≡ n
 size-told n small = from_be_bytes-to_be_bytes_2 n (omega (arith, small))
 
-item-read : (c : Config) (colour : ℤ → ℤ → ℕ) → Limits c → (p : Phase) (i : Item) → Comes p i → (v : Viewer (List ℕ)) (s : Watching) (more : List ℕ) → Follows c colour p v s → Item-read c colour p i v s more
-item-read c colour ok phase.Version (item.Version V33) comes v s more f = record { next = s; read = refl; said = refl; legal = refl; notices = refl; heard = refl; follows = same-phase c colour phase.Version (phase.Init V33) v s refl refl f }
-item-read c colour ok phase.Version (item.Version V37) comes v s more f = record { next = s; read = refl; said = refl; legal = refl; notices = refl; heard = refl; follows = same-phase c colour phase.Version (phase.Choice V37) v s refl refl f }
-item-read c colour ok phase.Version (item.Version V38) comes v s more f = record { next = s; read = refl; said = refl; legal = refl; notices = refl; heard = refl; follows = same-phase c colour phase.Version (phase.Choice V38) v s refl refl f }
-item-read c colour ok (phase.Choice V33) item.Choice comes v s more f = record { next = s; read = refl; said = refl; legal = refl; notices = refl; heard = refl; follows = same-phase c colour (phase.Choice V33) (phase.Init V33) v s refl refl f }
-item-read c colour ok (phase.Choice V37) item.Choice comes v s more f = record { next = s; read = refl; said = refl; legal = refl; notices = refl; heard = refl; follows = same-phase c colour (phase.Choice V37) (phase.Init V37) v s refl refl f }
-item-read c colour ok (phase.Choice V38) item.Choice comes v s more f = record { next = s; read = refl; said = refl; legal = refl; notices = refl; heard = refl; follows = same-phase c colour (phase.Choice V38) (phase.Init V38) v s refl refl f }
-item-read c colour ok (phase.Init w) (item.Init shared) comes v s more f = record {
+unowed : true ≡ false → ⊥
+unowed e = cc
+
+item-read : (T : Type 0) (c : Config) (colour : ℤ → ℤ → ℕ) → Limits c → (p : Phase) (i : Item) → Comes p i → (v : Viewer (List ℕ)) (s : Watching) (more : List ℕ) → Follows T c colour p v s → Item-read T c colour p i v s more
+item-read T c colour ok phase.Version (item.Version V33) comes v s more f = record { next = s; read = refl; said = refl; legal = refl; notices = refl; heard = refl; follows = same-phase T c colour phase.Version (phase.Init V33) v s refl refl f }
+item-read T c colour ok phase.Version (item.Version V37) comes v s more f = record { next = s; read = refl; said = refl; legal = refl; notices = refl; heard = refl; follows = same-phase T c colour phase.Version (phase.Choice V37) v s refl refl f }
+item-read T c colour ok phase.Version (item.Version V38) comes v s more f = record { next = s; read = refl; said = refl; legal = refl; notices = refl; heard = refl; follows = same-phase T c colour phase.Version (phase.Choice V38) v s refl refl f }
+item-read T c colour ok (phase.Choice V33) item.Choice comes v s more f = record { next = s; read = refl; said = refl; legal = refl; notices = refl; heard = refl; follows = same-phase T c colour (phase.Choice V33) (phase.Init V33) v s refl refl f }
+item-read T c colour ok (phase.Choice V37) item.Choice comes v s more f = record { next = s; read = refl; said = refl; legal = refl; notices = refl; heard = refl; follows = same-phase T c colour (phase.Choice V37) (phase.Init V37) v s refl refl f }
+item-read T c colour ok (phase.Choice V38) item.Choice comes v s more f = record { next = s; read = refl; said = refl; legal = refl; notices = refl; heard = refl; follows = same-phase T c colour (phase.Choice V38) (phase.Init V38) v s refl refl f }
+item-read T c colour ok (phase.Init w) (item.Init shared) comes v s more f = record {
   next = record s { agreed = record s.agreed { width = from_be_bytes w16 (to_be_bytes w16 c.width); height = from_be_bytes w16 (to_be_bytes w16 c.height); format = server_format } };
   read = ap (λ (o : Option (Init × List ℕ)). o >>= λ init. Some (record s { agreed = record s.agreed { width = init.0.width; height = init.0.height; format = init.0.format } }, init.1)) (init-read c.width c.height c.name more ok.name);
   said = refl;
@@ -151,19 +158,20 @@ item-read c colour ok (phase.Init w) (item.Init shared) comes v s more f = recor
     copyrect = f.copyrect;
     width = f.width;
     height = f.height;
+    map = f.map;
     shows = f.shows;
   };
 }
-item-read c colour ok (phase.Open w) (item.Format g) comes v s more f = record {
+item-read T c colour ok (phase.Open w) (item.Format g) comes v s more f = record {
   next = record s { agreed = record s.agreed { format = g } };
   read = refl;
   said = refl;
   legal = refl;
   notices = refl;
   heard = refl;
-  follows = record { format = refl; early = λ e. absurd cc; told = f.told; encoding = f.encoding; copyrect = f.copyrect; width = f.width; height = f.height; shows = f.shows };
+  follows = record { format = refl; early = λ e. absurd cc; told = f.told; encoding = f.encoding; copyrect = f.copyrect; width = f.width; height = f.height; map = λ is paid. absurd (unowed (sym is ∙ paid)); shows = f.shows };
 }
-item-read c colour ok (phase.Open w) (item.Encodings preferred true) comes v s more f = record {
+item-read T c colour ok (phase.Open w) (item.Encodings preferred true) comes v s more f = record {
   next = record s { agreed = record s.agreed { listed = taken preferred true } };
   read = refl;
   said = refl;
@@ -178,10 +186,11 @@ item-read c colour ok (phase.Open w) (item.Encodings preferred true) comes v s m
     copyrect = λ e. copyrect-comes preferred;
     width = f.width;
     height = f.height;
+    map = f.map;
     shows = allowed (may_come s.agreed.listed (pos 1) ≡ true) (may_come (taken preferred true) (pos 1) ≡ true) colour v.marks s.shown (copyrect-comes preferred) f.shows;
   };
 }
-item-read c colour ok (phase.Open w) (item.Encodings preferred false) comes v s more f = record {
+item-read T c colour ok (phase.Open w) (item.Encodings preferred false) comes v s more f = record {
   next = record s { agreed = record s.agreed { listed = taken preferred false } };
   read = refl;
   said = refl;
@@ -196,10 +205,11 @@ item-read c colour ok (phase.Open w) (item.Encodings preferred false) comes v s 
     copyrect = λ e. absurd cc;
     width = f.width;
     height = f.height;
+    map = f.map;
     shows = uncopied-shows (may_come s.agreed.listed (pos 1) ≡ true) (may_come (taken preferred false) (pos 1) ≡ true) colour v.marks s.shown f.shows;
   };
 }
-item-read c colour ok (phase.Open w) (item.Request true area) comes v s more f = record {
+item-read T c colour ok (phase.Open w) (item.Request true area) comes v s more f = record {
   next = s;
   read = refl;
   said = refl;
@@ -214,10 +224,11 @@ item-read c colour ok (phase.Open w) (item.Request true area) comes v s more f =
     copyrect = f.copyrect;
     width = f.width;
     height = f.height;
+    map = f.map;
     shows = asked-shows _ colour (area_places c.width c.height area) v.marks s.shown f.shows;
   };
 }
-item-read c colour ok (phase.Open w) (item.Request false area) comes v s more f = record {
+item-read T c colour ok (phase.Open w) (item.Request false area) comes v s more f = record {
   next = forgotten area s;
   read = refl;
   said = refl;
@@ -232,39 +243,40 @@ item-read c colour ok (phase.Open w) (item.Request false area) comes v s more f 
     copyrect = f.copyrect;
     width = f.width;
     height = f.height;
+    map = f.map;
     shows = forgotten-shows _ colour (area_places c.width c.height area) _ s.shown (forgotten area s).shown
         (λ x y on out. not-inside area c.width c.height s.agreed.width s.agreed.height s.shown x y (sym (ap (λ n. on_screen n v.marks.height x y) f.width ∙ ap (λ n. on_screen c.width n x y) f.height) ∙ on) out)
         (asked-shows _ colour (area_places c.width c.height area) v.marks s.shown f.shows);
   };
 }
-item-read c colour ok (phase.Open w) (item.Input input) comes v s more f = record {
+item-read T c colour ok (phase.Open w) (item.Input input) comes v s more f = record {
   next = s;
   read = refl;
   said = refl;
   legal = refl;
   notices = refl;
   heard = refl;
-  follows = record { format = f.format; early = λ e. absurd cc; told = f.told; encoding = f.encoding; copyrect = f.copyrect; width = f.width; height = f.height; shows = f.shows };
+  follows = record { format = f.format; early = λ e. absurd cc; told = f.told; encoding = f.encoding; copyrect = f.copyrect; width = f.width; height = f.height; map = f.map; shows = f.shows };
 }
-item-read c colour ok p i comes v s more f = absurd comes
+item-read T c colour ok p i comes v s more f = absurd comes
 
 -- ---- the items of a piece
 
-record Items-read (c : Config) (colour : ℤ → ℤ → ℕ) (p : Phase) (items : List Item) (v : Viewer (List ℕ)) (s : Watching) : Type 0 where
+record Items-read (T : Type 0) (c : Config) (colour : ℤ → ℤ → ℕ) (p : Phase) (items : List Item) (v : Viewer (List ℕ)) (s : Watching) : Type 0 where
   next : Watching
   read : items_at p items s (answers (server_init c.width c.height c.name) p items) ≡ Some (next, [])
   said : next.said ≡ s.said
   legal : next.legal ≡ s.legal
   notices : (after_items c.width c.height items v).notices ≡ v.notices
   heard : (after_items c.width c.height items v).heard ≡ v.heard
-  follows : Follows c colour (phase_after p items) (after_items c.width c.height items v) next
+  follows : Follows T c colour (phase_after p items) (after_items c.width c.height items v) next
 
-items-read : (c : Config) (colour : ℤ → ℤ → ℕ) → Limits c → (p : Phase) (items : List Item) → Come p items → (v : Viewer (List ℕ)) (s : Watching) → Follows c colour p v s → Items-read c colour p items v s
-items-read c colour ok p [] come v s f = record { next = s; read = refl; said = refl; legal = refl; notices = refl; heard = refl; follows = f }
-items-read c colour ok p (i ∷ items) come v s f =
+items-read : (T : Type 0) (c : Config) (colour : ℤ → ℤ → ℕ) → Limits c → (p : Phase) (items : List Item) → Come p items → (v : Viewer (List ℕ)) (s : Watching) → Follows T c colour p v s → Items-read T c colour p items v s
+items-read T c colour ok p [] come v s f = record { next = s; read = refl; said = refl; legal = refl; notices = refl; heard = refl; follows = f }
+items-read T c colour ok p (i ∷ items) come v s f =
     let init : List ℕ = server_init c.width c.height c.name in
-    let one = item-read c colour ok p i come.0 v s (answers init (after p i) items) f in
-    let rest = items-read c colour ok (after p i) items come.1 (after_item c.width c.height i v) one.next one.follows in
+    let one = item-read T c colour ok p i come.0 v s (answers init (after p i) items) f in
+    let rest = items-read T c colour ok (after p i) items come.1 (after_item c.width c.height i v) one.next one.follows in
     record {
       next = rest.next;
       read = ap (λ (o : Option (Watching × List ℕ)). o >>= λ first. items_at (after p i) items first.0 first.1) one.read ∙ rest.read;
@@ -277,19 +289,19 @@ items-read c colour ok p (i ∷ items) come v s f =
 
 -- ---- a piece
 
-pub record Piece-read (c : Config) (colour : ℤ → ℤ → ℕ) (piece : List ℕ) (v : Viewer (List ℕ)) (s : Watching) : Type 0 where
+pub record Piece-read (T : Type 0) (c : Config) (colour : ℤ → ℤ → ℕ) (piece : List ℕ) (v : Viewer (List ℕ)) (s : Watching) : Type 0 where
   pub said : (after_piece piece (hearing c piece v).1.bytes s).said ≡ (hearing c piece v).0.heard
   pub legal : (after_piece piece (hearing c piece v).1.bytes s).legal ≡ true
   pub notices : (hearing c piece v).0.notices ≡ v.notices
-  pub follows : Follows c colour (heard (hearing c piece v).0.heard).phase (hearing c piece v).0 (after_piece piece (hearing c piece v).1.bytes s)
+  pub follows : Follows T c colour (heard (hearing c piece v).0.heard).phase (hearing c piece v).0 (after_piece piece (hearing c piece v).1.bytes s)
 
-pub piece-read : (c : Config) (colour : ℤ → ℤ → ℕ) → Limits c → (piece : List ℕ) (v : Viewer (List ℕ)) (s : Watching) → s.said ≡ v.heard → s.legal ≡ true → Follows c colour (heard v.heard).phase v s → Piece-read c colour piece v s
-piece-read c colour ok piece v s same legal f = record {
+pub piece-read : (T : Type 0) (c : Config) (colour : ℤ → ℤ → ℕ) → Limits c → (piece : List ℕ) (v : Viewer (List ℕ)) (s : Watching) → s.said ≡ v.heard → s.legal ≡ true → Follows T c colour (heard v.heard).phase v s → Piece-read T c colour piece v s
+piece-read T c colour ok piece v s same legal f = record {
   said = ap (λ (t : Watching). t.said) result ∙ all.said ∙ ap (λ (l : List ℕ). l ++ piece) same ∙ sym all.heard;
   legal = ap (λ (t : Watching). t.legal) result ∙ all.legal ∙ legal;
   notices = all.notices;
-  follows = subst (λ (t : Watching). Follows c colour (heard (hearing c piece v).0.heard).phase (hearing c piece v).0 t) (sym result)
-      (subst (λ (q : Phase). Follows c colour q (after_items c.width c.height items later) all.next) (sym (ap (λ (l : List ℕ). (heard l).phase) all.heard ∙ now.phase)) all.follows);
+  follows = subst (λ (t : Watching). Follows T c colour (heard (hearing c piece v).0.heard).phase (hearing c piece v).0 t) (sym result)
+      (subst (λ (q : Phase). Follows T c colour q (after_items c.width c.height items later) all.next) (sym (ap (λ (l : List ℕ). (heard l).phase) all.heard ∙ now.phase)) all.follows);
 }
   where
     items : List Item
@@ -304,11 +316,11 @@ piece-read c colour ok piece v s same legal f = record {
     now : Following v.heard piece
     now = following v.heard piece
 
-    start : Follows c colour (heard v.heard).phase later begun
-    start = record { format = f.format; early = f.early; told = f.told; encoding = f.encoding; copyrect = f.copyrect; width = f.width; height = f.height; shows = f.shows }
+    start : Follows T c colour (heard v.heard).phase later begun
+    start = record { format = f.format; early = f.early; told = f.told; encoding = f.encoding; copyrect = f.copyrect; width = f.width; height = f.height; map = f.map; shows = f.shows }
 
-    all : Items-read c colour (heard v.heard).phase items later begun
-    all = items-read c colour ok (heard v.heard).phase items now.come later begun start
+    all : Items-read T c colour (heard v.heard).phase items later begun
+    all = items-read T c colour ok (heard v.heard).phase items now.come later begun start
 
     bytes : List ℕ
     bytes = answers (server_init c.width c.height c.name) (heard v.heard).phase items

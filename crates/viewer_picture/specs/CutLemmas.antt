@@ -275,12 +275,12 @@ copies-may P limit m may = each (copies_of limit m) (recursion_from_All (IsOnScr
 unfoldable pub update_of : ℕ → PixelFormat → List ℕ → Marks → Shown → Shown
 update_of limit f picture m shown = changed (pixel_of m.width m.height picture f) (pixels_of limit m) (changed (copy_of m.offset) (copies_of limit m) shown)
 
-pub cut-shows : (P : Type 0) (limit : ℕ) (f : PixelFormat) (picture : List ℕ) (m : Marks) (shown : Shown) → Shows P (colour_at m.width m.height picture) m shown
-    → Shows P (colour_at m.width m.height picture) (after_sending (copies_of limit m) (pixels_of limit m) m) (update_of limit f picture m shown)
+pub cut-shows : {T : Type 0} (P : Type 0) (limit : ℕ) (f : PixelFormat) (picture : List ℕ) (m : Marks) (shown : Shown) → Shows T P (colour_at m.width m.height picture) m shown
+    → Shows T P (colour_at m.width m.height picture) (after_sending (copies_of limit m) (pixels_of limit m) m) (update_of limit f picture m shown)
 unfolding update_of
-cut-shows P limit f picture m shown s = record {
-  clean = λ x y on e. clean x y on (sym (mark-is m after x y on) ∙ e);
-  copied = λ x y on e. absurd (none (covers copies x y || covers pixels x y || is_clean (mark_at m x y)) (sym (mark-is m after x y on) ∙ e));
+cut-shows {T} P limit f picture m shown s = record {
+  clean = λ t x y on e. clean t x y on (sym (mark-is m after x y on) ∙ e);
+  copied = λ t x y on e. absurd (none (covers copies x y || covers pixels x y || is_clean (mark_at m x y)) (sym (mark-is m after x y on) ∙ e));
   may = λ x y on e. absurd (none (covers copies x y || covers pixels x y || is_clean (mark_at m x y)) (sym (mark-is m after x y on) ∙ e));
 }
   where
@@ -309,12 +309,12 @@ cut-shows P limit f picture m shown s = record {
     was_copied : (x y : ℤ) → covers copies x y ≡ true → mark_at m x y ≡ Copied
     was_copied x y e = can-copied (asked_at m x y) (asked_at m (x -ℤ m.offset.0) (y -ℤ m.offset.1)) (mark_at m x y) (copies-can limit m x y e)
 
-    source : (x y : ℤ) → covers copies x y ≡ true → on_screen m.width m.height (x -ℤ m.offset.0) (y -ℤ m.offset.1) ≡ true
-    source x y e = (s.copied x y (covered-on m.width m.height copies on_it x y e) (was_copied x y e)).0
+    source : T → (x y : ℤ) → covers copies x y ≡ true → on_screen m.width m.height (x -ℤ m.offset.0) (y -ℤ m.offset.1) ≡ true
+    source t x y e = (s.copied t x y (covered-on m.width m.height copies on_it x y e) (was_copied x y e)).0
 
-    copied_first : (x y : ℤ) → on_screen m.width m.height x y ≡ true → dot_at between x y ≡ if_in (covers copies x y) (dot_at shown (x -ℤ m.offset.0) (y -ℤ m.offset.1)) (dot_at shown x y)
-    copied_first x y on = copies-at m.width m.height m.offset copies on_it
-        (in-order-take limit m.offset _ (copies-in-order m.width m.height (copyable m) m.offset)) source shown x y on
+    copied_first : T → (x y : ℤ) → on_screen m.width m.height x y ≡ true → dot_at between x y ≡ if_in (covers copies x y) (dot_at shown (x -ℤ m.offset.0) (y -ℤ m.offset.1)) (dot_at shown x y)
+    copied_first t x y on = copies-at m.width m.height m.offset copies on_it
+        (in-order-take limit m.offset _ (copies-in-order m.width m.height (copyable m) m.offset)) (source t) shown x y on
 
     then_pixels : (x y : ℤ) → on_screen m.width m.height x y ≡ true → dot_at (changed (pixel_of m.width m.height picture f) pixels between) x y ≡ if_in (covers pixels x y) (pixel_dot f (colour x y)) (dot_at between x y)
     then_pixels x y on = pixels-at m.width m.height picture f pixels (recursion_from_All (IsOnScreen m.width m.height) pixels (pixels_on_screen limit m)) between x y on
@@ -324,14 +324,14 @@ cut-shows P limit f picture m shown s = record {
     clean_mark Copied e = absurd cc
     clean_mark Owed e = e
 
-    clean : (x y : ℤ) → on_screen m.width m.height x y ≡ true → after x y ≡ Clean → ShowsColour (dot_at (changed (pixel_of m.width m.height picture f) pixels between) x y) (colour x y)
-    clean x y on e = by_pixels (covers pixels x y) refl
+    clean : T → (x y : ℤ) → on_screen m.width m.height x y ≡ true → after x y ≡ Clean → ShowsColour (dot_at (changed (pixel_of m.width m.height picture f) pixels between) x y) (colour x y)
+    clean t x y on e = by_pixels (covers pixels x y) refl
       where
         by_copies : (b : Bool) → covers copies x y ≡ b → cond (b || false || is_clean (mark_at m x y)) Clean Owed ≡ Clean → ShowsColour (dot_at between x y) (colour x y)
         by_copies true is k = tells (dot_at shown (x -ℤ m.offset.0) (y -ℤ m.offset.1)) (dot_at between x y) (colour x y) (colour x y)
-            (copied_first x y on ∙ ap (λ b. if_in b (dot_at shown (x -ℤ m.offset.0) (y -ℤ m.offset.1)) (dot_at shown x y)) is) refl (s.copied x y on (was_copied x y is)).1
+            (copied_first t x y on ∙ ap (λ b. if_in b (dot_at shown (x -ℤ m.offset.0) (y -ℤ m.offset.1)) (dot_at shown x y)) is) refl (s.copied t x y on (was_copied x y is)).1
         by_copies false is k = tells (dot_at shown x y) (dot_at between x y) (colour x y) (colour x y)
-            (copied_first x y on ∙ ap (λ b. if_in b (dot_at shown (x -ℤ m.offset.0) (y -ℤ m.offset.1)) (dot_at shown x y)) is) refl (s.clean x y on (clean_mark (mark_at m x y) k))
+            (copied_first t x y on ∙ ap (λ b. if_in b (dot_at shown (x -ℤ m.offset.0) (y -ℤ m.offset.1)) (dot_at shown x y)) is) refl (s.clean t x y on (clean_mark (mark_at m x y) k))
 
         by_pixels : (b : Bool) → covers pixels x y ≡ b → ShowsColour (dot_at (changed (pixel_of m.width m.height picture f) pixels between) x y) (colour x y)
         by_pixels true is = (f, then_pixels x y on ∙ ap (λ b. if_in b (pixel_dot f (colour x y)) (dot_at between x y)) is)

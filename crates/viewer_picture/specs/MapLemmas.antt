@@ -57,9 +57,13 @@ entries-read (suc n) first colours more =
     ∙ entry-read n first colours (others ++ more)
     ∙ entries-read n (first + 1) (set_in first (map_entry first) colours) more
 
+-- the map once all of the server's are set
+unfoldable pub all_mapped : ColourMap → ColourMap
+all_mapped colours = mapped 256 0 colours
+
 -- the whole map is one message
-pub map-read : (g : Agreed) (n : ℕ) (d : Display) (more : List ℕ) → length (colour_map ++ more) ≤ n → Reads g n d (colour_map ++ more) (record d { colours = mapped 256 0 d.colours }) more
-unfolding colour_map
+pub map-read : (g : Agreed) (n : ℕ) (d : Display) (more : List ℕ) → length (colour_map ++ more) ≤ n → Reads g n d (colour_map ++ more) (record d { colours = all_mapped d.colours }) more
+unfolding colour_map all_mapped
 map-read g n d more room =
     message-read g n d (record d { colours = mapped 256 0 d.colours }) 1 (0 ∷ 0 ∷ 0 ∷ 1 ∷ 0 ∷ flat_map entry_bytes (map map_entry (range_with_len 0 256))) more room
     (ap (λ (o : Option (ColourMap × List ℕ)). o >>= λ (r : ColourMap × List ℕ). Some (record d { colours = r.0 }, r.1)) (entries-read 256 0 d.colours more))
@@ -73,7 +77,7 @@ before (suc n) first colours p small =
     before n (first + 1) (set_in first (map_entry first) colours) p (omega arith)
     ∙ (let other : (p == first) ≡ false = grind (arith, nat_tests) in ap (λ b. cond b (Some (map_entry first)) (colours p)) other)
 
-pub set-there : (n first : ℕ) (colours : ColourMap) (p : ℕ) → first ≤ p → p < first + n → mapped n first colours p ≡ Some (map_entry p)
+set-there : (n first : ℕ) (colours : ColourMap) (p : ℕ) → first ≤ p → p < first + n → mapped n first colours p ≡ Some (map_entry p)
 set-there zero first colours p from to = absurd (omega arith)
 set-there (suc n) first colours p from to = go (p == first) refl (λ other. set-there n (first + 1) (set_in first (map_entry first) colours) p other (omega arith))
   where
@@ -84,3 +88,8 @@ set-there (suc n) first colours p from to = go (p == first) refl (λ other. set-
         before n (first + 1) (set_in first (map_entry first) colours) p (omega arith)
         ∙ ap (λ b. cond b (Some (map_entry first)) (colours p)) e ∙ ap (λ k. Some (map_entry k)) (sym same)
     go false e rest = let other : first + 1 ≤ p = grind (arith, nat_tests) in rest other
+
+-- each of the server's entries is there
+pub all-there : (colours : ColourMap) (p : ℕ) → p < 256 → all_mapped colours p ≡ Some (map_entry p)
+unfolding all_mapped
+all-there colours p small = set-there 256 0 colours p (omega arith) small

@@ -15,11 +15,11 @@ use Rattle.copy_schedule.specs.Marks.{Marks, is_copied, mark_at, with_marks, mar
 use Rattle.region.specs.PlaceLemmas.{value_on}
 use Rattle.viewer_picture.specs.Pictures.{dot_at, ShowsColour}
 
--- Each clean place of the marks' screen shows its colour, and so does a copied place's source, which is on the screen; and P
--- holds where there is a copied place.
-pub record Shows (P : Type 0) (colour : ℤ → ℤ → ℕ) (m : Marks) (shown : Shown) : Type 0 where
-  pub clean : (x y : ℤ) → on_screen m.width m.height x y ≡ true → mark_at m x y ≡ Clean → ShowsColour (dot_at shown x y) (colour x y)
-  pub copied : (x y : ℤ) → on_screen m.width m.height x y ≡ true → mark_at m x y ≡ Copied
+-- Where T holds, each clean place of the marks' screen shows its colour, and so does a copied place's source, which is on the
+-- screen; and P holds where there is a copied place.
+pub record Shows (T P : Type 0) (colour : ℤ → ℤ → ℕ) (m : Marks) (shown : Shown) : Type 0 where
+  pub clean : T → (x y : ℤ) → on_screen m.width m.height x y ≡ true → mark_at m x y ≡ Clean → ShowsColour (dot_at shown x y) (colour x y)
+  pub copied : T → (x y : ℤ) → on_screen m.width m.height x y ≡ true → mark_at m x y ≡ Copied
       → (on_screen m.width m.height (x -ℤ m.offset.0) (y -ℤ m.offset.1) ≡ true) × ShowsColour (dot_at shown (x -ℤ m.offset.0) (y -ℤ m.offset.1)) (colour x y)
   pub may : (x y : ℤ) → on_screen m.width m.height x y ≡ true → mark_at m x y ≡ Copied → P
 
@@ -46,26 +46,26 @@ tells dot dot' c c' e k (f, h) = (f, e ∙ h ∙ ap (λ (n : ℕ). Some (record 
 -- ---- places that become owed
 
 -- where a place that isn't owed was the same before, and shows what it showed
-less : (P : Type 0) (colour colour' : ℤ → ℤ → ℕ) (m : Marks) (mark : ℤ → ℤ → Mark) (shown shown' : Shown)
+less : (T P : Type 0) (colour colour' : ℤ → ℤ → ℕ) (m : Marks) (mark : ℤ → ℤ → Mark) (shown shown' : Shown)
     → ((x y : ℤ) → on_screen m.width m.height x y ≡ true → mark x y ≡ Clean → (mark_at m x y ≡ Clean) × (colour' x y ≡ colour x y) × (dot_at shown' x y ≡ dot_at shown x y))
     → ((x y : ℤ) → on_screen m.width m.height x y ≡ true → mark x y ≡ Copied → (mark_at m x y ≡ Copied) × (colour' x y ≡ colour x y)
     × (on_screen m.width m.height (x -ℤ m.offset.0) (y -ℤ m.offset.1) ≡ true → dot_at shown' (x -ℤ m.offset.0) (y -ℤ m.offset.1) ≡ dot_at shown (x -ℤ m.offset.0) (y -ℤ m.offset.1)))
-    → Shows P colour m shown → Shows P colour' (with_marks m mark) shown'
-less P colour colour' m mark shown shown' were-clean were-copied s = record {
-  clean = λ x y on e.
+    → Shows T P colour m shown → Shows T P colour' (with_marks m mark) shown'
+less T P colour colour' m mark shown shown' were-clean were-copied s = record {
+  clean = λ t x y on e.
       let was = were-clean x y on (sym (mark-is m mark x y on) ∙ e) in
-      tells (dot_at shown x y) (dot_at shown' x y) (colour x y) (colour' x y) was.2 was.1 (s.clean x y on was.0);
-  copied = λ x y on e.
+      tells (dot_at shown x y) (dot_at shown' x y) (colour x y) (colour' x y) was.2 was.1 (s.clean t x y on was.0);
+  copied = λ t x y on e.
       let was = were-copied x y on (sym (mark-is m mark x y on) ∙ e) in
-      let there = s.copied x y on was.0 in
+      let there = s.copied t x y on was.0 in
       (there.0, tells (dot_at shown (x -ℤ m.offset.0) (y -ℤ m.offset.1)) (dot_at shown' (x -ℤ m.offset.0) (y -ℤ m.offset.1)) (colour x y) (colour' x y) (was.2 there.0) was.1 there.1);
   may = λ x y on e. s.may x y on (were-copied x y on (sym (mark-is m mark x y on) ∙ e)).0;
 }
 
 -- a set becomes owed; colours change only in it
-pub marked-shows : (P : Type 0) (colour colour' : ℤ → ℤ → ℕ) (set : ℤ → ℤ → Bool) (m : Marks) (shown : Shown) → ((x y : ℤ) → on_screen m.width m.height x y ≡ true → set x y ≡ false → colour' x y ≡ colour x y)
-    → Shows P colour m shown → Shows P colour' (marked set m) shown
-marked-shows P colour colour' set m shown same s = less P colour colour' m (λ x y. cond (set x y) Owed (mark_at m x y)) shown shown
+pub marked-shows : {T : Type 0} (P : Type 0) (colour colour' : ℤ → ℤ → ℕ) (set : ℤ → ℤ → Bool) (m : Marks) (shown : Shown) → ((x y : ℤ) → on_screen m.width m.height x y ≡ true → set x y ≡ false → colour' x y ≡ colour x y)
+    → Shows T P colour m shown → Shows T P colour' (marked set m) shown
+marked-shows {T} P colour colour' set m shown same s = less T P colour colour' m (λ x y. cond (set x y) Owed (mark_at m x y)) shown shown
     (λ x y on e. let was = one (set x y) (mark_at m x y) Clean owed-clean e in (was.1, same x y on was.0, refl))
     (λ x y on e. let was = one (set x y) (mark_at m x y) Copied owed-copied e in (was.1, same x y on was.0, λ there. refl)) s
   where
@@ -74,8 +74,8 @@ marked-shows P colour colour' set m shown same s = less P colour colour' m (λ x
     one false a k not_owed e = (refl, e)
 
 -- no place is copied any more
-pub uncopied-shows : (P Q : Type 0) (colour : ℤ → ℤ → ℕ) (m : Marks) (shown : Shown) → Shows P colour m shown → Shows Q colour (without_copyrect m) shown
-uncopied-shows P Q colour m shown s = record {
+pub uncopied-shows : {T : Type 0} (P Q : Type 0) (colour : ℤ → ℤ → ℕ) (m : Marks) (shown : Shown) → Shows T P colour m shown → Shows T Q colour (without_copyrect m) shown
+uncopied-shows {T} P Q colour m shown s = record {
   clean = owing.clean;
   copied = owing.copied;
   may = λ x y on e. absurd (two (mark_at m x y) (sym (mark-is m mark x y on) ∙ e));
@@ -94,23 +94,23 @@ uncopied-shows P Q colour m shown s = record {
     mark : ℤ → ℤ → Mark
     mark x y = cond (is_copied (mark_at m x y)) Owed (mark_at m x y)
 
-    owing : Shows P colour (with_marks m mark) shown
-    owing = less P colour colour m mark shown shown (λ x y on e. (one (mark_at m x y) e, refl, refl)) (λ x y on e. absurd (two (mark_at m x y) e)) s
+    owing : Shows T P colour (with_marks m mark) shown
+    owing = less T P colour colour m mark shown shown (λ x y on e. (one (mark_at m x y) e, refl, refl)) (λ x y on e. absurd (two (mark_at m x y) e)) s
 
 -- P may be another thing that holds
-pub allowed : (P Q : Type 0) (colour : ℤ → ℤ → ℕ) (m : Marks) (shown : Shown) → Q → Shows P colour m shown → Shows Q colour m shown
+pub allowed : {T : Type 0} (P Q : Type 0) (colour : ℤ → ℤ → ℕ) (m : Marks) (shown : Shown) → Q → Shows T P colour m shown → Shows T Q colour m shown
 allowed P Q colour m shown q s = record { clean = s.clean; copied = s.copied; may = λ x y on e. q }
 
 -- a set is asked for
-pub asked-shows : (P : Type 0) (colour : ℤ → ℤ → ℕ) (set : ℤ → ℤ → Bool) (m : Marks) (shown : Shown) → Shows P colour m shown → Shows P colour (asked_for set m) shown
+pub asked-shows : {T : Type 0} (P : Type 0) (colour : ℤ → ℤ → ℕ) (set : ℤ → ℤ → Bool) (m : Marks) (shown : Shown) → Shows T P colour m shown → Shows T P colour (asked_for set m) shown
 asked-shows P colour set m shown s = record { clean = s.clean; copied = s.copied; may = s.may }
 
 -- and it is shown no more
-pub forgotten-shows : (P : Type 0) (colour : ℤ → ℤ → ℕ) (set : ℤ → ℤ → Bool) (m : Marks) (shown shown' : Shown)
+pub forgotten-shows : {T : Type 0} (P : Type 0) (colour : ℤ → ℤ → ℕ) (set : ℤ → ℤ → Bool) (m : Marks) (shown shown' : Shown)
     → ((x y : ℤ) → on_screen m.width m.height x y ≡ true → set x y ≡ false → dot_at shown' x y ≡ dot_at shown x y)
-    → Shows P colour m shown → Shows P colour (forgotten set m) shown'
-forgotten-shows P colour set m shown shown' same s =
-    less P colour colour m (λ x y. cond (set x y || (is_copied (mark_at m x y) && set (x -ℤ m.offset.0) (y -ℤ m.offset.1))) Owed (mark_at m x y)) shown shown'
+    → Shows T P colour m shown → Shows T P colour (forgotten set m) shown'
+forgotten-shows {T} P colour set m shown shown' same s =
+    less T P colour colour m (λ x y. cond (set x y || (is_copied (mark_at m x y) && set (x -ℤ m.offset.0) (y -ℤ m.offset.1))) Owed (mark_at m x y)) shown shown'
     (λ x y on e. let was = one (set x y) (set (x -ℤ m.offset.0) (y -ℤ m.offset.1)) (mark_at m x y) e in (was.1, refl, same x y on was.0))
     (λ x y on e. let was = two (set x y) (set (x -ℤ m.offset.0) (y -ℤ m.offset.1)) (mark_at m x y) e in (was.1, refl, λ there. same (x -ℤ m.offset.0) (y -ℤ m.offset.1) there was.0)) s
   where
@@ -172,18 +172,18 @@ abbrev SourceShows : (ℤ → ℤ → ℕ) → Marks → ℤ × ℤ → Shown �
 SourceShows colour m by shown x y = (on_screen m.width m.height (x -ℤ by.0) (y -ℤ by.1) ≡ true) × ShowsColour (dot_at shown (x -ℤ by.0) (y -ℤ by.1)) (colour x y)
 
 -- a set that is on the screen with its source gets the colours of its source
-pub moved-shows : (P : Type 0) → P → (colour colour' : ℤ → ℤ → ℕ) (set : ℤ → ℤ → Bool) (by : ℤ × ℤ) (m : Marks) (shown : Shown)
+pub moved-shows : {T : Type 0} (P : Type 0) → P → (colour colour' : ℤ → ℤ → ℕ) (set : ℤ → ℤ → Bool) (by : ℤ × ℤ) (m : Marks) (shown : Shown)
     → ((x y : ℤ) → set x y ≡ true → on_screen m.width m.height (x -ℤ by.0) (y -ℤ by.1) ≡ true)
-    → ((x y : ℤ) → on_screen m.width m.height x y ≡ true → colour' x y ≡ cond (set x y) (colour (x -ℤ by.0) (y -ℤ by.1)) (colour x y))
-    → Shows P colour m shown → Shows P colour' (moved_marks set by (lost_to set by m)) shown
-moved-shows P p colour colour' set by m shown cut drawn s = record {
-  clean = λ x y on e.
+    → (T → (x y : ℤ) → on_screen m.width m.height x y ≡ true → colour' x y ≡ cond (set x y) (colour (x -ℤ by.0) (y -ℤ by.1)) (colour x y))
+    → Shows T P colour m shown → Shows T P colour' (moved_marks set by (lost_to set by m)) shown
+moved-shows {T} P p colour colour' set by m shown cut drawn s = record {
+  clean = λ t x y on e.
       let after = clean-after (set x y) (mark_at lost x y) (mark_at lost (x -ℤ by.0) (y -ℤ by.1)) (sym (mark-is lost new x y on) ∙ e) in
       let before : mark_at m x y ≡ Clean = left-clean _ (mark_at m x y) (sym (mark-is m left x y on) ∙ after.1) in
-      tells (dot_at shown x y) (dot_at shown x y) (colour x y) (colour' x y) refl (drawn x y on ∙ ap (λ b. cond b (colour (x -ℤ by.0) (y -ℤ by.1)) (colour x y)) after.0) (s.clean x y on before);
-  copied = λ x y on e.
+      tells (dot_at shown x y) (dot_at shown x y) (colour x y) (colour' x y) refl (drawn t x y on ∙ ap (λ b. cond b (colour (x -ℤ by.0) (y -ℤ by.1)) (colour x y)) after.0) (s.clean t x y on before);
+  copied = λ t x y on e.
       let after = copied-after (set x y) (mark_at lost x y) (mark_at lost (x -ℤ by.0) (y -ℤ by.1)) (sym (mark-is lost new x y on) ∙ e) in
-      by-drawn x y on after.0 after.1;
+      by-drawn t x y on after.0 after.1;
   may = λ x y on e. p;
 }
   where
@@ -203,15 +203,15 @@ moved-shows P p colour colour' set by m shown cut drawn s = record {
     near e = let parts = and_parts (int_eq m.offset.0 by.0) (int_eq m.offset.1 by.1) e in ((Decides-int_eq m.offset.0 by.0).0 parts.0, (Decides-int_eq m.offset.1 by.1).0 parts.1)
 
     -- the source of a place that is drawn is clean
-    source : (x y : ℤ) → on_screen m.width m.height x y ≡ true → set x y ≡ true → (mark_at lost (x -ℤ by.0) (y -ℤ by.1) ≡ Clean) ⊎ (mark_at lost (x -ℤ by.0) (y -ℤ by.1) ≡ Copied) → SourceShows colour' m by shown x y
-    source x y on hit (inl clean) =
+    source : T → (x y : ℤ) → on_screen m.width m.height x y ≡ true → set x y ≡ true → (mark_at lost (x -ℤ by.0) (y -ℤ by.1) ≡ Clean) ⊎ (mark_at lost (x -ℤ by.0) (y -ℤ by.1) ≡ Copied) → SourceShows colour' m by shown x y
+    source t x y on hit (inl clean) =
         let there = cut x y hit in
         let before : mark_at m (x -ℤ by.0) (y -ℤ by.1) ≡ Clean = left-clean _ (mark_at m (x -ℤ by.0) (y -ℤ by.1)) (sym (mark-is m left (x -ℤ by.0) (y -ℤ by.1) there) ∙ clean) in (
           there,
           tells (dot_at shown (x -ℤ by.0) (y -ℤ by.1)) (dot_at shown (x -ℤ by.0) (y -ℤ by.1)) (colour (x -ℤ by.0) (y -ℤ by.1)) (colour' x y) refl
-              (drawn x y on ∙ ap (λ b. cond b (colour (x -ℤ by.0) (y -ℤ by.1)) (colour x y)) hit) (s.clean (x -ℤ by.0) (y -ℤ by.1) there before),
+              (drawn t x y on ∙ ap (λ b. cond b (colour (x -ℤ by.0) (y -ℤ by.1)) (colour x y)) hit) (s.clean t (x -ℤ by.0) (y -ℤ by.1) there before),
         )
-    source x y on hit (inr copied) =
+    source t x y on hit (inr copied) =
         let there = cut x y hit in
         let before = left-copied (same_offset m.offset by) (set ((x -ℤ by.0) +ℤ by.0) ((y -ℤ by.1) +ℤ by.1)) (mark_at m (x -ℤ by.0) (y -ℤ by.1)) (sym (mark-is m left (x -ℤ by.0) (y -ℤ by.1) there) ∙ copied) in
         absurd (never (sym hit ∙ sym (ap (λ a. set a ((y -ℤ by.1) +ℤ by.1)) (back x by.0) ∙ ap (set x) (back y by.1)) ∙ before.2))
@@ -219,24 +219,24 @@ moved-shows P p colour colour' set by m shown cut drawn s = record {
         never : true ≡ false → ⊥
         never e = cc
 
-    by-drawn : (x y : ℤ) → on_screen m.width m.height x y ≡ true → (set x y ≡ true) ⊎ ((set x y ≡ false) × (mark_at lost x y ≡ Copied))
+    by-drawn : T → (x y : ℤ) → on_screen m.width m.height x y ≡ true → (set x y ≡ true) ⊎ ((set x y ≡ false) × (mark_at lost x y ≡ Copied))
         → (mark_at lost (x -ℤ by.0) (y -ℤ by.1) ≡ Clean) ⊎ (mark_at lost (x -ℤ by.0) (y -ℤ by.1) ≡ Copied) → SourceShows colour' m by shown x y
-    by-drawn x y on (inl hit) from = source x y on hit from
-    by-drawn x y on (inr kept) from =
+    by-drawn t x y on (inl hit) from = source t x y on hit from
+    by-drawn t x y on (inr kept) from =
         let before = left-copied (same_offset m.offset by) (set (x +ℤ by.0) (y +ℤ by.1)) (mark_at m x y) (sym (mark-is m left x y on) ∙ kept.1) in
         let same = near before.1 in
-        let there = s.copied x y on before.0 in (
+        let there = s.copied t x y on before.0 in (
           ap (λ d. on_screen m.width m.height (x -ℤ d) (y -ℤ by.1)) (sym same.0) ∙ ap (λ d. on_screen m.width m.height (x -ℤ m.offset.0) (y -ℤ d)) (sym same.1) ∙ there.0,
           tells (dot_at shown (x -ℤ m.offset.0) (y -ℤ m.offset.1)) (dot_at shown (x -ℤ by.0) (y -ℤ by.1)) (colour x y) (colour' x y)
               (ap (λ d. dot_at shown (x -ℤ d) (y -ℤ by.1)) (sym same.0) ∙ ap (λ d. dot_at shown (x -ℤ m.offset.0) (y -ℤ d)) (sym same.1))
-              (drawn x y on ∙ ap (λ b. cond b (colour (x -ℤ by.0) (y -ℤ by.1)) (colour x y)) kept.0) there.1,
+              (drawn t x y on ∙ ap (λ b. cond b (colour (x -ℤ by.0) (y -ℤ by.1)) (colour x y)) kept.0) there.1,
         )
 
 -- other colours that are the same on the screen
-pub recoloured : (P : Type 0) (colour colour' : ℤ → ℤ → ℕ) (m : Marks) (shown : Shown) → ((x y : ℤ) → on_screen m.width m.height x y ≡ true → colour' x y ≡ colour x y) → Shows P colour m shown → Shows P colour' m shown
+pub recoloured : {T : Type 0} (P : Type 0) (colour colour' : ℤ → ℤ → ℕ) (m : Marks) (shown : Shown) → ((x y : ℤ) → on_screen m.width m.height x y ≡ true → colour' x y ≡ colour x y) → Shows T P colour m shown → Shows T P colour' m shown
 recoloured P colour colour' m shown same s = record {
-  clean = λ x y on e. tells (dot_at shown x y) (dot_at shown x y) (colour x y) (colour' x y) refl (same x y on) (s.clean x y on e);
-  copied = λ x y on e. let there = s.copied x y on e in
+  clean = λ t x y on e. tells (dot_at shown x y) (dot_at shown x y) (colour x y) (colour' x y) refl (same x y on) (s.clean t x y on e);
+  copied = λ t x y on e. let there = s.copied t x y on e in
       (there.0, tells (dot_at shown (x -ℤ m.offset.0) (y -ℤ m.offset.1)) (dot_at shown (x -ℤ m.offset.0) (y -ℤ m.offset.1)) (colour x y) (colour' x y) refl (same x y on) there.1);
   may = s.may;
 }
