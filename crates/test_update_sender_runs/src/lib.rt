@@ -1,5 +1,6 @@
-//! Whole runs of a shared screen with two viewers' threads, over memory: senders that are held and that overlap, readers and
-//! writers that fail, and receipts that are changed. There are tests here, and nothing else.
+//! Openings of viewers of a shared screen, in pieces and with faults, and inputs on their way to the application (`opening`); and
+//! whole runs with two viewers' threads, over memory: senders that are held and that overlap, readers and writers that fail, and
+//! receipts that are changed (`overlapping`). There are tests here, and nothing else.
 #![tactic(auto)]
 
 #[cfg(test)]

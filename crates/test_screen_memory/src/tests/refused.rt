@@ -1,0 +1,50 @@
+//! Where an allocation fails, whichever, the call is made again, and then it gives what it would have given: a call that was
+//! refused left the screen as it was. `named` has each call once, `marks` fills the log of drawing, and here are the calls that
+//! both make; their bytes are written out from RFC 6143. `many` has what must not be refused where there is memory.
+//!
+//! A function that owns a screen lends it to others: each place where it may end on its way would be one more to prove.
+
+/// What a call gives, at the second time where the first is refused.
+macro_rules! again {
+    ($rt:expr, $call:expr) => {
+        match $call {
+            Ok(given) => given,
+            Err(_) => $call.expect($rt, "memory is refused once"),
+        }
+    };
+}
+
+mod many;
+mod marks;
+mod named;
+
+use screen::{Answer, History, Screen, ScreenError, Update};
+use std::alloc::Global;
+use std::process::Abort;
+
+/// A screen of this size, of which an update has at most 50 rectangles.
+fn new_screen(alloc: Global, size: (u16, u16)) -> Result<Screen, ScreenError> {
+    test_screens::new_screen(alloc, size, 50, History::Kept)
+}
+
+/// A viewer sends bytes.
+fn hear_again(rt: &impl Abort, screen: &mut Screen, viewer: u64, piece: &[u8]) -> Answer {
+    again!(rt, screen.hear(viewer, piece))
+}
+
+/// What is cut for a viewer now.
+fn cut_again(rt: &impl Abort, screen: &mut Screen, viewer: u64) -> Option<Update> {
+    again!(rt, screen.cut(viewer))
+}
+
+/// The bytes of an update.
+fn encode_again(rt: &impl Abort, update: &Update) -> Vec<u8> {
+    again!(rt, update.encode())
+}
+
+/// A viewer is sent an update of these bytes now.
+fn expect_sent(rt: &impl Abort, screen: &mut Screen, viewer: u64, wanted: &[u8]) {
+    let update = cut_again(rt, screen, viewer).expect(rt, "an update");
+    let bytes = encode_again(rt, &update);
+    assert_eq!(rt; bytes.as_slice(), wanted);
+}

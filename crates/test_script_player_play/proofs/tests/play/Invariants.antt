@@ -1,4 +1,0 @@
-use Rattle.test_script_player_play.proofs.tests.play.Given as goal
-
-abbrev pub ghosts-counted : goal.ghosts-counted
-ghosts-counted g a = record { name = a.blank.name; parts = a.blank.parts }
