@@ -1,5 +1,5 @@
 -- What the places of a screen show once a block is filled, or an area copied.
-use Rattle.std.proofs.Common.{◌≡◌, ℕ, ◌+◌, ◌-◌, ◌*◌, ◌/◌, ◌%◌, ◌<◌, ◌≤◌, inl, inr, true, false, cond, Bool, List, [], ◌∷◌, ◌++◌, Option, None, length, get_or, sym, ap, ◌∙◌, arith, rules, map}
+use Rattle.std.proofs.Common.{◌≡◌, ℕ, ◌+◌, ◌*◌, ◌/◌, ◌%◌, ◌<◌, ◌≤◌, inl, inr, true, false, cond, Bool, List, [], ◌∷◌, ◌++◌, Option, None, length, get_or, sym, ap, ◌∙◌, arith, map}
 use Rattle.std.proofs.lemmas.Bool.Decides.{nat_tests, leb_tells}
 use Rattle.std.proofs.lemmas.List.FromFn.{map-range_with_len_more, length-map-range_with_len}
 use Rattle.std.specs.List.{range_with_len}
@@ -8,7 +8,7 @@ use Rattle.pixel_translate.specs.declared.Area.{Area}
 use Rattle.encode_raw.specs.Reading.{is_inside}
 use Rattle.test_viewer.specs.declared.canvas.Dot.{Dot}
 use Rattle.test_viewer.specs.declared.stages.Block.{Block}
-use Rattle.test_viewer.specs.Canvas.{Dots, dot_at, filled, area_of, is_between, row_filled, copied_dot}
+use Rattle.test_viewer.specs.Canvas.{Dots, dot_at, filled, area_of, row_filled, copied_dot}
 
 by_lt : {P : Type 0} (a b : ℕ) → (a < b → P) → (b ≤ a → P) → P
 by_lt a b less not_less = elim (leb_tells b a) [ inl h ↦ not_less h.1 | inr h ↦ less h.1 ]

@@ -1,12 +1,10 @@
 -- What groups of bytes do, by RFC 6143 section 7.6 and 7.7.
-use Rattle.std.specs.Prelude.{◌≡◌, ℕ, ◌+◌, ◌-◌, ◌/◌, ◌%◌, min, if◌then◌else◌, Option, None, Some, unwrap_or, Result, Ok, Err, IsErr}
+use Rattle.std.specs.Prelude.{ℕ, ◌+◌, ◌-◌, ◌/◌, ◌%◌, min, unwrap_or}
 use Rattle.pixel_translate.specs.declared.Area.{Area}
-use Rattle.pixel_translate.specs.declared.PixelFormat.{PixelFormat}
 use Rattle.test_viewer.specs.declared.stages.Block.{Block}
 use Rattle.test_viewer.specs.declared.stages.Tile.{Tile}
 use Rattle.test_viewer.specs.declared.stages.Reading.{Reading}
 use Rattle.test_viewer.specs.declared.stages.Step.{Step}
-use Rattle.test_viewer.specs.declared.stages.Effect.{Effect}
 use Rattle.test_viewer.specs.declared.stages.Effect.TheVariants as effect
 use Rattle.test_viewer.specs.declared.stages.Stage.TheVariants as stage
 

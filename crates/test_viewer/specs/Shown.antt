@@ -1,5 +1,5 @@
 -- What a viewer keeps, and what it shows.
-use Rattle.std.specs.Prelude.{◌≡◌, ℕ, Bool, true, false, ◌∷◌, ◌++◌, [], List, replicate, slice_index_or, is_some, if◌then◌else◌, Option, None, Some, option_map}
+use Rattle.std.specs.Prelude.{ℕ, Bool, true, false, ◌∷◌, List, slice_index_or, is_some, if◌then◌else◌, Option, None, option_map}
 use Rattle.pixel_translate.specs.declared.Area.{Area}
 use Rattle.pixel_translate.specs.declared.PixelFormat.{PixelFormat}
 use Rattle.pixel_translate.specs.Pixel.{area_bytes, format_bytes}

@@ -1,5 +1,5 @@
-use Rattle.std.proofs.Common.{◌≡◌, ℕ, Option, arith, rules}
-use Rattle.std.proofs.lemmas.List.{places, length-take, length-drop}
+use Rattle.std.proofs.Common.{Option, arith}
+use Rattle.std.proofs.lemmas.List.{length-take, length-drop}
 use Rattle.test_viewer.specs.declared.canvas.Dot.{Dot}
 use Rattle.test_viewer.proofs.Rows.{row_inside, one_row, no_row}
 use Rattle.test_viewer.proofs.canvas.fill_rows.Goals as goal

@@ -1,4 +1,4 @@
-use Rattle.std.proofs.Common.{◌≡◌, ℕ, ◌/◌, ◌%◌, ◌∙◌, ap, arith}
+use Rattle.std.proofs.Common.{◌/◌, ◌%◌, ◌∙◌, ap, arith}
 use Rattle.test_viewer.specs.Canvas.{copied_dot}
 use Rattle.test_viewer.proofs.Places.{one_more, as_many}
 use Rattle.test_viewer.proofs.canvas.Canvas.copy.Goals as goal

@@ -1,4 +1,4 @@
-use Rattle.std.proofs.Common.{◌≡◌, ℕ, ◌/◌, ◌%◌, map}
+use Rattle.std.proofs.Common.{◌≡◌, ◌/◌, ◌%◌, map}
 use Rattle.std.specs.List.{range_with_len}
 use Rattle.test_viewer.specs.Canvas.{copied_dot}
 use Rattle.test_viewer.proofs.canvas.Canvas.copy.Given as goal
