@@ -22,7 +22,7 @@ use Rattle.viewer.specs.declared.left.Begun.TheVariants.{Colours, Tiles}
 use Rattle.viewer.specs.declared.left.Reached.{Reached}
 use Rattle.viewer.specs.declared.left.Reached.TheVariants.{Nothing, Before, Within}
 use Rattle.viewer.specs.declared.notices.Notice.{Notice}
-use Rattle.viewer.specs.Sending.{encoded, notice_bytes}
+use Rattle.viewer.specs.Sending.{encoded, map_bytes, notice_bytes}
 use Rattle.viewer.specs.Updates.{coloured_bytes}
 use Rattle.viewer.specs.Left.{rest_of, rest_within, rectangles_left, reached_after, IsBegun, GoesOn, IsWithin}
 
@@ -106,9 +106,10 @@ le_test a b h = grind (arith, nat_tests)
 pub test_over : (left : List ℕ) (a b : ℕ) → (a ≤ b → left ≡ []) → (left ≡ [] → a ≤ b) → IsTrue (leb a b) ↔ (left ≡ [])
 test_over left a b over none = (λ e. over (leb-true a b e), λ e. le_test a b (none e))
 
--- where all notices are told, the rest is left
-pub all_told : (notices : List Notice) (told : ℕ) (rest now : List ℕ) → length notices ≤ told → flat_map notice_bytes (drop told notices) ++ rest ≡ now → rest ≡ now
-all_told notices told rest now over e = sym (ap (λ (ns : List Notice). flat_map notice_bytes ns ++ rest) (drop_all told notices over)) ∙ e
+-- where no colour map is owed and all notices are told, the rest is left
+pub all_told : (owed : Bool) (notices : List Notice) (told : ℕ) (rest now : List ℕ) → owed ≡ false → length notices ≤ told → (map_bytes owed ++ flat_map notice_bytes (drop told notices)) ++ rest ≡ now → rest ≡ now
+all_told false notices told rest now is over e = sym (ap (λ (ns : List Notice). flat_map notice_bytes ns ++ rest) (drop_all told notices over)) ∙ e
+all_told true notices told rest now is over e = absurd cc
 
 pub on_ok : {X E : Type 0} (r : Result X E) (P Q : Type 0) → OnOk r P → (P → Q) → OnOk r Q
 on_ok (Ok x) P Q p f = f p
