@@ -2,7 +2,6 @@ use Rattle.std.proofs.Common.{sym, subst, ℕ, List, All}
 use Rattle.std.specs.Map.{values_of}
 use Rattle.copy_schedule.specs.Log.{IsCutEntry}
 use Rattle.viewer.specs.Viewer.{KeptViewer}
-use Rattle.scene.proofs.Drawn.{told-all}
 use Rattle.scene.proofs.drawing.tell.Goals as goal
 
 pub commit-requires-clause-cut : goal.commit-requires-clause-cut

@@ -4,7 +4,7 @@ use Rattle.scene.specs.declared.Answer.{Answer}
 use Rattle.scene.specs.declared.ScreenError.{ScreenError}
 use Rattle.scene.specs.Alone.{config_refusal}
 use Rattle.scene.specs.Answers.{answers}
-use Rattle.scene.specs.Pictures.{ShowPictures}
+use Rattle.scene.specs.Pictures.{ShowPictures, HaveMaps}
 use Rattle.screen.proofs.runs.run.Goals as goal
 
 -- a screen is made where no refusal stands
@@ -16,6 +16,12 @@ no-refusal (Some e) made x h = absurd cc
 as-made : (o : Option ScreenError) (made : Type 0) (refused : ScreenError → Type 0) → o ≡ None → made → MatchOption o made refused
 as-made None made refused is h = h
 as-made (Some e) made refused is h = absurd cc
+
+pub returns-clause-maps : goal.returns-clause-maps
+returns-clause-maps c =
+    let given : c.loop-event.given.items ≡ answers c.args.config c.args.events.now = (let h = c.loop-event in grind (arith, common_steps)) in
+    let accepted = no-refusal _ _ _ c.in_ok-screen.ensures.refused in
+    subst (λ (l : List Answer). HaveMaps c.args.config c.args.events.now l) (sym given) (c.maps_are_there.ensures c.args.config c.args.events.now accepted)
 
 pub returns-clause-pictures : goal.returns-clause-pictures
 returns-clause-pictures c = λ told.

@@ -12,6 +12,6 @@ returns-then-self c =
     elim c.then-self.branch [
       | then-self-via-then-self w ↦ (λ e. cc, λ none. absurd (some_map here.map_owed (drop here.told here.notices.items) (maybe_left here.rectangles) w.if-self.true (c.self.view_is ∙ none)))
       | then-self-via-else-self+then-self-len w ↦
-      let some : drop here.told here.notices.items ≡ [] → ⊥ = λ none. omega (arith, w.if-self-len.true, w.len.ensures, here.notices.ok.0, ap (λ (l : List Notice). length l) none, length-drop here.told here.notices.items) in
-      (λ e. cc, λ none. absurd (some_behind here.map_owed (drop here.told here.notices.items) (maybe_left here.rectangles) some (c.self.view_is ∙ none)))
+          let some : drop here.told here.notices.items ≡ [] → ⊥ = λ none. omega (arith, w.if-self-len.true, w.len.ensures, here.notices.ok.0, ap (λ (l : List Notice). length l) none, length-drop here.told here.notices.items) in
+          (λ e. cc, λ none. absurd (some_behind here.map_owed (drop here.told here.notices.items) (maybe_left here.rectangles) some (c.self.view_is ∙ none)))
     ]
