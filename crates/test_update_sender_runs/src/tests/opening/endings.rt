@@ -58,9 +58,9 @@ static READINGS: [Reading; 6] = [
         ..UNKNOWN
     },
     Reading {
-        given: b"\0\0\0\0\x08\x08\0\0\0\xff\0\xff\0\xff\x10\x08\0\0\0\0",
+        given: b"\0\0\0\0\x10\x08\0\0\0\xff\0\xff\0\xff\x10\x08\0\0\0\0",
         piece: 20,
-        heard: b"\0\0\0\0\x08\x08\0\0\0\xff\0\xff\0\xff\x10\x08\0\0\0\0",
+        heard: b"\0\0\0\0\x10\x08\0\0\0\xff\0\xff\0\xff\x10\x08\0\0\0\0",
         pieces: 2,
         ended: Ended::Fault(Fault::ColourMapUnsupported),
         ..UNKNOWN
