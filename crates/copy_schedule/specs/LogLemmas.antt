@@ -14,7 +14,7 @@ use Rattle.region.specs.PlaceLemmas.{is_place, same_by_place, below, value_on}
 use Rattle.region.specs.CopyPlaceLemmas.{rects-on-screen}
 use Rattle.copy_schedule.specs.declared.Mark as mark
 use Rattle.copy_schedule.specs.declared.Mark.TheVariants.{Clean, Owed}
-use Rattle.copy_schedule.specs.Marks.{Marks, mark_at, has_asked, marked, copied_by, is_clean, wanted, pending}
+use Rattle.copy_schedule.specs.Marks.{Marks, mark_at, has_asked, marked, copied_by, resized, is_clean, wanted, pending}
 use Rattle.copy_schedule.specs.MarkSets.{LiesOn}
 use Rattle.copy_schedule.specs.MarkSetLemmas.{none_asked}
 use Rattle.copy_schedule.specs.declared.LogEntry.{LogEntry}
@@ -138,3 +138,10 @@ unasked_is_not_pending m none = list_any_none (λ is_in. is_in) (by_place m.widt
 
     unwanted : (x y : ℤ) → wanted m x y ≡ false
     unwanted x y = off (on_screen m.width m.height x y) (get_or m.asked (nat_abs y * m.width + nat_abs x) false) (not (is_clean (mark_at m x y))) (no_element m.asked (nat_abs y * m.width + nat_abs x) none)
+
+-- a new size makes the same of marks whether or not they know what waits: drawing has no say in what is asked for
+pub resized_logged : (w h : ℕ) (view : ℤ → ℤ → Bool) (uses : Bool) (entries : List LogEntry) (m : Marks) → resized w h view (logged uses entries m) ≡ resized w h view m
+resized_logged w h view uses [] m = refl
+resized_logged w h view uses (Mark region ∷ entries) m = resized_logged w h view uses entries (after_entry uses (Mark region) m)
+resized_logged w h view true (Copy region dx dy ∷ entries) m = resized_logged w h view true entries (after_entry true (Copy region dx dy) m)
+resized_logged w h view false (Copy region dx dy ∷ entries) m = resized_logged w h view false entries (after_entry false (Copy region dx dy) m)

@@ -96,6 +96,13 @@ requested set false m = forgotten set (asked_for set m)
 abbrev pub without_copyrect : Marks → Marks
 without_copyrect m = with_marks m (λ x y. if is_copied (mark_at m x y) then Owed else mark_at m x y)
 
+-- A new size.
+
+-- Every place is owed, and nothing awaits a copy. Of the places that were asked for those stay asked for that are on the new screen
+-- and in the view.
+abbrev pub resized : ℕ → ℕ → (ℤ → ℤ → Bool) → Marks → Marks
+resized w h view m = record (new_marks w h) { asked = by_place w h (λ x y. asked_at m x y && view x y) }
+
 -- One update.
 
 -- the places that are asked for and not clean

@@ -8,7 +8,7 @@ ghost use Rattle.region.specs.Region.{covers, in_rect, rects_of};
 ghost use Rattle.region.specs.Copies.{InOrder};
 ghost use Rattle.region.specs.Places.{same_offset, longest_side};
 ghost use Rattle.copy_schedule.specs.Marks.{is_clean, is_owed, is_copied, mark_at, asked_at, has_asked, with_marks, new_marks};
-ghost use Rattle.copy_schedule.specs.Marks.{marked, copied_by, without_copyrect, requested, pending, cut_of, cut_of_sent};
+ghost use Rattle.copy_schedule.specs.Marks.{marked, copied_by, without_copyrect, requested, resized, pending, cut_of, cut_of_sent};
 ghost use Rattle.copy_schedule.specs.Marks.{marks_after, copies_of, pixels_of, IsInside, HasSourcesInside, IsWithin, IsCutTo};
 ghost use Rattle.copy_schedule.specs.MarkSets.{AreMarkSets, LiesOn, with_sets};
 ghost use Rattle.copy_schedule.specs.Log.{logged, draws_asked, IsCutEntry};
@@ -176,6 +176,38 @@ impl Marks {
         let mut marks = self.try_clone()?;
         take_entries(&mut marks, entries, uses_copyrect)?;
         Ok(Prepared { marks })
+    }
+
+    /// The marks once the screen has another size, 1 to 8192 columns and rows: every place is owed, none awaits a copy, and of the
+    /// places that were asked for those stay so that are on the new screen and in the view. `AllocError` where memory is refused.
+    pub fn prepare_resize(
+        &self,
+        width: u32,
+        height: u32,
+        view: Rect,
+    ) -> Result<Prepared, AllocError>
+        requires columns { width ≤ longest_side }
+        requires rows { height ≤ longest_side }
+        ensures { IfOk result (λ prepared. prepared ≡ resized width height (in_rect view) self.now) }
+    {
+        let alloc = self.alloc;
+        let seen = part_of(alloc, view, (0, 0), width, height)?;
+        let asked = self.asked.intersection(&seen)?;
+        let all = screen_places(alloc, width, height)?;
+        Ok(Prepared {
+            marks: Marks {
+                alloc,
+                width,
+                height,
+                sets: MarkSets {
+                    owed: all,
+                    copied: Region::new(alloc),
+                },
+                offset_x: 0,
+                offset_y: 0,
+                asked,
+            },
+        })
     }
 
     /// The marks are the prepared ones from now on. This takes no memory.

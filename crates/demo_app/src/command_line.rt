@@ -39,6 +39,7 @@ begin with #, are skipped and counted. The other lines, of which screen is first
   schedule X1 Y1 X2 Y2 DX DY  tells the viewers of such a copy
   bell                        a bell for every open viewer
   cuttext HEX                 a text for every open viewer
+  resize W H                  a new framebuffer of that size, all black
   connect V                   viewer V connects
   hear V HEX                  the server hears bytes of V
   cut V                       an update is cut for V

@@ -254,10 +254,11 @@ fn shows_colour(screen: &Screen, shown: &Shown, x: u32, y: u32) -> bool {
     }
 }
 
-/// The first place that doesn't.
+/// The first place that doesn't, of those that are within the viewer's size.
 fn first_wrong(screen: &Screen, shown: &Shown) -> Option<(u32, u32)> {
-    for y in 0..screen.height() {
-        for x in 0..screen.width() {
+    let (columns, rows) = shown.size();
+    for y in 0..screen.height().min(u32::from(rows)) {
+        for x in 0..screen.width().min(u32::from(columns)) {
             if !shows_colour(screen, shown, x, y) {
                 return Some((x, y));
             }
@@ -284,7 +285,7 @@ fn lacks_map(alloc: Global, viewer: u64, line: usize) -> Result<Difference, Allo
     make_difference(alloc, SHOWN, line, &wanted, "it has not")
 }
 
-/// A viewer that was told all that is owed to it shows the picture, and has the colour map that its format needs.
+/// A viewer that was told all that is owed to it shows the picture, as far as its size goes, and has the colour map that its format needs.
 fn check_viewer(
     alloc: Global,
     screen: &mut Screen,

@@ -1,7 +1,7 @@
-//! A server of one's own: a white square that follows the pointer.
+//! A server of one's own: a white square that follows the pointer, on a screen that the keys + and - double and halve.
 //!
 //! With a port as its one word the program serves a viewer on that port of 127.0.0.1. Without a word it looks at its own screen,
-//! by a viewer that moves the pointer three times, and prints what that viewer shows.
+//! by a viewer that moves the pointer three times, presses + and moves it again, and prints what that viewer shows.
 #![tactic(auto)]
 
 ghost use Rattle.std.specs.Prelude.{◌≡◌, ◌<◌};
@@ -10,7 +10,7 @@ mod square;
 mod visitor;
 
 use serving::{Config, History, Listed, ServeError, Shared, serve_viewers};
-use square::{HEIGHT, Square, WIDTH};
+use square::{HEIGHT, PLUS, Square, WIDTH};
 use std::alloc::Global;
 use std::io::Write;
 use std::marker::Brand;
@@ -42,7 +42,7 @@ fn serve<L: Ledger + Send + Sync, R: Threads + Wait + Net + Sync>(
         history: History::NotKept,
     };
     let (shared, mut brush) = Shared::<L>::new(alloc, blank, config)?;
-    let mut square = Square::at(0, 0);
+    let mut square = Square::on(WIDTH, HEIGHT, 0, 0);
     serve_viewers(rt, alloc, listener, &shared, &mut brush, 1, &mut square)?;
     Ok(())
 }
@@ -59,14 +59,16 @@ fn serve_one<R: Threads + Wait + Net + Sync>(
     }
 }
 
-/// Moves the pointer three times. What is seen each time.
+/// Moves the pointer three times, and once more on a screen of twice the size. What is seen each time.
 fn visit(alloc: Global, mut visitor: Visitor) -> io::Result<Vec<u8>> {
     let mut text = Vec::new(alloc);
     for (x, y) in [(3, 1), (9, 3), (20, 0)] {
         visitor.point(x, y)?;
         visitor.draw(&mut text)?;
-        text.push(b'\n')?;
     }
+    visitor.press(PLUS)?;
+    visitor.point(20, 7)?;
+    visitor.draw(&mut text)?;
     Ok(text)
 }
 

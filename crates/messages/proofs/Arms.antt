@@ -68,7 +68,7 @@ same_given e = cc
 not_yet : (p : Phase) (count come : ℕ) (given : Given) → come < count → numbers_tell p count come given ≡ keeps p (encodings count come given [])
 not_yet p count come given lt = elim (eqb_tells come count) [ inl x ↦ absurd (omega (arith, x.1)) | inr x ↦ rw x.0 refl ]
 
-all_come : (p : Phase) (count come : ℕ) (given : Given) → come ≡ count → numbers_tell p count come given ≡ says p (item.Encodings (unwrap_or given.first Raw) given.copyrect)
+all_come : (p : Phase) (count come : ℕ) (given : Given) → come ≡ count → numbers_tell p count come given ≡ says p (item.Encodings (unwrap_or given.first Raw) given.copyrect given.resize)
 all_come p count come given e = elim (eqb_tells come count) [ inl x ↦ rw x.0 refl | inr x ↦ absurd (x.1 e) ]
 
 abbrev next_given : Numbers → List ℕ → ℕ → Given
@@ -90,12 +90,12 @@ numbers_go_on items p partial held' n n' piece used e e' whole le some f lt =
 
 pub numbers_end : (items items' : List Item) (p p' : Phase) (partial held' : Partial) (n n' : Numbers) (piece : List ℕ) (used : ℕ) (said : Item) → unfinished_in partial ≡ unfinished_numbers n
     → used + length n.next.items ≡ 4 → used ≤ length piece → 0 < used → unfinished_numbers n' ≡ encodings n.count (n.come + 1) (next_given n piece used) []
-    → n'.count ≤ n'.come → n.come < n.count → said ≡ item.Encodings (unwrap_or n'.first Raw) n'.copyrect → items' ≡ items ++ said ∷ [] → rest_in p' held' ≡ fresh (after p said)
+    → n'.count ≤ n'.come → n.come < n.count → said ≡ item.Encodings (unwrap_or n'.first Raw) n'.copyrect n'.resize → items' ≡ items ++ said ∷ [] → rest_in p' held' ≡ fresh (after p said)
     → reads items' p' held' (take (length piece - used) (drop used piece)) ≡ reads items p partial piece
 numbers_end items items' p p' partial held' n n' piece used said e whole le some f ge lt g h k =
     let given : given_by n' ≡ next_given n piece used = same_given f in
-    let same : said ≡ item.Encodings (unwrap_or (next_given n piece used).first Raw) (next_given n piece used).copyrect =
-    g ∙ ap (λ (x : Given). item.Encodings (unwrap_or x.first Raw) x.copyrect) given in
+    let same : said ≡ item.Encodings (unwrap_or (next_given n piece used).first Raw) (next_given n piece used).copyrect (next_given n piece used).resize =
+    g ∙ ap (λ (x : Given). item.Encodings (unwrap_or x.first Raw) x.copyrect x.resize) given in
     arm items items' p (unfinished_numbers n) (rest_in p partial) (rest_in p' held') (says p said) used piece (ap (rest_at p) e)
     (numbers_arm p partial n piece used _ whole some le
     (all_come p n.count (n.come + 1) (next_given n piece used) (omega (arith, same_count f, same_come f, ge, lt)) ∙ ap (says p) (sym same)))

@@ -20,7 +20,7 @@ use Rattle.messages.specs.declared.Phase.{Phase}
 use Rattle.messages.specs.declared.Phase.TheVariants as phase
 use Rattle.messages.specs.declared.Fault.{Fault}
 use Rattle.messages.specs.declared.heads.Head.{Head}
-use Rattle.messages.specs.Grammar.{encoding_of, is_copyrect, first_encoding, lists_copyrect, text_limit, after, End, waiting, faulty}
+use Rattle.messages.specs.Grammar.{encoding_of, is_copyrect, is_desktop_size, first_encoding, lists_copyrect, lists_desktop_size, text_limit, after, End, waiting, faulty}
 use Rattle.messages.specs.Reading.{length_by, message_length, wanted, meaning, message_meaning, encodings_meaning, text_meaning, numbers_of, Conversation, with_meaning, with_unfinished, hear_byte, Given, plain, encodings, cut_text, unfinished_message, unfinished_of, Rest, rest_of, rest, hear, heard, nothing_heard}
 use Rattle.messages.specs.Steps.{front_length, head_meaning, encodings_head, text_head, message_head, Told, keeps, nothing_given, head_tells, plain_tells, number_in, with_number, numbers_tell, number_tells, text_tells, byte_tells, then_tells, tells}
 use Rattle.messages.proofs.Unique.{by_count, by_length, by_kind, told}
@@ -168,11 +168,19 @@ copyrect_more ns n = list_any-append is_copyrect ns (n ∷ []) ∙ go (lists_cop
     go false true = refl
     go false false = refl
 
+size_more : (ns : List ℤ) (n : ℤ) → lists_desktop_size (ns ++ n ∷ []) ≡ (lists_desktop_size ns || is_desktop_size n)
+size_more ns n = list_any-append is_desktop_size ns (n ∷ []) ∙ go (lists_desktop_size ns) (is_desktop_size n)
+  where
+    go : (a b : Bool) → (a || (b || false)) ≡ (a || b)
+    go true b = refl
+    go false true = refl
+    go false false = refl
+
 abbrev given_by : List ℤ → Given
-given_by ns = record { first = first_encoding ns; copyrect = lists_copyrect ns }
+given_by ns = record { first = first_encoding ns; copyrect = lists_copyrect ns; resize = lists_desktop_size ns }
 
 given_more : (ns : List ℤ) (n : ℤ) → given_by (ns ++ n ∷ []) ≡ with_number (given_by ns) n
-given_more ns n = rw (first_more ns n, copyrect_more ns n) refl
+given_more ns n = rw (first_more ns n, copyrect_more ns n, size_more ns n) refl
 
 -- a list whose count has come, with a byte more
 abbrev list_of : ℕ → ℕ → ℕ → List ℕ → List ℕ

@@ -16,7 +16,7 @@ use Rattle.messages.specs.Progress.{Progress, becomes, text_goes_on}
 use Rattle.messages.specs.Steps.{IsShort, Told, fresh, tells, adds}
 
 abbrev pub given_by : Numbers → Given
-given_by n = record { first = n.first; copyrect = n.copyrect }
+given_by n = record { first = n.first; copyrect = n.copyrect; resize = n.resize }
 
 abbrev pub unfinished_numbers : Numbers → Unfinished
 unfinished_numbers n = encodings n.count n.come (given_by n) n.next.items

@@ -16,7 +16,7 @@ use Rattle.messages.specs.declared.Phase.{Phase}
 use Rattle.messages.specs.declared.Phase.TheVariants as phase
 use Rattle.messages.specs.declared.Fault.{Fault}
 use Rattle.messages.specs.declared.Fault.TheVariants as fault
-use Rattle.messages.specs.Grammar.{version_text, version_of, first_encoding, lists_copyrect, text_limit, after, End, waiting, faulty, Stream}
+use Rattle.messages.specs.Grammar.{version_text, version_of, first_encoding, lists_copyrect, lists_desktop_size, text_limit, after, End, waiting, faulty, Stream}
 
 -- 7.5: how many bytes a message has, by its type and by the count or the length in it
 abbrev pub length_by : ℕ → ℕ → ℕ → ℕ
@@ -62,7 +62,7 @@ numbers_of (a ∷ b ∷ c ∷ d ∷ bytes) = cast_signed w32 (from_be_bytes w32 
 numbers_of _ = []
 
 abbrev pub encodings_meaning : List ℤ → Item
-encodings_meaning numbers = item.Encodings (unwrap_or (first_encoding numbers) Raw) (lists_copyrect numbers)
+encodings_meaning numbers = item.Encodings (unwrap_or (first_encoding numbers) Raw) (lists_copyrect numbers) (lists_desktop_size numbers)
 
 -- 7.5.6: a text, of which the first bytes are kept
 abbrev pub text_meaning : List ℕ → Item
@@ -135,6 +135,7 @@ heard bytes = hear nothing_heard bytes
 pub record Given : Type 0 where
   pub first : Option Encoding
   pub copyrect : Bool
+  pub resize : Bool
 
 -- the unfinished message: its bytes; of a SetEncodings whose count has come, the count, how many numbers have come, what
 -- they gave and the bytes of the next one; of a ClientCutText whose length has come, the length, what is kept of the text
@@ -148,7 +149,7 @@ pub data Unfinished : Type 0 where
 abbrev pub unfinished_encodings : List ℕ → List ℕ → Unfinished
 unfinished_encodings bytes more =
     let come = length more / 4 in
-    encodings (be16_at bytes 2) come (record { first = first_encoding (numbers_of more); copyrect = lists_copyrect (numbers_of more) }) (drop (4 * come) more)
+    encodings (be16_at bytes 2) come (record { first = first_encoding (numbers_of more); copyrect = lists_copyrect (numbers_of more); resize = lists_desktop_size (numbers_of more) }) (drop (4 * come) more)
 
 abbrev pub unfinished_message : List ℕ → Unfinished
 unfinished_message bytes =

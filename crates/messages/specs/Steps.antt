@@ -12,7 +12,7 @@ use Rattle.messages.specs.declared.Phase.TheVariants as phase
 use Rattle.messages.specs.declared.Fault.{Fault}
 use Rattle.messages.specs.declared.heads.Head.{Head}
 use Rattle.messages.specs.declared.heads.Head.TheVariants as head
-use Rattle.messages.specs.Grammar.{encoding_of, is_copyrect, text_limit, after}
+use Rattle.messages.specs.Grammar.{encoding_of, is_copyrect, is_desktop_size, text_limit, after}
 use Rattle.messages.specs.Reading.{meaning, message_meaning, encodings_meaning, text_meaning, Given, Unfinished, plain, encodings, cut_text, faulted, Rest}
 
 -- 7.1.1: the bytes of a version that are no digits
@@ -89,7 +89,7 @@ abbrev pub says : Phase → Item → Told
 says p i = record { items = i ∷ []; rest = fresh (after p i) }
 
 abbrev pub nothing_given : Given
-nothing_given = record { first = None; copyrect = false }
+nothing_given = record { first = None; copyrect = false; resize = false }
 
 abbrev pub head_tells : Phase → Head → Told
 head_tells p (head.Item i) = says p i
@@ -109,12 +109,12 @@ number_in bytes = cast_signed w32 (be32_at bytes 0)
 -- 7.5.2: one number more
 
 abbrev pub with_number : Given → ℤ → Given
-with_number given number = record { first = option_or given.first (encoding_of number); copyrect = given.copyrect || is_copyrect number }
+with_number given number = record { first = option_or given.first (encoding_of number); copyrect = given.copyrect || is_copyrect number; resize = given.resize || is_desktop_size number }
 
 -- so many numbers have come, of so many
 abbrev pub numbers_tell : Phase → ℕ → ℕ → Given → Told
 numbers_tell p count come given =
-    if come == count then says p (item.Encodings (unwrap_or given.first Raw) given.copyrect)
+    if come == count then says p (item.Encodings (unwrap_or given.first Raw) given.copyrect given.resize)
     else keeps p (encodings count come given [])
 
 -- the bytes of the next number

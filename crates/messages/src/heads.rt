@@ -146,6 +146,7 @@ fn encodings_head(count: u16) -> Head
         Head::Item(Item::Encodings {
             preferred: Encoding::Raw,
             copyrect: false,
+            resize: false,
         })
     } else {
         Head::Encodings(count)

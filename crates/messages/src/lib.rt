@@ -23,6 +23,7 @@ pub use ear::{Change, Ear, Prepared};
 pub use laws::{keeps_enough, keeps_the_fault, reads_in_pieces, reads_the_stream};
 use listed::Listed;
 pub use opening::{Desktop, greetings, put_greeting};
+pub use partial::DESKTOP_SIZE;
 use pixel_translate::{Area, PixelFormat};
 pub use reading::phase_after;
 pub use writers::{
@@ -71,14 +72,23 @@ pub enum Item {
     /// The security type None (RFC 6143 section 7.1.2). Version 3.3 has no choice.
     Choice,
     /// ClientInit (RFC 6143 section 7.3.1). A flag is true where it isn't 0.
-    Init { shared: bool },
+    Init {
+        shared: bool,
+    },
     /// SetPixelFormat (RFC 6143 section 7.5.1).
     Format(PixelFormat),
     /// SetEncodings (RFC 6143 section 7.5.2): the first of Raw, RRE and Hextile in the list, Raw where there is none,
-    /// and whether CopyRect is listed.
-    Encodings { preferred: Encoding, copyrect: bool },
+    /// whether CopyRect is listed, and whether DesktopSize is, which tells the viewer a new size (7.8.2).
+    Encodings {
+        preferred: Encoding,
+        copyrect: bool,
+        resize: bool,
+    },
     /// FramebufferUpdateRequest (RFC 6143 section 7.5.3). The area may lie off the framebuffer.
-    Request { incremental: bool, area: Area },
+    Request {
+        incremental: bool,
+        area: Area,
+    },
     /// KeyEvent, PointerEvent or ClientCutText.
     Input(Input),
 }

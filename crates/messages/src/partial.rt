@@ -13,6 +13,9 @@ use crate::{Encoding, Fault, Item};
 use arrayvec::ArrayVec;
 use std::alloc::{AllocError, Global};
 
+/// The number of DesktopSize (RFC 6143 section 7.8.2).
+pub const DESKTOP_SIZE: i32 = -223;
+
 /// A list of encodings whose count has come.
 #[derive(Debug, Drop)]
 pub struct Numbers {
@@ -24,6 +27,8 @@ pub struct Numbers {
     pub first: Option<Encoding>,
     /// Whether CopyRect is among them.
     pub copyrect: bool,
+    /// Whether DesktopSize is.
+    pub resize: bool,
     /// The bytes of the next one.
     pub next: ArrayVec<u8, 4>,
 }
@@ -60,6 +65,7 @@ impl Numbers {
             come: 0,
             first: None,
             copyrect: false,
+            resize: false,
             next: ArrayVec::new(),
         }
     }
@@ -73,6 +79,7 @@ impl Numbers {
         self.come += 1;
         self.first = self.first.or(encoding_named(number));
         self.copyrect = self.copyrect || number == 1;
+        self.resize = self.resize || number == DESKTOP_SIZE;
         self.next.clear();
     }
 
@@ -102,11 +109,12 @@ impl Numbers {
 
     /// What the list says.
     pub fn item(&self) -> Item
-        ensures { result ≡ item.Encodings (unwrap_or self.now.first Raw) self.now.copyrect }
+        ensures { result ≡ item.Encodings (unwrap_or self.now.first Raw) self.now.copyrect self.now.resize }
     {
         Item::Encodings {
             preferred: self.first.unwrap_or(Encoding::Raw),
             copyrect: self.copyrect,
+            resize: self.resize,
         }
     }
 }
@@ -133,6 +141,7 @@ impl Partial {
                 come: numbers.come,
                 first: numbers.first,
                 copyrect: numbers.copyrect,
+                resize: numbers.resize,
                 next: copied_bytes(&numbers.next),
             }),
             Partial::Text(text) => Partial::Text(text.try_clone(alloc)?),

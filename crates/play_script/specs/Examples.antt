@@ -4,10 +4,10 @@ use Rattle.std.specs.Fmt.{digits}
 use Rattle.messages.specs.declared.Input.TheVariants as input
 use Rattle.messages.specs.declared.Fault.TheVariants as fault
 use Rattle.scene.specs.declared.History.TheVariants.{NotKept}
-use Rattle.scene.specs.declared.Event.TheVariants.{Paint, Mark, DoCopy, Bell, CutText, Connect, Hear}
+use Rattle.scene.specs.declared.Event.TheVariants.{Paint, Mark, DoCopy, Bell, CutText, Resize, Connect, Hear}
 use Rattle.play_script.specs.declared.lines.Line.TheVariants.{Skipped, Start, Do, Bad}
 use Rattle.play_script.specs.Words.{lines_of, words_of, number, viewer_number, hex_bytes, hex_colours}
-use Rattle.play_script.specs.Lines.{line_of, config_of, places_of, pixels_of, corners_of, move_of, hear_of}
+use Rattle.play_script.specs.Lines.{line_of, config_of, places_of, pixels_of, corners_of, move_of, size_in, hear_of}
 use Rattle.play_script.specs.Texts.{closed, input_line}
 use Rattle.play_script.specs.Transcript.{transcript, status_of}
 
@@ -116,6 +116,18 @@ copy_line = refl
 too_far : line_of (codes "schedule 1 0 4 1 -2147483648 0") ≡ Bad
 unfolding corners_of move_of
 too_far = refl
+
+resize_line : line_of (codes "resize 6 2") ≡ Do (Resize 6 2)
+unfolding size_in
+resize_line = refl
+
+no_rows : line_of (codes "resize 6") ≡ Bad
+no_rows = refl
+
+-- a refused size, behind which the script goes on
+refused_size : transcript (codes "screen 4 1 demo\nresize 0 1\nresize 2 1\n") ≡ codes "ok\nrefused 1 BadSize\nok\n"
+unfolding config_of size_in
+refused_size = refl
 
 two_signs : line_of (codes "schedule 1 0 4 1 --1 0") ≡ Bad
 unfolding corners_of move_of

@@ -33,11 +33,12 @@ verb_of w =
     else (if bytes_eq w (codes "docopy") then Some verb.DoCopy
     else (if bytes_eq w (codes "bell") then Some verb.Bell
     else (if bytes_eq w (codes "cuttext") then Some verb.CutText
+    else (if bytes_eq w (codes "resize") then Some verb.Resize
     else (if bytes_eq w (codes "connect") then Some verb.Connect
     else (if bytes_eq w (codes "hear") then Some verb.Hear
     else (if bytes_eq w (codes "cut") then Some verb.Cut
     else (if bytes_eq w (codes "close") then Some verb.Close
-    else None)))))))))))
+    else None))))))))))))
 
 -- screen W H NAME [LIMIT]
 
@@ -127,6 +128,16 @@ bell_of ws = if length ws == 1 then Some event.Bell else None
 abbrev pub text_of : List (List ℕ) → Option Event
 text_of ws = if length ws == 2 then option_map (λ text. event.CutText text) (hex_bytes (word ws 1)) else None
 
+-- resize W H
+unfoldable pub size_in : List (List ℕ) → Option Event
+size_in ws = do
+  width ← number (word ws 1)
+  height ← number (word ws 2)
+  Some (event.Resize width height)
+
+abbrev pub resize_of : List (List ℕ) → Option Event
+resize_of ws = if length ws == 3 then size_in ws else None
+
 -- hear V HEX
 unfoldable pub hear_of : List (List ℕ) → Option Event
 hear_of ws = do
@@ -156,6 +167,7 @@ command_of (Some verb.Schedule) ws = done_by (schedule_of ws)
 command_of (Some verb.DoCopy) ws = done_by (copy_of ws)
 command_of (Some verb.Bell) ws = done_by (bell_of ws)
 command_of (Some verb.CutText) ws = done_by (text_of ws)
+command_of (Some verb.Resize) ws = done_by (resize_of ws)
 command_of (Some verb.Connect) ws = done_by (option_map (λ v. event.Connect v) (only_viewer ws))
 command_of (Some verb.Hear) ws = done_by (if length ws == 3 then hear_of ws else None)
 command_of (Some verb.Cut) ws = done_by (option_map (λ v. event.Cut v) (only_viewer ws))

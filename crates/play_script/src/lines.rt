@@ -3,7 +3,7 @@ ghost use Rattle.scene.specs.declared.Config.{Config};
 ghost use Rattle.play_script.specs.Words.{words_of};
 ghost use Rattle.play_script.specs.Lines.{is_skipped, verb_of, name_of, limit_of, config_of, places_by, places_of, spread};
 ghost use Rattle.play_script.specs.Lines.{only_viewer, started_by, done_by, pixels_of, paint_of, write_of, corners_of, mark_of};
-ghost use Rattle.play_script.specs.Lines.{move_of, schedule_of, copy_of, bell_of, text_of, hear_of, line_of};
+ghost use Rattle.play_script.specs.Lines.{move_of, schedule_of, copy_of, bell_of, text_of, size_in, resize_of, hear_of, line_of};
 
 use crate::hex::{hex_bytes, hex_colours};
 use crate::words::{NUMBER_LIMIT, number, signed, viewer_number, word, word_count};
@@ -36,6 +36,7 @@ enum Verb {
     DoCopy,
     Bell,
     CutText,
+    Resize,
     Connect,
     Hear,
     Cut,
@@ -91,6 +92,7 @@ fn verb_of(word: &[u8]) -> Option<Verb>
         b"docopy" => Some(Verb::DoCopy),
         b"bell" => Some(Verb::Bell),
         b"cuttext" => Some(Verb::CutText),
+        b"resize" => Some(Verb::Resize),
         b"connect" => Some(Verb::Connect),
         b"hear" => Some(Verb::Hear),
         b"cut" => Some(Verb::Cut),
@@ -349,6 +351,20 @@ fn text_line(alloc: Global, line: &[u8]) -> Result<Line, AllocError>
     }))
 }
 
+// resize W H
+#[tactic(auto, unfolding(crate::specs::Lines::size_in))]
+fn resize_line(line: &[u8]) -> Line
+    ensures { result ≡ done_by (resize_of (words_of line.now)) }
+{
+    if word_count(line) != 3 {
+        return Line::Bad;
+    }
+    match (number(word(line, 1)), number(word(line, 2))) {
+        (Some(width), Some(height)) => Line::Do(Event::Resize { width, height }),
+        _ => Line::Bad,
+    }
+}
+
 // hear V HEX
 #[tactic(auto, unfolding(crate::specs::Lines::hear_of))]
 fn hear_line(alloc: Global, line: &[u8]) -> Result<Line, AllocError>
@@ -407,6 +423,7 @@ pub fn parse_line(alloc: Global, line: &[u8]) -> Result<Line, AllocError>
         Verb::DoCopy => copy_line(alloc, line),
         Verb::Bell => Ok(bell_line(line)),
         Verb::CutText => text_line(alloc, line),
+        Verb::Resize => Ok(resize_line(line)),
         Verb::Connect => Ok(done_by(only_viewer(line).map(|viewer| Event::Connect { viewer }))),
         Verb::Hear => hear_line(alloc, line),
         Verb::Cut => Ok(done_by(only_viewer(line).map(|viewer| Event::Cut { viewer }))),

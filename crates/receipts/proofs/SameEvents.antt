@@ -9,7 +9,7 @@ use Rattle.std.proofs.lemmas.Bool.Decides.{Decides-eqb, Decides-int_eq}
 use Rattle.std.proofs.lemmas.Slice.Eq.{slice_eq-Decides}
 use Rattle.region.specs.declared.Rect.{Rect}
 use Rattle.scene.specs.declared.Event.{Event}
-use Rattle.scene.specs.declared.Event.TheVariants.{Write, Paint, Mark, ScheduleCopy, DoCopy, Bell, CutText, Connect, Hear, Cut, Close}
+use Rattle.scene.specs.declared.Event.TheVariants.{Write, Paint, Mark, ScheduleCopy, DoCopy, Bell, CutText, Resize, Connect, Hear, Cut, Close}
 use Rattle.receipts.specs.Differences.{same_rect, same_event}
 
 same_sides : (r s : Rect) → r.x1 ≡ s.x1 → r.y1 ≡ s.y1 → r.x2 ≡ s.x2 → r.y2 ≡ s.y2 → r ≡ s
@@ -55,6 +55,7 @@ event_tells (DoCopy rects dx dy) (DoCopy others x y) h =
     let one = (rects-Decides rects others).0 q.0 in let two = int_tells dx x q.1 in let three = int_tells dy y p.1 in cc
 event_tells Bell Bell h = refl
 event_tells (CutText text) (CutText other) h = ap CutText ((numbers-Decides text other).0 h)
+event_tells (Resize w k) (Resize x y) h = let p = and_parts _ _ h in let one = nat_tells w x p.0 in let two = nat_tells k y p.1 in cc
 event_tells (Connect v) (Connect w) h = ap Connect (nat_tells v w h)
 event_tells (Hear v piece) (Hear w other) h = let p = and_parts _ _ h in let one = nat_tells v w p.0 in let two = (numbers-Decides piece other).0 p.1 in cc
 event_tells (Cut v) (Cut w) h = ap Cut (nat_tells v w h)
@@ -69,6 +70,7 @@ event_itself (ScheduleCopy rects dx dy) = and_from _ _ (and_from _ _ ((rects-Dec
 event_itself (DoCopy rects dx dy) = and_from _ _ (and_from _ _ ((rects-Decides rects rects).1 refl) (int_itself dx)) (int_itself dy)
 event_itself Bell = refl
 event_itself (CutText text) = (numbers-Decides text text).1 refl
+event_itself (Resize w k) = and_from _ _ (nat_itself w) (nat_itself k)
 event_itself (Connect v) = nat_itself v
 event_itself (Hear v piece) = and_from _ _ (nat_itself v) ((numbers-Decides piece piece).1 refl)
 event_itself (Cut v) = nat_itself v

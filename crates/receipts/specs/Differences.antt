@@ -4,7 +4,7 @@ use Rattle.std.specs.Ordering.{int_eq}
 use Rattle.std.specs.Cmp.Lexicographic.{pointwise}
 use Rattle.region.specs.declared.Rect.{Rect}
 use Rattle.scene.specs.declared.Event.{Event}
-use Rattle.scene.specs.declared.Event.TheVariants.{Write, Paint, Mark, ScheduleCopy, DoCopy, Bell, CutText, Connect, Hear, Cut, Close}
+use Rattle.scene.specs.declared.Event.TheVariants.{Write, Paint, Mark, ScheduleCopy, DoCopy, Bell, CutText, Resize, Connect, Hear, Cut, Close}
 
 -- the first place at which two lists differ, or the shorter one's length; none where they are equal
 abbrev pub difference : {X : Type 0} → (X → X → Bool) → List X → List X → Option ℕ
@@ -43,6 +43,7 @@ same_event (ScheduleCopy rects dx dy) (ScheduleCopy others x y) = pointwise same
 same_event (DoCopy rects dx dy) (DoCopy others x y) = pointwise same_rect rects others && int_eq dx x && int_eq dy y
 same_event Bell Bell = true
 same_event (CutText text) (CutText other) = pointwise nat_eq text other
+same_event (Resize w h) (Resize x y) = nat_eq w x && nat_eq h y
 same_event (Connect v) (Connect w) = nat_eq v w
 same_event (Hear v piece) (Hear w other) = nat_eq v w && pointwise nat_eq piece other
 same_event (Cut v) (Cut w) = nat_eq v w

@@ -79,6 +79,10 @@ pub fn same_event(a: &Event, b: &Event) -> bool
         Event::CutText { text } => {
             matches!(b, Event::CutText { text: other } if text.as_slice() == other.as_slice())
         }
+        Event::Resize { width, height } => {
+            matches!(b, Event::Resize { width: columns, height: rows }
+                if width == columns && height == rows)
+        }
         Event::Connect { viewer } => {
             matches!(b, Event::Connect { viewer: other } if viewer == other)
         }

@@ -5,22 +5,20 @@ use Rattle.std.specs.List.{filter_map, cons_option, list_any}
 use Rattle.std.proofs.lemmas.Bool.Decides.{Decides-eqb}
 use Rattle.std.proofs.lemmas.List.{append-nil, append_assoc}
 use Rattle.messages.specs.Reading.{Rest}
+use Rattle.framebuffer.specs.Frame.{Frame}
 use Rattle.viewer.specs.Viewer.{Viewer}
 use Rattle.scene.specs.declared.Config.{Config}
 use Rattle.scene.specs.declared.ScreenError.{ScreenError}
 use Rattle.scene.specs.declared.Event.{Event}
-use Rattle.scene.specs.declared.Event.TheVariants.{Write, Paint, Mark, ScheduleCopy, DoCopy, Bell, CutText, Connect, Hear, Cut, Close}
+use Rattle.scene.specs.declared.Event.TheVariants.{Write, Paint, Mark, ScheduleCopy, DoCopy, Bell, CutText, Resize, Connect, Hear, Cut, Close}
 use Rattle.scene.specs.declared.Answer.{Answer}
-use Rattle.scene.specs.Alone.{One, step, own_step, draw_step, after, owner_of, drawing_refusal, empty_screen}
+use Rattle.scene.specs.Alone.{One, at_size, step, own_step, draw_step, after, owner_of, drawing_refusal, empty_screen}
 use Rattle.scene.specs.Answers.{own, is_drawing, answer_to, refused_or_nothing, picture_of, viewer_of, live_from, after_arrival, entry_of, SceneState, scene_after}
 use Rattle.scene.specs.History.{has_happened, accepted_after, accepted, accepted_is_enough, accepted_happens_again}
-use Rattle.scene.proofs.Steps.{after-append, live-append, own-drawing, drawings-drawing, filter-append}
-use Rattle.scene.proofs.Owners.{one_of, own-hit, own-miss, answer-hit, there-is}
+use Rattle.scene.proofs.Everyones.{one_of, now_at, one-picture}
+use Rattle.scene.proofs.Steps.{after-append, live-append, own-drawing, drawings-drawing, filter-append, drawn_by}
+use Rattle.scene.proofs.Owners.{own-hit, own-miss, answer-own, answer-hit, there-is}
 use Rattle.scene.proofs.Unchanged.{step_nothing}
-
--- the picture's machine
-abbrev drawn_by : Config → List Event → One
-drawn_by c es = after c (filter (λ e. is_drawing (owner_of e)) es) (empty_screen c)
 
 -- two lists that leave everything alike
 record Alike (c : Config) (a b : List Event) : Type 0 where
@@ -31,45 +29,50 @@ record Alike (c : Config) (a b : List Event) : Type 0 where
 -- ---- the same answer
 
 same_answer_by : (c : Config) (a b : List Event) (e : Event) (o : Option ℕ) → owner_of e ≡ o → Alike c a b → answer_to c a e ≡ answer_to c b e
-same_answer_by c a b e None h alike = rw h refl
+same_answer_by c a b e None h alike = rw h (ap (λ (s : One). refused_or_nothing (drawing_refusal (at_size s.picture c) e)) alike.picture)
 same_answer_by c a b e (Some v) h alike =
-    answer-hit c v a e h ∙ ap (λ (s : One). (own_step c e s s.viewer).1) (alike.viewers v) ∙ sym (answer-hit c v b e h)
+    answer-own c v a e h ∙ ap (λ (s : One). (own_step (at_size s.picture c) e s s.viewer).1) (alike.viewers v) ∙ sym (answer-own c v b e h)
 
 same_answer : (c : Config) (a b : List Event) (e : Event) → Alike c a b → answer_to c a e ≡ answer_to c b e
 same_answer c a b e alike = same_answer_by c a b e (owner_of e) refl alike
 
 -- ---- whether something happened, by the machine of one viewer or of the picture
 
-drawn-happened : (c : Config) (e : Event) (s : One) (es : List Event) → owner_of e ≡ None → has_happened e (step c e s).1 ≡ has_happened e (answer_to c es e)
-drawn-happened c (Write r l) s es h = go (drawing_refusal c (Write r l))
+drawn-happened : (c : Config) (e : Event) (s : One) (es : List Event) → owner_of e ≡ None → s.picture ≡ picture_of c es → has_happened e (step c e s).1 ≡ has_happened e (answer_to c es e)
+drawn-happened c (Write r l) s es h same = go (drawing_refusal (at_size s.picture c) (Write r l)) ∙ ap (λ (f : Frame). is_none (refused_or_nothing (drawing_refusal (at_size f c) (Write r l))).refused) same
   where
-    go : (o : Option ScreenError) → is_none (draw_step c (Write r l) s o).1.refused ≡ is_none (refused_or_nothing o).refused
+    go : (o : Option ScreenError) → is_none (draw_step (at_size s.picture c) (Write r l) s o).1.refused ≡ is_none (refused_or_nothing o).refused
     go None = refl
     go (Some q) = refl
-drawn-happened c (Paint r l) s es h = go (drawing_refusal c (Paint r l))
+drawn-happened c (Paint r l) s es h same = go (drawing_refusal (at_size s.picture c) (Paint r l)) ∙ ap (λ (f : Frame). is_none (refused_or_nothing (drawing_refusal (at_size f c) (Paint r l))).refused) same
   where
-    go : (o : Option ScreenError) → is_none (draw_step c (Paint r l) s o).1.refused ≡ is_none (refused_or_nothing o).refused
+    go : (o : Option ScreenError) → is_none (draw_step (at_size s.picture c) (Paint r l) s o).1.refused ≡ is_none (refused_or_nothing o).refused
     go None = refl
     go (Some q) = refl
-drawn-happened c (CutText t) s es h = go (drawing_refusal c (CutText t))
+drawn-happened c (CutText t) s es h same = go (drawing_refusal c (CutText t))
   where
-    go : (o : Option ScreenError) → is_none (draw_step c (CutText t) s o).1.refused ≡ is_none (refused_or_nothing o).refused
+    go : (o : Option ScreenError) → is_none (draw_step (at_size s.picture c) (CutText t) s o).1.refused ≡ is_none (refused_or_nothing o).refused
     go None = refl
     go (Some q) = refl
-drawn-happened c (Mark rects) s es h = refl
-drawn-happened c (ScheduleCopy rects dx dy) s es h = refl
-drawn-happened c (DoCopy rects dx dy) s es h = refl
-drawn-happened c Bell s es h = refl
-drawn-happened c (Connect v) s es h = absurd cc
-drawn-happened c (Hear v piece) s es h = absurd cc
-drawn-happened c (Cut v) s es h = absurd cc
-drawn-happened c (Close v) s es h = absurd cc
+drawn-happened c (Resize w k) s es h same = go (drawing_refusal c (Resize w k))
+  where
+    go : (o : Option ScreenError) → is_none (draw_step (at_size s.picture c) (Resize w k) s o).1.refused ≡ is_none (refused_or_nothing o).refused
+    go None = refl
+    go (Some q) = refl
+drawn-happened c (Mark rects) s es h same = refl
+drawn-happened c (ScheduleCopy rects dx dy) s es h same = refl
+drawn-happened c (DoCopy rects dx dy) s es h same = refl
+drawn-happened c Bell s es h same = refl
+drawn-happened c (Connect v) s es h same = absurd cc
+drawn-happened c (Hear v piece) s es h same = absurd cc
+drawn-happened c (Cut v) s es h same = absurd cc
+drawn-happened c (Close v) s es h same = absurd cc
 
-step-own : (c : Config) (v : ℕ) (e : Event) (s : One) → owner_of e ≡ Some v → (step c e s).1 ≡ (own_step c e s s.viewer).1
+step-own : (c : Config) (v : ℕ) (e : Event) (s : One) → owner_of e ≡ Some v → (step c e s).1 ≡ (own_step (at_size s.picture c) e s s.viewer).1
 step-own c v e s h = rw h refl
 
 own-happened : (c : Config) (v : ℕ) (e : Event) (es : List Event) → owner_of e ≡ Some v → has_happened e (step c e (one_of c v es)).1 ≡ has_happened e (answer_to c es e)
-own-happened c v e es h = ap (has_happened e) (step-own c v e (one_of c v es) h ∙ sym (answer-hit c v es e h))
+own-happened c v e es h = ap (has_happened e) (step-own c v e (one_of c v es) h ∙ sym (answer-own c v es e h))
 
 -- ---- an event is among a viewer's, or it isn't
 
@@ -81,7 +84,7 @@ abbrev IsMiss : ℕ → Event → Type 0
 IsMiss v e = (es : List Event) → own v (es ++ e ∷ []) ≡ own v es
 
 own-either : (c : Config) (v : ℕ) (e : Event) (o : Option ℕ) → owner_of e ≡ o → IsHit c v e ⊎ IsMiss v e
-own-either c v e None h = inl (record { joins = λ es. own-drawing v es e h; happens = λ es. drawn-happened c e (one_of c v es) es h })
+own-either c v e None h = inl (record { joins = λ es. own-drawing v es e h; happens = λ es. drawn-happened c e (one_of c v es) es h (one-picture c v es) })
 own-either c v e (Some n) h = go (n == v) refl
   where
     go : (b : Bool) → (n == v) ≡ b → IsHit c v e ⊎ IsMiss v e
@@ -127,7 +130,7 @@ viewers-stay c v es e h (inl hit) = sym (one-hit c v es e hit ∙ step_nothing c
 viewers-stay c v es e h (inr miss) = sym (one-miss c v es e miss)
 
 picture-stays : (c : Config) (es : List Event) (e : Event) (o : Option ℕ) → owner_of e ≡ o → has_happened e (answer_to c es e) ≡ false → drawn_by c es ≡ drawn_by c (es ++ e ∷ [])
-picture-stays c es e None k h = sym (drawn-hit c es e k ∙ step_nothing c e (drawn_by c es) (drawn-happened c e (drawn_by c es) es k ∙ h))
+picture-stays c es e None k h = sym (drawn-hit c es e k ∙ step_nothing c e (drawn_by c es) (drawn-happened c e (drawn_by c es) es k refl ∙ h))
 picture-stays c es e (Some v) k h = sym (drawn-miss c v es e k)
 
 filter-away : (v : ℕ) (ns : List ℕ) → list_any (λ n. n == v) ns ≡ false → filter (λ n. not (n == v)) ns ≡ ns
@@ -142,13 +145,13 @@ filter-away v (n ∷ ns) h = go (n == v) h (filter-away v ns)
 live-stays : (c : Config) (es : List Event) (e : Event) → has_happened e (answer_to c es e) ≡ false → after_arrival e (live_from [] es) ≡ live_from [] es
 live-stays c es (Connect v) h = go (viewer_of c v es) (ap (λ (a : Answer). is_none a.refused) (sym (answer-hit c v es (Connect v) refl)) ∙ h) (there-is c v es)
   where
-    go : (o : Option (Viewer (List ℕ))) → is_none (own_step c (Connect v) (one_of c v es) o).1.refused ≡ false → list_any (λ n. n == v) (live_from [] es) ≡ is_some o
+    go : (o : Option (Viewer (List ℕ))) → is_none (own_step (now_at c es) (Connect v) (one_of c v es) o).1.refused ≡ false → list_any (λ n. n == v) (live_from [] es) ≡ is_some o
         → cond (list_any (λ n. n == v) (live_from [] es)) (live_from [] es) (live_from [] es ++ v ∷ []) ≡ live_from [] es
     go None k there = absurd (true≢false k)
     go (Some w) k there = ap (λ b. cond b (live_from [] es) (live_from [] es ++ v ∷ [])) there
 live-stays c es (Close v) h = go (viewer_of c v es) (ap (λ (a : Answer). is_none a.refused) (sym (answer-hit c v es (Close v) refl)) ∙ h) (there-is c v es)
   where
-    go : (o : Option (Viewer (List ℕ))) → is_none (own_step c (Close v) (one_of c v es) o).1.refused ≡ false → list_any (λ n. n == v) (live_from [] es) ≡ is_some o
+    go : (o : Option (Viewer (List ℕ))) → is_none (own_step (now_at c es) (Close v) (one_of c v es) o).1.refused ≡ false → list_any (λ n. n == v) (live_from [] es) ≡ is_some o
         → filter (λ n. not (n == v)) (live_from [] es) ≡ live_from [] es
     go None k there = filter-away v (live_from [] es) there
     go (Some w) k there = absurd (true≢false k)
@@ -161,6 +164,7 @@ live-stays c es (ScheduleCopy rects dx dy) h = refl
 live-stays c es (DoCopy rects dx dy) h = refl
 live-stays c es Bell h = refl
 live-stays c es (CutText t) h = refl
+live-stays c es (Resize w k) h = refl
 
 alike-nothing : (c : Config) (a es : List Event) (e : Event) → has_happened e (answer_to c es e) ≡ false → Alike c a es → Alike c a (es ++ e ∷ [])
 alike-nothing c a es e h alike = record {
@@ -227,7 +231,7 @@ entries-alike c a b same (n ∷ ns) =
 
 scene-alike : (c : Config) (a b : List Event) → Alike c a b → scene_after c a ≡ scene_after c b
 scene-alike c a b alike =
-    let s : List ℕ → List (ℕ × Viewer Rest) → SceneState = λ p vs. record { config = c; picture = p; viewers = vs } in
+    let s : Frame → List (ℕ × Viewer Rest) → SceneState = λ p vs. record { config = c; picture = p; viewers = vs } in
     ap (λ (o : One). s o.picture (scene_after c a).viewers) alike.picture
     ∙ ap (s (picture_of c b)) (ap (filter_map (λ v. entry_of v (viewer_of c v a))) alike.live ∙ entries-alike c a b alike.viewers (live_from [] b))
 

@@ -7,12 +7,14 @@ use Rattle.std.proofs.lemmas.List.Elements.{filter_map-append}
 use Rattle.messages.specs.Reading.{Rest}
 use Rattle.scene.specs.declared.Config.{Config}
 use Rattle.scene.specs.declared.Event.{Event}
-use Rattle.scene.specs.declared.Event.TheVariants.{Write, Paint, Mark, ScheduleCopy, DoCopy, Bell, CutText, Connect, Hear, Cut, Close}
+use Rattle.scene.specs.declared.Event.TheVariants.{Write, Paint, Mark, ScheduleCopy, DoCopy, Bell, CutText, Resize, Connect, Hear, Cut, Close}
+use Rattle.framebuffer.specs.Frame.{Frame}
 use Rattle.viewer.specs.Viewer.{Viewer, new_viewer, kept_viewer}
 use Rattle.scene.specs.Alone.{own_step, owner_of}
 use Rattle.scene.specs.Answers.{viewer_of, picture_of, live_from, after_arrival, entry_of, SceneState, scene_after}
 use Rattle.scene.proofs.Steps.{live-append}
-use Rattle.scene.proofs.Owners.{one_of, viewer-hit, viewer-miss, picture-own, there-is}
+use Rattle.scene.proofs.Everyones.{one_of, now_at}
+use Rattle.scene.proofs.Owners.{viewer-hit, viewer-miss, picture-own, there-is}
 
 abbrev has : ℕ → List ℕ → Bool
 has v ns = list_any (λ n. n == v) ns
@@ -72,6 +74,7 @@ distinct-arrival (ScheduleCopy rects dx dy) there h = h
 distinct-arrival (DoCopy rects dx dy) there h = h
 distinct-arrival Bell there h = h
 distinct-arrival (CutText text) there h = h
+distinct-arrival (Resize w k) there h = h
 
 distinct-live : (there : List ℕ) (es : List Event) → Distinct there → Distinct (live_from there es)
 distinct-live there [] h = h
@@ -115,7 +118,7 @@ same-entries c es e v h same (n ∷ ns) =
 pub state-same : (c : Config) (es : List Event) (e : Event) (v : ℕ) → owner_of e ≡ Some v → viewer_of c v (es ++ e ∷ []) ≡ viewer_of c v es → after_arrival e (live_from [] es) ≡ live_from [] es
     → scene_after c (es ++ e ∷ []) ≡ scene_after c es
 state-same c es e v h same stays =
-    let s : List ℕ → List (ℕ × Viewer Rest) → SceneState = λ p vs. record { config = c; picture = p; viewers = vs } in
+    let s : Frame → List (ℕ × Viewer Rest) → SceneState = λ p vs. record { config = c; picture = p; viewers = vs } in
     ap (λ p. s p (scene_after c (es ++ e ∷ [])).viewers) (picture-own c v es e h)
     ∙ ap (s (picture_of c es)) (ap (filter_map (λ u. entry_of u (viewer_of c u (es ++ e ∷ [])))) (live-append [] es e ∙ stays) ∙ same-entries c es e v h same (live_from [] es))
 
@@ -130,12 +133,12 @@ all-others c es v (n ∷ ns) h =
     ∙ ap (cons_option (entry_of n (viewer_of c n es))) (all-others c es v ns parts.1)
 
 pub state-connect : (c : Config) (es : List Event) (v : ℕ) → viewer_of c v es ≡ None
-    → scene_after c (es ++ Connect v ∷ []) ≡ record { config = c; picture = (scene_after c es).picture; viewers = (scene_after c es).viewers ++ (v, kept_viewer (new_viewer c.width c.height)) ∷ [] }
+    → scene_after c (es ++ Connect v ∷ []) ≡ record { config = c; picture = (scene_after c es).picture; viewers = (scene_after c es).viewers ++ (v, kept_viewer (new_viewer (picture_of c es).width (picture_of c es).height)) ∷ [] }
 state-connect c es v absent =
-    let s : List ℕ → List (ℕ × Viewer Rest) → SceneState = λ p vs. record { config = c; picture = p; viewers = vs } in
+    let s : Frame → List (ℕ × Viewer Rest) → SceneState = λ p vs. record { config = c; picture = p; viewers = vs } in
     let new : ℕ → Option (ℕ × Viewer Rest) = λ u. entry_of u (viewer_of c u (es ++ Connect v ∷ [])) in
     let away : has v (live_from [] es) ≡ false = there-is c v es ∙ ap is_some absent in
-    let here : viewer_of c v (es ++ Connect v ∷ []) ≡ Some (new_viewer c.width c.height) = viewer-hit c v es (Connect v) refl ∙ ap (λ o. (own_step c (Connect v) (one_of c v es) o).0.viewer) absent in
+    let here : viewer_of c v (es ++ Connect v ∷ []) ≡ Some (new_viewer (picture_of c es).width (picture_of c es).height) = viewer-hit c v es (Connect v) refl ∙ ap (λ o. (own_step (now_at c es) (Connect v) (one_of c v es) o).0.viewer) absent in
     ap (λ p. s p (scene_after c (es ++ Connect v ∷ [])).viewers) (picture-own c v es (Connect v) refl)
     ∙ ap (s (picture_of c es)) (ap (filter_map new) (live-append [] es (Connect v) ∙ ap (λ b. cond b (live_from [] es) (live_from [] es ++ v ∷ [])) away)
     ∙ filter_map-append new (live_from [] es) (v ∷ [])
@@ -149,12 +152,12 @@ state-in_use c es v w there =
     (viewer-hit c v es (Connect v) refl ∙ same (viewer_of c v es) refl there)
     (ap (λ b. cond b (live_from [] es) (live_from [] es ++ v ∷ [])) (there-is c v es ∙ ap is_some there))
   where
-    same : (o : Option (Viewer (List ℕ))) → viewer_of c v es ≡ o → o ≡ Some w → (own_step c (Connect v) (one_of c v es) o).0.viewer ≡ viewer_of c v es
+    same : (o : Option (Viewer (List ℕ))) → viewer_of c v es ≡ o → o ≡ Some w → (own_step (now_at c es) (Connect v) (one_of c v es) o).0.viewer ≡ viewer_of c v es
     same None e k = absurd cc
     same (Some x) e k = refl
 
 -- what a viewer that isn't there says, or is to be sent, changes nothing
 pub state-absent : (c : Config) (es : List Event) (e : Event) (v : ℕ) → owner_of e ≡ Some v → ((there : List ℕ) → after_arrival e there ≡ there)
-    → (own_step c e (one_of c v es) None).0.viewer ≡ (one_of c v es).viewer → viewer_of c v es ≡ None → scene_after c (es ++ e ∷ []) ≡ scene_after c es
+    → (own_step (now_at c es) e (one_of c v es) None).0.viewer ≡ (one_of c v es).viewer → viewer_of c v es ≡ None → scene_after c (es ++ e ∷ []) ≡ scene_after c es
 state-absent c es e v h stays same absent =
-    state-same c es e v h (viewer-hit c v es e h ∙ ap (λ o. (own_step c e (one_of c v es) o).0.viewer) absent ∙ same) (stays (live_from [] es))
+    state-same c es e v h (viewer-hit c v es e h ∙ ap (λ o. (own_step (now_at c es) e (one_of c v es) o).0.viewer) absent ∙ same) (stays (live_from [] es))

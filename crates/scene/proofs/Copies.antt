@@ -14,10 +14,8 @@ use Rattle.region.specs.RegionView.{RegionView}
 use Rattle.copy_schedule.specs.Marks.{copied_by}
 use Rattle.copy_schedule.specs.Log.{IsCutEntry}
 use Rattle.copy_schedule.specs.declared.LogEntry.TheVariants.{Copy}
-use Rattle.viewer_list.specs.Viewers.{drawn}
-use Rattle.scene.specs.declared.Config.{Config}
+use Rattle.viewer_list.specs.Viewers.{drawn, IsOfSize}
 use Rattle.viewer.specs.Viewer.{KeptViewer, does_nothing, viewer_copied}
-use Rattle.scene.specs.Consistent.{IsSized}
 
 -- ---- whether a copy does something
 
@@ -71,13 +69,13 @@ inside : (a b c : Bool) → (a && b && c) ≡ true → (b && c) ≡ true
 inside true b c e = e
 inside false b c e = absurd cc
 
-pub all-cut : (c : Config) (set : ℤ → ℤ → Bool) (region : RegionView) (dx dy : ℤ) (seats : List KeptViewer) → covers region.list ≡ cut_destination c.width c.height set (dx, dy) → All (IsSized c) seats
+pub all-cut : (w h : ℕ) (set : ℤ → ℤ → Bool) (region : RegionView) (dx dy : ℤ) (seats : List KeptViewer) → covers region.list ≡ cut_destination w h set (dx, dy) → All (IsOfSize w h) seats
     → All (λ s. IsCutEntry s.marks.width s.marks.height (Copy region dx dy)) seats
-all-cut c set region dx dy seats places sized = λ k d below x y is.
+all-cut w h set region dx dy seats places sized = λ k d below x y is.
     let size = sized k d below in
-    ap (λ w. on_screen w (slice_index_or seats k d).marks.height x y && on_screen w (slice_index_or seats k d).marks.height (x -ℤ dx) (y -ℤ dy)) size.width
-    ∙ ap (λ h. on_screen c.width h x y && on_screen c.width h (x -ℤ dx) (y -ℤ dy)) size.height
-    ∙ inside (set x y) (on_screen c.width c.height x y) (on_screen c.width c.height (x -ℤ dx) (y -ℤ dy)) (ap (λ (f : ℤ → ℤ → Bool). f x y) (sym places) ∙ is)
+    ap (λ n. on_screen n (slice_index_or seats k d).marks.height x y && on_screen n (slice_index_or seats k d).marks.height (x -ℤ dx) (y -ℤ dy)) size.width
+    ∙ ap (λ n. on_screen w n x y && on_screen w n (x -ℤ dx) (y -ℤ dy)) size.height
+    ∙ inside (set x y) (on_screen w h x y) (on_screen w h (x -ℤ dx) (y -ℤ dy)) (ap (λ (f : ℤ → ℤ → Bool). f x y) (sym places) ∙ is)
 
 -- ---- the viewers
 

@@ -10,7 +10,8 @@ use Rattle.scene.specs.declared.Event.{Event}
 use Rattle.viewer.specs.Viewer.{KeptViewer, Viewer, viewer_marked}
 use Rattle.viewer_list.specs.Viewers.{drawn as told_of}
 use Rattle.viewer_list.specs.SizeLemmas.{drawn_size}
-use Rattle.scene.specs.Alone.{drawing_refusal, drawn, shown_drawing, owner_of}
+use Rattle.framebuffer.specs.Frame.{Frame}
+use Rattle.scene.specs.Alone.{at_size, drawing_refusal, drawn, shown_drawing, owner_of}
 use Rattle.scene.specs.Answers.{SceneState, scene_after}
 use Rattle.scene.specs.Consistent.{IsSized}
 use Rattle.scene.proofs.Owing.{unmarked}
@@ -25,50 +26,48 @@ entries-changed c e g [] each = refl
 entries-changed c e g (pair ∷ pairs) each = ap (λ v. (pair.0, v) ∷ changed g pairs) (each pair.1) ∙ ap (λ l. redrawn c e pair ∷ l) (entries-changed c e g pairs each)
 
 -- the screen after a drawing call changed the picture and each seat
-pub state-drawn : (config kept_config : Config) (picture new_picture : List ℕ) (pairs : List (ℕ × KeptViewer)) (g : KeptViewer → KeptViewer) (e : Event) (es : List Event) → owner_of e ≡ None → drawing_refusal kept_config e ≡ None
-    → new_picture ≡ drawn kept_config e picture → IsShown kept_config e g
-    → record { config = kept_config; picture = picture; viewers = pairs } ≡ scene_after config es
-    → record { config = kept_config; picture = new_picture; viewers = changed g pairs } ≡ scene_after config (es ++ e ∷ [])
-state-drawn config kept_config picture new_picture pairs g e es everyone accepted painted each h =
-    let same : kept_config ≡ config = ap (λ (s : SceneState). s.config) h in
-    let s : List ℕ → List (ℕ × Viewer Rest) → SceneState = λ p vs. record { config = kept_config; picture = p; viewers = vs } in
+pub state-drawn : (config made : Config) (picture new_picture : Frame) (pairs : List (ℕ × KeptViewer)) (g : KeptViewer → KeptViewer) (e : Event) (es : List Event) → owner_of e ≡ None → drawing_refusal (at_size picture made) e ≡ None
+    → new_picture ≡ drawn e picture → IsShown (at_size picture made) e g
+    → record { config = made; picture = picture; viewers = pairs } ≡ scene_after config es
+    → record { config = made; picture = new_picture; viewers = changed g pairs } ≡ scene_after config (es ++ e ∷ [])
+state-drawn config made picture new_picture pairs g e es everyone accepted painted each h =
+    let s : Frame → List (ℕ × Viewer Rest) → SceneState = λ p vs. record { config = made; picture = p; viewers = vs } in
     ap (λ p. s p (changed g pairs)) painted
-    ∙ ap (s (drawn kept_config e picture)) (entries-changed kept_config e g pairs each)
-    ∙ ap (λ c. record { config = kept_config; picture = drawn c e picture; viewers = map (redrawn c e) pairs }) same
-    ∙ ap (λ (was : SceneState). record { config = was.config; picture = drawn config e was.picture; viewers = map (redrawn config e) was.viewers }) h
-    ∙ sym (state-drawing config es e (everyone, ap (λ c. drawing_refusal c e) (sym same) ∙ accepted))
+    ∙ ap (s (drawn e picture)) (entries-changed (at_size picture made) e g pairs each)
+    ∙ ap (λ (was : SceneState). record { config = was.config; picture = drawn e was.picture; viewers = map (redrawn (at_size was.picture was.config) e) was.viewers }) h
+    ∙ sym (state-drawing config es e (everyone, sym (ap (λ (was : SceneState). drawing_refusal (at_size was.picture was.config) e) h) ∙ accepted))
 
 -- the same where there is no viewer
-pub state-nobody : (config kept_config : Config) (picture new_picture : List ℕ) (pairs : List (ℕ × KeptViewer)) (e : Event) (es : List Event) → pairs ≡ [] → owner_of e ≡ None → drawing_refusal kept_config e ≡ None
-    → new_picture ≡ drawn kept_config e picture
-    → record { config = kept_config; picture = picture; viewers = pairs } ≡ scene_after config es
-    → record { config = kept_config; picture = new_picture; viewers = pairs } ≡ scene_after config (es ++ e ∷ [])
-state-nobody config kept_config picture new_picture pairs e es nobody everyone accepted painted h =
-    let s : List ℕ → List (ℕ × KeptViewer) → SceneState = λ p vs. record { config = kept_config; picture = p; viewers = vs } in
+pub state-nobody : (config made : Config) (picture new_picture : Frame) (pairs : List (ℕ × KeptViewer)) (e : Event) (es : List Event) → pairs ≡ [] → owner_of e ≡ None → drawing_refusal (at_size picture made) e ≡ None
+    → new_picture ≡ drawn e picture
+    → record { config = made; picture = picture; viewers = pairs } ≡ scene_after config es
+    → record { config = made; picture = new_picture; viewers = pairs } ≡ scene_after config (es ++ e ∷ [])
+state-nobody config made picture new_picture pairs e es nobody everyone accepted painted h =
+    let s : Frame → List (ℕ × KeptViewer) → SceneState = λ p vs. record { config = made; picture = p; viewers = vs } in
     ap (s new_picture) nobody
-    ∙ state-drawn config kept_config picture new_picture [] (λ v. shown_drawing kept_config e (is_open_rest v.heard) v) e es everyone accepted painted (λ v. refl) (ap (s picture) (sym nobody) ∙ h)
+    ∙ state-drawn config made picture new_picture [] (λ v. shown_drawing (at_size picture made) e (is_open_rest v.heard) v) e es everyone accepted painted (λ v. refl) (ap (s picture) (sym nobody) ∙ h)
 
 -- the same where no seat changes
-pub state-unseen : (config kept_config : Config) (picture new_picture : List ℕ) (pairs : List (ℕ × KeptViewer)) (e : Event) (es : List Event) → owner_of e ≡ None → drawing_refusal kept_config e ≡ None
-    → new_picture ≡ drawn kept_config e picture → IsShown kept_config e (λ s. s)
-    → record { config = kept_config; picture = picture; viewers = pairs } ≡ scene_after config es
-    → record { config = kept_config; picture = new_picture; viewers = pairs } ≡ scene_after config (es ++ e ∷ [])
-state-unseen config kept_config picture new_picture pairs e es everyone accepted painted each h =
-    ap (λ (l : List (ℕ × KeptViewer)). record { config = kept_config; picture = new_picture; viewers = l }) (sym (all_same pairs))
-    ∙ state-drawn config kept_config picture new_picture pairs (λ s. s) e es everyone accepted painted each h
+pub state-unseen : (config made : Config) (picture new_picture : Frame) (pairs : List (ℕ × KeptViewer)) (e : Event) (es : List Event) → owner_of e ≡ None → drawing_refusal (at_size picture made) e ≡ None
+    → new_picture ≡ drawn e picture → IsShown (at_size picture made) e (λ s. s)
+    → record { config = made; picture = picture; viewers = pairs } ≡ scene_after config es
+    → record { config = made; picture = new_picture; viewers = pairs } ≡ scene_after config (es ++ e ∷ [])
+state-unseen config made picture new_picture pairs e es everyone accepted painted each h =
+    ap (λ (l : List (ℕ × KeptViewer)). record { config = made; picture = new_picture; viewers = l }) (sym (all_same pairs))
+    ∙ state-drawn config made picture new_picture pairs (λ s. s) e es everyone accepted painted each h
   where
     all_same : (pairs : List (ℕ × KeptViewer)) → changed (λ s. s) pairs ≡ pairs
     all_same [] = refl
     all_same (pair ∷ pairs) = ap (λ (l : List (ℕ × KeptViewer)). pair ∷ l) (all_same pairs)
 
 -- the same where no place is drawn: each viewer's marks stay
-pub state-empty : (config kept_config : Config) (picture new_picture : List ℕ) (pairs : List (ℕ × KeptViewer)) (set : ℤ → ℤ → Bool) (e : Event) (es : List Event) → owner_of e ≡ None → drawing_refusal kept_config e ≡ None
-    → new_picture ≡ drawn kept_config e picture → IsShown kept_config e (viewer_marked set) → ((x y : ℤ) → set x y ≡ false) → All (IsSized kept_config) (values_of pairs)
-    → record { config = kept_config; picture = picture; viewers = pairs } ≡ scene_after config es
-    → record { config = kept_config; picture = new_picture; viewers = pairs } ≡ scene_after config (es ++ e ∷ [])
-state-empty config kept_config picture new_picture pairs set e es everyone accepted painted each none sized h =
-    ap (λ (l : List (ℕ × KeptViewer)). record { config = kept_config; picture = new_picture; viewers = l }) (sym (unmarked set pairs none (λ k d below. (sized k d below).whole)))
-    ∙ state-drawn config kept_config picture new_picture pairs (viewer_marked set) e es everyone accepted painted each h
+pub state-empty : (config made : Config) (picture new_picture : Frame) (pairs : List (ℕ × KeptViewer)) (set : ℤ → ℤ → Bool) (e : Event) (es : List Event) → owner_of e ≡ None → drawing_refusal (at_size picture made) e ≡ None
+    → new_picture ≡ drawn e picture → IsShown (at_size picture made) e (viewer_marked set) → ((x y : ℤ) → set x y ≡ false) → All (IsSized (at_size picture made)) (values_of pairs)
+    → record { config = made; picture = picture; viewers = pairs } ≡ scene_after config es
+    → record { config = made; picture = new_picture; viewers = pairs } ≡ scene_after config (es ++ e ∷ [])
+state-empty config made picture new_picture pairs set e es everyone accepted painted each none sized h =
+    ap (λ (l : List (ℕ × KeptViewer)). record { config = made; picture = new_picture; viewers = l }) (sym (unmarked set pairs none (λ k d below. (sized k d below).whole)))
+    ∙ state-drawn config made picture new_picture pairs (viewer_marked set) e es everyone accepted painted each h
 
 pub values-changed : (g : KeptViewer → KeptViewer) (pairs : List (ℕ × KeptViewer)) → values_of (changed g pairs) ≡ map g (values_of pairs)
 values-changed g [] = refl

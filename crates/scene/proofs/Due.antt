@@ -8,12 +8,13 @@ use Rattle.scene.specs.declared.Config.{Config}
 use Rattle.scene.specs.declared.ScreenError.{ScreenError}
 use Rattle.scene.specs.declared.ScreenError.TheVariants as refusals
 use Rattle.scene.specs.declared.Event.{Event}
-use Rattle.scene.specs.declared.Event.TheVariants.{Write, Paint, Mark, ScheduleCopy, DoCopy, Bell, CutText, Connect, Hear, Cut, Close}
+use Rattle.scene.specs.declared.Event.TheVariants.{Write, Paint, Mark, ScheduleCopy, DoCopy, Bell, CutText, Resize, Connect, Hear, Cut, Close}
 use Rattle.scene.specs.declared.Answer.{Answer}
-use Rattle.scene.specs.Alone.{own_step, drawing_refusal, settled, is_within}
+use Rattle.scene.specs.Alone.{own_step, drawing_refusal, settled, is_size, is_within}
 use Rattle.scene.specs.Answers.{viewer_of, entry_of, refused_or_nothing, answer_to, SceneState, scene_after}
 use Rattle.scene.specs.Refusals.{viewer_at, absence, presence, refusal, Refuses}
-use Rattle.scene.proofs.Owners.{one_of, answer-hit, state-find}
+use Rattle.scene.proofs.Everyones.{one_of, now_at}
+use Rattle.scene.proofs.Owners.{answer-hit, state-find}
 use Rattle.scene.proofs.Connected.{found-viewer}
 
 -- what a screen keeps of a viewer with a number
@@ -30,37 +31,38 @@ drawing-due : (o : Option ScreenError) → (refused_or_nothing o).refused ≡ o
 drawing-due None = refl
 drawing-due (Some e) = refl
 
-own-due : (c : Config) (es : List Event) (e : Event) (v : ℕ) (due : Option KeptViewer → Option ScreenError) → answer_to c es e ≡ (own_step c e (one_of c v es) (viewer_of c v es)).1
-    → ((o : Option (Viewer (List ℕ))) → (own_step c e (one_of c v es) o).1.refused ≡ due (option_map kept_viewer o)) → (answer_to c es e).refused ≡ due (viewer_at (scene_after c es) v)
+own-due : (c : Config) (es : List Event) (e : Event) (v : ℕ) (due : Option KeptViewer → Option ScreenError) → answer_to c es e ≡ (own_step (now_at c es) e (one_of c v es) (viewer_of c v es)).1
+    → ((o : Option (Viewer (List ℕ))) → (own_step (now_at c es) e (one_of c v es) o).1.refused ≡ due (option_map kept_viewer o)) → (answer_to c es e).refused ≡ due (viewer_at (scene_after c es) v)
 own-due c es e v due hit each = ap (λ (a : Answer). a.refused) hit ∙ each (viewer_of c v es) ∙ sym (ap due (kept-at c es v))
 
 -- an event is answered the refusal that is due
 pub refused-as-due : (c : Config) (es : List Event) (e : Event) → (answer_to c es e).refused ≡ refusal (scene_after c es) e
-refused-as-due c es (Write r colours) = drawing-due (drawing_refusal c (Write r colours))
-refused-as-due c es (Paint r colours) = drawing-due (drawing_refusal c (Paint r colours))
+refused-as-due c es (Write r colours) = drawing-due (drawing_refusal (now_at c es) (Write r colours))
+refused-as-due c es (Paint r colours) = drawing-due (drawing_refusal (now_at c es) (Paint r colours))
 refused-as-due c es (Mark rects) = refl
 refused-as-due c es (ScheduleCopy rects dx dy) = refl
 refused-as-due c es (DoCopy rects dx dy) = refl
 refused-as-due c es Bell = refl
-refused-as-due c es (CutText text) = drawing-due (drawing_refusal c (CutText text))
+refused-as-due c es (CutText text) = drawing-due (drawing_refusal (now_at c es) (CutText text))
+refused-as-due c es (Resize w h) = drawing-due (drawing_refusal (now_at c es) (Resize w h))
 refused-as-due c es (Connect v) = own-due c es (Connect v) v presence (answer-hit c v es (Connect v) refl) each
   where
-    each : (o : Option (Viewer (List ℕ))) → (own_step c (Connect v) (one_of c v es) o).1.refused ≡ presence (option_map kept_viewer o)
+    each : (o : Option (Viewer (List ℕ))) → (own_step (now_at c es) (Connect v) (one_of c v es) o).1.refused ≡ presence (option_map kept_viewer o)
     each None = refl
     each (Some w) = refl
 refused-as-due c es (Hear v piece) = own-due c es (Hear v piece) v absence (answer-hit c v es (Hear v piece) refl) each
   where
-    each : (o : Option (Viewer (List ℕ))) → (own_step c (Hear v piece) (one_of c v es) o).1.refused ≡ absence (option_map kept_viewer o)
+    each : (o : Option (Viewer (List ℕ))) → (own_step (now_at c es) (Hear v piece) (one_of c v es) o).1.refused ≡ absence (option_map kept_viewer o)
     each None = refl
     each (Some w) = refl
 refused-as-due c es (Cut v) = own-due c es (Cut v) v absence (answer-hit c v es (Cut v) refl) each
   where
-    each : (o : Option (Viewer (List ℕ))) → (own_step c (Cut v) (one_of c v es) o).1.refused ≡ absence (option_map kept_viewer o)
+    each : (o : Option (Viewer (List ℕ))) → (own_step (now_at c es) (Cut v) (one_of c v es) o).1.refused ≡ absence (option_map kept_viewer o)
     each None = refl
     each (Some w) = refl
 refused-as-due c es (Close v) = own-due c es (Close v) v absence (answer-hit c v es (Close v) refl) each
   where
-    each : (o : Option (Viewer (List ℕ))) → (own_step c (Close v) (one_of c v es) o).1.refused ≡ absence (option_map kept_viewer o)
+    each : (o : Option (Viewer (List ℕ))) → (own_step (now_at c es) (Close v) (one_of c v es) o).1.refused ≡ absence (option_map kept_viewer o)
     each None = refl
     each (Some w) = refl
 
@@ -69,6 +71,10 @@ pixels-due : (a b : Bool) → cond a (Some refusals.BadRect) (cond b (Some refus
 pixels-due true b e = cc
 pixels-due false true e = cc
 pixels-due false false e = cc
+
+size-due : (b : Bool) → cond b None (Some refusals.BadSize) ≡ Some refusals.OutOfMemory → ⊥
+size-due true e = cc
+size-due false e = cc
 
 text-due : (b : Bool) → cond b (Some refusals.TextTooLong) None ≡ Some refusals.OutOfMemory → ⊥
 text-due true e = cc
@@ -83,13 +89,14 @@ absence-due None e = cc
 absence-due (Some w) e = cc
 
 pub not-memory : (s : SceneState) (e : Event) → refusal s e ≡ Some refusals.OutOfMemory → ⊥
-not-memory s (Write r colours) h = pixels-due (not (is_within s.config r)) (not (length colours == nat_abs (r.x2 -ℤ r.x1) * nat_abs (r.y2 -ℤ r.y1))) h
-not-memory s (Paint r colours) h = pixels-due (not (is_within s.config r)) (not (length colours == nat_abs (r.x2 -ℤ r.x1) * nat_abs (r.y2 -ℤ r.y1))) h
+not-memory s (Write r colours) h = pixels-due (not (is_within s.picture.width s.picture.height r)) (not (length colours == nat_abs (r.x2 -ℤ r.x1) * nat_abs (r.y2 -ℤ r.y1))) h
+not-memory s (Paint r colours) h = pixels-due (not (is_within s.picture.width s.picture.height r)) (not (length colours == nat_abs (r.x2 -ℤ r.x1) * nat_abs (r.y2 -ℤ r.y1))) h
 not-memory s (Mark rects) h = cc
 not-memory s (ScheduleCopy rects dx dy) h = cc
 not-memory s (DoCopy rects dx dy) h = cc
 not-memory s Bell h = cc
 not-memory s (CutText text) h = text-due (nat_lt 65536 (length text)) h
+not-memory s (Resize w k) h = size-due (is_size w k) h
 not-memory s (Connect v) h = presence-due (viewer_at s v) h
 not-memory s (Hear v piece) h = absence-due (viewer_at s v) h
 not-memory s (Cut v) h = absence-due (viewer_at s v) h

@@ -1,4 +1,5 @@
 mod Opened
+mod Everyones
 mod Steps
 mod Owners
 mod Alike
@@ -22,3 +23,4 @@ mod Due
 mod OnlyOne
 mod Unchanged
 mod Accepted
+mod Resized

@@ -17,11 +17,9 @@ use Rattle.copy_schedule.specs.declared.Mark.TheVariants.{Clean, Owed}
 use Rattle.region.specs.Places.{cut_destination}
 use Rattle.copy_schedule.specs.Marks.{Marks, mark_at, marked}
 use Rattle.framebuffer.specs.Picture.{straight, places_in}
-use Rattle.scene.specs.declared.Config.{Config}
 use Rattle.viewer.specs.Viewer.{KeptViewer, viewer_marked}
-use Rattle.viewer_list.specs.Viewers.{IsWhole}
+use Rattle.viewer_list.specs.Viewers.{IsWhole, IsOfSize}
 use Rattle.viewer_list.specs.SizeLemmas.{marked_none}
-use Rattle.scene.specs.Consistent.{IsSized}
 use Rattle.scene.proofs.Kept.{all-head, all-tail}
 
 on_it : (w h k : ℕ) → 0 < w → k < w * h → on_screen w h (pos (k % w)) (pos (k / w)) ≡ true
@@ -51,18 +49,18 @@ cut-same w h set x y on =
     both b = elim b as (λ t. ((t && true) && true) ≡ t) [ true ↦ refl | _ ↦ refl ]
 
 -- a set that is as another on the screen
-pub owed-same : (c : Config) (set cut : ℤ → ℤ → Bool) (pairs : List (ℕ × KeptViewer)) → 1 ≤ c.width → ((x y : ℤ) → on_screen c.width c.height x y ≡ true → cut x y ≡ set x y) → All (IsSized c) (values_of pairs)
+pub owed-same : (w h : ℕ) (set cut : ℤ → ℤ → Bool) (pairs : List (ℕ × KeptViewer)) → 1 ≤ w → ((x y : ℤ) → on_screen w h x y ≡ true → cut x y ≡ set x y) → All (IsOfSize w h) (values_of pairs)
     → changed (viewer_marked cut) pairs ≡ changed (viewer_marked set) pairs
-owed-same c set cut [] some same sized = refl
-owed-same c set cut (pair ∷ pairs) some same sized =
-    let size = all-head (IsSized c) pair.1 (values_of pairs) sized in
+owed-same w h set cut [] some same sized = refl
+owed-same w h set cut (pair ∷ pairs) some same sized =
+    let size = all-head (IsOfSize w h) pair.1 (values_of pairs) sized in
     ap (λ (m : Marks). (pair.0, record pair.1 { marks = m }) ∷ changed (viewer_marked cut) pairs)
-    (marked-same pair.1.marks cut set (omega (arith, size.width, some)) (λ x y on. same x y (sym (ap (λ w. on_screen w pair.1.marks.height x y) size.width ∙ ap (λ h. on_screen c.width h x y) size.height) ∙ on)))
-    ∙ ap (λ (l : List (ℕ × KeptViewer)). (pair.0, viewer_marked set pair.1) ∷ l) (owed-same c set cut pairs some same (all-tail (IsSized c) pair.1 (values_of pairs) sized))
+    (marked-same pair.1.marks cut set (omega (arith, size.width, some)) (λ x y on. same x y (sym (ap (λ n. on_screen n pair.1.marks.height x y) size.width ∙ ap (λ n. on_screen w n x y) size.height) ∙ on)))
+    ∙ ap (λ (l : List (ℕ × KeptViewer)). (pair.0, viewer_marked set pair.1) ∷ l) (owed-same w h set cut pairs some same (all-tail (IsOfSize w h) pair.1 (values_of pairs) sized))
 
-pub owed-cut : (c : Config) (set cut : ℤ → ℤ → Bool) (pairs : List (ℕ × KeptViewer)) → 1 ≤ c.width → cut ≡ cut_destination c.width c.height set (pos 0, pos 0) → All (IsSized c) (values_of pairs)
+pub owed-cut : (w h : ℕ) (set cut : ℤ → ℤ → Bool) (pairs : List (ℕ × KeptViewer)) → 1 ≤ w → cut ≡ cut_destination w h set (pos 0, pos 0) → All (IsOfSize w h) (values_of pairs)
     → changed (viewer_marked cut) pairs ≡ changed (viewer_marked set) pairs
-owed-cut c set cut pairs some is sized = owed-same c set cut pairs some (λ x y on. ap (λ (f : ℤ → ℤ → Bool). f x y) is ∙ cut-same c.width c.height set x y on) sized
+owed-cut w h set cut pairs some is sized = owed-same w h set cut pairs some (λ x y on. ap (λ (f : ℤ → ℤ → Bool). f x y) is ∙ cut-same w h set x y on) sized
 
 -- a region that is cut to the screen
 pub cut-region : (w h : ℕ) (here : ℤ → ℤ → Bool) (cut : ℤ → ℤ → Bool) → ((x y : ℤ) → cut x y ≡ (here x y && on_screen w h x y)) → (x y : ℤ) → on_screen w h x y ≡ true → cut x y ≡ here x y

@@ -7,14 +7,16 @@ use Rattle.messages.specs.Reading.{Rest, rest, new_items}
 use Rattle.scene.specs.declared.Config.{Config}
 use Rattle.scene.specs.declared.ScreenError.{ScreenError}
 use Rattle.scene.specs.declared.Event.{Event}
-use Rattle.scene.specs.declared.Event.TheVariants.{Write, Paint, Mark, ScheduleCopy, DoCopy, Bell, CutText, Connect, Hear, Cut, Close}
+use Rattle.scene.specs.declared.Event.TheVariants.{Write, Paint, Mark, ScheduleCopy, DoCopy, Bell, CutText, Resize, Connect, Hear, Cut, Close}
 use Rattle.messages.specs.declared.Item.{Item}
 use Rattle.messages.specs.declared.Item.TheVariants as item
+use Rattle.framebuffer.specs.Frame.{Frame}
 use Rattle.viewer.specs.Viewer.{Viewer, is_open_viewer, after_item, kept_viewer}
-use Rattle.scene.specs.Alone.{One, step, own_step, draw_step, after, answers_from, alone, owner_of, drawing_refusal, drawn, shown_drawing, hearing, empty_screen, nothing_to_say, refuses}
+use Rattle.scene.specs.Alone.{One, at_size, step, own_step, draw_step, after, answers_from, alone, owner_of, drawing_refusal, drawn, shown_drawing, hearing, empty_screen, nothing_to_say, refuses}
 use Rattle.viewer.specs.Hearing.{after_items}
 use Rattle.scene.specs.Answers.{own, is_owner, is_drawing, last_of, answer_to, picture_of, viewer_of, live_from, after_arrival, entry_of, SceneState, scene_after}
 use Rattle.scene.specs.declared.ScreenError.TheVariants as refusals
+use Rattle.scene.proofs.Everyones.{one_of, now_at, own-picture, one-picture}
 use Rattle.scene.proofs.Steps.{after-append, filter-append, live-append}
 
 -- ---- the answer to the last event
@@ -23,10 +25,6 @@ last-answers : (c : Config) (es : List Event) (e : Event) (s : One) → last_of 
 last-answers c [] e s = refl
 last-answers c (a ∷ []) e s = refl
 last-answers c (a ∷ b ∷ es) e s = last-answers c (b ∷ es) e (step c a s).0
-
--- the screen of one viewer alone
-abbrev pub one_of : Config → ℕ → List Event → One
-one_of c v es = after c (own v es) (empty_screen c)
 
 same : (v : ℕ) → eqb v v ≡ true
 same v = (Decides-eqb v v).1 refl
@@ -41,11 +39,17 @@ append-nil (x ∷ xs) = ap (λ l. x ∷ l) (append-nil xs)
 pub own-miss : (u v : ℕ) (es : List Event) (e : Event) → owner_of e ≡ Some v → (v == u) ≡ false → own u (es ++ e ∷ []) ≡ own u es
 own-miss u v es e h n = filter-append (λ a. is_owner u (owner_of a)) es e ∙ ap (λ o. own u es ++ cond (is_owner u o) (e ∷ []) []) h ∙ ap (λ b. own u es ++ cond b (e ∷ []) []) n ∙ append-nil (own u es)
 
-pub answer-hit : (c : Config) (v : ℕ) (es : List Event) (e : Event) → owner_of e ≡ Some v → answer_to c es e ≡ (own_step c e (one_of c v es) (viewer_of c v es)).1
-answer-hit c v es e h = rw h (ap (λ l. last_of (alone c l)) (own-hit v es e h) ∙ last-answers c (own v es) e (empty_screen c) ∙ rw h refl)
+pub answer-own : (c : Config) (v : ℕ) (es : List Event) (e : Event) → owner_of e ≡ Some v → answer_to c es e ≡ (own_step (at_size (one_of c v es).picture c) e (one_of c v es) (viewer_of c v es)).1
+answer-own c v es e h = rw h (ap (λ l. last_of (alone c l)) (own-hit v es e h) ∙ last-answers c (own v es) e (empty_screen c) ∙ rw h refl)
 
-pub viewer-hit : (c : Config) (v : ℕ) (es : List Event) (e : Event) → owner_of e ≡ Some v → viewer_of c v (es ++ e ∷ []) ≡ (own_step c e (one_of c v es) (viewer_of c v es)).0.viewer
-viewer-hit c v es e h = ap (λ l. (after c l (empty_screen c)).viewer) (own-hit v es e h) ∙ ap (λ (s : One). s.viewer) (after-append c (own v es) e (empty_screen c)) ∙ rw h refl
+pub answer-hit : (c : Config) (v : ℕ) (es : List Event) (e : Event) → owner_of e ≡ Some v → answer_to c es e ≡ (own_step (now_at c es) e (one_of c v es) (viewer_of c v es)).1
+answer-hit c v es e h = answer-own c v es e h
+    ∙ ap (λ f. (own_step (at_size f c) e (one_of c v es) (viewer_of c v es)).1) (one-picture c v es)
+
+pub viewer-hit : (c : Config) (v : ℕ) (es : List Event) (e : Event) → owner_of e ≡ Some v → viewer_of c v (es ++ e ∷ []) ≡ (own_step (now_at c es) e (one_of c v es) (viewer_of c v es)).0.viewer
+viewer-hit c v es e h =
+    ap (λ l. (after c l (empty_screen c)).viewer) (own-hit v es e h) ∙ ap (λ (s : One). s.viewer) (after-append c (own v es) e (empty_screen c)) ∙ rw h refl
+    ∙ ap (λ f. (own_step (at_size f c) e (one_of c v es) (viewer_of c v es)).0.viewer) (one-picture c v es)
 
 pub viewer-miss : (c : Config) (u v : ℕ) (es : List Event) (e : Event) → owner_of e ≡ Some v → (v == u) ≡ false → viewer_of c u (es ++ e ∷ []) ≡ viewer_of c u es
 viewer-miss c u v es e h n = ap (λ l. (after c l (empty_screen c)).viewer) (own-miss u v es e h n)
@@ -156,23 +160,24 @@ by-owner P n v hit miss = go (n == v) refl
 
 there-step : (c : Config) (v : ℕ) (e : Event) (s : One) (there : List ℕ) → has v there ≡ is_some s.viewer → has v (after_arrival e there) ≡ is_some (passed c v e s).viewer
 unfolding passed
-there-step c v (Paint r colours) s there h = h ∙ sym (drawn-there c (Paint r colours) s (drawing_refusal c (Paint r colours)))
-there-step c v (Write r colours) s there h = h ∙ sym (drawn-there c (Write r colours) s (drawing_refusal c (Write r colours)))
-there-step c v (Mark rects) s there h = h ∙ sym (drawn-there c (Mark rects) s (drawing_refusal c (Mark rects)))
-there-step c v (ScheduleCopy rects dx dy) s there h = h ∙ sym (drawn-there c (ScheduleCopy rects dx dy) s (drawing_refusal c (ScheduleCopy rects dx dy)))
-there-step c v (DoCopy rects dx dy) s there h = h ∙ sym (drawn-there c (DoCopy rects dx dy) s (drawing_refusal c (DoCopy rects dx dy)))
-there-step c v Bell s there h = h ∙ sym (drawn-there c Bell s (drawing_refusal c Bell))
-there-step c v (CutText text) s there h = h ∙ sym (drawn-there c (CutText text) s (drawing_refusal c (CutText text)))
+there-step c v (Paint r colours) s there h = h ∙ sym (drawn-there (at_size s.picture c) (Paint r colours) s (drawing_refusal (at_size s.picture c) (Paint r colours)))
+there-step c v (Write r colours) s there h = h ∙ sym (drawn-there (at_size s.picture c) (Write r colours) s (drawing_refusal (at_size s.picture c) (Write r colours)))
+there-step c v (Mark rects) s there h = h ∙ sym (drawn-there (at_size s.picture c) (Mark rects) s (drawing_refusal (at_size s.picture c) (Mark rects)))
+there-step c v (ScheduleCopy rects dx dy) s there h = h ∙ sym (drawn-there (at_size s.picture c) (ScheduleCopy rects dx dy) s (drawing_refusal (at_size s.picture c) (ScheduleCopy rects dx dy)))
+there-step c v (DoCopy rects dx dy) s there h = h ∙ sym (drawn-there (at_size s.picture c) (DoCopy rects dx dy) s (drawing_refusal (at_size s.picture c) (DoCopy rects dx dy)))
+there-step c v Bell s there h = h ∙ sym (drawn-there (at_size s.picture c) Bell s (drawing_refusal (at_size s.picture c) Bell))
+there-step c v (CutText text) s there h = h ∙ sym (drawn-there (at_size s.picture c) (CutText text) s (drawing_refusal (at_size s.picture c) (CutText text)))
+there-step c v (Resize w k) s there h = h ∙ sym (drawn-there (at_size s.picture c) (Resize w k) s (drawing_refusal (at_size s.picture c) (Resize w k)))
 there-step c v (Connect n) s there h = by-owner (λ b. has v (after_arrival (Connect n) there) ≡ is_some (cond b (step c (Connect n) s).0 s).viewer) n v
-    (λ e. ap (λ m. has m (after_arrival (Connect n) there)) (sym e) ∙ connect-has n there ∙ sym (connect-there c n s))
+    (λ e. ap (λ m. has m (after_arrival (Connect n) there)) (sym e) ∙ connect-has n there ∙ sym (connect-there (at_size s.picture c) n s))
     (λ other. connect-has_other v n there other ∙ h)
 there-step c v (Close n) s there h = by-owner (λ b. has v (after_arrival (Close n) there) ≡ is_some (cond b (step c (Close n) s).0 s).viewer) n v
-    (λ e. ap (λ m. has m (after_arrival (Close n) there)) (sym e) ∙ has-without_same n there ∙ sym (close-there c n s))
+    (λ e. ap (λ m. has m (after_arrival (Close n) there)) (sym e) ∙ has-without_same n there ∙ sym (close-there (at_size s.picture c) n s))
     (λ other. has-without_other v n there other ∙ h)
 there-step c v (Hear n piece) s there h = by-owner (λ b. has v there ≡ is_some (cond b (step c (Hear n piece) s).0 s).viewer) n v
-    (λ e. h ∙ sym (hear-there c n piece s)) (λ other. h)
+    (λ e. h ∙ sym (hear-there (at_size s.picture c) n piece s)) (λ other. h)
 there-step c v (Cut n) s there h = by-owner (λ b. has v there ≡ is_some (cond b (step c (Cut n) s).0 s).viewer) n v
-    (λ e. h ∙ sym (cut-there c n s)) (λ other. h)
+    (λ e. h ∙ sym (cut-there (at_size s.picture c) n s)) (λ other. h)
 
 after-own : (c : Config) (v : ℕ) (e : Event) (es : List Event) (s : One) → after c (own v (e ∷ es)) s ≡ after c (own v es) (passed c v e s)
 unfolding passed
@@ -217,7 +222,7 @@ entries-close c es v (n ∷ ns) =
 
 pub state-close : (c : Config) (es : List Event) (v : ℕ) → scene_after c (es ++ Close v ∷ []) ≡ record { config = c; picture = (scene_after c es).picture; viewers = filter (λ p. not (p.0 == v)) (scene_after c es).viewers }
 state-close c es v =
-    let s : List ℕ → List (ℕ × Viewer Rest) → SceneState = λ p vs. record { config = c; picture = p; viewers = vs } in
+    let s : Frame → List (ℕ × Viewer Rest) → SceneState = λ p vs. record { config = c; picture = p; viewers = vs } in
     ap (λ p. s p (scene_after c (es ++ Close v ∷ [])).viewers) (picture-own c v es (Close v) refl)
     ∙ ap (s (picture_of c es)) (ap (filter_map (λ u. entry_of u (viewer_of c u (es ++ Close v ∷ [])))) (live-append [] es (Close v)) ∙ entries-close c es v (live_from [] es))
 
@@ -252,55 +257,9 @@ state-has c es v = entries-has c es v (live_from [] es) ∙ ap (λ b. b && is_so
 pub answer-close : (c : Config) (es : List Event) (v : ℕ) → answer_to c es (Close v) ≡ cond (list_any (λ p. p.0 == v) (scene_after c es).viewers) nothing_to_say (refuses refusals.NoViewer)
 answer-close c es v = answer-hit c v es (Close v) refl ∙ go (viewer_of c v es) ∙ sym (ap (λ b. cond b nothing_to_say (refuses refusals.NoViewer)) (state-has c es v))
   where
-    go : (o : Option (Viewer (List ℕ))) → (own_step c (Close v) (one_of c v es) o).1 ≡ cond (is_some o) nothing_to_say (refuses refusals.NoViewer)
+    go : (o : Option (Viewer (List ℕ))) → (own_step (now_at c es) (Close v) (one_of c v es) o).1 ≡ cond (is_some o) nothing_to_say (refuses refusals.NoViewer)
     go None = refl
     go (Some w) = refl
-
--- ---- the picture is everyone's
-
-pub own-picture : (c : Config) (e : Event) (s : One) (o : Option (Viewer (List ℕ))) → (own_step c e s o).0.picture ≡ s.picture
-own-picture c (Connect n) s None = refl
-own-picture c (Connect n) s (Some v) = refl
-own-picture c (Hear n piece) s (Some v) = refl
-own-picture c (Hear n piece) s None = refl
-own-picture c (Cut n) s (Some v) = refl
-own-picture c (Cut n) s None = refl
-own-picture c (Close n) s (Some v) = refl
-own-picture c (Close n) s None = refl
-own-picture c (Paint r colours) s None = refl
-own-picture c (Paint r colours) s (Some v) = refl
-own-picture c (Write r colours) s None = refl
-own-picture c (Write r colours) s (Some v) = refl
-own-picture c (Mark rects) s None = refl
-own-picture c (Mark rects) s (Some v) = refl
-own-picture c (ScheduleCopy rects dx dy) s None = refl
-own-picture c (ScheduleCopy rects dx dy) s (Some v) = refl
-own-picture c (DoCopy rects dx dy) s None = refl
-own-picture c (DoCopy rects dx dy) s (Some v) = refl
-own-picture c Bell s None = refl
-own-picture c Bell s (Some v) = refl
-own-picture c (CutText text) s None = refl
-own-picture c (CutText text) s (Some v) = refl
-
-draw-picture : (c : Config) (e : Event) (s t : One) (r : Option ScreenError) → s.picture ≡ t.picture → (draw_step c e s r).0.picture ≡ (draw_step c e t r).0.picture
-draw-picture c e s t None h = ap (drawn c e) h
-draw-picture c e s t (Some x) h = h
-
-same-picture : (c : Config) (v : ℕ) (es : List Event) (s t : One) → s.picture ≡ t.picture → (after c (own v es) s).picture ≡ (after c (filter (λ a. is_drawing (owner_of a)) es) t).picture
-same-picture c v [] s t h = h
-same-picture c v (e ∷ es) s t h = go (owner_of e) refl (λ s' t' k. same-picture c v es s' t' k)
-  where
-    go : (o : Option ℕ) → owner_of e ≡ o → ((s' t' : One) → s'.picture ≡ t'.picture → (after c (own v es) s').picture ≡ (after c (filter (λ a. is_drawing (owner_of a)) es) t').picture)
-        → (after c (cond (is_owner v o) (e ∷ own v es) (own v es)) s).picture ≡ (after c (cond (is_drawing o) (e ∷ filter (λ a. is_drawing (owner_of a)) es) (filter (λ a. is_drawing (owner_of a)) es)) t).picture
-    go None k rest = rest (step c e s).0 (step c e t).0 (rw k (draw-picture c e s t (drawing_refusal c e) h))
-    go (Some n) k rest = elim (n == v) as (λ b. (after c (cond b (e ∷ own v es) (own v es)) s).picture ≡ (after c (filter (λ a. is_drawing (owner_of a)) es) t).picture) [
-      | true ↦ rest (step c e s).0 t (rw k (own-picture c e s s.viewer ∙ h))
-      | false ↦ rest s t h
-    ]
-
--- the picture that a viewer is sent from is the screen's
-pub one-picture : (c : Config) (v : ℕ) (es : List Event) → (one_of c v es).picture ≡ picture_of c es
-one-picture c v es = same-picture c v es (empty_screen c) (empty_screen c) refl
 
 -- ---- an event that changes one viewer, which is there and stays
 
@@ -338,7 +297,7 @@ Stays e = (there : List ℕ) → after_arrival e there ≡ there
 pub state-own : (c : Config) (es : List Event) (e : Event) (v : ℕ) (was now : Viewer (List ℕ)) → owner_of e ≡ Some v → Stays e → viewer_of c v es ≡ Some was → viewer_of c v (es ++ e ∷ []) ≡ Some now
     → scene_after c (es ++ e ∷ []) ≡ record { config = c; picture = (scene_after c es).picture; viewers = map (replaced v (kept_viewer now)) (scene_after c es).viewers }
 state-own c es e v was now h stays before behind =
-    let s : List ℕ → List (ℕ × Viewer Rest) → SceneState = λ p vs. record { config = c; picture = p; viewers = vs } in
+    let s : Frame → List (ℕ × Viewer Rest) → SceneState = λ p vs. record { config = c; picture = p; viewers = vs } in
     ap (λ p. s p (scene_after c (es ++ e ∷ [])).viewers) (picture-own c v es e h)
     ∙ ap (s (picture_of c es)) (ap (filter_map (λ u. entry_of u (viewer_of c u (es ++ e ∷ [])))) (live-append [] es e ∙ stays (live_from [] es)) ∙ entries-own c es e v was now h before behind (live_from [] es))
 
@@ -381,7 +340,7 @@ kept-items c (i ∷ items) v = kept-items c items (after_item c.width c.height i
     kept-item w h item.Choice v = refl
     kept-item w h (item.Init shared) v = refl
     kept-item w h (item.Format f) v = refl
-    kept-item w h (item.Encodings preferred copyrect) v = refl
+    kept-item w h (item.Encodings preferred copyrect resize) v = refl
     kept-item w h (item.Request incremental area) v = refl
     kept-item w h (item.Input input) v = refl
 
@@ -390,14 +349,14 @@ pub state-hear : (c : Config) (es : List Event) (v : ℕ) (piece : List ℕ) (wa
     → scene_after c (es ++ Hear v piece ∷ []) ≡ record {
       config = c;
       picture = (scene_after c es).picture;
-      viewers = map (replaced v (after_items c.width c.height (new_items was.heard piece) (record (kept_viewer was) { heard = rest (was.heard ++ piece) }))) (scene_after c es).viewers;
+      viewers = map (replaced v (after_items (now_at c es).width (now_at c es).height (new_items was.heard piece) (record (kept_viewer was) { heard = rest (was.heard ++ piece) }))) (scene_after c es).viewers;
     }
 state-hear c es v piece was h =
     let items = new_items was.heard piece in
-    let now : Viewer (List ℕ) = after_items c.width c.height items (record was { heard = was.heard ++ piece }) in
+    let now : Viewer (List ℕ) = after_items (now_at c es).width (now_at c es).height items (record was { heard = was.heard ++ piece }) in
     let s : Viewer Rest → SceneState = λ w. record { config = c; picture = (scene_after c es).picture; viewers = map (replaced v w) (scene_after c es).viewers } in
-    state-own c es (Hear v piece) v was now refl (λ there. refl) h (viewer-hit c v es (Hear v piece) refl ∙ ap (λ o. (own_step c (Hear v piece) (one_of c v es) o).0.viewer) h)
-    ∙ ap s (kept-items c items (record was { heard = was.heard ++ piece }))
+    state-own c es (Hear v piece) v was now refl (λ there. refl) h (viewer-hit c v es (Hear v piece) refl ∙ ap (λ o. (own_step (now_at c es) (Hear v piece) (one_of c v es) o).0.viewer) h)
+    ∙ ap s (kept-items (now_at c es) items (record was { heard = was.heard ++ piece }))
 
-pub answer-hear : (c : Config) (es : List Event) (v : ℕ) (piece : List ℕ) (was : Viewer (List ℕ)) → viewer_of c v es ≡ Some was → answer_to c es (Hear v piece) ≡ (hearing c piece was).1
-answer-hear c es v piece was h = answer-hit c v es (Hear v piece) refl ∙ ap (λ o. (own_step c (Hear v piece) (one_of c v es) o).1) h
+pub answer-hear : (c : Config) (es : List Event) (v : ℕ) (piece : List ℕ) (was : Viewer (List ℕ)) → viewer_of c v es ≡ Some was → answer_to c es (Hear v piece) ≡ (hearing (now_at c es) piece was).1
+answer-hear c es v piece was h = answer-hit c v es (Hear v piece) refl ∙ ap (λ o. (own_step (now_at c es) (Hear v piece) (one_of c v es) o).1) h

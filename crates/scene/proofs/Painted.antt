@@ -12,9 +12,9 @@ use Rattle.std.proofs.lemmas.List.Folds.{list_any_at}
 use Rattle.region.specs.declared.Rect.{Rect}
 use Rattle.region.specs.Region.{in_rect, on_screen}
 use Rattle.region.specs.Places.{by_place, some_place, cut_destination, same_offset}
-use Rattle.copy_schedule.specs.Marks.{Marks, copied_by}
+use Rattle.copy_schedule.specs.Marks.{Marks, asked_at, copied_by, resized}
 use Rattle.region.specs.PlaceLemmas.{value_on, is_place}
-use Rattle.framebuffer.specs.Picture.{colour_at, written, copied_colours, places_in, colour_in}
+use Rattle.framebuffer.specs.Picture.{blank, colour_at, written, copied_colours, places_in, colour_in}
 use Rattle.viewer_picture.specs.Messages.{may_come}
 use Rattle.viewer_picture.specs.MarkLemmas.{Shows, recoloured, marked-shows, moved-shows}
 use Rattle.scene.specs.declared.Config.{Config}
@@ -24,11 +24,12 @@ use Rattle.scene.specs.declared.ScreenError.TheVariants as refusals
 use Rattle.viewer.specs.declared.notices.Notice.{Notice}
 use Rattle.viewer.specs.declared.notices.Notice.TheVariants as notice
 use Rattle.viewer.specs.Short.{IsShort}
-use Rattle.viewer.specs.Viewer.{Viewer, is_open_viewer, with_notice, viewer_copied, does_nothing}
-use Rattle.scene.specs.Alone.{owner_of, drawing_refusal, drawn, shown_drawing}
+use Rattle.viewer.specs.Viewer.{Viewer, is_open_viewer, with_notice, viewer_copied, viewer_resized, in_view, does_nothing}
+use Rattle.framebuffer.specs.Frame.{Frame, blank_frame}
+use Rattle.scene.specs.Alone.{owner_of, at_size, drawing_refusal, drawn, shown_drawing}
 use Rattle.scene.specs.Shown.{Watching}
 use Rattle.scene.specs.Pictures.{is_told}
-use Rattle.scene.proofs.Pictured.{Watches, on-it}
+use Rattle.scene.proofs.Pictured.{Watches, on-it, all-owed-shows}
 
 -- ---- colours
 
@@ -105,17 +106,23 @@ text-short n false e f = grind (arith, nat_tests)
 
 -- ---- drawing calls
 
-module _ (T : Type 0) (c : Config) (picture : List ℕ) (v : Viewer (List ℕ)) (s : Watching) (h : Watches T c picture v s) where
+module _ (T : Type 0) (made : Config) (f : Frame) (v : Viewer (List ℕ)) (s : Watching) (h : Watches T (at_size f made) f.colours v s) where
+  abbrev c : Config
+  c = at_size f made
+
+  abbrev picture : List ℕ
+  picture = f.colours
+
   colour : ℤ → ℤ → ℕ
   colour = colour_at c.width c.height picture
 
-  -- other marks of the same size, which show the colours
-  remarked : (now : List ℕ) (marks : Marks) → marks.width ≡ v.marks.width → marks.height ≡ v.marks.height → Shows T (may_come s.agreed.listed (pos 1) ≡ true) (colour_at c.width c.height now) marks s.shown → Watches T c now (record v { marks = marks }) s
-  remarked now marks wide high shows = record {
+  -- other marks of the same size, for which the same is asked, and which show the colours
+  remarked : (now : List ℕ) (marks : Marks) → marks.width ≡ v.marks.width → marks.height ≡ v.marks.height → ((x y : ℤ) → asked_at marks x y ≡ asked_at v.marks x y) → Shows T (may_come s.agreed.listed (pos 1) ≡ true) (colour_at c.width c.height now) marks s.shown → Watches T c now (record v { marks = marks }) s
+  remarked now marks wide high same shows = record {
     said = h.said;
     legal = h.legal;
     short = h.short;
-    follows = record { format = h.follows.format; early = h.follows.early; told = h.follows.told; encoding = h.follows.encoding; copyrect = h.follows.copyrect; width = wide ∙ h.follows.width; height = high ∙ h.follows.height; map = h.follows.map; shows = shows };
+    follows = record { format = h.follows.format; early = h.follows.early; told = h.follows.told; encoding = h.follows.encoding; copyrect = h.follows.copyrect; sizes = h.follows.sizes; asked = λ x y e. h.follows.asked x y (sym (same x y) ∙ e); width = wide ∙ h.follows.width; height = high ∙ h.follows.height; map = h.follows.map; shows = shows };
   }
 
   noticed-watched : (n : Notice) (open_now : Bool) → IsShort n → Watches T c picture (record v { notices = cond open_now (with_notice n v.notices) v.notices }) s
@@ -123,7 +130,7 @@ module _ (T : Type 0) (c : Config) (picture : List ℕ) (v : Viewer (List ℕ)) 
     said = h.said;
     legal = h.legal;
     short = noticed-short n open_now v.notices short h.short;
-    follows = record { format = h.follows.format; early = h.follows.early; told = h.follows.told; encoding = h.follows.encoding; copyrect = h.follows.copyrect; width = h.follows.width; height = h.follows.height; map = h.follows.map; shows = h.follows.shows };
+    follows = record { format = h.follows.format; early = h.follows.early; told = h.follows.told; encoding = h.follows.encoding; copyrect = h.follows.copyrect; sizes = h.follows.sizes; asked = h.follows.asked; width = h.follows.width; height = h.follows.height; map = h.follows.map; shows = h.follows.shows };
   }
 
   on : (x y : ℤ) → on_screen v.marks.width v.marks.height x y ≡ true → on_screen c.width c.height x y ≡ true
@@ -141,7 +148,7 @@ module _ (T : Type 0) (c : Config) (picture : List ℕ) (v : Viewer (List ℕ)) 
       → (b : Bool) → does_nothing c.width c.height set by ≡ b
       → Watches T c now (record v { marks = cond b v.marks (copied_by (cut_destination c.width c.height set by) by v.uses_copyrect v.marks) }) s
   unfolding colour
-  copy-watched now set by moved others unmoved true e = remarked _ v.marks refl refl (recoloured _ colour _ v.marks s.shown (λ x y there. unmoved e x y (on x y there)) h.follows.shows)
+  copy-watched now set by moved others unmoved true e = remarked _ v.marks refl refl (λ x y. refl) (recoloured _ colour _ v.marks s.shown (λ x y there. unmoved e x y (on x y there)) h.follows.shows)
   copy-watched now set by moved others unmoved false e = by-copyrect v.uses_copyrect refl
     where
       cut : ℤ → ℤ → Bool
@@ -153,9 +160,9 @@ module _ (T : Type 0) (c : Config) (picture : List ℕ) (v : Viewer (List ℕ)) 
       source false b d e = absurd cc
 
       by-copyrect : (uses : Bool) → v.uses_copyrect ≡ uses → Watches T c now (record v { marks = copied_by cut by uses v.marks }) s
-      by-copyrect true e = remarked _ _ refl refl (moved-shows _ (h.follows.copyrect e) colour _ cut by v.marks s.shown
+      by-copyrect true e = remarked _ _ refl refl (λ x y. refl) (moved-shows _ (h.follows.copyrect e) colour _ cut by v.marks s.shown
           (λ x y hit. off (x -ℤ by.0) (y -ℤ by.1) (source (set x y) (on_screen c.width c.height x y) (on_screen c.width c.height (x -ℤ by.0) (y -ℤ by.1)) hit)) (λ t x y there. moved t x y (on x y there)) h.follows.shows)
-      by-copyrect false e = remarked _ _ refl refl (marked-shows _ colour _ cut v.marks s.shown (λ x y there out. others x y (on x y there) out) h.follows.shows)
+      by-copyrect false e = remarked _ _ refl refl (λ x y. refl) (marked-shows _ colour _ cut v.marks s.shown (λ x y there out. others x y (on x y there) out) h.follows.shows)
 
   -- a copy that is drawn
   drawn-copy-watched : (set : ℤ → ℤ → Bool) (by : ℤ × ℤ) → Watches T c (copied_colours c.width c.height set by picture) (viewer_copied c.width c.height set by v) s
@@ -166,16 +173,51 @@ module _ (T : Type 0) (c : Config) (picture : List ℕ) (v : Viewer (List ℕ)) 
   untold : false ≡ true → ⊥
   untold e = cc
 
+  -- a new size: every place is owed, and of what was asked for that stays so which is seen
+  resized-watched : (w k : ℕ) → Watches T (at_size (blank_frame w k) made) (blank w k) (viewer_resized w k v) s
+  resized-watched w k = record {
+    said = h.said;
+    legal = h.legal;
+    short = h.short;
+    follows = record {
+      format = h.follows.format;
+      early = h.follows.early;
+      told = h.follows.told;
+      encoding = h.follows.encoding;
+      copyrect = h.follows.copyrect;
+      sizes = h.follows.sizes;
+      asked = seen;
+      width = refl;
+      height = refl;
+      map = h.follows.map;
+      shows = all-owed-shows T _ w k (by_place w k test) (colour_at w k (blank w k)) s.shown;
+    };
+  }
+    where
+      test : ℤ → ℤ → Bool
+      test x y = asked_at v.marks x y && in_view w k v x y
+
+      never : false ≡ true → ⊥
+      never e = cc
+
+      seen : (x y : ℤ) → asked_at (resized w k (in_view w k v) v.marks) x y ≡ true → in_view w k v x y ≡ true
+      seen x y e = go (on_screen w k x y) refl
+        where
+          go : (t : Bool) → on_screen w k x y ≡ t → in_view w k v x y ≡ true
+          go true there = (and_parts (asked_at v.marks x y) (in_view w k v x y) (sym (value_on false w k test x y there) ∙ e)).1
+          go false away = absurd (never (sym (ap (λ b. cond b (get_or (by_place w k test) (nat_abs y * w + nat_abs x) false) false) away) ∙ e))
+
   -- each drawing call; where T holds the viewers are told of it
-  pub drawing-watched : (e : Event) → owner_of e ≡ None → (T → is_told e ≡ true) → drawing_refusal c e ≡ None → Watches T c (drawn c e picture) (shown_drawing c e (is_open_viewer v) v) s
+  pub drawing-watched : (e : Event) → owner_of e ≡ None → (T → is_told e ≡ true) → drawing_refusal c e ≡ None → Watches T (at_size (drawn e f) made) (drawn e f).colours (shown_drawing c e (is_open_viewer v) v) s
   unfolding colour
-  drawing-watched (event.Paint r colours) mine told accepted = remarked _ _ refl refl (marked-shows _ colour _ (in_rect r) v.marks s.shown (λ x y there out. written-out c.width c.height r colours picture x y (on x y there) out) h.follows.shows)
-  drawing-watched (event.Mark rects) mine told accepted = remarked _ _ refl refl (marked-shows _ colour colour (places_in rects) v.marks s.shown (λ x y there out. refl) h.follows.shows)
+  drawing-watched (event.Paint r colours) mine told accepted = remarked _ _ refl refl (λ x y. refl) (marked-shows _ colour _ (in_rect r) v.marks s.shown (λ x y there out. written-out c.width c.height r colours picture x y (on x y there) out) h.follows.shows)
+  drawing-watched (event.Mark rects) mine told accepted = remarked _ _ refl refl (λ x y. refl) (marked-shows _ colour colour (places_in rects) v.marks s.shown (λ x y there out. refl) h.follows.shows)
   drawing-watched (event.DoCopy rects dx dy) mine told accepted = drawn-copy-watched (places_in rects) (dx, dy)
   drawing-watched event.Bell mine told accepted = noticed-watched notice.Bell (is_open_viewer v) tt
   drawing-watched (event.CutText text) mine told accepted = noticed-watched (notice.CutText text) (is_open_viewer v) (text-short (length text) (nat_lt 65536 (length text)) refl accepted)
-  drawing-watched (event.Write r colours) mine told accepted = remarked _ _ refl refl (record { clean = λ t. absurd (untold (told t)); copied = λ t. absurd (untold (told t)); may = h.follows.shows.may })
+  drawing-watched (event.Write r colours) mine told accepted = remarked _ _ refl refl (λ x y. refl) (record { clean = λ t. absurd (untold (told t)); copied = λ t. absurd (untold (told t)); may = h.follows.shows.may })
   drawing-watched (event.ScheduleCopy rects dx dy) mine told accepted = copy-watched picture (places_in rects) (dx, dy) (λ t. absurd (untold (told t))) (λ x y there out. refl) (λ idle x y there. refl) (does_nothing c.width c.height (places_in rects) (dx, dy)) refl
+  drawing-watched (event.Resize w k) mine told accepted = resized-watched w k
   drawing-watched (event.Connect n) mine told accepted = absurd cc
   drawing-watched (event.Hear n piece) mine told accepted = absurd cc
   drawing-watched (event.Cut n) mine told accepted = absurd cc

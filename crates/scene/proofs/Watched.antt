@@ -1,6 +1,8 @@
 -- What a viewer shows behind a piece of its bytes.
-use Rattle.std.proofs.Common.{◌≡◌, ℕ, ◌+◌, ◌<◌, ◌≤◌, ◌^◌, Bool, true, false, cond, ◌&&◌, List, [], ◌∷◌, ◌++◌, length, Option, Some, None, refl, sym, ap, subst, ◌∙◌, arith}
-use Rattle.std.specs.Prelude.{ℤ, pos, nat_abs, nat_lt, ◌≤ℤ◌}
+use Rattle.std.proofs.Common.{◌≡◌, ℕ, ◌+◌, ◌*◌, ◌<◌, ◌≤◌, ◌^◌, ◌⊎◌, inl, inr, get_or, Bool, true, false, cond, ◌&&◌, List, [], ◌∷◌, ◌++◌, length, Option, Some, None, refl, sym, ap, subst, ◌∙◌, arith}
+use Rattle.std.specs.Prelude.{ℤ, pos, negsuc, nat_abs, nat_lt, min, ◌||◌, ◌≤ℤ◌}
+use Rattle.std.proofs.lemmas.Bool.{and_parts}
+use Rattle.std.proofs.lemmas.Bool.Decides.{nat_tests}
 use Rattle.std.specs.Int.{w16, to_be_bytes, from_be_bytes}
 use Rattle.std.proofs.lemmas.Int.{ints}
 use Rattle.std.proofs.lemmas.Nat.{from_be_bytes-to_be_bytes_2, from_be_bytes-to_be_bytes_4}
@@ -20,6 +22,10 @@ use Rattle.messages.specs.declared.Phase.TheVariants as phase
 use Rattle.messages.specs.Grammar.{after}
 use Rattle.messages.specs.Reading.{heard, new_items, is_open_phase}
 use Rattle.messages.specs.Server.{server_init, answer, answers}
+use Rattle.messages.specs.Grammar.{desktop_size}
+use Rattle.copy_schedule.specs.Marks.{Marks, asked_at, asked_for}
+use Rattle.region.specs.Places.{by_place}
+use Rattle.region.specs.PlaceLemmas.{value_on}
 use Rattle.viewer_picture.specs.Messages.{may_come}
 use Rattle.viewer_picture.specs.Encodings.{number_of, taken}
 use Rattle.viewer_picture.specs.Opening.{Init, init_at}
@@ -28,7 +34,8 @@ use Rattle.viewer_picture.specs.MessageLemmas.{bytes-read}
 use Rattle.viewer_picture.specs.MarkLemmas.{Shows, uncopied-shows, allowed, asked-shows, forgotten-shows}
 use Rattle.viewer_picture.specs.ComeLemmas.{Comes, Come, phase_after, Following, following}
 use Rattle.scene.specs.declared.Config.{Config}
-use Rattle.viewer.specs.Viewer.{Viewer, area_places, after_item}
+use Rattle.viewer.specs.declared.sizes.Size.{Size}
+use Rattle.viewer.specs.Viewer.{Viewer, area_places, view_by, view_of, in_view, after_item}
 use Rattle.scene.specs.Alone.{hearing}
 use Rattle.viewer.specs.Hearing.{after_items}
 use Rattle.scene.specs.Pictures.{IsServers}
@@ -42,14 +49,16 @@ pub record Limits (c : Config) : Type 0 where
   pub limit : c.rects_per_update ≤ 1000
 
 -- A viewer reads pixels in its format, and shows its picture; before it is open its format is the server's, and from then on it
--- knows the screen's size. What it is sent may come by what it listed. Where its format has a colour map that isn't owed, it has
--- the server's. It shows its picture where T holds.
+-- goes by the size that it was told. It asks only for what it sees of the screen. What it is sent may come by what it listed. Where
+-- its format has a colour map that isn't owed, it has the server's. It shows its picture where T holds.
 pub record Follows (T : Type 0) (c : Config) (colour : ℤ → ℤ → ℕ) (p : Phase) (v : Viewer (List ℕ)) (s : Watching) : Type 0 where
   pub format : s.agreed.format ≡ v.format
-  pub early : is_open_phase p ≡ false → v.format ≡ server_format
-  pub told : is_open_phase p ≡ true → (s.agreed.width ≡ c.width) × (s.agreed.height ≡ c.height)
+  pub early : is_open_phase p ≡ false → (v.format ≡ server_format) × (v.told ≡ None)
+  pub told : is_open_phase p ≡ true → v.told ≡ Some (record { width = s.agreed.width; height = s.agreed.height })
   pub encoding : may_come s.agreed.listed (number_of v.encoding) ≡ true
   pub copyrect : v.uses_copyrect ≡ true → may_come s.agreed.listed (pos 1) ≡ true
+  pub sizes : v.takes_sizes ≡ true → may_come s.agreed.listed desktop_size ≡ true
+  pub asked : (x y : ℤ) → asked_at v.marks x y ≡ true → in_view c.width c.height v x y ≡ true
   pub width : v.marks.width ≡ c.width
   pub height : v.marks.height ≡ c.height
   pub map : is_colour_map v.format ≡ true → v.map_owed ≡ false → IsServers s.colours
@@ -66,10 +75,15 @@ init-read w h name more small =
 
 -- ---- what is asked for anew
 
-not-inside : (a : Area) (w h width height : ℕ) (shown : Shown) (x y : ℤ) → on_screen w h x y ≡ true → area_places w h a x y ≡ false
+-- what is seen of a screen: the places of the screen that are within a size too
+seen-of : (sw sh w h : ℕ) (x y : ℤ) → on_screen w h x y ≡ true → on_screen (min sw w) (min sh h) x y ≡ (nat_lt (nat_abs x) sw && nat_lt (nat_abs y) sh)
+seen-of sw sh w h (negsuc x) y on = absurd cc
+seen-of sw sh w h (pos x) (negsuc y) on = grind (arith, ints, nat_tests)
+seen-of sw sh w h (pos x) (pos y) on = grind (arith, ints, nat_tests)
+
+not-inside : (a : Area) (w h width height : ℕ) (shown : Shown) (x y : ℤ) → on_screen w h x y ≡ true → area_places (min width w) (min height h) a x y ≡ false
     → cond (is_inside a (nat_abs x) (nat_abs y) && nat_lt (nat_abs x) width && nat_lt (nat_abs y) height) None (dot_at shown x y) ≡ dot_at shown x y
-not-inside a w h width height shown x y on out =
-    ap (λ b. cond (b && nat_lt (nat_abs x) width && nat_lt (nat_abs y) height) None (dot_at shown x y)) here
+not-inside a w h width height shown x y on out = ap (λ b. cond b None (dot_at shown x y)) here
   where
     number : (w h : ℕ) (x y : ℤ) → on_screen w h x y ≡ true → (x ≡ pos (nat_abs x)) × (y ≡ pos (nat_abs y))
     number w h x y on = let low = left w h x y on in let high = top w h x y on in (omega (arith, ints, low), omega (arith, ints, high))
@@ -80,15 +94,41 @@ not-inside a w h width height shown x y on out =
         top : (w h : ℕ) (x y : ℤ) → on_screen w h x y ≡ true → pos 0 ≤ℤ y
         top w h x y on = grind (arith, ints)
 
-    and-true : (b : Bool) → b ≡ (b && true)
-    and-true true = refl
-    and-true false = refl
+    assoc : (a b d : Bool) → (a && b && d) ≡ (a && (b && d))
+    assoc true b d = refl
+    assoc false b d = refl
 
-    here : is_inside a (nat_abs x) (nat_abs y) ≡ false
+    here : (is_inside a (nat_abs x) (nat_abs y) && nat_lt (nat_abs x) width && nat_lt (nat_abs y) height) ≡ false
     here =
         let at = number w h x y on in
         let rect : Rect = record { x1 = pos a.x; y1 = pos a.y; x2 = pos (a.x + a.w); y2 = pos (a.y + a.h) } in
-        ap (λ z. in_rect rect z (pos (nat_abs y))) (sym at.0) ∙ ap (in_rect rect x) (sym at.1) ∙ and-true (in_rect rect x y) ∙ ap (λ b. in_rect rect x y && b) (sym on) ∙ out
+        let within : Bool = nat_lt (nat_abs x) width && nat_lt (nat_abs y) height in
+        assoc (is_inside a (nat_abs x) (nat_abs y)) (nat_lt (nat_abs x) width) (nat_lt (nat_abs y) height)
+        ∙ ap (λ z. in_rect rect z (pos (nat_abs y)) && within) (sym at.0) ∙ ap (λ z. in_rect rect x z && within) (sym at.1)
+        ∙ ap (λ b. in_rect rect x y && b) (sym (seen-of width height w h x y on)) ∙ out
+
+-- what is asked for anew
+asked-anew : (set : ℤ → ℤ → Bool) (m : Marks) (x y : ℤ) → asked_at (asked_for set m) x y ≡ true → (asked_at m x y ≡ true) ⊎ (set x y ≡ true)
+asked-anew set m x y e = go (on_screen m.width m.height x y) refl
+  where
+    either : (a b : Bool) → (a || b) ≡ true → (a ≡ true) ⊎ (b ≡ true)
+    either true b e = inl refl
+    either false b e = inr e
+
+    go : (t : Bool) → on_screen m.width m.height x y ≡ t → (asked_at m x y ≡ true) ⊎ (set x y ≡ true)
+    go true on = either (asked_at m x y) (set x y) (sym (value_on false m.width m.height (λ x y. asked_at m x y || set x y) x y on) ∙ e)
+    go false off = absurd (never (sym (ap (λ b. cond b (get_or (by_place m.width m.height (λ x y. asked_at m x y || set x y)) (nat_abs y * m.width + nat_abs x) false) false) off) ∙ e))
+      where
+        never : false ≡ true → ⊥
+        never k = cc
+
+-- so it is seen, where that is a part of what is seen
+asked-seen : (view : Size) (a : Area) (m : Marks) → ((x y : ℤ) → asked_at m x y ≡ true → on_screen view.width view.height x y ≡ true)
+    → (x y : ℤ) → asked_at (asked_for (area_places view.width view.height a) m) x y ≡ true → on_screen view.width view.height x y ≡ true
+asked-seen view a m seen x y e = elim (asked-anew (area_places view.width view.height a) m x y e) [
+  | inl before ↦ seen x y before
+  | inr now ↦ (and_parts (in_rect (record { x1 = pos a.x; y1 = pos a.y; x2 = pos (a.x + a.w); y2 = pos (a.y + a.h) }) x y) (on_screen view.width view.height x y) now).1
+]
 
 -- ---- one item
 
@@ -110,6 +150,8 @@ same-phase T c colour p q v s shut then-shut f = record {
   told = λ e. absurd (never (sym then-shut ∙ e));
   encoding = f.encoding;
   copyrect = f.copyrect;
+  sizes = f.sizes;
+  asked = f.asked;
   width = f.width;
   height = f.height;
   map = f.map;
@@ -120,18 +162,30 @@ same-phase T c colour p q v s shut then-shut f = record {
     never e = cc
 
 -- what is taken may come
-preferred-comes : (e : Encoding) (copyrect : Bool) → may_come (taken e copyrect) (number_of e) ≡ true
-preferred-comes encoding.Raw copyrect = refl
-preferred-comes encoding.Rre copyrect = refl
-preferred-comes encoding.Hextile copyrect = refl
+preferred-comes : (e : Encoding) (copyrect resize : Bool) → may_come (taken e copyrect resize) (number_of e) ≡ true
+preferred-comes encoding.Raw copyrect resize = refl
+preferred-comes encoding.Rre copyrect resize = refl
+preferred-comes encoding.Hextile copyrect resize = refl
 
-copyrect-comes : (e : Encoding) → may_come (taken e true) (pos 1) ≡ true
-copyrect-comes encoding.Raw = refl
-copyrect-comes encoding.Rre = refl
-copyrect-comes encoding.Hextile = refl
+copyrect-comes : (e : Encoding) (resize : Bool) → may_come (taken e true resize) (pos 1) ≡ true
+copyrect-comes encoding.Raw resize = refl
+copyrect-comes encoding.Rre resize = refl
+copyrect-comes encoding.Hextile resize = refl
+
+sizes-come : (e : Encoding) (copyrect resize : Bool) → resize ≡ true → may_come (taken e copyrect resize) desktop_size ≡ true
+sizes-come e copyrect false is = absurd cc
+sizes-come encoding.Raw true true is = refl
+sizes-come encoding.Raw false true is = refl
+sizes-come encoding.Rre true true is = refl
+sizes-come encoding.Rre false true is = refl
+sizes-come encoding.Hextile true true is = refl
+sizes-come encoding.Hextile false true is = refl
 
 size-told : (n : ℕ) → n ≤ longest_side → from_be_bytes w16 (to_be_bytes w16 n) ≡ n
 size-told n small = from_be_bytes-to_be_bytes_2 n (omega (arith, small))
+
+abbrev size : ℕ → ℕ → Size
+size w h = record { width = w; height = h }
 
 unowed : true ≡ false → ⊥
 unowed e = cc
@@ -151,11 +205,13 @@ item-read T c colour ok (phase.Init w) (item.Init shared) comes v s more f = rec
   notices = refl;
   heard = refl;
   follows = record {
-    format = sym (f.early refl);
-    early = λ e. f.early refl;
-    told = λ e. (size-told c.width ok.width, size-told c.height ok.height);
+    format = sym (f.early refl).0;
+    early = λ e. absurd cc;
+    told = λ e. sym (ap (λ (n : ℕ). Some (size n (from_be_bytes w16 (to_be_bytes w16 c.height)))) (size-told c.width ok.width) ∙ ap (λ (n : ℕ). Some (size c.width n)) (size-told c.height ok.height));
     encoding = f.encoding;
     copyrect = f.copyrect;
+    sizes = f.sizes;
+    asked = λ x y e. sym (ap (λ (t : Option Size). on_screen (view_by c.width c.height t).width (view_by c.width c.height t).height x y) (f.early refl).1) ∙ f.asked x y e;
     width = f.width;
     height = f.height;
     map = f.map;
@@ -169,10 +225,10 @@ item-read T c colour ok (phase.Open w) (item.Format g) comes v s more f = record
   legal = refl;
   notices = refl;
   heard = refl;
-  follows = record { format = refl; early = λ e. absurd cc; told = f.told; encoding = f.encoding; copyrect = f.copyrect; width = f.width; height = f.height; map = λ is paid. absurd (unowed (sym is ∙ paid)); shows = f.shows };
+  follows = record { format = refl; early = λ e. absurd cc; told = f.told; encoding = f.encoding; copyrect = f.copyrect; sizes = f.sizes; asked = f.asked; width = f.width; height = f.height; map = λ is paid. absurd (unowed (sym is ∙ paid)); shows = f.shows };
 }
-item-read T c colour ok (phase.Open w) (item.Encodings preferred true) comes v s more f = record {
-  next = record s { agreed = record s.agreed { listed = taken preferred true } };
+item-read T c colour ok (phase.Open w) (item.Encodings preferred true resize) comes v s more f = record {
+  next = record s { agreed = record s.agreed { listed = taken preferred true resize } };
   read = refl;
   said = refl;
   legal = refl;
@@ -182,16 +238,18 @@ item-read T c colour ok (phase.Open w) (item.Encodings preferred true) comes v s
     format = f.format;
     early = λ e. absurd cc;
     told = f.told;
-    encoding = preferred-comes preferred true;
-    copyrect = λ e. copyrect-comes preferred;
+    encoding = preferred-comes preferred true resize;
+    copyrect = λ e. copyrect-comes preferred resize;
+    sizes = sizes-come preferred true resize;
+    asked = f.asked;
     width = f.width;
     height = f.height;
     map = f.map;
-    shows = allowed (may_come s.agreed.listed (pos 1) ≡ true) (may_come (taken preferred true) (pos 1) ≡ true) colour v.marks s.shown (copyrect-comes preferred) f.shows;
+    shows = allowed (may_come s.agreed.listed (pos 1) ≡ true) (may_come (taken preferred true resize) (pos 1) ≡ true) colour v.marks s.shown (copyrect-comes preferred resize) f.shows;
   };
 }
-item-read T c colour ok (phase.Open w) (item.Encodings preferred false) comes v s more f = record {
-  next = record s { agreed = record s.agreed { listed = taken preferred false } };
+item-read T c colour ok (phase.Open w) (item.Encodings preferred false resize) comes v s more f = record {
+  next = record s { agreed = record s.agreed { listed = taken preferred false resize } };
   read = refl;
   said = refl;
   legal = refl;
@@ -201,12 +259,14 @@ item-read T c colour ok (phase.Open w) (item.Encodings preferred false) comes v 
     format = f.format;
     early = λ e. absurd cc;
     told = f.told;
-    encoding = preferred-comes preferred false;
+    encoding = preferred-comes preferred false resize;
     copyrect = λ e. absurd cc;
+    sizes = sizes-come preferred false resize;
+    asked = f.asked;
     width = f.width;
     height = f.height;
     map = f.map;
-    shows = uncopied-shows (may_come s.agreed.listed (pos 1) ≡ true) (may_come (taken preferred false) (pos 1) ≡ true) colour v.marks s.shown f.shows;
+    shows = uncopied-shows (may_come s.agreed.listed (pos 1) ≡ true) (may_come (taken preferred false resize) (pos 1) ≡ true) colour v.marks s.shown f.shows;
   };
 }
 item-read T c colour ok (phase.Open w) (item.Request true area) comes v s more f = record {
@@ -222,10 +282,12 @@ item-read T c colour ok (phase.Open w) (item.Request true area) comes v s more f
     told = f.told;
     encoding = f.encoding;
     copyrect = f.copyrect;
+    sizes = f.sizes;
+    asked = asked-seen (view_of c.width c.height v) area v.marks f.asked;
     width = f.width;
     height = f.height;
     map = f.map;
-    shows = asked-shows _ colour (area_places c.width c.height area) v.marks s.shown f.shows;
+    shows = asked-shows _ colour (area_places (view_of c.width c.height v).width (view_of c.width c.height v).height area) v.marks s.shown f.shows;
   };
 }
 item-read T c colour ok (phase.Open w) (item.Request false area) comes v s more f = record {
@@ -241,12 +303,15 @@ item-read T c colour ok (phase.Open w) (item.Request false area) comes v s more 
     told = f.told;
     encoding = f.encoding;
     copyrect = f.copyrect;
+    sizes = f.sizes;
+    asked = asked-seen (view_of c.width c.height v) area v.marks f.asked;
     width = f.width;
     height = f.height;
     map = f.map;
-    shows = forgotten-shows _ colour (area_places c.width c.height area) _ s.shown (forgotten area s).shown
-        (λ x y on out. not-inside area c.width c.height s.agreed.width s.agreed.height s.shown x y (sym (ap (λ n. on_screen n v.marks.height x y) f.width ∙ ap (λ n. on_screen c.width n x y) f.height) ∙ on) out)
-        (asked-shows _ colour (area_places c.width c.height area) v.marks s.shown f.shows);
+    shows = forgotten-shows _ colour (area_places (view_of c.width c.height v).width (view_of c.width c.height v).height area) _ s.shown (forgotten area s).shown
+        (λ x y on out. not-inside area c.width c.height s.agreed.width s.agreed.height s.shown x y (sym (ap (λ n. on_screen n v.marks.height x y) f.width ∙ ap (λ n. on_screen c.width n x y) f.height) ∙ on)
+        (sym (ap (λ (t : Option Size). area_places (view_by c.width c.height t).width (view_by c.width c.height t).height area x y) (f.told refl)) ∙ out))
+        (asked-shows _ colour (area_places (view_of c.width c.height v).width (view_of c.width c.height v).height area) v.marks s.shown f.shows);
   };
 }
 item-read T c colour ok (phase.Open w) (item.Input input) comes v s more f = record {
@@ -256,7 +321,7 @@ item-read T c colour ok (phase.Open w) (item.Input input) comes v s more f = rec
   legal = refl;
   notices = refl;
   heard = refl;
-  follows = record { format = f.format; early = λ e. absurd cc; told = f.told; encoding = f.encoding; copyrect = f.copyrect; width = f.width; height = f.height; map = f.map; shows = f.shows };
+  follows = record { format = f.format; early = λ e. absurd cc; told = f.told; encoding = f.encoding; copyrect = f.copyrect; sizes = f.sizes; asked = f.asked; width = f.width; height = f.height; map = f.map; shows = f.shows };
 }
 item-read T c colour ok p i comes v s more f = absurd comes
 
@@ -317,7 +382,7 @@ piece-read T c colour ok piece v s same legal f = record {
     now = following v.heard piece
 
     start : Follows T c colour (heard v.heard).phase later begun
-    start = record { format = f.format; early = f.early; told = f.told; encoding = f.encoding; copyrect = f.copyrect; width = f.width; height = f.height; map = f.map; shows = f.shows }
+    start = record { format = f.format; early = f.early; told = f.told; encoding = f.encoding; copyrect = f.copyrect; sizes = f.sizes; asked = f.asked; width = f.width; height = f.height; map = f.map; shows = f.shows }
 
     all : Items-read T c colour (heard v.heard).phase items later begun
     all = items-read T c colour ok (heard v.heard).phase items now.come later begun start

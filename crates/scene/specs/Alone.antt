@@ -10,11 +10,12 @@ use Rattle.scene.specs.declared.Config.{Config}
 use Rattle.scene.specs.declared.ScreenError.{ScreenError}
 use Rattle.scene.specs.declared.ScreenError.TheVariants as refusals
 use Rattle.scene.specs.declared.Event.{Event}
-use Rattle.scene.specs.declared.Event.TheVariants.{Write, Paint, Mark, ScheduleCopy, DoCopy, Bell, CutText, Connect, Hear, Cut, Close}
+use Rattle.scene.specs.declared.Event.TheVariants.{Write, Paint, Mark, ScheduleCopy, DoCopy, Bell, CutText, Resize, Connect, Hear, Cut, Close}
 use Rattle.scene.specs.declared.Answer.{Answer}
 use Rattle.viewer.specs.declared.notices.Notice.TheVariants as notice
-use Rattle.framebuffer.specs.Picture.{blank, written, copied_colours, places_in}
-use Rattle.viewer.specs.Viewer.{Viewer, new_viewer, is_open_viewer, noticed, viewer_marked, viewer_copied}
+use Rattle.framebuffer.specs.Frame.{Frame, blank_frame}
+use Rattle.framebuffer.specs.Picture.{written, copied_colours, places_in}
+use Rattle.viewer.specs.Viewer.{Viewer, new_viewer, is_open_viewer, noticed, viewer_marked, viewer_copied, viewer_resized}
 use Rattle.viewer.specs.declared.Reply.{Reply}
 use Rattle.viewer.specs.Hearing.{after_items, heard_reply}
 use Rattle.viewer.specs.Sending.{sending}
@@ -61,6 +62,10 @@ config_refusal c =
     else (if not (nat_le 1 c.rects_per_update && nat_le c.rects_per_update 1000) then Some refusals.BadRectLimit
     else None))
 
+-- A screen's size is its picture's. Below, c is the configuration with the size of now, as if the screen had been made with it.
+abbrev pub at_size : Frame → Config → Config
+at_size picture c = record c { width = picture.width; height = picture.height }
+
 -- Drawing calls.
 
 -- 0 <= from <= to <= limit
@@ -68,12 +73,12 @@ abbrev pub is_span : ℤ → ℤ → ℕ → Bool
 is_span from to limit = int_le (pos 0) from && int_le from to && int_le to (pos limit)
 
 -- 0 <= x1 <= x2 <= W and 0 <= y1 <= y2 <= H
-abbrev pub is_within : Config → Rect → Bool
-is_within c r = is_span r.x1 r.x2 c.width && is_span r.y1 r.y2 c.height
+abbrev pub is_within : ℕ → ℕ → Rect → Bool
+is_within w h r = is_span r.x1 r.x2 w && is_span r.y1 r.y2 h
 
-abbrev pub pixels_refusal : Config → Rect → List ℕ → Option ScreenError
-pixels_refusal c r colours =
-    if not (is_within c r) then Some refusals.BadRect
+abbrev pub pixels_refusal : ℕ → ℕ → Rect → List ℕ → Option ScreenError
+pixels_refusal w h r colours =
+    if not (is_within w h r) then Some refusals.BadRect
     else (if not (length colours == nat_abs (r.x2 -ℤ r.x1) * nat_abs (r.y2 -ℤ r.y1)) then Some refusals.BadPixelCount
     else None)
 
@@ -81,18 +86,24 @@ pixels_refusal c r colours =
 abbrev pub text_refusal : List ℕ → Option ScreenError
 text_refusal text = if nat_lt 65536 (length text) then Some refusals.TextTooLong else None
 
+-- a screen may have so many columns and rows
+abbrev pub size_refusal : ℕ → ℕ → Option ScreenError
+size_refusal w h = if is_size w h then None else Some refusals.BadSize
+
 abbrev pub drawing_refusal : Config → Event → Option ScreenError
-drawing_refusal c (Write r colours) = pixels_refusal c r colours
-drawing_refusal c (Paint r colours) = pixels_refusal c r colours
+drawing_refusal c (Write r colours) = pixels_refusal c.width c.height r colours
+drawing_refusal c (Paint r colours) = pixels_refusal c.width c.height r colours
 drawing_refusal c (CutText text) = text_refusal text
+drawing_refusal c (Resize w h) = size_refusal w h
 drawing_refusal c _ = None
 
 -- what a drawing call that is not refused does to the picture
-abbrev pub drawn : Config → Event → List ℕ → List ℕ
-drawn c (Write r colours) picture = written c.width c.height r colours picture
-drawn c (Paint r colours) picture = written c.width c.height r colours picture
-drawn c (DoCopy rects dx dy) picture = copied_colours c.width c.height (places_in rects) (dx, dy) picture
-drawn c _ picture = picture
+abbrev pub drawn : Event → Frame → Frame
+drawn (Write r colours) f = record f { colours = written f.width f.height r colours f.colours }
+drawn (Paint r colours) f = record f { colours = written f.width f.height r colours f.colours }
+drawn (DoCopy rects dx dy) f = record f { colours = copied_colours f.width f.height (places_in rects) (dx, dy) f.colours }
+drawn (Resize w h) f = blank_frame w h
+drawn _ f = f
 
 -- and to a viewer, which is open or not
 abbrev pub shown_drawing : {B : Type 0} → Config → Event → Bool → Viewer B → Viewer B
@@ -102,6 +113,7 @@ shown_drawing c (ScheduleCopy rects dx dy) open_now v = viewer_copied c.width c.
 shown_drawing c (DoCopy rects dx dy) open_now v = viewer_copied c.width c.height (places_in rects) (dx, dy) v
 shown_drawing c Bell open_now v = noticed notice.Bell open_now v
 shown_drawing c (CutText text) open_now v = noticed (notice.CutText text) open_now v
+shown_drawing c (Resize w h) open_now v = viewer_resized w h v
 shown_drawing c _ open_now v = v
 
 -- A viewer's own events.
@@ -121,11 +133,11 @@ hearing c piece v = (after_items c.width c.height (new_items v.heard piece) (rec
 
 -- a picture, and a viewer or none
 pub record One : Type 0 where
-  pub picture : List ℕ
+  pub picture : Frame
   pub viewer : Option (Viewer (List ℕ))
 
 abbrev pub empty_screen : Config → One
-empty_screen c = record { picture = blank c.width c.height; viewer = None }
+empty_screen c = record { picture = blank_frame c.width c.height; viewer = None }
 
 abbrev pub with_viewer : One → Viewer (List ℕ) × Answer → One × Answer
 with_viewer s (v, answer) = (record s { viewer = Some v }, answer)
@@ -134,12 +146,12 @@ abbrev pub own_step : Config → Event → One → Option (Viewer (List ℕ)) �
 own_step c (Connect n) s None = (record s { viewer = Some (new_viewer c.width c.height) }, gives server_version)
 own_step c (Connect n) s (Some v) = (s, refuses refusals.NumberInUse)
 own_step c (Hear n piece) s (Some v) = with_viewer s (hearing c piece v)
-own_step c (Cut n) s (Some v) = (let sent = sending c.width c.height c.rects_per_update s.picture v in with_viewer s (sent.1, gives sent.0))
+own_step c (Cut n) s (Some v) = (let sent = sending c.width c.height c.rects_per_update s.picture.colours v in with_viewer s (sent.1, gives sent.0))
 own_step c (Close n) s (Some v) = (record s { viewer = None }, nothing_to_say)
 own_step c _ s _ = (s, refuses refusals.NoViewer)
 
 abbrev pub draw_step : Config → Event → One → Option ScreenError → One × Answer
-draw_step c e s None = (record { picture = drawn c e s.picture; viewer = option_map (λ v. shown_drawing c e (is_open_viewer v) v) s.viewer }, nothing_to_say)
+draw_step c e s None = (record { picture = drawn e s.picture; viewer = option_map (λ v. shown_drawing c e (is_open_viewer v) v) s.viewer }, nothing_to_say)
 draw_step c e s (Some refusal) = (s, refuses refusal)
 
 -- whose event it is; none's where it is a drawing call
@@ -156,7 +168,7 @@ step_by c e s (Some n) = own_step c e s s.viewer
 
 -- one event of the one viewer, or one drawing call
 abbrev pub step : Config → Event → One → One × Answer
-step c e s = step_by c e s (owner_of e)
+step c e s = step_by (at_size s.picture c) e s (owner_of e)
 
 -- the screen after a list of events
 abbrev pub after : Config → List Event → One → One

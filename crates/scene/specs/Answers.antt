@@ -8,7 +8,8 @@ use Rattle.scene.specs.declared.Event.{Event}
 use Rattle.scene.specs.declared.Event.TheVariants.{Connect, Close}
 use Rattle.scene.specs.declared.Answer.{Answer}
 use Rattle.viewer.specs.Viewer.{Viewer, kept_viewer}
-use Rattle.scene.specs.Alone.{owner_of, drawing_refusal, nothing_to_say, refuses, empty_screen, after, alone}
+use Rattle.framebuffer.specs.Frame.{Frame}
+use Rattle.scene.specs.Alone.{owner_of, at_size, drawing_refusal, nothing_to_say, refuses, empty_screen, after, alone}
 
 abbrev pub is_owner : ℕ → Option ℕ → Bool
 is_owner v None = true
@@ -17,6 +18,15 @@ is_owner v (Some n) = n == v
 -- the list without the events of other viewers
 abbrev pub own : ℕ → List Event → List Event
 own v es = filter (λ e. is_owner v (owner_of e)) es
+
+-- whether an event is a drawing call
+abbrev pub is_drawing : Option ℕ → Bool
+is_drawing None = true
+is_drawing (Some v) = false
+
+-- what is drawn: only drawing calls change it
+abbrev pub picture_of : Config → List Event → Frame
+picture_of c es = (after c (filter (λ e. is_drawing (owner_of e)) es) (empty_screen c)).picture
 
 abbrev pub last_of : List Answer → Answer
 last_of [] = nothing_to_say
@@ -28,7 +38,7 @@ refused_or_nothing None = nothing_to_say
 refused_or_nothing (Some refusal) = refuses refusal
 
 abbrev answer_by : Config → List Event → Event → Option ℕ → Answer
-answer_by c before e None = refused_or_nothing (drawing_refusal c e)
+answer_by c before e None = refused_or_nothing (drawing_refusal (at_size (picture_of c before) c) e)
 answer_by c before e (Some v) = last_of (alone c (own v (before ++ e ∷ [])))
 
 -- the answer to an event that comes after others
@@ -45,13 +55,6 @@ answers c es = answers_after c [] es
 
 -- What a screen holds after a list of events.
 
-abbrev pub is_drawing : Option ℕ → Bool
-is_drawing None = true
-is_drawing (Some v) = false
-
-abbrev pub picture_of : Config → List Event → List ℕ
-picture_of c es = (after c (filter (λ e. is_drawing (owner_of e)) es) (empty_screen c)).picture
-
 abbrev pub viewer_of : Config → ℕ → List Event → Option (Viewer (List ℕ))
 viewer_of c v es = (after c (own v es) (empty_screen c)).viewer
 
@@ -65,9 +68,10 @@ abbrev pub live_from : List ℕ → List Event → List ℕ
 live_from there [] = there
 live_from there (e ∷ es) = live_from (after_arrival e there) es
 
+-- the configuration is what the screen was made with; its size is the picture's
 pub record SceneState : Type 0 where
   pub config : Config
-  pub picture : List ℕ
+  pub picture : Frame
   pub viewers : List (ℕ × Viewer Rest)
 
 abbrev pub entry_of : ℕ → Option (Viewer (List ℕ)) → Option (ℕ × Viewer Rest)

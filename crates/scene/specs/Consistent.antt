@@ -1,6 +1,7 @@
 -- What a screen keeps true of itself.
 use Rattle.std.specs.Prelude.{◌≡◌, ◌*◌, ◌^◌, ◌≤◌, List, length, All}
 use Rattle.scene.specs.declared.Config.{Config}
+use Rattle.scene.specs.Alone.{at_size}
 use Rattle.framebuffer.specs.Frame.{Frame}
 use Rattle.viewer.specs.Viewer.{KeptViewer}
 use Rattle.viewer_list.specs.Viewers.{IsOfSize}
@@ -21,9 +22,7 @@ pub record IsAccepted (c : Config) : Type 0 where
 abbrev pub IsSized : Config → KeptViewer → Type 0
 IsSized c v = IsOfSize c.width c.height v
 
--- there is a colour for each place, and a mark of each viewer
+-- a screen of the picture's size is within the limits, and each viewer has a mark for each of its places
 pub record IsConsistent (c : Config) (picture : Frame) (viewers : List KeptViewer) : Type 0 where
-  pub accepted : IsAccepted c
-  pub width : picture.width ≡ c.width
-  pub height : picture.height ≡ c.height
-  pub sized : All (IsSized c) viewers
+  pub accepted : IsAccepted (at_size picture c)
+  pub sized : All (IsSized (at_size picture c)) viewers

@@ -4,10 +4,10 @@ use Rattle.std.specs.List.{range_with_len}
 use Rattle.region.specs.Examples.{rect}
 use Rattle.encode_rre.specs.Subrectangles.{rows_of}
 use Rattle.pixel_translate.specs.Pixel.{format_bytes, server_format}
-use Rattle.messages.specs.Server.{colour_map}
+use Rattle.messages.specs.Server.{server_version, server_init, colour_map}
 use Rattle.scene.specs.declared.Config.{Config}
 use Rattle.scene.specs.declared.Event.{Event}
-use Rattle.scene.specs.declared.Event.TheVariants.{Write, Paint, Mark, ScheduleCopy, DoCopy, Bell, CutText, Connect, Hear, Cut}
+use Rattle.scene.specs.declared.Event.TheVariants.{Write, Paint, Mark, ScheduleCopy, DoCopy, Bell, CutText, Resize, Connect, Hear, Cut}
 use Rattle.scene.specs.declared.ScreenError.TheVariants as refusals
 use Rattle.scene.specs.Alone.{nothing_to_say, gives, refuses}
 use Rattle.scene.specs.Answers.{answers, picture_of}
@@ -93,13 +93,13 @@ asked_and_cut = Hear 1 (ask 1 0 0 1 4) ∷ Cut 1 ∷ []
 down_sent : last_answers 1 (answers tall (tall_start ++ DoCopy (rect 0 1 1 4 ∷ []) (pos 0) (pos 1) ∷ asked_and_cut)) ≡ (gives (update 1 ++ head 0 1 1 3 1 ++ 0 ∷ 0 ∷ 0 ∷ 0 ∷ []) ∷ [])
 down_sent = refl
 
-down_picture : picture_of tall (tall_start ++ DoCopy (rect 0 1 1 4 ∷ []) (pos 0) (pos 1) ∷ []) ≡ (1 ∷ 1 ∷ 2 ∷ 3 ∷ [])
+down_picture : (picture_of tall (tall_start ++ DoCopy (rect 0 1 1 4 ∷ []) (pos 0) (pos 1) ∷ [])).colours ≡ (1 ∷ 1 ∷ 2 ∷ 3 ∷ [])
 down_picture = refl
 
 scheduled_sent : last_answers 1 (answers tall (tall_start ++ ScheduleCopy (rect 0 1 1 4 ∷ []) (pos 0) (pos 1) ∷ asked_and_cut)) ≡ (gives (update 1 ++ head 0 1 1 3 1 ++ 0 ∷ 0 ∷ 0 ∷ 0 ∷ []) ∷ [])
 scheduled_sent = refl
 
-scheduled_picture : picture_of tall (tall_start ++ ScheduleCopy (rect 0 1 1 4 ∷ []) (pos 0) (pos 1) ∷ []) ≡ (1 ∷ 2 ∷ 3 ∷ 4 ∷ [])
+scheduled_picture : (picture_of tall (tall_start ++ ScheduleCopy (rect 0 1 1 4 ∷ []) (pos 0) (pos 1) ∷ [])).colours ≡ (1 ∷ 2 ∷ 3 ∷ 4 ∷ [])
 scheduled_picture = refl
 
 no_move : last_answers 1 (answers tall (tall_start ++ DoCopy (rect 0 1 1 4 ∷ []) (pos 0) (pos 0) ∷ DoCopy (rect 0 1 1 4 ∷ []) (pos 0) (pos 9) ∷ asked_and_cut)) ≡ (nothing_to_say ∷ [])
@@ -155,3 +155,46 @@ map_before_notices = refl
 
 no_map_any_more : last_answers 1 (answers demo (opens 1 ++ Hear 1 in_map ∷ Hear 1 (0 ∷ 0 ∷ 0 ∷ 0 ∷ format_bytes server_format) ∷ Cut 1 ∷ [])) ≡ (nothing_to_say ∷ [])
 no_map_any_more = refl
+
+-- a new size: viewer 1, which lists DesktopSize, is told it first, and then sees all of it; viewer 2 sees what it has of it
+abbrev pub lists_size : List ℕ
+lists_size = 2 ∷ 0 ∷ 0 ∷ 2 ∷ 0 ∷ 0 ∷ 0 ∷ 0 ∷ 0xff ∷ 0xff ∷ 0xff ∷ 0x21 ∷ []
+
+abbrev pub takes_sizes : ℕ → ℕ → ℕ → List Event
+takes_sizes v w h = opens v ++ Hear v lists_size ∷ Hear v (ask 0 0 0 w h) ∷ Cut v ∷ []
+
+abbrev pub size_head : ℕ → ℕ → List ℕ
+size_head w h = 0 ∷ 0 ∷ 0 ∷ 0 ∷ 0 ∷ w ∷ 0 ∷ h ∷ 0xff ∷ 0xff ∷ 0xff ∷ 0x21 ∷ []
+
+abbrev pub grown : List Event
+grown = Paint (rect 0 0 4 1) (1 ∷ 2 ∷ 3 ∷ 4 ∷ []) ∷ takes_sizes 1 4 1 ++ clean 2 4 1
+    ++ Resize 6 2 ∷ Paint (rect 5 1 6 2) (10 ∷ []) ∷ Hear 1 (ask 1 0 0 4 1) ∷ Hear 2 (ask 1 0 0 4 1) ∷ Cut 1 ∷ Cut 2
+    ∷ Hear 1 (ask 0 0 0 6 2) ∷ Cut 1 ∷ Hear 2 (ask 1 0 0 6 2) ∷ Cut 2 ∷ []
+
+grown_sent : last_answers 6 (answers four grown) ≡
+    (gives (update 1 ++ size_head 6 2) ∷ gives (update 1 ++ head 0 0 4 1 0 ++ replicate 16 0)
+    ∷ nothing_to_say ∷ gives (update 1 ++ head 0 0 6 2 0 ++ replicate 44 0 ++ 10 ∷ 0 ∷ 0 ∷ 0 ∷ []) ∷ nothing_to_say ∷ nothing_to_say ∷ [])
+grown_sent = refl
+
+-- a viewer that doesn't list it, on a smaller screen
+abbrev pub shrunk : List Event
+shrunk = clean 1 4 1 ++ Resize 2 1 ∷ Hear 1 (ask 1 3 0 1 1) ∷ Cut 1 ∷ Hear 1 (ask 1 0 0 4 1) ∷ Cut 1 ∷ []
+
+shrunk_sent : last_answers 3 (answers four shrunk) ≡ (nothing_to_say ∷ nothing_to_say ∷ gives (update 1 ++ head 0 0 2 1 0 ++ replicate 8 0) ∷ [])
+shrunk_sent = refl
+
+no_size : last_answers 1 (answers four (Resize 0 1 ∷ [])) ≡ (refuses refusals.BadSize ∷ [])
+no_size = refl
+
+-- nothing is told to a viewer that asks for nothing; back at its size, every place is owed
+abbrev pub there_and_back : List Event
+there_and_back = takes_sizes 1 4 1 ++ Resize 6 2 ∷ Cut 1 ∷ Resize 4 1 ∷ Hear 1 (ask 1 0 0 4 1) ∷ Cut 1 ∷ []
+
+there_and_back_sent : last_answers 4 (answers four there_and_back) ≡
+    (nothing_to_say ∷ nothing_to_say ∷ nothing_to_say ∷ gives (update 1 ++ head 0 0 4 1 0 ++ replicate 16 0) ∷ [])
+there_and_back_sent = refl
+
+-- a rectangle is refused by the size of now, and a ServerInit tells it
+sized_anew : last_answers 3 (answers four (Resize 5 1 ∷ Paint (rect 0 0 6 1) [] ∷ Connect 3 ∷ Hear 3 (server_version ++ 1 ∷ 1 ∷ []) ∷ [])) ≡
+    (refuses refusals.BadRect ∷ gives server_version ∷ gives (1 ∷ 1 ∷ 0 ∷ 0 ∷ 0 ∷ 0 ∷ server_init 5 1 []) ∷ [])
+sized_anew = refl

@@ -29,7 +29,9 @@ pub record ReadsAndShows (w h : ℕ) (picture : List ℕ) (marks : Marks) (s : W
 
 -- each viewer that is there does so with what is drawn, by what it said and was answered
 abbrev pub ShowPictures : Config → List Event → List Answer → Type 0
-ShowPictures c es given = All (λ p. ReadsAndShows c.width c.height (scene_after c es).picture p.1.marks (watching p.0 es given at_first)) (scene_after c es).viewers
+ShowPictures c es given =
+    let f = (scene_after c es).picture in
+    All (λ p. ReadsAndShows f.width f.height f.colours p.1.marks (watching p.0 es given at_first)) (scene_after c es).viewers
 
 -- a viewer's colour map is the server's
 abbrev pub IsServers : ColourMap → Type 0

@@ -7,7 +7,7 @@ use Rattle.scene.specs.declared.ScreenError.{ScreenError}
 use Rattle.scene.specs.declared.ScreenError.TheVariants as refusals
 use Rattle.scene.specs.declared.Event.{Event}
 use Rattle.scene.specs.declared.Event.TheVariants.{Connect, Hear, Cut, Close}
-use Rattle.scene.specs.Alone.{drawing_refusal}
+use Rattle.scene.specs.Alone.{at_size, drawing_refusal}
 use Rattle.scene.specs.Answers.{SceneState, scene_after, answer_to}
 
 -- the live viewer with a number, if there is one
@@ -29,7 +29,7 @@ refusal s (Connect v) = presence (viewer_at s v)
 refusal s (Hear v piece) = absence (viewer_at s v)
 refusal s (Cut v) = absence (viewer_at s v)
 refusal s (Close v) = absence (viewer_at s v)
-refusal s e = drawing_refusal s.config e
+refusal s e = drawing_refusal (at_size s.picture s.config) e
 
 -- a call answers the refusal that is due, and where none is, it is refused for memory alone
 abbrev pub Refuses : {X : Type 0} → Result X ScreenError → Option ScreenError → Type 0

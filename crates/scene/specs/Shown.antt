@@ -9,7 +9,7 @@ use Rattle.messages.specs.declared.Phase.{Phase}
 use Rattle.messages.specs.declared.Phase.TheVariants as phase
 use Rattle.messages.specs.Grammar.{after}
 use Rattle.messages.specs.Reading.{is_version, heard, new_items}
-use Rattle.viewer_picture.specs.Messages.{Agreed, ColourMap, nothing_mapped, messages_at}
+use Rattle.viewer_picture.specs.Messages.{Agreed, ColourMap, nothing_mapped, nothing_shown, messages_at}
 use Rattle.viewer_picture.specs.Encodings.{taken}
 use Rattle.viewer_picture.specs.Opening.{security_at, result_at, init_at}
 use Rattle.scene.specs.declared.Event.{Event}
@@ -18,7 +18,7 @@ use Rattle.scene.specs.declared.Answer.{Answer}
 use Rattle.scene.specs.Alone.{owner_of}
 
 -- A viewer: its bytes so far, whether all that it was sent could be read, what it goes by where it reads an update (the
--- picture's size once it is told, the format of pixels, and of the encodings that it listed those that the server takes), what it
+-- picture's size as it was told last, the format of pixels, and of the encodings that it listed those that the server takes), what it
 -- shows, and its colour map.
 pub record Watching : Type 0 where
   pub said : List ℕ
@@ -26,9 +26,6 @@ pub record Watching : Type 0 where
   pub agreed : Agreed
   pub shown : Shown
   pub colours : ColourMap
-
-abbrev pub nothing_shown : Shown
-nothing_shown x y = None
 
 -- before it is sent anything
 abbrev pub at_first : Watching
@@ -54,7 +51,7 @@ item_at p (item.Init shared) s bytes = do
   init ← init_at bytes
   Some (record s { agreed = record s.agreed { width = init.0.width; height = init.0.height; format = init.0.format } }, init.1)
 item_at p (item.Format f) s bytes = Some (record s { agreed = record s.agreed { format = f } }, bytes)
-item_at p (item.Encodings preferred copyrect) s bytes = Some (record s { agreed = record s.agreed { listed = taken preferred copyrect } }, bytes)
+item_at p (item.Encodings preferred copyrect resize) s bytes = Some (record s { agreed = record s.agreed { listed = taken preferred copyrect resize } }, bytes)
 item_at p (item.Request false area) s bytes = Some (forgotten area s, bytes)
 item_at p _ s bytes = Some (s, bytes)
 
@@ -86,8 +83,8 @@ after_piece piece bytes s =
 
 -- the bytes of a sending step
 abbrev pub after_messages : List ℕ → Watching → Watching
-after_messages bytes s =
-    reading_on s (option_map (λ d. record s { shown = d.shown; colours = d.colours }) (messages_at s.agreed (record { shown = s.shown; colours = s.colours }) bytes))
+after_messages bytes s = reading_on s (option_map (λ d. record s { agreed = d.agreed; shown = d.shown; colours = d.colours })
+    (messages_at (record { agreed = s.agreed; shown = s.shown; colours = s.colours }) bytes))
 
 -- an event of the viewer, and what it was answered
 abbrev pub watched : Event → Answer → Watching → Watching

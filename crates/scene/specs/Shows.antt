@@ -18,7 +18,7 @@ use Rattle.scene.specs.declared.Answer.{Answer}
 use Rattle.scene.specs.Alone.{gives, nothing_to_say}
 use Rattle.scene.specs.Answers.{answers, picture_of}
 use Rattle.scene.specs.Examples.{demo, opens, ask, clean}
-use Rattle.scene.specs.Drawing.{six, right_to_left, twice, four, four_start, lost_source}
+use Rattle.scene.specs.Drawing.{six, right_to_left, twice, four, four_start, lost_source, grown, shrunk}
 use Rattle.scene.specs.Shown.{shown_to}
 
 -- what viewer 1 shows of the first row
@@ -138,7 +138,7 @@ shows_the_old : shows 4 four written_unseen ≡ colours (1 ∷ 2 ∷ 3 ∷ 4 ∷
 unfolding pixels_at rectangles_at messages_in
 shows_the_old = refl
 
-drawn_anew : picture_of four written_unseen ≡ (9 ∷ 2 ∷ 3 ∷ 4 ∷ [])
+drawn_anew : (picture_of four written_unseen).colours ≡ (9 ∷ 2 ∷ 3 ∷ 4 ∷ [])
 drawn_anew = refl
 
 abbrev scheduled_only : List Event
@@ -148,5 +148,21 @@ shows_the_copy : shows 4 four scheduled_only ≡ colours (1 ∷ 1 ∷ 3 ∷ 4 �
 unfolding pixels_at rectangles_at messages_in
 shows_the_copy = refl
 
-drawn_as_before : picture_of four scheduled_only ≡ (1 ∷ 2 ∷ 3 ∷ 4 ∷ [])
+drawn_as_before : (picture_of four scheduled_only).colours ≡ (1 ∷ 2 ∷ 3 ∷ 4 ∷ [])
 drawn_as_before = refl
+
+-- a new size: a viewer that is told it shows nothing until it asks anew, and then all of it; one that isn't shows what it has of it
+abbrev rows_shown : ℕ → List (Option Dot)
+rows_shown v = map (λ x. shown_to v grown (answers four grown) x 1) (range_with_len 0 6)
+
+told_anew : rows_shown 1 ≡ colours (0 ∷ 0 ∷ 0 ∷ 0 ∷ 0 ∷ 10 ∷ [])
+unfolding pixels_at rectangles_at messages_in
+told_anew = refl
+
+not_told : rows_shown 2 ≡ None ∷ None ∷ None ∷ None ∷ None ∷ None ∷ []
+unfolding pixels_at rectangles_at messages_in
+not_told = refl
+
+shows_less : shows 4 four shrunk ≡ colours (0 ∷ 0 ∷ 0 ∷ 0 ∷ [])
+unfolding pixels_at rectangles_at messages_in
+shows_less = refl

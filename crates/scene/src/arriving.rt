@@ -4,11 +4,9 @@ ghost use Rattle.std.specs.Prelude.{◌≡◌, None, ◌∷◌, ◌++◌, [], Al
 ghost use Rattle.std.specs.Map.{values_of};
 ghost use Rattle.messages.specs.Server.{server_version};
 ghost use Rattle.viewer.specs.Viewer.{new_viewer, kept_viewer};
-ghost use Rattle.viewer_list.specs.Viewers.{viewer_of};
-ghost use Rattle.scene.specs.Consistent.{IsSized};
+ghost use Rattle.viewer_list.specs.Viewers.{viewer_of, IsOfSize};
 ghost use Rattle.region.specs.Places.{longest_side};
 
-use crate::Config;
 use listed::Listed;
 use messages::put_version;
 use std::alloc::{AllocError, Global};
@@ -19,25 +17,26 @@ use viewer_list::ViewerList;
 /// is no viewer's yet.
 pub fn let_in(
     alloc: Global,
-    config: &Config,
+    width: u32,
+    height: u32,
     viewers: &mut ViewerList,
     number: u64,
 ) -> Result<Listed<u8>, AllocError>
     requires absent { viewer_of viewers.old number ≡ None }
-    requires some_columns { 1 ≤ config.now.width }
-    requires columns { config.now.width ≤ longest_side }
-    requires some_rows { 1 ≤ config.now.height }
-    requires rows { config.now.height ≤ longest_side }
+    requires some_columns { 1 ≤ width }
+    requires columns { width ≤ longest_side }
+    requires some_rows { 1 ≤ height }
+    requires rows { height ≤ longest_side }
     ensures version { IfOk result (λ bytes. bytes ≡ server_version) }
     ensures entries { OnOk result (viewers.new.pairs ≡
-        viewers.old.pairs ++ (number, kept_viewer (new_viewer config.now.width config.now.height)) ∷ []) }
-    ensures sized { All (IsSized config.now) (values_of viewers.old.pairs) →
-        All (IsSized config.now) (values_of viewers.new.pairs) }
+        viewers.old.pairs ++ (number, kept_viewer (new_viewer width height)) ∷ []) }
+    ensures sized { All (IsOfSize width height) (values_of viewers.old.pairs) →
+        All (IsOfSize width height) (values_of viewers.new.pairs) }
     ensures err { OnErr result (viewers.new ≡ viewers.old) }
 {
     let mut version = Vec::new(alloc);
     put_version(&mut version)?;
-    let viewer = Viewer::new(alloc, config.width, config.height)?;
+    let viewer = Viewer::new(alloc, width, height)?;
     match viewers.connect(number, viewer) {
         Ok(()) => Ok(Listed::from_vec(version)),
         Err(_) => Err(AllocError),

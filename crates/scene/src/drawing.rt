@@ -12,10 +12,8 @@ ghost use Rattle.region.specs.Places.{same_offset, IsOnScreen, longest_side};
 ghost use Rattle.copy_schedule.specs.Log.{IsCutEntry};
 ghost use Rattle.framebuffer.specs.Picture.{places_in};
 ghost use Rattle.viewer.specs.Viewer.{viewer_marked};
-ghost use Rattle.viewer_list.specs.Viewers.{drawn, IsWhole};
-ghost use Rattle.scene.specs.Consistent.{IsSized};
+ghost use Rattle.viewer_list.specs.Viewers.{drawn, IsWhole, IsOfSize};
 
-use crate::Config;
 use framebuffer::destinations;
 use region::{Rect, Region};
 use std::alloc::{AllocError, Global};
@@ -73,56 +71,59 @@ fn owe(viewers: &mut ViewerList, region: Region) -> Result<(), AllocError>
 /// anywhere.
 pub fn owe_rects(
     alloc: Global,
-    config: &Config,
+    width: u32,
+    height: u32,
     viewers: &mut ViewerList,
     rects: &[Rect],
 ) -> Result<(), AllocError>
-    requires some_columns { 1 ≤ config.now.width }
-    requires columns { config.now.width ≤ longest_side }
-    requires rows { config.now.height ≤ longest_side }
-    requires sized { All (IsSized config.now) (values_of viewers.old.pairs) }
+    requires some_columns { 1 ≤ width }
+    requires columns { width ≤ longest_side }
+    requires rows { height ≤ longest_side }
+    requires sized { All (IsOfSize width height) (values_of viewers.old.pairs) }
     ensures ok { OnOk result (viewers.new.pairs ≡ changed (viewer_marked (places_in rects.now)) viewers.old.pairs) }
     ensures err { OnErr result (viewers.new.pairs ≡ viewers.old.pairs) }
 {
     if viewers.is_empty() {
         return Ok(());
     }
-    let pieces = destinations(alloc, rects, 0, 0, config.width, config.height)?;
+    let pieces = destinations(alloc, rects, 0, 0, width, height)?;
     let region = region_of(alloc, &pieces)?;
     owe(viewers, region)
 }
 
 /// Whether no place of a region is off the screen, for certain.
-fn is_on_screen(config: &Config, region: &Region) -> bool
-    requires columns { config.now.width ≤ longest_side }
-    requires rows { config.now.height ≤ longest_side }
+fn is_on_screen(width: u32, height: u32, region: &Region) -> bool
+    requires columns { width ≤ longest_side }
+    requires rows { height ≤ longest_side }
 {
     match region.bbox() {
         Some(rect) => {
-            0 <= rect.x1
-                && 0 <= rect.y1
-                && rect.x2 <= config.width as i32
-                && rect.y2 <= config.height as i32
+            0 <= rect.x1 && 0 <= rect.y1 && rect.x2 <= width as i32 && rect.y2 <= height as i32
         }
         None => true,
     }
 }
 
 /// A region with the places of another that are on the screen. It is a plain copy where its box is on the screen.
-fn cut_to_screen(alloc: Global, config: &Config, region: &Region) -> Result<Region, AllocError>
-    requires columns { config.now.width ≤ longest_side }
-    requires rows { config.now.height ≤ longest_side }
-    ensures { IfOk result (λ cut. (x y : ℤ) → on_screen config.now.width config.now.height x y ≡ true →
+fn cut_to_screen(
+    alloc: Global,
+    width: u32,
+    height: u32,
+    region: &Region,
+) -> Result<Region, AllocError>
+    requires columns { width ≤ longest_side }
+    requires rows { height ≤ longest_side }
+    ensures { IfOk result (λ cut. (x y : ℤ) → on_screen width height x y ≡ true →
         covers cut.list x y ≡ covers region.now.list x y) }
 {
-    if is_on_screen(config, region) {
+    if is_on_screen(width, height, region) {
         return region.try_clone(alloc);
     }
     let screen = Rect {
         x1: 0,
         y1: 0,
-        x2: config.width as i32,
-        y2: config.height as i32,
+        x2: width as i32,
+        y2: height as i32,
     };
     let screen = region_of_rect(alloc, screen)?;
     region.intersection(&screen)
@@ -131,20 +132,21 @@ fn cut_to_screen(alloc: Global, config: &Config, region: &Region) -> Result<Regi
 /// The places of a region, as far as they are on the screen, are owed to each viewer.
 pub fn owe_region(
     alloc: Global,
-    config: &Config,
+    width: u32,
+    height: u32,
     viewers: &mut ViewerList,
     region: &Region,
 ) -> Result<(), AllocError>
-    requires some_columns { 1 ≤ config.now.width }
-    requires columns { config.now.width ≤ longest_side }
-    requires rows { config.now.height ≤ longest_side }
-    requires sized { All (IsSized config.now) (values_of viewers.old.pairs) }
+    requires some_columns { 1 ≤ width }
+    requires columns { width ≤ longest_side }
+    requires rows { height ≤ longest_side }
+    requires sized { All (IsOfSize width height) (values_of viewers.old.pairs) }
     ensures ok { OnOk result (viewers.new.pairs ≡ changed (viewer_marked (covers region.now.list)) viewers.old.pairs) }
     ensures err { OnErr result (viewers.new.pairs ≡ viewers.old.pairs) }
 {
     if viewers.is_empty() {
         return Ok(());
     }
-    let cut = cut_to_screen(alloc, config, region)?;
+    let cut = cut_to_screen(alloc, width, height, region)?;
     owe(viewers, cut)
 }

@@ -153,6 +153,11 @@ pub enum Event {
     CutText {
         text: Listed<u8>,
     },
+    /// The screen has so many columns and rows from now on, and is 0 everywhere; every place is owed to every viewer.
+    Resize {
+        width: u32,
+        height: u32,
+    },
     /// A viewer connects.
     Connect {
         viewer: u64,

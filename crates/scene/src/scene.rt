@@ -7,7 +7,7 @@ ghost use Rattle.messages.specs.Reading.{fault_in_rest, is_open_rest};
 ghost use Rattle.messages.specs.Server.{server_version};
 ghost use Rattle.scene.specs.declared.Config.{Config};
 ghost use Rattle.scene.specs.declared.Event.{Event};
-ghost use Rattle.scene.specs.Alone.{config_refusal, pixels_refusal, text_refusal, nothing_to_say, gives, something_to_send, told};
+ghost use Rattle.scene.specs.Alone.{config_refusal, pixels_refusal, size_refusal, text_refusal, nothing_to_say, gives, something_to_send, told};
 ghost use Rattle.scene.specs.Alone.{Tells};
 ghost use Rattle.viewer.specs.Given.{bytes_given};
 ghost use Rattle.scene.specs.Answers.{scene_after, answer_to};
@@ -16,7 +16,7 @@ ghost use Rattle.scene.specs.Refusals.{viewer_at, absence, presence, refusal, Re
 use crate::answers::{settled, with_bytes, with_nothing, with_reply};
 use crate::arriving::let_in;
 use crate::drawing::{moves_nothing, owe_rects, owe_region, region_of, region_of_rect, tell};
-use crate::limits::{checked, checked_text, refusal_of};
+use crate::limits::{checked, checked_size, checked_text, refusal_of};
 use crate::{Answer, Config, Event, History, ScreenError};
 use framebuffer::{Framebuffer, destinations};
 use listed::Listed;
@@ -44,7 +44,7 @@ impl Model for Scene {
 
     ghost use Rattle.scene.specs.Consistent.{IsConsistent};
 
-    ghost view = { λ a. record { config = a.config; picture = a.picture.colours; viewers = a.viewers.pairs } };
+    ghost view = { λ a. record { config = a.config; picture = a.picture; viewers = a.viewers.pairs } };
 
     ghost invariant = { λ a. IsConsistent a.config a.picture (values_of a.viewers.pairs) };
 }
@@ -70,16 +70,16 @@ impl Scene {
 
     /// The screen's columns, 1 to 8192.
     pub fn width(&self) -> u32
-        ensures { result ≡ self.now.config.width }
+        ensures { result ≡ self.now.picture.width }
     {
-        self.config.width
+        self.picture.width()
     }
 
     /// The screen's rows, 1 to 8192.
     pub fn height(&self) -> u32
-        ensures { result ≡ self.now.config.height }
+        ensures { result ≡ self.now.picture.height }
     {
-        self.config.height
+        self.picture.height()
     }
 
     /// Whether the events are to be kept.
@@ -91,8 +91,8 @@ impl Scene {
 
     /// The colour `0x00RRGGBB` of the place in column x of row y; None off the screen.
     pub fn colour(&self, x: u32, y: u32) -> Option<u32>
-        ensures inside { IsSome result ↔ ((x < self.now.config.width) × (y < self.now.config.height)) }
-        ensures colour { IfSome result (λ colour. colour ≡ slice_index self.now.picture (y * self.now.config.width + x)) }
+        ensures inside { IsSome result ↔ ((x < self.now.picture.width) × (y < self.now.picture.height)) }
+        ensures colour { IfSome result (λ colour. colour ≡ slice_index self.now.picture.colours (y * self.now.picture.width + x)) }
     {
         self.picture.colour(x, y)
     }
@@ -151,10 +151,10 @@ impl Scene {
     /// Nothing, or why colours `0x00RRGGBB`, row by row, may not replace those of a rectangle: `BadRect` unless
     /// 0 <= x1 <= x2 <= width and 0 <= y1 <= y2 <= height, then `BadPixelCount` unless there are as many as places.
     pub fn check_pixels(&self, rect: Rect, colours: &[u32]) -> Result<(), ScreenError>
-        ensures { MatchResult result (λ _. pixels_refusal self.now.config rect colours.now ≡ None)
-            (λ e. pixels_refusal self.now.config rect colours.now ≡ Some e) }
+        ensures { MatchResult result (λ _. pixels_refusal self.now.picture.width self.now.picture.height rect colours.now ≡ None)
+            (λ e. pixels_refusal self.now.picture.width self.now.picture.height rect colours.now ≡ Some e) }
     {
-        checked(&self.config, rect, colours)?;
+        checked(&self.picture, rect, colours)?;
         Ok(())
     }
 
@@ -163,6 +163,13 @@ impl Scene {
         ensures { MatchResult result (λ _. text_refusal text.now ≡ None) (λ e. text_refusal text.now ≡ Some e) }
     {
         checked_text(text)
+    }
+
+    /// Nothing, or why the screen can't have so many columns and rows: `BadSize` unless each is 1 to 8192, with at most 2^24 places.
+    pub fn check_size(&self, width: u32, height: u32) -> Result<(), ScreenError>
+        ensures { MatchResult result (λ _. size_refusal width height ≡ None) (λ e. size_refusal width height ≡ Some e) }
+    {
+        checked_size(width, height)
     }
 
     /// Nothing, or why no viewer may connect with a number: `NumberInUse` where a live viewer has it.
@@ -197,6 +204,7 @@ impl Scene {
             Event::Write { rect, colours } => self.check_pixels(*rect, colours.as_slice()),
             Event::Paint { rect, colours } => self.check_pixels(*rect, colours.as_slice()),
             Event::CutText { text } => self.check_text(text.as_slice()),
+            Event::Resize { width, height } => self.check_size(*width, *height),
             Event::Connect { viewer } => self.check_free(*viewer),
             Event::Hear { viewer, .. } => self.check_live(*viewer),
             Event::Cut { viewer } => self.check_live(*viewer),
@@ -219,7 +227,7 @@ impl Scene {
         ensures refused { Refuses result (refusal self.old (Event.Paint rect colours.now)) }
         ensures err { OnErr result (self.new ≡ self.old) }
     {
-        let block = checked(&self.config, rect, colours)?;
+        let block = checked(&self.picture, rect, colours)?;
         if colours.is_empty() || self.viewers.is_empty() {
             self.picture.write(block, colours)?;
             return Ok(());
@@ -241,7 +249,7 @@ impl Scene {
         ensures refused { Refuses result (refusal self.old (Event.Write rect colours.now)) }
         ensures err { OnErr result (self.new ≡ self.old) }
     {
-        let block = checked(&self.config, rect, colours)?;
+        let block = checked(&self.picture, rect, colours)?;
         self.picture.write(block, colours)?;
         Ok(())
     }
@@ -255,7 +263,8 @@ impl Scene {
         ensures refused { IsOkUnless result ScreenError.OutOfMemory }
         ensures err { OnErr result (self.new ≡ self.old) }
     {
-        owe_rects(self.alloc, &self.config, &mut self.viewers, rects)?;
+        let (width, height) = (self.picture.width(), self.picture.height());
+        owe_rects(self.alloc, width, height, &mut self.viewers, rects)?;
         Ok(())
     }
 
@@ -270,7 +279,8 @@ impl Scene {
         ensures err { OnErr result (self.new ≡ self.old) }
     {
         region.list_is_canonical();
-        owe_region(self.alloc, &self.config, &mut self.viewers, region)?;
+        let (width, height) = (self.picture.width(), self.picture.height());
+        owe_region(self.alloc, width, height, &mut self.viewers, region)?;
         Ok(())
     }
 
@@ -287,14 +297,8 @@ impl Scene {
         if self.viewers.is_empty() {
             return Ok(());
         }
-        let pieces = destinations(
-            self.alloc,
-            rects,
-            dx,
-            dy,
-            self.config.width,
-            self.config.height,
-        )?;
+        let (width, height) = (self.picture.width(), self.picture.height());
+        let pieces = destinations(self.alloc, rects, dx, dy, width, height)?;
         if moves_nothing(&pieces, (dx, dy)) {
             return Ok(());
         }
@@ -357,6 +361,24 @@ impl Scene {
         Ok(())
     }
 
+    /// The screen has so many columns and rows from now on, and is 0 everywhere (`rfbNewFramebuffer` of `rfb.h`). Every place is owed
+    /// to every viewer; those that list DesktopSize are told the size where they ask next. Refused as `BadSize` unless each is 1 to
+    /// 8192, with at most 2^24 places.
+    pub fn new_framebuffer(&mut self, width: u32, height: u32) -> Result<(), ScreenError>
+        ensures step { (config : Config) (list : List Event) → self.old ≡ scene_after config list →
+            OnOk result (self.new ≡ scene_after config (list ++ Event.Resize width height ∷ [])) }
+        ensures answer { (config : Config) (list : List Event) → self.old ≡ scene_after config list →
+            Tells (λ _. nothing_to_say) result (answer_to config list (Event.Resize width height)) }
+        ensures refused { Refuses result (refusal self.old (Event.Resize width height)) }
+        ensures err { OnErr result (self.new ≡ self.old) }
+    {
+        checked_size(width, height)?;
+        let picture = Framebuffer::new(self.alloc, width, height)?;
+        self.viewers.resize(width as u16, height as u16)?;
+        self.picture = picture;
+        Ok(())
+    }
+
     /// A viewer connects; it is given the server's version (RFC 6143, 7.1.1). Refused as
     /// `NumberInUse` where a live viewer has the number.
     pub fn connect(&mut self, number: u64) -> Result<Listed<u8>, ScreenError>
@@ -371,7 +393,8 @@ impl Scene {
         if self.viewers.has(number) {
             return Err(ScreenError::NumberInUse);
         }
-        Ok(let_in(self.alloc, &self.config, &mut self.viewers, number)?)
+        let (width, height) = (self.picture.width(), self.picture.height());
+        Ok(let_in(self.alloc, width, height, &mut self.viewers, number)?)
     }
 
     /// Closes a viewer's connection. Refused as `NoViewer` where there is none with the number.
@@ -497,6 +520,10 @@ impl Scene {
             Event::CutText { text } => {
                 let told = self.cut_text(text.as_slice());
                 with_nothing(alloc, told)
+            }
+            Event::Resize { width, height } => {
+                let resized = self.new_framebuffer(*width, *height);
+                with_nothing(alloc, resized)
             }
             Event::Connect { viewer } => {
                 let version = self.connect(*viewer);

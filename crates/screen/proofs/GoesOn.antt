@@ -9,7 +9,7 @@ use Rattle.scene.specs.declared.History.TheVariants.{Kept, NotKept}
 use Rattle.scene.specs.declared.ScreenError.{ScreenError}
 use Rattle.scene.specs.declared.ScreenError.TheVariants as refusals
 use Rattle.scene.specs.declared.Event.{Event}
-use Rattle.scene.specs.declared.Event.TheVariants.{Write, Paint, Mark, ScheduleCopy, DoCopy, Bell, CutText, Connect, Hear, Cut, Close}
+use Rattle.scene.specs.declared.Event.TheVariants.{Write, Paint, Mark, ScheduleCopy, DoCopy, Bell, CutText, Resize, Connect, Hear, Cut, Close}
 use Rattle.std.specs.declared.alloc.AllocError.{AllocError}
 use Rattle.scene.specs.declared.Answer.{Answer}
 use Rattle.scene.specs.Alone.{Tells, some_bytes, gives}
@@ -146,6 +146,7 @@ refused-unhappened (DoCopy rects dx dy) a h = h
 refused-unhappened Bell a h = h
 refused-unhappened (CutText t) a h = h
 refused-unhappened (Connect v) a h = h
+refused-unhappened (Resize w k) a h = h
 refused-unhappened (Hear v piece) a h = h
 refused-unhappened (Close v) a h = h
 

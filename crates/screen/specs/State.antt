@@ -2,6 +2,7 @@
 use Rattle.std.specs.Prelude.{◌≡◌, ℕ, List, Option, Some, None}
 use Rattle.messages.specs.Reading.{Rest}
 use Rattle.viewer.specs.Viewer.{Viewer, KeptViewer}
+use Rattle.framebuffer.specs.Frame.{Frame}
 use Rattle.scene.specs.declared.Config.{Config}
 use Rattle.scene.specs.declared.History.{History}
 use Rattle.scene.specs.declared.History.TheVariants.{Kept, NotKept}
@@ -11,9 +12,10 @@ use Rattle.scene.specs.Answers.{SceneState, scene_after}
 use Rattle.scene.specs.Refusals as now
 use Rattle.scene.specs.History.{accepted}
 
+-- the configuration is what the screen was made with; its size is the picture's
 pub record State : Type 0 where
   pub config : Config
-  pub picture : List ℕ
+  pub picture : Frame
   pub viewers : List (ℕ × Viewer Rest)
   pub history : Option (List Event)
 

@@ -119,6 +119,10 @@ impl KeptEvents {
             Event::CutText { text } => Event::CutText {
                 text: self.copied(text.as_slice())?,
             },
+            Event::Resize { width, height } => Event::Resize {
+                width: *width,
+                height: *height,
+            },
             Event::Connect { viewer } => Event::Connect { viewer: *viewer },
             Event::Hear { viewer, piece } => Event::Hear {
                 viewer: *viewer,

@@ -69,22 +69,22 @@ impl Screen {
 
     /// The screen's columns, 1 to 8192.
     pub fn width(&self) -> u32
-        ensures { result ≡ self.now.config.width }
+        ensures { result ≡ self.now.picture.width }
     {
         self.scene.width()
     }
 
     /// The screen's rows, 1 to 8192.
     pub fn height(&self) -> u32
-        ensures { result ≡ self.now.config.height }
+        ensures { result ≡ self.now.picture.height }
     {
         self.scene.height()
     }
 
     /// The colour `0x00RRGGBB` of the place in column x of row y; None off the screen.
     pub fn colour(&self, x: u32, y: u32) -> Option<u32>
-        ensures inside { IsSome result ↔ ((x < self.now.config.width) × (y < self.now.config.height)) }
-        ensures colour { IfSome result (λ colour. colour ≡ slice_index self.now.picture (y * self.now.config.width + x)) }
+        ensures inside { IsSome result ↔ ((x < self.now.picture.width) × (y < self.now.picture.height)) }
+        ensures colour { IfSome result (λ colour. colour ≡ slice_index self.now.picture.colours (y * self.now.picture.width + x)) }
     {
         self.scene.colour(x, y)
     }
@@ -380,6 +380,24 @@ impl Screen {
         self.events.make_room()?;
         self.scene.cut_text(text)?;
         self.events.push(Event::CutText { text: copy });
+        Ok(())
+    }
+
+    /// The screen has so many columns and rows from now on, and is 0 everywhere (`rfbNewFramebuffer` of `rfb.h`). Every place is owed
+    /// to every viewer. One that lists DesktopSize is told the size before anything else of the screen, where it asks; any other sees
+    /// as much of the screen as its own size holds. Refused as `BadSize` unless each is 1 to 8192, with at most 2^24 places.
+    pub fn new_framebuffer(&mut self, width: u32, height: u32) -> Result<(), ScreenError>
+        ensures step { (config : Config) (list : List Event) → self.old ≡ state config list →
+            OnOk result (self.new ≡ state config (list ++ Event.Resize width height ∷ [])) }
+        ensures answer { (config : Config) (list : List Event) → self.old ≡ state config list →
+            Tells (λ _. nothing_to_say) result (answer_to config list (Event.Resize width height)) }
+        ensures refused { Refuses result (refusal self.old (Event.Resize width height)) }
+        ensures err { OnErr result (self.new ≡ self.old) }
+    {
+        self.scene.check_size(width, height)?;
+        self.events.make_room()?;
+        self.scene.new_framebuffer(width, height)?;
+        self.events.push(Event::Resize { width, height });
         Ok(())
     }
 

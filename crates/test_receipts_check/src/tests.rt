@@ -264,6 +264,10 @@ fn push_notices(alloc: Global, calls: &mut Vec<Event>) -> Result<(), AllocError>
     calls.push(Event::Bell)?;
     let text = Listed::from_slice(alloc, b"hi")?;
     calls.push(Event::CutText { text })?;
+    calls.push(Event::Resize {
+        width: 6,
+        height: 2,
+    })?;
     Ok(())
 }
 
@@ -308,9 +312,9 @@ fn expect_other(rt: &impl Abort, alloc: Global, history: &[Event], drawn: &[Even
 fn drawing_calls_are_compared(rt: HostRuntime) -> Result<(), Fail> {
     let history = drawing_calls(rt.alloc())?;
     let mut drawn = drawing_calls(rt.alloc())?;
-    expect_alike(&rt, rt.alloc(), &history, &drawn, 7)?;
+    expect_alike(&rt, rt.alloc(), &history, &drawn, 8)?;
     let _ = drawn.pop();
-    expect_other(&rt, rt.alloc(), &history, &drawn, 6);
+    expect_other(&rt, rt.alloc(), &history, &drawn, 7);
     Ok(())
 }
 

@@ -23,13 +23,14 @@ pub fn region_of(alloc: Global, rect: Rect) -> Result<Region, ScreenError> {
     }
 }
 
-/// Each drawing call of the whole screen once, in the colour 00000a.
+/// Each drawing call once: a new framebuffer of the size that the screen has, and then the whole screen in the colour 00000a.
 pub fn draw_each<L: Ledger, R: Wait>(
     rt: &R,
     alloc: Global,
     shared: &Shared<L>,
     brush: &mut Brush<L>,
 ) -> Result<(), ScreenError> {
+    brush.new_framebuffer(shared, rt, 4, 3)?;
     paint_each(rt, shared, brush)?;
     let region = region_of(alloc, ALL)?;
     draw_others(rt, shared, brush, &region)

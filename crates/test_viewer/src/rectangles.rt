@@ -1,6 +1,6 @@
-//! The rectangles of an update, in Raw, CopyRect and RRE (RFC 6143 sections 7.7.1 to 7.7.3).
+//! The rectangles of an update, in Raw, CopyRect and RRE (RFC 6143 sections 7.7.1 to 7.7.3), and a new size (7.8.2).
 
-ghost use Rattle.std.specs.Prelude.{◌≡◌, ◌+◌, ◌≤◌, ◌<◌, Err, IsErr, Ok, IfOk};
+ghost use Rattle.std.specs.Prelude.{◌≡◌, ◌≢◌, ◌+◌, ◌≤◌, ◌<◌, Err, IsErr, Ok, IfOk};
 ghost use Rattle.test_viewer.specs.Read.{block_of};
 ghost use Rattle.test_viewer.specs.Groups.{area_of_bytes, pixel_of_bytes, four_at};
 
@@ -37,8 +37,11 @@ pub(crate) fn by_pixels(reading: Reading, block: Block) -> Reading
     }
 }
 
+/// The encoding DesktopSize, -223 (RFC 6143 section 7.8.2).
+const DESKTOP_SIZE: u32 = 0xffff_ff21;
+
 /// A rectangle's place and size, which lies on the screen, and its encoding.
-fn read_head(reading: Reading, bytes: &Group) -> Result<Step, Halt>
+fn read_rectangle(reading: Reading, bytes: &Group) -> Result<Step, Halt>
     ensures known { IfOk result (λ step. four_at bytes.now 8 < 6) }
     ensures three { four_at bytes.now 8 ≡ 3 → IsErr result }
     ensures four { four_at bytes.now 8 ≡ 4 → IsErr result }
@@ -64,6 +67,41 @@ fn read_head(reading: Reading, bytes: &Group) -> Result<Step, Halt>
         5 if empty => silent(reading.next_rectangle()),
         5 => silent(tiles::first_tile(reading)),
         _ => halt(FaultKind::Encoding, 8),
+    }
+}
+
+/// The screen's new size: every place shows nothing (RFC 6143 section 7.8.2). Its place says nothing, and no data come behind it.
+fn read_size(reading: Reading, area: Area) -> Result<Step, Halt>
+    ensures effect { IfOk result (λ step. step.effect ≡ Effect.Screen area.w area.h) }
+    ensures columns { IfOk result (λ step. step.reading.columns ≡ area.w) }
+    ensures rows { IfOk result (λ step. step.reading.rows ≡ area.h) }
+{
+    let reading = Reading {
+        columns: area.w,
+        rows: area.h,
+        ..reading
+    };
+    Ok(Step {
+        reading: reading.next_rectangle(),
+        effect: Effect::Screen {
+            columns: area.w,
+            rows: area.h,
+        },
+    })
+}
+
+/// What a rectangle begins with, or the screen's new size.
+fn read_head(reading: Reading, bytes: &Group) -> Result<Step, Halt>
+    ensures size { four_at bytes.now 8 ≡ DESKTOP_SIZE → IfOk result (λ step. step.effect ≡
+        Effect.Screen (area_of_bytes bytes.now 0).w (area_of_bytes bytes.now 0).h) }
+    ensures area { four_at bytes.now 8 ≢ DESKTOP_SIZE → IfOk result (λ step. step.reading.area ≡ area_of_bytes bytes.now 0) }
+    ensures three { four_at bytes.now 8 ≡ 3 → IsErr result }
+    ensures four { four_at bytes.now 8 ≡ 4 → IsErr result }
+{
+    if four(bytes, 8) == DESKTOP_SIZE {
+        read_size(reading, area_in(bytes, 0))
+    } else {
+        read_rectangle(reading, bytes)
     }
 }
 

@@ -184,6 +184,14 @@ impl Shown {
         self.reading.is_open()
     }
 
+    /// The screen's columns and rows, as ServerInit or a DesktopSize told them last (RFC 6143 sections 7.3.2 and 7.8.2); 0 and 0
+    /// before.
+    pub fn size(&self) -> (u16, u16)
+        ensures { result ≡ (self.now.reading.columns, self.now.reading.rows) }
+    {
+        (self.reading.columns, self.reading.rows)
+    }
+
     /// How many updates were read whole, each with its last rectangle (RFC 6143 section 7.6.1); at most `u64::MAX`.
     pub fn updates(&self) -> u64
         ensures { result ≡ self.now.reading.updates }

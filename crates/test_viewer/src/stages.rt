@@ -38,7 +38,7 @@ pub(crate) enum Stage {
     Text,
     /// A byte of the text.
     TextByte,
-    /// A rectangle's place, size and encoding (RFC 6143 section 7.6.1).
+    /// A rectangle's place, size and encoding (RFC 6143 section 7.6.1), or the screen's new size (7.8.2).
     Head,
     /// Where a copy is from (RFC 6143 section 7.7.2).
     Source,
@@ -93,7 +93,7 @@ pub(crate) struct Tile {
 #[derive(Clone, Copy, Debug, PartialEq, Eq)]
 pub(crate) struct Reading {
     pub version: Version,
-    /// The screen's size, once ServerInit told it.
+    /// The screen's size, once ServerInit told it, and then the last DesktopSize.
     pub columns: u16,
     pub rows: u16,
     /// The format that the viewer asked for last, in which the next update is read.

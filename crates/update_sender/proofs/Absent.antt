@@ -10,7 +10,7 @@ use Rattle.scene.specs.declared.ScreenError.{ScreenError}
 use Rattle.scene.specs.declared.ScreenError.TheVariants as refusals
 use Rattle.scene.specs.Refusals.{presence, Refuses}
 use Rattle.scene.specs.declared.Event.{Event}
-use Rattle.scene.specs.declared.Event.TheVariants.{Write, Paint, Mark, ScheduleCopy, DoCopy, Bell, CutText, Connect, Hear, Cut, Close}
+use Rattle.scene.specs.declared.Event.TheVariants.{Write, Paint, Mark, ScheduleCopy, DoCopy, Bell, CutText, Resize, Connect, Hear, Cut, Close}
 use Rattle.scene.specs.Answers.{entry_of, viewer_of, after_arrival, live_from}
 use Rattle.scene.specs.History.{connects}
 use Rattle.screen.specs.State.{State, state, viewer_at}
@@ -95,6 +95,7 @@ live-lacks n there (ScheduleCopy r x y ∷ es) a b = live-lacks n there es a b
 live-lacks n there (DoCopy r x y ∷ es) a b = live-lacks n there es a b
 live-lacks n there (Bell ∷ es) a b = live-lacks n there es a b
 live-lacks n there (CutText t ∷ es) a b = live-lacks n there es a b
+live-lacks n there (Resize w k ∷ es) a b = live-lacks n there es a b
 live-lacks n there (Hear v p ∷ es) a b = live-lacks n there es a b
 live-lacks n there (Cut v ∷ es) a b = live-lacks n there es a b
 live-lacks n there (Close v ∷ es) a b = live-lacks n (filter (λ m. not (m == v)) there) es (lacks-filter n (λ m. not (m == v)) there a) b

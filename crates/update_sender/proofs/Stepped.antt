@@ -6,7 +6,7 @@ use Rattle.scene.specs.declared.Config.{Config}
 use Rattle.scene.specs.declared.ScreenError.{ScreenError}
 use Rattle.scene.specs.declared.Answer.{Answer}
 use Rattle.scene.specs.declared.Event.{Event}
-use Rattle.scene.specs.declared.Event.TheVariants.{Write, Paint, Mark, ScheduleCopy, DoCopy, Bell, CutText, Connect, Hear, Cut, Close}
+use Rattle.scene.specs.declared.Event.TheVariants.{Write, Paint, Mark, ScheduleCopy, DoCopy, Bell, CutText, Resize, Connect, Hear, Cut, Close}
 use Rattle.scene.specs.Alone.{Tells, owner_of, some_bytes, gives}
 use Rattle.scene.specs.Answers.{answer_to, is_drawing}
 use Rattle.scene.specs.History.{has_happened, accepted_after, accepted, drawings, connects}
@@ -68,6 +68,7 @@ connects-append (ScheduleCopy r x y ∷ es) more = connects-append es more
 connects-append (DoCopy r x y ∷ es) more = connects-append es more
 connects-append (Bell ∷ es) more = connects-append es more
 connects-append (CutText t ∷ es) more = connects-append es more
+connects-append (Resize w k ∷ es) more = connects-append es more
 connects-append (Connect v ∷ es) more = ap (λ l. v ∷ l) (connects-append es more)
 connects-append (Hear v p ∷ es) more = connects-append es more
 connects-append (Cut v ∷ es) more = connects-append es more
@@ -150,6 +151,7 @@ call-connects (calls.DoCopyRect r x y) = refl
 call-connects (calls.DoCopyRegion r x y) = refl
 call-connects calls.Bell = refl
 call-connects (calls.CutText t) = refl
+call-connects (calls.NewFramebuffer w h) = refl
 
 call-drawn : (d : Drawing) → drawings (event_of d ∷ []) ≡ event_of d ∷ []
 call-drawn (calls.Write r l) = refl
@@ -162,6 +164,7 @@ call-drawn (calls.DoCopyRect r x y) = refl
 call-drawn (calls.DoCopyRegion r x y) = refl
 call-drawn calls.Bell = refl
 call-drawn (calls.CutText t) = refl
+call-drawn (calls.NewFramebuffer w h) = refl
 
 call-happened : (d : Drawing) (a : Answer) → has_happened (event_of d) a ≡ is_none a.refused
 call-happened (calls.Write r l) a = refl
@@ -174,6 +177,7 @@ call-happened (calls.DoCopyRect r x y) a = refl
 call-happened (calls.DoCopyRegion r x y) a = refl
 call-happened calls.Bell a = refl
 call-happened (calls.CutText t) a = refl
+call-happened (calls.NewFramebuffer w h) a = refl
 
 pub drawn : {X : Type 0} (answer : X → Answer) (x : X) (s t : State) (h : List Event) (greatest : Option ℕ) (counted more : ℕ) (d : Drawing) → Stands s h greatest counted
     → t ≡ state s.config (h ++ event_of d ∷ []) → Tells answer (Ok x) (answer_to s.config h (event_of d)) → more ≡ counted + 1 → Stands t (h ++ event_of d ∷ []) greatest more

@@ -3,7 +3,7 @@ use Rattle.std.specs.Prelude.{Bool, true, false, [], ◌∷◌}
 use Rattle.scene.specs.declared.Event.{Event}
 use Rattle.scene.specs.declared.Event.TheVariants as events
 use Rattle.update_sender.specs.declared.drawing.Drawing.{Drawing}
-use Rattle.update_sender.specs.declared.drawing.Drawing.TheVariants.{Write, Paint, MarkRect, MarkRegion, ScheduleCopyRect, ScheduleCopyRegion, DoCopyRect, DoCopyRegion, Bell, CutText}
+use Rattle.update_sender.specs.declared.drawing.Drawing.TheVariants.{Write, Paint, MarkRect, MarkRegion, ScheduleCopyRect, ScheduleCopyRegion, DoCopyRect, DoCopyRegion, Bell, CutText, NewFramebuffer}
 
 abbrev pub event_of : Drawing → Event
 event_of (Write rect colours) = events.Write rect colours.now
@@ -16,6 +16,7 @@ event_of (DoCopyRect rect dx dy) = events.DoCopy (rect ∷ []) dx dy
 event_of (DoCopyRegion region dx dy) = events.DoCopy region.now.list dx dy
 event_of Bell = events.Bell
 event_of (CutText text) = events.CutText text.now
+event_of (NewFramebuffer width height) = events.Resize width height
 
 -- whether a viewer that waits may have something to be sent after it: none is told of colours that are only written
 abbrev pub may_be_sent : Drawing → Bool

@@ -98,6 +98,10 @@ fn event_in(drawn: &Recorded<Event>, drawing: &Drawing<'_>) -> Result<Event, All
         Drawing::CutText(text) => Event::CutText {
             text: drawn.copied(text)?,
         },
+        Drawing::NewFramebuffer { width, height } => Event::Resize {
+            width: *width,
+            height: *height,
+        },
     })
 }
 
@@ -295,5 +299,19 @@ impl<L: Ledger> Brush<L> {
         ensures err { OnErr result (self.new ≡ self.old) }
     {
         self.draw(shared, rt, &Drawing::CutText(text))
+    }
+
+    /// `Screen::new_framebuffer`.
+    pub fn new_framebuffer<R: Wait>(
+        &mut self,
+        shared: &Shared<L>,
+        rt: &R,
+        width: u32,
+        height: u32,
+    ) -> Result<(), ScreenError>
+        ensures drawn { OnOk result (self.new ≡ drew (Event.Resize width height) self.old) }
+        ensures err { OnErr result (self.new ≡ self.old) }
+    {
+        self.draw(shared, rt, &Drawing::NewFramebuffer { width, height })
     }
 }

@@ -47,6 +47,10 @@ pub enum Drawing<'a> {
     },
     Bell,
     CutText(&'a [u8]),
+    NewFramebuffer {
+        width: u32,
+        height: u32,
+    },
 }
 
 impl<'a> Drawing<'a> {
@@ -84,6 +88,7 @@ impl<'a> Drawing<'a> {
             Drawing::DoCopyRegion { region, dx, dy } => screen.do_copy_region(region, *dx, *dy),
             Drawing::Bell => screen.bell(),
             Drawing::CutText(text) => screen.cut_text(text),
+            Drawing::NewFramebuffer { width, height } => screen.new_framebuffer(*width, *height),
         }
     }
 }

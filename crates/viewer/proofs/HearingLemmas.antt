@@ -25,8 +25,8 @@ use Rattle.viewer.specs.Hearing.{input_of, after_items, heard_reply}
 use Rattle.viewer.specs.Viewer.{Viewer, KeptViewer, area_places, after_item}
 
 item-size : {B : Type 0} (w h : ℕ) (i : Item) (v : Viewer B) → ((after_item w h i v).marks.width ≡ v.marks.width) × ((after_item w h i v).marks.height ≡ v.marks.height)
-item-size w h (item.Encodings preferred true) v = (refl, refl)
-item-size w h (item.Encodings preferred false) v = (refl, refl)
+item-size w h (item.Encodings preferred true resize) v = (refl, refl)
+item-size w h (item.Encodings preferred false resize) v = (refl, refl)
 item-size w h (item.Request true area) v = (refl, refl)
 item-size w h (item.Request false area) v = (refl, refl)
 item-size w h (item.Version version) v = (refl, refl)
@@ -48,7 +48,7 @@ items-heard w h [] v r = refl
 items-heard w h (i ∷ is) v r = ap (after_items w h is) (item-heard i v r) ∙ items-heard w h is (after_item w h i v) r
   where
     item-heard : (i : Item) (v : KeptViewer) (r : Rest) → after_item w h i (record v { heard = r }) ≡ record (after_item w h i v) { heard = r }
-    item-heard (item.Encodings preferred copyrect) v r = refl
+    item-heard (item.Encodings preferred copyrect resize) v r = refl
     item-heard (item.Request incremental area) v r = refl
     item-heard (item.Version version) v r = refl
     item-heard item.Choice v r = refl
@@ -71,7 +71,7 @@ no-input (item.Version v) other = refl
 no-input item.Choice other = refl
 no-input (item.Init shared) other = refl
 no-input (item.Format f) other = refl
-no-input (item.Encodings preferred copyrect) other = refl
+no-input (item.Encodings preferred copyrect resize) other = refl
 no-input (item.Request incremental area) other = refl
 
 -- another item at the end leaves them

@@ -1,7 +1,8 @@
--- An update that is given isn't empty.
-use Rattle.std.proofs.Common.{◌≡◌, ℕ, ◌<◌, Bool, true, false, List, [], ◌∷◌, ◌++◌, length, refl, subst, sym, arith}
-use Rattle.std.specs.Prelude.{flat_map}
+-- An update that is given isn't empty; and what a new size is by equal sizes and views.
+use Rattle.std.proofs.Common.{◌≡◌, ℕ, ◌<◌, Bool, true, false, List, [], ◌∷◌, ◌++◌, length, Result, Ok, Err, refl, subst, sym, ap, ◌∙◌, arith}
+use Rattle.std.specs.Prelude.{ℤ, flat_map, IfOk}
 use Rattle.std.proofs.lemmas.List.{length-append}
+use Rattle.copy_schedule.specs.Marks.{Marks, resized}
 use Rattle.messages.specs.Server.{colour_map}
 use Rattle.viewer.specs.declared.notices.Notice.{Notice}
 use Rattle.viewer.specs.declared.notices.Notice.TheVariants as notice
@@ -33,3 +34,10 @@ some_more old new e = subst (λ (l : List ℕ). length old < length l) (sym e) (
 pub some_rest : (bytes rest : List ℕ) → (rest ≡ [] → ⊥) → bytes ++ rest ≡ [] → ⊥
 some_rest [] rest some e = some e
 some_rest (b ∷ bytes) rest some e = cc
+
+-- marks of another size, by equal sizes and views
+pub same_resized : {E : Type 0} → (result : Result Marks E) (w w' h h' : ℕ) (view view' : ℤ → ℤ → Bool) (m : Marks) → w ≡ w' → h ≡ h' → view ≡ view'
+    → IfOk result (λ r. r ≡ resized w h view m) → IfOk result (λ r. r ≡ resized w' h' view' m)
+same_resized (Ok r) w w' h h' view view' m is_w is_h is_view e =
+    e ∙ ap (λ n. resized n h view m) is_w ∙ ap (λ n. resized w' n view m) is_h ∙ ap (λ p. resized w' h' p m) is_view
+same_resized (Err err) w w' h h' view view' m is_w is_h is_view e = e

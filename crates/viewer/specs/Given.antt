@@ -1,9 +1,13 @@
 -- What a call that cuts an update gives, and what a viewer takes.
-use Rattle.std.specs.Prelude.{ℕ, Bool, ◌&&◌, nat_lt, length, List, [], Option, Some, None}
+use Rattle.std.specs.Prelude.{◌≢◌, ℕ, Bool, false, ◌&&◌, nat_lt, length, List, [], ◌++◌, Option, Some, None}
 use Rattle.messages.specs.Reading.{is_open_rest}
-use Rattle.copy_schedule.specs.Marks.{Marks, Sent}
-use Rattle.viewer.specs.Viewer.{Viewer, KeptViewer}
-use Rattle.viewer.specs.Sending.{update_bytes}
+use Rattle.copy_schedule.specs.Marks.{Marks}
+use Rattle.viewer.specs.declared.standing.Planned.{Planned}
+use Rattle.viewer.specs.declared.parts.Part.{Part}
+use Rattle.viewer.specs.declared.parts.Part.TheVariants.{Nothing}
+use Rattle.viewer.specs.Viewer.{KeptViewer}
+use Rattle.viewer.specs.Sending.{front_bytes}
+use Rattle.viewer.specs.Updates.{part_bytes}
 
 -- the bytes of an update, or none
 abbrev pub bytes_given : Option (List ℕ) → List ℕ
@@ -15,14 +19,17 @@ abbrev pub marks_put : Marks → Option Marks → Marks
 marks_put m None = m
 marks_put m (Some n) = n
 
--- the rectangles' bytes of what a viewer is sent, and the marks after it
-abbrev pub sent_bytes : {B : Type 0} → ℕ → ℕ → List ℕ → Viewer B → Option Sent → List ℕ
-sent_bytes w h picture v None = []
-sent_bytes w h picture v (Some s) = update_bytes w h picture v s
+-- a viewer's step with what is planned of the screen: the bytes, and the viewer after it
+abbrev pub planned_bytes : KeptViewer → Planned → List ℕ
+planned_bytes v p = front_bytes v ++ part_bytes p.part
 
-abbrev pub sent_marks : Marks → Option Sent → Marks
-sent_marks m None = m
-sent_marks m (Some s) = s.after
+abbrev pub planned_viewer : KeptViewer → Planned → KeptViewer
+planned_viewer v p = record v { map_owed = false; notices = []; told = p.told; marks = marks_put v.marks p.marks }
+
+-- what is sent isn't empty, unless it is nothing
+abbrev pub IsSomething : Part → Type 0
+IsSomething Nothing = Unit {0}
+IsSomething part = part_bytes part ≢ []
 
 -- whether a viewer would keep a notice: it is open, and fewer than 64 wait
 abbrev pub keeps_notices : KeptViewer → Bool

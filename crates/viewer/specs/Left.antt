@@ -1,9 +1,8 @@
--- What is left of an update while it is encoded part by part.
-use Rattle.std.specs.Prelude.{ℕ, ◌+◌, ◌*◌, ◌<◌, Bool, List, [], ◌∷◌, ◌++◌, length, drop, map, flat_map, Option, None, Some}
+-- What is left of rectangles while they are encoded part by part.
+use Rattle.std.specs.Prelude.{ℕ, ◌+◌, ◌*◌, ◌<◌, List, [], ◌∷◌, ◌++◌, length, drop, map, flat_map, Option, None, Some}
 use Rattle.pixel_translate.specs.declared.PixelFormat.{PixelFormat}
 use Rattle.pixel_translate.specs.Pixel.{pixel, colour_bytes}
 use Rattle.messages.specs.declared.Encoding.{Encoding}
-use Rattle.viewer.specs.declared.notices.Notice.{Notice}
 use Rattle.viewer.specs.declared.parts.Moved.{Moved}
 use Rattle.viewer.specs.declared.parts.Coloured.{Coloured}
 use Rattle.viewer.specs.declared.parts.Rectangles.{Rectangles}
@@ -12,7 +11,6 @@ use Rattle.viewer.specs.declared.left.Begun.{Begun}
 use Rattle.viewer.specs.declared.left.Begun.TheVariants.{Colours, Tiles}
 use Rattle.viewer.specs.declared.left.Reached.{Reached}
 use Rattle.viewer.specs.declared.left.Reached.TheVariants.{Nothing, Before, Within}
-use Rattle.viewer.specs.Sending.{map_bytes, notice_bytes}
 use Rattle.viewer.specs.Updates.{coloured_bytes, kept_bytes}
 
 -- what is left of a rectangle: in Raw the pixels behind so many, in Hextile the rows of tiles behind so many, or nothing
@@ -52,12 +50,3 @@ IsWithin rectangles (Within next begun) = GoesOn begun (drop next rectangles)
 abbrev pub reached_after : ℕ → Option Begun → Reached
 reached_after next None = Before (next + 1)
 reached_after next (Some begun) = Within next begun
-
--- the bytes that are left, if there are any
-abbrev pub maybe_left : Option (List ℕ) → List ℕ
-maybe_left None = []
-maybe_left (Some bytes) = bytes
-
--- the colour map is left where it is owed and not told yet
-abbrev pub update_left : Bool → List Notice → ℕ → Option (List ℕ) → List ℕ
-update_left map_owed notices told rectangles = (map_bytes map_owed ++ flat_map notice_bytes (drop told notices)) ++ maybe_left rectangles

@@ -7,4 +7,5 @@ pub mod Updates
 pub mod Given
 pub mod Standings
 pub mod Left
+pub mod UpdatesLeft
 pub mod Told

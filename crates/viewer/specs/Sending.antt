@@ -1,21 +1,22 @@
 -- What one sending step gives a viewer (RFC 6143, 7.6).
-use Rattle.std.specs.Prelude.{ℕ, ◌+◌, Bool, false, if◌then◌else◌, List, [], ◌++◌, length, flat_map, ℤ, ◌-ℤ◌, nat_abs, Option, Some, None}
+use Rattle.std.specs.Prelude.{ℕ, ◌+◌, Bool, false, not, ◌&&◌, ◌==◌, if◌then◌else◌, List, [], ◌++◌, length, flat_map, ℤ, ◌-ℤ◌, nat_abs, Option, Some, None}
 use Rattle.region.specs.declared.Rect.{Rect}
-use Rattle.copy_schedule.specs.Marks.{Sent, cut_of}
+use Rattle.copy_schedule.specs.Marks.{Sent, new_marks, has_asked, cut_of}
 use Rattle.pixel_translate.specs.declared.Area.{Area}
 use Rattle.pixel_translate.specs.declared.PixelFormat.{PixelFormat}
-use Rattle.encode_raw.specs.Raw.{raw, copyrect}
+use Rattle.encode_raw.specs.Raw.{head, raw, copyrect}
 use Rattle.encode_rre.specs.Rre.{rre}
 use Rattle.encode_hextile.specs.Hextile.{hextile}
 use Rattle.messages.specs.declared.Encoding.{Encoding}
 use Rattle.messages.specs.declared.Encoding.TheVariants as encoding
+use Rattle.messages.specs.Grammar.{desktop_size}
 use Rattle.messages.specs.Reading.{Rest, is_open_rest}
 use Rattle.messages.specs.Server.{bell, cut_text, colour_map, update_head}
 use Rattle.viewer_picture.specs.Areas.{area_of}
 use Rattle.framebuffer.specs.Picture.{colours_of}
 use Rattle.viewer.specs.declared.notices.Notice.{Notice}
 use Rattle.viewer.specs.declared.notices.Notice.TheVariants as notice
-use Rattle.viewer.specs.Viewer.{Viewer, is_open_viewer}
+use Rattle.viewer.specs.Viewer.{Viewer, size_by, is_open_viewer}
 
 -- 7.6.2: the colour map, where it is owed
 abbrev pub map_bytes : Bool → List ℕ
@@ -52,15 +53,36 @@ update_bytes w h picture v s = bytes_of w h picture v.encoding v.format s.copies
 abbrev pub front_bytes : {B : Type 0} → Viewer B → List ℕ
 front_bytes v = map_bytes v.map_owed ++ flat_map notice_bytes v.notices
 
--- the bytes of a sending step, and the viewer after it
+-- a viewer that lists DesktopSize is owed a size that it doesn't have
+abbrev pub is_size_owed : {B : Type 0} → ℕ → ℕ → Viewer B → Bool
+is_size_owed w h v = v.takes_sizes && not ((size_by w h v.told).width == w && (size_by w h v.told).height == h)
+
+-- it is told the size where it asks for places
+abbrev pub tells_size : {B : Type 0} → ℕ → ℕ → Viewer B → Bool
+tells_size w h v = has_asked v.marks && is_size_owed w h v
+
+-- 7.8.2: an update with one rectangle, which tells a size
+abbrev pub size_bytes : ℕ → ℕ → List ℕ
+size_bytes w h = update_head 1 ++ head (record { x = 0; y = 0; w = w; h = h }) desktop_size
+
+-- the bytes of a step that tells the size, and the viewer after it: it shows nothing, so every place is owed, and it asks anew
+abbrev pub with_size : {B : Type 0} → ℕ → ℕ → Viewer B → List ℕ × Viewer B
+with_size w h v =
+    (front_bytes v ++ size_bytes w h, record v { map_owed = false; notices = []; told = Some (record { width = w; height = h }); marks = new_marks w h })
+
+-- the bytes of any other sending step, and the viewer after it
 abbrev pub with_update : {B : Type 0} → ℕ → ℕ → List ℕ → Viewer B → Option Sent → List ℕ × Viewer B
 with_update w h picture v None = (front_bytes v, record v { map_owed = false; notices = [] })
 with_update w h picture v (Some s) = (front_bytes v ++ update_bytes w h picture v s, record v { map_owed = false; notices = []; marks = s.after })
 
--- only an open viewer is sent anything; of the copies and of the pixel rectangles, at most limit
+-- a size comes before all places; of the copies and of the pixel rectangles, at most limit are sent
+abbrev pub sending_open : {B : Type 0} → ℕ → ℕ → ℕ → List ℕ → Viewer B → List ℕ × Viewer B
+sending_open w h limit picture v = if tells_size w h v then with_size w h v else with_update w h picture v (cut_of limit v.marks)
+
+-- only an open viewer is sent anything
 abbrev pub sending : ℕ → ℕ → ℕ → List ℕ → Viewer (List ℕ) → List ℕ × Viewer (List ℕ)
-sending w h limit picture v = if is_open_viewer v then with_update w h picture v (cut_of limit v.marks) else ([], v)
+sending w h limit picture v = if is_open_viewer v then sending_open w h limit picture v else ([], v)
 
 -- the same, by what a screen keeps of the viewer
 abbrev pub sending_kept : ℕ → ℕ → ℕ → List ℕ → Viewer Rest → List ℕ × Viewer Rest
-sending_kept w h limit picture v = if is_open_rest v.heard then with_update w h picture v (cut_of limit v.marks) else ([], v)
+sending_kept w h limit picture v = if is_open_rest v.heard then sending_open w h limit picture v else ([], v)

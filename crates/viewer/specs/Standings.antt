@@ -6,8 +6,8 @@ use Rattle.viewer.specs.Viewer.{KeptViewer}
 
 -- the viewer of a standing
 abbrev pub viewer_in : Standing → KeptViewer
-viewer_in s = record { heard = s.ear; format = s.format; map_owed = s.map_owed; encoding = s.encoding; uses_copyrect = s.uses_copyrect; marks = s.marks; notices = s.notices }
+viewer_in s = record { heard = s.ear; format = s.format; map_owed = s.map_owed; encoding = s.encoding; uses_copyrect = s.uses_copyrect; takes_sizes = s.takes_sizes; told = s.told; marks = s.marks; notices = s.notices }
 
 -- the same with what a draft changes
 abbrev pub viewer_by : Standing → Draft → KeptViewer
-viewer_by s d = record { heard = s.ear; format = d.format; map_owed = d.map_owed; encoding = d.encoding; uses_copyrect = d.uses_copyrect; marks = marks_put s.marks d.marks; notices = s.notices }
+viewer_by s d = record { heard = s.ear; format = d.format; map_owed = d.map_owed; encoding = d.encoding; uses_copyrect = d.uses_copyrect; takes_sizes = d.takes_sizes; told = d.told; marks = marks_put s.marks d.marks; notices = s.notices }

@@ -1,5 +1,5 @@
 -- An update's bytes, by what it keeps.
-use Rattle.std.specs.Prelude.{ℕ, ◌+◌, Bool, List, [], ◌++◌, length, flat_map, Option, None, Some}
+use Rattle.std.specs.Prelude.{ℕ, ◌+◌, Bool, List, [], ◌++◌, length, flat_map}
 use Rattle.pixel_translate.specs.declared.PixelFormat.{PixelFormat}
 use Rattle.encode_raw.specs.Raw.{copyrect}
 use Rattle.messages.specs.declared.Encoding.{Encoding}
@@ -8,7 +8,9 @@ use Rattle.viewer.specs.declared.notices.Notice.{Notice}
 use Rattle.viewer.specs.declared.parts.Moved.{Moved}
 use Rattle.viewer.specs.declared.parts.Coloured.{Coloured}
 use Rattle.viewer.specs.declared.parts.Rectangles.{Rectangles}
-use Rattle.viewer.specs.Sending.{encoded, map_bytes, notice_bytes}
+use Rattle.viewer.specs.declared.parts.Part.{Part}
+use Rattle.viewer.specs.declared.parts.Part.TheVariants.{Nothing, NewSize, Places}
+use Rattle.viewer.specs.Sending.{encoded, map_bytes, notice_bytes, size_bytes}
 
 abbrev pub moved_bytes : Moved → List ℕ
 moved_bytes m = copyrect m.area m.src_x m.src_y
@@ -23,10 +25,12 @@ kept_bytes e f moves rectangles = update_head (length moves + length rectangles)
 abbrev pub rectangles_bytes : Rectangles → List ℕ
 rectangles_bytes r = kept_bytes r.encoding r.format r.moves.items r.coloured.items
 
-abbrev pub maybe_bytes : Option Rectangles → List ℕ
-maybe_bytes None = []
-maybe_bytes (Some r) = rectangles_bytes r
+-- 7.6.1, 7.8.2: what an update says of the screen: nothing, a new size, or rectangles
+abbrev pub part_bytes : Part → List ℕ
+part_bytes Nothing = []
+part_bytes (NewSize size) = size_bytes size.width size.height
+part_bytes (Places r) = rectangles_bytes r
 
--- 7.6: the colour map where it is owed, the notices, then the rectangles
-abbrev pub all_bytes : Bool → List Notice → Option Rectangles → List ℕ
-all_bytes map_owed notices rectangles = (map_bytes map_owed ++ flat_map notice_bytes notices) ++ maybe_bytes rectangles
+-- 7.6: the colour map where it is owed, the notices, then the size or the rectangles
+abbrev pub all_bytes : Bool → List Notice → Part → List ℕ
+all_bytes map_owed notices part = (map_bytes map_owed ++ flat_map notice_bytes notices) ++ part_bytes part

@@ -1,8 +1,8 @@
 -- One viewer, and what drawing and its own messages do to it.
-use Rattle.std.specs.Prelude.{ℕ, ◌+◌, Bool, true, false, not, ◌&&◌, ◌||◌, if◌then◌else◌, nat_lt, List, [], ◌∷◌, ◌++◌, length, ℤ, pos}
+use Rattle.std.specs.Prelude.{ℕ, ◌+◌, Bool, true, false, not, ◌&&◌, ◌||◌, if◌then◌else◌, nat_lt, min, List, [], ◌∷◌, ◌++◌, length, ℤ, pos, Option, None, Some, unwrap_or}
 use Rattle.region.specs.Region.{in_rect, on_screen}
 use Rattle.region.specs.Places.{some_place, cut_destination, same_offset}
-use Rattle.copy_schedule.specs.Marks.{Marks, new_marks, marked, copied_by, requested, without_copyrect}
+use Rattle.copy_schedule.specs.Marks.{Marks, new_marks, marked, copied_by, requested, resized, without_copyrect}
 use Rattle.pixel_translate.specs.declared.Area.{Area}
 use Rattle.pixel_translate.specs.declared.PixelFormat.{PixelFormat}
 use Rattle.pixel_translate.specs.Pixel.{server_format, is_colour_map}
@@ -14,6 +14,7 @@ use Rattle.messages.specs.declared.Phase.{Phase}
 use Rattle.messages.specs.declared.Phase.TheVariants as phase
 use Rattle.messages.specs.Grammar.{End, waiting}
 use Rattle.messages.specs.Reading.{heard, Rest, rest}
+use Rattle.viewer.specs.declared.sizes.Size.{Size}
 use Rattle.viewer.specs.declared.notices.Notice.{Notice}
 
 -- One viewer. Its bytes so far stand as a list, or as what a screen keeps of them.
@@ -24,6 +25,10 @@ pub record Viewer (Bytes : Type 0) : Type 0 where
   pub map_owed : Bool
   pub encoding : Encoding
   pub uses_copyrect : Bool
+  -- it lists DesktopSize, so it can be told a new size
+  pub takes_sizes : Bool
+  -- the size that it was told last; none before its ServerInit
+  pub told : Option Size
   pub marks : Marks
   pub notices : List Notice
 
@@ -32,11 +37,11 @@ abbrev pub KeptViewer : Type 0
 KeptViewer = Viewer Rest
 
 abbrev pub kept_viewer : Viewer (List ℕ) → KeptViewer
-kept_viewer v = record { heard = rest v.heard; format = v.format; map_owed = v.map_owed; encoding = v.encoding; uses_copyrect = v.uses_copyrect; marks = v.marks; notices = v.notices }
+kept_viewer v = record { heard = rest v.heard; format = v.format; map_owed = v.map_owed; encoding = v.encoding; uses_copyrect = v.uses_copyrect; takes_sizes = v.takes_sizes; told = v.told; marks = v.marks; notices = v.notices }
 
 -- at connecting
 abbrev pub new_viewer : ℕ → ℕ → Viewer (List ℕ)
-new_viewer w h = record { heard = []; format = server_format; map_owed = false; encoding = encoding.Raw; uses_copyrect = false; marks = new_marks w h; notices = [] }
+new_viewer w h = record { heard = []; format = server_format; map_owed = false; encoding = encoding.Raw; uses_copyrect = false; takes_sizes = false; told = None; marks = new_marks w h; notices = [] }
 
 -- the ServerInit is sent, and there is no fault
 abbrev pub is_open : Phase → End → Bool
@@ -70,20 +75,40 @@ abbrev pub viewer_copied : {B : Type 0} → ℕ → ℕ → (ℤ → ℤ → Boo
 viewer_copied w h set by v =
     record v { marks = if does_nothing w h set by then v.marks else copied_by (cut_destination w h set by) by v.uses_copyrect v.marks }
 
--- the places of an area that are on the screen
+-- A viewer's size is that of a w by h screen until its ServerInit, and then what it was told last.
+abbrev pub size_by : ℕ → ℕ → Option Size → Size
+size_by w h told = unwrap_or told (record { width = w; height = h })
+
+-- its view: the columns and rows that are within both its size and the screen
+abbrev pub view_by : ℕ → ℕ → Option Size → Size
+view_by w h told = record { width = min (size_by w h told).width w; height = min (size_by w h told).height h }
+
+abbrev pub view_of : {B : Type 0} → ℕ → ℕ → Viewer B → Size
+view_of w h v = view_by w h v.told
+
+abbrev pub in_view : {B : Type 0} → ℕ → ℕ → Viewer B → ℤ → ℤ → Bool
+in_view w h v x y = on_screen (view_of w h v).width (view_of w h v).height x y
+
+-- the screen has w columns and h rows from now on
+abbrev pub viewer_resized : {B : Type 0} → ℕ → ℕ → Viewer B → Viewer B
+viewer_resized w h v = record v { marks = resized w h (in_view w h v) v.marks }
+
+-- the places of an area that are in a view
 abbrev pub area_places : ℕ → ℕ → Area → ℤ → ℤ → Bool
 area_places w h a x y = in_rect (record { x1 = pos a.x; y1 = pos a.y; x2 = pos (a.x + a.w); y2 = pos (a.y + a.h) }) x y && on_screen w h x y
 
--- RFC 6143, 7.5: what a viewer's message does
+-- RFC 6143, 7.5: what a viewer's message does on a w by h screen. Its ClientInit is answered with the screen's size.
 abbrev pub after_item : {B : Type 0} → ℕ → ℕ → Item → Viewer B → Viewer B
 after_item w h (item.Format f) v = record v { format = f; map_owed = is_colour_map f }
-after_item w h (item.Encodings preferred copyrect) v = record v {
+after_item w h (item.Encodings preferred copyrect resize) v = record v {
   encoding = preferred;
   uses_copyrect = copyrect;
+  takes_sizes = resize;
   marks = if copyrect then v.marks else without_copyrect v.marks;
 }
-after_item w h (item.Request incremental area) v = record v { marks = requested (area_places w h area) incremental v.marks }
+after_item w h (item.Request incremental area) v =
+    record v { marks = requested (area_places (view_of w h v).width (view_of w h v).height area) incremental v.marks }
 after_item w h (item.Version version) v = v
 after_item w h item.Choice v = v
-after_item w h (item.Init shared) v = v
+after_item w h (item.Init shared) v = record v { told = Some (record { width = w; height = h }) }
 after_item w h (item.Input input) v = v

@@ -1,24 +1,26 @@
-//! What an update takes out of the screen: the rectangles that the marks chose, with their colours.
+//! What an update takes out of the screen: its size, or the rectangles that the marks chose, with their colours.
 
-ghost use Rattle.std.specs.Prelude.{◌≡◌, ◌<◌, ◌≤◌, ◌+◌, ◌*◌, ◌^◌, All, length, flat_map, IfOk, ◌-ℤ◌, nat_abs, [], ◌≢◌, IfSome};
+ghost use Rattle.std.specs.Prelude.{◌≡◌, ◌<◌, ◌≤◌, ◌+◌, ◌*◌, ◌^◌, All, length, flat_map, IfOk, ◌-ℤ◌, nat_abs, [], ◌≢◌, Some, None, IfSome};
 ghost use Rattle.std.specs.Prelude.{OnOk, OnErr};
 ghost use Rattle.region.specs.Places.{IsOnScreen, source_rect, longest_side};
-ghost use Rattle.copy_schedule.specs.Marks.{IsInside, HasSourcesInside, cut_of};
+ghost use Rattle.copy_schedule.specs.Marks.{IsInside, HasSourcesInside, new_marks, cut_of};
 ghost use Rattle.pixel_translate.specs.declared.PixelFormat.{PixelFormat};
 ghost use Rattle.messages.specs.declared.Encoding.{Encoding};
 ghost use Rattle.viewer_picture.specs.Areas.{area_of};
 ghost use Rattle.framebuffer.specs.Picture.{colours_of};
-ghost use Rattle.viewer.specs.Sending.{copy_bytes, pixel_rectangle, bytes_of, sending_kept};
+ghost use Rattle.viewer.specs.Sending.{copy_bytes, pixel_rectangle, bytes_of, with_update, sending_open, sending_kept};
 ghost use Rattle.viewer.specs.Standings.{viewer_in};
 ghost use Rattle.framebuffer.specs.Blocks.{block_rect, FitsIn};
-ghost use Rattle.viewer.specs.Updates.{moved_bytes, coloured_bytes, rectangles_bytes, maybe_bytes};
-ghost use Rattle.viewer.specs.Given.{bytes_given, marks_put, sent_bytes, sent_marks};
+ghost use Rattle.viewer.specs.Updates.{moved_bytes, coloured_bytes, rectangles_bytes, part_bytes};
+ghost use Rattle.viewer.specs.Given.{bytes_given, planned_bytes, planned_viewer, IsSomething};
 
 use crate::colours::Colours;
-use crate::parts::{Coloured, Moved, Rectangles};
+use crate::hearing::tells_size;
+use crate::parts::{Coloured, Moved, Part, Rectangles};
+use crate::sizes::Size;
 use crate::standing::{Planned, Standing, put_marks};
 use crate::update::{Update, encode_all};
-use copy_schedule::{Cut, PreparedCut};
+use copy_schedule::{Cut, Marks, PreparedCut};
 use framebuffer::{Block, Framebuffer, block_within};
 use messages::Encoding;
 use pixel_translate::{Area, PixelFormat};
@@ -137,7 +139,65 @@ fn rectangles_of(
     })
 }
 
-/// The rectangles that a viewer is sent next, and its marks once they are sent; none where no place is wanted.
+/// The places that a viewer is sent next, and its marks once they are sent; nothing where no place is wanted.
+fn plan_places(
+    alloc: Global,
+    picture: &mut Framebuffer,
+    limit: u32,
+    standing: &Standing,
+) -> Result<Planned, AllocError>
+    requires limit { limit ≤ 1000 }
+    requires width { standing.now.marks.width ≡ picture.old.width }
+    requires height { standing.now.marks.height ≡ picture.old.height }
+    ensures same { picture.new ≡ picture.old }
+    ensures bytes { IfOk result (λ planned. planned_bytes (viewer_in standing.now) planned ≡
+        (with_update picture.old.width picture.old.height picture.old.colours (viewer_in standing.now)
+        (cut_of limit standing.now.marks)).0) }
+    ensures viewer { IfOk result (λ planned. planned_viewer (viewer_in standing.now) planned ≡
+        (with_update picture.old.width picture.old.height picture.old.colours (viewer_in standing.now)
+        (cut_of limit standing.now.marks)).1) }
+    ensures told { IfOk result (λ planned. planned.told ≡ standing.now.told) }
+    ensures none { IfOk result (λ planned. planned.part ≡ Part.Nothing → planned.marks ≡ None) }
+    ensures some { IfOk result (λ planned. IsSomething planned.part) }
+    ensures width { IfOk result (λ planned. IfSome planned.marks (λ m. m.width ≡ standing.now.marks.width)) }
+    ensures height { IfOk result (λ planned. IfSome planned.marks (λ m. m.height ≡ standing.now.marks.height)) }
+{
+    let Some(PreparedCut { cut, marks }) = standing.marks.prepare_cut(limit)? else {
+        return Ok(Planned {
+            part: Part::Nothing,
+            told: standing.told,
+            marks: None,
+        });
+    };
+    let rectangles = rectangles_of(alloc, picture, standing.encoding, standing.format, &cut)?;
+    Ok(Planned {
+        part: Part::Places(rectangles),
+        told: standing.told,
+        marks: Some(marks.into_marks()),
+    })
+}
+
+/// A viewer is told the size of its screen: it shows nothing, so every place is owed, and it asks anew.
+fn plan_size(alloc: Global, picture: &Framebuffer) -> Result<Planned, AllocError>
+    ensures part { IfOk result (λ planned. planned.part ≡
+        Part.NewSize (record { width = picture.now.width; height = picture.now.height })) }
+    ensures told { IfOk result (λ planned. planned.told ≡
+        Some (record { width = picture.now.width; height = picture.now.height })) }
+    ensures marks { IfOk result (λ planned. planned.marks ≡ Some (new_marks picture.now.width picture.now.height)) }
+{
+    let size = Size {
+        width: picture.width() as u16,
+        height: picture.height() as u16,
+    };
+    let marks = Marks::new(alloc, picture.width(), picture.height())?;
+    Ok(Planned {
+        part: Part::NewSize(size),
+        told: Some(size),
+        marks: Some(marks),
+    })
+}
+
+/// What a viewer is sent of the screen next: a size that it is owed, where it asks, or else places.
 fn plan(
     alloc: Global,
     picture: &mut Framebuffer,
@@ -148,27 +208,21 @@ fn plan(
     requires width { standing.now.marks.width ≡ picture.old.width }
     requires height { standing.now.marks.height ≡ picture.old.height }
     ensures same { picture.new ≡ picture.old }
-    ensures bytes { IfOk result (λ planned. maybe_bytes planned.rectangles ≡
-        sent_bytes picture.old.width picture.old.height picture.old.colours (viewer_in standing.now)
-        (cut_of limit standing.now.marks)) }
-    ensures marks { IfOk result (λ planned. marks_put standing.now.marks planned.marks ≡
-        sent_marks standing.now.marks (cut_of limit standing.now.marks)) }
-    ensures none { IfOk result (λ planned. planned.rectangles ≡ None → cut_of limit standing.now.marks ≡ None) }
-    ensures some { IfOk result (λ planned. IfSome planned.rectangles (λ r. rectangles_bytes r ≢ [])) }
+    ensures bytes { IfOk result (λ planned. planned_bytes (viewer_in standing.now) planned ≡
+        (sending_open picture.old.width picture.old.height limit picture.old.colours (viewer_in standing.now)).0) }
+    ensures viewer { IfOk result (λ planned. planned_viewer (viewer_in standing.now) planned ≡
+        (sending_open picture.old.width picture.old.height limit picture.old.colours (viewer_in standing.now)).1) }
+    ensures told { IfOk result (λ planned. planned.part ≡ Part.Nothing → planned.told ≡ standing.now.told) }
+    ensures none { IfOk result (λ planned. planned.part ≡ Part.Nothing → planned.marks ≡ None) }
+    ensures some { IfOk result (λ planned. IsSomething planned.part) }
     ensures width { IfOk result (λ planned. IfSome planned.marks (λ m. m.width ≡ standing.now.marks.width)) }
     ensures height { IfOk result (λ planned. IfSome planned.marks (λ m. m.height ≡ standing.now.marks.height)) }
 {
-    let Some(PreparedCut { cut, marks }) = standing.marks.prepare_cut(limit)? else {
-        return Ok(Planned {
-            rectangles: None,
-            marks: None,
-        });
-    };
-    let rectangles = rectangles_of(alloc, picture, standing.encoding, standing.format, &cut)?;
-    Ok(Planned {
-        rectangles: Some(rectangles),
-        marks: Some(marks.into_marks()),
-    })
+    if tells_size(standing) {
+        plan_size(alloc, picture)
+    } else {
+        plan_places(alloc, picture, limit, standing)
+    }
 }
 
 /// Cuts an update for a viewer, or None where there is nothing to send. All growths are made before
@@ -195,15 +249,16 @@ pub fn cut_in(
     if !standing.ear.is_open() {
         return Ok(None);
     }
-    let Planned { rectangles, marks } = plan(alloc, picture, limit, standing)?;
-    if rectangles.is_none() && standing.notices.is_empty() && !standing.map_owed {
+    let Planned { part, told, marks } = plan(alloc, picture, limit, standing)?;
+    if part.is_nothing() && standing.notices.is_empty() && !standing.map_owed {
         return Ok(None);
     }
     let notices = standing.notices.take(alloc)?;
     let map_owed = standing.map_owed;
     standing.map_owed = false;
+    standing.told = told;
     put_marks(standing, marks);
-    Ok(Some(Update::new(alloc, map_owed, notices, rectangles)))
+    Ok(Some(Update::new(alloc, map_owed, notices, part)))
 }
 
 /// The same, encoded.
@@ -228,10 +283,11 @@ pub fn cut_bytes_in(
     if !standing.ear.is_open() {
         return Ok(Vec::new(alloc));
     }
-    let Planned { rectangles, marks } = plan(alloc, picture, limit, standing)?;
+    let Planned { part, told, marks } = plan(alloc, picture, limit, standing)?;
     let notices = standing.notices.as_slice();
-    let bytes = encode_all(alloc, standing.map_owed, notices, &rectangles)?;
+    let bytes = encode_all(alloc, standing.map_owed, notices, &part)?;
     standing.map_owed = false;
+    standing.told = told;
     standing.notices.clear();
     put_marks(standing, marks);
     Ok(bytes)

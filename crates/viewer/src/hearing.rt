@@ -8,7 +8,8 @@ ghost use Rattle.region.specs.Region.{in_rect};
 ghost use Rattle.region.specs.Places.{longest_side};
 ghost use Rattle.copy_schedule.specs.Marks.{pending, requested, without_copyrect};
 ghost use Rattle.viewer.specs.Hearing.{input_of, after_items, heard_reply};
-ghost use Rattle.viewer.specs.Viewer.{none_wait, area_places, after_item, new_viewer, kept_viewer};
+ghost use Rattle.viewer.specs.Viewer.{none_wait, after_item, new_viewer, kept_viewer};
+ghost use Rattle.viewer.specs.Sending.{is_size_owed, tells_size};
 ghost use Rattle.copy_schedule.specs.Log.{logged, IsCutEntry};
 ghost use Rattle.viewer.specs.Standings.{viewer_in, viewer_by};
 ghost use Rattle.viewer.specs.Told.{viewer_told};
@@ -16,35 +17,52 @@ ghost use Rattle.viewer.specs.Given.{marks_put};
 
 use crate::Reply;
 use crate::notices::Notices;
+use crate::sizes::{Size, clipped, view_by};
 use crate::standing::{Draft, Standing, put_marks};
 use copy_schedule::{LogEntry, Marks, joined_log};
 use listed::Listed;
 use messages::{Desktop, Ear, Encoding, Input, Item, Prepared, greetings};
-use pixel_translate::{Area, PixelFormat};
+use pixel_translate::PixelFormat;
 use region::Rect;
 use std::alloc::{AllocError, Global};
 
-/// Whether a viewer would be given something now, that is told of the drawing of a log first.
-pub fn is_pending(standing: &Standing, log: &[LogEntry]) -> bool
-    ensures { result ≡ (is_open_rest standing.now.ear && (standing.now.map_owed ||
-        (not (none_wait standing.now.notices) || pending (logged standing.now.uses_copyrect log.now standing.now.marks)))) }
+/// The size of a viewer's screen.
+pub(crate) fn screen_of(standing: &Standing) -> Size
+    ensures { result ≡ record { width = standing.now.marks.width; height = standing.now.marks.height } }
 {
-    standing.ear.is_open()
-        && (standing.map_owed || !standing.notices.is_empty() || standing.marks.pending_after(log))
+    Size {
+        width: standing.marks.width() as u16,
+        height: standing.marks.height() as u16,
+    }
 }
 
-/// The rectangle of an area's places that are on a screen.
-fn clipped(width: u32, height: u32, area: Area) -> Rect
-    ensures { in_rect result ≡ area_places width height area }
+/// Whether a viewer that lists DesktopSize has another size than the screen (RFC 6143, 7.8.2).
+fn is_size_owed(standing: &Standing) -> bool
+    ensures { result ≡ is_size_owed standing.now.marks.width standing.now.marks.height (viewer_in standing.now) }
 {
-    let right = (u32::from(area.x) + u32::from(area.w)).min(width);
-    let bottom = (u32::from(area.y) + u32::from(area.h)).min(height);
-    Rect {
-        x1: i32::from(area.x),
-        y1: i32::from(area.y),
-        x2: right as i32,
-        y2: bottom as i32,
-    }
+    let screen = screen_of(standing);
+    let size = standing.told.unwrap_or(screen);
+    standing.takes_sizes && !(size.width == screen.width && size.height == screen.height)
+}
+
+/// Whether an update would tell a viewer the size.
+pub(crate) fn tells_size(standing: &Standing) -> bool
+    ensures { result ≡ tells_size standing.now.marks.width standing.now.marks.height (viewer_in standing.now) }
+{
+    standing.marks.has_asked() && is_size_owed(standing)
+}
+
+/// Whether a viewer would be given something now, that is told of the drawing of a log first.
+pub fn is_pending(standing: &Standing, log: &[LogEntry]) -> bool
+    ensures { result ≡ (is_open_rest standing.now.ear && (standing.now.map_owed || (not (none_wait standing.now.notices) ||
+        (tells_size standing.now.marks.width standing.now.marks.height (viewer_in standing.now) ||
+        pending (logged standing.now.uses_copyrect log.now standing.now.marks))))) }
+{
+    standing.ear.is_open()
+        && (standing.map_owed
+            || !standing.notices.is_empty()
+            || tells_size(standing)
+            || standing.marks.pending_after(log))
 }
 
 /// A viewer's marks once they know the drawing of a log; None where the log has none.
@@ -75,6 +93,8 @@ fn draft_of(alloc: Global, standing: &Standing, log: &[LogEntry]) -> Result<Draf
         map_owed: standing.map_owed,
         encoding: standing.encoding,
         uses_copyrect: standing.uses_copyrect,
+        takes_sizes: standing.takes_sizes,
+        told: standing.told,
         marks: marks_after(alloc, standing, log)?,
     })
 }
@@ -95,17 +115,20 @@ fn take_encodings(
     standing: &Standing,
     preferred: Encoding,
     copyrect: bool,
+    resize: bool,
 ) -> Result<(), AllocError>
     ensures { OnOk result (viewer_by standing.now draft.new ≡
         record (viewer_by standing.now draft.old) {
           encoding = preferred;
           uses_copyrect = copyrect;
+          takes_sizes = resize;
           marks = if copyrect then marks_put standing.now.marks draft.old.marks else
               without_copyrect (marks_put standing.now.marks draft.old.marks);
         }) }
 {
     draft.encoding = preferred;
     draft.uses_copyrect = copyrect;
+    draft.takes_sizes = resize;
     if !copyrect {
         let mut marks = marks_to_change(standing, draft.marks.take())?;
         marks.no_copyrect()?;
@@ -132,7 +155,8 @@ fn take_request(
     Ok(())
 }
 
-/// What a viewer's message does to it (RFC 6143, 7.5). With a format the colour map is owed, or is owed no longer.
+/// What a viewer's message does to it (RFC 6143, 7.5). With a format the colour map is owed, or is owed no longer. Its ClientInit is
+/// answered with the screen's size, and its requests are cut to what it sees of the screen.
 fn take_item(draft: &mut Draft, standing: &Standing, item: &Item) -> Result<(), AllocError>
     ensures { OnOk result (viewer_by standing.now draft.new ≡
         after_item standing.now.marks.width standing.now.marks.height item.now (viewer_by standing.now draft.old)) }
@@ -146,10 +170,15 @@ fn take_item(draft: &mut Draft, standing: &Standing, item: &Item) -> Result<(), 
         Item::Encodings {
             preferred,
             copyrect,
-        } => take_encodings(draft, standing, *preferred, *copyrect),
+            resize,
+        } => take_encodings(draft, standing, *preferred, *copyrect, *resize),
         Item::Request { incremental, area } => {
-            let rect = clipped(standing.marks.width(), standing.marks.height(), *area);
-            take_request(draft, standing, rect, *incremental)
+            let view = view_by(screen_of(standing), draft.told);
+            take_request(draft, standing, clipped(view, *area), *incremental)
+        }
+        Item::Init { .. } => {
+            draft.told = Some(screen_of(standing));
+            Ok(())
         }
         _ => Ok(()),
     }
@@ -188,6 +217,8 @@ pub fn new_standing(alloc: Global, width: u32, height: u32) -> Result<Standing, 
         map_owed: false,
         encoding: Encoding::Raw,
         uses_copyrect: false,
+        takes_sizes: false,
+        told: None,
         marks: Marks::new(alloc, width, height)?,
         notices: Notices::new(alloc)?,
     })
@@ -216,6 +247,8 @@ fn put_draft(standing: &mut Standing, draft: Draft)
     standing.map_owed = draft.map_owed;
     standing.encoding = draft.encoding;
     standing.uses_copyrect = draft.uses_copyrect;
+    standing.takes_sizes = draft.takes_sizes;
+    standing.told = draft.told;
     put_marks(standing, draft.marks);
 }
 

@@ -9,8 +9,9 @@ ghost use Rattle.viewer.specs.declared.left.Reached.TheVariants as so_far;
 ghost use Rattle.viewer.specs.Left.{rest_of, reached_after, left_of, IsBegun, IsWithin};
 
 use crate::notices::{Notice, put_notice};
-use crate::parts::{Coloured, Rectangles};
-use crate::update::put_opening;
+use crate::parts::{Coloured, Part, Rectangles};
+use crate::sizes::Size;
+use crate::update::{put_opening, put_size};
 use encode_hextile::{Carried, Rows, encode_row_of_tiles};
 use encode_raw::{put_raw_pixels, rect_header};
 use messages::{Encoding, put_colour_map};
@@ -298,49 +299,53 @@ impl RectanglesLeft {
     }
 }
 
-/// An update, of which some is encoded: the colour map where it is owed, its notices, and then its rectangles. Contracts see it
-/// as the bytes of the rest.
+/// What is left of what an update says of the screen: nothing, its new size, or some of its rectangles.
+#[derive(Drop)]
+pub enum PartLeft {
+    Nothing,
+    NewSize(Size),
+    Places(RectanglesLeft),
+}
+
+/// An update, of which some is encoded: the colour map where it is owed, its notices, and then a size or its rectangles. Contracts
+/// see it as the bytes of the rest.
 #[derive(Drop)]
 pub struct UpdateLeft {
     /// The colour map is to be encoded yet.
     map_owed: bool,
     notices: Vec<Notice>,
     told: usize,
-    rectangles: Option<RectanglesLeft>,
+    part: PartLeft,
 }
 
 impl Model for UpdateLeft {
     ghost use Rattle.std.specs.Prelude.{ℕ, List, All};
     ghost use Rattle.viewer.specs.Short.{IsShort};
-    ghost use Rattle.viewer.specs.Left.{update_left};
+    ghost use Rattle.viewer.specs.UpdatesLeft.{update_left};
 
     ghost Value = { List ℕ };
 
-    ghost view = { λ a. update_left a.map_owed a.notices.items a.told a.rectangles };
+    ghost view = { λ a. update_left a.map_owed a.notices.items a.told a.part };
 
     ghost invariant = { λ a. All IsShort a.notices.items };
 }
 
 impl UpdateLeft {
-    /// All of an update of the colour map where it is owed, of notices, and of rectangles if there are any.
-    pub fn new(
-        alloc: Global,
-        map_owed: bool,
-        notices: Vec<Notice>,
-        rectangles: Option<Rectangles>,
-    ) -> UpdateLeft
+    /// All of an update of the colour map where it is owed, of notices, and of what is said of the screen.
+    pub fn new(alloc: Global, map_owed: bool, notices: Vec<Notice>, part: Part) -> UpdateLeft
         requires { All IsShort notices.items }
-        ensures { result ≡ all_bytes map_owed notices.items rectangles }
+        ensures { result ≡ all_bytes map_owed notices.items part }
     {
-        let rectangles = match rectangles {
-            Some(rectangles) => Some(RectanglesLeft::new(alloc, rectangles)),
-            None => None,
+        let part = match part {
+            Part::Nothing => PartLeft::Nothing,
+            Part::NewSize(size) => PartLeft::NewSize(size),
+            Part::Places(rectangles) => PartLeft::Places(RectanglesLeft::new(alloc, rectangles)),
         };
         UpdateLeft {
             map_owed,
             notices,
             told: 0,
-            rectangles,
+            part,
         }
     }
 
@@ -351,13 +356,14 @@ impl UpdateLeft {
         if self.map_owed || self.told < self.notices.len() {
             return false;
         }
-        match &self.rectangles {
-            Some(rectangles) => rectangles.is_ended(),
-            None => true,
+        match &self.part {
+            PartLeft::Nothing => true,
+            PartLeft::NewSize(_) => false,
+            PartLeft::Places(rectangles) => rectangles.is_ended(),
         }
     }
 
-    /// Appends the next part: the colour map, a notice, or one of the rectangles'.
+    /// Appends the next part: the colour map, a notice, the size, or one of the rectangles'.
     pub fn put_part(&mut self, out: &mut Vec<u8>) -> Result<(), AllocError>
         ensures bytes { OnOk result (out.new.items ++ self.new ≡ out.old.items ++ self.old) }
         ensures more { OnOk result (self.old ≢ [] → length out.old.items < length out.new.items) }
@@ -373,9 +379,14 @@ impl UpdateLeft {
             self.told += 1;
             return Ok(());
         }
-        match &mut self.rectangles {
-            Some(rectangles) => rectangles.put_part(out),
-            None => Ok(()),
+        match &mut self.part {
+            PartLeft::Nothing => Ok(()),
+            PartLeft::NewSize(size) => {
+                put_size(out, *size)?;
+                self.part = PartLeft::Nothing;
+                Ok(())
+            }
+            PartLeft::Places(rectangles) => rectangles.put_part(out),
         }
     }
 
@@ -389,8 +400,8 @@ impl UpdateLeft {
         ensures err { OnErr result (out.new.items ≡ out.old.items) }
         ensures kept { OnErr result (self.new ≡ self.old) }
     {
-        match &mut self.rectangles {
-            Some(rectangles) if !self.map_owed && self.told >= self.notices.len() => {
+        match &mut self.part {
+            PartLeft::Places(rectangles) if !self.map_owed && self.told >= self.notices.len() => {
                 rectangles.put_run(out)
             }
             _ => Ok(false),

@@ -1,8 +1,9 @@
 //! What an update is made of: rectangles that the viewer moves, and rectangles of colours.
 
-ghost use Rattle.std.specs.Prelude.{◌≡◌, ◌≤◌, ◌<◌, ◌+◌, ◌*◌, ◌^◌, length};
+ghost use Rattle.std.specs.Prelude.{◌≡◌, ◌↔◌, IsTrue, ◌≤◌, ◌<◌, ◌+◌, ◌*◌, ◌^◌, length};
 
 use crate::colours::Colours;
+use crate::sizes::Size;
 use messages::Encoding;
 use pixel_translate::{Area, PixelFormat};
 
@@ -34,4 +35,24 @@ pub struct Rectangles {
     pub moves: Vec<Moved>,
     pub coloured: Vec<Coloured>,
     ghost few: { length moves.items + length coloured.items < 2 ^ 16 },
+}
+
+/// What an update says of the screen: nothing, its new size (RFC 6143, 7.8.2), or some rectangles of it.
+#[derive(Drop)]
+pub enum Part {
+    Nothing,
+    NewSize(Size),
+    Places(Rectangles),
+}
+
+impl Part {
+    /// Whether nothing is said.
+    pub fn is_nothing(&self) -> bool
+        ensures { IsTrue result ↔ (self.now ≡ Part.Nothing) }
+    {
+        match self {
+            Part::Nothing => true,
+            _ => false,
+        }
+    }
 }

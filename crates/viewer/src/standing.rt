@@ -4,7 +4,8 @@ ghost use Rattle.std.specs.Prelude.{◌≡◌};
 ghost use Rattle.viewer.specs.Given.{marks_put};
 
 use crate::notices::Notices;
-use crate::parts::Rectangles;
+use crate::parts::Part;
+use crate::sizes::Size;
 use copy_schedule::Marks;
 use messages::{Ear, Encoding};
 use pixel_translate::PixelFormat;
@@ -18,14 +19,20 @@ pub struct Standing {
     pub map_owed: bool,
     pub encoding: Encoding,
     pub uses_copyrect: bool,
+    /// It lists DesktopSize (RFC 6143, 7.8.2).
+    pub takes_sizes: bool,
+    /// The size that it was told last; None before its ServerInit (RFC 6143, 7.3.2).
+    pub told: Option<Size>,
     pub marks: Marks,
     pub notices: Notices,
 }
 
-/// The rectangles that are sent next, and the viewer's marks once they are; none where no place is wanted.
+/// What is sent of the screen next, and the size that the viewer was told and its marks once it is; the marks stand here only where
+/// they change.
 #[derive(Drop)]
 pub struct Planned {
-    pub rectangles: Option<Rectangles>,
+    pub part: Part,
+    pub told: Option<Size>,
     pub marks: Option<Marks>,
 }
 
@@ -36,6 +43,8 @@ pub struct Draft {
     pub map_owed: bool,
     pub encoding: Encoding,
     pub uses_copyrect: bool,
+    pub takes_sizes: bool,
+    pub told: Option<Size>,
     pub marks: Option<Marks>,
 }
 

@@ -3,27 +3,29 @@
 ghost use Rattle.std.specs.Prelude.{◌≡◌, ◌+◌, ◌<◌, ◌++◌, All, flat_map, length, IfOk, OnOk};
 ghost use Rattle.messages.specs.Server.{update_head};
 ghost use Rattle.viewer.specs.Short.{IsShort};
-ghost use Rattle.viewer.specs.Sending.{map_bytes};
-ghost use Rattle.viewer.specs.Updates.{moved_bytes, coloured_bytes, rectangles_bytes, all_bytes};
+ghost use Rattle.viewer.specs.Sending.{map_bytes, size_bytes};
+ghost use Rattle.viewer.specs.Updates.{moved_bytes, coloured_bytes, rectangles_bytes, part_bytes, all_bytes};
 
 use crate::left::UpdateLeft;
 use crate::notices::{Notice, put_notices};
-use crate::parts::{Coloured, Moved, Rectangles};
+use crate::parts::{Coloured, Moved, Part, Rectangles};
+use crate::sizes::Size;
 use crate::stream::Stream;
-use encode_raw::encode_copy;
-use messages::{Encoding, put_colour_map, put_update_head};
-use pixel_translate::Table;
+use encode_raw::{encode_copy, rect_header};
+use messages::{DESKTOP_SIZE, Encoding, put_colour_map, put_update_head};
+use pixel_translate::{Area, Table};
 use std::alloc::{AllocError, Global};
 use std::marker::Model;
 
-/// What one viewer is sent in one step: the colour map where it is owed, the notices that waited, and then, where places that it
-/// asked for are not clean, one FramebufferUpdate (RFC 6143, 7.6.1). Contracts see it as its bytes.
+/// What one viewer is sent in one step: the colour map where it is owed, the notices that waited, and then one FramebufferUpdate
+/// (RFC 6143, 7.6.1), which tells a new size that it is owed, or else places that it asked for and that are not clean. Contracts see
+/// it as its bytes.
 #[derive(Drop)]
 pub struct Update {
     alloc: Global,
     map_owed: bool,
     notices: Vec<Notice>,
-    rectangles: Option<Rectangles>,
+    part: Part,
 }
 
 impl Model for Update {
@@ -33,7 +35,7 @@ impl Model for Update {
 
     ghost Value = { List ℕ };
 
-    ghost view = { λ a. all_bytes a.map_owed a.notices.items a.rectangles };
+    ghost view = { λ a. all_bytes a.map_owed a.notices.items a.part };
 
     ghost invariant = { λ a. All IsShort a.notices.items };
 }
@@ -119,41 +121,59 @@ fn put_map(out: &mut Vec<u8>, map_owed: bool) -> Result<(), AllocError>
     }
 }
 
+/// Appends the FramebufferUpdate that tells a size (RFC 6143, 7.8.2).
+pub(crate) fn put_size(out: &mut Vec<u8>, size: Size) -> Result<(), AllocError>
+    ensures { OnOk result (out.new.items ≡ out.old.items ++ size_bytes size.width size.height) }
+{
+    put_update_head(out, 1)?;
+    let area = Area {
+        x: 0,
+        y: 0,
+        w: size.width,
+        h: size.height,
+    };
+    rect_header(out, area, DESKTOP_SIZE)
+}
+
+/// Appends a FramebufferUpdate if there is one.
+fn put_part(out: &mut Vec<u8>, part: &Part) -> Result<(), AllocError>
+    ensures { OnOk result (out.new.items ≡ out.old.items ++ part_bytes part.now) }
+{
+    match part {
+        Part::Nothing => Ok(()),
+        Part::NewSize(size) => put_size(out, *size),
+        Part::Places(rectangles) => put_rectangles(out, rectangles),
+    }
+}
+
 /// The bytes of the colour map where it is owed, of notices, and then of a FramebufferUpdate if there is one.
 pub(crate) fn encode_all(
     alloc: Global,
     map_owed: bool,
     notices: &[Notice],
-    rectangles: &Option<Rectangles>,
+    part: &Part,
 ) -> Result<Vec<u8>, AllocError>
     requires { All IsShort notices.now }
-    ensures { IfOk result (λ bytes. bytes.items ≡ all_bytes map_owed notices.now rectangles.now) }
+    ensures { IfOk result (λ bytes. bytes.items ≡ all_bytes map_owed notices.now part.now) }
 {
     let mut out = Vec::new(alloc);
     put_map(&mut out, map_owed)?;
     put_notices(&mut out, notices)?;
-    if let Some(rectangles) = rectangles {
-        put_rectangles(&mut out, rectangles)?;
-    }
+    put_part(&mut out, part)?;
     Ok(out)
 }
 
 impl Update {
-    /// An update of the colour map where it is owed, of notices, and of rectangles if there are any.
-    pub(crate) fn new(
-        alloc: Global,
-        map_owed: bool,
-        notices: Vec<Notice>,
-        rectangles: Option<Rectangles>,
-    ) -> Update
+    /// An update of the colour map where it is owed, of notices, and of what is said of the screen.
+    pub(crate) fn new(alloc: Global, map_owed: bool, notices: Vec<Notice>, part: Part) -> Update
         requires { All IsShort notices.items }
-        ensures { result ≡ all_bytes map_owed notices.items rectangles }
+        ensures { result ≡ all_bytes map_owed notices.items part }
     {
         Update {
             alloc,
             map_owed,
             notices,
-            rectangles,
+            part,
         }
     }
 
@@ -162,7 +182,7 @@ impl Update {
     pub fn encode(&self) -> Result<Vec<u8>, AllocError>
         ensures { IfOk result (λ bytes. bytes.items ≡ self.now) }
     {
-        encode_all(self.alloc, self.map_owed, &self.notices, &self.rectangles)
+        encode_all(self.alloc, self.map_owed, &self.notices, &self.part)
     }
 
     /// The same bytes, to be given in pieces: no more is encoded at once than a row in Raw, a row of tiles in
@@ -170,7 +190,7 @@ impl Update {
     pub fn into_stream(self) -> Stream
         ensures { result ≡ self }
     {
-        let left = UpdateLeft::new(self.alloc, self.map_owed, self.notices, self.rectangles);
+        let left = UpdateLeft::new(self.alloc, self.map_owed, self.notices, self.part);
         Stream::new(self.alloc, left)
     }
 }

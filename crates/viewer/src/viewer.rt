@@ -5,9 +5,9 @@ ghost use Rattle.std.specs.Prelude.{OnErr};
 ghost use Rattle.messages.specs.Reading.{rest, new_items, is_open_rest, fault_in_rest};
 ghost use Rattle.copy_schedule.specs.Marks.{Marks, pending};
 ghost use Rattle.copy_schedule.specs.Log.{logged, IsCutEntry};
-ghost use Rattle.viewer.specs.Viewer.{none_wait, noticed, new_viewer, kept_viewer};
+ghost use Rattle.viewer.specs.Viewer.{none_wait, noticed, new_viewer, kept_viewer, viewer_resized};
 ghost use Rattle.viewer.specs.Hearing.{after_items, heard_reply};
-ghost use Rattle.viewer.specs.Sending.{sending_kept};
+ghost use Rattle.viewer.specs.Sending.{tells_size, sending_kept};
 ghost use Rattle.viewer.specs.Given.{bytes_given, keeps_notices};
 ghost use Rattle.viewer.specs.Short.{IsShort};
 ghost use Rattle.viewer.specs.Told.{viewer_told};
@@ -17,6 +17,7 @@ use crate::Reply;
 use crate::cutting::{cut_bytes_in, cut_in};
 use crate::hearing::{hear_in, is_pending, new_standing};
 use crate::notices::Notice;
+use crate::sizes::{Size, view_by, whole};
 use crate::standing::Standing;
 use crate::update::Update;
 use copy_schedule::{LogEntry, Prepared, joined_log};
@@ -81,11 +82,11 @@ impl Viewer {
         hear_in(self.alloc, &mut self.standing, log, name, piece)
     }
 
-    /// Whether an update would have something to send (`FB_UPDATE_PENDING` of `rfb.h`, the colour map, and the notices), if it
+    /// Whether an update would have something to send (`FB_UPDATE_PENDING` of `rfb.h`, the colour map, the notices, and a size), if it
     /// were cut once the viewer is told of the drawing that stands in a log, the first entry's first. This takes no memory.
     pub fn is_pending_after(&self, log: &[LogEntry]) -> bool
-        ensures { result ≡ (is_open_rest self.now.heard && (self.now.map_owed ||
-            (not (none_wait self.now.notices) || pending (viewer_told log.now self.now).marks))) }
+        ensures { result ≡ (is_open_rest self.now.heard && (self.now.map_owed || (not (none_wait self.now.notices) ||
+            (tells_size self.now.marks.width self.now.marks.height self.now || pending (viewer_told log.now self.now).marks)))) }
     {
         is_pending(&self.standing, log)
     }
@@ -191,6 +192,20 @@ impl Viewer {
     {
         let standing = &self.standing;
         standing.marks.apply_log(entries, standing.uses_copyrect)
+    }
+
+    /// The marks as they are once the screen has another size, 1 to 8192 columns and rows: every place is owed, and of the places
+    /// that were asked for those stay so that the viewer sees; `commit` puts them in place. Drawing that the viewer was not told of
+    /// makes no difference. `AllocError` where memory is refused.
+    pub fn prepare_resize(&self, width: u16, height: u16) -> Result<Prepared, AllocError>
+        requires columns { width ≤ longest_side }
+        requires rows { height ≤ longest_side }
+        ensures { IfOk result (λ prepared. prepared ≡ (viewer_resized width height self.now).marks) }
+    {
+        let view = view_by(Size { width, height }, self.standing.told);
+        self.standing
+            .marks
+            .prepare_resize(u32::from(width), u32::from(height), whole(view))
     }
 
     /// The viewer's marks are the prepared ones from now on. This takes no memory.

@@ -1,6 +1,7 @@
 -- One viewer that lags: what it lacks, and what a drawing call adds.
 use Rattle.std.proofs.Common.{◌≡◌, ℕ, zero, suc, ◌+◌, ◌≤◌, ◌<◌, Bool, true, false, cond, List, [], ◌∷◌, ◌++◌, length, take, drop, All, true≢false, refl, sym, subst, ◌∙◌, ap, arith}
-use Rattle.std.specs.Prelude.{min, nat_le}
+use Rattle.std.specs.Prelude.{min, nat_le, not, ◌&&◌, ◌||◌}
+use Rattle.std.specs.List.{list_any}
 use Rattle.std.proofs.lemmas.Bool.Decides.{nat_tests}
 use Rattle.std.proofs.lemmas.List.{nil_from_length, drop_all, length-append, length-take-le, take-append-drop, drop-append-le}
 use Rattle.std.proofs.lemmas.List.Elements.{All-append, All-head, All-tail}
@@ -8,15 +9,17 @@ use Rattle.region.specs.RegionView.{RegionView}
 use Rattle.region.specs.Region.{covers}
 use Rattle.copy_schedule.specs.declared.LogEntry.{LogEntry}
 use Rattle.copy_schedule.specs.declared.LogEntry.TheVariants.{Mark, Copy}
-use Rattle.copy_schedule.specs.Marks.{Marks, marked}
+use Rattle.copy_schedule.specs.Marks.{Marks, marked, has_asked, pending}
 use Rattle.copy_schedule.specs.Log.{after_entry, logged, IsCutEntry}
 use Rattle.copy_schedule.specs.LogLemmas.{logged_append, cut_append, front_is_cut}
-use Rattle.viewer.specs.Viewer.{KeptViewer}
+use Rattle.messages.specs.Reading.{is_open_rest}
+use Rattle.viewer.specs.Viewer.{KeptViewer, none_wait}
+use Rattle.viewer.specs.Sending.{is_size_owed, tells_size}
 use Rattle.viewer_list.specs.declared.lagging.Lagging.{Lagging}
 use Rattle.viewer_list.specs.declared.lagging.Shared.{Shared}
 use Rattle.viewer.specs.Told.{viewer_told}
 use Rattle.viewer_list.specs.Lagging.{waiting, caught_up, up_to_date, brought_up, within_end, IsCurrent, Fits, IsShared, IsFor, IsMark, IsJoined}
-use Rattle.viewer_list.specs.Viewers.{drawn}
+use Rattle.viewer_list.specs.Viewers.{drawn, is_pending}
 
 -- what drawing leaves of marks
 pub record Alike (m n : Marks) : Type 0 where
@@ -34,6 +37,19 @@ logged-alike u [] m = record { width = refl; height = refl; asked = refl }
 logged-alike u (e ∷ es) m =
     let first = entry-alike u e m in
     let rest = logged-alike u es (after_entry u e m) in record { width = rest.width ∙ first.width; height = rest.height ∙ first.height; asked = rest.asked ∙ first.asked }
+
+-- what is told of drawing, or isn't yet, is owed a size alike
+pub pending-logged : (es : List LogEntry) (v : KeptViewer)
+    → (is_open_rest v.heard && (v.map_owed || (not (none_wait v.notices) || (tells_size v.marks.width v.marks.height v || pending (logged v.uses_copyrect es v.marks)))))
+    ≡ is_pending (record v { marks = logged v.uses_copyrect es v.marks })
+pending-logged es v =
+    let m : Marks = logged v.uses_copyrect es v.marks in
+    let like : Alike v.marks m = logged-alike v.uses_copyrect es v.marks in
+    let same : tells_size v.marks.width v.marks.height v ≡ (has_asked m && is_size_owed m.width m.height v) =
+    ap (λ (l : List Bool). list_any (λ is_asked. is_asked) l && is_size_owed v.marks.width v.marks.height v) (sym like.asked)
+    ∙ ap (λ (n : ℕ). has_asked m && is_size_owed n v.marks.height v) (sym like.width)
+    ∙ ap (λ (n : ℕ). has_asked m && is_size_owed m.width n v) (sym like.height) in
+    ap (λ (b : Bool). is_open_rest v.heard && (v.map_owed || (not (none_wait v.notices) || (b || pending m)))) same
 
 -- a further entry
 pub logged-last : (u : Bool) (es : List LogEntry) (e : LogEntry) (m : Marks) → logged u (es ++ e ∷ []) m ≡ after_entry u e (logged u es m)

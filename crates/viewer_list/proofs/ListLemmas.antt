@@ -14,11 +14,13 @@ use Rattle.client_list.specs.CallerLemmas.{lookup-mapped, keys-mapped, mapped-se
 use Rattle.region.specs.RegionView.{RegionView}
 use Rattle.copy_schedule.specs.declared.LogEntry.{LogEntry}
 use Rattle.copy_schedule.specs.declared.LogEntry.TheVariants.{Mark}
+use Rattle.copy_schedule.specs.Marks.{Marks}
 use Rattle.copy_schedule.specs.Log.{IsCutEntry}
+use Rattle.copy_schedule.specs.LogLemmas.{resized_logged}
 use Rattle.viewer.specs.declared.notices.Notice.{Notice}
-use Rattle.viewer.specs.Viewer.{KeptViewer}
+use Rattle.viewer.specs.Viewer.{KeptViewer, in_view, viewer_resized}
 use Rattle.viewer_list.specs.declared.lagging.Lagging.{Lagging}
-use Rattle.viewer_list.specs.Lagging.{waiting, caught_up, brought_up, within_end, seen, told_of, IsCurrent, Fits, IsJoined, position_within, last_position}
+use Rattle.viewer_list.specs.Lagging.{waiting, caught_up, brought_up, within_end, seen, told_of, resized_of, IsCurrent, Fits, IsJoined, position_within, last_position}
 use Rattle.viewer_list.specs.Viewers.{Viewers, IsOfSize, viewer_of, with_viewer, drawn, viewer_noticed}
 use Rattle.viewer_list.proofs.LagLemmas.{brought_up_same, brought_up_current, started_same, started_fits, joined_same, joined_fits, drawn_viewer, drawn_fits, logged-alike}
 
@@ -172,6 +174,16 @@ fit-drawn log e (pair ∷ pairs) all cut =
 pub seen-noticed : (log : List LogEntry) (notice : Notice) (pairs : List (ℕ × Lagging)) → seen log (changed (told_of notice) pairs) ≡ changed (viewer_noticed notice) (seen log pairs)
 seen-noticed log notice [] = refl
 seen-noticed log notice (pair ∷ pairs) = ap (λ (l : List (ℕ × KeptViewer)). (pair.0, viewer_noticed notice (caught_up log pair.1)) ∷ l) (seen-noticed log notice pairs)
+
+-- a new size makes the same of a viewer whether or not it knows what waits
+pub seen-resized : (log : List LogEntry) (w h : ℕ) (pairs : List (ℕ × Lagging)) → seen [] (changed (resized_of w h) pairs) ≡ changed (viewer_resized w h) (seen log pairs)
+seen-resized log w h [] = refl
+seen-resized log w h (p ∷ ps) =
+    ap (λ (m : Marks). (p.0, record p.1.viewer { marks = m }) ∷ seen [] (changed (resized_of w h) ps)) (sym (resized_logged w h (in_view w h p.1.viewer) p.1.viewer.uses_copyrect (waiting log p.1) p.1.viewer.marks))
+    ∙ ap (λ qs. (p.0, viewer_resized w h (caught_up log p.1)) ∷ qs) (seen-resized log w h ps)
+
+pub fit-resized : (w h : ℕ) (pairs : List (ℕ × Lagging)) → All (Fits []) (values_of (changed (resized_of w h) pairs))
+fit-resized w h pairs = all-changed (λ l. Unit {0}) (Fits []) (resized_of w h) (λ l any. record { stands = omega arith; cut = λ k d below. absurd (omega (arith, below)) }) pairs (λ k d below. tt)
 
 pub fit-noticed : (log : List LogEntry) (notice : Notice) (pairs : List (ℕ × Lagging)) → All (Fits log) (values_of pairs) → All (Fits log) (values_of (changed (told_of notice) pairs))
 fit-noticed log notice pairs all = all-changed (Fits log) (Fits log) (told_of notice) (λ l fits. record { stands = fits.stands; cut = fits.cut }) pairs all

@@ -7,7 +7,7 @@ use Rattle.copy_schedule.specs.declared.LogEntry.{LogEntry}
 use Rattle.copy_schedule.specs.declared.LogEntry.TheVariants.{Mark, Copy}
 use Rattle.copy_schedule.specs.Marks.{Marks, marked}
 use Rattle.copy_schedule.specs.Log.{logged, IsCutEntry}
-use Rattle.viewer.specs.Viewer.{KeptViewer}
+use Rattle.viewer.specs.Viewer.{KeptViewer, viewer_resized}
 use Rattle.viewer.specs.declared.notices.Notice.{Notice}
 use Rattle.viewer_list.specs.Viewers.{viewer_noticed}
 use Rattle.viewer_list.specs.declared.lagging.Lagging.{Lagging}
@@ -49,6 +49,13 @@ pub record Fits (log : List LogEntry) (l : Lagging) : Type 0 where
 -- a viewer that keeps a notice, where it is open
 abbrev pub told_of : Notice → Lagging → Lagging
 told_of notice l = record l { viewer = viewer_noticed notice l.viewer }
+
+-- a viewer's marks on a screen of another size; and the viewer with them, at the beginning of a log
+abbrev pub resized_marks : ℕ → ℕ → Lagging → Marks
+resized_marks w h l = (viewer_resized w h l.viewer).marks
+
+abbrev pub resized_of : ℕ → ℕ → Lagging → Lagging
+resized_of w h l = record { viewer = viewer_resized w h l.viewer; taken = 0 }
 
 -- the log's first entries are joined ones, at most 64, and it has at most 256 others
 pub record IsBounded (log : List LogEntry) (joined : ℕ) : Type 0 where

@@ -14,7 +14,7 @@ use Rattle.messages.specs.declared.Item.{Item}
 use Rattle.messages.specs.declared.Item.TheVariants as item
 use Rattle.messages.specs.Reading.{rest, new_items}
 use Rattle.viewer.specs.Hearing.{after_items}
-use Rattle.viewer.specs.Viewer.{KeptViewer, kept_viewer, new_viewer, after_item, viewer_marked}
+use Rattle.viewer.specs.Viewer.{KeptViewer, kept_viewer, new_viewer, after_item, viewer_marked, viewer_resized}
 use Rattle.viewer_list.specs.Viewers.{IsOfSize, drawn}
 
 -- ---- marks of no position
@@ -35,6 +35,10 @@ module _ (w h : ℕ) where
   pub new_size : (v : KeptViewer) → v ≡ kept_viewer (new_viewer w h) → IsOfSize w h v
   new_size v is = subst (IsOfSize w h) (sym is) (record { width = refl; height = refl; whole = length-replicate (w * h) Owed; heard = ([], refl) })
 
+  -- a screen of that size is made anew
+  pub resized_size : (v : KeptViewer) → (before : List ℕ) × (v.heard ≡ rest before) → IsOfSize w h (viewer_resized w h v)
+  resized_size v heard = record { width = refl; height = refl; whole = length-replicate (w * h) Owed; heard = heard }
+
   pub marked_size : (set : ℤ → ℤ → Bool) (v : KeptViewer) → IsOfSize w h v → IsOfSize w h (viewer_marked set v)
   marked_size set v size = record { width = size.width; height = size.height; whole = length-map-range_with_len _ 0 (v.marks.width * v.marks.height); heard = size.heard }
 
@@ -48,13 +52,13 @@ module _ (w h : ℕ) where
 
   item_size : (a b : ℕ) (i : Item) (v : KeptViewer) → IsOfSize w h v → IsOfSize w h (after_item a b i v)
   item_size a b (item.Format f) v size = record { width = size.width; height = size.height; whole = size.whole; heard = size.heard }
-  item_size a b (item.Encodings preferred true) v size = record { width = size.width; height = size.height; whole = size.whole; heard = size.heard }
-  item_size a b (item.Encodings preferred false) v size = record { width = size.width; height = size.height; whole = length-map-range_with_len _ 0 (v.marks.width * v.marks.height); heard = size.heard }
+  item_size a b (item.Encodings preferred true resize) v size = record { width = size.width; height = size.height; whole = size.whole; heard = size.heard }
+  item_size a b (item.Encodings preferred false resize) v size = record { width = size.width; height = size.height; whole = length-map-range_with_len _ 0 (v.marks.width * v.marks.height); heard = size.heard }
   item_size a b (item.Request true area) v size = record { width = size.width; height = size.height; whole = size.whole; heard = size.heard }
   item_size a b (item.Request false area) v size = record { width = size.width; height = size.height; whole = length-map-range_with_len _ 0 (v.marks.width * v.marks.height); heard = size.heard }
   item_size a b (item.Version version) v size = size
   item_size a b item.Choice v size = size
-  item_size a b (item.Init shared) v size = size
+  item_size a b (item.Init shared) v size = record { width = size.width; height = size.height; whole = size.whole; heard = size.heard }
   item_size a b (item.Input input) v size = size
 
   items_size : (a b : ℕ) (is : List Item) (v : KeptViewer) → IsOfSize w h v → IsOfSize w h (after_items a b is v)

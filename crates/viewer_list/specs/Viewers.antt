@@ -3,12 +3,13 @@ use Rattle.std.specs.Prelude.{◌≡◌, ℕ, ◌*◌, ◌==◌, ◌&&◌, ◌||
 use Rattle.std.specs.Map.{keys_of, lookup}
 use Rattle.client_list.specs.Connected.{index_of, set_value_at}
 use Rattle.copy_schedule.specs.declared.LogEntry.{LogEntry}
-use Rattle.copy_schedule.specs.Marks.{pending}
+use Rattle.copy_schedule.specs.Marks.{has_asked, pending}
 use Rattle.copy_schedule.specs.Log.{after_entry}
 use Rattle.messages.specs.Reading.{is_open_rest, rest}
 use Rattle.viewer.specs.declared.notices.Notice.{Notice}
 use Rattle.viewer.specs.declared.notices.Notice.TheVariants as notice
 use Rattle.viewer.specs.Given.{keeps_notices}
+use Rattle.viewer.specs.Sending.{is_size_owed}
 use Rattle.viewer.specs.Viewer.{KeptViewer, noticed, none_wait}
 
 -- the viewers by number, in their order of connecting, each as it would be had it been told of all drawing at once; and for how
@@ -48,6 +49,7 @@ viewer_noticed notice v = noticed notice (is_open_rest v.heard) v
 abbrev pub text_for : List ℕ → KeptViewer → Option Notice
 text_for text v = if keeps_notices v then Some (notice.CutText text) else None
 
--- whether an update that is cut now would have something to send
+-- whether an update that is cut now would have something to send: a colour map, notices, a size or places
 abbrev pub is_pending : KeptViewer → Bool
-is_pending v = is_open_rest v.heard && (v.map_owed || (not (none_wait v.notices) || pending v.marks))
+is_pending v = is_open_rest v.heard
+    && (v.map_owed || (not (none_wait v.notices) || ((has_asked v.marks && is_size_owed v.marks.width v.marks.height v) || pending v.marks)))

@@ -14,8 +14,8 @@
 //! places are joined again only as often as what is joined doubles. Where 64 of them stand, or where a copy is among the entries,
 //! all viewers catch up in place of that, and the log is emptied. It is emptied, too, when no viewer lags.
 //!
-//! `lagging` is one viewer, `walks` what is done for each viewer in turn, `joining` how the log stays short, and `notices` are the
-//! viewers' bells and texts.
+//! `lagging` is one viewer, `walks` what is done for each viewer in turn, `joining` how the log stays short, `notices` are the
+//! viewers' bells and texts, and `resizing` is a new size of the screen.
 #![tactic(auto)]
 
 ghost use Rattle.std.specs.Prelude.{◌≡◌, ◌≢◌, ◌++◌, ◌∷◌, [], ℕ, List, All, ◌≤◌, ◌^◌, ◌==◌, not, filter, length, IsTrue, ◌↔◌, IfOk};
@@ -30,12 +30,14 @@ ghost use Rattle.viewer.specs.declared.notices.Notice.{Notice};
 ghost use Rattle.viewer.specs.Hearing.{after_items, heard_reply};
 ghost use Rattle.viewer.specs.Sending.{sending_kept};
 ghost use Rattle.viewer.specs.Given.{bytes_given};
-ghost use Rattle.viewer.specs.Viewer.{KeptViewer};
+ghost use Rattle.region.specs.Places.{longest_side};
+ghost use Rattle.viewer.specs.Viewer.{KeptViewer, viewer_resized};
 ghost use Rattle.viewer_list.specs.Viewers.{viewer_of, with_viewer, drawn, is_pending, IsOfSize, viewer_noticed};
 
 mod joining;
 mod lagging;
 mod notices;
+mod resizing;
 mod walks;
 
 use client_list::{Clients, ConnectError, NoViewer};
@@ -45,6 +47,7 @@ use lagging::{Lagging, cut_bytes_one, cut_one, hear_one, is_pending_one};
 use listed::Listed;
 use messages::Fault;
 use notices::{keep_texts, ring_all, texts};
+use resizing::{prepare_all, resize_all};
 use std::alloc::{AllocError, Global};
 use std::marker::Model;
 use viewer::{LogEntry, Reply, Update, Viewer};
@@ -200,6 +203,21 @@ impl ViewerList {
     {
         let notices = texts(self.alloc, &self.viewers, text)?;
         keep_texts(&mut self.viewers, text, notices);
+        Ok(())
+    }
+
+    /// The screen has so many columns and rows from now on, 1 to 8192 each: every place is owed to each viewer, and of the places that
+    /// it asked for those stay so that it sees. The log is emptied. After an `AllocError` nothing has changed.
+    pub fn resize(&mut self, width: u16, height: u16) -> Result<(), AllocError>
+        requires columns { width ≤ longest_side }
+        requires rows { height ≤ longest_side }
+        ensures ok { OnOk result (self.new.pairs ≡ changed (viewer_resized width height) self.old.pairs) }
+        ensures err { OnErr result (self.new ≡ self.old) }
+    {
+        let marks = prepare_all(self.alloc, &self.viewers, width, height)?;
+        resize_all(&mut self.viewers, width, height, marks);
+        self.log.clear();
+        self.joined = 0;
         Ok(())
     }
 

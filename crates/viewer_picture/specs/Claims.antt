@@ -9,7 +9,7 @@ use Rattle.encode_raw.specs.Claims.{pixels_of}
 use Rattle.encode_rre.specs.Rre.{rre}
 use Rattle.encode_hextile.specs.Hextile.{hextile}
 use Rattle.messages.specs.declared.Encoding.TheVariants.{Raw}
-use Rattle.messages.specs.Grammar.{first_encoding, lists_copyrect}
+use Rattle.messages.specs.Grammar.{first_encoding, lists_copyrect, lists_desktop_size}
 use Rattle.viewer_picture.specs.Messages.{Agreed, is_in_picture, may_come, rectangle_at}
 use Rattle.viewer_picture.specs.Encodings.{taken}
 
@@ -68,4 +68,5 @@ all_read_is_legal = (agreed : Agreed) (shown : Shown) (bytes : List ℕ) (read :
 -- 7.5.2: what may come by what is taken of a list may come by the list
 abbrev pub taken_was_listed : Type 0
 taken_was_listed = (numbers : List ℤ) (encoding : ℤ)
-    → may_come (taken (unwrap_or (first_encoding numbers) Raw) (lists_copyrect numbers)) encoding ≡ true → may_come numbers encoding ≡ true
+    → may_come (taken (unwrap_or (first_encoding numbers) Raw) (lists_copyrect numbers) (lists_desktop_size numbers)) encoding ≡ true
+    → may_come numbers encoding ≡ true

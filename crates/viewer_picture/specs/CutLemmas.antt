@@ -1,5 +1,5 @@
 -- What is shown once an update is read: the copies all at once, then the pixels.
-use Rattle.std.proofs.Common.{◌≡◌, ℕ, ◌+◌, ◌-◌, ◌*◌, ◌<◌, ◌≤◌, Bool, true, false, cond, ◌&&◌, ◌||◌, List, [], ◌∷◌, get_or, Option, Some, All, refl, sym, ap, ◌∙◌, arith}
+use Rattle.std.proofs.Common.{◌≡◌, ℕ, ◌+◌, ◌-◌, ◌*◌, ◌<◌, ◌≤◌, Bool, true, false, cond, not, ◌&&◌, ◌||◌, List, [], ◌∷◌, get_or, Option, Some, All, refl, sym, ap, ◌∙◌, arith}
 use Rattle.std.specs.Prelude.{ℤ, pos, ◌+ℤ◌, ◌-ℤ◌, ◌<ℤ◌, ◌≤ℤ◌, nat_abs, int_lt}
 use Rattle.std.specs.List.{AllByRecursion}
 use Rattle.std.proofs.lemmas.Int.{ints}
@@ -19,10 +19,10 @@ use Rattle.encode_raw.specs.Reading.{Dot, Shown, patched, shown_after_copy}
 use Rattle.encode_raw.specs.Claims.{pixels_of as colour_pixels}
 use Rattle.copy_schedule.specs.declared.Mark.{Mark}
 use Rattle.copy_schedule.specs.declared.Mark.TheVariants.{Clean, Copied, Owed}
-use Rattle.region.specs.Places.{by_place, IsOnScreen}
-use Rattle.copy_schedule.specs.Marks.{Marks, is_clean, is_copied, mark_at, asked_at, copyable, copies_of, pixels_of, after_sending}
+use Rattle.region.specs.Places.{by_place, IsOnScreen, source_rect}
+use Rattle.copy_schedule.specs.Marks.{Marks, is_clean, is_copied, mark_at, asked_at, wanted, copyable, copies_of, pixels_of, after_sending}
 use Rattle.region.specs.PlaceLemmas.{value_on, is_place}
-use Rattle.copy_schedule.specs.CutLemmas.{copies_on_screen, pixels_on_screen}
+use Rattle.copy_schedule.specs.CutLemmas.{copies_on_screen, sources_inside, pixels_on_screen}
 use Rattle.framebuffer.specs.declared.blocks.Block.{Block}
 use Rattle.framebuffer.specs.Blocks.{block_rect}
 use Rattle.viewer_picture.specs.Areas.{area_of}
@@ -270,6 +270,72 @@ copies-may P limit m may = each (copies_of limit m) (recursion_from_All (IsOnScr
         let there : on_screen m.width m.height r.x1 r.y1 ≡ true =
         covered-on m.width m.height (copies_of limit m) (recursion_from_All (IsOnScreen m.width m.height) (copies_of limit m) (copies_on_screen limit m)) r.x1 r.y1 here in
         (may r.x1 r.y1 there (can-copied (asked_at m r.x1 r.y1) (asked_at m (r.x1 -ℤ m.offset.0) (r.y1 -ℤ m.offset.1)) (mark_at m r.x1 r.y1) (copies-can limit m r.x1 r.y1 here)), each rs on.1 are.1)
+
+-- ---- what is sent is within any size that holds what is asked for
+
+-- the place of a rectangle that is last in both directions
+last-in : (r : Rect) → r.x1 <ℤ r.x2 → r.y1 <ℤ r.y2 → in_rect r (r.x2 -ℤ pos 1) (r.y2 -ℤ pos 1) ≡ true
+last-in r wide high = grind (arith, ints)
+
+within : (v u w h : ℕ) (r : Rect) → IsOnScreen v u r → on_screen w h (r.x2 -ℤ pos 1) (r.y2 -ℤ pos 1) ≡ true → IsOnScreen w h r
+within v u w h r on last =
+    let p = is_place w h (r.x2 -ℤ pos 1) (r.y2 -ℤ pos 1) last in
+    record { left = on.left; columns = on.columns; right = before r.x2 w p.right; top = on.top; rows = on.rows; bottom = before r.y2 h p.bottom }
+  where
+    before : (a : ℤ) (n : ℕ) → (a -ℤ pos 1) <ℤ pos n → a ≤ℤ pos n
+    before a n below = omega (arith, ints)
+
+-- a place of the pixels is asked for, and so are a place of the copies and its source
+pixels-asked : (limit : ℕ) (m : Marks) (x y : ℤ) → covers (pixels_of limit m) x y ≡ true → asked_at m x y ≡ true
+pixels-asked limit m x y e =
+    let test : ℤ → ℤ → Bool = λ x y. wanted m x y && not (copyable m x y) in
+    let in_rects : covers (rects_of m.width m.height test) x y ≡ true = covers-take limit (rects_of m.width m.height test) x y e in
+    let wants = (and_parts (on_screen m.width m.height x y) (test x y) (sym (rects_of_covers-holds m.width m.height test x y) ∙ in_rects)).1 in
+    (and_parts (asked_at m x y) (not (is_clean (mark_at m x y))) (and_parts (wanted m x y) (not (copyable m x y)) wants).0).0
+
+copies-asked : (limit : ℕ) (m : Marks) (x y : ℤ) → covers (copies_of limit m) x y ≡ true → (asked_at m x y ≡ true) × (asked_at m (x -ℤ m.offset.0) (y -ℤ m.offset.1) ≡ true)
+copies-asked limit m x y e = both (asked_at m x y) (is_copied (mark_at m x y)) (asked_at m (x -ℤ m.offset.0) (y -ℤ m.offset.1)) (copies-can limit m x y e)
+  where
+    both : (a b d : Bool) → (a && b && d) ≡ true → (a ≡ true) × (d ≡ true)
+    both true true d e = (refl, e)
+    both true false d e = absurd cc
+    both false b d e = absurd cc
+
+module _ (w h : ℕ) (limit : ℕ) (m : Marks) (held : (x y : ℤ) → asked_at m x y ≡ true → on_screen w h x y ≡ true) where
+  each-within : (all rs : List Rect) → ((x y : ℤ) → covers all x y ≡ true → on_screen w h x y ≡ true) → AllByRecursion (IsOnScreen m.width m.height) rs → AllByRecursion (AreOf all) rs → AllByRecursion (IsOnScreen w h) rs
+  unfolding AreOf
+  each-within all [] there on are = tt
+  each-within all (r ∷ rs) there on are =
+      (within m.width m.height w h r on.0 (there (r.x2 -ℤ pos 1) (r.y2 -ℤ pos 1) (are.0 (r.x2 -ℤ pos 1) (r.y2 -ℤ pos 1) (last-in r on.0.columns on.0.rows))), each-within all rs there on.1 are.1)
+
+  pub pixels-within : AllByRecursion (IsOnScreen w h) (pixels_of limit m)
+  pixels-within =
+      let all : List Rect = pixels_of limit m in
+      each-within all all (λ x y e. held x y (pixels-asked limit m x y e)) (recursion_from_All (IsOnScreen m.width m.height) all (pixels_on_screen limit m)) (recursion_from_All (AreOf all) all (own-places all))
+
+  pub copies-within : AllByRecursion (IsOnScreen w h) (copies_of limit m)
+  copies-within =
+      let all : List Rect = copies_of limit m in
+      each-within all all (λ x y e. held x y (copies-asked limit m x y e).0) (recursion_from_All (IsOnScreen m.width m.height) all (copies_on_screen limit m)) (recursion_from_All (AreOf all) all (own-places all))
+
+  sources-each : (rs : List Rect) → AllByRecursion (IsOnScreen m.width m.height) rs → AllByRecursion (λ r. IsOnScreen m.width m.height (source_rect m.offset r)) rs → AllByRecursion (AreOf (copies_of limit m)) rs
+      → AllByRecursion (λ r. IsOnScreen w h (source_rect m.offset r)) rs
+  unfolding AreOf
+  sources-each [] on sources are = tt
+  sources-each (r ∷ rs) on sources are =
+      let asks = (copies-asked limit m (r.x2 -ℤ pos 1) (r.y2 -ℤ pos 1) (are.0 (r.x2 -ℤ pos 1) (r.y2 -ℤ pos 1) (last-in r on.0.columns on.0.rows))).1 in
+      let there : on_screen w h ((r.x2 -ℤ m.offset.0) -ℤ pos 1) ((r.y2 -ℤ m.offset.1) -ℤ pos 1) ≡ true =
+      ap (λ a. on_screen w h a ((r.y2 -ℤ m.offset.1) -ℤ pos 1)) (turned r.x2 m.offset.0) ∙ ap (on_screen w h ((r.x2 -ℤ pos 1) -ℤ m.offset.0)) (turned r.y2 m.offset.1) ∙ held ((r.x2 -ℤ pos 1) -ℤ m.offset.0) ((r.y2 -ℤ pos 1) -ℤ m.offset.1) asks in
+      (within m.width m.height w h (source_rect m.offset r) sources.0 there, sources-each rs on.1 sources.1 are.1)
+    where
+      turned : (a d : ℤ) → (a -ℤ d) -ℤ pos 1 ≡ (a -ℤ pos 1) -ℤ d
+      turned a d = omega (arith, ints)
+
+  pub sources-within : AllByRecursion (λ r. IsOnScreen w h (source_rect m.offset r)) (copies_of limit m)
+  sources-within =
+      let all : List Rect = copies_of limit m in
+      sources-each all (recursion_from_All (IsOnScreen m.width m.height) all (copies_on_screen limit m)) (recursion_from_All (λ r. IsOnScreen m.width m.height (source_rect m.offset r)) all (sources_inside limit m))
+      (recursion_from_All (AreOf all) all (own-places all))
 
 -- what an update does to what is shown: its copies, then its pixels
 unfoldable pub update_of : ℕ → PixelFormat → List ℕ → Marks → Shown → Shown

@@ -8,6 +8,7 @@ use Rattle.pixel_translate.specs.Pixel.{server_format, red_in, green_in, blue_in
 use Rattle.pixel_translate.specs.Examples.{F}
 use Rattle.encode_raw.specs.Reading.{◌>>=◌, Shown, pixels_at}
 use Rattle.encode_rre.specs.Reading.{subrectangles_at}
+use Rattle.messages.specs.Grammar.{desktop_size}
 use Rattle.messages.specs.declared.Version.TheVariants.{V33, V37, V38}
 use Rattle.viewer_picture.specs.Messages.{rectangles_at, entries_at, messages_in, messages_at, nothing_mapped}
 use Rattle.viewer_picture.specs.Opening.{security_at, result_at, init_at}
@@ -21,7 +22,7 @@ blank x y = None
 -- what the first four places show, by the encodings that were listed
 abbrev shows_by : List ℤ → List ℕ → Option (List (Option ℕ))
 shows_by listed bytes = do
-  d ← messages_at (record { width = 4; height = 1; format = one_byte; listed = listed }) (record { shown = blank; colours = nothing_mapped }) bytes
+  d ← messages_at (record { agreed = record { width = 4; height = 1; format = one_byte; listed = listed }; shown = blank; colours = nothing_mapped }) bytes
   Some (map (λ x. option_map (λ dot. dot.pixel) (d.shown x 0)) (range_with_len 0 4))
 
 abbrev shows : List ℕ → Option (List (Option ℕ))
@@ -100,7 +101,7 @@ raw_not_listed = refl
 -- two entries of the colour map, of which the second is set once more behind an update
 abbrev maps : List ℕ → Option (List (Option (ℕ × ℕ × ℕ)))
 maps bytes = do
-  d ← messages_at (record { width = 4; height = 1; format = one_byte; listed = [] }) (record { shown = blank; colours = nothing_mapped }) bytes
+  d ← messages_at (record { agreed = record { width = 4; height = 1; format = one_byte; listed = [] }; shown = blank; colours = nothing_mapped }) bytes
   Some (map d.colours (6 ∷ 7 ∷ 8 ∷ []))
 
 mapped : maps (1 ∷ 0 ∷ 0 ∷ 7 ∷ 0 ∷ 2 ∷ 0 ∷ 1 ∷ 0 ∷ 2 ∷ 1 ∷ 0 ∷ 0 ∷ 4 ∷ 0 ∷ 5 ∷ 0 ∷ 6 ∷ three_pixels ++ 1 ∷ 0 ∷ 0 ∷ 8 ∷ 0 ∷ 1 ∷ 0 ∷ 7 ∷ 0 ∷ 8 ∷ 0 ∷ 9 ∷ [])
@@ -111,6 +112,21 @@ mapped = refl
 map_cut_short : maps (1 ∷ 0 ∷ 0 ∷ 7 ∷ 0 ∷ 2 ∷ 0 ∷ 1 ∷ 0 ∷ 2 ∷ 1 ∷ 0 ∷ []) ≡ None
 unfolding entries_at messages_in
 map_cut_short = refl
+
+-- a new size, behind which nothing is shown; what was beyond the picture before isn't now
+abbrev new_size : List ℕ
+new_size = 0 ∷ 0 ∷ 0 ∷ 1 ∷ 0 ∷ 0 ∷ 0 ∷ 0 ∷ 0 ∷ 9 ∷ 0 ∷ 2 ∷ 0xff ∷ 0xff ∷ 0xff ∷ 0x21 ∷ []
+
+abbrev fifth_pixel : List ℕ
+fifth_pixel = 0 ∷ 0 ∷ 0 ∷ 1 ∷ 0 ∷ 3 ∷ 0 ∷ 0 ∷ 0 ∷ 2 ∷ 0 ∷ 1 ∷ 0 ∷ 0 ∷ 0 ∷ 0 ∷ 7 ∷ 8 ∷ []
+
+resized : shows_by (desktop_size ∷ []) (three_pixels ++ new_size ++ fifth_pixel) ≡ Some (None ∷ None ∷ None ∷ Some 7 ∷ [])
+unfolding pixels_at rectangles_at messages_in
+resized = refl
+
+size_not_listed : shows (three_pixels ++ new_size) ≡ None
+unfolding pixels_at rectangles_at messages_in
+size_not_listed = refl
 
 -- the opening
 security_of_38 : security_at V38 (1 ∷ 1 ∷ 7 ∷ []) ≡ Some (7 ∷ [])

@@ -8,7 +8,7 @@ use Rattle.std.proofs.lemmas.Nat.{from_be_bytes-to_be_bytes_2}
 use Rattle.std.proofs.Math.Nat.{mod-lt}
 use Rattle.encode_raw.specs.Reading.{◌>>=◌}
 use Rattle.messages.specs.Server.{map_entry, entry_bytes, colour_map}
-use Rattle.viewer_picture.specs.Messages.{Agreed, Display, ColourMap, entries_at}
+use Rattle.viewer_picture.specs.Messages.{Display, ColourMap, entries_at}
 use Rattle.viewer_picture.specs.MessageLemmas.{Reads, message-read}
 
 -- the map once an entry is set, and once so many of the server's are, from one on
@@ -62,10 +62,10 @@ unfoldable pub all_mapped : ColourMap → ColourMap
 all_mapped colours = mapped 256 0 colours
 
 -- the whole map is one message
-pub map-read : (g : Agreed) (n : ℕ) (d : Display) (more : List ℕ) → length (colour_map ++ more) ≤ n → Reads g n d (colour_map ++ more) (record d { colours = all_mapped d.colours }) more
+pub map-read : (n : ℕ) (d : Display) (more : List ℕ) → length (colour_map ++ more) ≤ n → Reads n d (colour_map ++ more) (record d { colours = all_mapped d.colours }) more
 unfolding colour_map all_mapped
-map-read g n d more room =
-    message-read g n d (record d { colours = mapped 256 0 d.colours }) 1 (0 ∷ 0 ∷ 0 ∷ 1 ∷ 0 ∷ flat_map entry_bytes (map map_entry (range_with_len 0 256))) more room
+map-read n d more room =
+    message-read n d (record d { colours = mapped 256 0 d.colours }) 1 (0 ∷ 0 ∷ 0 ∷ 1 ∷ 0 ∷ flat_map entry_bytes (map map_entry (range_with_len 0 256))) more room
     (ap (λ (o : Option (ColourMap × List ℕ)). o >>= λ (r : ColourMap × List ℕ). Some (record d { colours = r.0 }, r.1)) (entries-read 256 0 d.colours more))
 
 -- ---- what the entries are then

@@ -5,6 +5,7 @@ use Rattle.std.specs.Ordering.{int_eq}
 use Rattle.std.specs.Int.{w16, w32}
 use Rattle.pixel_translate.specs.declared.Area.{Area}
 use Rattle.pixel_translate.specs.declared.PixelFormat.{PixelFormat}
+use Rattle.messages.specs.Grammar.{desktop_size, is_desktop_size}
 use Rattle.encode_raw.specs.Reading.{◌>>=◌, bytes_at, number_at, head_at, Shown, Patch, patched, raw_at, copyrect_at}
 use Rattle.encode_rre.specs.Reading.{rre_at}
 use Rattle.encode_hextile.specs.Reading.{hextile_at}
@@ -52,26 +53,53 @@ rectangle_at agreed shown bytes = do
   head ← head_at bytes
   if is_in_picture agreed head.0.area && may_come agreed.listed head.0.encoding then data_at agreed head.0.area shown head.0.encoding head.1 else None
 
--- 7.6.1: so many, in the order sent
-unfoldable pub rectangles_at : Agreed → ℕ → Shown → List ℕ → Option (Shown × List ℕ)
-rectangles_at agreed zero shown bytes = Some (shown, bytes)
-rectangles_at agreed (suc n) shown bytes = do
-  first ← rectangle_at agreed shown bytes
-  rectangles_at agreed n first.0 first.1
-
--- 7.6.1: an update, behind its first byte
-abbrev pub update_at : Agreed → Shown → List ℕ → Option (Shown × List ℕ)
-update_at agreed shown bytes = do
-  padding ← bytes_at 1 bytes
-  count ← number_at w16 padding.1
-  rectangles_at agreed count.0 shown count.1
-
 -- 7.6.2: what the entries of a viewer's colour map are, as far as they were set: red, green and blue
 abbrev pub ColourMap : Type 0
 ColourMap = ℕ → Option (ℕ × ℕ × ℕ)
 
 abbrev pub nothing_mapped : ColourMap
 nothing_mapped entry = None
+
+-- what a viewer has of what it was sent: what it goes by, what it shows, and its colour map
+pub record Display : Type 0 where
+  pub agreed : Agreed
+  pub shown : Shown
+  pub colours : ColourMap
+
+abbrev pub nothing_shown : Shown
+nothing_shown x y = None
+
+-- 7.8.2: the picture has a new size, and shows nothing
+abbrev pub with_size : Area → Display → Display
+with_size a d = record d { agreed = record d.agreed { width = a.w; height = a.h }; shown = nothing_shown }
+
+-- 7.8.2: a rectangle that is a new size, where DesktopSize may come
+abbrev pub size_at : Display → List ℕ → Option (Display × List ℕ)
+size_at d bytes = do
+  head ← head_at bytes
+  if is_desktop_size head.0.encoding && may_come d.agreed.listed desktop_size then Some (with_size head.0.area d, head.1) else None
+
+-- 7.6.1, 7.8.2: a rectangle of the picture, or else a new size
+abbrev pub next_by : Display → List ℕ → Option (Shown × List ℕ) → Option (Display × List ℕ)
+next_by d bytes None = size_at d bytes
+next_by d bytes (Some read) = Some (record d { shown = read.0 }, read.1)
+
+abbrev pub next_at : Display → List ℕ → Option (Display × List ℕ)
+next_at d bytes = next_by d bytes (rectangle_at d.agreed d.shown bytes)
+
+-- 7.6.1: so many, in the order sent
+unfoldable pub rectangles_at : ℕ → Display → List ℕ → Option (Display × List ℕ)
+rectangles_at zero d bytes = Some (d, bytes)
+rectangles_at (suc n) d bytes = do
+  first ← next_at d bytes
+  rectangles_at n first.0 first.1
+
+-- 7.6.1: an update, behind its first byte
+abbrev pub update_at : Display → List ℕ → Option (Display × List ℕ)
+update_at d bytes = do
+  padding ← bytes_at 1 bytes
+  count ← number_at w16 padding.1
+  rectangles_at count.0 d count.1
 
 -- 7.6.2: so many entries, from one on
 unfoldable pub entries_at : ℕ → ℕ → ColourMap → List ℕ → Option (ColourMap × List ℕ)
@@ -98,27 +126,22 @@ text_at bytes = do
   text ← bytes_at long.0 long.1
   Some text.1
 
--- what a viewer has of what it was sent: what it shows, and its colour map
-pub record Display : Type 0 where
-  pub shown : Shown
-  pub colours : ColourMap
-
 -- 7.6: a message: an update is of type 0, entries of the colour map of type 1, a bell of type 2, a text of type 3
-abbrev pub message_of : Agreed → Display → ℕ → List ℕ → Option (Display × List ℕ)
-message_of agreed d kind bytes =
-    if kind == 0 then (update_at agreed d.shown bytes >>= λ r. Some (record d { shown = r.0 }, r.1))
+abbrev pub message_of : Display → ℕ → List ℕ → Option (Display × List ℕ)
+message_of d kind bytes =
+    if kind == 0 then update_at d bytes
     else (if kind == 1 then (map_at d.colours bytes >>= λ r. Some (record d { colours = r.0 }, r.1))
     else (if kind == 2 then Some (d, bytes)
     else (if kind == 3 then (text_at bytes >>= λ more. Some (d, more))
     else None)))
 
 -- 7.6: messages one after the other, up to the end of the bytes; there are no more than bytes
-unfoldable pub messages_in : Agreed → ℕ → Display → List ℕ → Option Display
-messages_in agreed n d [] = Some d
-messages_in agreed zero d (b ∷ bytes) = None
-messages_in agreed (suc n) d (b ∷ bytes) = do
-  first ← message_of agreed d b bytes
-  messages_in agreed n first.0 first.1
+unfoldable pub messages_in : ℕ → Display → List ℕ → Option Display
+messages_in n d [] = Some d
+messages_in zero d (b ∷ bytes) = None
+messages_in (suc n) d (b ∷ bytes) = do
+  first ← message_of d b bytes
+  messages_in n first.0 first.1
 
-abbrev pub messages_at : Agreed → Display → List ℕ → Option Display
-messages_at agreed d bytes = messages_in agreed (length bytes) d bytes
+abbrev pub messages_at : Display → List ℕ → Option Display
+messages_at d bytes = messages_in (length bytes) d bytes

@@ -88,7 +88,7 @@ fn encodings(alloc: Global) -> Result<Vec<u8>, AllocError> {
 fn many_encodings(rt: HostRuntime) -> Result<(), Fail> {
     let bytes = encodings(rt.alloc())?;
     let items = format!(in rt.alloc();
-        "{OPENED}Encodings {{ preferred: Hextile, copyrect: true }};"
+        "{OPENED}Encodings {{ preferred: Hextile, copyrect: true, resize: false }};"
     )?;
     let said = Said {
         items: &items,
@@ -112,8 +112,8 @@ fn unknown_encodings(alloc: Global) -> Result<Vec<u8>, AllocError> {
 fn many_unknown_encodings(rt: HostRuntime) -> Result<(), Fail> {
     let bytes = unknown_encodings(rt.alloc())?;
     let items = format!(in rt.alloc();
-        "{OPENED}Encodings {{ preferred: Hextile, copyrect: false }};\
-            Encodings {{ preferred: Raw, copyrect: false }};"
+        "{OPENED}Encodings {{ preferred: Hextile, copyrect: false, resize: false }};\
+            Encodings {{ preferred: Raw, copyrect: false, resize: false }};"
     )?;
     let said = Said {
         items: &items,

@@ -165,12 +165,12 @@ static MESSAGES: [Row; 12] = [
     // No encodings; CopyRect and Raw; -223, 7, Hextile, RRE and CopyRect.
     (
         b"\x02\x00\x00\x00\x02\x00\x00\x02\x00\x00\x00\x01\x00\x00\x00\x00",
-        "Encodings { preferred: Raw, copyrect: false };Encodings { preferred: Raw, copyrect: true };",
+        "Encodings { preferred: Raw, copyrect: false, resize: false };Encodings { preferred: Raw, copyrect: true, resize: false };",
         None,
     ),
     (
         b"\x02\xff\x00\x05\xff\xff\xff\x21\x00\x00\x00\x07\x00\x00\x00\x05\x00\x00\x00\x02\x00\x00\x00\x01",
-        "Encodings { preferred: Hextile, copyrect: true };",
+        "Encodings { preferred: Hextile, copyrect: true, resize: true };",
         None,
     ),
     // Requests of an area, all of it and its changes alone.

@@ -193,9 +193,10 @@ fn cut_second(screen: &mut Screen) -> Result<Option<Update>, ScreenError> {
     screen.cut(1)
 }
 
-/// All is painted anew, and the viewer is closed.
+/// All is painted anew, the screen has another size, and the viewer is closed.
 fn draw_over(screen: &mut Screen) -> Result<(), ScreenError> {
     screen.paint(rect(0, 0, 2, 2), &[7; 4])?;
+    screen.new_framebuffer(3, 1)?;
     screen.close(1)
 }
 

@@ -84,7 +84,7 @@ fn drawn_before<L: Ledger + Send + Sync, R: Threads + Wait + Sync>(
         shared,
         brush,
         sent,
-        Verdict::Accepted(13, 13, &[Sent::Whole]),
+        Verdict::Accepted(14, 14, &[Sent::Whole]),
     )
 }
 

@@ -26,3 +26,8 @@ pub returns-in-schedule : goal.returns-in-schedule
 returns-in-schedule c =
     let e : c.args.word.now ≡ codes "schedule" = text_from_reads _ (codes "schedule") (omega arith) (search rules) in
     rw e refl
+
+pub returns-in-resize : goal.returns-in-resize
+returns-in-resize c =
+    let e : c.args.word.now ≡ codes "resize" = text_from_reads _ (codes "resize") (omega arith) (search rules) in
+    rw e refl

@@ -9,11 +9,11 @@ use Rattle.scene.proofs.drawing.cut_to_screen.Goals as goal
 pub returns : goal.returns
 returns c =
     let here : ℤ → ℤ → Bool = covers c.args.region.now.list in
-    let wide : to_z w32 c.args.config.now.width ≡ pos c.args.config.now.width = omega (arith, ints, c.requires.columns) in
-    let high : to_z w32 c.args.config.now.height ≡ pos c.args.config.now.height = omega (arith, ints, c.requires.rows) in
+    let wide : to_z w32 c.args.width ≡ pos c.args.width = omega (arith, ints, c.requires.columns) in
+    let high : to_z w32 c.args.height ≡ pos c.args.height = omega (arith, ints, c.requires.rows) in
     let screen : ℤ → ℤ → Rect = λ a b. record { x1 = pos 0; y1 = pos 0; x2 = a; y2 = b } in
     IfOk-weaker c.intersection.result _ _
-    (λ cut is. cut-region c.args.config.now.width c.args.config.now.height here (covers cut.list)
+    (λ cut is. cut-region c.args.width c.args.height here (covers cut.list)
     (λ x y. is x y ∙ ap (λ (set : ℤ → ℤ → Bool). here x y && set x y) c.in_ok-screen.ensures
-    ∙ ap (λ a. here x y && in_rect (screen a (to_z w32 c.args.config.now.height)) x y) wide ∙ ap (λ b. here x y && in_rect (screen (pos c.args.config.now.width) b) x y) high))
+    ∙ ap (λ a. here x y && in_rect (screen a (to_z w32 c.args.height)) x y) wide ∙ ap (λ b. here x y && in_rect (screen (pos c.args.width) b) x y) high))
     c.intersection.ensures

@@ -13,6 +13,6 @@ owe-requires c = record { whole = λ k d below. (c.requires.sized k d below).who
 pub returns-clause-ok : goal.returns-clause-ok
 returns-clause-ok c =
     let set : ℤ → ℤ → Bool = places_in c.args.rects.now in
-    let cut : covers c.in_ok-region.region.list ≡ cut_destination c.args.config.now.width c.args.config.now.height set (pos 0, pos 0) = c.in_ok-region.ensures ∙ ap covers c.deref.ensures.value ∙ c.in_ok-pieces.ensures.places in
+    let cut : covers c.in_ok-region.region.list ≡ cut_destination c.args.width c.args.height set (pos 0, pos 0) = c.in_ok-region.ensures ∙ ap covers c.deref.ensures.value ∙ c.in_ok-pieces.ensures.places in
     subst (λ (ps : List (ℕ × KeptViewer)). OnOk c.owe.result (c.owe.new.viewers.pairs ≡ ps))
-    (owed-cut c.args.config.now set (covers c.in_ok-region.region.list) c.args.viewers.now.pairs c.requires.some_columns cut c.requires.sized) c.owe.ensures.ok
+    (owed-cut c.args.width c.args.height set (covers c.in_ok-region.region.list) c.args.viewers.now.pairs c.requires.some_columns cut c.requires.sized) c.owe.ensures.ok

@@ -11,4 +11,4 @@ owe-requires c = record { whole = λ k d below. (c.requires.sized k d below).who
 pub returns-clause-ok : goal.returns-clause-ok
 returns-clause-ok c =
     subst (λ (ps : List (ℕ × KeptViewer)). OnOk c.owe.result (c.owe.new.viewers.pairs ≡ ps))
-    (owed-same c.args.config.now (covers c.args.region.now.list) (covers c.in_ok-cut.cut.list) c.args.viewers.now.pairs c.requires.some_columns c.in_ok-cut.ensures c.requires.sized) c.owe.ensures.ok
+    (owed-same c.args.width c.args.height (covers c.args.region.now.list) (covers c.in_ok-cut.cut.list) c.args.viewers.now.pairs c.requires.some_columns c.in_ok-cut.ensures c.requires.sized) c.owe.ensures.ok

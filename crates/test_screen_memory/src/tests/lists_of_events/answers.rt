@@ -3,7 +3,7 @@
 
 use super::kept::expect_kept;
 use super::lists::Call::{Paint, Write};
-use super::lists::{Call, EVERY_KIND, Row, TWO_VIEWERS, event, events};
+use super::lists::{Call, EVERY_KIND, NEW_SIZE, Row, TWO_VIEWERS, event, events};
 use super::new_screen;
 use screen::{Answer, Event, History, Screen, ScreenError};
 use std::alloc::Global;
@@ -60,6 +60,11 @@ fn two_viewers_whichever_allocation_is_refused(rt: HostRuntime) {
 #[test]
 fn every_kind_whichever_allocation_is_refused(rt: HostRuntime) {
     let _ready = expect_answers_at_last(&rt, rt.alloc(), &EVERY_KIND);
+}
+
+#[test]
+fn a_new_size_whichever_allocation_is_refused(rt: HostRuntime) {
+    let _ready = expect_answers_at_last(&rt, rt.alloc(), &NEW_SIZE);
 }
 
 /// What no line of a script says: rectangles that begin left of the screen, or whose corners stand in the wrong order.

@@ -46,6 +46,9 @@ fn is_of_a_viewer(event: &Event, call: Call) -> bool {
     match (event, call) {
         (Event::Bell, Call::Bell) => true,
         (Event::CutText { text }, Call::CutText(given)) => text.as_slice() == given,
+        (Event::Resize { width, height }, Call::Resize(columns, rows)) => {
+            (*width, *height) == (columns, rows)
+        }
         (Event::Connect { viewer }, Call::Connect(number)) => *viewer == number,
         (Event::Hear { viewer, piece }, Hear(number, given)) => {
             *viewer == number && piece.as_slice() == given

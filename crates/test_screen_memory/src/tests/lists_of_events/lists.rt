@@ -17,13 +17,16 @@ pub(crate) enum Call {
     DoCopy(&'static [[i32; 4]], i32, i32),
     Bell,
     CutText(&'static [u8]),
+    Resize(u32, u32),
     Connect(u64),
     Hear(u64, &'static [u8]),
     Cut(u64),
     Close(u64),
 }
 
-use Call::{Bell, Close, Connect, Cut, CutText, DoCopy, Hear, Mark, Paint, ScheduleCopy, Write};
+use Call::{
+    Bell, Close, Connect, Cut, CutText, DoCopy, Hear, Mark, Paint, Resize, ScheduleCopy, Write,
+};
 
 /// An event, and the bytes that it is answered.
 pub(crate) type Row = (Call, &'static [u8]);
@@ -124,6 +127,42 @@ pub(crate) static EVERY_KIND: [Row; 21] = [
     (Close(1), &[]),
 ];
 
+/// A new framebuffer, of more columns and rows: one viewer lists DesktopSize (RFC 6143, section 7.8.2), and the other knows the old
+/// size alone.
+pub(crate) static NEW_SIZE: [Row; 18] = [
+    (Paint(WHOLE, &[1, 2, 3, 4]), &[]),
+    (Connect(1), VERSION),
+    (Hear(1, OPENING), OPENED),
+    (
+        Hear(1, &[2, 0, 0, 2, 0, 0, 0, 0, 0xff, 0xff, 0xff, 0x21]),
+        &[],
+    ),
+    (Connect(2), VERSION),
+    (Hear(2, OPENING), OPENED),
+    (Hear(1, ALL), &[]),
+    (Cut(1), FOUR),
+    (Hear(2, ALL), &[]),
+    (Cut(2), FOUR),
+    (Resize(6, 2), &[]),
+    (Paint([5, 1, 6, 2], &[10]), &[]),
+    (Hear(1, CHANGES), &[]),
+    (Hear(2, CHANGES), &[]),
+    (
+        Cut(1),
+        &[0, 0, 0, 1, 0, 0, 0, 0, 0, 6, 0, 2, 0xff, 0xff, 0xff, 0x21],
+    ),
+    (Cut(2), BLACK),
+    (Hear(1, &[3, 0, 0, 0, 0, 0, 0, 6, 0, 2]), &[]),
+    (
+        Cut(1),
+        &[
+            0, 0, 0, 1, 0, 0, 0, 0, 0, 6, 0, 2, 0, 0, 0, 0, 0, 0, 0, 0, 0, 0, 0, 0, 0, 0, 0, 0, 0,
+            0, 0, 0, 0, 0, 0, 0, 0, 0, 0, 0, 0, 0, 0, 0, 0, 0, 0, 0, 0, 0, 0, 0, 0, 0, 0, 0, 0, 0,
+            0, 0, 10, 0, 0, 0,
+        ],
+    ),
+];
+
 fn listed<T: Copy>(alloc: Global, items: &[T]) -> Result<Listed<T>, AllocError> {
     Listed::from_slice(alloc, items)
 }
@@ -169,6 +208,7 @@ pub(crate) fn event(alloc: Global, call: Call) -> Result<Event, AllocError> {
         CutText(text) => Event::CutText {
             text: listed(alloc, text)?,
         },
+        Resize(width, height) => Event::Resize { width, height },
         Connect(viewer) => Event::Connect { viewer },
         Hear(viewer, piece) => Event::Hear {
             viewer,

@@ -52,6 +52,18 @@ fn expect_copies(rt: &impl Abort, screen: &mut Screen) {
     assert!(rt; cut_again(rt, screen, 1).is_none());
 }
 
+/// Two black places in Raw.
+static BLACK: [u8; 24] = [
+    0, 0, 0, 1, 0, 0, 0, 0, 0, 2, 0, 1, 0, 0, 0, 0, 0, 0, 0, 0, 0, 0, 0, 0,
+];
+
+/// The screen is smaller, and the first viewer is sent what it sees of it.
+fn resize_again(rt: &impl Abort, screen: &mut Screen) {
+    again!(rt, screen.new_framebuffer(2, 1));
+    hear_again(rt, screen, 1, &request(true, 0, 0, 6, 1));
+    expect_sent(rt, screen, 1, &BLACK);
+}
+
 /// The screen with viewer 1, that was sent all of it.
 fn prepared(alloc: Global) -> Result<Screen, ScreenError> {
     let mut screen = new_screen(alloc, (6, 1))?;
@@ -67,6 +79,7 @@ fn expect_named_calls(rt: &impl Abort, alloc: Global, zone: &Region) {
         draw_again(rt, &mut screen, zone);
         copy_again(rt, &mut screen, zone);
         expect_copies(rt, &mut screen);
+        resize_again(rt, &mut screen);
     }
 }
 
