@@ -7,35 +7,11 @@
 set -u
 COMMAND=${1:?usage: resizing.sh "SERVER COMMAND" [OUT]}
 OUT=${2:-$(mktemp -d)}
-PORT=$((5970 + RANDOM % 20))
-SCREEN=$((90 + RANDOM % 100))
-mkdir -p "$OUT"
-SEEN=$OUT/seen.txt
-: >"$SEEN"
-PIDS=()
-bad=0
-say() { echo "$*" | tee -a "$SEEN"; }
-cleanup() {
-    for ((i = ${#PIDS[@]} - 1; i >= 0; i--)); do kill "${PIDS[i]}" 2>/dev/null; done
-    wait 2>/dev/null
-}
-trap cleanup EXIT
-TIGER=$(command -v xtigervncviewer || command -v vncviewer)
-for t in Xvfb xdotool import convert "${TIGER:-xtigervncviewer}"; do command -v "$t" >/dev/null || { say "missing: $t"; exit 2; }; done
-
-${COMMAND//\{port\}/$PORT} >"$OUT/server.log" 2>&1 &
-PIDS+=($!)
-hex=$(printf ':%04X' "$PORT")
-for _ in $(seq "${SECONDS_TO_START:-5}"0); do
-    grep -q "$hex 00000000:0000 0A" /proc/net/tcp && break
-    sleep 0.1
-done
-grep -q "$hex 00000000:0000 0A" /proc/net/tcp || { say "the server didn't listen"; exit 1; }
-Xvfb ":$SCREEN" -screen 0 1000x600x24 -nolisten tcp >"$OUT/xvfb.log" 2>&1 &
-PIDS+=($!)
-export DISPLAY=":$SCREEN"
-unset XAUTHORITY WAYLAND_DISPLAY
-sleep 1
+. "$(dirname "$0")/common.sh"
+[ -n "$TIGER" ] || { say "missing: xtigervncviewer"; exit 2; }
+COMMAND=${COMMAND//\{port\}/$PORT}
+start_server
+start_screen 1000 600
 "$TIGER" -SecurityTypes None "127.0.0.1::$PORT" >"$OUT/viewer.log" 2>&1 &
 PIDS+=($!)
 window=$(timeout 10 xdotool search --sync --onlyvisible --name 'follow the pointer' | head -1)

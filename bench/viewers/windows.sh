@@ -10,24 +10,7 @@ COMMAND=${1:?usage: windows.sh "SERVER COMMAND" [OUT] [WIDTH HEIGHT]}
 OUT=${2:-$(mktemp -d)}
 WIDTH=${3:-640}
 HEIGHT=${4:-480}
-PORT=$((5970 + RANDOM % 20))
-SCREEN=$((90 + RANDOM % 100))
-mkdir -p "$OUT"
-SEEN=$OUT/seen.txt
-: >"$SEEN"
-PIDS=()
-bad=0
-say() { echo "$*" | tee -a "$SEEN"; }
-cleanup() {
-    for ((i = ${#PIDS[@]} - 1; i >= 0; i--)); do kill "${PIDS[i]}" 2>/dev/null; done
-    sleep 0.2
-    for p in "${PIDS[@]}"; do kill -9 "$p" 2>/dev/null; done
-    wait 2>/dev/null
-}
-trap cleanup EXIT
-have() { command -v "$1" >/dev/null 2>&1; }
-for t in Xvfb xdotool import convert; do have "$t" || { say "missing: $t"; exit 2; }; done
-TIGER=$(command -v xtigervncviewer || command -v vncviewer || true)
+. "$(dirname "$0")/common.sh"
 count=0
 [ -n "$TIGER" ] && count=$((count + 2))
 have gvncviewer && count=$((count + 1))
@@ -39,21 +22,8 @@ COMMAND=${COMMAND//\{port\}/$PORT}
 COMMAND=${COMMAND//\{width\}/$WIDTH}
 COMMAND=${COMMAND//\{height\}/$HEIGHT}
 COMMAND=${COMMAND//\{viewers\}/$count}
-$COMMAND >"$OUT/server.log" 2>&1 &
-SERVER=$!
-PIDS+=("$SERVER")
-hex=$(printf ':%04X' "$PORT")
-for _ in $(seq 100); do
-    grep -q "$hex 00000000:0000 0A" /proc/net/tcp && break
-    sleep 0.05
-done
-grep -q "$hex 00000000:0000 0A" /proc/net/tcp || { say "the server didn't listen"; exit 1; }
-
-Xvfb ":$SCREEN" -screen 0 "$((WIDTH + 80))x$((HEIGHT + 80))x24" -nolisten tcp >"$OUT/xvfb.log" 2>&1 &
-PIDS+=($!)
-export DISPLAY=":$SCREEN"
-unset XAUTHORITY WAYLAND_DISPLAY
-for _ in $(seq 100); do xdotool getdisplaygeometry >/dev/null 2>&1 && break; sleep 0.05; done
+start_server
+start_screen "$((WIDTH + 80))" "$((HEIGHT + 80))"
 
 # window NAME-REGEX: the id of the visible window with the screen's size
 window() {
