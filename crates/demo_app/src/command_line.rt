@@ -119,6 +119,10 @@ fn serve_command<'a>(alloc: Global) -> Result<Command<'a>, AllocError> {
         .long("check")
         .help("keeps what was drawn, heard and sent, and judges it at the end")
         .action(ArgAction::SetTrue);
+    let one_thread = Arg::new(alloc, "one-thread")
+        .long("one-thread")
+        .help("serves all viewers in one thread, by an event loop")
+        .action(ArgAction::SetTrue);
     Command::new(alloc, "serve")
         .about("shows a screen to viewers over TCP")
         .after_help(SERVE_HELP)
@@ -128,7 +132,8 @@ fn serve_command<'a>(alloc: Global) -> Result<Command<'a>, AllocError> {
         .arg(name)?
         .arg(limit)?
         .arg(viewers)?
-        .arg(check)
+        .arg(check)?
+        .arg(one_thread)
 }
 
 /// What the options of `serve` say.
@@ -144,6 +149,7 @@ fn serve_of(alloc: Global, matches: &ArgMatches<'_>) -> Result<Chosen, AllocErro
         // clap refuses all other numbers, and says so
         viewers: matches.get_one::<u32>("viewers").unwrap_or(1).clamp(1, 64),
         check: matches.get_flag("check"),
+        one_thread: matches.get_flag("one-thread"),
     };
     let port = matches.get_one("port").unwrap_or(5900);
     Ok(Chosen::Serve { port, options })

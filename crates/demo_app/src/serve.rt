@@ -1,10 +1,11 @@
 //! `serve`: a screen over TCP, on which viewers paint places, ring bells and copy texts.
 
 ghost use Rattle.std.specs.Prelude.{◌≡◌, ◌<◌, ◌⊎◌, IfOk};
+ghost use Rattle.demo_app.specs.Screens.{config_by};
 
 use messages::Input;
 use play_script::refusal_text;
-use receipts::{Ended, FinishError, Receipt};
+use receipts::{Ended, FinishError, Receipt, Report};
 use screen::{Config, History, Listed, Rect, ScreenError};
 use script_player::trouble::{Trouble, flush, print, report};
 use serving::{Application, ServeError, Told, serve_viewers};
@@ -32,6 +33,8 @@ pub struct ServeOptions {
     pub viewers: u32,
     /// Whether the history is kept, and the run is judged at its end.
     pub check: bool,
+    /// Whether one thread serves all viewers.
+    pub one_thread: bool,
 }
 
 /// The most bytes of a text that is sent back.
@@ -39,11 +42,25 @@ const TEXT_LIMIT: usize = 65_536;
 
 /// The application: a pointer with its first button down paints its place white, a key that goes down rings the bell, and a text
 /// is sent back.
-#[derive(Drop)]
-struct Easel {
-    width: u32,
-    height: u32,
+#[derive(Clone, Copy, Debug, Drop)]
+pub(crate) struct Easel {
+    pub width: u32,
+    pub height: u32,
 }
+
+/// What an input has the application draw.
+#[derive(Clone, Copy, Debug)]
+pub(crate) enum Stroke<'a> {
+    /// The place of this rectangle gets white.
+    Place(Rect),
+    /// The bell rings.
+    Bell,
+    /// A text is sent back.
+    Text(&'a [u8]),
+}
+
+/// The colour of a place that is painted.
+pub(crate) const WHITE: u32 = 0xff_ffff;
 
 impl Easel {
     /// The rectangle of one place, where that is on the screen.
@@ -57,6 +74,21 @@ impl Easel {
             y2: y1 + 1,
         })
     }
+
+    /// What an input has it draw, if anything.
+    pub fn stroke<'a>(&self, input: &'a Input) -> Option<Stroke<'a>> {
+        match input {
+            Input::Pointer { mask, x, y } if mask & 1 == 1 => {
+                Some(Stroke::Place(self.place(*x, *y)?))
+            }
+            Input::Key { down: true, .. } => Some(Stroke::Bell),
+            Input::Text { text, .. } => {
+                let text = text.as_slice();
+                Some(Stroke::Text(text.get(..TEXT_LIMIT).unwrap_or(text)))
+            }
+            _ => None,
+        }
+    }
 }
 
 impl<L: Ledger> Application<L> for Easel {
@@ -67,17 +99,11 @@ impl<L: Ledger> Application<L> for Easel {
         brush: &mut Brush<L>,
         told: &Told,
     ) -> Result<(), ScreenError> {
-        match &told.input {
-            Input::Pointer { mask, x, y } if mask & 1 == 1 => match self.place(*x, *y) {
-                Some(rect) => brush.paint(shared, rt, rect, &[0xff_ffff]),
-                None => Ok(()),
-            },
-            Input::Key { down: true, .. } => brush.bell(shared, rt),
-            Input::Text { text, .. } => {
-                let text = text.as_slice();
-                brush.cut_text(shared, rt, text.get(..TEXT_LIMIT).unwrap_or(text))
-            }
-            _ => Ok(()),
+        match self.stroke(&told.input) {
+            Some(Stroke::Place(rect)) => brush.paint(shared, rt, rect, &[WHITE]),
+            Some(Stroke::Bell) => brush.bell(shared, rt),
+            Some(Stroke::Text(text)) => brush.cut_text(shared, rt, text),
+            None => Ok(()),
         }
     }
 }
@@ -118,7 +144,7 @@ fn code_of(error: FinishError) -> u8 {
 }
 
 /// Prints a line for each viewer.
-fn print_ends<W: Write>(
+pub(crate) fn print_ends<W: Write>(
     alloc: Global,
     writer: &mut W,
     receipts: &[Receipt],
@@ -140,7 +166,18 @@ pub(crate) fn print_verdict<L: Ledger, W: Write>(
 ) -> Result<u8, Trouble>
     ensures { IfOk result (λ status. (status ≡ 0) ⊎ (status ≡ 4)) }
 {
-    match finish(shared, brush, receipts) {
+    print_judgement(alloc, writer, finish(shared, brush, receipts))
+}
+
+/// Prints a judgement. The status.
+pub(crate) fn print_judgement<W: Write>(
+    alloc: Global,
+    writer: &mut W,
+    judgement: Result<Report, FinishError>,
+) -> Result<u8, Trouble>
+    ensures { IfOk result (λ status. (status ≡ 0) ⊎ (status ≡ 4)) }
+{
+    match judgement {
         Ok(_) => {
             print(writer, b"finish ok\n")?;
             Ok(0)
@@ -154,7 +191,9 @@ pub(crate) fn print_verdict<L: Ledger, W: Write>(
 }
 
 /// The screen that the options say.
-fn config_of(alloc: Global, options: &ServeOptions) -> Result<Config, AllocError> {
+pub(crate) fn config_of(alloc: Global, options: &ServeOptions) -> Result<Config, AllocError>
+    ensures { IfOk result (λ config. config ≡ config_by options.now) }
+{
     let history = if options.check {
         History::Kept
     } else {
@@ -170,7 +209,7 @@ fn config_of(alloc: Global, options: &ServeOptions) -> Result<Config, AllocError
 }
 
 /// Prints a refused configuration. The status.
-fn print_refusal<W: Write>(
+pub(crate) fn print_refusal<W: Write>(
     alloc: Global,
     writer: &mut W,
     refusal: ScreenError,

@@ -4,16 +4,19 @@
 ghost use Rattle.std.specs.Prelude.{◌≡◌};
 
 use clap::error::ErrorKind;
-use demo_app::{Chosen, ServeOptions, Steps, line_of, play_over, self_on, serve_on};
+use demo_app::{
+    Chosen, ServeOptions, Steps, line_of, play_over, self_on, serve_in_one_thread, serve_on,
+};
 use std::alloc::Global;
-use std::io::BufWriter;
+use std::io::{BufWriter, Write};
 use std::marker::Brand;
-use std::net::{Ipv4Addr, Net, TcpListener, TcpStream};
+use std::net::{Ipv4Addr, Net, SocketAddr, TcpListener, TcpStream};
 use std::process::ExitCode;
 use std::rt::Runtime;
 use std::sync::Wait;
 use std::sync::ledger::{Blank, Ledger};
 use std::thread::Threads;
+use std::time::Clock;
 use std::{env, io};
 
 fn out_of_memory<R: Runtime>(rt: &R) -> ExitCode {
@@ -52,22 +55,46 @@ fn play<L: Ledger>(rt: &HostRuntime, blank: Blank) -> ExitCode
     ExitCode::from(status)
 }
 
+fn serve_by_threads<
+    W: Write,
+    R: Threads + Wait + Net<Listener = TcpListener, Stream = TcpStream> + Sync,
+>(rt: &R, alloc: Global, port: u16, options: &ServeOptions, writer: &mut W) -> Option<u8> {
+    let listener = TcpListener::bind(rt, (Ipv4Addr::LOCALHOST, port)).ok()?;
+    Some(serve_on(rt, alloc, &listener, options, writer))
+}
+
+fn serve_by_one<W: Write, R: Net + Clock>(
+    rt: &R,
+    alloc: Global,
+    port: u16,
+    options: &ServeOptions,
+    writer: &mut W,
+) -> Option<u8> {
+    let address = SocketAddr::from((Ipv4Addr::LOCALHOST, port));
+    let listener = mio::net::TcpListener::bind(rt, address).ok()?;
+    Some(serve_in_one_thread(rt, alloc, listener, options, writer))
+}
+
 fn serve<R: Runtime + Threads + Wait + Net<Listener = TcpListener, Stream = TcpStream> + Sync>(
     rt: &R,
     alloc: Global,
     port: u16,
     options: &ServeOptions,
 ) -> ExitCode {
-    let Ok(listener) = TcpListener::bind(rt, (Ipv4Addr::LOCALHOST, port)) else {
-        return network_fault(rt);
-    };
     let Ok(mut writer) = BufWriter::new(alloc, io::writer(rt)) else {
         return out_of_memory(rt);
     };
-    let status = serve_on(rt, alloc, &listener, options, &mut writer);
+    let served = if options.one_thread {
+        serve_by_one(rt, alloc, port, options, &mut writer)
+    } else {
+        serve_by_threads(rt, alloc, port, options, &mut writer)
+    };
     // After a write fault nothing more is written: what the buffer holds is let go.
     let _ = writer.into_parts();
-    ExitCode::from(status)
+    match served {
+        Some(status) => ExitCode::from(status),
+        None => network_fault(rt),
+    }
 }
 
 fn own<R: Runtime + Threads + Wait + Net<Listener = TcpListener, Stream = TcpStream> + Sync>(

@@ -7,11 +7,11 @@ use demo_app::{Chosen, ServeOptions, line_of};
 use std::alloc::{AllocError, Global};
 use std::test::Fail;
 
-// What a line's options come to: port, width, height, limit, viewers, whether all is kept, and the name.
+// What a line's options come to: port, width, height, limit, viewers, whether all is kept, whether there is one thread, and the name.
 fn is_serve(
     alloc: Global,
     texts: &[&str],
-    numbers: (u16, u32, u32, u32, u32, bool),
+    numbers: (u16, u32, u32, u32, u32, bool, bool),
     name: &str,
 ) -> Result<bool, AllocError> {
     let line = words(alloc, texts)?;
@@ -25,9 +25,10 @@ fn is_serve(
         limit,
         viewers,
         check,
+        one_thread,
     } = options;
     Ok(
-        (port, width, height, limit, viewers, check) == numbers
+        (port, width, height, limit, viewers, check, one_thread) == numbers
             && given.as_slice() == name.as_bytes(),
     )
 }
@@ -49,13 +50,14 @@ static ALL: &[&str] = &[
     "--viewers",
     "64",
     "--check",
+    "--one-thread",
 ];
 
 #[test]
 fn options_of_serve(rt: HostRuntime) -> Result<(), Fail> {
     let alloc = rt.alloc();
-    assert!(rt; is_serve(alloc, NONE, (5900, 640, 480, 50, 1, false), "demo")?);
-    assert!(rt; is_serve(alloc, ALL, (5901, 1, 2, 3, 64, true), "")?);
+    assert!(rt; is_serve(alloc, NONE, (5900, 640, 480, 50, 1, false, false), "demo")?);
+    assert!(rt; is_serve(alloc, ALL, (5901, 1, 2, 3, 64, true, true), "")?);
     Ok(())
 }
 

@@ -2,7 +2,7 @@
 
 ghost use Rattle.std.specs.Prelude.{◌≡◌};
 
-use demo_app::{ServeOptions, serve_on};
+use demo_app::{ServeOptions, serve_in_one_thread, serve_on};
 use listed::Listed;
 use std::alloc::{AllocError, Global};
 use std::io::{Read, Write};
@@ -10,6 +10,7 @@ use std::net::{Ipv4Addr, Net, SocketAddr, TcpListener, TcpStream};
 use std::sync::Wait;
 use std::test::Fail;
 use std::thread::Threads;
+use std::time::Clock;
 use std::{io, thread};
 
 // What a client says, and what it reads then.
@@ -24,6 +25,8 @@ struct Run {
     check: bool,
     steps: &'static [Step],
     printed: &'static [u8],
+    // what is printed where one thread serves all: it knows why a viewer that was open left
+    by_one: &'static [u8],
     status: u8,
 }
 
@@ -41,6 +44,7 @@ const SEES_ALL: Run = Run {
             \0\0\0\0\0\0\0\0\0\0\0\0\0\0\0\0\0\0\0\0\0\0\0\0",
     )],
     printed: b"viewer 1 Closed\nfinish ok\n",
+    by_one: b"viewer 1 EndOfInput\nfinish ok\n",
     status: 0,
 };
 
@@ -51,6 +55,7 @@ static RUNS: [Run; 8] = [
         viewers: 2,
         check: false,
         printed: b"viewer 1 Closed\nviewer 2 Closed\n",
+        by_one: b"viewer 1 EndOfInput\nviewer 2 EndOfInput\n",
         ..SEES_ALL
     },
     // no such screen
@@ -58,6 +63,7 @@ static RUNS: [Run; 8] = [
         size: (0, 3),
         viewers: 0,
         printed: b"refused 1 BadSize\n",
+        by_one: b"refused 1 BadSize\n",
         status: 1,
         ..SEES_ALL
     },
@@ -94,18 +100,21 @@ static RUNS: [Run; 8] = [
     Run {
         steps: &[(b"GET / HTTP/1.0\r\n\r\n", b"RFB 003.008\n")],
         printed: b"viewer 1 Fault\nfinish ok\n",
+        by_one: b"viewer 1 Fault\nfinish ok\n",
         ..SEES_ALL
     },
     // it goes away in its opening, once it has read all
     Run {
         steps: &[(b"RFB 003", b"RFB 003.008\n")],
         printed: b"viewer 1 EndOfInput\nfinish ok\n",
+        by_one: b"viewer 1 EndOfInput\nfinish ok\n",
         ..SEES_ALL
     },
     // it goes away with a byte unread, which resets the connection
     Run {
         steps: &[(b"", b"RFB 003.008")],
         printed: b"viewer 1 ReadFailed\nfinish ok\n",
+        by_one: b"viewer 1 ReadFailed\nfinish ok\n",
         ..SEES_ALL
     },
     // it goes away once an update of 16 MB has begun, of which a connection holds a part
@@ -118,6 +127,7 @@ static RUNS: [Run; 8] = [
                 \0\0\0\x01\0\0\0\0\x08\0\x08\0\0\0\0\0",
         )],
         printed: b"viewer 1 WriteFailed\n",
+        by_one: b"viewer 1 WriteFailed\n",
         ..SEES_ALL
     },
 ];
@@ -135,6 +145,7 @@ fn options(
         limit: 50,
         viewers,
         check,
+        one_thread: false,
     })
 }
 
@@ -202,6 +213,31 @@ fn comes_out<R: Threads + Wait + Net<Listener = TcpListener, Stream = TcpStream>
 fn viewers_are_served(rt: HostRuntime) -> Result<(), Fail> {
     for run in &RUNS {
         assert!(rt; comes_out(&rt, rt.alloc(), run)?, "{run:?}");
+    }
+    Ok(())
+}
+
+// The same of one thread that serves all.
+fn comes_out_of_one_thread<
+    R: Threads + Wait + Clock + Net<Listener = TcpListener, Stream = TcpStream> + Sync,
+>(rt: &R, alloc: Global, run: &Run) -> io::Result<bool> {
+    let options = options(alloc, run.size, run.viewers, run.check)?;
+    let address = SocketAddr::from((Ipv4Addr::LOCALHOST, 0));
+    let listener = mio::net::TcpListener::bind(rt, address)?;
+    let address = listener.local_addr()?;
+    let mut out = Vec::new(alloc);
+    let (talked, ended) = thread::join(
+        rt,
+        move || talk_each(rt, address, run.viewers, run.steps),
+        || serve_in_one_thread(rt, alloc, listener, &options, &mut out),
+    );
+    Ok(talked? && ended == run.status && out.as_slice() == run.by_one)
+}
+
+#[test]
+fn viewers_are_served_in_one_thread(rt: HostRuntime) -> Result<(), Fail> {
+    for run in &RUNS {
+        assert!(rt; comes_out_of_one_thread(&rt, rt.alloc(), run)?, "{run:?}");
     }
     Ok(())
 }

@@ -1,0 +1,51 @@
+-- What a call of the screen makes of a canvas.
+use Rattle.std.proofs.Common.{◌≡◌, Bool, true, false, List, [], ◌∷◌, ◌++◌, Option, Some, None, Result, Ok, Err, OnOk, OnErr, IfOk, refl, sym, ap, ◌∙◌, append_assoc, subst}
+use Rattle.std.specs.Prelude.{MatchOption, MatchResult, IsOkUnless, ◌&&◌}
+use Rattle.std.proofs.lemmas.Bool.{and_from}
+use Rattle.std.proofs.lemmas.List.Folds.{list_all-append}
+use Rattle.scene.specs.declared.Config.{Config}
+use Rattle.scene.specs.declared.ScreenError.{ScreenError}
+use Rattle.scene.specs.declared.ScreenError.TheVariants.{OutOfMemory}
+use Rattle.scene.specs.declared.Event.{Event}
+use Rattle.scene.specs.declared.Answer.{Answer}
+use Rattle.scene.specs.Alone.{owner_of, Tells}
+use Rattle.scene.specs.Answers.{is_drawing}
+use Rattle.screen.specs.State.{State, state}
+use Rattle.connections.specs.Drawing.{Surface, are_drawings, IsDrawnFrom, Draws}
+
+-- a drawing call, which is refused or not
+pub draws_by : {X : Type 0} (r : Result X ScreenError) (a b : Surface) (e : Event) → owner_of e ≡ None
+    → ((c : Config) (list : List Event) → a.screen ≡ state c list → OnOk r (b.screen ≡ state c (list ++ e ∷ []))) → OnErr r (b.screen ≡ a.screen) → b.drawn ≡ true → Draws a b
+draws_by (Ok x) a b e own steps err drawn c list d = record {
+  calls = d.calls ++ e ∷ [];
+  drawings = list_all-append (λ e. is_drawing (owner_of e)) d.calls (e ∷ []) ∙ and_from _ _ d.drawings (ap (λ o. is_drawing o && true) own);
+  screen = steps c (list ++ d.calls) d.screen ∙ ap (state c) (append_assoc list d.calls (e ∷ []));
+  none = λ no. let both : true ≡ false = sym drawn ∙ no in absurd cc;
+}
+draws_by (Err x) a b e own steps err drawn c list d = record {
+  calls = d.calls;
+  drawings = d.drawings;
+  screen = err ∙ d.screen;
+  none = λ no. let both : true ≡ false = sym drawn ∙ no in absurd cc;
+}
+
+pub draws_from : {X : Type 0} (r : Result X ScreenError) (a b : Surface) (before : State) (drawn : Bool) (e : Event) → record { screen = before; drawn = drawn } ≡ a → owner_of e ≡ None
+    → ((c : Config) (list : List Event) → before ≡ state c list → OnOk r (b.screen ≡ state c (list ++ e ∷ []))) → OnErr r (b.screen ≡ before) → b.drawn ≡ true → Draws a b
+draws_from r a b before drawn e is own steps err now = subst (λ (x : Surface). Draws x b) is (draws_by r (record { screen = before; drawn = drawn }) b e own steps err now)
+
+-- the bytes that a call told
+pub told-bytes : {X : Type 0} (f : X → Answer) (r : Result X ScreenError) (a : Answer) → Tells f r a → IfOk r (λ x. (f x).bytes ≡ a.bytes)
+told-bytes {X = X} f r a h = go a.refused refl h
+  where
+    ok : (q : Result X ScreenError) → MatchResult q (λ x. f x ≡ a) (λ e. e ≡ OutOfMemory) → IfOk q (λ x. (f x).bytes ≡ a.bytes)
+    ok (Ok x) h = ap (λ (b : Answer). b.bytes) h
+    ok (Err e) h = tt
+
+    go : (o : Option ScreenError) → a.refused ≡ o → MatchOption o (MatchResult r (λ x. f x ≡ a) (λ e. e ≡ OutOfMemory)) (λ e. r ≡ Err e) → IfOk r (λ x. (f x).bytes ≡ a.bytes)
+    go None is h = ok r h
+    go (Some e) is h = subst (λ (q : Result X ScreenError). IfOk q (λ x. (f x).bytes ≡ a.bytes)) (sym h) tt
+
+-- a screen that was made was not refused
+pub accepted : {X : Type 0} (r : Result X ScreenError) (o : Option ScreenError) (x : X) → r ≡ Ok x → MatchOption o (IsOkUnless r OutOfMemory) (λ e. r ≡ Err e) → o ≡ None
+accepted r None x is h = refl
+accepted {X = X} r (Some e) x is h = let two : ◌≡◌ {A = Result X ScreenError} (Ok x) (Err e) = sym is ∙ h in absurd cc

@@ -1,0 +1,340 @@
+-- What a step makes of all connections.
+use Rattle.std.proofs.Common.{◌≡◌, ◌≢◌, ◌<◌, ◌≤◌, ℕ, zero, suc, Bool, true, false, List, [], ◌∷◌, ◌++◌, Option, Some, None, refl, sym, ap, ◌∙◌, append_assoc, append-nil, subst, arith, ◌+◌}
+use Rattle.std.specs.Prelude.{◌==◌, ◌&&◌, option_map, unwrap_or, length, slice_set}
+use Rattle.std.proofs.lemmas.List.{get_or-set_same, get_or-set_other}
+use Rattle.std.specs.Io.KnownBytes.{Appends, Consumes}
+use Rattle.std.proofs.lemmas.Bool.Decides.{Decides-eqb}
+use Rattle.scene.specs.declared.Config.{Config}
+use Rattle.scene.specs.declared.Event.{Event}
+use Rattle.scene.specs.declared.Event.TheVariants.{Connect, Close}
+use Rattle.scene.specs.Alone.{owner_of}
+use Rattle.scene.specs.Answers.{answer_to}
+use Rattle.slab.specs.Slab.{Slab, get, Updates}
+use Rattle.receipts.specs.declared.Receipt.{Receipt}
+use Rattle.receipts.specs.declared.Ended.{Ended}
+use Rattle.receipts.specs.declared.Ended.TheVariants.{Memory}
+use Rattle.receipts.specs.Checking.{may_break_off}
+use Rattle.receipts.specs.Histories.{heard_of, bytes_of}
+use Rattle.screen.specs.State.{state}
+use Rattle.connections.specs.Waiting.{waiting_bytes}
+use Rattle.connections.specs.Drawing.{Surface, Draws}
+use Rattle.connections.specs.Serving.{Carried, ViewerConnection, Moves, breaks_off, IsServed, WasServed, IsOver, Serving, at_key, is_kept, Serves, GoesOn}
+use Rattle.connections.specs.Turns.{are_of, IsTurnFrom, TakesTurn}
+use Rattle.connections.proofs.Given.{SameFor, bytes-own, heard-same, same-others, same-drawings}
+use Rattle.connections.proofs.Turns.{served-same, drawn-on, moves-nothing}
+
+-- ---- steps one after the other
+
+pub goes-then : (a b d : Serving) → GoesOn a b → GoesOn b d → GoesOn a d
+goes-then a b d g h c began list s =
+    let first = g c began list s in
+    let second = h c began (list ++ first.0) first.1 in
+    (first.0 ++ second.0, subst (λ (l : List Event). Serves c began l d) (append_assoc list first.0 second.0) second.1)
+
+-- what else is kept of the connections doesn't matter
+pub serves-same : (c : Config) (began : ℕ → Carried) (list : List Event) (a b : Serving) → b.surface.screen ≡ a.surface.screen → b.kept ≡ a.kept → b.next ≡ a.next → b.slots ≡ a.slots
+    → Serves c began list a → Serves c began list b
+serves-same c began list a b screen kept next slots s = record {
+  screen = screen ∙ s.screen;
+  kept = kept ∙ s.kept;
+  each = λ key e there. let h = s.each key e (ap (λ l. at_key l key) (sym slots) ∙ there) in (subst (λ (n : ℕ). e.number < n) (sym next) h.0, h.1);
+  apart = λ j k d e dj ek same. s.apart j k d e (ap (λ l. at_key l j) (sym slots) ∙ dj) (ap (λ l. at_key l k) (sym slots) ∙ ek) same;
+  unused = λ v free. s.unused v (subst (λ (n : ℕ). n ≤ v) next free);
+}
+
+pub goes-same : (a b : Serving) → b.surface.screen ≡ a.surface.screen → b.kept ≡ a.kept → b.next ≡ a.next → b.slots ≡ a.slots → GoesOn a b
+goes-same a b screen kept next slots c began list s = ([], subst (λ (l : List Event). Serves c began l b) (sym (append-nil list)) (serves-same c began list a b screen kept next slots s))
+
+pub goes-nowhere : (a : Serving) → GoesOn a a
+goes-nowhere a = goes-same a a refl refl refl refl
+
+pub goes-is : (a b : Serving) → b ≡ a → GoesOn a b
+goes-is a b is = subst (λ (x : Serving). GoesOn a x) (sym is) (goes-nowhere a)
+
+pub goes-listed : (a b : Serving) → b ≡ record a { agenda = b.agenda } → GoesOn a b
+goes-listed a b same = goes-same a b (ap (λ (x : Serving). x.surface.screen) same) (ap (λ (x : Serving). x.kept) same) (ap (λ (x : Serving). x.next) same) (ap (λ (x : Serving). x.slots) same)
+
+-- that the screen was drawn on is known
+pub goes-looked : (a : Serving) (before after : Surface) (kept : Bool) (next : ℕ) (slots : List (Option ViewerConnection)) (agenda : List ℕ)
+    → record { surface = before; kept = kept; next = next; slots = slots; agenda = agenda } ≡ a → after.screen ≡ before.screen
+    → GoesOn a (record { surface = after; kept = kept; next = next; slots = slots; agenda = agenda })
+goes-looked a before after kept next slots agenda is same =
+    goes-same a (record { surface = after; kept = kept; next = next; slots = slots; agenda = agenda }) (same ∙ ap (λ (x : Serving). x.surface.screen) is) (ap (λ (x : Serving). x.kept) is)
+    (ap (λ (x : Serving). x.next) is) (ap (λ (x : Serving). x.slots) is)
+
+-- ---- the application draws
+
+pub goes-drawn : (a b : Serving) → Draws a.surface b.surface → b ≡ record a { surface = b.surface } → GoesOn a b
+goes-drawn a b draws same c began list s =
+    let next : b.next ≡ a.next = ap (λ (x : Serving). x.next) same in
+    let slots : b.slots ≡ a.slots = ap (λ (x : Serving). x.slots) same in
+    let d = drawn-on c list a.surface b.surface s.screen draws in
+    let stays : (v : ℕ) → SameFor c v list (list ++ d.calls) = λ v. same-drawings c v list d.calls d.drawings in (
+      d.calls,
+      record {
+        screen = d.screen;
+        kept = ap (λ (x : Serving). x.kept) same ∙ s.kept;
+        each = λ key e there. let h = s.each key e (ap (λ l. at_key l key) (sym slots) ∙ there) in
+            (subst (λ (n : ℕ). e.number < n) (sym next) h.0, served-same c list (list ++ d.calls) (began e.number) e (stays e.number) h.1);
+        apart = λ j k d e dj ek same. s.apart j k d e (ap (λ l. at_key l j) (sym slots) ∙ dj) (ap (λ l. at_key l k) (sym slots) ∙ ek) same;
+        unused = λ v free. let h = s.unused v (subst (λ (n : ℕ). n ≤ v) next free) in ((stays v).0 ∙ h.0, (stays v).1 ∙ h.1);
+      },
+    )
+
+pub goes-drawn-by : (a : Serving) (before after : Surface) (kept : Bool) (next : ℕ) (slots : List (Option ViewerConnection)) (agenda : List ℕ)
+    → record { surface = before; kept = kept; next = next; slots = slots; agenda = agenda } ≡ a → Draws before after
+    → GoesOn a (record { surface = after; kept = kept; next = next; slots = slots; agenda = agenda })
+goes-drawn-by a before after kept next slots agenda is draws =
+    subst (λ (x : Serving). GoesOn x (record { surface = after; kept = kept; next = next; slots = slots; agenda = agenda })) is
+    (goes-drawn (record { surface = before; kept = kept; next = next; slots = slots; agenda = agenda }) (record { surface = after; kept = kept; next = next; slots = slots; agenda = agenda }) draws refl)
+
+-- ---- one connection's turn
+
+less-apart : (m n v : ℕ) → m < n → n ≤ v → m ≡ v → ⊥
+less-apart m n v less free is = omega (arith, less, free, is)
+
+pub goes-by-turn : (a b : Serving) (key : ℕ) (e f : ViewerConnection) → at_key a.slots key ≡ Some e → at_key b.slots key ≡ Some f
+    → ((other : ℕ) → other ≢ key → at_key b.slots other ≡ at_key a.slots other) → b.kept ≡ a.kept → b.next ≡ a.next → TakesTurn a.surface e b.surface f → GoesOn a b
+goes-by-turn a b key e f there now others kept next turn c began list s =
+    let n = e.number in
+    let mine = s.each key e there in
+    let t = turn c list (began n) n (record {
+      events = [];
+      own = refl;
+      screen = s.screen ∙ ap (state c) (sym (append-nil list));
+      number = refl;
+      served = subst (λ (l : List Event). IsServed c l (began n) e) (sym (append-nil list)) mine.1;
+    }) in
+    let stays : (v : ℕ) → (n ≡ v → ⊥) → SameFor c v list (list ++ t.events) = λ v apart. same-others c n v apart list t.events t.own in (
+      t.events,
+      record {
+        screen = t.screen;
+        kept = kept ∙ s.kept;
+        each = λ j g at. at-one j g at (j == key) refl t stays;
+        apart = λ j k d g dj gk same. apart-two j k d g dj gk same t;
+        unused = λ v free. let f = subst (λ (n : ℕ). n ≤ v) next free in let h = s.unused v f in let w = stays v (less-apart n a.next v mine.0 f) in (w.0 ∙ h.0, w.1 ∙ h.1);
+      },
+    )
+  where
+    Turned : Type 0
+    Turned = IsTurnFrom c list (began e.number) e.number b.surface f
+
+    same-f : (g : ViewerConnection) → at_key b.slots key ≡ Some g → f ≡ g
+    same-f g at = let two : ◌≡◌ {A = Option ViewerConnection} (Some f) (Some g) = sym now ∙ at in cc
+
+    at-one : (j : ℕ) (g : ViewerConnection) → at_key b.slots j ≡ Some g → (w : Bool) → (j == key) ≡ w → (t : Turned) → ((v : ℕ) → (e.number ≡ v → ⊥) → SameFor c v list (list ++ t.events))
+        → (g.number < b.next) × IsServed c (list ++ t.events) (began g.number) g
+    at-one j g at true is t stays =
+        let here : f ≡ g = same-f g (ap (at_key b.slots) (sym ((Decides-eqb j key).0 is)) ∙ at) in
+        let number : g.number ≡ e.number = ap (λ (x : ViewerConnection). x.number) (sym here) ∙ t.number in (
+          subst (λ (m : ℕ). g.number < m) (sym next) (subst (λ (m : ℕ). m < a.next) (sym number) (s.each key e there).0),
+          subst (λ (m : ℕ). IsServed c (list ++ t.events) (began m) g) (sym number) (subst (λ (x : ViewerConnection). IsServed c (list ++ t.events) (began e.number) x) here t.served),
+        )
+    at-one j g at false is t stays =
+        let away : j ≢ key = λ same. let yes : (j == key) ≡ true = (Decides-eqb j key).1 same in absurd cc in
+        let was : at_key a.slots j ≡ Some g = sym (others j away) ∙ at in
+        let h = s.each j g was in (
+          subst (λ (m : ℕ). g.number < m) (sym next) h.0,
+          served-same c list (list ++ t.events) (began g.number) g (stays g.number (λ same. away (s.apart j key g e was there (sym same)))) h.1,
+        )
+
+    -- each one's number is what it was
+    was-one : (j : ℕ) (g : ViewerConnection) → at_key b.slots j ≡ Some g → (w : Bool) → (j == key) ≡ w → Turned → (d : ViewerConnection) × (at_key a.slots j ≡ Some d) × (d.number ≡ g.number)
+    was-one j g at true is t =
+        let same : j ≡ key = (Decides-eqb j key).0 is in
+        let here : f ≡ g = same-f g (ap (at_key b.slots) (sym same) ∙ at) in
+        (e, ap (at_key a.slots) same ∙ there, sym t.number ∙ ap (λ (x : ViewerConnection). x.number) here)
+    was-one j g at false is t = (g, sym (others j (λ same. let yes : (j == key) ≡ true = (Decides-eqb j key).1 same in absurd cc)) ∙ at, refl)
+
+    apart-two : (j k : ℕ) (d g : ViewerConnection) → at_key b.slots j ≡ Some d → at_key b.slots k ≡ Some g → d.number ≡ g.number → Turned → j ≡ k
+    apart-two j k d g dj gk same t =
+        let p = was-one j d dj (j == key) refl t in
+        let q = was-one k g gk (k == key) refl t in
+        s.apart j k p.0 q.0 p.1 q.1 (p.2 ∙ same ∙ sym q.2)
+
+-- a key with a connection is one of the slots
+within : (slots : List (Option ViewerConnection)) (key : ℕ) (e : ViewerConnection) → at_key slots key ≡ Some e → key < length slots
+within [] key e h = absurd cc
+within (x ∷ slots) zero e h = omega arith
+within (x ∷ slots) (suc key) e h = let r = within slots key e h in omega (arith, r)
+
+pub goes-at : (a : Serving) (before after : Surface) (kept : Bool) (next : ℕ) (slots : List (Option ViewerConnection)) (agenda : List ℕ) (key : ℕ) (e f : ViewerConnection)
+    → record { surface = before; kept = kept; next = next; slots = slots; agenda = agenda } ≡ a → at_key slots key ≡ Some e → TakesTurn before e after f
+    → GoesOn a (record { surface = after; kept = kept; next = next; slots = slice_set slots key (Some f); agenda = agenda })
+goes-at a before after kept next slots agenda key e f is there turn =
+    let b : Serving = record { surface = after; kept = kept; next = next; slots = slice_set slots key (Some f); agenda = agenda } in
+    subst (λ (x : Serving). GoesOn x b) is
+    (goes-by-turn (record { surface = before; kept = kept; next = next; slots = slots; agenda = agenda }) b key e f there
+    (get_or-set_same slots key (Some f) None (within slots key e there))
+    (λ other away. get_or-set_other slots key other (Some f) None away) refl refl turn)
+
+-- ---- a viewer comes, or has left
+
+pub none-yet : (c : Config) (began : ℕ → Carried) (s : Serving) → s.surface.screen ≡ state c [] → s.kept ≡ is_kept c.history → s.slots ≡ [] → Serves c began [] s
+none-yet c began s screen kept none = record {
+  screen = screen;
+  kept = kept;
+  each = λ key e there. let no : ◌≡◌ {A = Option ViewerConnection} None (Some e) = sym (ap (λ l. at_key l key) none) ∙ there in absurd cc;
+  apart = λ j k d e dj ek same. let no : ◌≡◌ {A = Option ViewerConnection} None (Some d) = sym (ap (λ l. at_key l j) none) ∙ dj in absurd cc;
+  unused = λ v free. (refl, refl);
+}
+
+pub one-more : (c : Config) (began : ℕ → Carried) (list : List Event) (a b : Serving) (key : ℕ) (f : ViewerConnection) (bytes : List ℕ)
+    → b.surface.screen ≡ state c (list ++ Connect a.next ∷ []) → bytes ≡ (answer_to c list (Connect a.next)).bytes → b.kept ≡ a.kept → b.next ≡ a.next + 1
+    → at_key a.slots key ≡ None → at_key b.slots key ≡ Some f → ((other : ℕ) → other ≢ key → at_key b.slots other ≡ at_key a.slots other)
+    → f.number ≡ a.next → began a.next ≡ f.carried → (breaks_off f.ended ≡ false → waiting_bytes f.waiting ≡ bytes) → Serves c began list a → Serves c began (list ++ Connect a.next ∷ []) b
+one-more c began list a b key f bytes screen answered kept next vacant now others number carried waits s = record {
+  screen = screen;
+  kept = kept ∙ s.kept;
+  each = λ j g at. at-one j g at (j == key) refl;
+  apart = λ j k d g dj gk same. apart-two j k d g dj gk same (j == key) refl (k == key) refl;
+  unused = λ v free.
+      let above : n < v = let f = subst (λ (m : ℕ). m ≤ v) next free in omega (arith, f) in
+      let h = s.unused v (omega (arith, above)) in
+      let w = stays v (λ is. omega (arith, above, is)) in
+      (w.0 ∙ h.0, w.1 ∙ h.1);
+}
+  where
+    n : ℕ
+    n = a.next
+
+    more : List Event
+    more = list ++ Connect a.next ∷ []
+
+    stays : (v : ℕ) → (a.next ≡ v → ⊥) → SameFor c v list more
+    stays v apart = same-others c a.next v apart list (Connect a.next ∷ []) (ap (λ b. b && true) ((Decides-eqb a.next a.next).1 refl))
+
+    same-f : (g : ViewerConnection) → at_key b.slots key ≡ Some g → f ≡ g
+    same-f g at = let two : ◌≡◌ {A = Option ViewerConnection} (Some f) (Some g) = sym now ∙ at in cc
+
+    first : IsServed c more (began a.next) f
+    first =
+        let none = s.unused a.next (omega arith) in
+        let heard : heard_of a.next more ≡ [] = heard-same a.next list (Connect a.next) refl ∙ none.0 in
+        let due : bytes_of c a.next more ≡ bytes = bytes-own c a.next list (Connect a.next) refl ∙ ap (λ l. l ++ (answer_to c list (Connect a.next)).bytes) none.1 ∙ sym answered in
+        record {
+          unheard = [];
+          written = [];
+          unwritten = bytes;
+          moved = subst (λ (m : ℕ). Moves (began a.next) f.carried (heard_of m more ++ []) []) (sym number)
+              (subst (λ (l : List ℕ). Moves (began a.next) f.carried (l ++ []) []) (sym heard)
+              (subst (λ (x : Carried). Moves (began a.next) x [] []) carried (moves-nothing (began a.next))));
+          due = sym due ∙ ap (λ m. bytes_of c m more) (sym number);
+          heard = λ fine. refl;
+          waits = λ fine. sym (waits fine);
+        }
+
+    at-one : (j : ℕ) (g : ViewerConnection) → at_key b.slots j ≡ Some g → (w : Bool) → (j == key) ≡ w → (g.number < b.next) × IsServed c more (began g.number) g
+    at-one j g at true is =
+        let here : f ≡ g = same-f g (ap (at_key b.slots) (sym ((Decides-eqb j key).0 is)) ∙ at) in
+        let mine : g.number ≡ a.next = ap (λ (x : ViewerConnection). x.number) (sym here) ∙ number in
+        (omega (arith, mine, next), subst (λ (m : ℕ). IsServed c more (began m) g) (sym mine) (subst (λ (x : ViewerConnection). IsServed c more (began a.next) x) here first))
+    at-one j g at false is =
+        let was : at_key a.slots j ≡ Some g = sym (others j (λ same. let yes : (j == key) ≡ true = (Decides-eqb j key).1 same in absurd cc)) ∙ at in
+        let h = s.each j g was in
+        (omega (arith, h.0, next), served-same c list more (began g.number) g (stays g.number (λ is. omega (arith, h.0, is))) h.1)
+
+    apart-two : (j k : ℕ) (d g : ViewerConnection) → at_key b.slots j ≡ Some d → at_key b.slots k ≡ Some g → d.number ≡ g.number → (w : Bool) → (j == key) ≡ w → (x : Bool) → (k == key) ≡ x → j ≡ k
+    apart-two j k d g dj gk same true wj true wk = (Decides-eqb j key).0 wj ∙ sym ((Decides-eqb k key).0 wk)
+    apart-two j k d g dj gk same true wj false wk =
+        let here : f ≡ d = same-f d (ap (at_key b.slots) (sym ((Decides-eqb j key).0 wj)) ∙ dj) in
+        let mine : d.number ≡ a.next = ap (λ (x : ViewerConnection). x.number) (sym here) ∙ number in
+        let h = s.each k g (sym (others k (λ same. let yes : (k == key) ≡ true = (Decides-eqb k key).1 same in absurd cc)) ∙ gk) in
+        absurd (less-apart g.number a.next a.next h.0 (omega arith) (sym same ∙ mine))
+    apart-two j k d g dj gk same false wj true wk =
+        let here : f ≡ g = same-f g (ap (at_key b.slots) (sym ((Decides-eqb k key).0 wk)) ∙ gk) in
+        let mine : g.number ≡ a.next = ap (λ (x : ViewerConnection). x.number) (sym here) ∙ number in
+        let h = s.each j d (sym (others j (λ same. let yes : (j == key) ≡ true = (Decides-eqb j key).1 same in absurd cc)) ∙ dj) in
+        absurd (less-apart d.number a.next a.next h.0 (omega arith) (same ∙ mine))
+    apart-two j k d g dj gk same false wj false wk =
+        s.apart j k d g (sym (others j (λ same. let yes : (j == key) ≡ true = (Decides-eqb j key).1 same in absurd cc)) ∙ dj)
+        (sym (others k (λ same. let yes : (k == key) ≡ true = (Decides-eqb k key).1 same in absurd cc)) ∙ gk) same
+
+-- the same, as it is admitted
+pub admitted : (c : Config) (began : ℕ → Carried) (list : List Event) (a : Serving) (before after : Surface) (kept : Bool) (next following : ℕ) (old new : Slab ViewerConnection) (agenda later : List ℕ) (key : ℕ)
+    (f : ViewerConnection) (bytes : List ℕ) (carried : Carried) → record { surface = before; kept = kept; next = next; slots = old.slots; agenda = agenda } ≡ a
+    → (before.screen ≡ state c list → after.screen ≡ state c (list ++ Connect next ∷ [])) → (before.screen ≡ state c list → bytes ≡ (answer_to c list (Connect next)).bytes) → following ≡ next + 1
+    → get old key ≡ None → Updates old new key (Some f) → f.number ≡ next → f.carried ≡ carried → (breaks_off f.ended ≡ false → waiting_bytes f.waiting ≡ bytes)
+    → Serves c began list a → began a.next ≡ carried
+    → Serves c began (list ++ Connect a.next ∷ []) (record { surface = after; kept = kept; next = following; slots = new.slots; agenda = later })
+admitted c began list a before after kept next following old new agenda later key f bytes carried is steps answered more vacant updates number carries waits =
+    let b : Serving = record { surface = after; kept = kept; next = following; slots = new.slots; agenda = later } in
+    let was : Serving = record { surface = before; kept = kept; next = next; slots = old.slots; agenda = agenda } in
+    subst (λ (x : Serving). Serves c began list x → began x.next ≡ carried → Serves c began (list ++ Connect x.next ∷ []) b) is
+    (λ s start. one-more c began list was b key f bytes (steps s.screen) (answered s.screen) refl more vacant updates.changed updates.others number (start ∙ sym carries) waits s)
+
+-- a viewer that ended is closed, and its connection is gone
+pub one-less : {T : Type 0} (c : Config) (began : ℕ → Carried) (list : List Event) (a b : Serving) (key : ℕ) (e : ViewerConnection) (unread written : T → Option (List ℕ)) (transport : T) (r : Receipt)
+    → b.surface.screen ≡ state c (list ++ Close e.number ∷ []) → (answer_to c list (Close e.number)).bytes ≡ [] → b.kept ≡ a.kept → b.next ≡ a.next
+    → at_key a.slots key ≡ Some e → at_key b.slots key ≡ None → ((other : ℕ) → other ≢ key → at_key b.slots other ≡ at_key a.slots other)
+    → IsOver (Some e) e.number r.ended → r.viewer ≡ e.number → r.sent ≡ unwrap_or e.carried.sent [] → record { unread = unread transport; written = written transport; sent = e.carried.sent } ≡ e.carried → Serves c began list a
+    → Serves c began (list ++ Close e.number ∷ []) b × WasServed c (list ++ Close e.number ∷ []) (began r.viewer) unread written transport r
+one-less {T = T} c began list a b key e unread written transport r screen quiet kept next there gone others over viewer sent carried s = (
+  record {
+    screen = screen;
+    kept = kept ∙ s.kept;
+    each = λ j g at. at-one j g at;
+    apart = λ j k d g dj gk same. s.apart j k d g (sym (others j (away j d dj)) ∙ dj) (sym (others k (away k g gk)) ∙ gk) same;
+    unused = λ v free.
+        let f = subst (λ (m : ℕ). m ≤ v) next free in
+        let h = s.unused v f in
+        let w = stays v (less-apart e.number a.next v (s.each key e there).0 f) in
+        (w.0 ∙ h.0, w.1 ∙ h.1);
+  },
+  subst (λ (m : ℕ). WasServed c more (began m) unread written transport r) (sym viewer) was,
+)
+  where
+    more : List Event
+    more = list ++ Close e.number ∷ []
+
+    stays : (v : ℕ) → (e.number ≡ v → ⊥) → SameFor c v list more
+    stays v apart = same-others c e.number v apart list (Close e.number ∷ []) (ap (λ b. b && true) ((Decides-eqb e.number e.number).1 refl))
+
+    away : (j : ℕ) (g : ViewerConnection) → at_key b.slots j ≡ Some g → j ≢ key
+    away j g at same = let no : ◌≡◌ {A = Option ViewerConnection} None (Some g) = sym gone ∙ ap (at_key b.slots) (sym same) ∙ at in absurd cc
+
+    at-one : (j : ℕ) (g : ViewerConnection) → at_key b.slots j ≡ Some g → (g.number < b.next) × IsServed c more (began g.number) g
+    at-one j g at =
+        let before : at_key a.slots j ≡ Some g = sym (others j (away j g at)) ∙ at in
+        let h = s.each j g before in (
+          subst (λ (m : ℕ). g.number < m) (sym next) h.0,
+          served-same c list more (began g.number) g (stays g.number (λ same. away j g at (s.apart j key g e before there (sym same)))) h.1,
+        )
+
+    was : WasServed c more (began e.number) unread written transport r
+    was =
+        let h = (s.each key e there).1 in
+        let n = e.number in
+        let heard : heard_of r.viewer more ≡ heard_of n list = ap (λ m. heard_of m more) viewer ∙ heard-same n list (Close n) refl in
+        let bytes : bytes_of c n more ≡ bytes_of c n list = bytes-own c n list (Close n) refl ∙ ap (λ l. bytes_of c n list ++ l) quiet ∙ append-nil (bytes_of c n list) in
+        let is : e.carried ≡ record { unread = unread transport; written = written transport; sent = e.carried.sent } = sym carried in
+        record {
+          unheard = h.unheard;
+          given = h.written;
+          unwritten = h.unwritten;
+          read = subst (λ (l : List ℕ). Consumes (began n).unread (unread transport) (l ++ h.unheard)) (sym heard) (subst (λ (x : Option (List ℕ)). Consumes (began n).unread x (heard_of n list ++ h.unheard)) (ap (λ (x : Carried). x.unread) is) h.moved.read);
+          taken = subst (λ (x : Option (List ℕ)). Appends (began n).written x h.written) (ap (λ (x : Carried). x.written) is) h.moved.written;
+          sent = sent ∙ ap (λ o. unwrap_or o []) h.moved.sent;
+          due = h.due ∙ sym bytes ∙ ap (λ m. bytes_of c m more) (sym viewer);
+          heard = λ fine. h.heard (λ is. let two : ◌≡◌ {A = Option Ended} (Some r.ended) (Some Memory) = sym over.1 ∙ is in fine cc);
+          whole = λ fine. h.waits (ap breaks_off over.1 ∙ fine) ∙ over.2 fine;
+        }
+
+-- the same, as it is parted with
+pub parted : {T : Type 0} (c : Config) (began : ℕ → Carried) (list : List Event) (a : Serving) (before after : Surface) (kept : Bool) (next : ℕ) (old new : Slab ViewerConnection) (agenda later : List ℕ) (key v : ℕ)
+    (e : ViewerConnection) (ended : Ended) (unread written : T → Option (List ℕ)) (transport : T) (r : Receipt) → record { surface = before; kept = kept; next = next; slots = old.slots; agenda = agenda } ≡ a
+    → (before.screen ≡ state c list → after.screen ≡ state c (list ++ Close v ∷ [])) → (before.screen ≡ state c list → (answer_to c list (Close v)).bytes ≡ [])
+    → get old key ≡ Some e → Updates old new key None → IsOver (get old key) v ended → r.viewer ≡ e.number → r.ended ≡ ended → r.sent ≡ unwrap_or e.carried.sent []
+    → record { unread = unread transport; written = written transport; sent = e.carried.sent } ≡ e.carried → Serves c began list a
+    → (more : List Event) × Serves c began (list ++ more) (record { surface = after; kept = kept; next = next; slots = new.slots; agenda = later }) × WasServed c (list ++ more) (began r.viewer) unread written transport r
+parted {T = T} c began list a before after kept next old new agenda later key v e ended unread written transport r is steps quiet there updates over viewer so sent carried =
+    let b : Serving = record { surface = after; kept = kept; next = next; slots = new.slots; agenda = later } in
+    let was : Serving = record { surface = before; kept = kept; next = next; slots = old.slots; agenda = agenda } in
+    let ended_so : IsOver (Some e) v ended = subst (λ (o : Option ViewerConnection). IsOver o v ended) there over in
+    let number : v ≡ e.number = sym ended_so.0 in
+    subst (λ (x : Serving). Serves c began list x → (more : List Event) × Serves c began (list ++ more) b × WasServed c (list ++ more) (began r.viewer) unread written transport r) is
+    (λ s.
+    let both = one-less c began list was b key e unread written transport r (subst (λ (n : ℕ). after.screen ≡ state c (list ++ Close n ∷ [])) number (steps s.screen))
+    (subst (λ (n : ℕ). (answer_to c list (Close n)).bytes ≡ []) number (quiet s.screen)) refl refl there updates.changed updates.others
+    (subst (λ (x : Ended). IsOver (Some e) e.number x) (sym so) (subst (λ (n : ℕ). IsOver (Some e) n ended) number ended_so)) viewer sent carried s in
+    (Close e.number ∷ [], both.0, both.1))

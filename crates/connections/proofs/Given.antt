@@ -1,0 +1,184 @@
+-- What one viewer was heard of and is given, over more events.
+use Rattle.std.proofs.Common.{◌≡◌, ◌⊎◌, ℕ, Bool, true, false, cond, List, [], ◌∷◌, ◌++◌, Option, Some, None, refl, sym, ap, ◌∙◌, append_assoc, append-nil, inl, inr, subst}
+use Rattle.std.specs.Prelude.{flat_map, ◌==◌, ◌&&◌}
+use Rattle.std.specs.List.{filter_map}
+use Rattle.std.proofs.lemmas.List.Elements.{filter-append, filter_map-append}
+use Rattle.std.proofs.lemmas.Grind.{flat_map-append}
+use Rattle.std.proofs.lemmas.Bool.{and_parts}
+use Rattle.std.proofs.lemmas.Bool.Decides.{Decides-eqb}
+use Rattle.scene.specs.declared.Config.{Config}
+use Rattle.scene.specs.declared.ScreenError.{ScreenError}
+use Rattle.scene.specs.declared.Answer.{Answer}
+use Rattle.scene.specs.declared.Event.{Event}
+use Rattle.scene.specs.declared.Event.TheVariants.{Write, Paint, Mark, ScheduleCopy, DoCopy, Bell, CutText, Resize, Connect, Hear, Cut, Close}
+use Rattle.scene.specs.Alone.{One, at_size, step, draw_step, after, answers_from, alone, owner_of, drawing_refusal, empty_screen}
+use Rattle.scene.specs.Answers.{own, is_owner, is_drawing, last_of, answer_to}
+use Rattle.receipts.specs.Histories.{piece_of, heard_of, bytes_of}
+use Rattle.connections.specs.Drawing.{are_drawings}
+use Rattle.connections.specs.Turns.{are_of}
+
+-- ---- one event more
+
+answers-more : (c : Config) (es : List Event) (e : Event) (s : One) → answers_from c (es ++ e ∷ []) s ≡ answers_from c es s ++ (step c e (after c es s)).1 ∷ []
+answers-more c [] e s = refl
+answers-more c (a ∷ es) e s = ap (λ l. (step c a s).1 ∷ l) (answers-more c es e (step c a s).0)
+
+last-more : (told : List Answer) (a : Answer) → last_of (told ++ a ∷ []) ≡ a
+last-more [] a = refl
+last-more (b ∷ []) a = refl
+last-more (b ∷ d ∷ told) a = last-more (d ∷ told) a
+
+own-more : (v : ℕ) (es : List Event) (e : Event) → is_owner v (owner_of e) ≡ true → own v (es ++ e ∷ []) ≡ own v es ++ e ∷ []
+own-more v es e h = filter-append (λ a. is_owner v (owner_of a)) es (e ∷ []) ∙ ap (λ b. own v es ++ cond b (e ∷ []) []) h
+
+own-less : (v : ℕ) (es : List Event) (e : Event) → is_owner v (owner_of e) ≡ false → own v (es ++ e ∷ []) ≡ own v es
+own-less v es e h = filter-append (λ a. is_owner v (owner_of a)) es (e ∷ []) ∙ ap (λ b. own v es ++ cond b (e ∷ []) []) h ∙ append-nil (own v es)
+
+abbrev given : Config → List Event → List ℕ
+given c es = flat_map (λ (a : Answer). a.bytes) (alone c es)
+
+given-more : (c : Config) (es : List Event) (e : Event) → given c (es ++ e ∷ []) ≡ given c es ++ (step c e (after c es (empty_screen c))).1.bytes
+given-more c es e =
+    let a : Answer = (step c e (after c es (empty_screen c))).1 in
+    ap (flat_map (λ (a : Answer). a.bytes)) (answers-more c es e (empty_screen c))
+    ∙ flat_map-append (λ (a : Answer). a.bytes) (alone c es) (a ∷ [])
+    ∙ ap (λ l. given c es ++ l) (append-nil a.bytes)
+
+is_mine : (v : ℕ) → (v == v) ≡ true
+is_mine v = (Decides-eqb v v).1 refl
+
+mine : (v : ℕ) (e : Event) → owner_of e ≡ Some v → is_owner v (owner_of e) ≡ true
+mine v e h = ap (is_owner v) h ∙ is_mine v
+
+answer-own : (c : Config) (v : ℕ) (es : List Event) (e : Event) → owner_of e ≡ Some v → answer_to c es e ≡ (step c e (after c (own v es) (empty_screen c))).1
+answer-own c v es e h =
+    let last : last_of (alone c (own v (es ++ e ∷ []))) ≡ (step c e (after c (own v es) (empty_screen c))).1 =
+    ap (λ l. last_of (alone c l)) (own-more v es e (mine v e h)) ∙ ap last_of (answers-more c (own v es) e (empty_screen c)) ∙ last-more (alone c (own v es)) _ in
+    let to : answer_to c es e ≡ last_of (alone c (own v (es ++ e ∷ []))) = rw h refl in
+    to ∙ last
+
+-- a viewer's own event gives it what it is answered
+pub bytes-own : (c : Config) (v : ℕ) (es : List Event) (e : Event) → owner_of e ≡ Some v → bytes_of c v (es ++ e ∷ []) ≡ bytes_of c v es ++ (answer_to c es e).bytes
+bytes-own c v es e h =
+    ap (given c) (own-more v es e (mine v e h)) ∙ given-more c (own v es) e ∙ ap (λ (a : Answer). bytes_of c v es ++ a.bytes) (sym (answer-own c v es e h))
+
+drawn-bytes : (c : Config) (e : Event) (s : One) (r : Option ScreenError) → (draw_step c e s r).1.bytes ≡ []
+drawn-bytes c e s None = refl
+drawn-bytes c e s (Some r) = refl
+
+step-bytes : (c : Config) (e : Event) (s : One) → owner_of e ≡ None → (step c e s).1.bytes ≡ []
+step-bytes c e s h = let d = drawn-bytes (at_size s.picture c) e s (drawing_refusal (at_size s.picture c) e) in rw h d
+
+-- a drawing call gives none anything
+bytes-drawing : (c : Config) (v : ℕ) (es : List Event) (e : Event) → owner_of e ≡ None → bytes_of c v (es ++ e ∷ []) ≡ bytes_of c v es
+bytes-drawing c v es e h =
+    ap (given c) (own-more v es e (ap (is_owner v) h)) ∙ given-more c (own v es) e
+    ∙ ap (λ l. bytes_of c v es ++ l) (step-bytes c e (after c (own v es) (empty_screen c)) h) ∙ append-nil (bytes_of c v es)
+
+-- nor does another viewer's event
+bytes-other : (c : Config) (v : ℕ) (es : List Event) (e : Event) → is_owner v (owner_of e) ≡ false → bytes_of c v (es ++ e ∷ []) ≡ bytes_of c v es
+bytes-other c v es e h = ap (given c) (own-less v es e h)
+
+-- ---- what was heard
+
+abbrev joined : List (List ℕ) → List ℕ
+joined pieces = flat_map (λ (piece : List ℕ). piece) pieces
+
+heard-more : (v : ℕ) (es : List Event) (e : Event) → heard_of v (es ++ e ∷ []) ≡ heard_of v es ++ joined (filter_map (piece_of v) (e ∷ []))
+heard-more v es e = ap joined (filter_map-append (piece_of v) es (e ∷ [])) ∙ flat_map-append (λ (piece : List ℕ). piece) (filter_map (piece_of v) es) (filter_map (piece_of v) (e ∷ []))
+
+heard-one : (v : ℕ) (e : Event) (o : Option (List ℕ)) → piece_of v e ≡ o → joined (filter_map (piece_of v) (e ∷ [])) ≡ joined (filter_map (λ (o : Option (List ℕ)). o) (o ∷ []))
+heard-one v e o h = rw h refl
+
+-- a piece of a viewer is heard
+pub heard-own : (v : ℕ) (es : List Event) (piece : List ℕ) → heard_of v (es ++ Hear v piece ∷ []) ≡ heard_of v es ++ piece
+heard-own v es piece =
+    let mine : piece_of v (Hear v piece) ≡ Some piece = ap (λ b. cond b (Some piece) None) (is_mine v) in
+    heard-more v es (Hear v piece) ∙ ap (λ l. heard_of v es ++ l) (heard-one v (Hear v piece) (Some piece) mine ∙ append-nil piece)
+
+pub heard-same : (v : ℕ) (es : List Event) (e : Event) → piece_of v e ≡ None → heard_of v (es ++ e ∷ []) ≡ heard_of v es
+heard-same v es e h = heard-more v es e ∙ ap (λ l. heard_of v es ++ l) (heard-one v e None h) ∙ append-nil (heard_of v es)
+
+no-piece-drawn : (v : ℕ) (e : Event) → owner_of e ≡ None → piece_of v e ≡ None
+no-piece-drawn v (Connect n) h = absurd cc
+no-piece-drawn v (Close n) h = absurd cc
+no-piece-drawn v (Hear n piece) h = absurd cc
+no-piece-drawn v (Cut n) h = absurd cc
+no-piece-drawn v (Paint r colours) h = refl
+no-piece-drawn v (Write r colours) h = refl
+no-piece-drawn v (Mark rects) h = refl
+no-piece-drawn v (ScheduleCopy rects dx dy) h = refl
+no-piece-drawn v (DoCopy rects dx dy) h = refl
+no-piece-drawn v Bell h = refl
+no-piece-drawn v (CutText text) h = refl
+no-piece-drawn v (Resize w k) h = refl
+
+no-piece-other : (v : ℕ) (e : Event) → is_owner v (owner_of e) ≡ false → piece_of v e ≡ None
+no-piece-other v (Connect n) h = refl
+no-piece-other v (Close n) h = refl
+no-piece-other v (Hear n piece) h = ap (λ b. cond b (Some piece) None) h
+no-piece-other v (Cut n) h = refl
+no-piece-other v (Paint r colours) h = refl
+no-piece-other v (Write r colours) h = refl
+no-piece-other v (Mark rects) h = refl
+no-piece-other v (ScheduleCopy rects dx dy) h = refl
+no-piece-other v (DoCopy rects dx dy) h = refl
+no-piece-other v Bell h = refl
+no-piece-other v (CutText text) h = refl
+no-piece-other v (Resize w k) h = refl
+
+-- ---- many events more
+
+-- a viewer was heard of and is given the same by both lists
+abbrev pub SameFor : Config → ℕ → List Event → List Event → Type 0
+SameFor c v es fs = (heard_of v fs ≡ heard_of v es) × (bytes_of c v fs ≡ bytes_of c v es)
+
+same-then : (c : Config) (v : ℕ) (es fs gs : List Event) → SameFor c v es fs → SameFor c v fs gs → SameFor c v es gs
+same-then c v es fs gs a b = (b.0 ∙ a.0, b.1 ∙ a.1)
+
+same-drawing : (c : Config) (v : ℕ) (es : List Event) (e : Event) → owner_of e ≡ None → SameFor c v es (es ++ e ∷ [])
+same-drawing c v es e h = (heard-same v es e (no-piece-drawn v e h), bytes-drawing c v es e h)
+
+same-other : (c : Config) (v : ℕ) (es : List Event) (e : Event) → is_owner v (owner_of e) ≡ false → SameFor c v es (es ++ e ∷ [])
+same-other c v es e h = (heard-same v es e (no-piece-other v e h), bytes-other c v es e h)
+
+-- another viewer's event, or a drawing call
+same-one : (c : Config) (n v : ℕ) → (n ≡ v → ⊥) → (es : List Event) (e : Event) → is_owner n (owner_of e) ≡ true → SameFor c v es (es ++ e ∷ [])
+same-one c n v apart es e h = go (owner_of e) refl h
+  where
+    other : (m : ℕ) (b : Bool) → (m == v) ≡ b → owner_of e ≡ Some m → (m == n) ≡ true → SameFor c v es (es ++ e ∷ [])
+    other m true mv is mn = absurd (apart (sym ((Decides-eqb m n).0 mn) ∙ (Decides-eqb m v).0 mv))
+    other m false mv is mn = same-other c v es e (ap (is_owner v) is ∙ mv)
+
+    go : (o : Option ℕ) → owner_of e ≡ o → is_owner n o ≡ true → SameFor c v es (es ++ e ∷ [])
+    go None is h = same-drawing c v es e is
+    go (Some m) is h = other m (m == v) refl is h
+
+-- other viewers' events change nothing for a viewer
+pub same-others : (c : Config) (n v : ℕ) → (n ≡ v → ⊥) → (es more : List Event) → are_of n more ≡ true → SameFor c v es (es ++ more)
+same-others c n v apart es [] h = (ap (heard_of v) (append-nil es), ap (bytes_of c v) (append-nil es))
+same-others c n v apart es (e ∷ more) h =
+    let both = and_parts _ _ h in
+    let rest : SameFor c v (es ++ e ∷ []) ((es ++ e ∷ []) ++ more) = same-others c n v apart (es ++ e ∷ []) more both.1 in
+    same-then c v es (es ++ e ∷ []) (es ++ e ∷ more) (same-one c n v apart es e both.0)
+    (subst (λ (l : List Event). SameFor c v (es ++ e ∷ []) l) (append_assoc es (e ∷ []) more) rest)
+
+drawing : (o : Option ℕ) → is_drawing o ≡ true → o ≡ None
+drawing None h = refl
+drawing (Some v) h = absurd cc
+
+-- nor do drawing calls
+pub same-drawings : (c : Config) (v : ℕ) (es more : List Event) → are_drawings more ≡ true → SameFor c v es (es ++ more)
+same-drawings c v es [] h = (ap (heard_of v) (append-nil es), ap (bytes_of c v) (append-nil es))
+same-drawings c v es (e ∷ more) h =
+    let both = and_parts _ _ h in
+    let rest : SameFor c v (es ++ e ∷ []) ((es ++ e ∷ []) ++ more) = same-drawings c v (es ++ e ∷ []) more both.1 in
+    same-then c v es (es ++ e ∷ []) (es ++ e ∷ more) (same-drawing c v es e (drawing (owner_of e) both.0))
+    (subst (λ (l : List Event). SameFor c v (es ++ e ∷ []) l) (append_assoc es (e ∷ []) more) rest)
+
+-- drawing calls are anyone's
+pub drawings-own : (v : ℕ) (es : List Event) → are_drawings es ≡ true → are_of v es ≡ true
+drawings-own v [] h = refl
+drawings-own v (e ∷ es) h =
+    let both = and_parts _ _ h in
+    ap (λ o. is_owner v o && are_of v es) (drawing (owner_of e) both.0) ∙ drawings-own v es both.1

@@ -1,0 +1,5 @@
+pub mod Drawing
+pub mod Pieces
+pub mod Given
+pub mod Turns
+pub mod Everyone

@@ -1,0 +1,37 @@
+-- Pieces of what waits.
+use Rattle.std.proofs.Common.{◌≡◌, ◌<◌, ◌≤◌, ◌+◌, List, ℕ, [], ◌∷◌, ◌++◌, Option, Some, length, take, drop, refl, ap, arith, sym, ◌∙◌, append_assoc, append-nil}
+use Rattle.std.proofs.lemmas.List.{length-append, drop_all, take-append-drop, drop-drop}
+use Rattle.viewer.specs.Given.{bytes_given}
+use Rattle.connections.specs.Waiting.{Waiting, waiting_bytes}
+
+-- less is left once more is in the buffer
+pub less-left : (old new left rest : List ℕ) → new ++ rest ≡ old ++ left → length old < length new → length rest < length left
+less-left old new left rest e more = omega (arith, more, ap (λ (l : List ℕ). length l) e, length-append new rest, length-append old left)
+
+-- nothing is left behind the end
+pub none_left : (n : ℕ) (xs : List ℕ) → length xs ≤ n → drop n xs ≡ []
+none_left n xs over = drop_all n xs over
+
+-- what is taken of a buffer, and what is left
+pub taken : (n : ℕ) (b left before : List ℕ) → b ++ left ≡ before → take n b ++ (drop n b ++ left) ≡ before
+taken n b left before made = sym (append_assoc (take n b) (drop n b) left) ∙ ap (λ l. l ++ left) (take-append-drop n b) ∙ made
+
+-- more is taken of what is made
+pub taken_on : (made rest : List ℕ) (done n : ℕ) → take n (drop done made) ++ (drop (done + n) made ++ rest) ≡ drop done made ++ rest
+taken_on made rest done n =
+    ap (λ l. take n (drop done made) ++ (l ++ rest)) (sym (drop-drop n done made)) ∙ taken n (drop done made) rest (drop done made ++ rest) refl
+
+none_first : (xs ys : List ℕ) → xs ++ ys ≡ [] → xs ≡ []
+none_first [] ys h = refl
+none_first (x ∷ xs) ys h = absurd cc
+
+none_second : (xs ys : List ℕ) → xs ++ ys ≡ [] → ys ≡ []
+none_second [] ys h = h
+none_second (x ∷ xs) ys h = absurd cc
+
+-- an update is all that waits
+pub started : (w : Waiting) (u : List ℕ) → waiting_bytes w ≡ [] → waiting_bytes (record w { update = Some u }) ≡ u
+started w u h =
+    let made = none_first w.made (bytes_given w.update ++ w.behind) h in
+    let behind = none_second (bytes_given w.update) w.behind (none_second w.made (bytes_given w.update ++ w.behind) h) in
+    ap (λ l. l ++ (u ++ w.behind)) made ∙ ap (λ l. u ++ l) behind ∙ append-nil u

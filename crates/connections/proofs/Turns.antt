@@ -1,0 +1,281 @@
+-- What a step of one connection, or of the screen, makes of all of them.
+use Rattle.std.proofs.Common.{◌≡◌, ◌≢◌, ◌⊎◌, ◌<◌, ◌≤◌, ℕ, Bool, true, false, cond, List, [], ◌∷◌, ◌++◌, Option, Some, None, refl, sym, ap, ◌∙◌, append_assoc, append-nil, subst, inl, inr, arith}
+use Rattle.std.specs.Prelude.{◌&&◌, option_map}
+use Rattle.std.specs.Io.KnownBytes.{Appends, Consumes}
+use Rattle.std.proofs.KnownBytes.{Appends-nil, Appends-trans, Consumes-nil, Consumes-trans}
+use Rattle.std.proofs.lemmas.Bool.{and_from}
+use Rattle.std.proofs.lemmas.Bool.Decides.{Decides-eqb}
+use Rattle.std.proofs.lemmas.List.Folds.{list_all-append}
+use Rattle.scene.specs.declared.Config.{Config}
+use Rattle.scene.specs.declared.Event.{Event}
+use Rattle.scene.specs.declared.Event.TheVariants.{Connect, Hear, Cut, Close}
+use Rattle.scene.specs.Alone.{owner_of}
+use Rattle.scene.specs.Answers.{is_owner, answer_to}
+use Rattle.receipts.specs.declared.Ended.{Ended}
+use Rattle.receipts.specs.declared.Ended.TheVariants.{Memory, Closed}
+use Rattle.receipts.specs.Checking.{may_break_off}
+use Rattle.receipts.specs.Histories.{piece_of, heard_of, bytes_of}
+use Rattle.screen.specs.State.{state}
+use Rattle.connections.specs.Waiting.{waiting_bytes}
+use Rattle.connections.specs.Drawing.{Surface, are_drawings, IsDrawnFrom, Draws}
+use Rattle.connections.specs.Serving.{Carried, ViewerConnection, Moves, breaks_off, IsServed, WasServed, IsOver, Serving, at_key, Serves, GoesOn}
+use Rattle.connections.specs.Turns.{are_of, IsTurnFrom, HasRead, HearsPiece, TakesTurn}
+use Rattle.connections.proofs.Given.{SameFor, bytes-own, heard-own, heard-same, same-others, same-drawings, drawings-own}
+
+-- ---- bytes that move
+
+kept-none : (kept : Option (List ℕ)) → kept ≡ option_map (λ bytes. bytes ++ []) kept
+kept-none None = refl
+kept-none (Some bytes) = ap (λ l. Some l) (sym (append-nil bytes))
+
+kept-twice : (kept : Option (List ℕ)) (w x : List ℕ) → option_map (λ bytes. bytes ++ x) (option_map (λ bytes. bytes ++ w) kept) ≡ option_map (λ bytes. bytes ++ (w ++ x)) kept
+kept-twice None w x = refl
+kept-twice (Some bytes) w x = ap (λ l. Some l) (append_assoc bytes w x)
+
+pub moves-nothing : (a : Carried) → Moves a a [] []
+moves-nothing a = record { read = Consumes-nil a.unread; written = Appends-nil a.written; sent = kept-none a.sent }
+
+pub moves-then : (a b d : Carried) (r s w x : List ℕ) → Moves a b r w → Moves b d s x → Moves a d (r ++ s) (w ++ x)
+moves-then a b d r s w x m n = record {
+  read = Consumes-trans a.unread b.unread d.unread r s m.read n.read;
+  written = Appends-trans a.written b.written d.written w x m.written n.written;
+  sent = n.sent ∙ ap (option_map (λ bytes. bytes ++ x)) m.sent ∙ kept-twice a.sent w x;
+}
+
+moves-read : (a b d : Carried) (r s w : List ℕ) → Moves a b (r ++ []) w → Moves b d s [] → Moves a d (r ++ s) w
+moves-read a b d r s w m n =
+    subst (λ (l : List ℕ). Moves a d l w) (ap (λ l. l ++ s) (append-nil r)) (subst (λ (l : List ℕ). Moves a d ((r ++ []) ++ s) l) (append-nil w) (moves-then a b d (r ++ []) s w [] m n))
+
+moves-written : (a b d : Carried) (r w x : List ℕ) → Moves a b r w → Moves b d [] x → Moves a d r (w ++ x)
+moves-written a b d r w x m n = subst (λ (l : List ℕ). Moves a d l (w ++ x)) (append-nil r) (moves-then a b d r [] w x m n)
+
+-- ---- one viewer
+
+-- a failure is no end that lets all be written
+fails : (ended : Option Ended) → breaks_off ended ≡ false → ended ≢ Some Memory
+fails ended whole is = let e : breaks_off ended ≡ true = ap breaks_off is in absurd cc
+
+pub served-same : (c : Config) (es fs : List Event) (began : Carried) (e : ViewerConnection) → SameFor c e.number es fs → IsServed c es began e → IsServed c fs began e
+served-same c es fs began e same h = record {
+  unheard = h.unheard;
+  written = h.written;
+  unwritten = h.unwritten;
+  moved = subst (λ (l : List ℕ). Moves began e.carried (l ++ h.unheard) h.written) (sym same.0) h.moved;
+  due = h.due ∙ sym same.1;
+  heard = h.heard;
+  waits = h.waits;
+}
+
+own-then : (v : ℕ) (es fs : List Event) → are_of v es ≡ true → are_of v fs ≡ true → are_of v (es ++ fs) ≡ true
+own-then v es fs a b = list_all-append (λ e. is_owner v (owner_of e)) es fs ∙ and_from _ _ a b
+
+own-one : (v : ℕ) (e : Event) → owner_of e ≡ Some v → are_of v (e ∷ []) ≡ true
+own-one v e h = ap (λ o. is_owner v o && true) h ∙ ap (λ b. b && true) ((Decides-eqb v v).1 refl)
+
+-- drawing calls behind a list
+pub drawn-on : (c : Config) (list : List Event) (a b : Surface) → a.screen ≡ state c list → Draws a b → IsDrawnFrom c list b
+drawn-on c list a b stands draws = draws c list (record { calls = []; drawings = refl; screen = stands ∙ ap (state c) (sym (append-nil list)); none = λ h. refl })
+
+-- the application draws in a viewer's turn
+pub turn-drawn : (a b : Surface) (e : ViewerConnection) → Draws a b → TakesTurn a e b e
+turn-drawn a b e draws c list began v t =
+    let d = drawn-on c (list ++ t.events) a b t.screen draws in
+    let far : (list ++ t.events) ++ d.calls ≡ list ++ (t.events ++ d.calls) = append_assoc list t.events d.calls in
+    record {
+      events = t.events ++ d.calls;
+      own = own-then v t.events d.calls t.own (drawings-own v d.calls d.drawings);
+      screen = d.screen ∙ ap (state c) far;
+      number = t.number;
+      served = subst (λ (l : List Event). IsServed c l began e) far
+          (served-same c (list ++ t.events) ((list ++ t.events) ++ d.calls) began e (same-drawings c e.number (list ++ t.events) d.calls d.drawings) t.served);
+    }
+
+-- a read of a viewer that hasn't ended
+pub turn-read : (c : Config) (list : List Event) (began : Carried) (v : ℕ) (a : Surface) (e f : ViewerConnection) (piece : List ℕ) → e.ended ≡ None
+    → f ≡ record e { carried = f.carried } → Moves e.carried f.carried piece [] → IsTurnFrom c list began v a e → HasRead c list began v piece a f
+turn-read c list began v a e f piece live same moved t =
+    let s = t.served in
+    let none : s.unheard ≡ [] = s.heard (λ is. let no : ◌≡◌ {A = Option Ended} None (Some Memory) = sym live ∙ is in absurd cc) in
+    let all : s.unwritten ≡ waiting_bytes e.waiting = s.waits (ap breaks_off live) in
+    let number : f.number ≡ e.number = ap (λ (x : ViewerConnection). x.number) same in
+    let waiting : f.waiting ≡ e.waiting = ap (λ (x : ViewerConnection). x.waiting) same in
+    record {
+      events = t.events;
+      own = t.own;
+      screen = t.screen;
+      number = number ∙ t.number;
+      live = ap (λ (x : ViewerConnection). x.ended) same ∙ live;
+      written = s.written;
+      moved = moves-read began e.carried f.carried (heard_of v (list ++ t.events)) piece s.written
+          (subst (λ (n : ℕ). Moves began e.carried (heard_of n (list ++ t.events) ++ []) s.written) t.number
+          (subst (λ (l : List ℕ). Moves began e.carried (heard_of e.number (list ++ t.events) ++ l) s.written) none s.moved)) moved;
+      due = ap (λ w. s.written ++ waiting_bytes w) waiting ∙ ap (λ l. s.written ++ l) (sym all) ∙ s.due ∙ ap (λ n. bytes_of c n (list ++ t.events)) t.number;
+    }
+
+-- a viewer of which nothing was read goes on, or ends
+pub turn-unread : (c : Config) (list : List Event) (began : Carried) (v : ℕ) (a : Surface) (e f : ViewerConnection)
+    → f ≡ record e { ended = f.ended } → HasRead c list began v [] a e → IsTurnFrom c list began v a f
+turn-unread c list began v a e f same h =
+    let number : f.number ≡ v = ap (λ (x : ViewerConnection). x.number) same ∙ h.number in
+    let carried : f.carried ≡ e.carried = ap (λ (x : ViewerConnection). x.carried) same in
+    let waiting : f.waiting ≡ e.waiting = ap (λ (x : ViewerConnection). x.waiting) same in
+    let es = list ++ h.events in
+    record {
+      events = h.events;
+      own = h.own;
+      screen = h.screen;
+      number = number;
+      served = record {
+        unheard = [];
+        written = h.written;
+        unwritten = waiting_bytes e.waiting;
+        moved = subst (λ (n : ℕ). Moves began f.carried (heard_of n es ++ []) h.written) (sym number) (subst (λ (x : Carried). Moves began x (heard_of v es ++ []) h.written) (sym carried) h.moved);
+        due = h.due ∙ ap (λ n. bytes_of c n es) (sym number);
+        heard = λ fine. refl;
+        waits = λ fine. ap waiting_bytes (sym waiting);
+      };
+    }
+
+-- memory was refused to hear a piece
+pub turn-unheard : (a b : Surface) (e f : ViewerConnection) (piece : List ℕ) → b ≡ a → f ≡ record e { ended = Some Memory } → HearsPiece piece a e b f
+turn-unheard a b e f piece still same c list began v h =
+    let number : f.number ≡ v = ap (λ (x : ViewerConnection). x.number) same ∙ h.number in
+    let carried : f.carried ≡ e.carried = ap (λ (x : ViewerConnection). x.carried) same in
+    let ended : f.ended ≡ Some Memory = ap (λ (x : ViewerConnection). x.ended) same in
+    let es = list ++ h.events in
+    record {
+      events = h.events;
+      own = h.own;
+      screen = ap (λ (x : Surface). x.screen) still ∙ h.screen;
+      number = number;
+      served = record {
+        unheard = piece;
+        written = h.written;
+        unwritten = waiting_bytes e.waiting;
+        moved = subst (λ (n : ℕ). Moves began f.carried (heard_of n es ++ piece) h.written) (sym number) (subst (λ (x : Carried). Moves began x (heard_of v es ++ piece) h.written) (sym carried) h.moved);
+        due = h.due ∙ ap (λ n. bytes_of c n es) (sym number);
+        heard = λ fine. absurd (fine ended);
+        waits = λ fine. let e : breaks_off f.ended ≡ true = ap breaks_off ended in absurd cc;
+      };
+    }
+
+-- a piece is heard and answered
+heard-turn : (c : Config) (list : List Event) (began : Carried) (v : ℕ) (a b : Surface) (e f : ViewerConnection) (piece bytes : List ℕ)
+    → (h : HasRead c list began v piece a e) → b.screen ≡ state c ((list ++ h.events) ++ Hear v piece ∷ []) → bytes ≡ (answer_to c (list ++ h.events) (Hear v piece)).bytes
+    → f ≡ record e { waiting = f.waiting; ended = f.ended } → (breaks_off f.ended ≡ false → waiting_bytes f.waiting ≡ waiting_bytes e.waiting ++ bytes) → IsTurnFrom c list began v b f
+heard-turn c list began v a b e f piece bytes h stands answered same waits =
+    let number : f.number ≡ v = ap (λ (x : ViewerConnection). x.number) same ∙ h.number in
+    let carried : f.carried ≡ e.carried = ap (λ (x : ViewerConnection). x.carried) same in
+    let es = list ++ h.events in
+    let fs = es ++ Hear v piece ∷ [] in
+    let far : fs ≡ list ++ (h.events ++ Hear v piece ∷ []) = append_assoc list h.events (Hear v piece ∷ []) in
+    record {
+      events = h.events ++ Hear v piece ∷ [];
+      own = own-then v h.events (Hear v piece ∷ []) h.own (own-one v (Hear v piece) refl);
+      screen = stands ∙ ap (state c) far;
+      number = number;
+      served = subst (λ (l : List Event). IsServed c l began f) far (record {
+        unheard = [];
+        written = h.written;
+        unwritten = waiting_bytes e.waiting ++ bytes;
+        moved = subst (λ (n : ℕ). Moves began f.carried (heard_of n fs ++ []) h.written) (sym number)
+            (subst (λ (x : Carried). Moves began x (heard_of v fs ++ []) h.written) (sym carried)
+            (subst (λ (l : List ℕ). Moves began e.carried l h.written) (sym (append-nil (heard_of v fs) ∙ heard-own v es piece)) h.moved));
+        due = sym (append_assoc h.written (waiting_bytes e.waiting) bytes) ∙ ap (λ l. l ++ bytes) h.due ∙ ap (λ l. bytes_of c v es ++ l) answered
+            ∙ sym (bytes-own c v es (Hear v piece) refl) ∙ ap (λ n. bytes_of c n fs) (sym number);
+        heard = λ fine. refl;
+        waits = λ fine. sym (waits fine);
+      });
+    }
+
+-- and the application draws, as it is told
+pub turn-heard : (a b d : Surface) (e f : ViewerConnection) (n : ℕ) (piece bytes : List ℕ) → n ≡ e.number
+    → ((c : Config) (list : List Event) → a.screen ≡ state c list → b.screen ≡ state c (list ++ Hear n piece ∷ []))
+    → ((c : Config) (list : List Event) → a.screen ≡ state c list → bytes ≡ (answer_to c list (Hear n piece)).bytes)
+    → f ≡ record e { waiting = f.waiting; ended = f.ended } → (breaks_off f.ended ≡ false → waiting_bytes f.waiting ≡ waiting_bytes e.waiting ++ bytes) → Draws b d → HearsPiece piece a e d f
+turn-heard a b d e f n piece bytes its steps answers same waits draws c list began v h =
+    let es = list ++ h.events in
+    turn-drawn b d f draws c list began v
+    (heard-turn c list began v a b e f piece bytes h
+    (subst (λ (m : ℕ). b.screen ≡ state c (es ++ Hear m piece ∷ [])) (its ∙ h.number) (steps c es h.screen))
+    (subst (λ (m : ℕ). bytes ≡ (answer_to c es (Hear m piece)).bytes) (its ∙ h.number) (answers c es h.screen)) same waits)
+
+-- an update is cut for a viewer, or there is none
+pub turn-cut : (a b : Surface) (e f : ViewerConnection) (m : ℕ) (bytes : List ℕ) → m ≡ e.number
+    → ((c : Config) (list : List Event) → a.screen ≡ state c list → b.screen ≡ state c (list ++ Cut m ∷ []))
+    → ((c : Config) (list : List Event) → a.screen ≡ state c list → bytes ≡ (answer_to c list (Cut m)).bytes)
+    → f ≡ record e { waiting = f.waiting } → waiting_bytes f.waiting ≡ waiting_bytes e.waiting ++ bytes → TakesTurn a e b f
+turn-cut a b e f number bytes its steps-at answers-at same waits c list began v t =
+    let steps : (c : Config) (list : List Event) → a.screen ≡ state c list → b.screen ≡ state c (list ++ Cut e.number ∷ []) = λ c list h. subst (λ (m : ℕ). b.screen ≡ state c (list ++ Cut m ∷ [])) its (steps-at c list h) in
+    let answers : (c : Config) (list : List Event) → a.screen ≡ state c list → bytes ≡ (answer_to c list (Cut e.number)).bytes = λ c list h. subst (λ (m : ℕ). bytes ≡ (answer_to c list (Cut m)).bytes) its (answers-at c list h) in
+    let number : f.number ≡ e.number = ap (λ (x : ViewerConnection). x.number) same in
+    let carried : f.carried ≡ e.carried = ap (λ (x : ViewerConnection). x.carried) same in
+    let ended : f.ended ≡ e.ended = ap (λ (x : ViewerConnection). x.ended) same in
+    let s = t.served in
+    let n = e.number in
+    let es = list ++ t.events in
+    let fs = es ++ Cut n ∷ [] in
+    let far : fs ≡ list ++ (t.events ++ Cut n ∷ []) = append_assoc list t.events (Cut n ∷ []) in
+    record {
+      events = t.events ++ Cut n ∷ [];
+      own = own-then v t.events (Cut n ∷ []) t.own (own-one v (Cut n) (ap Some t.number));
+      screen = steps c es t.screen ∙ ap (state c) far;
+      number = number ∙ t.number;
+      served = subst (λ (l : List Event). IsServed c l began f) far (record {
+        unheard = s.unheard;
+        written = s.written;
+        unwritten = s.unwritten ++ bytes;
+        moved = subst (λ (m : ℕ). Moves began f.carried (heard_of m fs ++ s.unheard) s.written) (sym number)
+            (subst (λ (x : Carried). Moves began x (heard_of n fs ++ s.unheard) s.written) (sym carried)
+            (subst (λ (l : List ℕ). Moves began e.carried (l ++ s.unheard) s.written) (sym (heard-same n es (Cut n) refl)) s.moved));
+        due = sym (append_assoc s.written s.unwritten bytes) ∙ ap (λ l. l ++ bytes) s.due ∙ ap (λ l. bytes_of c n es ++ l) (answers c es t.screen)
+            ∙ sym (bytes-own c n es (Cut n) refl) ∙ ap (λ m. bytes_of c m fs) (sym number);
+        heard = λ fine. s.heard (λ is. fine (ended ∙ is));
+        waits = λ fine. ap (λ l. l ++ bytes) (s.waits (ap breaks_off (sym ended) ∙ fine)) ∙ sym waits;
+      });
+    }
+
+-- what waits is written, as far as it is taken
+pub turn-written : (a b : Surface) (e f : ViewerConnection) (added unwritten : List ℕ) → b.screen ≡ a.screen → breaks_off e.ended ≡ false
+    → f ≡ record e { carried = f.carried; waiting = f.waiting; ended = f.ended } → Moves e.carried f.carried [] added → added ++ unwritten ≡ waiting_bytes e.waiting
+    → (breaks_off f.ended ≡ false → unwritten ≡ waiting_bytes f.waiting) → TakesTurn a e b f
+turn-written a b e f added unwritten still whole same moved parts waits c list began v t =
+    let number : f.number ≡ e.number = ap (λ (x : ViewerConnection). x.number) same in
+    let s = t.served in
+    let es = list ++ t.events in
+    let all : s.unwritten ≡ waiting_bytes e.waiting = s.waits whole in
+    record {
+      events = t.events;
+      own = t.own;
+      screen = still ∙ t.screen;
+      number = number ∙ t.number;
+      served = record {
+        unheard = s.unheard;
+        written = s.written ++ added;
+        unwritten = unwritten;
+        moved = subst (λ (m : ℕ). Moves began f.carried (heard_of m es ++ s.unheard) (s.written ++ added)) (sym number)
+            (moves-written began e.carried f.carried (heard_of e.number es ++ s.unheard) s.written added s.moved moved);
+        due = append_assoc s.written added unwritten ∙ ap (λ l. s.written ++ l) (parts ∙ sym all) ∙ s.due ∙ ap (λ m. bytes_of c m es) (sym number);
+        heard = λ fine. s.heard (fails e.ended whole);
+        waits = waits;
+      };
+    }
+
+-- a viewer ends, by a failure or by being closed
+pub turn-ended : (a b : Surface) (e f : ViewerConnection) → b.screen ≡ a.screen → e.ended ≡ None → f ≡ record e { ended = f.ended } → TakesTurn a e b f
+turn-ended a b e f still live same c list began v t =
+    let carried : f.carried ≡ e.carried = ap (λ (x : ViewerConnection). x.carried) same in
+    let h = turn-read c list began v a e e [] live refl (moves-nothing e.carried) t in
+    let u = turn-unread c list began v a e f same h in
+    record { events = u.events; own = u.own; screen = still ∙ u.screen; number = u.number; served = u.served }
+
+-- a viewer is closed, unless it ended before
+pub turn-closed : (a : Surface) (e f : ViewerConnection) → (f ≡ e) ⊎ ((e.ended ≡ None) × (f ≡ record e { ended = Some Closed })) → TakesTurn a e a f
+turn-closed a e f (inl same) c list began v t = subst (λ (x : ViewerConnection). IsTurnFrom c list began v a x) (sym same) t
+turn-closed a e f (inr h) c list began v t = turn-ended a a e f refl h.0 (h.1 ∙ ap (λ o. record e { ended = o }) (sym (ap (λ (x : ViewerConnection). x.ended) h.1))) c list began v t
+
+pub turn-stays : (a : Surface) (e : ViewerConnection) → TakesTurn a e a e
+turn-stays a e c list began v t = t
+
+pub turn-then : (a b d : Surface) (e f g : ViewerConnection) → TakesTurn a e b f → TakesTurn b f d g → TakesTurn a e d g
+turn-then a b d e f g s t c list began v h = t c list began v (s c list began v h)

@@ -1,0 +1,49 @@
+//! The application.
+
+ghost use Rattle.connections.specs.Drawing.{Draws};
+
+use crate::canvas::Canvas;
+use receipts::Receipt;
+use screen::{Input, ScreenError};
+use std::time::Duration;
+
+/// What draws on a canvas. Each call may draw, and draws alone; where one answers an error, so does the turn that made it.
+pub trait Application {
+    /// A viewer's input came (RFC 6143, 7.3.1 and 7.5.4 to 7.5.6).
+    fn told(&mut self, canvas: &mut Canvas, viewer: u64, input: &Input) -> Result<(), ScreenError>
+        ensures draws { Draws canvas.old canvas.new };
+
+    /// A viewer connected; it is served from now on.
+    fn came(&mut self, _canvas: &mut Canvas, _viewer: u64) -> Result<(), ScreenError>
+        ensures draws { Draws _canvas.old _canvas.new }
+    {
+        Ok(())
+    }
+
+    /// A viewer ended, and its connection is closed. Its receipt has the bytes that were heard and sent, where the history is kept.
+    fn left(&mut self, _canvas: &mut Canvas, _receipt: Receipt) -> Result<(), ScreenError>
+        ensures draws { Draws _canvas.old _canvas.new }
+    {
+        Ok(())
+    }
+
+    /// The time came that the last tick answered, or the application starts. After how long the next one is to be; None where
+    /// none is.
+    fn tick(&mut self, _canvas: &mut Canvas) -> Result<Option<Duration>, ScreenError>
+        ensures draws { Draws _canvas.old _canvas.new }
+    {
+        Ok(None)
+    }
+
+    /// Another thread woke the loop.
+    fn woken(&mut self, _canvas: &mut Canvas) -> Result<(), ScreenError>
+        ensures draws { Draws _canvas.old _canvas.new }
+    {
+        Ok(())
+    }
+
+    /// Whether the loop is to end. It is asked before each turn.
+    fn is_done(&self) -> bool {
+        false
+    }
+}

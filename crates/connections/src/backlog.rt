@@ -1,0 +1,214 @@
+//! What a viewer was given, and what of it is not written yet.
+
+ghost use Rattle.std.specs.Prelude.{◌≡◌, ◌≢◌, ◌≤◌, ◌++◌, [], List, ℕ, IsTrue, OnOk, OnErr, length, take};
+ghost use Rattle.connections.specs.Waiting.{waiting_bytes};
+ghost use Rattle.connections.specs.Serving.{Moves};
+ghost use Rattle.connections.specs.Carrying.{carried_by};
+ghost use Rattle.connections.specs.declared.backlog.Written.TheVariants as outcome;
+
+use crate::recording::Recording;
+use crate::transport::Transport;
+use screen::Update;
+use std::alloc::{AllocError, Global};
+use std::io::ErrorKind;
+use std::marker::Model;
+use std::mem;
+use viewer::Stream;
+
+/// How many bytes of an update are encoded before they are written, at most: 64 KB.
+pub(crate) const BUFFER: usize = 65_536;
+
+/// How many bytes a stream appends at once, at most.
+const PIECE: usize = 8192;
+
+/// Bytes on their way to a viewer: those that are made, from `done` on, then those that an update is still to give, and then those
+/// that came behind it. Only an opening is answered, before any update, so nothing ever comes behind one. With nothing on its way
+/// it holds no memory.
+#[derive(Drop)]
+pub(crate) struct Backlog {
+    alloc: Global,
+    made: Vec<u8>,
+    done: usize,
+    update: Option<Stream>,
+    behind: Vec<u8>,
+}
+
+impl Model for Backlog {
+    ghost use Rattle.std.specs.Prelude.{◌≤◌, length, drop};
+    ghost use Rattle.connections.specs.Waiting.{Waiting};
+
+    ghost Value = { Waiting };
+
+    ghost view = { λ a. record { made = drop a.done a.made.items; update = a.update; behind = a.behind.items } };
+
+    ghost invariant = { λ a. a.done ≤ length a.made.items };
+}
+
+/// What came of a write.
+#[derive(Clone, Copy, Debug, PartialEq, Eq)]
+pub(crate) enum Written {
+    /// Bytes were taken.
+    Some,
+    /// The transport takes none now.
+    Blocked,
+    /// The transport failed, or takes no more.
+    Failed,
+    /// Memory was refused.
+    Memory,
+}
+
+/// Fills a buffer with the next bytes of an update, until all are in it or fewer than a piece's places are left.
+fn fill(buffer: &mut Vec<u8>, update: &mut Stream) -> Result<(), AllocError>
+    ensures bytes { buffer.new.items ++ update.new ≡ update.old }
+    ensures bound { length buffer.new.items ≤ 65536 }
+{
+    buffer.clear();
+    while buffer.len() <= BUFFER - PIECE && !update.is_ended() {
+        update.put(buffer)?;
+    }
+    Ok(())
+}
+
+/// One write. How many bytes were taken, and what came of it.
+fn write_once<T: Transport>(transport: &mut Recording<T>, bytes: &[u8]) -> (usize, Written)
+    ensures bound { result.0 ≤ length bytes.now }
+    ensures moved { Moves (carried_by T.unread T.written transport.old) (carried_by T.unread T.written transport.new) [] (take result.0 bytes.now) }
+{
+    match transport.send(bytes) {
+        Ok(0) => (0, Written::Failed),
+        Ok(count) => (count, Written::Some),
+        Err(e) => match e.kind() {
+            ErrorKind::WouldBlock | ErrorKind::Interrupted => (0, Written::Blocked),
+            ErrorKind::OutOfMemory => (0, Written::Memory),
+            _ => (0, Written::Failed),
+        },
+    }
+}
+
+impl Backlog {
+    /// Nothing. This takes no memory.
+    pub fn new(alloc: Global) -> Backlog
+        ensures { waiting_bytes result ≡ [] }
+    {
+        Backlog {
+            alloc,
+            made: Vec::new(alloc),
+            done: 0,
+            update: None,
+            behind: Vec::new(alloc),
+        }
+    }
+
+    /// Whether all that was given is written.
+    #[tactic(auto, using(crate::proofs::Pieces::none_left))]
+    pub fn is_empty(&self) -> bool
+        ensures { IsTrue result → waiting_bytes self.now ≡ [] }
+    {
+        self.done >= self.made.len() && self.update.is_none() && self.behind.is_empty()
+    }
+
+    /// Bytes are given.
+    pub fn give(&mut self, bytes: &[u8]) -> Result<(), AllocError>
+        ensures ok { OnOk result (waiting_bytes self.new ≡ waiting_bytes self.old ++ bytes.now) }
+        ensures err { OnErr result (self.new ≡ self.old) }
+    {
+        if self.update.is_none() && self.behind.is_empty() {
+            self.made.extend_from_slice(bytes)
+        } else {
+            self.behind.extend_from_slice(bytes)
+        }
+    }
+
+    /// An update is given, where nothing waits.
+    pub fn start(&mut self, update: Update)
+        requires { waiting_bytes self.old ≡ [] }
+        ensures { waiting_bytes self.new ≡ update }
+    {
+        self.update = Some(update.into_stream());
+    }
+
+    /// One write of the next bytes, with a buffer for those that are not made yet. What was written, and then what waits, is what
+    /// waited before, unless memory was refused.
+    pub fn write_some<T: Transport>(
+        &mut self,
+        transport: &mut Recording<T>,
+        buffer: &mut Vec<u8>,
+    ) -> Written
+        ensures sent { (written unwritten : List ℕ) ×
+            Moves (carried_by T.unread T.written transport.old) (carried_by T.unread T.written transport.new) [] written ×
+            (written ++ unwritten ≡ waiting_bytes self.old) × (result ≢ outcome.Memory → unwritten ≡ waiting_bytes self.new) }
+    {
+        if self.done < self.made.len() {
+            self.write_made(transport)
+        } else {
+            self.write_update(transport, buffer)
+        }
+    }
+
+    /// One write of bytes that are made.
+    fn write_made<T: Transport>(&mut self, transport: &mut Recording<T>) -> Written
+        ensures sent { (written : List ℕ) ×
+            Moves (carried_by T.unread T.written transport.old) (carried_by T.unread T.written transport.new) [] written ×
+            (written ++ waiting_bytes self.new ≡ waiting_bytes self.old) }
+    {
+        let (count, outcome) = write_once(transport, &self.made[self.done..]);
+        self.done += count;
+        if self.done >= self.made.len() {
+            self.made = Vec::new(self.alloc);
+            self.done = 0;
+        }
+        outcome
+    }
+
+    /// One write of bytes of the update, where none are made.
+    fn write_update<T: Transport>(
+        &mut self,
+        transport: &mut Recording<T>,
+        buffer: &mut Vec<u8>,
+    ) -> Written
+        requires { self.old.made ≡ [] }
+        ensures sent { (written unwritten : List ℕ) ×
+            Moves (carried_by T.unread T.written transport.old) (carried_by T.unread T.written transport.new) [] written ×
+            (written ++ unwritten ≡ waiting_bytes self.old) × (result ≢ outcome.Memory → unwritten ≡ waiting_bytes self.new) }
+    {
+        if self.make(buffer).is_err() {
+            return Written::Memory;
+        }
+        let (count, outcome) = write_once(transport, buffer);
+        match self.keep(&buffer[count..]) {
+            Ok(()) => outcome,
+            Err(_) => Written::Memory,
+        }
+    }
+
+    /// Makes the next bytes in a buffer, where none are made.
+    fn make(&mut self, buffer: &mut Vec<u8>) -> Result<(), AllocError>
+        requires { self.old.made ≡ [] }
+        ensures made { OnOk result (self.new.made ≡ []) }
+        ensures bytes { OnOk result (buffer.new.items ++ waiting_bytes self.new ≡ waiting_bytes self.old) }
+    {
+        match self.update.take() {
+            Some(mut update) => {
+                fill(buffer, &mut update)?;
+                if !update.is_ended() {
+                    self.update = Some(update);
+                }
+            }
+            None => {
+                mem::swap(buffer, &mut self.behind);
+                self.behind = Vec::new(self.alloc);
+            }
+        }
+        Ok(())
+    }
+
+    /// Bytes that the transport didn't take come before all others, where none are made.
+    fn keep(&mut self, bytes: &[u8]) -> Result<(), AllocError>
+        requires { self.old.made ≡ [] }
+        ensures { OnOk result (waiting_bytes self.new ≡ bytes.now ++ waiting_bytes self.old) }
+    {
+        self.made.clear();
+        self.done = 0;
+        self.made.extend_from_slice(bytes)
+    }
+}

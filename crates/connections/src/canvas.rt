@@ -1,0 +1,217 @@
+//! The screen as an application draws on it.
+
+ghost use Rattle.std.specs.Prelude.{◌≡◌, ◌++◌, ◌∷◌, [], List, false, IfOk, IfSome, OnOk, OnErr};
+ghost use Rattle.scene.specs.declared.Config.{Config};
+ghost use Rattle.scene.specs.declared.Event.{Event};
+ghost use Rattle.scene.specs.Answers.{answer_to};
+ghost use Rattle.screen.specs.State.{state};
+ghost use Rattle.viewer.specs.Given.{bytes_given};
+ghost use Rattle.connections.specs.Drawing.{Draws};
+
+use listed::Listed;
+use screen::{Answer, Rect, Region, Screen, ScreenError, Update};
+use std::marker::Model;
+
+/// A screen to draw on, and whether it was drawn on since its viewers were looked at. Each drawing call is the screen's, with the
+/// same refusals; its viewers are looked at in the next turn.
+#[derive(Drop)]
+pub struct Canvas {
+    screen: Screen,
+    has_drawn: bool,
+}
+
+impl Model for Canvas {
+    ghost use Rattle.connections.specs.Drawing.{Surface};
+
+    ghost Value = { Surface };
+
+    ghost view = { λ a. record { screen = a.screen; drawn = a.has_drawn } };
+}
+
+impl Canvas {
+    pub(crate) fn new(screen: Screen) -> Canvas
+        ensures screen { result.screen ≡ screen }
+    {
+        Canvas {
+            screen,
+            has_drawn: false,
+        }
+    }
+
+    /// The screen, to be looked at.
+    pub fn screen(&self) -> &Screen {
+        &self.screen
+    }
+
+    /// `Screen::paint`.
+    pub fn paint(&mut self, rect: Rect, colours: &[u32]) -> Result<(), ScreenError>
+        ensures draws { Draws self.old self.new }
+    {
+        self.has_drawn = true;
+        self.screen.paint(rect, colours)
+    }
+
+    /// `Screen::write_pixels`.
+    pub fn write_pixels(&mut self, rect: Rect, colours: &[u32]) -> Result<(), ScreenError>
+        ensures draws { Draws self.old self.new }
+    {
+        self.has_drawn = true;
+        self.screen.write_pixels(rect, colours)
+    }
+
+    /// `Screen::mark_rect`.
+    pub fn mark_rect(&mut self, x1: i32, y1: i32, x2: i32, y2: i32) -> Result<(), ScreenError>
+        ensures draws { Draws self.old self.new }
+    {
+        self.has_drawn = true;
+        self.screen.mark_rect(x1, y1, x2, y2)
+    }
+
+    /// `Screen::mark_region`.
+    pub fn mark_region(&mut self, region: &Region) -> Result<(), ScreenError>
+        ensures draws { Draws self.old self.new }
+    {
+        self.has_drawn = true;
+        self.screen.mark_region(region)
+    }
+
+    /// `Screen::schedule_copy_rect`.
+    pub fn schedule_copy_rect(
+        &mut self,
+        x1: i32,
+        y1: i32,
+        x2: i32,
+        y2: i32,
+        dx: i32,
+        dy: i32,
+    ) -> Result<(), ScreenError>
+        ensures draws { Draws self.old self.new }
+    {
+        self.has_drawn = true;
+        self.screen.schedule_copy_rect(x1, y1, x2, y2, dx, dy)
+    }
+
+    /// `Screen::schedule_copy_region`.
+    pub fn schedule_copy_region(
+        &mut self,
+        region: &Region,
+        dx: i32,
+        dy: i32,
+    ) -> Result<(), ScreenError>
+        ensures draws { Draws self.old self.new }
+    {
+        self.has_drawn = true;
+        self.screen.schedule_copy_region(region, dx, dy)
+    }
+
+    /// `Screen::do_copy_rect`.
+    pub fn do_copy_rect(
+        &mut self,
+        x1: i32,
+        y1: i32,
+        x2: i32,
+        y2: i32,
+        dx: i32,
+        dy: i32,
+    ) -> Result<(), ScreenError>
+        ensures draws { Draws self.old self.new }
+    {
+        self.has_drawn = true;
+        self.screen.do_copy_rect(x1, y1, x2, y2, dx, dy)
+    }
+
+    /// `Screen::do_copy_region`.
+    pub fn do_copy_region(&mut self, region: &Region, dx: i32, dy: i32) -> Result<(), ScreenError>
+        ensures draws { Draws self.old self.new }
+    {
+        self.has_drawn = true;
+        self.screen.do_copy_region(region, dx, dy)
+    }
+
+    /// `Screen::bell`.
+    pub fn bell(&mut self) -> Result<(), ScreenError>
+        ensures draws { Draws self.old self.new }
+    {
+        self.has_drawn = true;
+        self.screen.bell()
+    }
+
+    /// `Screen::cut_text`.
+    pub fn cut_text(&mut self, text: &[u8]) -> Result<(), ScreenError>
+        ensures draws { Draws self.old self.new }
+    {
+        self.has_drawn = true;
+        self.screen.cut_text(text)
+    }
+
+    /// `Screen::new_framebuffer`.
+    pub fn new_framebuffer(&mut self, width: u32, height: u32) -> Result<(), ScreenError>
+        ensures draws { Draws self.old self.new }
+    {
+        self.has_drawn = true;
+        self.screen.new_framebuffer(width, height)
+    }
+
+    /// Whether it was drawn on since this was asked last.
+    pub(crate) fn take_drawn(&mut self) -> bool
+        ensures screen { self.new.screen ≡ self.old.screen }
+    {
+        let has_drawn = self.has_drawn;
+        self.has_drawn = false;
+        has_drawn
+    }
+
+    /// Whether it was drawn on since `take_drawn`.
+    pub(crate) fn has_drawn(&self) -> bool {
+        self.has_drawn
+    }
+
+    /// `Screen::connect`.
+    pub(crate) fn connect(&mut self, number: u64) -> Result<Listed<u8>, ScreenError>
+        ensures step { (config : Config) (list : List Event) → self.old.screen ≡ state config list →
+            OnOk result (self.new.screen ≡ state config (list ++ Event.Connect number ∷ [])) }
+        ensures answer { (config : Config) (list : List Event) → self.old.screen ≡ state config list →
+            IfOk result (λ bytes. bytes ≡ (answer_to config list (Event.Connect number)).bytes) }
+        ensures err { OnErr result (self.new ≡ self.old) }
+    {
+        self.screen.connect(number)
+    }
+
+    /// `Screen::hear`.
+    pub(crate) fn hear(&mut self, number: u64, piece: &[u8]) -> Result<Answer, ScreenError>
+        ensures step { (config : Config) (list : List Event) → self.old.screen ≡ state config list →
+            OnOk result (self.new.screen ≡ state config (list ++ Event.Hear number piece.now ∷ [])) }
+        ensures answer { (config : Config) (list : List Event) → self.old.screen ≡ state config list →
+            IfOk result (λ answer. answer.bytes ≡ (answer_to config list (Event.Hear number piece.now)).bytes) }
+        ensures err { OnErr result (self.new ≡ self.old) }
+    {
+        self.screen.hear(number, piece)
+    }
+
+    /// `Screen::pending`, false where no viewer has the number.
+    pub(crate) fn is_pending(&self, number: u64) -> bool {
+        self.screen.pending(number) == Ok(true)
+    }
+
+    /// `Screen::cut`.
+    pub(crate) fn cut(&mut self, number: u64) -> Result<Option<Update>, ScreenError>
+        ensures step { (config : Config) (list : List Event) → self.old.screen ≡ state config list →
+            OnOk result (self.new.screen ≡ state config (list ++ Event.Cut number ∷ [])) }
+        ensures answer { (config : Config) (list : List Event) → self.old.screen ≡ state config list →
+            IfOk result (λ update. bytes_given update ≡ (answer_to config list (Event.Cut number)).bytes) }
+        ensures err { OnErr result (self.new ≡ self.old) }
+    {
+        self.screen.cut(number)
+    }
+
+    /// `Screen::close`.
+    pub(crate) fn close(&mut self, number: u64) -> Result<(), ScreenError>
+        ensures step { (config : Config) (list : List Event) → self.old.screen ≡ state config list →
+            OnOk result (self.new.screen ≡ state config (list ++ Event.Close number ∷ [])) }
+        ensures answer { (config : Config) (list : List Event) → self.old.screen ≡ state config list →
+            OnOk result ((answer_to config list (Event.Close number)).bytes ≡ []) }
+        ensures err { OnErr result (self.new ≡ self.old) }
+    {
+        self.screen.close(number)
+    }
+}

@@ -1,0 +1,449 @@
+//! All connections of a screen's viewers.
+
+ghost use Rattle.std.specs.Prelude.{◌≡◌, ◌++◌, ◌∷◌, ◌+◌, [], List, ℕ, ◌<◌, None, IfOk, IfSome, IsSome, OnOk, OnErr, length, option_map};
+ghost use Rattle.std.specs.Borrow.{sem};
+ghost use Rattle.scene.specs.declared.Config.{Config};
+ghost use Rattle.scene.specs.declared.Event.{Event};
+ghost use Rattle.scene.specs.Alone.{config_refusal};
+ghost use Rattle.connections.specs.Drawing.{Draws};
+ghost use Rattle.connections.specs.Serving.{Carried, GoesOn, IsOver, Serves, WasServed, at_key, is_kept};
+ghost use Rattle.connections.specs.Recording.{none_yet};
+ghost use Rattle.connections.specs.Lending.{lends_canvas};
+
+use crate::application::Application;
+use crate::backlog::BUFFER;
+use crate::canvas::Canvas;
+use crate::connection::Connection;
+use crate::transport::Transport;
+use crate::turn::{PIECE, listen, send};
+use receipts::{Ended, Receipt};
+use screen::{Config, History, Screen, ScreenError};
+use slab::Slab;
+use std::alloc::{AllocError, Global};
+use std::marker::Model;
+use std::mem;
+use std::time::Duration;
+
+/// What a transport was found ready for. It may be out of date: a call that would wait says so.
+#[derive(Clone, Copy, Debug, PartialEq, Eq)]
+pub struct Readiness {
+    /// A read may give bytes.
+    pub may_read: bool,
+    /// A write may take bytes.
+    pub may_write: bool,
+    /// The peer sends no more: what it sent can be read to its end.
+    pub is_hung_up: bool,
+}
+
+/// Whether what moves is kept, beside the history.
+fn is_kept(history: History) -> bool
+    ensures { result ≡ is_kept history }
+{
+    matches!(history, History::Kept)
+}
+
+/// What is left of a viewer that ended.
+#[derive(Drop)]
+pub struct Departed<T> {
+    /// Its transport.
+    pub transport: T,
+    /// What was heard of it and sent to it, and why it ended.
+    pub receipt: Receipt,
+}
+
+/// A screen with its viewers' connections.
+#[derive(Drop)]
+pub struct Connections<T: Transport> {
+    alloc: Global,
+    canvas: Canvas,
+    connections: Slab<Connection<T>>,
+    // whether what moves is kept
+    is_kept: bool,
+    // the number of the next viewer
+    next: u64,
+    // the keys of those that are to be looked at, and room for the next ones
+    agenda: Vec<usize>,
+    later: Vec<usize>,
+    // what is read, and what is written
+    room: Vec<u8>,
+    buffer: Vec<u8>,
+}
+
+impl<T: Transport> Model for Connections<T> {
+    ghost use Rattle.connections.specs.Serving.{Serving};
+
+    ghost Value = { Serving };
+
+    ghost view = { λ a. record { surface = a.canvas; kept = a.is_kept; next = a.next; slots = a.connections.slots; agenda = a.agenda.items } };
+}
+
+impl<T: Transport> Connections<T> {
+    /// A screen that is 0 everywhere, with no viewer. Refused as `Screen::new` is.
+    pub fn new(alloc: Global, config: Config) -> Result<Connections<T>, ScreenError>
+        ensures serves { (began : ℕ → Carried) → IfOk result (λ connections. Serves config began [] connections) }
+        ensures accepted { OnOk result (config_refusal config ≡ None) }
+    {
+        let is_kept = is_kept(config.history);
+        let screen = Screen::new(alloc, config)?;
+        Ok(Connections {
+            alloc,
+            is_kept,
+            canvas: Canvas::new(screen),
+            connections: Slab::new(alloc),
+            next: 1,
+            agenda: Vec::new(alloc),
+            later: Vec::new(alloc),
+            room: vec![in alloc; 0u8; PIECE]?,
+            buffer: Vec::with_capacity(alloc, BUFFER)?,
+        })
+    }
+
+    /// How many viewers are connected.
+    pub fn len(&self) -> usize {
+        self.connections.len()
+    }
+
+    /// Whether no viewer is connected.
+    pub fn is_empty(&self) -> bool {
+        self.connections.is_empty()
+    }
+
+    /// The key that the next connection is to have, unless another one ends before.
+    pub fn next_key(&self) -> usize {
+        self.connections.vacant_key()
+    }
+
+    /// Whether something can be done in a turn at once, without anything more being ready.
+    pub fn is_busy(&self) -> bool {
+        !self.agenda.is_empty() || self.canvas.has_drawn()
+    }
+
+    /// The screen, to be looked at.
+    pub fn screen(&self) -> &Screen {
+        self.canvas.screen()
+    }
+
+    /// The screen to draw on. What is drawn is sent in the next turns.
+    pub fn canvas(&mut self) -> &mut Canvas
+        ensures* writes_back { sem 𝓛 (lends_canvas T.row T.Transport self.entry result) }
+        ensures value { result.now ≡ self.old.surface }
+    {
+        &mut self.canvas
+    }
+
+    /// Takes in a viewer's transport, whose bytes may be read and written at once. The connection's key. Refused as `NumberInUse`
+    /// after 2^64 - 2 viewers; then, and where memory is refused, nothing has changed.
+    pub fn admit(&mut self, transport: T) -> Result<usize, ScreenError>
+        ensures serves { (config : Config) (began : ℕ → Carried) (list : List Event) → Serves config began list self.old →
+            began self.old.next ≡ record { unread = T.unread transport; written = T.written transport; sent = none_yet self.old.kept } →
+            OnOk result (Serves config began (list ++ Event.Connect self.old.next ∷ []) self.new) }
+        ensures err { OnErr result (self.new ≡ self.old) }
+    {
+        let Some(next) = self.next.checked_add(1) else {
+            return Err(ScreenError::NumberInUse);
+        };
+        let most = self.connections.len().saturating_add(1);
+        self.connections.reserve(1)?;
+        self.agenda.reserve(most)?;
+        self.later.reserve(most)?;
+        let version = self.canvas.connect(self.next)?;
+        let mut connection = Connection::new(self.alloc, transport, self.next, self.is_kept);
+        connection.give(version.as_slice(), None);
+        connection.list(true);
+        let key = self.connections.insert_reserved(connection);
+        self.agenda.push_reserved(key);
+        self.next = next;
+        Ok(key)
+    }
+
+    /// The number of the viewer that has the key.
+    pub fn viewer(&self, key: usize) -> Option<u64>
+        ensures { result ≡ option_map (λ e. e.number) (at_key self.now.slots key) }
+    {
+        let connection = self.connections.get(key)?;
+        Some(connection.number())
+    }
+
+    /// The application is told that a viewer connected.
+    pub fn tell_came<A: Application>(
+        &mut self,
+        viewer: u64,
+        application: &mut A,
+    ) -> Result<(), ScreenError>
+        ensures served { GoesOn self.old self.new }
+    {
+        application.came(&mut self.canvas, viewer)
+    }
+
+    /// The application is told that a viewer ended.
+    pub fn tell_left<A: Application>(
+        &mut self,
+        receipt: Receipt,
+        application: &mut A,
+    ) -> Result<(), ScreenError>
+        ensures served { GoesOn self.old self.new }
+    {
+        application.left(&mut self.canvas, receipt)
+    }
+
+    /// The application's time has come. After how long the next one comes, if one does.
+    pub fn tick<A: Application>(
+        &mut self,
+        application: &mut A,
+    ) -> Result<Option<Duration>, ScreenError>
+        ensures served { GoesOn self.old self.new }
+    {
+        application.tick(&mut self.canvas)
+    }
+
+    /// The application is told that another thread woke it.
+    pub fn tell_woken<A: Application>(&mut self, application: &mut A) -> Result<(), ScreenError>
+        ensures served { GoesOn self.old self.new }
+    {
+        application.woken(&mut self.canvas)
+    }
+
+    /// Whether the viewer that has the key had its ServerInit (RFC 6143, 7.3.2), and met no fault.
+    pub fn is_open(&self, key: usize) -> bool {
+        match self.viewer(key) {
+            Some(viewer) => self.canvas.screen().is_open(viewer) == Ok(true),
+            None => false,
+        }
+    }
+
+    /// What a connection's transport was found ready for, where one has the key. It is looked at in the next turn. Room for this was
+    /// made when it was admitted.
+    pub fn note(&mut self, key: usize, found: Readiness) -> Result<(), AllocError>
+        ensures served { GoesOn self.old self.new }
+        ensures same { self.new ≡ record self.old { agenda = self.new.agenda } }
+    {
+        self.note_at(key, found);
+        self.list(key)
+    }
+
+    /// What a connection's transport was found ready for.
+    fn note_at(&mut self, key: usize, found: Readiness)
+        ensures same { self.new ≡ self.old }
+    {
+        if let Some(connection) = self.connections.get_mut(key) {
+            connection.note(found);
+        }
+    }
+
+    /// A viewer is let go, as one that was closed; nothing where none has the key.
+    pub fn close(&mut self, key: usize) -> Result<(), AllocError>
+        ensures served { GoesOn self.old self.new }
+    {
+        self.end_at(key);
+        self.list(key)
+    }
+
+    /// A viewer ends as one that was closed.
+    fn end_at(&mut self, key: usize)
+        ensures served { GoesOn self.old self.new }
+    {
+        let Some(connection) = self.connections.get_mut(key) else {
+            return;
+        };
+        connection.close();
+    }
+
+    /// A connection is to be looked at.
+    fn list(&mut self, key: usize) -> Result<(), AllocError>
+        ensures same { self.new ≡ record self.old { agenda = self.new.agenda } }
+    {
+        if let Some(connection) = self.connections.get_mut(key)
+            && !connection.list(true)
+        {
+            self.agenda.push(key)?;
+        }
+        Ok(())
+    }
+
+    /// One turn. Of each connection on the agenda one piece of at most 512 bytes is read and heard, and the application is told what
+    /// it says; of those whose last read filled its piece only the one that waited longest. Then each is written what it was given,
+    /// and cut updates, in at most four writes of at most 65,536 bytes.
+    ///
+    /// Whatever list of events the screen stood for, it stands for it with others behind it, and by that list each viewer is served:
+    /// what was read of it is what the screen heard of it, and what was written to it is, with what waits for it, what the screen with
+    /// this one viewer gives.
+    pub fn turn<A: Application>(&mut self, application: &mut A) -> Result<(), ScreenError>
+        ensures served { GoesOn self.old self.new }
+    {
+        let flooding = self.listen_all(application)?;
+        self.list_watching()?;
+        self.send_all();
+        self.list_busy(flooding)?;
+        Ok(())
+    }
+
+    /// A viewer that ended, and for which nothing is left to be done: it is closed, and its transport given back. None where there is
+    /// none; where memory is refused to close it, it is given later.
+    pub fn take_departed(&mut self) -> Option<Departed<T>>
+        ensures served { (config : Config) (began : ℕ → Carried) (list : List Event) → Serves config began list self.old →
+            (more : List Event) × Serves config began (list ++ more) self.new ×
+            IfSome result (λ d. WasServed config (list ++ more) (began d.receipt.viewer) T.unread T.written d.transport d.receipt) }
+    {
+        let place = self.find_over()?;
+        let key = self.listed(place)?;
+        let (viewer, ended) = self.over_at(key)?;
+        let Ok(()) = self.canvas.close(viewer) else {
+            return None;
+        };
+        self.agenda.remove(place);
+        let connection = self.connections.try_remove(key)?;
+        let (transport, receipt) = connection.into_parts(self.alloc, ended);
+        Some(Departed { transport, receipt })
+    }
+
+    /// The key at a place of the agenda; None behind the last.
+    fn listed(&self, place: usize) -> Option<usize>
+        ensures { IsSome result → place < length self.now.agenda }
+    {
+        self.agenda.get(place).copied()
+    }
+
+    /// Whether the last read of a connection filled its piece, and it is still heard.
+    fn is_flooding(&self, key: usize) -> bool {
+        match self.connections.get(key) {
+            Some(connection) => connection.is_flooding() && connection.may_read(),
+            None => false,
+        }
+    }
+
+    /// The number of the viewer that has the key, and why it ended, where nothing is left to be done for it.
+    fn over_at(&self, key: usize) -> Option<(u64, Ended)>
+        ensures { IfSome result (λ over. IsOver (at_key self.now.slots key) over.0 over.1) }
+    {
+        let connection = self.connections.get(key)?;
+        let ended = connection.over()?;
+        Some((connection.number(), ended))
+    }
+
+    /// The first place of the agenda with a viewer that ended, and for which nothing is left to be done.
+    fn find_over(&self) -> Option<usize> {
+        for place in 0..self.agenda.len() {
+            let key = self.listed(place)?;
+            if self.over_at(key).is_some() {
+                return Some(place);
+            }
+        }
+        None
+    }
+
+    /// Hears a piece of each on the agenda that may have one; of those that flood, of the first alone, whose key is answered.
+    fn listen_all<A: Application>(
+        &mut self,
+        application: &mut A,
+    ) -> Result<Option<usize>, ScreenError>
+        ensures served { GoesOn self.old self.new }
+    {
+        let mut flooding = None;
+        for place in 0..self.agenda.len() {
+            let Some(key) = self.listed(place) else {
+                return Ok(flooding);
+            };
+            if self.is_flooding(key) {
+                if flooding.is_some() {
+                    continue;
+                }
+                flooding = Some(key);
+            }
+            self.listen_at(key, application)?;
+        }
+        Ok(flooding)
+    }
+
+    /// Hears a piece of one connection.
+    fn listen_at<A: Application>(
+        &mut self,
+        key: usize,
+        application: &mut A,
+    ) -> Result<(), ScreenError>
+        ensures served { GoesOn self.old self.new }
+        ensures agenda { self.new.agenda ≡ self.old.agenda }
+    {
+        match self.connections.get_mut(key) {
+            Some(connection) => listen(&mut self.canvas, connection, &mut self.room, application),
+            None => Ok(()),
+        }
+    }
+
+    /// Writes to each on the agenda.
+    fn send_all(&mut self)
+        ensures served { GoesOn self.old self.new }
+    {
+        for place in 0..self.agenda.len() {
+            let Some(key) = self.listed(place) else {
+                return;
+            };
+            self.send_at(key);
+        }
+    }
+
+    /// Writes to one connection.
+    fn send_at(&mut self, key: usize)
+        ensures served { GoesOn self.old self.new }
+        ensures agenda { self.new.agenda ≡ self.old.agenda }
+    {
+        let Some(connection) = self.connections.get_mut(key) else {
+            return;
+        };
+        send(&mut self.canvas, connection, &mut self.buffer);
+    }
+
+    /// All are to be looked at, where the screen was drawn on.
+    fn list_watching(&mut self) -> Result<(), AllocError>
+        ensures served { GoesOn self.old self.new }
+    {
+        if !self.canvas.take_drawn() {
+            return Ok(());
+        }
+        self.list_all()
+    }
+
+    /// All are to be looked at.
+    fn list_all(&mut self) -> Result<(), AllocError>
+        ensures same { self.new ≡ record self.old { agenda = self.new.agenda } }
+    {
+        self.agenda.clear();
+        self.agenda.reserve(self.connections.len())?;
+        for (key, _connection) in &self.connections {
+            self.agenda.push(key)?;
+        }
+        Ok(())
+    }
+
+    /// Those stay on the agenda that something can be done for at once, in their order, but for one that comes last.
+    fn list_busy(&mut self, last: Option<usize>) -> Result<(), AllocError>
+        ensures same { self.new ≡ record self.old { agenda = self.new.agenda } }
+    {
+        self.later.clear();
+        for place in 0..self.agenda.len() {
+            if let Some(key) = self.listed(place)
+                && Some(key) != last
+            {
+                self.list_again(key)?;
+            }
+        }
+        if let Some(key) = last {
+            self.list_again(key)?;
+        }
+        mem::swap(&mut self.agenda, &mut self.later);
+        Ok(())
+    }
+
+    /// A connection that something can be done for at once is to be looked at in the next turn.
+    fn list_again(&mut self, key: usize) -> Result<(), AllocError>
+        ensures { self.new ≡ self.old }
+    {
+        if let Some(connection) = self.connections.get_mut(key) {
+            let is_busy = connection.has_work();
+            connection.list(is_busy);
+            if is_busy {
+                self.later.push(key)?;
+            }
+        }
+        Ok(())
+    }
+}

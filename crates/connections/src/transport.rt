@@ -1,0 +1,52 @@
+//! What carries a viewer's bytes both ways.
+
+ghost use Rattle.std.specs.Prelude.{ℕ, List, Option, None};
+ghost use Rattle.std.specs.Io.{ReadsAtMost, WritesAtMost};
+ghost use Rattle.std.specs.Io.KnownBytes.{ReadConsumes, WriteAppends, Keeps};
+
+use std::io;
+use std::io::{Read, Write};
+
+/// A viewer's transport. No call waits: where one would, it fails as `WouldBlock`.
+pub trait Transport: Drop {
+    // The bytes that it has still to give, where they are known.
+    ghost unread: { Self → Option (List ℕ) } = { λ _. None };
+
+    // The bytes that were written to it, where they are known.
+    ghost written: { Self → Option (List ℕ) } = { λ _. None };
+
+    /// Reads as `Read::read` does, and leaves what was written as it is.
+    fn receive(&mut self, room: &mut [u8]) -> io::Result<usize>
+        ensures bound { ReadsAtMost result room.new }
+        ensures bytes { ReadConsumes (unread self.old) (unread self.new) result room.new }
+        ensures kept { Keeps (written self.old) (written self.new) };
+
+    /// Writes as `Write::write` does, and leaves what is to be read as it is.
+    fn send(&mut self, bytes: &[u8]) -> io::Result<usize>
+        ensures bound { WritesAtMost result bytes.now }
+        ensures bytes { WriteAppends (written self.old) (written self.new) result bytes.now }
+        ensures kept { Keeps (unread self.old) (unread self.new) };
+}
+
+/// A reader and a writer as one transport.
+#[derive(Drop)]
+pub struct Both<R, W> {
+    /// What gives the viewer's bytes.
+    pub reader: R,
+    /// What takes the bytes for the viewer.
+    pub writer: W,
+}
+
+impl<R: Read + Drop, W: Write + Drop> Transport for Both<R, W> {
+    ghost unread = { λ both. R.remaining both.reader };
+
+    ghost written = { λ both. W.contents both.writer };
+
+    fn receive(&mut self, room: &mut [u8]) -> io::Result<usize> {
+        self.reader.read(room)
+    }
+
+    fn send(&mut self, bytes: &[u8]) -> io::Result<usize> {
+        self.writer.write(bytes)
+    }
+}

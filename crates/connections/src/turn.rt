@@ -1,0 +1,135 @@
+//! What is done for one connection in a turn: a piece is read and heard, and what waits is written, with updates that are cut as
+//! there is room for them.
+
+ghost use Rattle.std.specs.Prelude.{◌≡◌, [], false, IsTrue};
+ghost use Rattle.connections.specs.Waiting.{waiting_bytes};
+ghost use Rattle.connections.specs.Drawing.{Draws};
+ghost use Rattle.connections.specs.Serving.{breaks_off};
+ghost use Rattle.connections.specs.Turns.{HearsPiece, TakesTurn};
+
+use crate::application::Application;
+use crate::canvas::Canvas;
+use crate::connection::{Connection, Got};
+use crate::transport::Transport;
+use receipts::Ended;
+use screen::{Input, ScreenError};
+
+/// How many bytes are read and heard at once, at most. So few, since hearing a request costs as much as a small update does, and
+/// 51 of them stand in 512 bytes: who floods a screen holds up the others by so much in each turn.
+pub(crate) const PIECE: usize = 512;
+
+/// How many writes, each of 64 KB at most, are made for a viewer in one turn.
+const WRITES: u32 = 4;
+
+/// Reads a piece of a viewer's bytes, where there may be some, and hears it; the application is told its inputs.
+pub(crate) fn listen<T: Transport, A: Application>(
+    canvas: &mut Canvas,
+    connection: &mut Connection<T>,
+    room: &mut [u8],
+    application: &mut A,
+) -> Result<(), ScreenError>
+    ensures turn { TakesTurn canvas.old connection.old canvas.new connection.new }
+{
+    if !connection.may_read() {
+        return Ok(());
+    }
+    match connection.receive(room) {
+        Got::Nothing => {}
+        Got::End => connection.end(Ended::EndOfInput),
+        Got::Failed => connection.end(Ended::ReadFailed),
+        Got::Piece(count) => return hear(canvas, connection, &room[..count], application),
+    }
+    Ok(())
+}
+
+/// Hears a piece that was read.
+fn hear<T: Transport, A: Application>(
+    canvas: &mut Canvas,
+    connection: &mut Connection<T>,
+    piece: &[u8],
+    application: &mut A,
+) -> Result<(), ScreenError>
+    ensures heard { HearsPiece piece.now canvas.old connection.old canvas.new connection.new }
+{
+    let viewer = connection.number();
+    if connection.make_room(piece).is_err() {
+        connection.end(Ended::Memory);
+        return Ok(());
+    }
+    let Ok(answer) = canvas.hear(viewer, piece) else {
+        connection.end(Ended::Memory);
+        return Ok(());
+    };
+    connection.count_piece(piece);
+    connection.give(answer.bytes.as_slice(), answer.closed);
+    tell(canvas, viewer, answer.inputs.as_slice(), application)
+}
+
+/// Tells the application a viewer's inputs, in order.
+fn tell<A: Application>(
+    canvas: &mut Canvas,
+    viewer: u64,
+    inputs: &[Input],
+    application: &mut A,
+) -> Result<(), ScreenError>
+    ensures draws { Draws canvas.old canvas.new }
+{
+    for input in inputs {
+        application.told(canvas, viewer, input)?;
+    }
+    Ok(())
+}
+
+/// Writes what a viewer was given, and cuts further updates for it, as long as its transport takes bytes, but for so many writes at
+/// most.
+pub(crate) fn send<T: Transport>(
+    canvas: &mut Canvas,
+    connection: &mut Connection<T>,
+    buffer: &mut Vec<u8>,
+)
+    ensures turn { TakesTurn canvas.old connection.old canvas.new connection.new }
+{
+    for _ in 0..WRITES {
+        if !prepare(canvas, connection) {
+            return;
+        }
+        connection.write(buffer);
+    }
+}
+
+/// Whether a write may take something, where an update is cut if nothing waits.
+fn prepare<T: Transport>(canvas: &mut Canvas, connection: &mut Connection<T>) -> bool
+    ensures turn { TakesTurn canvas.old connection.old canvas.new connection.new }
+    ensures whole { IsTrue result → breaks_off connection.new.ended ≡ false }
+{
+    if !connection.may_write() {
+        return false;
+    }
+    if !connection.is_idle() {
+        return true;
+    }
+    cut(canvas, connection)
+}
+
+/// Cuts an update for a viewer for which nothing waits, if there is something to send and it hasn't ended. Whether there is.
+fn cut<T: Transport>(canvas: &mut Canvas, connection: &mut Connection<T>) -> bool
+    requires { waiting_bytes connection.old.waiting ≡ [] }
+    ensures turn { TakesTurn canvas.old connection.old canvas.new connection.new }
+    ensures whole { IsTrue result → breaks_off connection.new.ended ≡ false }
+{
+    let viewer = connection.number();
+    if connection.ended().is_some() || !canvas.is_pending(viewer) {
+        return false;
+    }
+    match canvas.cut(viewer) {
+        Ok(Some(update)) => {
+            connection.start(update);
+            true
+        }
+        Ok(None) => false,
+        Err(_) => {
+            connection.end(Ended::Memory);
+            false
+        }
+    }
+}

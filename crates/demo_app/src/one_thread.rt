@@ -1,0 +1,186 @@
+//! `serve --one-thread`: the same screen, served by an event loop.
+
+ghost use Rattle.std.specs.Prelude.{◌≡◌, ◌⊎◌, None, IfOk};
+ghost use Rattle.scene.specs.Alone.{config_refusal};
+ghost use Rattle.connections.specs.Drawing.{Draws};
+
+use crate::serve::{
+    Easel, ServeOptions, Stroke, WHITE, config_of, print_ends, print_judgement, print_refusal,
+};
+use event_loop::{Application, Canvas, EventLoop, Limits, LoopError, WhenFull};
+use messages::Input;
+use mio::net::TcpListener;
+use receipts::{FinishError, Receipt, Report, check};
+use screen::{Config, Event, Listed, ScreenError};
+use script_player::trouble::{Trouble, flush, report};
+use std::alloc::{AllocError, Global};
+use std::io::Write;
+use std::net::Net;
+use std::time::{Clock, Duration};
+
+/// How long a viewer may take for its opening, in seconds.
+const OPENING_SECONDS: u64 = 10;
+
+/// The application, what it drew, where that is kept, and the receipts of the viewers that left.
+#[derive(Drop)]
+struct Showing {
+    alloc: Global,
+    easel: Easel,
+    drawn: Option<Vec<Event>>,
+    receipts: Vec<Receipt>,
+    viewers: usize,
+}
+
+/// The drawing call that a stroke is.
+fn event_of(alloc: Global, stroke: Stroke<'_>) -> Result<Event, AllocError> {
+    Ok(match stroke {
+        Stroke::Place(rect) => Event::Paint {
+            rect,
+            colours: Listed::from_slice(alloc, &[WHITE])?,
+        },
+        Stroke::Bell => Event::Bell,
+        Stroke::Text(text) => Event::CutText {
+            text: Listed::from_slice(alloc, text)?,
+        },
+    })
+}
+
+/// Draws a stroke.
+fn draw(canvas: &mut Canvas, stroke: Stroke<'_>) -> Result<(), ScreenError>
+    ensures draws { Draws canvas.old canvas.new }
+{
+    match stroke {
+        Stroke::Place(rect) => canvas.paint(rect, &[WHITE]),
+        Stroke::Bell => canvas.bell(),
+        Stroke::Text(text) => canvas.cut_text(text),
+    }
+}
+
+impl Showing {
+    /// A stroke is kept, where what is drawn is.
+    fn keep(&mut self, stroke: Stroke<'_>) -> Result<(), AllocError> {
+        if let Some(drawn) = &mut self.drawn {
+            drawn.push(event_of(self.alloc, stroke)?)?;
+        }
+        Ok(())
+    }
+}
+
+impl Application for Showing {
+    fn told(
+        &mut self,
+        canvas: &mut Canvas,
+        _viewer: u64,
+        input: &Input,
+    ) -> Result<(), ScreenError> {
+        let Some(stroke) = self.easel.stroke(input) else {
+            return Ok(());
+        };
+        self.keep(stroke)?;
+        draw(canvas, stroke)
+    }
+
+    fn left(&mut self, _canvas: &mut Canvas, receipt: Receipt) -> Result<(), ScreenError> {
+        self.receipts.push(receipt)?;
+        Ok(())
+    }
+
+    fn is_done(&self) -> bool {
+        self.receipts.len() >= self.viewers
+    }
+}
+
+/// Why a loop ended early, as it is printed.
+fn trouble_of(error: LoopError) -> Trouble {
+    match error {
+        LoopError::Network | LoopError::Clock => Trouble::NetworkFault,
+        // the application's calls are refused for memory alone
+        LoopError::Screen(_) => Trouble::OutOfMemory,
+    }
+}
+
+/// Judges a run whose history is kept.
+fn judge(
+    alloc: Global,
+    config: &Config,
+    served: &EventLoop,
+    showing: &Showing,
+) -> Result<Report, FinishError>
+    requires { config_refusal config.now ≡ None }
+{
+    match (served.screen().history(), &showing.drawn) {
+        (Some(history), Some(drawn)) => check(alloc, config, history, drawn, &showing.receipts),
+        _ => Err(FinishError::NotKept),
+    }
+}
+
+/// What a loop grants the viewers that the options tell.
+fn limits_of(options: &ServeOptions) -> Limits {
+    Limits {
+        live_viewers: options.viewers as usize,
+        when_full: WhenFull::Wait,
+        all_viewers: u64::from(options.viewers),
+        opening_time: Duration::from_secs(OPENING_SECONDS),
+    }
+}
+
+/// Serves the viewers, and says how they ended. The status.
+fn serve<W: Write, R: Net + Clock>(
+    rt: &R,
+    alloc: Global,
+    listener: TcpListener,
+    options: &ServeOptions,
+    writer: &mut W,
+) -> Result<u8, Trouble>
+    ensures { IfOk result (λ status. (status ≡ 0) ⊎ (status ≡ 1) ⊎ (status ≡ 4)) }
+{
+    let config = config_of(alloc, options)?;
+    let mut served = match EventLoop::new(
+        rt,
+        alloc,
+        listener,
+        config_of(alloc, options)?,
+        limits_of(options),
+    ) {
+        Ok(served) => served,
+        Err(LoopError::Screen(refusal)) => return print_refusal(alloc, writer, refusal),
+        Err(error) => return Err(trouble_of(error)),
+    };
+    let mut showing = Showing {
+        alloc,
+        easel: Easel {
+            width: options.width,
+            height: options.height,
+        },
+        drawn: options.check.then(|| Vec::new(alloc)),
+        receipts: Vec::new(alloc),
+        viewers: options.viewers as usize,
+    };
+    served.run(rt, &mut showing).map_err(trouble_of)?;
+    showing
+        .receipts
+        .sort_unstable_by_key(|receipt| receipt.viewer);
+    print_ends(alloc, writer, &showing.receipts)?;
+    if options.check {
+        print_judgement(alloc, writer, judge(alloc, &config, &served, &showing))
+    } else {
+        Ok(0)
+    }
+}
+
+/// `serve_on`, with one thread for all viewers. A viewer that has not had its ServerInit after ten seconds is let go, as `Closed`.
+pub fn serve_in_one_thread<W: Write, R: Net + Clock>(
+    rt: &R,
+    alloc: Global,
+    listener: TcpListener,
+    options: &ServeOptions,
+    writer: &mut W,
+) -> u8
+    ensures { (result ≡ 0) ⊎ (result ≡ 1) ⊎ (result ≡ 3) ⊎ (result ≡ 4) ⊎ (result ≡ 5) }
+{
+    let served = serve(rt, alloc, listener, options, writer);
+    match served.and_then(|status| flush(writer).map(|()| status)) {
+        Ok(status) => status,
+        Err(trouble) => report(writer, trouble),
+    }
+}

@@ -1,0 +1,9 @@
+use Rattle.std.proofs.Common.{sym}
+use Rattle.event_loop.proofs.Steps.{on-then, on-same}
+use Rattle.event_loop.proofs.event_loop.EventLoop.come_and_go.Goals as goal
+
+pub returns-in_err-accept_some : goal.returns-in_err-accept_some
+returns-in_err-accept_some g c = record { served = on-then _ _ _ (on-same _ _ (sym c.retry.ensures.same)) c.accept_some.ensures.served }
+
+pub returns : goal.returns
+returns g c = record { served = on-then _ _ _ (on-then _ _ _ (on-same _ _ (sym c.retry.ensures.same)) c.accept_some.ensures.served) c.let_go.ensures.served }

@@ -1,0 +1,487 @@
+//! The loop.
+
+ghost use Rattle.std.specs.Prelude.{◌≡◌, [], None, IfOk, OnOk};
+ghost use Rattle.std.specs.Borrow.{sem};
+ghost use Rattle.scene.specs.declared.Config.{Config};
+ghost use Rattle.scene.specs.Alone.{config_refusal};
+ghost use Rattle.connections.specs.Serving.{Serves};
+ghost use Rattle.event_loop.specs.Lending.{lends_canvas};
+ghost use Rattle.event_loop.specs.Sockets.{sockets, GoesOnServing};
+
+use crate::opening::Newcomers;
+use crate::poller::{Found, Poller, found_in};
+use crate::socket::Socket;
+use connections::{Application, Canvas, Config, Connections, Screen, ScreenError};
+use mio::Waker;
+use mio::event::Event;
+use mio::net::{TcpListener, TcpStream};
+use std::alloc::{AllocError, Global};
+use std::io;
+use std::io::ErrorKind;
+use std::marker::Model;
+use std::net::Net;
+use std::time::{Clock, Duration, Instant};
+
+/// How many connections are accepted in one turn, at most.
+const ACCEPTED: u32 = 32;
+
+/// After how many milliseconds the listener is asked again where the system had no room for a connection.
+const RETRY: u64 = 100;
+
+/// Why a loop ended.
+#[derive(Clone, Copy, Debug, PartialEq, Eq)]
+pub enum LoopError {
+    /// The poller failed.
+    Network,
+    /// The clock failed.
+    Clock,
+    /// The application's call of the screen was refused, or memory was.
+    Screen(ScreenError),
+}
+
+impl From<ScreenError> for LoopError {
+    fn from(refusal: ScreenError) -> LoopError {
+        LoopError::Screen(refusal)
+    }
+}
+
+impl From<AllocError> for LoopError {
+    fn from(_error: AllocError) -> LoopError {
+        LoopError::Screen(ScreenError::OutOfMemory)
+    }
+}
+
+/// What becomes of a connection that comes while as many viewers are live as may be.
+#[derive(Clone, Copy, Debug, PartialEq, Eq)]
+pub enum WhenFull {
+    /// It waits until a viewer has left.
+    Wait,
+    /// It is closed at once.
+    LetGo,
+}
+
+/// What a loop grants its viewers.
+#[derive(Clone, Copy, Debug)]
+pub struct Limits {
+    /// How many viewers may be live at once.
+    pub live_viewers: usize,
+    /// What becomes of a further one.
+    pub when_full: WhenFull,
+    /// How many viewers are served in all.
+    pub all_viewers: u64,
+    /// How long a viewer may take until it had its ServerInit (RFC 6143, 7.3.2). Then it is let go.
+    pub opening_time: Duration,
+}
+
+impl Limits {
+    /// 1,024 viewers at once, a further one waits, and without end; 10 seconds for an opening.
+    pub fn usual() -> Limits {
+        Limits {
+            live_viewers: 1024,
+            when_full: WhenFull::Wait,
+            all_viewers: u64::MAX,
+            opening_time: Duration::from_secs(10),
+        }
+    }
+}
+
+/// A screen with its viewers' sockets.
+#[derive(Drop)]
+pub struct EventLoop {
+    poller: Poller,
+    listener: TcpListener,
+    limits: Limits,
+    connections: Connections<Socket>,
+    newcomers: Newcomers,
+    // how many viewers came
+    came: u64,
+    // a connection may wait at the listener
+    may_accept: bool,
+    // the system had no room for one, and is asked again then
+    retry: Option<Instant>,
+    // another thread woke the loop
+    is_woken: bool,
+    // when the application's time comes, once it was told that it has
+    has_ticked: bool,
+    next_tick: Option<Instant>,
+}
+
+impl Model for EventLoop {
+    ghost use Rattle.connections.specs.Serving.{Serving};
+
+    ghost Value = { Serving };
+
+    ghost view = { λ a. a.connections };
+}
+
+/// What was found at a wait, besides sockets of viewers.
+#[derive(Clone, Copy, Debug)]
+struct Noted {
+    may_accept: bool,
+    is_woken: bool,
+}
+
+/// What an event says is noted.
+fn note(
+    event: &Event,
+    connections: &mut Connections<Socket>,
+    noted: &mut Noted,
+) -> Result<(), AllocError>
+    ensures served { GoesOnServing connections.old connections.new }
+{
+    match found_in(event) {
+        Found::Listener => noted.may_accept = true,
+        Found::Woken => noted.is_woken = true,
+        Found::Connection(key, readiness) => return connections.note(key, readiness),
+    }
+    Ok(())
+}
+
+/// What the poller found is noted.
+fn note_found(poller: &Poller, connections: &mut Connections<Socket>) -> Result<Noted, AllocError>
+    ensures served { GoesOnServing connections.old connections.new }
+{
+    let mut noted = Noted {
+        may_accept: false,
+        is_woken: false,
+    };
+    for event in poller.events() {
+        note(event, connections, &mut noted)?;
+    }
+    Ok(noted)
+}
+
+/// The shorter of two times, where each may be without end.
+fn shorter(one: Option<Duration>, other: Option<Duration>) -> Option<Duration> {
+    match (one, other) {
+        (Some(one), Some(other)) => Some(one.min(other)),
+        (Some(one), None) => Some(one),
+        (None, other) => other,
+    }
+}
+
+/// The clock's time.
+fn now_by<C: Clock>(clock: &C) -> Result<Instant, LoopError> {
+    Instant::now(clock).map_err(|_| LoopError::Clock)
+}
+
+impl EventLoop {
+    /// A loop that serves a screen on a listener's address: 0 everywhere, with no viewer yet. Viewers are numbered from 1 on, as they
+    /// come. Refused as `Network` where the poller is, and as `Screen` where the configuration is outside its limits.
+    pub fn new<R: Net>(
+        rt: &R,
+        alloc: Global,
+        mut listener: TcpListener,
+        config: Config,
+        limits: Limits,
+    ) -> Result<EventLoop, LoopError>
+        ensures serves { IfOk result (λ served. Serves config (sockets config) [] served) }
+        ensures accepted { OnOk result (config_refusal config ≡ None) }
+    {
+        let poller = Poller::new(rt, alloc).map_err(|_| LoopError::Network)?;
+        if poller.add_listener(&mut listener).is_err() {
+            return Err(LoopError::Network);
+        }
+        Ok(EventLoop {
+            poller,
+            listener,
+            limits,
+            connections: Connections::new(alloc, config)?,
+            newcomers: Newcomers::new(alloc, limits.opening_time),
+            came: 0,
+            may_accept: true,
+            retry: None,
+            is_woken: false,
+            has_ticked: false,
+            next_tick: None,
+        })
+    }
+
+    /// The screen, to be looked at.
+    pub fn screen(&self) -> &Screen {
+        self.connections.screen()
+    }
+
+    /// The screen to draw on. What is drawn is sent in the next turns.
+    pub fn canvas(&mut self) -> &mut Canvas
+        ensures* writes_back { sem 𝓛 (lends_canvas self.entry result) }
+        ensures value { result.now ≡ self.old.surface }
+    {
+        self.connections.canvas()
+    }
+
+    /// How many viewers are connected.
+    pub fn viewer_count(&self) -> usize {
+        self.connections.len()
+    }
+
+    /// What ends a wait from another thread: the application is told that it was woken. One loop has one waker.
+    pub fn waker(&self) -> io::Result<Waker> {
+        self.poller.waker()
+    }
+
+    /// One turn (`rfbProcessEvents` of `rfb.h`). Waits until something is ready, the application's time comes, or the time is up,
+    /// but not where something can be done at once. Then connections that came are accepted, what viewers sent is heard, and what
+    /// they are given is written, as `Connections::turn` says.
+    ///
+    /// Whatever list of events the screen stood for, it stands for it with others behind it, and by that list each viewer is served:
+    /// what waits for it is the end of what the screen with this one viewer gives it.
+    pub fn process_events<C: Clock, A: Application>(
+        &mut self,
+        clock: &C,
+        timeout: Option<Duration>,
+        application: &mut A,
+    ) -> Result<(), LoopError>
+        ensures served { GoesOnServing self.old self.new }
+    {
+        let now = self.wait(clock, timeout)?;
+        self.tell_time(now, application)?;
+        self.come_and_go(now, application)?;
+        self.turn(application)
+    }
+
+    /// Turns until the application is done.
+    pub fn run<C: Clock, A: Application>(
+        &mut self,
+        clock: &C,
+        application: &mut A,
+    ) -> Result<(), LoopError>
+        ensures served { GoesOnServing self.old self.new }
+    {
+        for _ in 0..u64::MAX {
+            if application.is_done() {
+                return Ok(());
+            }
+            self.process_events(clock, None, application)?;
+        }
+        Ok(())
+    }
+
+    /// Whether one viewer more may be live.
+    fn has_room(&self) -> bool {
+        self.connections.len() < self.limits.live_viewers
+    }
+
+    /// Whether a connection that waits is accepted.
+    fn accepts(&self) -> bool {
+        let takes = self.has_room() || self.limits.when_full == WhenFull::LetGo;
+        self.may_accept && self.came < self.limits.all_viewers && takes
+    }
+
+    /// How long a turn may wait.
+    fn wait_for(&self, now: Instant, timeout: Option<Duration>) -> Option<Duration> {
+        if !self.has_ticked || self.accepts() || self.connections.is_busy() {
+            return Some(Duration::ZERO);
+        }
+        let until = |then: Instant| then.duration_since(now);
+        let mut wait = shorter(timeout, self.newcomers.next_after(now));
+        wait = shorter(wait, self.next_tick.map(until));
+        shorter(wait, self.retry.map(until))
+    }
+
+    /// Waits until something is ready, the application's time comes, or the time is up, and notes what was found. The time that it is.
+    fn wait<C: Clock>(&mut self, clock: &C, timeout: Option<Duration>) -> Result<Instant, LoopError>
+        ensures served { GoesOnServing self.old self.new }
+    {
+        let wait = self.wait_for(now_by(clock)?, timeout);
+        if self.poller.wait(wait).is_err() {
+            return Err(LoopError::Network);
+        }
+        let noted = note_found(&self.poller, &mut self.connections)?;
+        self.may_accept |= noted.may_accept;
+        self.is_woken = noted.is_woken;
+        now_by(clock)
+    }
+
+    /// The application is told that it was woken, and that its time has come, where this is so.
+    fn tell_time<A: Application>(
+        &mut self,
+        now: Instant,
+        application: &mut A,
+    ) -> Result<(), LoopError>
+        ensures served { GoesOnServing self.old self.new }
+    {
+        self.tell_woken(application)?;
+        self.tick(now, application)
+    }
+
+    /// Connections that wait are accepted, and viewers that took too long for their opening are let go.
+    fn come_and_go<A: Application>(
+        &mut self,
+        now: Instant,
+        application: &mut A,
+    ) -> Result<(), LoopError>
+        ensures served { GoesOnServing self.old self.new }
+    {
+        self.retry(now);
+        self.accept_some(now, application)?;
+        self.let_go(now)
+    }
+
+    /// What viewers sent is heard, what they are given is written, and those that ended are parted with.
+    fn turn<A: Application>(&mut self, application: &mut A) -> Result<(), LoopError>
+        ensures served { GoesOnServing self.old self.new }
+    {
+        self.connections.turn(application)?;
+        self.part(application)
+    }
+
+    /// The application is told that it was woken, where it was.
+    fn tell_woken<A: Application>(&mut self, application: &mut A) -> Result<(), LoopError>
+        ensures served { GoesOnServing self.old self.new }
+    {
+        if !self.is_woken {
+            return Ok(());
+        }
+        self.connections.tell_woken(application)?;
+        Ok(())
+    }
+
+    /// The listener is asked again, where its time has come.
+    fn retry(&mut self, now: Instant)
+        ensures same { self.new ≡ self.old }
+    {
+        if self.retry.is_some_and(|then| then <= now) {
+            self.retry = None;
+            self.may_accept = true;
+        }
+    }
+
+    /// The application is told that its time has come, where it has.
+    fn tick<A: Application>(&mut self, now: Instant, application: &mut A) -> Result<(), LoopError>
+        ensures served { GoesOnServing self.old self.new }
+    {
+        if self.has_ticked && !self.next_tick.is_some_and(|then| then <= now) {
+            return Ok(());
+        }
+        let after = self.connections.tick(application)?;
+        self.has_ticked = true;
+        self.next_tick = after.and_then(|after| now.checked_add(after));
+        Ok(())
+    }
+
+    /// Accepts connections that wait, so many at most.
+    fn accept_some<A: Application>(
+        &mut self,
+        now: Instant,
+        application: &mut A,
+    ) -> Result<(), LoopError>
+        ensures served { GoesOnServing self.old self.new }
+    {
+        for _ in 0..ACCEPTED {
+            if !self.accepts() {
+                return Ok(());
+            }
+            self.accept(now, application)?;
+        }
+        Ok(())
+    }
+
+    /// Accepts a connection, if one waits. Where the system has no room for it, it is asked again a little later.
+    fn accept<A: Application>(&mut self, now: Instant, application: &mut A) -> Result<(), LoopError>
+        ensures served { GoesOnServing self.old self.new }
+    {
+        match self.listener.accept() {
+            Ok((stream, _address)) => return self.admit(now, stream, application),
+            Err(e) => match e.kind() {
+                ErrorKind::ConnectionAborted | ErrorKind::Interrupted => {}
+                ErrorKind::WouldBlock => self.may_accept = false,
+                _ => {
+                    self.may_accept = false;
+                    self.retry = now.checked_add(Duration::from_millis(RETRY));
+                }
+            },
+        }
+        Ok(())
+    }
+
+    /// Takes in a connection, or closes it where there is no room for it.
+    fn admit<A: Application>(
+        &mut self,
+        now: Instant,
+        mut stream: TcpStream,
+        application: &mut A,
+    ) -> Result<(), LoopError>
+        ensures served { GoesOnServing self.old self.new }
+    {
+        let key = self.connections.next_key();
+        if !self.has_room() || self.poller.add(&mut stream, key).is_err() {
+            return Ok(());
+        }
+        // Without this an answer may wait for the next one. Where the system refuses it, all else stays.
+        let _set = stream.set_nodelay(true);
+        let Ok(key) = self.connections.admit(Socket::new(stream)) else {
+            return Ok(());
+        };
+        self.came = self.came.saturating_add(1);
+        self.welcome(now, key, application)
+    }
+
+    /// A viewer has so much time for its opening, and the application is told that it came.
+    fn welcome<A: Application>(
+        &mut self,
+        now: Instant,
+        key: usize,
+        application: &mut A,
+    ) -> Result<(), LoopError>
+        ensures served { GoesOnServing self.old self.new }
+    {
+        let Some(viewer) = self.connections.viewer(key) else {
+            return Ok(());
+        };
+        if self.newcomers.push(key, viewer, now).is_err() {
+            self.connections.close(key)?;
+            return Ok(());
+        }
+        self.connections.tell_came(viewer, application)?;
+        Ok(())
+    }
+
+    /// Viewers that took too long for their opening are let go.
+    fn let_go(&mut self, now: Instant) -> Result<(), LoopError>
+        ensures served { GoesOnServing self.old self.new }
+    {
+        for _ in 0..self.newcomers.len() {
+            let Some((key, viewer)) = self.newcomers.pop_late(now) else {
+                return Ok(());
+            };
+            self.let_go_unopened(key, viewer)?;
+        }
+        Ok(())
+    }
+
+    /// A viewer is let go, unless it had its ServerInit.
+    fn let_go_unopened(&mut self, key: usize, viewer: u64) -> Result<(), LoopError>
+        ensures served { GoesOnServing self.old self.new }
+    {
+        if self.connections.viewer(key) != Some(viewer) || self.connections.is_open(key) {
+            return Ok(());
+        }
+        self.connections.close(key)?;
+        Ok(())
+    }
+
+    /// Viewers that ended are parted with, and the application is told.
+    fn part<A: Application>(&mut self, application: &mut A) -> Result<(), LoopError>
+        ensures served { GoesOnServing self.old self.new }
+    {
+        for _ in 0..self.connections.len() {
+            if !self.part_with_one(application)? {
+                return Ok(());
+            }
+        }
+        Ok(())
+    }
+
+    /// One viewer that ended is parted with. Whether there was one.
+    fn part_with_one<A: Application>(&mut self, application: &mut A) -> Result<bool, LoopError>
+        ensures served { GoesOnServing self.old self.new }
+    {
+        let Some(departed) = self.connections.take_departed() else {
+            return Ok(false);
+        };
+        self.may_accept = true;
+        self.connections.tell_left(departed.receipt, application)?;
+        Ok(true)
+    }
+}

@@ -1,0 +1,26 @@
+//! A screen served over TCP by one thread: an event loop over the readiness of sockets. No lock is taken, no thread is started, and
+//! a turn waits for as long as it is told.
+//!
+//! A program takes turns by `EventLoop::process_events` (`rfbProcessEvents` of `rfb.h`) and draws in between, or it calls
+//! `EventLoop::run`, and its application draws when it is told something, and when its time has come:
+//!
+//! ```
+//! let listener = TcpListener::bind(rt, address)?;
+//! let mut served = EventLoop::new(rt, alloc, listener, config, Limits::usual())?;
+//! served.run(rt, &mut application)?;
+//! ```
+//!
+//! No clause says what a socket delivers, or when: tests over loopback show it.
+#![tactic(auto)]
+
+mod event_loop;
+mod opening;
+mod poller;
+mod socket;
+
+pub use connections::{
+    Application, Canvas, Config, Ended, Fault, History, Input, Listed, Rect, Region, Screen,
+    ScreenError,
+};
+pub use event_loop::{EventLoop, Limits, LoopError, WhenFull};
+pub use mio::Waker;

@@ -1,0 +1,91 @@
+//! Which sockets are ready.
+
+use connections::Readiness;
+use mio::event::Event;
+use mio::net::{TcpListener, TcpStream};
+use mio::{Events, Interest, Poll, Token, Waker};
+use std::alloc::Global;
+use std::io;
+use std::net::Net;
+use std::time::Duration;
+
+/// How many sockets are reported at once, at most.
+const EVENTS: usize = 256;
+
+/// The listener's token. Connections have keys of a slab, which are smaller.
+const LISTENER: Token = Token(usize::MAX);
+
+/// The token of what other threads wake.
+const WAKER: Token = Token(usize::MAX - 1);
+
+/// Waits until sockets are ready. Each is reported once when it becomes so, and not again before it was found unready.
+#[derive(Drop)]
+pub(crate) struct Poller {
+    poll: Poll,
+    events: Events,
+}
+
+/// What an event says. It may be out of date.
+#[derive(Clone, Copy, Debug)]
+pub(crate) enum Found {
+    /// A connection waits.
+    Listener,
+    /// Another thread woke the loop.
+    Woken,
+    /// The connection with this key is ready.
+    Connection(usize, Readiness),
+}
+
+impl Poller {
+    pub fn new<R: Net>(rt: &R, alloc: Global) -> io::Result<Poller> {
+        Ok(Poller {
+            poll: Poll::new(rt)?,
+            events: Events::with_capacity(alloc, EVENTS)?,
+        })
+    }
+
+    pub fn add_listener(&self, listener: &mut TcpListener) -> io::Result<()> {
+        self.poll
+            .registry()
+            .register(listener, LISTENER, Interest::READABLE)
+    }
+
+    pub fn add(&self, stream: &mut TcpStream, key: usize) -> io::Result<()> {
+        let both = Interest::READABLE | Interest::WRITABLE;
+        self.poll.registry().register(stream, Token(key), both)
+    }
+
+    /// What ends a wait from another thread.
+    pub fn waker(&self) -> io::Result<Waker> {
+        Waker::new(self.poll.registry(), WAKER)
+    }
+
+    /// Waits until a socket is ready or the time is up.
+    pub fn wait(&mut self, timeout: Option<Duration>) -> io::Result<()> {
+        self.poll.poll(&mut self.events, timeout)
+    }
+
+    /// What was found at the last wait.
+    pub fn events(&self) -> mio::event::Iter<'_> {
+        self.events.iter()
+    }
+}
+
+/// What an event says.
+pub(crate) fn found_in(event: &Event) -> Found {
+    if event.token() == LISTENER {
+        return Found::Listener;
+    }
+    if event.token() == WAKER {
+        return Found::Woken;
+    }
+    let is_hung_up = event.is_read_closed() || event.is_error();
+    Found::Connection(
+        event.token().0,
+        Readiness {
+            may_read: event.is_readable() || is_hung_up,
+            may_write: event.is_writable() || event.is_write_closed(),
+            is_hung_up,
+        },
+    )
+}
