@@ -1,10 +1,11 @@
 //! The screen as an application draws on it.
 
-ghost use Rattle.std.specs.Prelude.{◌≡◌, ◌++◌, ◌∷◌, [], List, false, IfOk, IfSome, OnOk, OnErr};
+ghost use Rattle.std.specs.Prelude.{◌≡◌, ◌++◌, ◌∷◌, [], List, true, IfOk, IsOkUnless, OnOk, OnErr};
 ghost use Rattle.scene.specs.declared.Config.{Config};
 ghost use Rattle.scene.specs.declared.Event.{Event};
 ghost use Rattle.scene.specs.Answers.{answer_to};
-ghost use Rattle.screen.specs.State.{state};
+ghost use Rattle.scene.specs.Refusals.{Refuses};
+ghost use Rattle.screen.specs.State.{state, refusal};
 ghost use Rattle.viewer.specs.Given.{bytes_given};
 ghost use Rattle.connections.specs.Drawing.{Draws};
 
@@ -13,7 +14,7 @@ use screen::{Answer, Rect, Region, Screen, ScreenError, Update};
 use std::marker::Model;
 
 /// A screen to draw on, and whether it was drawn on since its viewers were looked at. Each drawing call is the screen's, with the
-/// same refusals; its viewers are looked at in the next turn.
+/// same refusals, and leaves the screen as it was where it is refused; its viewers are looked at in the next turn.
 #[derive(Drop)]
 pub struct Canvas {
     screen: Screen,
@@ -45,7 +46,12 @@ impl Canvas {
 
     /// `Screen::paint`.
     pub fn paint(&mut self, rect: Rect, colours: &[u32]) -> Result<(), ScreenError>
+        ensures step { (config : Config) (list : List Event) → self.old.screen ≡ state config list →
+            OnOk result (self.new.screen ≡ state config (list ++ Event.Paint rect colours.now ∷ [])) }
+        ensures refused { Refuses result (refusal self.old.screen (Event.Paint rect colours.now)) }
+        ensures err { OnErr result (self.new.screen ≡ self.old.screen) }
         ensures draws { Draws self.old self.new }
+        ensures drawn { self.new.drawn ≡ true }
     {
         self.has_drawn = true;
         self.screen.paint(rect, colours)
@@ -53,7 +59,12 @@ impl Canvas {
 
     /// `Screen::write_pixels`.
     pub fn write_pixels(&mut self, rect: Rect, colours: &[u32]) -> Result<(), ScreenError>
+        ensures step { (config : Config) (list : List Event) → self.old.screen ≡ state config list →
+            OnOk result (self.new.screen ≡ state config (list ++ Event.Write rect colours.now ∷ [])) }
+        ensures refused { Refuses result (refusal self.old.screen (Event.Write rect colours.now)) }
+        ensures err { OnErr result (self.new.screen ≡ self.old.screen) }
         ensures draws { Draws self.old self.new }
+        ensures drawn { self.new.drawn ≡ true }
     {
         self.has_drawn = true;
         self.screen.write_pixels(rect, colours)
@@ -61,7 +72,12 @@ impl Canvas {
 
     /// `Screen::mark_rect`.
     pub fn mark_rect(&mut self, x1: i32, y1: i32, x2: i32, y2: i32) -> Result<(), ScreenError>
+        ensures step { (config : Config) (list : List Event) → self.old.screen ≡ state config list →
+            OnOk result (self.new.screen ≡ state config (list ++ Event.Mark (record { x1 = x1; y1 = y1; x2 = x2; y2 = y2 } ∷ []) ∷ [])) }
+        ensures refused { IsOkUnless result ScreenError.OutOfMemory }
+        ensures err { OnErr result (self.new.screen ≡ self.old.screen) }
         ensures draws { Draws self.old self.new }
+        ensures drawn { self.new.drawn ≡ true }
     {
         self.has_drawn = true;
         self.screen.mark_rect(x1, y1, x2, y2)
@@ -69,7 +85,12 @@ impl Canvas {
 
     /// `Screen::mark_region`.
     pub fn mark_region(&mut self, region: &Region) -> Result<(), ScreenError>
+        ensures step { (config : Config) (list : List Event) → self.old.screen ≡ state config list →
+            OnOk result (self.new.screen ≡ state config (list ++ Event.Mark region.now.list ∷ [])) }
+        ensures refused { IsOkUnless result ScreenError.OutOfMemory }
+        ensures err { OnErr result (self.new.screen ≡ self.old.screen) }
         ensures draws { Draws self.old self.new }
+        ensures drawn { self.new.drawn ≡ true }
     {
         self.has_drawn = true;
         self.screen.mark_region(region)
@@ -85,7 +106,12 @@ impl Canvas {
         dx: i32,
         dy: i32,
     ) -> Result<(), ScreenError>
+        ensures step { (config : Config) (list : List Event) → self.old.screen ≡ state config list →
+            OnOk result (self.new.screen ≡ state config (list ++ Event.ScheduleCopy (record { x1 = x1; y1 = y1; x2 = x2; y2 = y2 } ∷ []) dx dy ∷ [])) }
+        ensures refused { IsOkUnless result ScreenError.OutOfMemory }
+        ensures err { OnErr result (self.new.screen ≡ self.old.screen) }
         ensures draws { Draws self.old self.new }
+        ensures drawn { self.new.drawn ≡ true }
     {
         self.has_drawn = true;
         self.screen.schedule_copy_rect(x1, y1, x2, y2, dx, dy)
@@ -98,7 +124,12 @@ impl Canvas {
         dx: i32,
         dy: i32,
     ) -> Result<(), ScreenError>
+        ensures step { (config : Config) (list : List Event) → self.old.screen ≡ state config list →
+            OnOk result (self.new.screen ≡ state config (list ++ Event.ScheduleCopy region.now.list dx dy ∷ [])) }
+        ensures refused { IsOkUnless result ScreenError.OutOfMemory }
+        ensures err { OnErr result (self.new.screen ≡ self.old.screen) }
         ensures draws { Draws self.old self.new }
+        ensures drawn { self.new.drawn ≡ true }
     {
         self.has_drawn = true;
         self.screen.schedule_copy_region(region, dx, dy)
@@ -114,7 +145,12 @@ impl Canvas {
         dx: i32,
         dy: i32,
     ) -> Result<(), ScreenError>
+        ensures step { (config : Config) (list : List Event) → self.old.screen ≡ state config list →
+            OnOk result (self.new.screen ≡ state config (list ++ Event.DoCopy (record { x1 = x1; y1 = y1; x2 = x2; y2 = y2 } ∷ []) dx dy ∷ [])) }
+        ensures refused { IsOkUnless result ScreenError.OutOfMemory }
+        ensures err { OnErr result (self.new.screen ≡ self.old.screen) }
         ensures draws { Draws self.old self.new }
+        ensures drawn { self.new.drawn ≡ true }
     {
         self.has_drawn = true;
         self.screen.do_copy_rect(x1, y1, x2, y2, dx, dy)
@@ -122,7 +158,12 @@ impl Canvas {
 
     /// `Screen::do_copy_region`.
     pub fn do_copy_region(&mut self, region: &Region, dx: i32, dy: i32) -> Result<(), ScreenError>
+        ensures step { (config : Config) (list : List Event) → self.old.screen ≡ state config list →
+            OnOk result (self.new.screen ≡ state config (list ++ Event.DoCopy region.now.list dx dy ∷ [])) }
+        ensures refused { IsOkUnless result ScreenError.OutOfMemory }
+        ensures err { OnErr result (self.new.screen ≡ self.old.screen) }
         ensures draws { Draws self.old self.new }
+        ensures drawn { self.new.drawn ≡ true }
     {
         self.has_drawn = true;
         self.screen.do_copy_region(region, dx, dy)
@@ -130,7 +171,12 @@ impl Canvas {
 
     /// `Screen::bell`.
     pub fn bell(&mut self) -> Result<(), ScreenError>
+        ensures step { (config : Config) (list : List Event) → self.old.screen ≡ state config list →
+            OnOk result (self.new.screen ≡ state config (list ++ Event.Bell ∷ [])) }
+        ensures refused { IsOkUnless result ScreenError.OutOfMemory }
+        ensures err { OnErr result (self.new.screen ≡ self.old.screen) }
         ensures draws { Draws self.old self.new }
+        ensures drawn { self.new.drawn ≡ true }
     {
         self.has_drawn = true;
         self.screen.bell()
@@ -138,7 +184,12 @@ impl Canvas {
 
     /// `Screen::cut_text`.
     pub fn cut_text(&mut self, text: &[u8]) -> Result<(), ScreenError>
+        ensures step { (config : Config) (list : List Event) → self.old.screen ≡ state config list →
+            OnOk result (self.new.screen ≡ state config (list ++ Event.CutText text.now ∷ [])) }
+        ensures refused { Refuses result (refusal self.old.screen (Event.CutText text.now)) }
+        ensures err { OnErr result (self.new.screen ≡ self.old.screen) }
         ensures draws { Draws self.old self.new }
+        ensures drawn { self.new.drawn ≡ true }
     {
         self.has_drawn = true;
         self.screen.cut_text(text)
@@ -146,7 +197,12 @@ impl Canvas {
 
     /// `Screen::new_framebuffer`.
     pub fn new_framebuffer(&mut self, width: u32, height: u32) -> Result<(), ScreenError>
+        ensures step { (config : Config) (list : List Event) → self.old.screen ≡ state config list →
+            OnOk result (self.new.screen ≡ state config (list ++ Event.Resize width height ∷ [])) }
+        ensures refused { Refuses result (refusal self.old.screen (Event.Resize width height)) }
+        ensures err { OnErr result (self.new.screen ≡ self.old.screen) }
         ensures draws { Draws self.old self.new }
+        ensures drawn { self.new.drawn ≡ true }
     {
         self.has_drawn = true;
         self.screen.new_framebuffer(width, height)
