@@ -1,16 +1,14 @@
 -- What the fields of a list say of the value that contracts see.
-use Rattle.std.proofs.Common.{◌≡◌, ℕ, suc, ◌+◌, List, [], ◌∷◌, length, Option, Some, None, refl, subst, sym, ap, ◌∙◌, arith, Contains, ◌≤◌, is_some, inl, inr, Bool, true, ◌↔◌, eqb}
-use Rattle.std.specs.Prelude.{slice_get, IfSome, MatchOption, false}
-use Rattle.std.specs.Map.{keys_of}
+use Rattle.std.proofs.Common.{◌≡◌, ℕ, suc, ◌+◌, List, [], ◌∷◌, length, Option, Some, None, refl, subst, sym, ap, ◌∙◌, arith, ◌≤◌, is_some, inl, inr, Bool, true, ◌↔◌, eqb}
+use Rattle.std.specs.Prelude.{slice_get, IfSome}
 use Rattle.std.specs.Option.{option_map}
 use Rattle.std.proofs.lemmas.Bool.{cases_lt, eq-eqb, eqb-true}
 use Rattle.std.proofs.lemmas.Option.{slice_get-get_or, same_Some}
 use Rattle.slab.specs.Slab.{Slab, get, slab_len, ContainsKey}
 use Rattle.client_list.specs.declared.links.Node.{Node}
-use Rattle.client_list.specs.Connected.{Connected, index_of, IsPosition, IsListed, pair_at, number_at, value_at, value_of, IsPositionOf, passed}
+use Rattle.client_list.specs.Connected.{Connected, index_of, IsPosition, IsListed, pair_at, number_at, value_at, passed}
 use Rattle.client_list.specs.Links.{Entry, along, node_of, positions_in, pairs_in, listed, IsHeld}
 use Rattle.client_list.specs.IndexLemmas.{index_at, contains_at}
-use Rattle.client_list.proofs.NumberLemmas.{number_absent, not_found}
 use Rattle.client_list.proofs.ChainLemmas.{listed-held, chain-first, node_at}
 
 -- a count tells whether a list is empty
@@ -117,8 +115,3 @@ module _ {T : Type 0} where
       next_there =
           let at = at_position nodes first last value shown position there in
           sym (ap (λ (n : Node T). n.next) (node_is at)) ∙ at.after_is
-
-  -- a number that no viewer has isn't in the list
-  pub free_number : (nodes : Slab (Node T)) (first last : Option ℕ) (value : Connected T) (shown : Shows nodes first last value) (number : ℕ) (o : Option ℕ) → is_some o ≡ false → MatchOption o (value_of value number ≡ None) (IsPositionOf value number) → Contains (keys_of (pairs_in shown.held.entries)) number → ⊥
-  free_number nodes first last value shown number o none found there =
-      number_absent value number (not_found value number o none found) (subst (λ (v : Connected T). Contains (keys_of v.pairs) number) (sym shown.is) there)

@@ -6,3 +6,4 @@ pub mod ChangeLemmas
 pub mod HeldLemmas
 pub mod RemovalLemmas
 pub mod TakenLemmas
+pub mod ByNumberLemmas

@@ -1,16 +1,15 @@
 -- The viewer with a number.
-use Rattle.std.proofs.Common.{◌≡◌, ◌≢◌, ℕ, ◌+◌, ◌<◌, ◌≤◌, List, [], ◌∷◌, length, Option, Some, None, refl, sym, ap, ◌∙◌, inl, inr, arith, Contains, eqb, not}
+use Rattle.std.proofs.Common.{◌≡◌, ◌≢◌, ℕ, ◌≤◌, List, [], ◌∷◌, length, Option, Some, None, refl, sym, ap, ◌∙◌, inl, inr, arith, Contains, eqb, not}
 use Rattle.std.specs.Prelude.{slice_get, MatchOption, is_some, true, false}
 use Rattle.std.specs.Option.{option_map}
 use Rattle.std.specs.List.{IsDistinct, remove, filter}
 use Rattle.std.proofs.lemmas.Map.Keys.{IsDistinct-tail}
 use Rattle.slab.proofs.SlabLemmas.{Contains-cons}
 use Rattle.std.specs.Map.{keys_of, lookup}
-use Rattle.std.proofs.lemmas.Bool.{eq-eqb, ne_eqb, cases_eq, cases_lt}
-use Rattle.std.proofs.lemmas.List.{length-map}
-use Rattle.std.proofs.lemmas.Option.{slice_get-map, slice_get_past, same_Some}
-use Rattle.client_list.specs.Connected.{Connected, index_of, index_of_number, value_of, value_at, number_at, pair_at, IsPosition, IsPositionOf, IsListed}
-use Rattle.client_list.specs.IndexLemmas.{index_below, index_at, index_within, index_read}
+use Rattle.std.proofs.lemmas.Bool.{eq-eqb, ne_eqb, cases_eq}
+use Rattle.std.proofs.lemmas.Option.{slice_get-map, slice_get_past}
+use Rattle.client_list.specs.Connected.{Connected, index_of, index_of_number, value_of, value_at, pair_at, IsPositionOf}
+use Rattle.client_list.specs.IndexLemmas.{index_read}
 use Rattle.client_list.specs.DistinctLemmas.{apart_from_first}
 
 module _ {T : Type 0} where
@@ -23,27 +22,6 @@ module _ {T : Type 0} where
         | inr differs ↦ rw (ne_eqb pair.0 number differs) (lookup-index rest number)
       ]
 
-  -- the number at a position stands at the position's index
-  number_listed : (c : Connected T) (position number : ℕ) → number_at c position ≡ Some number → slice_get (keys_of c.pairs) (index_of c.positions position) ≡ Some number
-  number_listed c position number is = slice_get-map (λ pair. pair.0) c.pairs (index_of c.positions position) ∙ is
-
-  pub number_found : (c : Connected T) (position number : ℕ) → IsListed c → IsPosition c position → number_at c position ≡ Some number → IsPositionOf c number position
-  number_found c position number listed there is =
-      (there, sym (index_at (keys_of c.pairs) (index_of c.positions position) number listed.numbers (number_listed c position number is)), is)
-
-  -- where a viewer has another number, the number's first position comes later
-  pub number_differs : (c : Connected T) (position other number : ℕ) → IsListed c → IsPosition c position → number_at c position ≡ Some other → other ≢ number → index_of c.positions position ≤ index_of_number c number → index_of c.positions position + 1 ≤ index_of_number c number
-  number_differs c position other number listed there is differs before =
-      elim (cases_lt (index_of c.positions position) (index_of_number c number)) [
-        | inl below ↦ omega arith
-        | inr past ↦
-            let same : index_of_number c number ≡ index_of c.positions position = omega arith in
-            let long : length (keys_of c.pairs) ≡ length c.pairs = length-map c.pairs (λ pair. pair.0) in
-            let within : index_of_number c number < length (keys_of c.pairs) = omega (arith, long, listed.as_many, index_within c.positions position there) in
-            let found = index_below (keys_of c.pairs) number within in
-            absurd (differs (same_Some other number (sym (number_listed c position other is) ∙ sym (ap (slice_get (keys_of c.pairs)) same) ∙ found)))
-      ]
-
   -- a number that no viewer has
   pub number_past : (c : Connected T) (number : ℕ) → length c.pairs ≤ index_of_number c number → value_of c number ≡ None
   number_past c number past = lookup-index c.pairs number ∙ ap (option_map (λ pair. pair.1)) (slice_get_past c.pairs (index_of_number c number) past)
@@ -53,7 +31,7 @@ module _ {T : Type 0} where
   value_found c position number found = ap (λ (i : ℕ). option_map (λ (pair : ℕ × T). pair.1) (slice_get c.pairs i)) found.1 ∙ sym (lookup-index c.pairs number)
 
   -- a number that no viewer has isn't among the numbers
-  pub number_absent : (c : Connected T) (number : ℕ) → value_of c number ≡ None → Contains (keys_of c.pairs) number → ⊥
+  number_absent : (c : Connected T) (number : ℕ) → value_of c number ≡ None → Contains (keys_of c.pairs) number → ⊥
   number_absent c number none there =
       let i : ℕ = index_of_number c number in
       let read : option_map (λ (pair : ℕ × T). pair.0) (slice_get c.pairs i) ≡ Some number = sym (slice_get-map (λ pair. pair.0) c.pairs i) ∙ index_read (keys_of c.pairs) number there in
@@ -88,8 +66,8 @@ module _ {T : Type 0} where
       go (Some pair) is has = (pair.1, sym (value_found c position number found) ∙ ap (option_map (λ (pair : ℕ × T). pair.1)) is)
 
   -- where a search finds no position, no viewer has the number
-  pub not_found : (c : Connected T) (number : ℕ) (o : Option ℕ) → is_some o ≡ false → MatchOption o (value_of c number ≡ None) (IsPositionOf c number) → value_of c number ≡ None
-  not_found c number None none found = found
+  pub not_found : (c : Connected T) (number : ℕ) (o : Option ℕ) → is_some o ≡ false → MatchOption o (value_of c number ≡ None) (IsPositionOf c number) → Contains (keys_of c.pairs) number → ⊥
+  not_found c number None none found = number_absent c number found
   not_found c number (Some position) none found = absurd (cc)
 
   -- where it finds a position, one has it

@@ -1,10 +1,12 @@
 -- How the links of a list lie in its slab.
-use Rattle.std.specs.Prelude.{◌≡◌, ℕ, zero, suc, nat_eq, List, [], ◌∷◌, map, length, Option, Some, None, MatchOption}
+use Rattle.std.specs.Prelude.{◌≡◌, ℕ, zero, suc, nat_eq, List, [], ◌∷◌, map, length, Option, Some, None, MatchOption, slice_get}
+use Rattle.std.specs.HashMap.{HashMap}
+use Rattle.std.specs.HashMap as hash
 use Rattle.std.specs.List.{IsDistinct}
 use Rattle.std.specs.Map.{keys_of}
 use Rattle.std.specs.Option.{option_map_or}
 use Rattle.slab.specs.Slab.{Slab, get, slab_len, Updates}
-use Rattle.client_list.specs.Connected.{Connected}
+use Rattle.client_list.specs.Connected.{Connected, index_of_number}
 use Rattle.client_list.specs.declared.links.Node.{Node}
 
 -- a position with its pair of number and value
@@ -35,6 +37,10 @@ module _ {T : Type 0} where
   abbrev pub listed : List (Entry T) → Connected T
   listed entries = record { pairs = pairs_in entries; positions = positions_in entries }
 
+  -- what lies along the next links from the first
+  abbrev pub linked : Slab (Node T) → Option ℕ → Connected T
+  linked nodes first = listed (along (get nodes) (slab_len nodes) first)
+
   -- a node with this pair lies between these links
   abbrev pub node_of : ℕ × T → Option ℕ → Option ℕ → Node T
   node_of pair previous next = record { number = pair.0; value = pair.1; previous = previous; next = next }
@@ -54,6 +60,10 @@ module _ {T : Type 0} where
     pub count : length entries ≡ slab_len nodes
     pub positions : IsDistinct nat_eq (positions_in entries)
     pub numbers : IsDistinct nat_eq (keys_of (pairs_in entries))
+
+  -- what the map has at each number is the position at which the list has it, and `None` where the list hasn't it
+  abbrev pub IsByNumber : {S : Type 0} → HashMap ℕ ℕ S → Connected T → Type 0
+  IsByNumber by_number c = (number : ℕ) → hash.get nat_eq by_number number ≡ slice_get c.positions (index_of_number c number)
 
   -- the next link of the node at a position is another, or the first link where there is no position, and nothing else changed
   abbrev pub NextChanged : Slab (Node T) → Slab (Node T) → Option ℕ → Option ℕ → Option ℕ → Option ℕ → Type 0

@@ -1,5 +1,6 @@
 //! The viewers of a screen in their order of connecting: a doubly linked list whose nodes lie in a slab and whose links
-//! are keys of it. Contracts see the list of pairs of number and value, and beside it the list of their positions.
+//! are keys of it, and a map from numbers to positions. Contracts see the list of pairs of number and value, and beside it
+//! the list of their positions.
 //!
 //! `links` has the nodes and changes their links. A walk goes from `first` by `next`, and `at_mut` may change each value
 //! on the way; `specs/WalkLemmas.antt` has what a caller's loop needs.
@@ -20,6 +21,7 @@ mod links;
 use links::{Node, add, set_next, set_previous};
 use slab::Slab;
 use std::alloc::{AllocError, Global};
+use std::collections::HashMap;
 use std::marker::Model;
 
 /// The position of a viewer in the list. It stays the viewer's until that viewer is removed.
@@ -47,6 +49,14 @@ pub enum ConnectError {
     OutOfMemory,
 }
 
+impl From<AllocError> for ConnectError {
+    ghost from_gives = { λ _ e. e ≡ OutOfMemory };
+
+    fn from(_error: AllocError) -> ConnectError {
+        ConnectError::OutOfMemory
+    }
+}
+
 /// No viewer has the number.
 #[derive(Clone, Copy, Debug, PartialEq, Eq)]
 pub struct NoViewer;
@@ -57,6 +67,7 @@ pub struct Clients<T> {
     nodes: Slab<Node<T>>,
     first: Option<Position>,
     last: Option<Position>,
+    by_number: HashMap<u64, Position>,
 }
 
 impl<T> Model for Clients<T> {
@@ -66,12 +77,11 @@ impl<T> Model for Clients<T> {
 
     ghost coded = { connected_code T.code };
 
-    ghost use Rattle.client_list.specs.Links.{listed, along, IsHeld};
-    ghost use Rattle.slab.specs.Slab.{get, slab_len};
+    ghost use Rattle.client_list.specs.Links.{linked, IsHeld, IsByNumber};
 
-    ghost view = { λ a. listed (along (get a.nodes) (slab_len a.nodes) a.first) };
+    ghost view = { λ a. linked a.nodes a.first };
 
-    ghost invariant = { λ a. IsHeld a.nodes a.first a.last };
+    ghost invariant = { λ a. IsHeld a.nodes a.first a.last × IsByNumber a.by_number (linked a.nodes a.first) };
 }
 
 impl<T> Clients<T> {
@@ -86,6 +96,7 @@ impl<T> Clients<T> {
             nodes: Slab::new(alloc),
             first: None,
             last: None,
+            by_number: HashMap::new(alloc),
         }
     }
 
@@ -165,20 +176,13 @@ impl<T> Clients<T> {
         Ok(numbers)
     }
 
-    /// The position of the viewer with a number, found by a walk.
+    /// The position of the viewer with a number, found in one look-up; `None` where no viewer has it.
     pub fn position_of(&self, number: u64) -> Option<Position>
         ensures position { result ≡ slice_get self.now.positions (index_of_number self.now number) }
         ensures found { MatchOption result (value_of self.now number ≡ None) (IsPositionOf self.now number) }
         ensures listed { IsListed self.now }
     {
-        let mut position = self.first();
-        while let Some(at) = position {
-            if self.number_at(at) == number {
-                return Some(at);
-            }
-            position = self.next(at);
-        }
-        None
+        self.by_number.get(&number).copied()
     }
 
     /// The value of the viewer with a number; `None` where no viewer has it.
@@ -212,7 +216,7 @@ impl<T> Clients<T> {
         ensures others { OnOk result (self.new.pairs ≡ filter (λ pair. not (pair.0 == number)) self.old.pairs) }
         ensures err { OnErr result (self.new ≡ self.old) }
     {
-        let Some(position) = self.position_of(number) else {
+        let Some(position) = self.by_number.remove(&number) else {
             return Err(NoViewer);
         };
         let node = self.nodes.remove(position.key);
@@ -234,9 +238,13 @@ impl<T: Drop> Clients<T> {
         if self.position_of(number).is_some() {
             return Err(ConnectError::NumberInUse);
         }
-        let position = Some(add(&mut self.nodes, number, value, self.last)?);
-        set_next(&mut self.nodes, &mut self.first, self.last, position);
-        self.last = position;
+        self.by_number.reserve(1)?;
+        let position = add(&mut self.nodes, number, value, self.last)?;
+        set_next(&mut self.nodes, &mut self.first, self.last, Some(position));
+        self.last = Some(position);
+        // The room for it was reserved.
+        let inserted: Result<_, _> = self.by_number.insert(number, position);
+        inserted.unwrap();
         Ok(())
     }
 }

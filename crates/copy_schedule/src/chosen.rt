@@ -127,7 +127,8 @@ pub fn sends_owed_alone(sets: &MarkSets, asked: &Region, width: u32, height: u32
     sets.copied.is_empty() && is_screen(asked, width, height)
 }
 
-/// What is sent where all that is wanted is owed: no more rectangles are listed than are sent.
+/// What is sent where all that is wanted is owed: no more rectangles are listed than are sent. Where they are fewer than the limit,
+/// nothing is left.
 pub fn send_owed(alloc: Global, owed: &Region, limit: u32) -> Result<Sending, AllocError>
     requires { LiesOn longest_side longest_side owed.now.list }
     ensures copies { IfOk result (λ s. s.copies.items ≡ []) }
@@ -138,6 +139,13 @@ pub fn send_owed(alloc: Global, owed: &Region, limit: u32) -> Result<Sending, Al
 {
     let copies = Vec::new(alloc);
     let pixels = first_pixels(owed, limit)?;
+    if pixels.len() < limit as usize {
+        return Ok(Sending {
+            copies,
+            pixels,
+            owed: Region::new(alloc),
+        });
+    }
     let left = left_after(alloc, owed, &copies, &pixels)?;
     Ok(Sending {
         copies,

@@ -104,9 +104,11 @@ impl Scene {
         self.viewers.len()
     }
 
-    /// How many entries of drawing stand in the log that the viewers share, besides those that were joined: at most 256.
+    /// How many entries of drawing stand in the log that the viewers share, besides those that were joined: at most 256, and 0 where
+    /// no viewer lacks one.
     pub fn log_len(&self) -> usize
-        ensures { result ≤ 256 }
+        ensures few { result ≤ 256 }
+        ensures none { length self.now.viewers ≡ 0 → result ≡ 0 }
     {
         self.viewers.log_len()
     }

@@ -34,8 +34,8 @@ rectangles_left e f moves rectangles Nothing = kept_bytes e f moves rectangles
 rectangles_left e f moves rectangles (Before next) = flat_map (coloured_bytes e f) (drop next rectangles)
 rectangles_left e f moves rectangles (Within next begun) = rest_within e f begun (drop next rectangles)
 
-abbrev pub left_of : Rectangles → PixelFormat → Reached → List ℕ
-left_of r f reached = rectangles_left r.encoding f r.moves.items r.coloured.items reached
+abbrev pub left_of : Rectangles → Reached → List ℕ
+left_of r reached = rectangles_left r.encoding r.format r.moves.items r.coloured.items reached
 
 -- there is a first rectangle, of which something is left
 abbrev pub GoesOn : Begun → List Coloured → Type 0

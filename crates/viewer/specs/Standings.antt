@@ -1,4 +1,5 @@
 -- How what is kept of a viewer is seen.
+use Rattle.std.specs.Prelude.{unwrap_or}
 use Rattle.viewer.specs.declared.standing.Standing.{Standing}
 use Rattle.viewer.specs.declared.standing.Draft.{Draft}
 use Rattle.viewer.specs.Given.{marks_put}
@@ -10,4 +11,4 @@ viewer_in s = record { heard = s.ear; format = s.format; map_owed = s.map_owed; 
 
 -- the same with what a draft changes
 abbrev pub viewer_by : Standing → Draft → KeptViewer
-viewer_by s d = record { heard = s.ear; format = d.format; map_owed = d.map_owed; encoding = d.encoding; uses_copyrect = d.uses_copyrect; takes_sizes = d.takes_sizes; told = d.told; marks = marks_put s.marks d.marks; notices = s.notices }
+viewer_by s d = record { heard = s.ear; format = unwrap_or d.format s.format; map_owed = d.map_owed; encoding = d.encoding; uses_copyrect = d.uses_copyrect; takes_sizes = d.takes_sizes; told = d.told; marks = marks_put s.marks d.marks; notices = s.notices }

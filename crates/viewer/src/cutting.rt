@@ -19,11 +19,12 @@ use crate::hearing::tells_size;
 use crate::parts::{Coloured, Moved, Part, Rectangles};
 use crate::sizes::Size;
 use crate::standing::{Planned, Standing, put_marks};
+use crate::translation::Translation;
 use crate::update::{Update, encode_all};
 use copy_schedule::{Cut, Marks, PreparedCut};
 use framebuffer::{Block, Framebuffer, block_within};
 use messages::Encoding;
-use pixel_translate::{Area, PixelFormat};
+use pixel_translate::Area;
 use region::Rect;
 use std::alloc::{AllocError, Global};
 
@@ -116,7 +117,7 @@ fn rectangles_of(
     alloc: Global,
     picture: &mut Framebuffer,
     encoding: Encoding,
-    format: PixelFormat,
+    format: Translation,
     cut: &Cut,
 ) -> Result<Rectangles, AllocError>
     requires width { picture.old.width ≤ longest_side }
@@ -169,7 +170,8 @@ fn plan_places(
             marks: None,
         });
     };
-    let rectangles = rectangles_of(alloc, picture, standing.encoding, standing.format, &cut)?;
+    let format = standing.format.share()?;
+    let rectangles = rectangles_of(alloc, picture, standing.encoding, format, &cut)?;
     Ok(Planned {
         part: Part::Places(rectangles),
         told: standing.told,

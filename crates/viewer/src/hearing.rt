@@ -1,6 +1,6 @@
 //! What a viewer's messages do to it, and what it is answered.
 
-ghost use Rattle.std.specs.Prelude.{◌≡◌, ◌&&◌, ◌||◌, ℕ, List, All, OnErr, ◌++◌, ◌<◌, ◌≤◌, ◌^◌, [], length, not, if◌then◌else◌};
+ghost use Rattle.std.specs.Prelude.{◌≡◌, ◌&&◌, ◌||◌, ℕ, List, All, OnErr, IfSome, ◌++◌, ◌∷◌, ◌<◌, ◌≤◌, ◌^◌, [], length, not, if◌then◌else◌};
 ghost use Rattle.std.specs.Prelude.{vec_len, vec_capacity, IfOk, OnOk};
 ghost use Rattle.std.specs.List.{filter_map};
 ghost use Rattle.messages.specs.Reading.{rest, new_items, is_open_rest};
@@ -18,11 +18,12 @@ ghost use Rattle.viewer.specs.Given.{marks_put};
 use crate::Reply;
 use crate::notices::Notices;
 use crate::sizes::{Size, clipped, view_by};
-use crate::standing::{Draft, Standing, put_marks};
+use crate::standing::{Draft, Standing, put_format, put_marks};
+use crate::translation::Translation;
 use copy_schedule::{LogEntry, Marks, joined_log};
 use listed::Listed;
 use messages::{Desktop, Ear, Encoding, Input, Item, Prepared, greetings};
-use pixel_translate::PixelFormat;
+use pixel_translate::{Area, PixelFormat};
 use region::Rect;
 use std::alloc::{AllocError, Global};
 
@@ -65,7 +66,8 @@ pub fn is_pending(standing: &Standing, log: &[LogEntry]) -> bool
             || standing.marks.pending_after(log))
 }
 
-/// A viewer's marks once they know the drawing of a log; None where the log has none.
+/// A viewer's marks once they know the drawing of a log, whose entries are joined first where there are several; None where the log
+/// has none.
 fn marks_after(
     alloc: Global,
     standing: &Standing,
@@ -78,6 +80,10 @@ fn marks_after(
     if log.is_empty() {
         return Ok(None);
     }
+    if log.len() == 1 {
+        let prepared = standing.marks.apply_log(log, standing.uses_copyrect)?;
+        return Ok(Some(prepared.into_marks()));
+    }
     let joined = joined_log(alloc, log, standing.uses_copyrect)?;
     let prepared = standing.marks.apply_log(&joined, standing.uses_copyrect)?;
     Ok(Some(prepared.into_marks()))
@@ -89,7 +95,7 @@ fn draft_of(alloc: Global, standing: &Standing, log: &[LogEntry]) -> Result<Draf
     ensures { IfOk result (λ draft. viewer_by standing.now draft ≡ viewer_told log.now (viewer_in standing.now)) }
 {
     Ok(Draft {
-        format: standing.format,
+        format: None,
         map_owed: standing.map_owed,
         encoding: standing.encoding,
         uses_copyrect: standing.uses_copyrect,
@@ -157,13 +163,18 @@ fn take_request(
 
 /// What a viewer's message does to it (RFC 6143, 7.5). With a format the colour map is owed, or is owed no longer. Its ClientInit is
 /// answered with the screen's size, and its requests are cut to what it sees of the screen.
-fn take_item(draft: &mut Draft, standing: &Standing, item: &Item) -> Result<(), AllocError>
+fn take_item(
+    alloc: Global,
+    draft: &mut Draft,
+    standing: &Standing,
+    item: &Item,
+) -> Result<(), AllocError>
     ensures { OnOk result (viewer_by standing.now draft.new ≡
         after_item standing.now.marks.width standing.now.marks.height item.now (viewer_by standing.now draft.old)) }
 {
     match item {
         Item::Format(format) => {
-            draft.format = *format;
+            draft.format = Some(Translation::new(alloc, format)?);
             draft.map_owed = format.is_colour_map();
             Ok(())
         }
@@ -198,7 +209,7 @@ fn draft_after(
 {
     let mut draft = draft_of(alloc, standing, log)?;
     for item in items {
-        take_item(&mut draft, standing, item)?;
+        take_item(alloc, &mut draft, standing, item)?;
     }
     Ok(draft)
 }
@@ -213,7 +224,7 @@ pub fn new_standing(alloc: Global, width: u32, height: u32) -> Result<Standing, 
 {
     Ok(Standing {
         ear: Ear::new(alloc),
-        format: PixelFormat::server(),
+        format: Translation::new(alloc, &PixelFormat::server())?,
         map_owed: false,
         encoding: Encoding::Raw,
         uses_copyrect: false,
@@ -243,13 +254,62 @@ fn inputs_of(mut items: Vec<Item>, mut inputs: Vec<Input>) -> Vec<Input>
 fn put_draft(standing: &mut Standing, draft: Draft)
     ensures { viewer_in standing.new ≡ viewer_by standing.old draft }
 {
-    standing.format = draft.format;
+    put_format(standing, draft.format);
     standing.map_owed = draft.map_owed;
     standing.encoding = draft.encoding;
     standing.uses_copyrect = draft.uses_copyrect;
     standing.takes_sizes = draft.takes_sizes;
     standing.told = draft.told;
     put_marks(standing, draft.marks);
+}
+
+/// The request that is all of what was heard, if it is.
+fn only_request(items: &[Item]) -> Option<(bool, Area)>
+    ensures { IfSome result (λ r. items.now ≡ Item.Request r.0 r.1 ∷ []) }
+{
+    match items {
+        [Item::Request { incremental, area }] => Some((*incremental, *area)),
+        _ => None,
+    }
+}
+
+/// The viewer's FramebufferUpdateRequest (RFC 6143, 7.5.3), taken where its marks stand. After an `AllocError` it is as it was.
+fn take_request_in_place(
+    standing: &mut Standing,
+    incremental: bool,
+    area: Area,
+) -> Result<(), AllocError>
+    ensures ok { OnOk result (viewer_in standing.new ≡
+        after_item standing.old.marks.width standing.old.marks.height (Item.Request incremental area) (viewer_in standing.old)) }
+    ensures ear { standing.new.ear ≡ standing.old.ear }
+    ensures err { OnErr result (standing.new ≡ standing.old) }
+{
+    let view = view_by(screen_of(standing), standing.told);
+    standing.marks.request(clipped(view, area), incremental)
+}
+
+/// What was heard is taken by a viewer, once its marks know the drawing of a log. After an `AllocError` it is as it was. A request
+/// alone, which is what most viewers say most of the time, needs no copy of the marks.
+fn take_items(
+    alloc: Global,
+    standing: &mut Standing,
+    log: &[LogEntry],
+    items: &[Item],
+) -> Result<(), AllocError>
+    requires cut { All (IsCutEntry standing.old.marks.width standing.old.marks.height) log.now }
+    ensures ok { OnOk result (viewer_in standing.new ≡
+        after_items standing.old.marks.width standing.old.marks.height items.now (viewer_told log.now (viewer_in standing.old))) }
+    ensures ear { standing.new.ear ≡ standing.old.ear }
+    ensures err { OnErr result (standing.new ≡ standing.old) }
+{
+    if log.is_empty()
+        && let Some((incremental, area)) = only_request(items)
+    {
+        return take_request_in_place(standing, incremental, area);
+    }
+    let draft = draft_after(alloc, standing, log, items)?;
+    put_draft(standing, draft);
+    Ok(())
 }
 
 /// A viewer's piece is heard, once its marks know the drawing of a log: what it is answered. All growths are made before the
@@ -282,8 +342,7 @@ pub fn hear_in(
     };
     let bytes = greetings(alloc, &desktop, standing.ear.phase(), &items)?;
     let room = Vec::with_capacity(alloc, items.len())?;
-    let draft = draft_after(alloc, standing, log, &items)?;
-    put_draft(standing, draft);
+    take_items(alloc, standing, log, &items)?;
     standing.ear.commit(change);
     Ok(Reply {
         bytes: Listed::from_vec(bytes),

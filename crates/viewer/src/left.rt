@@ -44,7 +44,6 @@ pub enum Reached {
 pub struct RectanglesLeft {
     alloc: Global,
     rectangles: Rectangles,
-    table: Table,
     reached: Reached,
 }
 
@@ -54,7 +53,7 @@ impl Model for RectanglesLeft {
 
     ghost Value = { List ℕ };
 
-    ghost view = { λ a. left_of a.rectangles a.table a.reached };
+    ghost view = { λ a. left_of a.rectangles a.reached };
 
     ghost invariant = { λ a. IsWithin a.rectangles.coloured.items a.reached };
 }
@@ -195,16 +194,16 @@ fn put_next(
     alloc: Global,
     out: &mut Vec<u8>,
     rectangles: &Rectangles,
-    table: &Table,
     reached: Reached,
 ) -> Result<Reached, AllocError>
     requires { IsWithin rectangles.now.coloured.items reached }
-    ensures bytes { IfOk result (λ r. out.new.items ++ left_of rectangles.now table.now r ≡
-        out.old.items ++ left_of rectangles.now table.now reached) }
-    ensures more { OnOk result (left_of rectangles.now table.now reached ≢ [] → length out.old.items < length out.new.items) }
+    ensures bytes { IfOk result (λ r. out.new.items ++ left_of rectangles.now r ≡
+        out.old.items ++ left_of rectangles.now reached) }
+    ensures more { OnOk result (left_of rectangles.now reached ≢ [] → length out.old.items < length out.new.items) }
     ensures within { IfOk result (λ r. IsWithin rectangles.now.coloured.items r) }
 {
     let coloured = &rectangles.coloured;
+    let table = rectangles.format.table();
     match reached {
         Reached::Nothing => {
             put_opening(out, rectangles)?;
@@ -230,18 +229,18 @@ fn put_next(
 fn put_run(
     out: &mut Vec<u8>,
     rectangles: &Rectangles,
-    table: &Table,
     next: usize,
     done: usize,
 ) -> Result<Reached, AllocError>
     requires { IsWithin rectangles.now.coloured.items (so_far.Within next (begun.Colours done)) }
-    ensures bytes { IfOk result (λ r. out.new.items ++ left_of rectangles.now table.now r ≡
-        out.old.items ++ left_of rectangles.now table.now (so_far.Within next (begun.Colours done))) }
+    ensures bytes { IfOk result (λ r. out.new.items ++ left_of rectangles.now r ≡
+        out.old.items ++ left_of rectangles.now (so_far.Within next (begun.Colours done))) }
     ensures more { OnOk result (length out.old.items < length out.new.items) }
     ensures bound { OnOk result (length out.new.items ≤ length out.old.items + 8192) }
     ensures within { IfOk result (λ r. IsWithin rectangles.now.coloured.items r) }
     ensures err { OnErr result (out.new.items ≡ out.old.items) }
 {
+    let table = rectangles.format.table();
     let begun = go_on_in_raw(out, &rectangles.coloured[next], table, done)?;
     Ok(reached_after(next, begun))
 }
@@ -251,11 +250,9 @@ impl RectanglesLeft {
     pub fn new(alloc: Global, rectangles: Rectangles) -> RectanglesLeft
         ensures { result ≡ rectangles_bytes rectangles }
     {
-        let table = Table::new(&rectangles.format);
         RectanglesLeft {
             alloc,
             rectangles,
-            table,
             reached: Reached::Nothing,
         }
     }
@@ -277,7 +274,7 @@ impl RectanglesLeft {
         ensures more { OnOk result (self.old ≢ [] → length out.old.items < length out.new.items) }
         ensures err { OnErr result (self.new ≡ self.old) }
     {
-        self.reached = put_next(self.alloc, out, &self.rectangles, &self.table, self.reached)?;
+        self.reached = put_next(self.alloc, out, &self.rectangles, self.reached)?;
         Ok(())
     }
 
@@ -294,7 +291,7 @@ impl RectanglesLeft {
         let Reached::Within(next, Begun::Colours(done)) = self.reached else {
             return Ok(false);
         };
-        self.reached = put_run(out, &self.rectangles, &self.table, next, done)?;
+        self.reached = put_run(out, &self.rectangles, next, done)?;
         Ok(true)
     }
 }

@@ -2,8 +2,8 @@
 //! what it is sent.
 //!
 //! `standing` is what is kept of a viewer, `hearing` what its messages do to it, `cutting` and `update` one update, `notices`
-//! what goes before the rectangles of an update. `colours` are those of one rectangle. `left` is what of an update is still to
-//! be encoded, and `stream` gives an update in pieces.
+//! what goes before the rectangles of an update. `colours` are those of one rectangle, and `translation` is the viewer's format with
+//! what makes pixels of them. `left` is what of an update is still to be encoded, and `stream` gives an update in pieces.
 #![tactic(auto)]
 
 mod colours;
@@ -15,6 +15,7 @@ mod parts;
 mod sizes;
 mod standing;
 mod stream;
+mod translation;
 mod update;
 mod viewer;
 

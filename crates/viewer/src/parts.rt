@@ -4,8 +4,9 @@ ghost use Rattle.std.specs.Prelude.{◌≡◌, ◌↔◌, IsTrue, ◌≤◌, ◌
 
 use crate::colours::Colours;
 use crate::sizes::Size;
+use crate::translation::Translation;
 use messages::Encoding;
-use pixel_translate::{Area, PixelFormat};
+use pixel_translate::Area;
 
 /// A rectangle whose pixels the viewer moves from a source of the same size.
 #[derive(Drop)]
@@ -31,7 +32,7 @@ pub struct Coloured {
 #[derive(Drop)]
 pub struct Rectangles {
     pub encoding: Encoding,
-    pub format: PixelFormat,
+    pub format: Translation,
     pub moves: Vec<Moved>,
     pub coloured: Vec<Coloured>,
     ghost few: { length moves.items + length coloured.items < 2 ^ 16 },

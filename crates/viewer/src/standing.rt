@@ -1,20 +1,20 @@
 //! What is kept of a viewer, and what an event would make of it.
 
-ghost use Rattle.std.specs.Prelude.{◌≡◌};
+ghost use Rattle.std.specs.Prelude.{◌≡◌, unwrap_or};
 ghost use Rattle.viewer.specs.Given.{marks_put};
 
 use crate::notices::Notices;
 use crate::parts::Part;
 use crate::sizes::Size;
+use crate::translation::Translation;
 use copy_schedule::Marks;
 use messages::{Ear, Encoding};
-use pixel_translate::PixelFormat;
 
 /// What is kept of a viewer: of its bytes, what it asked for, its marks, and the notices that wait for it.
 #[derive(Drop)]
 pub struct Standing {
     pub ear: Ear,
-    pub format: PixelFormat,
+    pub format: Translation,
     /// The colour map that its format needs has not been sent yet (RFC 6143, 7.6.2).
     pub map_owed: bool,
     pub encoding: Encoding,
@@ -36,16 +36,25 @@ pub struct Planned {
     pub marks: Option<Marks>,
 }
 
-/// What changes of a viewer by its messages; its marks stand here only where they change.
+/// What changes of a viewer by its messages; its format and its marks stand here only where they change.
 #[derive(Drop)]
 pub struct Draft {
-    pub format: PixelFormat,
+    pub format: Option<Translation>,
     pub map_owed: bool,
     pub encoding: Encoding,
     pub uses_copyrect: bool,
     pub takes_sizes: bool,
     pub told: Option<Size>,
     pub marks: Option<Marks>,
+}
+
+/// The viewer's format is this one from now on, if there is one.
+pub fn put_format(standing: &mut Standing, format: Option<Translation>)
+    ensures { standing.new ≡ record standing.old { format = unwrap_or format standing.old.format } }
+{
+    if let Some(format) = format {
+        standing.format = format;
+    }
 }
 
 /// The viewer's marks are these from now on, if there are any.

@@ -106,8 +106,8 @@ fn put_rectangles(out: &mut Vec<u8>, rectangles: &Rectangles) -> Result<(), Allo
         out.reserve(size_of(&rectangles.coloured).saturating_add(4 + 16 * rectangles.moves.len()))?;
     }
     put_opening(out, rectangles)?;
-    let table = Table::new(&rectangles.format);
-    put_coloured(out, &rectangles.coloured, rectangles.encoding, &table)
+    let table = rectangles.format.table();
+    put_coloured(out, &rectangles.coloured, rectangles.encoding, table)
 }
 
 /// Appends the colour map where it is owed (RFC 6143, 7.6.2).

@@ -122,7 +122,19 @@ pub fn catch_up_sharing(
     Ok(())
 }
 
-/// The viewer's marks take what they lack of the log. After an `AllocError` they lack it still.
+/// The viewer's marks take the entries that they lack as these stand. After an `AllocError` they lack them still.
+fn take_lacked(log: &[LogEntry], lagging: &mut Lagging) -> Result<(), AllocError>
+    requires { Fits log.now lagging.old }
+    ensures ok { OnOk result (lagging.new ≡ up_to_date log.now lagging.old) }
+    ensures err { OnErr result (lagging.new ≡ lagging.old) }
+{
+    let prepared = lagging.viewer.apply_log(lacked(log, lagging))?;
+    lagging.viewer.commit(prepared);
+    lagging.taken = log.len();
+    Ok(())
+}
+
+/// The viewer's marks take what they lack of the log, in fewer entries where it is several. After an `AllocError` they lack it still.
 pub fn catch_up(lagging: &mut Lagging, log: &[LogEntry]) -> Result<(), AllocError>
     requires { Fits log.now lagging.old }
     ensures ok { OnOk result (lagging.new ≡ up_to_date log.now lagging.old) }
@@ -130,6 +142,9 @@ pub fn catch_up(lagging: &mut Lagging, log: &[LogEntry]) -> Result<(), AllocErro
 {
     if !lags(log, lagging) {
         return Ok(());
+    }
+    if lacked(log, lagging).len() == 1 {
+        return take_lacked(log, lagging);
     }
     let shared = shared_for(log, lagging)?;
     take(log, &shared, lagging)
@@ -170,7 +185,7 @@ pub fn is_pending_one(lagging: &Lagging, log: &[LogEntry]) -> bool
     lagging.viewer.is_pending_after(lacked(log, lagging))
 }
 
-/// An update is cut for the viewer, once its marks have caught up.
+/// An update is cut for the viewer, once its marks have caught up. Where it would have nothing to send, they needn't.
 pub fn cut_one(
     lagging: &mut Lagging,
     log: &[LogEntry],
@@ -190,6 +205,9 @@ pub fn cut_one(
     ensures fits { Fits log.now lagging.new }
     ensures err { OnErr result (caught_up log.now lagging.new ≡ caught_up log.now lagging.old) }
 {
+    if !is_pending_one(lagging, log) {
+        return Ok(None);
+    }
     catch_up(lagging, log)?;
     lagging.viewer.cut(picture, limit)
 }

@@ -12,7 +12,7 @@
 //! an update cut since the last time. So viewers that ask for nothing add nothing to what a drawing call costs, however many they
 //! are. Joined entries between which no viewer stands become one once the later is at least half as large, so that each call's
 //! places are joined again only as often as what is joined doubles. Where 64 of them stand, or where a copy is among the entries,
-//! all viewers catch up in place of that, and the log is emptied. It is emptied, too, when no viewer lags.
+//! all viewers catch up in place of that, and the log is emptied. It is emptied, too, where no viewer lags when a drawing call comes.
 //!
 //! `lagging` is one viewer, `walks` what is done for each viewer in turn, `joining` how the log stays short, `notices` are the
 //! viewers' bells and texts, and `resizing` is a new size of the screen.
@@ -109,10 +109,14 @@ impl ViewerList {
         self.viewers.is_empty()
     }
 
-    /// How many entries of drawing the log has besides joined ones, at most 256.
+    /// How many entries of drawing the log has besides joined ones, at most 256; 0 where no viewer lacks one.
     pub fn log_len(&self) -> usize
-        ensures { result ≤ 256 }
+        ensures few { result ≤ 256 }
+        ensures none { length self.now.pairs ≡ 0 → result ≡ 0 }
     {
+        if self.viewers.is_empty() || !some_lags(&self.log, &self.viewers) {
+            return 0;
+        }
         self.log.len() - self.joined
     }
 
@@ -182,9 +186,10 @@ impl ViewerList {
         ensures found { MatchResult result (λ _. viewer_of self.old number ≢ None) (λ _. viewer_of self.old number ≡ None) }
         ensures err { OnErr result (self.new ≡ self.old) }
     {
-        self.take_out(number)?;
-        self.tidy();
-        Ok(())
+        match self.viewers.remove(number) {
+            Ok(_) => Ok(()),
+            Err(error) => Err(error),
+        }
     }
 
     /// Each viewer keeps a Bell, where it is open and fewer than 64 notices wait. This takes no memory.
@@ -227,6 +232,7 @@ impl ViewerList {
         ensures same { self.new.pairs ≡ self.old.pairs }
         ensures ok { OnOk result (1 ≤ self.new.room) }
     {
+        self.tidy();
         if self.log.len() - self.joined >= MOST {
             self.joined = join_entries(self.alloc, &mut self.viewers, &mut self.log, self.joined)?;
         }
@@ -267,109 +273,6 @@ impl ViewerList {
         ensures size { (w h : ℕ) → All (IsOfSize w h) (values_of self.old.pairs) → All (IsOfSize w h) (values_of self.new.pairs) }
         ensures err { OnErr result (self.new.pairs ≡ self.old.pairs) }
     {
-        let reply = self.hear_viewer(number, name, piece)?;
-        self.tidy();
-        Ok(reply)
-    }
-
-    /// Cuts an update of the picture for the viewer with a number, with at most so many copies and so many rectangles of colours;
-    /// None where no viewer has the number, or `Some(None)` where there is nothing to send. After an `AllocError` the viewers are
-    /// as they were.
-    pub fn cut(
-        &mut self,
-        number: u64,
-        picture: &mut Framebuffer,
-        limit: u32,
-    ) -> Result<Option<Option<Update>>, AllocError>
-        requires limit { limit ≤ 1000 }
-        requires width { (v : KeptViewer) → viewer_of self.old number ≡ Some v → v.marks.width ≡ picture.old.width }
-        requires height { (v : KeptViewer) → viewer_of self.old number ≡ Some v → v.marks.height ≡ picture.old.height }
-        ensures same { picture.new ≡ picture.old }
-        ensures absent { viewer_of self.old number ≡ None → result ≡ Ok None }
-        ensures none { viewer_of self.old number ≡ None → self.new.pairs ≡ self.old.pairs }
-        ensures bytes { (v : KeptViewer) → viewer_of self.old number ≡ Some v →
-            IfOk result (λ update. option_map bytes_given update ≡
-            Some (sending_kept picture.old.width picture.old.height limit picture.old.colours v).0) }
-        ensures viewer { (v : KeptViewer) → viewer_of self.old number ≡ Some v →
-            OnOk result (self.new.pairs ≡ with_viewer self.old number
-            (sending_kept picture.old.width picture.old.height limit picture.old.colours v).1) }
-        ensures some { IfOk result (λ update. IfSome update (λ u. IfSome u (λ bytes. bytes ≢ []))) }
-        ensures err { OnErr result (self.new.pairs ≡ self.old.pairs) }
-    {
-        let update = self.cut_viewer(number, picture, limit)?;
-        self.tidy();
-        Ok(update)
-    }
-
-    /// The same, encoded before the viewer changes; no bytes where there is nothing to send.
-    pub fn cut_bytes(
-        &mut self,
-        number: u64,
-        picture: &mut Framebuffer,
-        limit: u32,
-    ) -> Result<Option<Vec<u8>>, AllocError>
-        requires limit { limit ≤ 1000 }
-        requires width { (v : KeptViewer) → viewer_of self.old number ≡ Some v → v.marks.width ≡ picture.old.width }
-        requires height { (v : KeptViewer) → viewer_of self.old number ≡ Some v → v.marks.height ≡ picture.old.height }
-        ensures same { picture.new ≡ picture.old }
-        ensures absent { viewer_of self.old number ≡ None → result ≡ Ok None }
-        ensures none { viewer_of self.old number ≡ None → self.new.pairs ≡ self.old.pairs }
-        ensures bytes { (v : KeptViewer) → viewer_of self.old number ≡ Some v →
-            IfOk result (λ bytes. option_map (λ b. b.items) bytes ≡
-            Some (sending_kept picture.old.width picture.old.height limit picture.old.colours v).0) }
-        ensures viewer { (v : KeptViewer) → viewer_of self.old number ≡ Some v →
-            OnOk result (self.new.pairs ≡ with_viewer self.old number
-            (sending_kept picture.old.width picture.old.height limit picture.old.colours v).1) }
-        ensures err { OnErr result (self.new.pairs ≡ self.old.pairs) }
-    {
-        let bytes = self.cut_bytes_viewer(number, picture, limit)?;
-        self.tidy();
-        Ok(bytes)
-    }
-
-    // The log is emptied where no viewer lacks an entry.
-    fn tidy(&mut self)
-        ensures { self.new.pairs ≡ self.old.pairs }
-    {
-        if self.log.is_empty() {
-            return;
-        }
-        if !some_lags(&self.log, &self.viewers) {
-            start_anew(&mut self.viewers, &mut self.log);
-            self.joined = 0;
-        }
-    }
-
-    fn take_out(&mut self, number: u64) -> Result<(), NoViewer>
-        ensures ok { OnOk result (self.new.pairs ≡ filter (λ pair. not (pair.0 == number)) self.old.pairs) }
-        ensures found { MatchResult result (λ _. viewer_of self.old number ≢ None) (λ _. viewer_of self.old number ≡ None) }
-        ensures err { OnErr result (self.new ≡ self.old) }
-    {
-        match self.viewers.remove(number) {
-            Ok(_) => Ok(()),
-            Err(error) => Err(error),
-        }
-    }
-
-    fn hear_viewer(
-        &mut self,
-        number: u64,
-        name: &[u8],
-        piece: &[u8],
-    ) -> Result<Option<Reply>, AllocError>
-        requires { length name.now ≤ u32.MAX }
-        ensures found { IfOk result (λ reply. is_some reply ≡ is_some (viewer_of self.old number)) }
-        ensures absent { viewer_of self.old number ≡ None → result ≡ Ok None }
-        ensures none { viewer_of self.old number ≡ None → self.new.pairs ≡ self.old.pairs }
-        ensures reply { (v : KeptViewer) (before : List ℕ) → viewer_of self.old number ≡ Some v → v.heard ≡ rest before →
-            IfOk result (λ reply. reply ≡ Some (heard_reply v.marks.width v.marks.height name.now before piece.now)) }
-        ensures viewer { (v : KeptViewer) (before : List ℕ) → viewer_of self.old number ≡ Some v → v.heard ≡ rest before →
-            OnOk result (self.new.pairs ≡ with_viewer self.old number
-            (after_items v.marks.width v.marks.height (new_items before piece.now)
-            (record v { heard = rest (before ++ piece.now) }))) }
-        ensures size { (w h : ℕ) → All (IsOfSize w h) (values_of self.old.pairs) → All (IsOfSize w h) (values_of self.new.pairs) }
-        ensures err { OnErr result (self.new.pairs ≡ self.old.pairs) }
-    {
         let Some(lagging) = self.viewers.get_mut(number) else {
             return Ok(None);
         };
@@ -377,7 +280,10 @@ impl ViewerList {
         Ok(Some(reply))
     }
 
-    fn cut_viewer(
+    /// Cuts an update of the picture for the viewer with a number, with at most so many copies and so many rectangles of colours;
+    /// None where no viewer has the number, or `Some(None)` where there is nothing to send. After an `AllocError` the viewers are
+    /// as they were.
+    pub fn cut(
         &mut self,
         number: u64,
         picture: &mut Framebuffer,
@@ -405,7 +311,8 @@ impl ViewerList {
         Ok(Some(update))
     }
 
-    fn cut_bytes_viewer(
+    /// The same, encoded before the viewer changes; no bytes where there is nothing to send.
+    pub fn cut_bytes(
         &mut self,
         number: u64,
         picture: &mut Framebuffer,
@@ -430,5 +337,18 @@ impl ViewerList {
         };
         let bytes = cut_bytes_one(lagging, &self.log, picture, limit)?;
         Ok(Some(bytes))
+    }
+
+    // The log is emptied where no viewer lacks an entry.
+    fn tidy(&mut self)
+        ensures { self.new.pairs ≡ self.old.pairs }
+    {
+        if self.log.is_empty() {
+            return;
+        }
+        if !some_lags(&self.log, &self.viewers) {
+            start_anew(&mut self.viewers, &mut self.log);
+            self.joined = 0;
+        }
     }
 }

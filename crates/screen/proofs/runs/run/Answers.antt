@@ -1,7 +1,8 @@
-use Rattle.std.proofs.Common.{◌≡◌, List, Option, None, Some, Result, Ok, Err, MatchOption, refl, sym, subst, arith}
+use Rattle.std.proofs.Common.{◌≡◌, List, Option, None, Some, Result, Ok, Err, MatchOption, MatchResult, refl, sym, subst, arith, rules}
 use Rattle.std.proofs.lemmas.Grind.{common_steps}
 use Rattle.scene.specs.declared.Answer.{Answer}
 use Rattle.scene.specs.declared.ScreenError.{ScreenError}
+use Rattle.scene.specs.declared.ScreenError.TheVariants.{OutOfMemory}
 use Rattle.scene.specs.Alone.{config_refusal}
 use Rattle.scene.specs.Answers.{answers}
 use Rattle.scene.specs.Pictures.{ShowPictures, HaveMaps}
@@ -34,3 +35,15 @@ returns-clause-answers c =
     let given : c.loop-event.given.items ≡ answers c.args.config c.args.events.now = (let h = c.loop-event in grind (arith, common_steps)) in
     let accepted : config_refusal c.args.config ≡ None = no-refusal _ _ _ c.in_ok-screen.ensures.refused in
     as-made (config_refusal c.args.config) (c.loop-event.given.items ≡ answers c.args.config c.args.events.now) (λ e. ◌≡◌ {A = Result _ ScreenError} (Ok c.loop-event.given) (Err e)) accepted given
+
+pub returns-in_err-answer-clause-answers : goal.returns-in_err-answer-clause-answers
+returns-in_err-answer-clause-answers c =
+    let r = c.from_residual-in_err-answer.result in
+    let accepted : config_refusal c.args.config ≡ None = no-refusal _ _ _ c.in_ok-screen.ensures.refused in
+    as-made (config_refusal c.args.config) (MatchResult r (λ given. given.items ≡ answers c.args.config c.args.events.now) (λ e. e ≡ OutOfMemory)) (λ e. r ≡ Err e) accepted (search rules)
+
+pub returns-in_err-push-clause-answers : goal.returns-in_err-push-clause-answers
+returns-in_err-push-clause-answers c =
+    let r = c.from_residual-in_err-push.result in
+    let accepted : config_refusal c.args.config ≡ None = no-refusal _ _ _ c.in_ok-screen.ensures.refused in
+    as-made (config_refusal c.args.config) (MatchResult r (λ given. given.items ≡ answers c.args.config c.args.events.now) (λ e. e ≡ OutOfMemory)) (λ e. r ≡ Err e) accepted (search rules)

@@ -14,9 +14,9 @@ returns-clause-viewer c = λ before h.
     let v : KeptViewer = viewer_told c.args.log.now (viewer_in c.args.standing.now) in
     let items : List Item = c.deref-2.result.now in
     let heard_items : items ≡ new_items before c.args.piece.now = c.deref-2.ensures.value ∙ c.into_vec-items.ensures ∙ c.in_ok-heard.ensures.items before h in
-    let ear : c.put_draft.new.standing.ear ≡ c.args.standing.now.ear = ap (λ (x : KeptViewer). x.heard) c.put_draft.ensures in
+    let ear : c.take_items.new.standing.ear ≡ c.args.standing.now.ear = c.take_items.ensures.ear in
     let becomes : c.commit.new.self ≡ rest (before ++ c.args.piece.now) = rw ear at c.commit.ensures ∙ c.in_ok-heard.ensures.rest before h in
-    ap (λ (x : KeptViewer). record x { heard = c.commit.new.self }) (c.put_draft.ensures ∙ c.in_ok-draft.ensures)
+    ap (λ (x : KeptViewer). record x { heard = c.commit.new.self }) (c.in_ok-take_items.ensures.ok)
     ∙ sym (items-heard c.args.standing.now.marks.width c.args.standing.now.marks.height items v c.commit.new.self)
     ∙ ap (λ (r : Rest). after_items c.args.standing.now.marks.width c.args.standing.now.marks.height items (record v { heard = r })) becomes
     ∙ ap (λ (is : List Item). after_items c.args.standing.now.marks.width c.args.standing.now.marks.height is (record v { heard = rest (before ++ c.args.piece.now) })) heard_items
@@ -24,13 +24,13 @@ returns-clause-viewer c = λ before h.
 pub returns-clause-width : goal.returns-clause-width
 returns-clause-width c =
     let v : KeptViewer = viewer_told c.args.log.now (viewer_in c.args.standing.now) in
-    ap (λ (x : KeptViewer). x.marks.width) (c.put_draft.ensures ∙ c.in_ok-draft.ensures)
+    ap (λ (x : KeptViewer). x.marks.width) (c.in_ok-take_items.ensures.ok)
     ∙ (items-size {B = Rest} c.args.standing.now.marks.width c.args.standing.now.marks.height c.deref-2.result.now v).0 ∙ (logged-size c.args.standing.now.uses_copyrect c.args.log.now c.args.standing.now.marks).0
 
 pub returns-clause-height : goal.returns-clause-height
 returns-clause-height c =
     let v : KeptViewer = viewer_told c.args.log.now (viewer_in c.args.standing.now) in
-    ap (λ (x : KeptViewer). x.marks.height) (c.put_draft.ensures ∙ c.in_ok-draft.ensures)
+    ap (λ (x : KeptViewer). x.marks.height) (c.in_ok-take_items.ensures.ok)
     ∙ (items-size {B = Rest} c.args.standing.now.marks.width c.args.standing.now.marks.height c.deref-2.result.now v).1 ∙ (logged-size c.args.standing.now.uses_copyrect c.args.log.now c.args.standing.now.marks).1
 
 pub returns-clause-reply : goal.returns-clause-reply

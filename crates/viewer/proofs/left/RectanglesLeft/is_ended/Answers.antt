@@ -11,12 +11,12 @@ use Rattle.viewer.proofs.left.RectanglesLeft.is_ended.Goals as goal
 pub returns-in-Nothing : goal.returns-in-Nothing
 returns-in-Nothing c =
     let r = c.self.inside.rectangles in
-    (λ e. cc, λ none. absurd (subst (λ (x : Reached). IsOver r.coloured.items x) c.in-Nothing.is (is_over r.encoding c.self.inside.table r.moves.items r.coloured.items c.self.inside.reached c.self.invariant (c.self.view_is ∙ none))))
+    (λ e. cc, λ none. absurd (subst (λ (x : Reached). IsOver r.coloured.items x) c.in-Nothing.is (is_over r.encoding r.format r.moves.items r.coloured.items c.self.inside.reached c.self.invariant (c.self.view_is ∙ none))))
 
 pub returns-in-Within : goal.returns-in-Within
 returns-in-Within c =
     let r = c.self.inside.rectangles in
-    (λ e. cc, λ none. absurd (subst (λ (x : Reached). IsOver r.coloured.items x) c.in-Within.is (is_over r.encoding c.self.inside.table r.moves.items r.coloured.items c.self.inside.reached c.self.invariant (c.self.view_is ∙ none))))
+    (λ e. cc, λ none. absurd (subst (λ (x : Reached). IsOver r.coloured.items x) c.in-Within.is (is_over r.encoding r.format r.moves.items r.coloured.items c.self.inside.reached c.self.invariant (c.self.view_is ∙ none))))
 
 pub returns-in-Before : goal.returns-in-Before
 returns-in-Before c =
@@ -26,8 +26,8 @@ returns-in-Before c =
     test_over c.args.self.now c.len.result next
     (λ h.
     let all : length r.coloured.items ≤ next = omega (arith, count, c.len.ensures, h) in
-    sym c.self.view_is ∙ ap (λ (x : Reached). rectangles_left r.encoding c.self.inside.table r.moves.items r.coloured.items x) c.in-Before.is
-    ∙ ap (λ (cs : List Coloured). flat_map (coloured_bytes r.encoding c.self.inside.table) cs) (drop_all next r.coloured.items all))
+    sym c.self.view_is ∙ ap (λ (x : Reached). rectangles_left r.encoding r.format r.moves.items r.coloured.items x) c.in-Before.is
+    ∙ ap (λ (cs : List Coloured). flat_map (coloured_bytes r.encoding r.format) cs) (drop_all next r.coloured.items all))
     (λ none.
-    let over : length r.coloured.items ≤ next = subst (λ (x : Reached). IsOver r.coloured.items x) c.in-Before.is (is_over r.encoding c.self.inside.table r.moves.items r.coloured.items c.self.inside.reached c.self.invariant (c.self.view_is ∙ none)) in
+    let over : length r.coloured.items ≤ next = subst (λ (x : Reached). IsOver r.coloured.items x) c.in-Before.is (is_over r.encoding r.format r.moves.items r.coloured.items c.self.inside.reached c.self.invariant (c.self.view_is ∙ none)) in
     omega (arith, count, c.len.ensures, over))

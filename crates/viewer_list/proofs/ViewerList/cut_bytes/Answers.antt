@@ -7,7 +7,7 @@ use Rattle.viewer.specs.Sending.{sending_kept}
 use Rattle.viewer.specs.Viewer.{KeptViewer}
 use Rattle.viewer_list.specs.Lagging.{caught_up, Fits}
 use Rattle.viewer_list.proofs.ListLemmas.{viewer-some, viewer-absent, viewer-set, viewer-same, all-numbered, all-set}
-use Rattle.viewer_list.proofs.ViewerList.cut_bytes_viewer.Goals as goal
+use Rattle.viewer_list.proofs.ViewerList.cut_bytes.Goals as goal
 
 pub returns-in_default-clause-bytes : goal.returns-in_default-clause-bytes
 returns-in_default-clause-bytes c = λ v is. absurd (none-some v (sym (viewer-absent c.args.self.now c.self.inside.log.items c.self.inside.viewers.pairs _ c.args.number c.self.view_is c.in_default.ensures.value) ∙ is))

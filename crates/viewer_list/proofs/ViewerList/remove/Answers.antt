@@ -6,8 +6,8 @@ use Rattle.viewer_list.specs.Lagging.{seen, Fits, AllFit}
 use Rattle.viewer_list.specs.Viewers.{Viewers}
 use Rattle.std.specs.Prelude.{filter}
 use Rattle.viewer_list.proofs.ListLemmas.{viewer-some, viewer-absent, all-some, seen-filter}
-use Rattle.viewer_list.proofs.ViewerList.take_out.Goals as goal
-use Rattle.viewer_list.proofs.ViewerList.take_out.Goals.{in-Ok, in-Err}
+use Rattle.viewer_list.proofs.ViewerList.remove.Goals as goal
+use Rattle.viewer_list.proofs.ViewerList.remove.Goals.{in-Ok, in-Err}
 
 pub invariant_of-self : goal.invariant_of-self
 invariant_of-self c = elim c.match-remove.branch [
