@@ -49,3 +49,13 @@ told-bytes {X = X} f r a h = go a.refused refl h
 pub accepted : {X : Type 0} (r : Result X ScreenError) (o : Option ScreenError) (x : X) → r ≡ Ok x → MatchOption o (IsOkUnless r OutOfMemory) (λ e. r ≡ Err e) → o ≡ None
 accepted r None x is h = refl
 accepted {X = X} r (Some e) x is h = let two : ◌≡◌ {A = Result X ScreenError} (Ok x) (Err e) = sym is ∙ h in absurd cc
+
+-- what is refused for memory alone once a screen was made
+pub refused-after : {X : Type 0} (r : Result X ScreenError) (o : Option ScreenError) → o ≡ None → IsOkUnless r OutOfMemory → MatchOption o (IsOkUnless r OutOfMemory) (λ e. r ≡ Err e)
+refused-after r None is h = h
+refused-after r (Some e) is h = absurd cc
+
+-- what was made was not refused
+pub made-unrefused : {X : Type 0} (x : X) (o : Option ScreenError) → o ≡ None → MatchOption o (IsOkUnless (Ok x) OutOfMemory) (λ e. ◌≡◌ {A = Result X ScreenError} (Ok x) (Err e))
+made-unrefused x None is = tt
+made-unrefused x (Some e) is = absurd cc

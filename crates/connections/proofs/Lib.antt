@@ -3,3 +3,4 @@ pub mod Pieces
 pub mod Given
 pub mod Turns
 pub mod Everyone
+pub mod Bounds

@@ -5,3 +5,4 @@ pub mod Turns
 pub mod Lending
 pub mod Recording
 pub mod Carrying
+pub mod Bounds

@@ -3,6 +3,7 @@
 ghost use Rattle.std.specs.Prelude.{◌≡◌, ◌≢◌, ◌≤◌, ◌++◌, [], List, ℕ, IsTrue, OnOk, OnErr, length, take};
 ghost use Rattle.connections.specs.Waiting.{waiting_bytes};
 ghost use Rattle.connections.specs.Serving.{Moves};
+ghost use Rattle.connections.specs.Bounds.{WritesAtMost};
 ghost use Rattle.connections.specs.Carrying.{carried_by};
 ghost use Rattle.connections.specs.declared.backlog.Written.TheVariants as outcome;
 
@@ -69,12 +70,14 @@ fn fill(buffer: &mut Vec<u8>, update: &mut Stream) -> Result<(), AllocError>
     Ok(())
 }
 
-/// One write. How many bytes were taken, and what came of it.
+/// One write, of the first 64 KB at most. How many bytes were taken, and what came of it.
 fn write_once<T: Transport>(transport: &mut Recording<T>, bytes: &[u8]) -> (usize, Written)
     ensures bound { result.0 ≤ length bytes.now }
+    ensures most { result.0 ≤ 65536 }
     ensures moved { Moves (carried_by T.unread T.written transport.old) (carried_by T.unread T.written transport.new) [] (take result.0 bytes.now) }
 {
-    match transport.send(bytes) {
+    let first = &bytes[..bytes.len().min(BUFFER)];
+    match transport.send(first) {
         Ok(0) => (0, Written::Failed),
         Ok(count) => (count, Written::Some),
         Err(e) => match e.kind() {
@@ -127,8 +130,8 @@ impl Backlog {
         self.update = Some(update.into_stream());
     }
 
-    /// One write of the next bytes, with a buffer for those that are not made yet. What was written, and then what waits, is what
-    /// waited before, unless memory was refused.
+    /// One write of at most 64 KB of the next bytes, with a buffer for those that are not made yet. What was written, and then what
+    /// waits, is what waited before, unless memory was refused.
     pub fn write_some<T: Transport>(
         &mut self,
         transport: &mut Recording<T>,
@@ -137,6 +140,7 @@ impl Backlog {
         ensures sent { (written unwritten : List ℕ) ×
             Moves (carried_by T.unread T.written transport.old) (carried_by T.unread T.written transport.new) [] written ×
             (written ++ unwritten ≡ waiting_bytes self.old) × (result ≢ outcome.Memory → unwritten ≡ waiting_bytes self.new) }
+        ensures bound { WritesAtMost 65536 (T.written transport.old.transport) (T.written transport.new.transport) }
     {
         if self.done < self.made.len() {
             self.write_made(transport)
@@ -150,6 +154,7 @@ impl Backlog {
         ensures sent { (written : List ℕ) ×
             Moves (carried_by T.unread T.written transport.old) (carried_by T.unread T.written transport.new) [] written ×
             (written ++ waiting_bytes self.new ≡ waiting_bytes self.old) }
+        ensures bound { WritesAtMost 65536 (T.written transport.old.transport) (T.written transport.new.transport) }
     {
         let (count, outcome) = write_once(transport, &self.made[self.done..]);
         self.done += count;
@@ -170,6 +175,7 @@ impl Backlog {
         ensures sent { (written unwritten : List ℕ) ×
             Moves (carried_by T.unread T.written transport.old) (carried_by T.unread T.written transport.new) [] written ×
             (written ++ unwritten ≡ waiting_bytes self.old) × (result ≢ outcome.Memory → unwritten ≡ waiting_bytes self.new) }
+        ensures bound { WritesAtMost 65536 (T.written transport.old.transport) (T.written transport.new.transport) }
     {
         if self.make(buffer).is_err() {
             return Written::Memory;

@@ -13,12 +13,25 @@ use listed::Listed;
 use screen::{Answer, Rect, Region, Screen, ScreenError, Update};
 use std::marker::Model;
 
+/// Who is to be looked at after drawing calls.
+#[derive(Clone, Copy, Debug, PartialEq, Eq)]
+pub(crate) enum Watching {
+    /// Nobody: nothing was drawn.
+    Nobody,
+    /// Those that asked for places.
+    Asking,
+    /// All: a notice waits for each.
+    All,
+}
+
 /// A screen to draw on, and whether it was drawn on since its viewers were looked at. Each drawing call is the screen's, with the
 /// same refusals, and leaves the screen as it was where it is refused; its viewers are looked at in the next turn.
 #[derive(Drop)]
 pub struct Canvas {
     screen: Screen,
     has_drawn: bool,
+    // a bell or a text is among what was drawn
+    has_noticed: bool,
 }
 
 impl Model for Canvas {
@@ -36,11 +49,14 @@ impl Canvas {
         Canvas {
             screen,
             has_drawn: false,
+            has_noticed: false,
         }
     }
 
     /// The screen, to be looked at.
-    pub fn screen(&self) -> &Screen {
+    pub fn screen(&self) -> &Screen
+        ensures { result.now ≡ self.now.screen }
+    {
         &self.screen
     }
 
@@ -179,6 +195,7 @@ impl Canvas {
         ensures drawn { self.new.drawn ≡ true }
     {
         self.has_drawn = true;
+        self.has_noticed = true;
         self.screen.bell()
     }
 
@@ -192,6 +209,7 @@ impl Canvas {
         ensures drawn { self.new.drawn ≡ true }
     {
         self.has_drawn = true;
+        self.has_noticed = true;
         self.screen.cut_text(text)
     }
 
@@ -208,17 +226,24 @@ impl Canvas {
         self.screen.new_framebuffer(width, height)
     }
 
-    /// Whether it was drawn on since this was asked last.
-    pub(crate) fn take_drawn(&mut self) -> bool
+    /// Who is to be looked at, since this was asked last.
+    pub(crate) fn take_watching(&mut self) -> Watching
         ensures screen { self.new.screen ≡ self.old.screen }
     {
-        let has_drawn = self.has_drawn;
+        let watching = match (self.has_drawn, self.has_noticed) {
+            (false, _) => Watching::Nobody,
+            (true, false) => Watching::Asking,
+            (true, true) => Watching::All,
+        };
         self.has_drawn = false;
-        has_drawn
+        self.has_noticed = false;
+        watching
     }
 
-    /// Whether it was drawn on since `take_drawn`.
-    pub(crate) fn has_drawn(&self) -> bool {
+    /// Whether it was drawn on since `take_watching`.
+    pub(crate) fn has_drawn(&self) -> bool
+        ensures { result ≡ self.now.drawn }
+    {
         self.has_drawn
     }
 
@@ -242,11 +267,6 @@ impl Canvas {
         ensures err { OnErr result (self.new ≡ self.old) }
     {
         self.screen.hear(number, piece)
-    }
-
-    /// `Screen::pending`, false where no viewer has the number.
-    pub(crate) fn is_pending(&self, number: u64) -> bool {
-        self.screen.pending(number) == Ok(true)
     }
 
     /// `Screen::cut`.

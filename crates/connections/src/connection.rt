@@ -4,6 +4,7 @@ ghost use Rattle.std.specs.Prelude.{◌≡◌, ◌≢◌, ◌≤◌, ◌++◌, �
 ghost use Rattle.receipts.specs.Checking.{may_break_off};
 ghost use Rattle.receipts.specs.declared.Ended.TheVariants as ended;
 ghost use Rattle.connections.specs.Waiting.{waiting_bytes};
+ghost use Rattle.connections.specs.Bounds.{WritesAtMost, ReadsAtMost};
 ghost use Rattle.connections.specs.Serving.{Carried, ViewerConnection, Moves, breaks_off};
 ghost use Rattle.connections.specs.Recording.{none_yet};
 ghost use Rattle.connections.specs.Turns.{IsWithin, got_bytes};
@@ -18,6 +19,9 @@ use std::alloc::{AllocError, Global};
 use std::io::ErrorKind;
 use std::marker::Model;
 
+/// More bytes at once than viewers say who are not in a hurry: twelve requests, or twenty-one pointers.
+const MANY: usize = 128;
+
 /// A viewer's connection. It is heard until it ends, and what waits for it then is written still, unless it ended by a failure.
 #[derive(Drop)]
 pub(crate) struct Connection<T: Transport> {
@@ -30,10 +34,16 @@ pub(crate) struct Connection<T: Transport> {
     heard: Option<Vec<u8>>,
     cuts: u64,
     readiness: Readiness,
-    // its last read filled the room: there may be more at once
+    // its last read gave many bytes
     is_flooding: bool,
+    // as many writes were made as one turn has: an update may be cut at once
+    looks_again: bool,
     // it stands on the agenda
     is_listed: bool,
+    // it was heard since an update was cut for it, so it may have asked for places
+    may_ask: bool,
+    // it stands among those that may have asked
+    is_watching: bool,
 }
 
 impl<T: Transport> Model for Connection<T> {
@@ -85,7 +95,10 @@ impl<T: Transport> Connection<T> {
                 is_hung_up: false,
             },
             is_flooding: false,
+            looks_again: false,
             is_listed: false,
+            may_ask: false,
+            is_watching: false,
         }
     }
 
@@ -121,6 +134,27 @@ impl<T: Transport> Connection<T> {
         was_listed
     }
 
+    /// Puts it among those that may have asked for places, or takes it out. Whether it stood there.
+    pub fn watch(&mut self, is_watching: bool) -> bool
+        ensures { self.new ≡ self.old }
+    {
+        let was_watching = self.is_watching;
+        self.is_watching = is_watching;
+        was_watching
+    }
+
+    /// Whether it was heard since an update was cut for it last.
+    pub fn may_ask(&self) -> bool {
+        self.may_ask
+    }
+
+    /// Whether an update may be cut for it at once, once what waits is written.
+    pub fn look_again(&mut self, looks_again: bool)
+        ensures { self.new ≡ self.old }
+    {
+        self.looks_again = looks_again;
+    }
+
     /// Whether a read may give something.
     pub fn may_read(&self) -> bool
         ensures { IsTrue result → self.now.ended ≡ None }
@@ -128,7 +162,7 @@ impl<T: Transport> Connection<T> {
         self.ended.is_none() && self.readiness.may_read
     }
 
-    /// Whether its last read filled the room.
+    /// Whether its last read gave more than 128 bytes.
     pub fn is_flooding(&self) -> bool {
         self.is_flooding
     }
@@ -171,7 +205,9 @@ impl<T: Transport> Connection<T> {
 
     /// Whether something can be done for it at once.
     pub fn has_work(&self) -> bool {
-        self.may_read() || self.may_write() && !self.backlog.is_empty() || self.over().is_some()
+        self.may_read()
+            || self.may_write() && (self.looks_again || !self.backlog.is_empty())
+            || self.over().is_some()
     }
 
     /// It ends. A failure takes the place of another reason.
@@ -195,14 +231,15 @@ impl<T: Transport> Connection<T> {
     pub fn receive(&mut self, room: &mut [u8]) -> Got
         ensures same { self.new ≡ record self.old { carried = self.new.carried } }
         ensures moved { Moves self.old.carried self.new.carried (got_bytes result room.new) [] }
-        ensures bound { IsWithin result room.new }
+        ensures within { IsWithin result room.new }
+        ensures bound { ReadsAtMost (length room.new) self.old.carried.unread self.new.carried.unread }
     {
         let size = room.len();
         match self.transport.transport.receive(room) {
             Ok(0) => Got::End,
             Ok(count) => {
-                self.is_flooding = count >= size;
-                self.readiness.may_read = self.is_flooding || self.readiness.is_hung_up;
+                self.is_flooding = count > MANY;
+                self.readiness.may_read = count >= size || self.readiness.is_hung_up;
                 Got::Piece(count)
             }
             Err(e) => match e.kind() {
@@ -246,6 +283,7 @@ impl<T: Transport> Connection<T> {
         ensures { self.new ≡ self.old }
     {
         self.pieces = self.pieces.saturating_add(1);
+        self.may_ask = true;
         if let Some(heard) = &mut self.heard {
             let _kept = heard.extend_from_slice(piece);
         }
@@ -258,16 +296,18 @@ impl<T: Transport> Connection<T> {
         ensures bytes { waiting_bytes self.new.waiting ≡ update }
     {
         self.cuts = self.cuts.saturating_add(1);
+        self.may_ask = false;
         self.backlog.start(update);
     }
 
-    /// One write of what waits, where it was not broken off. A failure ends it.
+    /// One write of what waits, of at most 64 KB, where it was not broken off. A failure ends it.
     pub fn write(&mut self, buffer: &mut Vec<u8>)
         ensures same { self.new ≡ record self.old { carried = self.new.carried; waiting = self.new.waiting; ended = self.new.ended } }
         ensures sent { (written unwritten : List ℕ) × Moves self.old.carried self.new.carried [] written ×
             (written ++ unwritten ≡ waiting_bytes self.old.waiting) ×
             (breaks_off self.new.ended ≡ false → unwritten ≡ waiting_bytes self.new.waiting) }
         ensures ended { self.new.ended ≢ self.old.ended → breaks_off self.new.ended ≡ true }
+        ensures bound { WritesAtMost 65536 self.old.carried.written self.new.carried.written }
     {
         match self.backlog.write_some(&mut self.transport, buffer) {
             Written::Some => {}

@@ -1,6 +1,7 @@
 //! All connections of a screen's viewers.
 
-ghost use Rattle.std.specs.Prelude.{◌≡◌, ◌++◌, ◌∷◌, ◌+◌, [], List, ℕ, ◌<◌, None, IfOk, IfSome, IsSome, OnOk, OnErr, length, option_map};
+ghost use Rattle.std.specs.Prelude.{◌≡◌, ◌++◌, ◌∷◌, ◌+◌, [], List, ℕ, ◌<◌, None, Err, IfOk, IfSome, IsSome, OnOk, OnErr, length, option_map};
+ghost use Rattle.std.specs.Prelude.{not, ◌||◌, ◌==◌, is_some, count_by, MatchOption, IsOkUnless};
 ghost use Rattle.std.specs.Borrow.{sem};
 ghost use Rattle.scene.specs.declared.Config.{Config};
 ghost use Rattle.scene.specs.declared.Event.{Event};
@@ -12,7 +13,7 @@ ghost use Rattle.connections.specs.Lending.{lends_canvas};
 
 use crate::application::Application;
 use crate::backlog::BUFFER;
-use crate::canvas::Canvas;
+use crate::canvas::{Canvas, Watching};
 use crate::connection::Connection;
 use crate::transport::Transport;
 use crate::turn::{PIECE, listen, send};
@@ -42,6 +43,13 @@ fn is_kept(history: History) -> bool
     matches!(history, History::Kept)
 }
 
+/// A connection that is let go is watched no longer.
+fn forget(asking: &mut Vec<usize>, key: usize) {
+    if let Some(place) = asking.iter().position(|other| *other == key) {
+        asking.swap_remove(place);
+    }
+}
+
 /// What is left of a viewer that ended.
 #[derive(Drop)]
 pub struct Departed<T> {
@@ -64,8 +72,10 @@ pub struct Connections<T: Transport> {
     // the keys of those that are to be looked at, and room for the next ones
     agenda: Vec<usize>,
     later: Vec<usize>,
+    // the keys of those that may have asked for places since an update was cut for them, and perhaps of others
+    asking: Vec<usize>,
     // what is read, and what is written
-    room: Vec<u8>,
+    room: [u8; PIECE],
     buffer: Vec<u8>,
 }
 
@@ -82,6 +92,7 @@ impl<T: Transport> Connections<T> {
     pub fn new(alloc: Global, config: Config) -> Result<Connections<T>, ScreenError>
         ensures serves { (began : ℕ → Carried) → IfOk result (λ connections. Serves config began [] connections) }
         ensures accepted { OnOk result (config_refusal config ≡ None) }
+        ensures refused { MatchOption (config_refusal config) (IsOkUnless result ScreenError.OutOfMemory) (λ e. result ≡ Err e) }
     {
         let is_kept = is_kept(config.history);
         let screen = Screen::new(alloc, config)?;
@@ -93,18 +104,23 @@ impl<T: Transport> Connections<T> {
             next: 1,
             agenda: Vec::new(alloc),
             later: Vec::new(alloc),
-            room: vec![in alloc; 0u8; PIECE]?,
+            asking: Vec::new(alloc),
+            room: [0; PIECE],
             buffer: Vec::with_capacity(alloc, BUFFER)?,
         })
     }
 
     /// How many viewers are connected.
-    pub fn len(&self) -> usize {
+    pub fn len(&self) -> usize
+        ensures { result ≡ count_by is_some self.now.slots }
+    {
         self.connections.len()
     }
 
     /// Whether no viewer is connected.
-    pub fn is_empty(&self) -> bool {
+    pub fn is_empty(&self) -> bool
+        ensures { result ≡ (count_by is_some self.now.slots == 0) }
+    {
         self.connections.is_empty()
     }
 
@@ -114,12 +130,16 @@ impl<T: Transport> Connections<T> {
     }
 
     /// Whether something can be done in a turn at once, without anything more being ready.
-    pub fn is_busy(&self) -> bool {
+    pub fn is_busy(&self) -> bool
+        ensures { result ≡ (not (length self.now.agenda == 0) || self.now.surface.drawn) }
+    {
         !self.agenda.is_empty() || self.canvas.has_drawn()
     }
 
     /// The screen, to be looked at.
-    pub fn screen(&self) -> &Screen {
+    pub fn screen(&self) -> &Screen
+        ensures { result.now ≡ self.now.surface.screen }
+    {
         self.canvas.screen()
     }
 
@@ -146,6 +166,7 @@ impl<T: Transport> Connections<T> {
         self.connections.reserve(1)?;
         self.agenda.reserve(most)?;
         self.later.reserve(most)?;
+        self.asking.reserve(most)?;
         let version = self.canvas.connect(self.next)?;
         let mut connection = Connection::new(self.alloc, transport, self.next, self.is_kept);
         connection.give(version.as_slice(), None);
@@ -261,12 +282,12 @@ impl<T: Transport> Connections<T> {
     }
 
     /// One turn. Of each connection on the agenda one piece of at most 512 bytes is read and heard, and the application is told what
-    /// it says; of those whose last read filled its piece only the one that waited longest. Then each is written what it was given,
+    /// it says; of those whose last read gave more than 128 bytes only the one that waited longest. Then each is written what it was given,
     /// and cut updates, in at most four writes of at most 65,536 bytes.
     ///
     /// Whatever list of events the screen stood for, it stands for it with others behind it, and by that list each viewer is served:
     /// what was read of it is what the screen heard of it, and what was written to it is, with what waits for it, what the screen with
-    /// this one viewer gives.
+    /// this one viewer gives, or the beginning of that where the viewer ended by a failure.
     pub fn turn<A: Application>(&mut self, application: &mut A) -> Result<(), ScreenError>
         ensures served { GoesOn self.old self.new }
     {
@@ -291,6 +312,7 @@ impl<T: Transport> Connections<T> {
             return None;
         };
         self.agenda.remove(place);
+        forget(&mut self.asking, key);
         let connection = self.connections.try_remove(key)?;
         let (transport, receipt) = connection.into_parts(self.alloc, ended);
         Some(Departed { transport, receipt })
@@ -303,7 +325,7 @@ impl<T: Transport> Connections<T> {
         self.agenda.get(place).copied()
     }
 
-    /// Whether the last read of a connection filled its piece, and it is still heard.
+    /// Whether the last read of a connection gave more than 128 bytes, and it is still heard.
     fn is_flooding(&self, key: usize) -> bool {
         match self.connections.get(key) {
             Some(connection) => connection.is_flooding() && connection.may_read(),
@@ -392,14 +414,52 @@ impl<T: Transport> Connections<T> {
         send(&mut self.canvas, connection, &mut self.buffer);
     }
 
-    /// All are to be looked at, where the screen was drawn on.
+    /// Those are to be looked at for whom drawing may have left something to send.
     fn list_watching(&mut self) -> Result<(), AllocError>
         ensures served { GoesOn self.old self.new }
     {
-        if !self.canvas.take_drawn() {
-            return Ok(());
+        match self.canvas.take_watching() {
+            Watching::Nobody => Ok(()),
+            Watching::Asking => self.list_asking(),
+            Watching::All => self.list_all(),
         }
-        self.list_all()
+    }
+
+    /// Those are to be looked at that were heard since an update was cut for them; the others are watched no longer.
+    fn list_asking(&mut self) -> Result<(), AllocError>
+        ensures same { self.new ≡ record self.old { agenda = self.new.agenda } }
+    {
+        self.later.clear();
+        for place in 0..self.asking.len() {
+            if let Some(key) = self.asking.get(place).copied() {
+                self.list_if_asking(key)?;
+            }
+        }
+        mem::swap(&mut self.asking, &mut self.later);
+        Ok(())
+    }
+
+    /// A connection is to be looked at, and watched further, if it was heard since an update was cut for it.
+    fn list_if_asking(&mut self, key: usize) -> Result<(), AllocError>
+        ensures same { self.new ≡ record self.old { agenda = self.new.agenda } }
+    {
+        if self.goes_on_watching(key) {
+            self.list(key)?;
+            self.later.push(key)?;
+        }
+        Ok(())
+    }
+
+    /// Whether a connection was heard since an update was cut for it. It is watched no longer where it wasn't.
+    fn goes_on_watching(&mut self, key: usize) -> bool
+        ensures same { self.new ≡ self.old }
+    {
+        let Some(connection) = self.connections.get_mut(key) else {
+            return false;
+        };
+        let may_ask = connection.may_ask();
+        connection.watch(may_ask);
+        may_ask
     }
 
     /// All are to be looked at.
@@ -433,7 +493,7 @@ impl<T: Transport> Connections<T> {
         Ok(())
     }
 
-    /// A connection that something can be done for at once is to be looked at in the next turn.
+    /// A connection that something can be done for at once is to be looked at in the next turn. One that was heard is watched.
     fn list_again(&mut self, key: usize) -> Result<(), AllocError>
         ensures { self.new ≡ self.old }
     {
@@ -442,6 +502,9 @@ impl<T: Transport> Connections<T> {
             connection.list(is_busy);
             if is_busy {
                 self.later.push(key)?;
+            }
+            if connection.may_ask() && !connection.watch(true) {
+                self.asking.push(key)?;
             }
         }
         Ok(())

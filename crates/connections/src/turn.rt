@@ -1,8 +1,9 @@
 //! What is done for one connection in a turn: a piece is read and heard, and what waits is written, with updates that are cut as
 //! there is room for them.
 
-ghost use Rattle.std.specs.Prelude.{◌≡◌, [], false, IsTrue};
+ghost use Rattle.std.specs.Prelude.{◌≡◌, ◌*◌, [], false, IsTrue};
 ghost use Rattle.connections.specs.Waiting.{waiting_bytes};
+ghost use Rattle.connections.specs.Bounds.{WritesAtMost, ReadsAtMost};
 ghost use Rattle.connections.specs.Drawing.{Draws};
 ghost use Rattle.connections.specs.Serving.{breaks_off};
 ghost use Rattle.connections.specs.Turns.{HearsPiece, TakesTurn};
@@ -25,10 +26,11 @@ const WRITES: u32 = 4;
 pub(crate) fn listen<T: Transport, A: Application>(
     canvas: &mut Canvas,
     connection: &mut Connection<T>,
-    room: &mut [u8],
+    room: &mut [u8; PIECE],
     application: &mut A,
 ) -> Result<(), ScreenError>
     ensures turn { TakesTurn canvas.old connection.old canvas.new connection.new }
+    ensures bound { ReadsAtMost 512 connection.old.carried.unread connection.new.carried.unread }
 {
     if !connection.may_read() {
         return Ok(());
@@ -50,6 +52,7 @@ fn hear<T: Transport, A: Application>(
     application: &mut A,
 ) -> Result<(), ScreenError>
     ensures heard { HearsPiece piece.now canvas.old connection.old canvas.new connection.new }
+    ensures carried { connection.new.carried ≡ connection.old.carried }
 {
     let viewer = connection.number();
     if connection.make_room(piece).is_err() {
@@ -88,19 +91,23 @@ pub(crate) fn send<T: Transport>(
     buffer: &mut Vec<u8>,
 )
     ensures turn { TakesTurn canvas.old connection.old canvas.new connection.new }
+    ensures bound { WritesAtMost (4 * 65536) connection.old.carried.written connection.new.carried.written }
 {
-    for _ in 0..WRITES {
+    connection.look_again(false);
+    for _writes in 0..WRITES {
         if !prepare(canvas, connection) {
             return;
         }
         connection.write(buffer);
     }
+    connection.look_again(true);
 }
 
 /// Whether a write may take something, where an update is cut if nothing waits.
 fn prepare<T: Transport>(canvas: &mut Canvas, connection: &mut Connection<T>) -> bool
     ensures turn { TakesTurn canvas.old connection.old canvas.new connection.new }
     ensures whole { IsTrue result → breaks_off connection.new.ended ≡ false }
+    ensures carried { connection.new.carried ≡ connection.old.carried }
 {
     if !connection.may_write() {
         return false;
@@ -116,9 +123,10 @@ fn cut<T: Transport>(canvas: &mut Canvas, connection: &mut Connection<T>) -> boo
     requires { waiting_bytes connection.old.waiting ≡ [] }
     ensures turn { TakesTurn canvas.old connection.old canvas.new connection.new }
     ensures whole { IsTrue result → breaks_off connection.new.ended ≡ false }
+    ensures carried { connection.new.carried ≡ connection.old.carried }
 {
     let viewer = connection.number();
-    if connection.ended().is_some() || !canvas.is_pending(viewer) {
+    if connection.ended().is_some() {
         return false;
     }
     match canvas.cut(viewer) {

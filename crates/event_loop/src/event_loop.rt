@@ -1,6 +1,6 @@
 //! The loop.
 
-ghost use Rattle.std.specs.Prelude.{◌≡◌, [], None, IfOk, OnOk};
+ghost use Rattle.std.specs.Prelude.{◌≡◌, [], None, IfOk, OnOk, is_some, count_by};
 ghost use Rattle.std.specs.Borrow.{sem};
 ghost use Rattle.scene.specs.declared.Config.{Config};
 ghost use Rattle.scene.specs.Alone.{config_refusal};
@@ -198,7 +198,9 @@ impl EventLoop {
     }
 
     /// The screen, to be looked at.
-    pub fn screen(&self) -> &Screen {
+    pub fn screen(&self) -> &Screen
+        ensures { result.now ≡ self.now.surface.screen }
+    {
         self.connections.screen()
     }
 
@@ -211,7 +213,9 @@ impl EventLoop {
     }
 
     /// How many viewers are connected.
-    pub fn viewer_count(&self) -> usize {
+    pub fn viewer_count(&self) -> usize
+        ensures { result ≡ count_by is_some self.now.slots }
+    {
         self.connections.len()
     }
 

@@ -4,8 +4,8 @@ ghost use Rattle.connections.specs.Drawing.{Draws};
 
 use crate::line::{Line, Then, saying};
 use connections::{
-    Application, Both, Canvas, Connections, Departed, Ended, Fault, History, Input, Readiness,
-    Receipt, Rect, ScreenError,
+    Application, Both, Canvas, Config, Connections, Departed, Ended, Fault, History, Input,
+    Readiness, Receipt, Rect, ScreenError,
 };
 use std::alloc::{AllocError, Global};
 use std::process::Abort;
@@ -412,4 +412,58 @@ fn both_serve(alloc: Global) -> Result<bool, ScreenError> {
 #[test]
 fn a_reader_and_a_writer_are_a_transport(rt: HostRuntime) {
     assert_eq!(rt; both_serve(rt.alloc()), Ok(true));
+}
+
+/// The opening, and a request of 2048 by 55 places; then, in a piece of its own, a request of what changes there, and a pointer that
+/// paints.
+const EARLY: &[u8] =
+    b"RFB 003.008\n\x01\x01\x03\0\0\0\0\0\x08\0\0\x37\x03\x01\0\0\0\0\x08\0\0\x37\x05\x01\0\0\0\0";
+
+/// How many bytes a viewer of 2048 by 55 places is sent for these: the opening's, all places, and twelve of them again.
+const EARLY_ENOUGH: usize = GREETED + 16 + 4 * 2048 * 55 + 64;
+
+/// Turns as long as something can be done, with nothing more known of any transport.
+fn turns_left(
+    connections: &mut Connections<Line<'_>>,
+    application: &mut Counting,
+) -> Result<(), ScreenError> {
+    for _ in 0..100u32 {
+        if !connections.is_busy() {
+            break;
+        }
+        connections.turn(application)?;
+    }
+    Ok(())
+}
+
+/// How much is taken by a viewer whose first update ends with the last write of a turn, and that asked again before.
+fn early_is_sent(
+    alloc: Global,
+    connections: &mut Connections<Line<'_>>,
+) -> Result<usize, ScreenError> {
+    let mut counting = NOTHING;
+    // one write of the opening and seven of the update: rows of 8 KB, the first seven in a write, and then eight in each
+    let line = saying(alloc, EARLY).in_pieces(24, Then::Waits);
+    let key = connections.admit(line)?;
+    turns(connections, &[key], 2, &mut counting)?;
+    turns_left(connections, &mut counting)?;
+    connections.close(key)?;
+    Ok(match connections.take_departed() {
+        Some(departed) => departed.transport.taken.len(),
+        None => 0,
+    })
+}
+
+fn early_by_all_writes(alloc: Global) -> Result<usize, ScreenError> {
+    let config = Config {
+        width: 2048,
+        height: 55,
+        ..config(alloc, History::NotKept)?
+    };
+    early_is_sent(alloc, &mut Connections::new(alloc, config)?)
+}
+
+#[test]
+fn who_asks_early_is_not_forgotten(rt: HostRuntime) {
+    assert_eq!(rt; early_by_all_writes(rt.alloc()), Ok(EARLY_ENOUGH));
 }

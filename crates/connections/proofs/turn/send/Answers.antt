@@ -1,9 +1,13 @@
-use Rattle.std.proofs.Common.{refl, rules}
+use Rattle.std.proofs.Common.{refl, rules, arith}
 use Rattle.connections.proofs.Turns.{turn-then, turn-written}
+use Rattle.connections.proofs.Bounds.{one-write}
 use Rattle.connections.proofs.turn.send.Goals as goal
 
-pub loop-preserved : goal.loop-preserved
-loop-preserved g c =
+pub loop-writes-preserved : goal.loop-writes-preserved
+loop-writes-preserved g c =
     let w = c.write.ensures.sent in
-    turn-then _ _ _ _ _ _ (turn-then _ _ _ _ _ _ c.loop.invariant c.prepare.ensures.turn)
-    (turn-written c.prepare.new.canvas c.prepare.new.canvas c.prepare.new.connection c.write.new.self w.0 w.1 refl (c.prepare.ensures.whole (search rules)) c.write.ensures.same w.2 w.3 w.4)
+    record {
+      turn = turn-then _ _ _ _ _ _ (turn-then _ _ _ _ _ _ c.loop-writes.invariant.turn c.prepare.ensures.turn)
+          (turn-written c.prepare.new.canvas c.prepare.new.canvas c.prepare.new.connection c.write.new.self w.0 w.1 refl (c.prepare.ensures.whole (search rules)) c.write.ensures.same w.2 w.3 w.4);
+      bound = one-write c.loop-writes._writes _ c.args.connection.now.carried c.loop-writes.connection.carried c.prepare.new.connection.carried c.write.new.self.carried c.loop-writes.invariant.bound c.prepare.ensures.carried c.write.ensures.bound (omega (arith));
+    }

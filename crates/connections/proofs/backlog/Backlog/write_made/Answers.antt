@@ -5,6 +5,7 @@ use Rattle.connections.specs.Waiting.{waiting_bytes}
 use Rattle.connections.specs.Serving.{Moves}
 use Rattle.connections.specs.Carrying.{carried_by}
 use Rattle.connections.proofs.Pieces.{taken_on}
+use Rattle.connections.proofs.Bounds.{writes-few}
 use Rattle.connections.proofs.backlog.Backlog.write_made.Goals as goal
 
 pub returns-else-self-len : goal.returns-else-self-len
@@ -19,4 +20,5 @@ returns-else-self-len g c =
             (take_rest c.deref.result.now i.done) c.write_once-count.ensures.moved,
         ap (λ l. take n (drop i.done l) ++ (drop (i.done + n) i.made.items ++ rest)) c.deref.ensures.value ∙ taken_on i.made.items rest i.done n ∙ ap waiting_bytes c.self.view_is,
       );
+      bound = writes-few 65536 n _ _ _ c.write_once-count.ensures.moved.written c.write_once-count.ensures.most;
     }
