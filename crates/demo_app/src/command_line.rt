@@ -4,7 +4,7 @@ ghost use Rattle.std.specs.Prelude.{◌≡◌, ◌∷◌, [], List, ℕ, false, 
 ghost use Rattle.std.specs.Option.{option_map_or};
 ghost use Rattle.std.specs.Str.{bytes_eq};
 ghost use Rattle.clap.specs.Values.{kind_of};
-ghost use Rattle.demo_app.specs.CommandLine.{HasViewers};
+ghost use Rattle.demo_app.specs.CommandLine.{HasViewers, most_viewers};
 ghost use Rattle.demo_app.specs.declared.command_line.Chosen.TheVariants as chosen;
 
 use crate::serve::ServeOptions;
@@ -20,8 +20,8 @@ pub enum Chosen {
     Play,
     /// Viewers are served on a port of 127.0.0.1.
     Serve { port: u16, options: ServeOptions },
-    /// A server and so many viewers run in one process.
-    Own { viewers: u32 },
+    /// A server, in one thread or in several, and so many viewers run in one process.
+    Own { viewers: u32, one_thread: bool },
 }
 
 /// The version that `--version` prints.
@@ -86,11 +86,22 @@ and after a write that failed.";
 /// What `--help` says of `serve` and `self`, whose options are read by commands of their own.
 const OTHER_HELP: &str =
     "  serve  shows a screen to viewers over TCP; `vncdemo serve --help` tells its options
-  self   serves viewers of its own; `vncdemo self --help` tells its option";
+  self   serves viewers of its own; `vncdemo self --help` tells its options";
+
+/// What is said to more viewers than threads serve.
+const TOO_MANY: &str = "more than 64 viewers are served by '--one-thread' alone";
 
 /// An option of `serve`.
 fn option<'a>(alloc: Global, name: &'a str, help: &'a str) -> Arg<'a> {
     Arg::new(alloc, name).long(name).help(help)
+}
+
+/// The option that is for `serve` and for `self`.
+fn one_thread_option<'a>(alloc: Global) -> Arg<'a> {
+    Arg::new(alloc, "one-thread")
+        .long("one-thread")
+        .help("serves all viewers in one thread, by an event loop")
+        .action(ArgAction::SetTrue)
 }
 
 /// The command `serve`.
@@ -112,16 +123,16 @@ fn serve_command<'a>(alloc: Global) -> Result<Command<'a>, AllocError> {
     let limit = option(alloc, "limit", "rectangles in an update, 1 to 1000")
         .value_parser(value_parser!(u32))
         .default_value("50");
-    let viewers = option(alloc, "viewers", "how many viewers are served, 1 to 64")
-        .value_parser(value_parser!(u32).range(1..=64))
-        .default_value("1");
+    let viewers = option(
+        alloc,
+        "viewers",
+        "how many viewers are served, 1 to 64; with --one-thread to 1024",
+    )
+    .value_parser(value_parser!(u32).range(1..=1024))
+    .default_value("1");
     let check = Arg::new(alloc, "check")
         .long("check")
         .help("keeps what was drawn, heard and sent, and judges it at the end")
-        .action(ArgAction::SetTrue);
-    let one_thread = Arg::new(alloc, "one-thread")
-        .long("one-thread")
-        .help("serves all viewers in one thread, by an event loop")
         .action(ArgAction::SetTrue);
     Command::new(alloc, "serve")
         .about("shows a screen to viewers over TCP")
@@ -133,7 +144,19 @@ fn serve_command<'a>(alloc: Global) -> Result<Command<'a>, AllocError> {
         .arg(limit)?
         .arg(viewers)?
         .arg(check)?
-        .arg(one_thread)
+        .arg(one_thread_option(alloc))
+}
+
+/// How many viewers may be served.
+fn most_viewers(one_thread: bool) -> u32
+    ensures { result ≡ most_viewers one_thread }
+{
+    if one_thread { 1024 } else { 64 }
+}
+
+/// How many viewers the options of `serve` ask for.
+fn viewers_of(matches: &ArgMatches<'_>) -> u32 {
+    matches.get_one("viewers").unwrap_or(1)
 }
 
 /// What the options of `serve` say.
@@ -141,15 +164,16 @@ fn serve_of(alloc: Global, matches: &ArgMatches<'_>) -> Result<Chosen, AllocErro
     ensures { IfOk result HasViewers }
 {
     let name = matches.get_str("name").unwrap_or("demo");
+    let one_thread = matches.get_flag("one-thread");
     let options = ServeOptions {
         width: matches.get_one("width").unwrap_or(640),
         height: matches.get_one("height").unwrap_or(480),
         name: Listed::from_slice(alloc, name.as_bytes())?,
         limit: matches.get_one("limit").unwrap_or(50),
-        // clap refuses all other numbers, and says so
-        viewers: matches.get_one::<u32>("viewers").unwrap_or(1).clamp(1, 64),
+        // all other numbers are refused
+        viewers: viewers_of(matches).clamp(1, most_viewers(one_thread)),
         check: matches.get_flag("check"),
-        one_thread: matches.get_flag("one-thread"),
+        one_thread,
     };
     let port = matches.get_one("port").unwrap_or(5900);
     Ok(Chosen::Serve { port, options })
@@ -164,10 +188,13 @@ fn serve_line(alloc: Global, words: &[String]) -> Result<Chosen, Error>
         .subcommand_required(true)
         .subcommand(serve_command(alloc)?)?;
     let matches = command.try_get_matches_from(words)?;
-    match matches.subcommand_matches("serve") {
-        Some(matches) => Ok(serve_of(alloc, matches)?),
-        None => Err(Error::from(AllocError)),
+    let Some(matches) = matches.subcommand_matches("serve") else {
+        return Err(Error::from(AllocError));
+    };
+    if viewers_of(matches) > most_viewers(matches.get_flag("one-thread")) {
+        return Err(serve_command(alloc)?.error(ErrorKind::ValueValidation, TOO_MANY)?);
     }
+    Ok(serve_of(alloc, matches)?)
 }
 
 /// The command `self`.
@@ -178,7 +205,8 @@ fn own_command<'a>(alloc: Global) -> Result<Command<'a>, AllocError> {
     Command::new(alloc, "self")
         .about("serves viewers of its own, and says what they show")
         .after_help(OWN_HELP)
-        .arg(viewers)
+        .arg(viewers)?
+        .arg(one_thread_option(alloc))
 }
 
 /// What a line that begins with `self` chooses.
@@ -194,6 +222,7 @@ fn own_line(alloc: Global, words: &[String]) -> Result<Chosen, Error>
         // clap refuses all other numbers, and says so
         Some(matches) => Ok(Chosen::Own {
             viewers: matches.get_one::<u32>("viewers").unwrap_or(2).clamp(1, 8),
+            one_thread: matches.get_flag("one-thread"),
         }),
         None => Err(Error::from(AllocError)),
     }

@@ -9,12 +9,14 @@
 mod command_line;
 mod one_thread;
 mod own;
+mod own_one_thread;
 mod serve;
 mod watching;
 
 pub use command_line::{Chosen, line_of};
 pub use one_thread::serve_in_one_thread;
 pub use own::self_on;
+pub use own_one_thread::self_in_one_thread;
 pub use pixel_translate::{BitsPerPixel, Component};
 pub use script_player::{SCRIPT_LIMIT, Steps, play_over};
 pub use serve::{ServeOptions, serve_on};

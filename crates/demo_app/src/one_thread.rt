@@ -91,7 +91,7 @@ impl Application for Showing {
 }
 
 /// Why a loop ended early, as it is printed.
-fn trouble_of(error: LoopError) -> Trouble {
+pub(crate) fn trouble_of(error: LoopError) -> Trouble {
     match error {
         LoopError::Network | LoopError::Clock => Trouble::NetworkFault,
         // the application's calls are refused for memory alone

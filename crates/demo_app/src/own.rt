@@ -1,7 +1,8 @@
 //! `self`: a server and its viewers in one process, over loopback. The application draws the stored run, and each viewer says
 //! whether it shows what was drawn.
 
-ghost use Rattle.std.specs.Prelude.{◌≡◌, ◌-◌, ◌<◌, ◌⊎◌, true, IfOk};
+ghost use Rattle.std.specs.Prelude.{◌≡◌, ◌-◌, ◌<◌, ◌⊎◌, true, None, IfOk};
+ghost use Rattle.scene.specs.Alone.{config_refusal};
 
 use crate::serve::{print_verdict, trouble_of};
 use crate::watching::{COLUMNS, shut_all, watch};
@@ -28,15 +29,42 @@ const PICTURE: [u32; COLUMNS] = [1, 1, 2, 3];
 /// How long a viewer waits for bytes, in seconds: it waits in vain where a stranger's connection was accepted in its place.
 const READ_SECONDS: u64 = 30;
 
+/// The places that are painted, all of the screen, and their colours.
+pub(crate) const PLACES: Rect = Rect {
+    x1: 0,
+    y1: 0,
+    x2: 4,
+    y2: 1,
+};
+
+pub(crate) const COLOURS: [u32; COLUMNS] = [1, 2, 3, 4];
+
+/// The places that are copied to, one place to the right of their sources.
+pub(crate) const TARGET: Rect = Rect {
+    x1: 1,
+    y1: 0,
+    x2: 4,
+    y2: 1,
+};
+
+/// The text behind the last drawing call.
+pub(crate) const END: &[u8] = b"end";
+
 /// The application: once so many keys went down, one for each viewer that is open, it draws the stored run.
 #[derive(Drop)]
-struct Drawer {
+pub(crate) struct Drawer {
     awaited: u64,
 }
 
 impl Drawer {
+    pub(crate) fn new(awaited: u64) -> Drawer
+        ensures { result.awaited ≡ awaited }
+    {
+        Drawer { awaited }
+    }
+
     /// A key went down. Whether it was the last one that is awaited.
-    fn is_last_key(&mut self) -> bool
+    pub(crate) fn is_last_key(&mut self) -> bool
         ensures awaited { self.new.awaited ≡ self.old.awaited - 1 }
         ensures last { (result ≡ true → self.old.awaited ≡ 1) × (self.old.awaited ≡ 1 → result ≡ true) }
     {
@@ -52,15 +80,9 @@ fn draw<L: Ledger, R: Wait>(
     shared: &Shared<L>,
     brush: &mut Brush<L>,
 ) -> Result<(), ScreenError> {
-    let all = Rect {
-        x1: 0,
-        y1: 0,
-        x2: 4,
-        y2: 1,
-    };
-    brush.paint(shared, rt, all, &[1, 2, 3, 4])?;
+    brush.paint(shared, rt, PLACES, &COLOURS)?;
     brush.do_copy_rect(shared, rt, 1, 0, 4, 1, 1, 0)?;
-    brush.cut_text(shared, rt, b"end")
+    brush.cut_text(shared, rt, END)
 }
 
 impl<L: Ledger> Application<L> for Drawer {
@@ -79,7 +101,7 @@ impl<L: Ledger> Application<L> for Drawer {
 }
 
 /// Why the network gives no listener or connection.
-fn network_trouble(error: io::Error) -> Trouble {
+pub(crate) fn network_trouble(error: io::Error) -> Trouble {
     match error.kind() {
         ErrorKind::OutOfMemory => Trouble::OutOfMemory,
         _ => Trouble::NetworkFault,
@@ -93,14 +115,13 @@ fn connect<R: Net<Stream = TcpStream>>(rt: &R, address: SocketAddr) -> io::Resul
     Ok(stream)
 }
 
-/// So many connections to a listener, in the order in which it accepts them.
-fn connect_all<R: Net<Stream = TcpStream>>(
+/// So many connections to a listener's address, in the order in which it accepts them.
+pub(crate) fn connect_all<R: Net<Stream = TcpStream>>(
     rt: &R,
     alloc: Global,
-    listener: &TcpListener,
+    address: SocketAddr,
     viewers: u32,
 ) -> io::Result<Vec<TcpStream>> {
-    let address = listener.local_addr()?;
     let mut streams = Vec::new(alloc);
     for _ in 0..viewers {
         streams.push(connect(rt, address)?)?;
@@ -109,7 +130,7 @@ fn connect_all<R: Net<Stream = TcpStream>>(
 }
 
 /// A thread for each viewer.
-fn spawn_all<'s, E>(
+pub(crate) fn spawn_all<'s, E>(
     alloc: Global,
     streams: &'s [TcpStream],
     scope: &Scope<'s, E>,
@@ -125,7 +146,7 @@ fn spawn_all<'s, E>(
 }
 
 /// Whether each viewer shows the picture, in their order.
-fn join_all<R: Threads>(
+pub(crate) fn join_all<R: Threads>(
     rt: &R,
     alloc: Global,
     threads: Vec<JoinHandle<bool>>,
@@ -160,7 +181,7 @@ where
 {
     let threads = spawn_all(alloc, streams, scope)?;
     let viewers = streams.len() as u64;
-    let mut drawer = Drawer { awaited: viewers };
+    let mut drawer = Drawer::new(viewers);
     let receipts = serve_viewers(rt, alloc, listener, shared, brush, viewers, &mut drawer).map_err(
         trouble_of,
     )?;
@@ -183,7 +204,8 @@ where
 {
     let bound = rt.bind(SocketAddr::from((Ipv4Addr::LOCALHOST, 0)));
     let listener = bound.map_err(network_trouble)?;
-    let streams = connect_all(rt, alloc, &listener, viewers).map_err(network_trouble)?;
+    let address = listener.local_addr().map_err(network_trouble)?;
+    let streams = connect_all(rt, alloc, address, viewers).map_err(network_trouble)?;
     let (listener, streams) = (&listener, streams.as_slice());
     thread::scope(thread::scope_env(), rt, move |scope| {
         let run = run_in_scope(rt, alloc, listener, streams, shared, brush, scope);
@@ -195,7 +217,11 @@ where
 }
 
 /// Prints a line for each viewer.
-fn print_shows<W: Write>(alloc: Global, writer: &mut W, shows: &[bool]) -> Result<(), Trouble> {
+pub(crate) fn print_shows<W: Write>(
+    alloc: Global,
+    writer: &mut W,
+    shows: &[bool],
+) -> Result<(), Trouble> {
     for (viewer, shows) in (1u64..).zip(shows) {
         let what = if *shows { "shows" } else { "does not show" };
         let line = format!(in alloc; "viewer {viewer} {what} the screen\n")?;
@@ -204,8 +230,18 @@ fn print_shows<W: Write>(alloc: Global, writer: &mut W, shows: &[bool]) -> Resul
     Ok(())
 }
 
-/// The screen of the stored run, whose history is kept.
-fn config(alloc: Global) -> Result<Config, AllocError> {
+/// The status where each viewer shows the screen or doesn't, and the judgement has one.
+pub(crate) fn status_of(shows: &[bool], judged: u8) -> u8
+    requires { (judged ≡ 0) ⊎ (judged ≡ 4) }
+    ensures { (result ≡ 0) ⊎ (result ≡ 4) }
+{
+    if shows.contains(&false) { 4 } else { judged }
+}
+
+/// The screen of the stored run, whose history is kept. There is such a screen.
+pub(crate) fn config(alloc: Global) -> Result<Config, AllocError>
+    ensures { IfOk result (λ config. config_refusal config ≡ None) }
+{
     Ok(Config {
         width: 4,
         height: 1,
@@ -239,7 +275,7 @@ where
     let Run { shows, receipts } = run_with_viewers(rt, alloc, &shared, &mut brush, viewers)?;
     print_shows(alloc, writer, &shows)?;
     let judged = print_verdict(alloc, writer, shared, brush, receipts)?;
-    Ok(if shows.contains(&false) { 4 } else { judged })
+    Ok(status_of(&shows, judged))
 }
 
 /// The same, and what it printed is written out.

@@ -5,7 +5,8 @@ ghost use Rattle.std.specs.Prelude.{◌≡◌};
 
 use clap::error::ErrorKind;
 use demo_app::{
-    Chosen, ServeOptions, Steps, line_of, play_over, self_on, serve_in_one_thread, serve_on,
+    Chosen, ServeOptions, Steps, line_of, play_over, self_in_one_thread, self_on,
+    serve_in_one_thread, serve_on,
 };
 use std::alloc::Global;
 use std::io::{BufWriter, Write};
@@ -101,11 +102,16 @@ fn own<R: Runtime + Threads + Wait + Net<Listener = TcpListener, Stream = TcpStr
     rt: &R,
     alloc: Global,
     viewers: u32,
+    one_thread: bool,
 ) -> ExitCode {
     let Ok(mut writer) = BufWriter::new(alloc, io::writer(rt)) else {
         return out_of_memory(rt);
     };
-    let status = self_on(rt, alloc, viewers, &mut writer);
+    let status = if one_thread {
+        self_in_one_thread(rt, alloc, viewers, &mut writer)
+    } else {
+        self_on(rt, alloc, viewers, &mut writer)
+    };
     // After a write fault nothing more is written: what the buffer holds is let go.
     let _ = writer.into_parts();
     ExitCode::from(status)
@@ -118,7 +124,12 @@ fn main(rt: HostRuntime) -> ExitCode {
     match line_of(rt.alloc(), &words) {
         Ok(Chosen::Play) => play::<Brand>(&rt, Blank::new(1)),
         Ok(Chosen::Serve { port, options }) => serve(&rt, rt.alloc(), port, &options),
-        Ok(Chosen::Own { viewers }) => own(&rt, rt.alloc(), viewers),
+        Ok(
+            Chosen::Own {
+                viewers,
+                one_thread,
+            },
+        ) => own(&rt, rt.alloc(), viewers, one_thread),
         Err(error) if error.kind() == ErrorKind::OutOfMemory => out_of_memory(&rt),
         Err(error) => {
             // Where standard error fails too, there is nobody left to tell.

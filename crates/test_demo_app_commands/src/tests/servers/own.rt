@@ -1,19 +1,20 @@
 // `self`: what is printed, and the status. The bytes are written out from RFC 6143.
 
-use demo_app::self_on;
+use demo_app::{self_in_one_thread, self_on};
 use std::alloc::Global;
 use std::io;
 use std::io::Write;
 use std::net::{Net, TcpListener, TcpStream};
 use std::sync::Wait;
 use std::thread::Threads;
+use std::time::Clock;
 
 static EIGHT: &str =
     "viewer 1 shows the screen\nviewer 2 shows the screen\nviewer 3 shows the screen\nviewer 4 shows the screen\n\
     viewer 5 shows the screen\nviewer 6 shows the screen\nviewer 7 shows the screen\nviewer 8 shows the screen\nfinish ok\n";
 
-// Whether so many viewers are served, and this is printed.
-fn prints<R: Threads + Wait + Net<Listener = TcpListener, Stream = TcpStream> + Sync>(
+// Whether so many viewers are served, and this is printed, by threads and by one.
+fn prints<R: Threads + Wait + Clock + Net<Listener = TcpListener, Stream = TcpStream> + Sync>(
     rt: &R,
     alloc: Global,
     viewers: u32,
@@ -21,7 +22,11 @@ fn prints<R: Threads + Wait + Net<Listener = TcpListener, Stream = TcpStream> + 
 ) -> bool {
     let mut out = Vec::new(alloc);
     let status = self_on(rt, alloc, viewers, &mut out);
-    status == 0 && out.as_slice() == printed.as_bytes()
+    let mut by_one = Vec::new(alloc);
+    let status_by_one = self_in_one_thread(rt, alloc, viewers, &mut by_one);
+    (status, status_by_one) == (0, 0)
+        && out.as_slice() == printed.as_bytes()
+        && by_one.as_slice() == printed.as_bytes()
 }
 
 #[test]
@@ -49,4 +54,5 @@ impl Write for Full {
 #[test]
 fn a_writer_that_takes_nothing(rt: HostRuntime) {
     assert_eq!(rt; self_on(&rt, rt.alloc(), 2, &mut Full), 5);
+    assert_eq!(rt; self_in_one_thread(&rt, rt.alloc(), 2, &mut Full), 5);
 }
