@@ -2,7 +2,7 @@
 """alone.py PROGRAM [--rounds 3] [--only REGEX] [--json FILE] - what PROGRAM takes by itself, as a table in Markdown.
 
 PROGRAM is a built `vncdemo`. A cell is the median of the rounds; instructions are counted once, by valgrind."""
-import argparse
+import functools
 import json
 import os
 import re
@@ -11,7 +11,7 @@ import subprocess
 import sys
 
 from marks import script
-from runs import TEXT, VGA, instructions, machine, middle, number, ours, under_load
+from runs import TEXT, VGA, instructions, machine, middle, number, options, ours, under_load
 
 ENCODINGS = ("raw", "rre", "hextile")
 # The C library then gives each block of 64 KB and more back to the system when it is freed.
@@ -46,12 +46,13 @@ def whole_updates(command, encoding):
     return found(command, 1, ["full", "--encoding", encoding, *TEXT], "updates_per_s_q3")
 
 
+@functools.lru_cache(None)
 def counted(command, viewers, load, few, many):
-    """instructions for each further update or dot"""
+    """instructions for each further update or dot: all, and those outside of the C library"""
     counts = [instructions(command, VGA, viewers, [*load, "--viewers", viewers, "--count", n]) for n in (few, many)]
     if None in counts:
         raise Failed("valgrind counted nothing")
-    return (counts[1] - counts[0]) / (many - few)
+    return [(after - before) / (many - few) for before, after in zip(*counts)]
 
 
 def played(program, viewers):
@@ -70,7 +71,7 @@ def played(program, viewers):
 
 def rows(program):
     """what is measured, its unit, a function for each value, how many rounds"""
-    serve = ours(program)
+    serve, one_thread = ours(program), ours(program, "--one-thread")
     yield "memory, one viewer", "MB", [lambda: rss(serve, 1) / 1024], True
     yield "memory of each further viewer", "KB", [lambda: further(serve)], True
     yield "the same, freed updates given back", "KB", [lambda: further(RETURNS + serve)], True
@@ -79,20 +80,17 @@ def rows(program):
         lambda: 100 * found(serve, 64, ["idle", "--viewers", 64], "server_cpu_share")], True
     yield "whole updates a second: Raw, RRE, Hextile", "", [lambda e=e: whole_updates(serve, e) for e in ENCODINGS], True
     yield "instructions for each: Raw, RRE, Hextile", "million", [
-        lambda e=e: counted(serve, 1, ["full", "--encoding", e, *TEXT], 2, 12) / 1e6 for e in ENCODINGS], False
-    yield "instructions for a dot: 1, 8, 32 viewers", "thousand", [
-        lambda n=n: counted(serve, n, ["dots"], 10, 110) / 1e3 for n in (1, 8, 32)], False
+        lambda e=e: counted(serve, 1, ("full", "--encoding", e, *TEXT), 2, 12)[0] / 1e6 for e in ENCODINGS], False
+    for command, name in ((serve, ""), (one_thread, " with `--one-thread`")):
+        for part, which in enumerate(("", ", without the C library's")):
+            yield f"instructions for a dot{name}{which}: 1, 8, 32 viewers", "thousand", [
+                lambda n=n, c=command, p=part: counted(c, n, ("dots",), 10, 110)[p] / 1e3 for n in (1, 8, 32)], False
     yield "100,000 marks: 1, 8, 64 viewers", "s", [lambda n=n: played(program, n) for n in (1, 8, 64)], True
     yield "the program", "MB", [lambda: os.path.getsize(program) / 1048576], False
 
 
 def main():
-    p = argparse.ArgumentParser(description=__doc__, formatter_class=argparse.RawDescriptionHelpFormatter)
-    p.add_argument("program")
-    p.add_argument("--rounds", type=int, default=3)
-    p.add_argument("--only", default="")
-    p.add_argument("--json")
-    opts = p.parse_args()
+    opts = options(__doc__)
     program = os.path.abspath(opts.program)
     print(f"{machine()}; {opts.rounds} rounds\n", flush=True)
     print("| what | value |\n|---|---|", flush=True)

@@ -1,6 +1,6 @@
 /* load.c - viewers that load an RFB server on 127.0.0.1, over plain sockets.
  *
- *   load full|dots|slow|idle|churn --port P [options]             (see usage)
+ *   load full|dots|slow|idle|churn|hostile --port P [options]     (see usage)
  *
  * Each viewer has a thread. Every rectangle is parsed and checked; `dots`,
  * --prepaint and --verify decode into a picture as well. Each mode prints one
@@ -11,6 +11,7 @@
 #include <errno.h>
 #include <netinet/in.h>
 #include <netinet/tcp.h>
+#include <poll.h>
 #include <pthread.h>
 #include <signal.h>
 #include <stdarg.h>
@@ -26,7 +27,7 @@
 #include <unistd.h>
 
 #define BUFSZ (256 * 1024)
-#define MAXV 256
+#define MAXV 1024
 #define RAW 0
 #define RRE 2
 #define HEXTILE 5
@@ -39,7 +40,7 @@ static int o_port, o_viewers = 1, o_enc = RAW, o_format = 32, o_prepaint;
 static int o_verify, o_count, o_conns = 40;
 static double o_seconds = 2, o_warmup = 0.5, o_rate = 200, o_phase = 3;
 static long o_pid;
-static const char *mode;
+static const char *o_attack = "", *mode;
 
 /* ---- small things ------------------------------------------------------ */
 
@@ -273,7 +274,10 @@ static int not_open(struct conn *c, const u8 *p, const char *what)
     return -1;
 }
 
-/* connects, and opens in version 3.8 with security type None, until the ServerInit */
+/* connects, and opens in version 3.8 with security type None, until the
+ * ServerInit. Where openings are not what is measured, the version is said
+ * before the server's is read: LibVNCServer waits 0.1 s for the first bytes of
+ * a viewer, which might be a WebSocket's, and serves nobody meanwhile. */
 static int greet_with(struct conn *c, int index, int rcvbuf)
 {
     memset(c, 0, sizeof *c);
@@ -284,9 +288,11 @@ static int greet_with(struct conn *c, int index, int rcvbuf)
     u64 t0 = now_ns();
     c->fd = dial(rcvbuf);
     if (c->fd < 0) { fail("viewer %d: connect: %s", index + 1, strerror(errno)); return -1; }
+    int early = strcmp(mode, "churn") != 0;
+    if (early && say(c, "RFB 003.008\n", 12)) return -1;
     const u8 *p = take(c, 12);
     if (!p || memcmp(p, "RFB 003.", 8)) return not_open(c, p, "no version");
-    if (say(c, "RFB 003.008\n", 12)) return -1;
+    if (!early && say(c, "RFB 003.008\n", 12)) return -1;
     p = take(c, 1);
     if (!p || p[0] == 0) return not_open(c, p, "no security types");
     int n = p[0], found = 0;
@@ -499,10 +505,11 @@ static int refresh(struct conn *c)
 {
     long area = 0, whole = (long)c->w * c->h;
     if (request(c, 0, 0, 0, c->w, c->h)) return -1;
-    for (int guard = 0; guard < 100000; guard++) {
+    for (int guard = 0; guard < 100000; ) {
         long n = message(c);
         if (n == -1) return -1;
-        if (n == -2) continue;
+        if (n == -2) continue;           /* of bells and texts there may be any number */
+        guard++;
         area += n;
         if (area >= whole) { done_one(c); return 0; }
         if (request(c, 1, 0, 0, c->w, c->h)) return -1;
@@ -937,7 +944,9 @@ static int run_dots(void)
         conns[i].impatient = 1;
     }
     u64 places = (u64)conns[0].w * (u64)conns[0].h;
-    dot_count = places - 1 < MAXDOTS ? (long)places - 1 : MAXDOTS;
+    dot_count = o_count ? o_count : o_rate > 0 ? (long)(o_rate * (o_warmup + o_seconds + 1)) + 100 : MAXDOTS;
+    if (dot_count > MAXDOTS) dot_count = MAXDOTS;
+    if ((u64)dot_count > places - 1) dot_count = (long)places - 1;
     for (dot_step = places * 5 / 13 | 1; ; dot_step += 2) {      /* coprime: no place twice */
         u64 x = dot_step, y = places;
         while (y) { u64 r = x % y; x = y; y = r; }
@@ -1009,7 +1018,7 @@ static int run_dots(void)
            lost, u ? low * n / u : -1, connect_med, connect_max);
     json_usage(&a, &b, u);
     if (o_pid > 0 && dots) printf(",\"cpu_us_per_dot\":%.3f", (b.u.cpu - a.u.cpu) * 1e6 / (double)dots);
-    if (dots == 0 || seen == 0) fail("no dot was seen");
+    if (nw == 0) fail("no dot was seen by all");
     for (int i = 0; i < n; i++) hang_up(&conns[i]);
     return json_end();
 }
@@ -1113,17 +1122,160 @@ static int run_churn(void)
     return json_end();
 }
 
+/* ---- hostile ------------------------------------------------------------------- */
+
+/* One viewer asks for one whole update after another, first alone and then
+ * while others mean it no good. What is left to it of its updates?
+ *   unread     one asks for whole updates, and never reads
+ *   nonsense   connections come and go, a few at a time (talk_nonsense)
+ *   half-open  one says the beginning of its version, and no more
+ *   pointers, keys, texts, requests
+ *              eight send these without end, and read what comes; the requests
+ *              are for changes of the whole screen
+ *   wholes     eight ask for whole updates without end, and never read */
+enum { UNREAD, NONSENSE, HALF_OPEN, POINTERS, KEYS, TEXTS, REQUESTS, WHOLES, ATTACKS };
+static const char *attack_names[ATTACKS] = { "unread", "nonsense", "half-open", "pointers", "keys", "texts", "requests", "wholes" };
+static const int attackers[ATTACKS] = { 1, 4, 1, 8, 8, 8, 8, 8 };    /* at the same time */
+
+static int attack;
+static u8 block[65536];              /* what a flood sends again and again, or nonsense */
+static size_t block_size;
+static atomic_int nonsense_next;
+static atomic_ullong attack_bytes;
+
+/* The messages of a flood, one behind the other, as many as the block holds. */
+static size_t make_block(int w, int h)
+{
+    u32 x = 99;
+    size_t n = 0;
+    for (size_t i = 0; i < sizeof block; i++) { x = x * 1664525u + 1013904223u; block[i] = (u8)(x >> 24); }
+    u8 key[8] = { 4, 1, 0, 0, 0, 0, 0, 0x61 }, text[8] = { 6, 0, 0, 0, 0, 0, 0xff, 0xf8 };
+    u8 ask[10] = { 3, attack == REQUESTS };
+    put16(ask + 6, (unsigned)w);
+    put16(ask + 8, (unsigned)h);
+    switch (attack) {
+    case POINTERS: for (int i = 0; n + 6 <= sizeof block; i++, n += 6) put_pointer(block + n, 1, i * 37 % w, i * 61 % h); return n;
+    case KEYS: for (; n + 8 <= sizeof block; n += 8) memcpy(block + n, key, 8); return n;
+    case TEXTS: memcpy(block, text, 8); return sizeof block;
+    case REQUESTS: case WHOLES: for (; n + 10 <= sizeof block; n += 10) memcpy(block + n, ask, 10); return n;
+    default: return sizeof block;
+    }
+}
+
+/* Sends n bytes, and throws away what comes meanwhile; -1 where the connection
+ * or the attack is over. */
+static int push(int fd, const void *p, size_t n)
+{
+    static u8 thrown[65536];
+    const u8 *b = p;
+    while (n > 0) {
+        ssize_t k = send(fd, b, n, MSG_NOSIGNAL | MSG_DONTWAIT);
+        if (atomic_load(&stop_all) || (k < 0 && errno != EAGAIN && errno != EINTR)) return -1;
+        if (k > 0) { b += k; n -= (size_t)k; atomic_fetch_add(&attack_bytes, (u64)k); }
+        int reads = attack != WHOLES;
+        while (reads && recv(fd, thrown, sizeof thrown, MSG_TRUNC | MSG_DONTWAIT) > 0) ;
+        struct pollfd ready = { fd, (short)(reads ? POLLIN | POLLOUT : POLLOUT), 0 };
+        if (k < 0) poll(&ready, 1, 50);
+    }
+    return 0;
+}
+
+/* Connections whose bytes are no opening, or are nonsense behind one: o_conns
+ * of them over the phase, as many at the same time as there are attackers. */
+static void talk_nonsense(void)
+{
+    static const char http[] = "GET / HTTP/1.1\r\nHost: x\r\nUpgrade: websocket\r\nConnection: Upgrade\r\n\r\n";
+    int i;
+    while ((i = atomic_fetch_add(&nonsense_next, 1)) < o_conns && !atomic_load(&stop_all)) {
+        int fd = dial(0);
+        struct linger reset = { 1, 0 };
+        switch (i % 4) {
+        case 0: push(fd, block, sizeof block); break;
+        case 1: push(fd, http, sizeof http - 1); break;
+        case 2: if (!push(fd, "RFB 003.008\n\1\1", 14)) push(fd, block + i % 1000, 10000); break;
+        case 3: push(fd, "RFB 003.008\n\1", 13); setsockopt(fd, SOL_SOCKET, SO_LINGER, &reset, sizeof reset); break;
+        }
+        sleep_s(o_phase * attackers[NONSENSE] / o_conns);
+        if (fd >= 0) close(fd);
+    }
+}
+
+static void *attacker(void *arg)
+{
+    struct conn *c = arg;
+    switch (attack) {
+    case UNREAD:                     /* spaced, so that a server that joins requests fills the buffers too */
+        for (int i = 0; i < 100 && !atomic_load(&stop_all); i++) { request(c, 0, 0, 0, c->w, c->h); sleep_s(0.003); }
+        break;
+    case NONSENSE: talk_nonsense(); break;
+    case HALF_OPEN:                  /* it stays connected until the end */
+        if ((c->fd = dial(0)) < 0) fail("connect: %s", strerror(errno));
+        else push(c->fd, "RFB 0", 5);
+        break;
+    default: while (!push(c->fd, block, block_size)) ;
+    }
+    return NULL;
+}
+
+static int run_hostile(void)
+{
+    static struct conn others[8];
+    pthread_t good, th[8];
+    static struct sample a, b, d, e;
+    while (attack < ATTACKS && strcmp(o_attack, attack_names[attack])) attack++;
+    if (attack == ATTACKS) { fail("no such attack"); return cannot(); }
+    int n = attackers[attack];
+    if (open_all(1, 1)) return cannot();
+    conns[0].impatient = 1;
+    pthread_create(&good, NULL, full_viewer, &conns[0]);
+    sleep_s(o_warmup);
+    reset_stall(1);
+    sample(&a, 1);
+    sleep_s(o_seconds);
+    sample(&b, 1);
+    u64 stall0 = worst_stall(1);
+
+    block_size = make_block(conns[0].w, conns[0].h);
+    for (int i = 0; i < n; i++) {
+        others[i].fd = -1;
+        if (attack == NONSENSE || attack == HALF_OPEN) continue;
+        if (greet_with(&others[i], 1 + i, attack == UNREAD ? 4096 : 0)) return cannot();
+    }
+    reset_stall(1);
+    sample(&d, 1);
+    for (int i = 0; i < n; i++) pthread_create(&th[i], NULL, attacker, &others[i]);
+    sleep_s(o_phase);
+    sample(&e, 1);
+    u64 stall1 = worst_stall(1);
+    atomic_store(&stop_all, 1);
+    for (int i = 0; i < n; i++) pthread_join(th[i], NULL);
+    shutdown(conns[0].fd, SHUT_RDWR);
+    pthread_join(good, NULL);
+    double r0 = (double)(b.updates[0] - a.updates[0]) / ((double)(b.t - a.t) / 1e9);
+    double r1 = (double)(e.updates[0] - d.updates[0]) / ((double)(e.t - d.t) / 1e9);
+    if (o_pid > 0 && !e.u.alive) fail("the server has ended");
+    json_head(conns[0].w, conns[0].h);
+    printf(",\"attack\":\"%s\",\"attack_mb\":%.3f,\"per_s_alone\":%.2f,\"per_s_attacked\":%.2f,\"share\":%.4f",
+           o_attack, (double)atomic_load(&attack_bytes) / 1e6, r0, r1, r0 > 0 ? r1 / r0 : -1);
+    printf(",\"stall_ms_alone\":%.2f,\"stall_ms_attacked\":%.2f", (double)stall0 / 1e6, (double)stall1 / 1e6);
+    json_usage(&d, &e, (double)(e.updates[0] - d.updates[0]));
+    for (int i = 0; i < n; i++) hang_up(&others[i]);
+    hang_up(&conns[0]);
+    return json_end();
+}
+
 /* ---- main ---------------------------------------------------------------------- */
 
 static int usage(void)
 {
     fprintf(stderr,
-        "load full|dots|slow|idle|churn --port P [--viewers N] [--encoding raw|rre|hextile] [--format 32|16|8]\n"
+        "load full|dots|slow|idle|churn|hostile --port P [--viewers N] [--encoding raw|rre|hextile] [--format 32|16|8]\n"
         "  [--seconds S] [--warmup S] [--pid PID] [--prepaint PLACES] [--verify]\n"
         "  full: --count UPDATES (of each viewer, in place of a time; no rates are told)\n"
         "  dots: --rate R (0: the next dot once all viewers saw the last), --count DOTS (in place of a time, at rate 0)\n"
         "  slow: --phase S   (N viewers, one of which never reads)\n"
-        "  churn: --conns C\n");
+        "  churn: --conns C\n"
+        "  hostile: --attack unread|nonsense|half-open|pointers|keys|texts|requests|wholes --phase S --conns C (of nonsense)\n");
     return 2;
 }
 
@@ -1148,6 +1300,7 @@ int main(int argc, char **argv)
         else if (!strcmp(a, "--prepaint")) o_prepaint = atoi(v);
         else if (!strcmp(a, "--count")) o_count = atoi(v);
         else if (!strcmp(a, "--conns")) o_conns = atoi(v);
+        else if (!strcmp(a, "--attack")) o_attack = v;
         else return usage();
     }
     if (o_count) o_rate = 0;
@@ -1155,6 +1308,11 @@ int main(int argc, char **argv)
         o_warmup > 60 || o_conns < 1 || o_conns > 100000 || o_rate > 100000 || o_prepaint < 0 || o_prepaint > 1000000 ||
         (o_format != 32 && o_format != 16 && o_format != 8)) return usage();
     signal(SIGPIPE, SIG_IGN);
+    struct rlimit handles;           /* one for each viewer */
+    if (!getrlimit(RLIMIT_NOFILE, &handles) && handles.rlim_cur < MAXV + 64) {
+        handles.rlim_cur = handles.rlim_max < MAXV + 64 ? handles.rlim_max : MAXV + 64;
+        setrlimit(RLIMIT_NOFILE, &handles);
+    }
     /* whatever happens: an end */
     alarm((unsigned)(2 * (o_seconds + o_warmup + o_phase) + (o_count ? 500 : 100)));
     if (!strcmp(mode, "full")) return run_full();
@@ -1162,5 +1320,6 @@ int main(int argc, char **argv)
     if (!strcmp(mode, "slow")) return run_slow();
     if (!strcmp(mode, "idle")) return run_idle();
     if (!strcmp(mode, "churn")) return run_churn();
+    if (!strcmp(mode, "hostile")) return run_hostile();
     return usage();
 }

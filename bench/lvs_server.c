@@ -6,8 +6,9 @@
  *
  * thread: rfbRunEventLoop in the background, two threads for each viewer.
  * loop, which is taken where none is said: rfbProcessEvents, one thread for
- * all. It ends after 600 s, or by SIGTERM. The word serve and --viewers N are
- * read and have no effect, so that it can stand in for `vncdemo`. */
+ * all. It ends after 600 s, or by SIGTERM. The word serve, --viewers N and
+ * --one-thread are read and have no effect, so that it can stand in for
+ * `vncdemo`. */
 #define _GNU_SOURCE
 #include <rfb/rfb.h>
 #include <signal.h>
@@ -43,9 +44,10 @@ int main(int argc, char **argv)
 {
     int port = 5900, width = 640, height = 480, threaded = 0;
     int first = argc > 1 && !strcmp(argv[1], "serve") ? 2 : 1;
-    if ((argc - first) % 2) { fprintf(stderr, "bad options\n"); return 2; }
-    for (int i = first; i + 1 < argc; i += 2) {
-        const char *a = argv[i], *v = argv[i + 1];
+    for (int i = first; i < argc; i++) {
+        const char *a = argv[i], *v = i + 1 < argc ? argv[i + 1] : "";
+        if (!strcmp(a, "--one-thread")) continue;
+        i++;
         if (!strcmp(a, "--port")) port = atoi(v);
         else if (!strcmp(a, "--width")) width = atoi(v);
         else if (!strcmp(a, "--height")) height = atoi(v);

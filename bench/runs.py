@@ -2,10 +2,12 @@
 
 A server is a command line without a shell, in which {port}, {width}, {height}
 and {viewers} are filled in. Each run gets a server of its own, on 127.0.0.1."""
+import argparse
 import json
 import os
 import platform
 import re
+import resource
 import shlex
 import signal
 import statistics
@@ -20,10 +22,17 @@ VGA, HD = (640, 480), (1920, 1080)
 TEXT = ["--prepaint", "60000"]
 last_port = 5940
 
+# 1,000 viewers want more handles than some systems give. All servers get the same number on every machine, since LibVNCServer
+# looks at each possible handle at an opening, and takes viewers for half of them.
+HANDLES = 4096
+most_handles = resource.getrlimit(resource.RLIMIT_NOFILE)[1]
+resource.setrlimit(resource.RLIMIT_NOFILE, (HANDLES if most_handles < 0 else min(HANDLES, most_handles), most_handles))
 
-def ours(program):
-    """the command line of this project's server"""
-    return f"{os.path.abspath(program)} serve --port {{port}} --width {{width}} --height {{height}} --viewers {{viewers}}"
+
+def ours(program, *more):
+    """the command line of this project's server, with more options behind"""
+    words = [os.path.abspath(program), "serve", "--port {port} --width {width} --height {height} --viewers {viewers}", *more]
+    return " ".join(words)
 
 
 def lvs(mode):
@@ -96,9 +105,11 @@ def under_load(command, size, viewers, args, seconds=1):
         time.sleep(0.15)
         if server.poll() is not None or not listening(port):
             log.seek(0)
-            return {"ok": False, "first_failure": "no server: " + log.read()[-200:].decode("utf-8", "replace")}
+            said = " ".join(log.read()[-200:].decode("utf-8", "replace").split())
+            return {"ok": False, "first_failure": "no server: " + said}
         all0, _, stolen0 = cpu_times()
-        words = [LOAD, *map(str, args), "--port", str(port), "--pid", str(server.pid), "--seconds", str(seconds)]
+        words = [LOAD, args[0], "--port", port, "--pid", server.pid, "--seconds", seconds, *args[1:]]
+        words = [str(word) for word in words]
         done = subprocess.run(words, stdout=subprocess.PIPE, stderr=subprocess.DEVNULL, timeout=300)
         all1, _, stolen1 = cpu_times()
         result = json.loads(done.stdout.decode().strip().splitlines()[-1])
@@ -111,8 +122,43 @@ def under_load(command, size, viewers, args, seconds=1):
         log.close()
 
 
+def in_turns(servers, rounds, size, viewers, args):
+    """the runs of each server that gave numbers, and what is said of the others"""
+    runs, failed = {name: [] for name, _ in servers}, []
+    for _ in range(rounds):
+        for name, command in servers:
+            result = under_load(command, size, viewers, args)
+            if result.get("ok"):
+                runs[name].append(result)
+            else:
+                failed.append(f"{name}: {result.get('first_failure')}")
+    return runs, failed
+
+
+C_LIBRARY = re.compile(r"/(lib(c|m|pthread)|ld-linux[^/]*)[-.][^/]*$")
+
+
+def own_instructions(file):
+    """what callgrind counted outside of the C library"""
+    names, place, of_a_call, own = {}, "", False, 0
+    with open(file) as f:
+        for line in f:
+            found = re.match(r"(c?ob)=\((\d+)\)(?: (.*))?", line)
+            if found:
+                kind, key, name = found.groups()
+                names.setdefault(key, name)
+                place = names[key] if kind == "ob" else place
+            elif line.startswith("calls="):
+                of_a_call = True                 # the next line counts what was called
+            elif line[0] in "+-*0123456789":
+                if not of_a_call and not C_LIBRARY.search(place):
+                    own += int(line.split()[1])
+                of_a_call = False
+    return own
+
+
 def instructions(command, size, viewers, args):
-    """how many instructions valgrind counts in the server, in user mode, until it ends"""
+    """how many instructions valgrind counts in the server, in user mode, until it ends: all, and those outside of the C library"""
     with tempfile.TemporaryDirectory() as room:
         before = ["valgrind", "--tool=callgrind", f"--callgrind-out-file={room}/out", "--fair-sched=yes"]
         server, port, log = start(command, size, viewers, before, wait=60)
@@ -120,11 +166,23 @@ def instructions(command, size, viewers, args):
             done = subprocess.run([LOAD, *map(str, args), "--port", str(port)], stdout=subprocess.PIPE, timeout=600)
             result = json.loads(done.stdout.decode().strip().splitlines()[-1])
             time.sleep(0.3)
+        except (subprocess.TimeoutExpired, ValueError, IndexError):
+            return None
         finally:
             stop(server, 30)
         log.seek(0)
         found = re.search(r"Collected : (\d+)", log.read().decode("utf-8", "replace"))
-        return int(found.group(1)) if found and result.get("ok") else None
+        return (int(found.group(1)), own_instructions(f"{room}/out")) if found and result.get("ok") else None
+
+
+def options(doc):
+    """what a table's command line says"""
+    p = argparse.ArgumentParser(description=doc, formatter_class=argparse.RawDescriptionHelpFormatter)
+    p.add_argument("program")
+    p.add_argument("--rounds", type=int, default=3)
+    p.add_argument("--only", default="")
+    p.add_argument("--json")
+    return p.parse_args()
 
 
 def middle(values):
