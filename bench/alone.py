@@ -3,7 +3,6 @@
 
 PROGRAM is a built `vncdemo`. A cell is the median of the rounds; instructions are counted once, by valgrind."""
 import functools
-import json
 import os
 import re
 import resource
@@ -11,7 +10,7 @@ import subprocess
 import sys
 
 from marks import script
-from runs import TEXT, VGA, instructions, machine, middle, number, options, ours, under_load
+from runs import TEXT, VGA, ended, instructions, machine, middle, number, options, ours, under_load
 
 ENCODINGS = ("raw", "rre", "hextile")
 # The C library then gives each block of 64 KB and more back to the system when it is freed.
@@ -110,12 +109,7 @@ def main():
             cells.append(number(middle(runs)))
         kept.append({"what": what, "unit": unit, "runs": all_runs})
         print(f"| {what} | {', '.join(cells)}{' ' * bool(unit)}{unit} |", flush=True)
-    for line in failed:
-        print(f"FAILED {line}")
-    if opts.json:
-        with open(opts.json, "w") as f:
-            json.dump(kept, f, indent=1)
-    return 1 if failed else 0
+    return ended(opts, kept, failed)
 
 
 if __name__ == "__main__":

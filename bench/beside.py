@@ -3,11 +3,10 @@
 
 PROGRAM is a built `vncdemo`. In each round the servers take turns, and a cell is the median of the rounds. In brackets
 stands the ratio to the first column."""
-import json
 import re
 import sys
 
-from runs import HD, TEXT, VGA, in_turns, lvs, machine, middle, number, options, ours, spread
+from runs import HD, TEXT, VGA, ended, in_turns, lvs, machine, middle, number, options, ours, spread
 
 HEADS = {"loop": "LibVNCServer, loop", "one-thread": "`vncdemo serve --one-thread`", "vncdemo": "`vncdemo serve`",
          "threads": "LibVNCServer, threads"}
@@ -92,12 +91,7 @@ def main():
         print(f"| {what} | " + " | ".join(cells) + " |", flush=True)
     print(f"\nRounds differ in a cell's first number by {100 * (middle(apart) or 0):.0f} % in the middle, "
           f"{100 * max(apart, default=0):.0f} % at most. The host took up to {100 * stolen:.0f} % of the processors' time.")
-    for line in failed:
-        print(f"FAILED {line}")
-    if opts.json:
-        with open(opts.json, "w") as f:
-            json.dump(kept, f, indent=1)
-    return 1 if failed else 0
+    return ended(opts, kept, failed)
 
 
 if __name__ == "__main__":

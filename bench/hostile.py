@@ -3,11 +3,10 @@
 
 PROGRAM is a built `vncdemo`. One viewer asks for one whole update after another, first alone, and then while others mean it no
 good. In each round the servers take turns, and a cell is the median of the rounds."""
-import json
 import re
 import sys
 
-from runs import VGA, in_turns, lvs, machine, middle, number, options, ours
+from runs import VGA, ended, in_turns, lvs, machine, middle, number, options, ours
 
 HEADS = ("LibVNCServer, loop", "`vncdemo serve --one-thread`", "`vncdemo serve`")
 NONSENSE = 40
@@ -50,12 +49,7 @@ def main():
         cells.append(f"{number(rate)}, {number(stall, 2)}")
     print("| nothing: updates a second | | " + " | ".join(cells) + " |")
     print("\nThe part of its updates that the viewer still has, and its longest time without one, in milliseconds.")
-    for line in failed:
-        print(f"FAILED {line}")
-    if opts.json:
-        with open(opts.json, "w") as f:
-            json.dump(kept, f, indent=1)
-    return 1 if failed else 0
+    return ended(opts, kept, failed)
 
 
 if __name__ == "__main__":

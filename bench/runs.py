@@ -185,6 +185,16 @@ def options(doc):
     return p.parse_args()
 
 
+def ended(opts, kept, failed):
+    """what every table ends with: the runs that gave nothing, and each run's numbers where they are wanted; the status"""
+    for line in failed:
+        print(f"FAILED {line}")
+    if opts.json:
+        with open(opts.json, "w") as f:
+            json.dump(kept, f, indent=1)
+    return 1 if failed else 0
+
+
 def middle(values):
     return statistics.median(values) if values else None
 
