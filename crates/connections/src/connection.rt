@@ -19,9 +19,6 @@ use std::alloc::{AllocError, Global};
 use std::io::ErrorKind;
 use std::marker::Model;
 
-/// More bytes at once than viewers say who are not in a hurry: twelve requests, or twenty-one pointers.
-const MANY: usize = 128;
-
 /// A viewer's connection. It is heard until it ends, and what waits for it then is written still, unless it ended by a failure.
 #[derive(Drop)]
 pub(crate) struct Connection<T: Transport> {
@@ -34,7 +31,7 @@ pub(crate) struct Connection<T: Transport> {
     heard: Option<Vec<u8>>,
     cuts: u64,
     readiness: Readiness,
-    // its last read gave many bytes
+    // its last read gave as many bytes as there was room for
     is_flooding: bool,
     // as many writes were made as one turn has: an update may be cut at once
     looks_again: bool,
@@ -162,7 +159,7 @@ impl<T: Transport> Connection<T> {
         self.ended.is_none() && self.readiness.may_read
     }
 
-    /// Whether its last read gave more than 128 bytes.
+    /// Whether its last read gave as many bytes as there was room for.
     pub fn is_flooding(&self) -> bool {
         self.is_flooding
     }
@@ -238,8 +235,8 @@ impl<T: Transport> Connection<T> {
         match self.transport.transport.receive(room) {
             Ok(0) => Got::End,
             Ok(count) => {
-                self.is_flooding = count > MANY;
-                self.readiness.may_read = count >= size || self.readiness.is_hung_up;
+                self.is_flooding = count >= size;
+                self.readiness.may_read = self.is_flooding || self.readiness.is_hung_up;
                 Got::Piece(count)
             }
             Err(e) => match e.kind() {

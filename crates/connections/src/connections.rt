@@ -281,9 +281,9 @@ impl<T: Transport> Connections<T> {
         Ok(())
     }
 
-    /// One turn. Of each connection on the agenda one piece of at most 512 bytes is read and heard, and the application is told what
-    /// it says; of those whose last read gave more than 128 bytes only the one that waited longest. Then each is written what it was given,
-    /// and cut updates, in at most four writes of at most 65,536 bytes.
+    /// One turn. Of each connection on the agenda one piece of at most 128 bytes is read and heard, and the application is told what
+    /// it says; of those whose last read gave so many only the one that waited longest. Then each is written what it was given, and
+    /// cut updates, in at most four writes of at most 65,536 bytes.
     ///
     /// Whatever list of events the screen stood for, it stands for it with others behind it, and by that list each viewer is served:
     /// what was read of it is what the screen heard of it, and what was written to it is, with what waits for it, what the screen with
@@ -325,7 +325,7 @@ impl<T: Transport> Connections<T> {
         self.agenda.get(place).copied()
     }
 
-    /// Whether the last read of a connection gave more than 128 bytes, and it is still heard.
+    /// Whether the last read of a connection gave as many bytes as there was room for, and it is still heard.
     fn is_flooding(&self, key: usize) -> bool {
         match self.connections.get(key) {
             Some(connection) => connection.is_flooding() && connection.may_read(),

@@ -15,9 +15,9 @@ use crate::transport::Transport;
 use receipts::Ended;
 use screen::{Input, ScreenError};
 
-/// How many bytes are read and heard at once, at most. So few, since hearing a request costs as much as a small update does, and
-/// 51 of them stand in 512 bytes: who floods a screen holds up the others by so much in each turn.
-pub(crate) const PIECE: usize = 512;
+/// How many bytes are read and heard at once, at most: 12 requests, or 21 pointers. Hearing a request costs as much as a small
+/// update does, and who floods a screen holds up the others by a piece in each turn. Viewers that don't say less at once.
+pub(crate) const PIECE: usize = 128;
 
 /// How many writes, each of 64 KB at most, are made for a viewer in one turn.
 const WRITES: u32 = 4;
@@ -30,7 +30,7 @@ pub(crate) fn listen<T: Transport, A: Application>(
     application: &mut A,
 ) -> Result<(), ScreenError>
     ensures turn { TakesTurn canvas.old connection.old canvas.new connection.new }
-    ensures bound { ReadsAtMost 512 connection.old.carried.unread connection.new.carried.unread }
+    ensures bound { ReadsAtMost 128 connection.old.carried.unread connection.new.carried.unread }
 {
     if !connection.may_read() {
         return Ok(());

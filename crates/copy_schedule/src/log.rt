@@ -13,6 +13,9 @@ use std::alloc::{AllocError, Global};
 /// The most rectangles of a region that are put into another where they stand.
 const FEW: usize = 64;
 
+/// How many rectangles a mark has at most to which another is joined before there are parts.
+const PART: usize = 16;
+
 /// The places of both regions. A region of few rectangles is put into the other; a larger one is copied with it.
 fn joined(region: &Region, mut next: Region) -> Result<Region, AllocError>
     ensures { IfOk result (λ both. (x y : ℤ) → covers both.list x y ≡ (covers region.now.list x y || covers next.list x y)) }
@@ -24,14 +27,28 @@ fn joined(region: &Region, mut next: Region) -> Result<Region, AllocError>
     Ok(next)
 }
 
-/// A region that is marked comes before the entries, which stand from the last to the first: in one with what is marked next.
-fn mark_before(out: &mut Vec<LogEntry>, region: &Region) -> Result<(), AllocError>
+/// Whether the last entry is a mark of so many rectangles at most.
+fn ends_with_few(out: &[LogEntry], most: usize) -> bool {
+    match out.last() {
+        Some(LogEntry::Mark(region)) => region.count_rects() <= most,
+        _ => false,
+    }
+}
+
+/// A region that is marked comes before the entries, which stand from the last to the first: in one with what is marked next, where
+/// that has so many rectangles at most.
+fn mark_before(out: &mut Vec<LogEntry>, region: &Region, most: usize) -> Result<(), AllocError>
     ensures same { OnOk result ((uses_copyrect : Bool) (m : Marks) →
         logged uses_copyrect (reverse out.new.items) m ≡
         logged uses_copyrect (reverse out.old.items) (marked (covers region.now.list) m)) }
     ensures cut { OnOk result ((w h : ℕ) → All (IsCutEntry w h) out.old.items → All (IsCutEntry w h) out.new.items) }
 {
     let alloc = *out.allocator();
+    if !ends_with_few(out, most) {
+        let region = region.try_clone(alloc)?;
+        out.push(LogEntry::Mark(region))?;
+        return Ok(());
+    }
     match out.pop() {
         Some(LogEntry::Mark(next)) => {
             let both = joined(region, next)?;
@@ -52,6 +69,7 @@ fn put_before(
     out: &mut Vec<LogEntry>,
     entry: &LogEntry,
     uses_copyrect: bool,
+    most: usize,
 ) -> Result<(), AllocError>
     ensures same { OnOk result ((m : Marks) →
         logged uses_copyrect (reverse out.new.items) m ≡
@@ -60,10 +78,10 @@ fn put_before(
         All (IsCutEntry w h) out.new.items) }
 {
     match entry {
-        LogEntry::Mark(region) => mark_before(out, region),
+        LogEntry::Mark(region) => mark_before(out, region, most),
         LogEntry::Copy { region, dx, dy } => {
             if !uses_copyrect {
-                return mark_before(out, region);
+                return mark_before(out, region, most);
             }
             let region = region.try_clone(*out.allocator())?;
             out.push(LogEntry::Copy {
@@ -76,12 +94,14 @@ fn put_before(
     }
 }
 
-/// The same drawing for a viewer that uses CopyRect, or for another, in fewer entries: neighbouring marks are one region. They are
-/// joined from the last to the first, so that a large region that stands before many small ones is gone through once.
-pub fn joined_log(
+/// The same drawing for a viewer that uses CopyRect, or for another, where a mark is joined to the next one if that has so many
+/// rectangles at most. They are joined from the last to the first, so that a large region that stands before many small ones is gone
+/// through once.
+fn joined_up_to(
     alloc: Global,
     entries: &[LogEntry],
     uses_copyrect: bool,
+    most: usize,
 ) -> Result<Vec<LogEntry>, AllocError>
     ensures same { IfOk result (λ out. (m : Marks) → logged uses_copyrect out.items m ≡ logged uses_copyrect entries.now m) }
     ensures cut { IfOk result (λ out. (w h : ℕ) → All (IsCutEntry w h) entries.now → All (IsCutEntry w h) out.items) }
@@ -90,10 +110,24 @@ pub fn joined_log(
     let mut left = entries.len();
     while left > 0 {
         left -= 1;
-        put_before(&mut out, &entries[left], uses_copyrect)?;
+        put_before(&mut out, &entries[left], uses_copyrect, most)?;
     }
     out.reverse();
     Ok(out)
+}
+
+/// The same drawing for a viewer that uses CopyRect, or for another, in fewer entries: neighbouring marks are one region. They are
+/// joined in parts first, so that many small ones aren't put one by one into a region that grows with them.
+pub fn joined_log(
+    alloc: Global,
+    entries: &[LogEntry],
+    uses_copyrect: bool,
+) -> Result<Vec<LogEntry>, AllocError>
+    ensures same { IfOk result (λ out. (m : Marks) → logged uses_copyrect out.items m ≡ logged uses_copyrect entries.now m) }
+    ensures cut { IfOk result (λ out. (w h : ℕ) → All (IsCutEntry w h) entries.now → All (IsCutEntry w h) out.items) }
+{
+    let parts = joined_up_to(alloc, entries, uses_copyrect, PART)?;
+    joined_up_to(alloc, &parts, uses_copyrect, usize::MAX)
 }
 
 /// The marks after one entry.

@@ -314,9 +314,9 @@ fn are_heard_in_turn<'a>(
     }
     let calm = admit(connections, saying(alloc, flood).in_pieces(20, Then::Ends))?;
     told_in_turns(connections, calm, 1)?;
-    // two pieces of 512 bytes for each that floods, and six of 20 for the other
+    // two pieces of 128 bytes for each that floods, and six of 20 for the other
     let [first, second, third, fourth] = told_in_turns(connections, calm, 6)?;
-    let is_fair = |count: u64| (170..=171).contains(&count);
+    let is_fair = |count: u64| (42..=43).contains(&count);
     Ok(is_fair(first) && is_fair(second) && is_fair(third) && fourth == 20)
 }
 

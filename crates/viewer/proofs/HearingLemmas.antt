@@ -22,6 +22,7 @@ use Rattle.copy_schedule.specs.Log.{after_entry, logged}
 use Rattle.std.specs.Prelude.{Bool}
 use Rattle.region.specs.Region.{in_rect}
 use Rattle.viewer.specs.Hearing.{input_of, after_items, heard_reply}
+use Rattle.viewer.specs.Told.{told_unless}
 use Rattle.viewer.specs.Viewer.{Viewer, KeptViewer, area_places, after_item}
 
 item-size : {B : Type 0} (w h : ℕ) (i : Item) (v : Viewer B) → ((after_item w h i v).marks.width ≡ v.marks.width) × ((after_item w h i v).marks.height ≡ v.marks.height)
@@ -115,3 +116,13 @@ logged-size uses [] m = (refl, refl)
 logged-size uses (e ∷ es) m =
     let first = entry-size uses e m in
     let others = logged-size uses es (after_entry uses e m) in (others.0 ∙ first.0, others.1 ∙ first.1)
+
+-- what it is told later doesn't look at what is kept of its bytes either, and leaves the size of its marks
+pub told-heard : (knows : Bool) (log : List LogEntry) (v : KeptViewer) (r : Rest) → told_unless knows log (record v { heard = r }) ≡ record (told_unless knows log v) { heard = r }
+told-heard true log v r = refl
+told-heard false log v r = refl
+
+pub told-size : (knows : Bool) (log : List LogEntry) (v : KeptViewer)
+    → ((told_unless knows log v).marks.width ≡ v.marks.width) × ((told_unless knows log v).marks.height ≡ v.marks.height)
+told-size true log v = (refl, refl)
+told-size false log v = logged-size v.uses_copyrect log v.marks

@@ -1,25 +1,25 @@
 //! What a viewer's messages do to it, and what it is answered.
 
 ghost use Rattle.std.specs.Prelude.{◌≡◌, ◌&&◌, ◌||◌, ℕ, List, All, OnErr, IfSome, ◌++◌, ◌∷◌, ◌<◌, ◌≤◌, ◌^◌, [], length, not, if◌then◌else◌};
-ghost use Rattle.std.specs.Prelude.{vec_len, vec_capacity, IfOk, OnOk};
+ghost use Rattle.std.specs.Prelude.{vec_len, vec_capacity, IfOk, OnOk, IsTrue};
 ghost use Rattle.std.specs.List.{filter_map};
 ghost use Rattle.messages.specs.Reading.{rest, new_items, is_open_rest};
 ghost use Rattle.region.specs.Region.{in_rect};
 ghost use Rattle.region.specs.Places.{longest_side};
 ghost use Rattle.copy_schedule.specs.Marks.{pending, requested, without_copyrect};
 ghost use Rattle.viewer.specs.Hearing.{input_of, after_items, heard_reply};
-ghost use Rattle.viewer.specs.Viewer.{none_wait, after_item, new_viewer, kept_viewer};
+ghost use Rattle.viewer.specs.Viewer.{KeptViewer, none_wait, after_item, new_viewer, kept_viewer};
 ghost use Rattle.viewer.specs.Sending.{is_size_owed, tells_size};
 ghost use Rattle.copy_schedule.specs.Log.{logged, IsCutEntry};
 ghost use Rattle.viewer.specs.Standings.{viewer_in, viewer_by};
-ghost use Rattle.viewer.specs.Told.{viewer_told};
+ghost use Rattle.viewer.specs.Told.{viewer_told, told_unless};
 ghost use Rattle.viewer.specs.Given.{marks_put};
 
-use crate::Reply;
 use crate::notices::Notices;
 use crate::sizes::{Size, clipped, view_by};
 use crate::standing::{Draft, Standing, put_format, put_marks};
 use crate::translation::Translation;
+use crate::{HeardPiece, Reply};
 use copy_schedule::{LogEntry, Marks, joined_log};
 use listed::Listed;
 use messages::{Desktop, Ear, Encoding, Input, Item, Prepared, greetings};
@@ -263,6 +263,15 @@ fn put_draft(standing: &mut Standing, draft: Draft)
     put_marks(standing, draft.marks);
 }
 
+fn is_input(item: &Item) -> bool
+    ensures { IsTrue result → (w h : ℕ) (v : KeptViewer) → after_item w h item.now v ≡ v }
+{
+    match item {
+        Item::Input(_) => true,
+        _ => false,
+    }
+}
+
 /// The request that is all of what was heard, if it is.
 fn only_request(items: &[Item]) -> Option<(bool, Area)>
     ensures { IfSome result (λ r. items.now ≡ Item.Request r.0 r.1 ∷ []) }
@@ -288,28 +297,45 @@ fn take_request_in_place(
     standing.marks.request(clipped(view, area), incremental)
 }
 
-/// What was heard is taken by a viewer, once its marks know the drawing of a log. After an `AllocError` it is as it was. A request
-/// alone, which is what most viewers say most of the time, needs no copy of the marks.
+/// Whether items are inputs alone, which change nothing of a viewer.
+fn are_inputs(items: &[Item]) -> bool
+    ensures { IsTrue result → (w h : ℕ) (v : KeptViewer) → after_items w h items.now v ≡ v }
+{
+    for item in items {
+        if !is_input(item) {
+            return false;
+        }
+    }
+    true
+}
+
+/// What was heard is taken by a viewer, once its marks know the drawing of a log. After an `AllocError` it is as it was. Inputs
+/// alone change no marks, so these needn't know it: whether they do. A request alone, which is what most viewers say most of the
+/// time, needs no copy of the marks.
 fn take_items(
     alloc: Global,
     standing: &mut Standing,
     log: &[LogEntry],
     items: &[Item],
-) -> Result<(), AllocError>
+) -> Result<bool, AllocError>
     requires cut { All (IsCutEntry standing.old.marks.width standing.old.marks.height) log.now }
-    ensures ok { OnOk result (viewer_in standing.new ≡
+    ensures ok { IfOk result (λ knows_log. told_unless knows_log log.now (viewer_in standing.new) ≡
         after_items standing.old.marks.width standing.old.marks.height items.now (viewer_told log.now (viewer_in standing.old))) }
     ensures ear { standing.new.ear ≡ standing.old.ear }
     ensures err { OnErr result (standing.new ≡ standing.old) }
 {
+    if are_inputs(items) {
+        return Ok(false);
+    }
     if log.is_empty()
         && let Some((incremental, area)) = only_request(items)
     {
-        return take_request_in_place(standing, incremental, area);
+        take_request_in_place(standing, incremental, area)?;
+        return Ok(true);
     }
     let draft = draft_after(alloc, standing, log, items)?;
     put_draft(standing, draft);
-    Ok(())
+    Ok(true)
 }
 
 /// A viewer's piece is heard, once its marks know the drawing of a log: what it is answered. All growths are made before the
@@ -320,13 +346,13 @@ pub fn hear_in(
     log: &[LogEntry],
     name: &[u8],
     piece: &[u8],
-) -> Result<Reply, AllocError>
+) -> Result<HeardPiece, AllocError>
     requires cut { All (IsCutEntry standing.old.marks.width standing.old.marks.height) log.now }
     requires name { length name.now ≤ u32.MAX }
     ensures reply { (before : List ℕ) → standing.old.ear ≡ rest before →
-        IfOk result (λ reply. reply ≡ heard_reply standing.old.marks.width standing.old.marks.height name.now before piece.now) }
+        IfOk result (λ heard. heard.reply ≡ heard_reply standing.old.marks.width standing.old.marks.height name.now before piece.now) }
     ensures viewer { (before : List ℕ) → standing.old.ear ≡ rest before →
-        OnOk result (viewer_in standing.new ≡
+        IfOk result (λ heard. told_unless heard.knows_log log.now (viewer_in standing.new) ≡
         after_items standing.old.marks.width standing.old.marks.height (new_items before piece.now)
         (record (viewer_told log.now (viewer_in standing.old)) { heard = rest (before ++ piece.now) })) }
     ensures width { standing.new.marks.width ≡ standing.old.marks.width }
@@ -342,11 +368,12 @@ pub fn hear_in(
     };
     let bytes = greetings(alloc, &desktop, standing.ear.phase(), &items)?;
     let room = Vec::with_capacity(alloc, items.len())?;
-    take_items(alloc, standing, log, &items)?;
+    let knows_log = take_items(alloc, standing, log, &items)?;
     standing.ear.commit(change);
-    Ok(Reply {
+    let reply = Reply {
         bytes: Listed::from_vec(bytes),
         inputs: Listed::from_vec(inputs_of(items, room)),
         closed: heard.fault,
-    })
+    };
+    Ok(HeardPiece { reply, knows_log })
 }

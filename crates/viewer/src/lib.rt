@@ -38,3 +38,12 @@ pub struct Reply {
     /// Why the viewer is heard no further.
     pub closed: Option<Fault>,
 }
+
+/// What comes of a piece of a viewer's bytes.
+#[derive(Debug, Drop)]
+pub struct HeardPiece {
+    pub reply: Reply,
+    /// Whether the viewer's marks know the drawing of the log now that came with the piece. Inputs alone change no marks, so they
+    /// lack it as before then.
+    pub knows_log: bool,
+}

@@ -10,10 +10,10 @@ ghost use Rattle.viewer.specs.Hearing.{after_items, heard_reply};
 ghost use Rattle.viewer.specs.Sending.{tells_size, sending_kept};
 ghost use Rattle.viewer.specs.Given.{bytes_given, keeps_notices};
 ghost use Rattle.viewer.specs.Short.{IsShort};
-ghost use Rattle.viewer.specs.Told.{viewer_told};
+ghost use Rattle.viewer.specs.Told.{viewer_told, told_unless};
 ghost use Rattle.region.specs.Places.{longest_side};
 
-use crate::Reply;
+use crate::HeardPiece;
 use crate::cutting::{cut_bytes_in, cut_in};
 use crate::hearing::{hear_in, is_pending, new_standing};
 use crate::notices::Notice;
@@ -61,19 +61,20 @@ impl Viewer {
     /// The viewer is told of the drawing that stands in a log, the first entry's first, and then a piece of its bytes is heard
     /// (RFC 6143, 7.1 to 7.5): what it is answered, what it tells the application, and why it is heard no further. The desktop's
     /// name is what its ServerInit tells it (7.3.2). After an `AllocError` the viewer is as it was. Its marks are made anew once,
-    /// for the log and the piece.
+    /// for the log and the piece. Where the piece is inputs alone, the drawing is left to be told later.
     pub fn hear_after(
         &mut self,
         log: &[LogEntry],
         name: &[u8],
         piece: &[u8],
-    ) -> Result<Reply, AllocError>
+    ) -> Result<HeardPiece, AllocError>
         requires cut { All (IsCutEntry self.old.marks.width self.old.marks.height) log.now }
         requires name { length name.now ≤ u32.MAX }
         ensures reply { (before : List ℕ) → self.old.heard ≡ rest before →
-            IfOk result (λ reply. reply ≡ heard_reply self.old.marks.width self.old.marks.height name.now before piece.now) }
+            IfOk result (λ heard. heard.reply ≡ heard_reply self.old.marks.width self.old.marks.height name.now before piece.now) }
         ensures viewer { (before : List ℕ) → self.old.heard ≡ rest before →
-            OnOk result (self.new ≡ after_items self.old.marks.width self.old.marks.height (new_items before piece.now)
+            IfOk result (λ heard. told_unless heard.knows_log log.now self.new ≡
+            after_items self.old.marks.width self.old.marks.height (new_items before piece.now)
             (record (viewer_told log.now self.old) { heard = rest (before ++ piece.now) })) }
         ensures width { self.new.marks.width ≡ self.old.marks.width }
         ensures height { self.new.marks.height ≡ self.old.marks.height }

@@ -17,8 +17,8 @@ use Rattle.viewer.specs.Viewer.{KeptViewer, none_wait}
 use Rattle.viewer.specs.Sending.{is_size_owed, tells_size}
 use Rattle.viewer_list.specs.declared.lagging.Lagging.{Lagging}
 use Rattle.viewer_list.specs.declared.lagging.Shared.{Shared}
-use Rattle.viewer.specs.Told.{viewer_told}
-use Rattle.viewer_list.specs.Lagging.{waiting, caught_up, up_to_date, brought_up, within_end, IsCurrent, Fits, IsShared, IsFor, IsMark, IsJoined}
+use Rattle.viewer.specs.Told.{viewer_told, told_unless}
+use Rattle.viewer_list.specs.Lagging.{waiting, caught_up, up_to_date, moved_where_known, brought_up, within_end, IsCurrent, Fits, IsShared, IsFor, IsMark, IsJoined}
 use Rattle.viewer_list.specs.Viewers.{drawn, is_pending}
 
 -- what drawing leaves of marks
@@ -73,6 +73,23 @@ pub current_fits : (log : List LogEntry) (l : Lagging) → IsCurrent log l → F
 current_fits log l current = record {
   stands = omega (arith, current);
   cut = subst (All (IsCutEntry l.viewer.marks.width l.viewer.marks.height)) (sym (nothing_waits log l current)) (λ k d below. absurd (omega (arith, below)));
+}
+
+-- A viewer that was heard, of which it is known whether its marks know the log.
+
+pub heard-seen : (knows_log : Bool) (log : List LogEntry) (l now : Lagging) → now.taken ≡ l.taken
+    → caught_up log (moved_where_known knows_log log now) ≡ told_unless knows_log (waiting log l) now.viewer
+heard-seen true log l now stays = current_viewer log (record now { taken = length log }) refl
+heard-seen false log l now stays = ap (λ (n : ℕ). record now.viewer { marks = logged now.viewer.uses_copyrect (drop n log) now.viewer.marks }) stays
+
+pub heard-fits : (knows_log : Bool) (log : List LogEntry) (l now : Lagging) → now.taken ≡ l.taken
+    → now.viewer.marks.width ≡ l.viewer.marks.width → now.viewer.marks.height ≡ l.viewer.marks.height → Fits log l → Fits log (moved_where_known knows_log log now)
+heard-fits true log l now stays width height fits = current_fits log (record now { taken = length log }) refl
+heard-fits false log l now stays width height fits = record {
+  stands = let stands = fits.stands in omega (arith, stays, stands);
+  cut = subst (λ (n : ℕ). All (IsCutEntry now.viewer.marks.width now.viewer.marks.height) (drop n log)) (sym stays)
+      (subst (λ (w : ℕ). All (IsCutEntry w now.viewer.marks.height) (waiting log l)) (sym width)
+      (subst (λ (h : ℕ). All (IsCutEntry l.viewer.marks.width h) (waiting log l)) (sym height) fits.cut));
 }
 
 -- at the start of an empty log it is the same

@@ -25,6 +25,10 @@ caught_up log l = record l.viewer { marks = logged l.viewer.uses_copyrect (waiti
 abbrev pub up_to_date : List LogEntry → Lagging → Lagging
 up_to_date log l = record { viewer = caught_up log l; taken = length log }
 
+-- a viewer that stands at the log's end where its marks know the log
+abbrev pub moved_where_known : Bool → List LogEntry → Lagging → Lagging
+moved_where_known knows_log log l = record l { taken = if knows_log then length log else l.taken }
+
 -- the same viewer, whose marks lack nothing where they have taken at least so many entries
 abbrev pub brought_up : List LogEntry → ℕ → Lagging → Lagging
 brought_up log least l = if nat_le least l.taken then up_to_date log l else l

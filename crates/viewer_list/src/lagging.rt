@@ -9,7 +9,7 @@ ghost use Rattle.viewer.specs.Given.{bytes_given};
 ghost use Rattle.copy_schedule.specs.Log.{IsCutEntry};
 ghost use Rattle.viewer.specs.Told.{viewer_told};
 ghost use Rattle.viewer_list.specs.Viewers.{is_pending};
-ghost use Rattle.viewer_list.specs.Lagging.{waiting, caught_up, up_to_date, IsCurrent, Fits, IsShared, IsFor};
+ghost use Rattle.viewer_list.specs.Lagging.{waiting, caught_up, up_to_date, moved_where_known, IsCurrent, Fits, IsShared, IsFor};
 
 use framebuffer::Framebuffer;
 use std::alloc::{AllocError, Global};
@@ -150,7 +150,17 @@ pub fn catch_up(lagging: &mut Lagging, log: &[LogEntry]) -> Result<(), AllocErro
     take(log, &shared, lagging)
 }
 
-/// A piece of the viewer's bytes is heard, once its marks have caught up; they are made anew once for both.
+/// A viewer stands at the log's end where its marks know the log.
+fn move_where_known(lagging: &mut Lagging, log: &[LogEntry], knows_log: bool)
+    ensures { lagging.new ≡ moved_where_known knows_log log.now lagging.old }
+{
+    if knows_log {
+        lagging.taken = log.len();
+    }
+}
+
+/// A piece of the viewer's bytes is heard, once its marks have caught up; they are made anew once for both. For inputs alone they
+/// needn't catch up.
 pub fn hear_one(
     lagging: &mut Lagging,
     log: &[LogEntry],
@@ -172,9 +182,9 @@ pub fn hear_one(
     ensures err { OnErr result (caught_up log.now lagging.new ≡ caught_up log.now lagging.old) }
 {
     let lacked = lacked(log, lagging);
-    let reply = lagging.viewer.hear_after(lacked, name, piece)?;
-    lagging.taken = log.len();
-    Ok(reply)
+    let heard = lagging.viewer.hear_after(lacked, name, piece)?;
+    move_where_known(lagging, log, heard.knows_log);
+    Ok(heard.reply)
 }
 
 /// Whether an update that is cut now would have something to send. The marks lack the drawing still.

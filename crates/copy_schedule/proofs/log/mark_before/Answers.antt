@@ -9,7 +9,7 @@ use Rattle.copy_schedule.proofs.log.mark_before.Goals as goal
 
 pub returns-in_ok-push-in-Some-Mark-clause-same : goal.returns-in_ok-push-in-Some-Mark-clause-same
 returns-in_ok-push-in-Some-Mark-clause-same c uses m =
-    joins_mark uses c.pop.new.self.items c.args.out.now.items c.push.new.self.items c.in-Some-Mark.next c.args.region.now c.in_ok-both-in-Some-Mark.both m
+    joins_mark uses c.pop.new.self.items c.args.out.now.items c.push-in-Some-Mark.new.self.items c.in-Some-Mark.next c.args.region.now c.in_ok-both-in-Some-Mark.both m
     (c.pop.ensures.items ∙ ap (λ (r : Option LogEntry). c.pop.new.self.items ++ option_to_list r) c.in-Some-Mark.is ∙ ap (λ (e : LogEntry). c.pop.new.self.items ++ e ∷ []) c.in-Some-Mark.field-0-is)
     c.in_ok-both-in-Some-Mark.ensures c.in_ok-push-in-Some-Mark.ensures.items
 

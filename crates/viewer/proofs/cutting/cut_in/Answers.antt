@@ -1,5 +1,5 @@
-use Rattle.std.proofs.Common.{◌≡◌, List, [], ◌∷◌, ◌++◌, false, true, Option, None, Some, refl, sym, ◌∙◌}
-use Rattle.std.specs.Prelude.{flat_map, IfSome, ◌≢◌, is_some}
+use Rattle.std.proofs.Common.{◌≡◌, List, [], ◌∷◌, ◌++◌, false, refl, sym, ◌∙◌}
+use Rattle.std.specs.Prelude.{flat_map}
 use Rattle.viewer.specs.declared.parts.Part.{Part}
 use Rattle.viewer.specs.declared.parts.Part.TheVariants.{Nothing, NewSize, Places}
 use Rattle.viewer.specs.Given.{IsSomething}

@@ -6,7 +6,7 @@ use Rattle.std.specs.List.{filter_map}
 use Rattle.viewer.specs.Hearing.{input_of, after_items}
 use Rattle.viewer.specs.Standings.{viewer_in}
 use Rattle.viewer.specs.Told.{viewer_told}
-use Rattle.viewer.proofs.HearingLemmas.{items-size, logged-size, items-heard, reply-so}
+use Rattle.viewer.proofs.HearingLemmas.{items-size, logged-size, items-heard, told-heard, told-size, reply-so}
 use Rattle.viewer.proofs.hearing.hear_in.Goals as goal
 
 pub returns-clause-viewer : goal.returns-clause-viewer
@@ -16,7 +16,8 @@ returns-clause-viewer c = λ before h.
     let heard_items : items ≡ new_items before c.args.piece.now = c.deref-2.ensures.value ∙ c.into_vec-items.ensures ∙ c.in_ok-heard.ensures.items before h in
     let ear : c.take_items.new.standing.ear ≡ c.args.standing.now.ear = c.take_items.ensures.ear in
     let becomes : c.commit.new.self ≡ rest (before ++ c.args.piece.now) = rw ear at c.commit.ensures ∙ c.in_ok-heard.ensures.rest before h in
-    ap (λ (x : KeptViewer). record x { heard = c.commit.new.self }) (c.in_ok-take_items.ensures.ok)
+    told-heard c.in_ok-knows_log.knows_log c.args.log.now (viewer_in c.take_items.new.standing) c.commit.new.self
+    ∙ ap (λ (x : KeptViewer). record x { heard = c.commit.new.self }) (c.in_ok-knows_log.ensures.ok)
     ∙ sym (items-heard c.args.standing.now.marks.width c.args.standing.now.marks.height items v c.commit.new.self)
     ∙ ap (λ (r : Rest). after_items c.args.standing.now.marks.width c.args.standing.now.marks.height items (record v { heard = r })) becomes
     ∙ ap (λ (is : List Item). after_items c.args.standing.now.marks.width c.args.standing.now.marks.height is (record v { heard = rest (before ++ c.args.piece.now) })) heard_items
@@ -24,13 +25,15 @@ returns-clause-viewer c = λ before h.
 pub returns-clause-width : goal.returns-clause-width
 returns-clause-width c =
     let v : KeptViewer = viewer_told c.args.log.now (viewer_in c.args.standing.now) in
-    ap (λ (x : KeptViewer). x.marks.width) (c.in_ok-take_items.ensures.ok)
+    sym (told-size c.in_ok-knows_log.knows_log c.args.log.now (viewer_in c.take_items.new.standing)).0
+    ∙ ap (λ (x : KeptViewer). x.marks.width) (c.in_ok-knows_log.ensures.ok)
     ∙ (items-size {B = Rest} c.args.standing.now.marks.width c.args.standing.now.marks.height c.deref-2.result.now v).0 ∙ (logged-size c.args.standing.now.uses_copyrect c.args.log.now c.args.standing.now.marks).0
 
 pub returns-clause-height : goal.returns-clause-height
 returns-clause-height c =
     let v : KeptViewer = viewer_told c.args.log.now (viewer_in c.args.standing.now) in
-    ap (λ (x : KeptViewer). x.marks.height) (c.in_ok-take_items.ensures.ok)
+    sym (told-size c.in_ok-knows_log.knows_log c.args.log.now (viewer_in c.take_items.new.standing)).1
+    ∙ ap (λ (x : KeptViewer). x.marks.height) (c.in_ok-knows_log.ensures.ok)
     ∙ (items-size {B = Rest} c.args.standing.now.marks.width c.args.standing.now.marks.height c.deref-2.result.now v).1 ∙ (logged-size c.args.standing.now.uses_copyrect c.args.log.now c.args.standing.now.marks).1
 
 pub returns-clause-reply : goal.returns-clause-reply

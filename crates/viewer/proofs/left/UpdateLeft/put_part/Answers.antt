@@ -1,4 +1,4 @@
-use Rattle.std.proofs.Common.{◌≡◌, ◌≤◌, ℕ, List, [], ◌++◌, length, ◌∙◌, ap, refl, sym, arith, append-nil}
+use Rattle.std.proofs.Common.{◌≤◌, ℕ, List, [], ◌++◌, length, ◌∙◌, ap, refl, sym, arith, append-nil}
 use Rattle.viewer.specs.declared.left.PartLeft.TheVariants.{Nothing}
 use Rattle.viewer.specs.UpdatesLeft.{part_left, update_left}
 use Rattle.viewer.proofs.LeftLemmas.{all_told, on_ok}

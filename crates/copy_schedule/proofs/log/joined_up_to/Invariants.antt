@@ -2,7 +2,7 @@ use Rattle.std.proofs.Common.{◌≡◌, ◌≤◌, ℕ, length, drop, reverse}
 use Rattle.std.specs.List.{All}
 use Rattle.copy_schedule.specs.Marks.{Marks}
 use Rattle.copy_schedule.specs.Log.{logged, IsCutEntry}
-use Rattle.copy_schedule.proofs.log.joined_log.Given as goal
+use Rattle.copy_schedule.proofs.log.joined_up_to.Given as goal
 
 -- what is joined makes of marks what the entries make of them from where it begins
 abbrev pub invariant-loop-left : goal.invariant-loop-left
