@@ -11,7 +11,7 @@ use Rattle.scene.specs.declared.Answer.{Answer}
 use Rattle.scene.specs.Alone.{owner_of, Tells}
 use Rattle.scene.specs.Answers.{is_drawing}
 use Rattle.screen.specs.State.{State, state}
-use Rattle.connections.specs.Drawing.{Surface, are_drawings, IsDrawnFrom, Draws}
+use Rattle.connections.specs.Drawing.{Surface, Draws}
 
 -- a drawing call, which is refused or not
 pub draws_by : {X : Type 0} (r : Result X ScreenError) (a b : Surface) (e : Event) → owner_of e ≡ None

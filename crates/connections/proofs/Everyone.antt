@@ -1,25 +1,23 @@
 -- What a step makes of all connections.
 use Rattle.std.proofs.Common.{◌≡◌, ◌≢◌, ◌<◌, ◌≤◌, ℕ, zero, suc, Bool, true, false, List, [], ◌∷◌, ◌++◌, Option, Some, None, refl, sym, ap, ◌∙◌, append_assoc, append-nil, subst, arith, ◌+◌}
-use Rattle.std.specs.Prelude.{◌==◌, ◌&&◌, option_map, unwrap_or, length, slice_set}
+use Rattle.std.specs.Prelude.{◌==◌, ◌&&◌, unwrap_or, length, slice_set}
 use Rattle.std.proofs.lemmas.List.{get_or-set_same, get_or-set_other}
 use Rattle.std.specs.Io.KnownBytes.{Appends, Consumes}
 use Rattle.std.proofs.lemmas.Bool.Decides.{Decides-eqb}
 use Rattle.scene.specs.declared.Config.{Config}
 use Rattle.scene.specs.declared.Event.{Event}
 use Rattle.scene.specs.declared.Event.TheVariants.{Connect, Close}
-use Rattle.scene.specs.Alone.{owner_of}
 use Rattle.scene.specs.Answers.{answer_to}
 use Rattle.slab.specs.Slab.{Slab, get, Updates}
 use Rattle.receipts.specs.declared.Receipt.{Receipt}
 use Rattle.receipts.specs.declared.Ended.{Ended}
 use Rattle.receipts.specs.declared.Ended.TheVariants.{Memory}
-use Rattle.receipts.specs.Checking.{may_break_off}
 use Rattle.receipts.specs.Histories.{heard_of, bytes_of}
 use Rattle.screen.specs.State.{state}
-use Rattle.connections.specs.Waiting.{waiting_bytes}
+use Rattle.connections.specs.Waiting.{waiting_bytes, IsFew}
 use Rattle.connections.specs.Drawing.{Surface, Draws}
 use Rattle.connections.specs.Serving.{Carried, ViewerConnection, Moves, breaks_off, IsServed, WasServed, IsOver, Serving, at_key, is_kept, Serves, GoesOn}
-use Rattle.connections.specs.Turns.{are_of, IsTurnFrom, TakesTurn}
+use Rattle.connections.specs.Turns.{IsTurnFrom, TakesTurn}
 use Rattle.connections.proofs.Given.{SameFor, bytes-own, heard-same, same-others, same-drawings}
 use Rattle.connections.proofs.Turns.{served-same, drawn-on, moves-nothing}
 
@@ -55,11 +53,11 @@ pub goes-listed : (a b : Serving) → b ≡ record a { agenda = b.agenda } → G
 goes-listed a b same = goes-same a b (ap (λ (x : Serving). x.surface.screen) same) (ap (λ (x : Serving). x.kept) same) (ap (λ (x : Serving). x.next) same) (ap (λ (x : Serving). x.slots) same)
 
 -- that the screen was drawn on is known
-pub goes-looked : (a : Serving) (before after : Surface) (kept : Bool) (next : ℕ) (slots : List (Option ViewerConnection)) (agenda : List ℕ)
-    → record { surface = before; kept = kept; next = next; slots = slots; agenda = agenda } ≡ a → after.screen ≡ before.screen
-    → GoesOn a (record { surface = after; kept = kept; next = next; slots = slots; agenda = agenda })
-goes-looked a before after kept next slots agenda is same =
-    goes-same a (record { surface = after; kept = kept; next = next; slots = slots; agenda = agenda }) (same ∙ ap (λ (x : Serving). x.surface.screen) is) (ap (λ (x : Serving). x.kept) is)
+pub goes-looked : (a : Serving) (before after : Surface) (kept : Bool) (next : ℕ) (slots : List (Option ViewerConnection)) (vacant : ℕ) (agenda : List ℕ)
+    → record { surface = before; kept = kept; next = next; slots = slots; vacant = vacant; agenda = agenda } ≡ a → after.screen ≡ before.screen
+    → GoesOn a (record { surface = after; kept = kept; next = next; slots = slots; vacant = vacant; agenda = agenda })
+goes-looked a before after kept next slots vacant agenda is same =
+    goes-same a (record { surface = after; kept = kept; next = next; slots = slots; vacant = vacant; agenda = agenda }) (same ∙ ap (λ (x : Serving). x.surface.screen) is) (ap (λ (x : Serving). x.kept) is)
     (ap (λ (x : Serving). x.next) is) (ap (λ (x : Serving). x.slots) is)
 
 -- ---- the application draws
@@ -81,12 +79,12 @@ goes-drawn a b draws same c began list s =
       },
     )
 
-pub goes-drawn-by : (a : Serving) (before after : Surface) (kept : Bool) (next : ℕ) (slots : List (Option ViewerConnection)) (agenda : List ℕ)
-    → record { surface = before; kept = kept; next = next; slots = slots; agenda = agenda } ≡ a → Draws before after
-    → GoesOn a (record { surface = after; kept = kept; next = next; slots = slots; agenda = agenda })
-goes-drawn-by a before after kept next slots agenda is draws =
-    subst (λ (x : Serving). GoesOn x (record { surface = after; kept = kept; next = next; slots = slots; agenda = agenda })) is
-    (goes-drawn (record { surface = before; kept = kept; next = next; slots = slots; agenda = agenda }) (record { surface = after; kept = kept; next = next; slots = slots; agenda = agenda }) draws refl)
+pub goes-drawn-by : (a : Serving) (before after : Surface) (kept : Bool) (next : ℕ) (slots : List (Option ViewerConnection)) (vacant : ℕ) (agenda : List ℕ)
+    → record { surface = before; kept = kept; next = next; slots = slots; vacant = vacant; agenda = agenda } ≡ a → Draws before after
+    → GoesOn a (record { surface = after; kept = kept; next = next; slots = slots; vacant = vacant; agenda = agenda })
+goes-drawn-by a before after kept next slots vacant agenda is draws =
+    subst (λ (x : Serving). GoesOn x (record { surface = after; kept = kept; next = next; slots = slots; vacant = vacant; agenda = agenda })) is
+    (goes-drawn (record { surface = before; kept = kept; next = next; slots = slots; vacant = vacant; agenda = agenda }) (record { surface = after; kept = kept; next = next; slots = slots; vacant = vacant; agenda = agenda }) draws refl)
 
 -- ---- one connection's turn
 
@@ -158,13 +156,13 @@ within [] key e h = absurd cc
 within (x ∷ slots) zero e h = omega arith
 within (x ∷ slots) (suc key) e h = let r = within slots key e h in omega (arith, r)
 
-pub goes-at : (a : Serving) (before after : Surface) (kept : Bool) (next : ℕ) (slots : List (Option ViewerConnection)) (agenda : List ℕ) (key : ℕ) (e f : ViewerConnection)
-    → record { surface = before; kept = kept; next = next; slots = slots; agenda = agenda } ≡ a → at_key slots key ≡ Some e → TakesTurn before e after f
-    → GoesOn a (record { surface = after; kept = kept; next = next; slots = slice_set slots key (Some f); agenda = agenda })
-goes-at a before after kept next slots agenda key e f is there turn =
-    let b : Serving = record { surface = after; kept = kept; next = next; slots = slice_set slots key (Some f); agenda = agenda } in
+pub goes-at : (a : Serving) (before after : Surface) (kept : Bool) (next : ℕ) (slots : List (Option ViewerConnection)) (vacant : ℕ) (agenda : List ℕ) (key : ℕ) (e f : ViewerConnection)
+    → record { surface = before; kept = kept; next = next; slots = slots; vacant = vacant; agenda = agenda } ≡ a → at_key slots key ≡ Some e → TakesTurn before e after f
+    → GoesOn a (record { surface = after; kept = kept; next = next; slots = slice_set slots key (Some f); vacant = vacant; agenda = agenda })
+goes-at a before after kept next slots vacant agenda key e f is there turn =
+    let b : Serving = record { surface = after; kept = kept; next = next; slots = slice_set slots key (Some f); vacant = vacant; agenda = agenda } in
     subst (λ (x : Serving). GoesOn x b) is
-    (goes-by-turn (record { surface = before; kept = kept; next = next; slots = slots; agenda = agenda }) b key e f there
+    (goes-by-turn (record { surface = before; kept = kept; next = next; slots = slots; vacant = vacant; agenda = agenda }) b key e f there
     (get_or-set_same slots key (Some f) None (within slots key e there))
     (λ other away. get_or-set_other slots key other (Some f) None away) refl refl turn)
 
@@ -182,8 +180,9 @@ none-yet c began s screen kept none = record {
 pub one-more : (c : Config) (began : ℕ → Carried) (list : List Event) (a b : Serving) (key : ℕ) (f : ViewerConnection) (bytes : List ℕ)
     → b.surface.screen ≡ state c (list ++ Connect a.next ∷ []) → bytes ≡ (answer_to c list (Connect a.next)).bytes → b.kept ≡ a.kept → b.next ≡ a.next + 1
     → at_key a.slots key ≡ None → at_key b.slots key ≡ Some f → ((other : ℕ) → other ≢ key → at_key b.slots other ≡ at_key a.slots other)
-    → f.number ≡ a.next → began a.next ≡ f.carried → (breaks_off f.ended ≡ false → waiting_bytes f.waiting ≡ bytes) → Serves c began list a → Serves c began (list ++ Connect a.next ∷ []) b
-one-more c began list a b key f bytes screen answered kept next vacant now others number carried waits s = record {
+    → f.number ≡ a.next → began a.next ≡ f.carried → (breaks_off f.ended ≡ false → waiting_bytes f.waiting ≡ bytes) → IsFew f.waiting → Serves c began list a
+    → Serves c began (list ++ Connect a.next ∷ []) b
+one-more c began list a b key f bytes screen answered kept next vacant now others number carried waits few s = record {
   screen = screen;
   kept = kept ∙ s.kept;
   each = λ j g at. at-one j g at (j == key) refl;
@@ -222,6 +221,7 @@ one-more c began list a b key f bytes screen answered kept next vacant now other
           due = sym due ∙ ap (λ m. bytes_of c m more) (sym number);
           heard = λ fine. refl;
           waits = λ fine. sym (waits fine);
+          few = few;
         }
 
     at-one : (j : ℕ) (g : ViewerConnection) → at_key b.slots j ≡ Some g → (w : Bool) → (j == key) ≡ w → (g.number < b.next) × IsServed c more (began g.number) g
@@ -252,16 +252,16 @@ one-more c began list a b key f bytes screen answered kept next vacant now other
 
 -- the same, as it is admitted
 pub admitted : (c : Config) (began : ℕ → Carried) (list : List Event) (a : Serving) (before after : Surface) (kept : Bool) (next following : ℕ) (old new : Slab ViewerConnection) (agenda later : List ℕ) (key : ℕ)
-    (f : ViewerConnection) (bytes : List ℕ) (carried : Carried) → record { surface = before; kept = kept; next = next; slots = old.slots; agenda = agenda } ≡ a
+    (f : ViewerConnection) (bytes : List ℕ) (carried : Carried) → record { surface = before; kept = kept; next = next; slots = old.slots; vacant = old.vacant_key; agenda = agenda } ≡ a
     → (before.screen ≡ state c list → after.screen ≡ state c (list ++ Connect next ∷ [])) → (before.screen ≡ state c list → bytes ≡ (answer_to c list (Connect next)).bytes) → following ≡ next + 1
     → get old key ≡ None → Updates old new key (Some f) → f.number ≡ next → f.carried ≡ carried → (breaks_off f.ended ≡ false → waiting_bytes f.waiting ≡ bytes)
-    → Serves c began list a → began a.next ≡ carried
-    → Serves c began (list ++ Connect a.next ∷ []) (record { surface = after; kept = kept; next = following; slots = new.slots; agenda = later })
-admitted c began list a before after kept next following old new agenda later key f bytes carried is steps answered more vacant updates number carries waits =
-    let b : Serving = record { surface = after; kept = kept; next = following; slots = new.slots; agenda = later } in
-    let was : Serving = record { surface = before; kept = kept; next = next; slots = old.slots; agenda = agenda } in
+    → IsFew f.waiting → Serves c began list a → began a.next ≡ carried
+    → Serves c began (list ++ Connect a.next ∷ []) (record { surface = after; kept = kept; next = following; slots = new.slots; vacant = new.vacant_key; agenda = later })
+admitted c began list a before after kept next following old new agenda later key f bytes carried is steps answered more vacant updates number carries waits few =
+    let b : Serving = record { surface = after; kept = kept; next = following; slots = new.slots; vacant = new.vacant_key; agenda = later } in
+    let was : Serving = record { surface = before; kept = kept; next = next; slots = old.slots; vacant = old.vacant_key; agenda = agenda } in
     subst (λ (x : Serving). Serves c began list x → began x.next ≡ carried → Serves c began (list ++ Connect x.next ∷ []) b) is
-    (λ s start. one-more c began list was b key f bytes (steps s.screen) (answered s.screen) refl more vacant updates.changed updates.others number (start ∙ sym carries) waits s)
+    (λ s start. one-more c began list was b key f bytes (steps s.screen) (answered s.screen) refl more vacant updates.changed updates.others number (start ∙ sym carries) waits few s)
 
 -- a viewer that ended is closed, and its connection is gone
 pub one-less : {T : Type 0} (c : Config) (began : ℕ → Carried) (list : List Event) (a b : Serving) (key : ℕ) (e : ViewerConnection) (unread written : T → Option (List ℕ)) (transport : T) (r : Receipt)
@@ -322,14 +322,14 @@ one-less {T = T} c began list a b key e unread written transport r screen quiet 
 
 -- the same, as it is parted with
 pub parted : {T : Type 0} (c : Config) (began : ℕ → Carried) (list : List Event) (a : Serving) (before after : Surface) (kept : Bool) (next : ℕ) (old new : Slab ViewerConnection) (agenda later : List ℕ) (key v : ℕ)
-    (e : ViewerConnection) (ended : Ended) (unread written : T → Option (List ℕ)) (transport : T) (r : Receipt) → record { surface = before; kept = kept; next = next; slots = old.slots; agenda = agenda } ≡ a
+    (e : ViewerConnection) (ended : Ended) (unread written : T → Option (List ℕ)) (transport : T) (r : Receipt) → record { surface = before; kept = kept; next = next; slots = old.slots; vacant = old.vacant_key; agenda = agenda } ≡ a
     → (before.screen ≡ state c list → after.screen ≡ state c (list ++ Close v ∷ [])) → (before.screen ≡ state c list → (answer_to c list (Close v)).bytes ≡ [])
     → get old key ≡ Some e → Updates old new key None → IsOver (get old key) v ended → r.viewer ≡ e.number → r.ended ≡ ended → r.sent ≡ unwrap_or e.carried.sent []
     → record { unread = unread transport; written = written transport; sent = e.carried.sent } ≡ e.carried → Serves c began list a
-    → (more : List Event) × Serves c began (list ++ more) (record { surface = after; kept = kept; next = next; slots = new.slots; agenda = later }) × WasServed c (list ++ more) (began r.viewer) unread written transport r
+    → (more : List Event) × Serves c began (list ++ more) (record { surface = after; kept = kept; next = next; slots = new.slots; vacant = new.vacant_key; agenda = later }) × WasServed c (list ++ more) (began r.viewer) unread written transport r
 parted {T = T} c began list a before after kept next old new agenda later key v e ended unread written transport r is steps quiet there updates over viewer so sent carried =
-    let b : Serving = record { surface = after; kept = kept; next = next; slots = new.slots; agenda = later } in
-    let was : Serving = record { surface = before; kept = kept; next = next; slots = old.slots; agenda = agenda } in
+    let b : Serving = record { surface = after; kept = kept; next = next; slots = new.slots; vacant = new.vacant_key; agenda = later } in
+    let was : Serving = record { surface = before; kept = kept; next = next; slots = old.slots; vacant = old.vacant_key; agenda = agenda } in
     let ended_so : IsOver (Some e) v ended = subst (λ (o : Option ViewerConnection). IsOver o v ended) there over in
     let number : v ≡ e.number = sym ended_so.0 in
     subst (λ (x : Serving). Serves c began list x → (more : List Event) × Serves c began (list ++ more) b × WasServed c (list ++ more) (began r.viewer) unread written transport r) is

@@ -1,8 +1,8 @@
 -- Pieces of what waits.
 use Rattle.std.proofs.Common.{◌≡◌, ◌<◌, ◌≤◌, ◌+◌, List, ℕ, [], ◌∷◌, ◌++◌, Option, Some, length, take, drop, refl, ap, arith, sym, ◌∙◌, append_assoc, append-nil}
-use Rattle.std.proofs.lemmas.List.{length-append, drop_all, take-append-drop, drop-drop}
+use Rattle.std.proofs.lemmas.List.{length-append, length-drop, drop_all, take-append-drop, drop-drop}
 use Rattle.viewer.specs.Given.{bytes_given}
-use Rattle.connections.specs.Waiting.{Waiting, waiting_bytes}
+use Rattle.connections.specs.Waiting.{Waiting, waiting_bytes, IsFew}
 
 -- less is left once more is in the buffer
 pub less-left : (old new left rest : List ℕ) → new ++ rest ≡ old ++ left → length old < length new → length rest < length left
@@ -35,3 +35,7 @@ started w u h =
     let made = none_first w.made (bytes_given w.update ++ w.behind) h in
     let behind = none_second (bytes_given w.update) w.behind (none_second w.made (bytes_given w.update ++ w.behind) h) in
     ap (λ l. l ++ (u ++ w.behind)) made ∙ ap (λ l. u ++ l) behind ∙ append-nil u
+
+-- what is left of few is few
+pub few-left : (n : ℕ) (made behind : List ℕ) (update : Option (List ℕ)) → length made ≤ 65536 → length behind ≤ 65536 → IsFew (record { made = drop n made; update = update; behind = behind })
+few-left n made behind update few few_behind = record { made = let shorter = length-drop n made in omega (arith, few, shorter); behind = few_behind }

@@ -1,26 +1,24 @@
 -- What a step of one connection, or of the screen, makes of all of them.
-use Rattle.std.proofs.Common.{◌≡◌, ◌≢◌, ◌⊎◌, ◌<◌, ◌≤◌, ℕ, Bool, true, false, cond, List, [], ◌∷◌, ◌++◌, Option, Some, None, refl, sym, ap, ◌∙◌, append_assoc, append-nil, subst, inl, inr, arith}
+use Rattle.std.proofs.Common.{◌≡◌, ◌≢◌, ◌⊎◌, ℕ, true, false, List, [], ◌∷◌, ◌++◌, Option, Some, None, refl, sym, ap, ◌∙◌, append_assoc, append-nil, subst, inl, inr}
 use Rattle.std.specs.Prelude.{◌&&◌, option_map}
-use Rattle.std.specs.Io.KnownBytes.{Appends, Consumes}
 use Rattle.std.proofs.KnownBytes.{Appends-nil, Appends-trans, Consumes-nil, Consumes-trans}
 use Rattle.std.proofs.lemmas.Bool.{and_from}
 use Rattle.std.proofs.lemmas.Bool.Decides.{Decides-eqb}
 use Rattle.std.proofs.lemmas.List.Folds.{list_all-append}
 use Rattle.scene.specs.declared.Config.{Config}
 use Rattle.scene.specs.declared.Event.{Event}
-use Rattle.scene.specs.declared.Event.TheVariants.{Connect, Hear, Cut, Close}
+use Rattle.scene.specs.declared.Event.TheVariants.{Hear, Cut}
 use Rattle.scene.specs.Alone.{owner_of}
 use Rattle.scene.specs.Answers.{is_owner, answer_to}
 use Rattle.receipts.specs.declared.Ended.{Ended}
 use Rattle.receipts.specs.declared.Ended.TheVariants.{Memory, Closed}
-use Rattle.receipts.specs.Checking.{may_break_off}
-use Rattle.receipts.specs.Histories.{piece_of, heard_of, bytes_of}
+use Rattle.receipts.specs.Histories.{heard_of, bytes_of}
 use Rattle.screen.specs.State.{state}
-use Rattle.connections.specs.Waiting.{waiting_bytes}
-use Rattle.connections.specs.Drawing.{Surface, are_drawings, IsDrawnFrom, Draws}
-use Rattle.connections.specs.Serving.{Carried, ViewerConnection, Moves, breaks_off, IsServed, WasServed, IsOver, Serving, at_key, Serves, GoesOn}
+use Rattle.connections.specs.Waiting.{waiting_bytes, IsFew}
+use Rattle.connections.specs.Drawing.{Surface, IsDrawnFrom, Draws}
+use Rattle.connections.specs.Serving.{Carried, ViewerConnection, Moves, breaks_off, IsServed}
 use Rattle.connections.specs.Turns.{are_of, IsTurnFrom, HasRead, HearsPiece, TakesTurn}
-use Rattle.connections.proofs.Given.{SameFor, bytes-own, heard-own, heard-same, same-others, same-drawings, drawings-own}
+use Rattle.connections.proofs.Given.{SameFor, bytes-own, heard-own, heard-same, same-drawings, drawings-own}
 
 -- ---- bytes that move
 
@@ -64,6 +62,7 @@ served-same c es fs began e same h = record {
   due = h.due ∙ sym same.1;
   heard = h.heard;
   waits = h.waits;
+  few = h.few;
 }
 
 own-then : (v : ℕ) (es fs : List Event) → are_of v es ≡ true → are_of v fs ≡ true → are_of v (es ++ fs) ≡ true
@@ -110,6 +109,7 @@ turn-read c list began v a e f piece live same moved t =
           (subst (λ (n : ℕ). Moves began e.carried (heard_of n (list ++ t.events) ++ []) s.written) t.number
           (subst (λ (l : List ℕ). Moves began e.carried (heard_of e.number (list ++ t.events) ++ l) s.written) none s.moved)) moved;
       due = ap (λ w. s.written ++ waiting_bytes w) waiting ∙ ap (λ l. s.written ++ l) (sym all) ∙ s.due ∙ ap (λ n. bytes_of c n (list ++ t.events)) t.number;
+      few = subst IsFew (sym waiting) s.few;
     }
 
 -- a viewer of which nothing was read goes on, or ends
@@ -133,6 +133,7 @@ turn-unread c list began v a e f same h =
         due = h.due ∙ ap (λ n. bytes_of c n es) (sym number);
         heard = λ fine. refl;
         waits = λ fine. ap waiting_bytes (sym waiting);
+        few = subst IsFew (sym waiting) h.few;
       };
     }
 
@@ -156,14 +157,16 @@ turn-unheard a b e f piece still same c list began v h =
         due = h.due ∙ ap (λ n. bytes_of c n es) (sym number);
         heard = λ fine. absurd (fine ended);
         waits = λ fine. let e : breaks_off f.ended ≡ true = ap breaks_off ended in absurd cc;
+        few = subst IsFew (sym (ap (λ (x : ViewerConnection). x.waiting) same)) h.few;
       };
     }
 
 -- a piece is heard and answered
 heard-turn : (c : Config) (list : List Event) (began : Carried) (v : ℕ) (a b : Surface) (e f : ViewerConnection) (piece bytes : List ℕ)
     → (h : HasRead c list began v piece a e) → b.screen ≡ state c ((list ++ h.events) ++ Hear v piece ∷ []) → bytes ≡ (answer_to c (list ++ h.events) (Hear v piece)).bytes
-    → f ≡ record e { waiting = f.waiting; ended = f.ended } → (breaks_off f.ended ≡ false → waiting_bytes f.waiting ≡ waiting_bytes e.waiting ++ bytes) → IsTurnFrom c list began v b f
-heard-turn c list began v a b e f piece bytes h stands answered same waits =
+    → f ≡ record e { waiting = f.waiting; ended = f.ended } → (breaks_off f.ended ≡ false → waiting_bytes f.waiting ≡ waiting_bytes e.waiting ++ bytes) → IsFew f.waiting
+    → IsTurnFrom c list began v b f
+heard-turn c list began v a b e f piece bytes h stands answered same waits few =
     let number : f.number ≡ v = ap (λ (x : ViewerConnection). x.number) same ∙ h.number in
     let carried : f.carried ≡ e.carried = ap (λ (x : ViewerConnection). x.carried) same in
     let es = list ++ h.events in
@@ -185,6 +188,7 @@ heard-turn c list began v a b e f piece bytes h stands answered same waits =
             ∙ sym (bytes-own c v es (Hear v piece) refl) ∙ ap (λ n. bytes_of c n fs) (sym number);
         heard = λ fine. refl;
         waits = λ fine. sym (waits fine);
+        few = few;
       });
     }
 
@@ -192,20 +196,21 @@ heard-turn c list began v a b e f piece bytes h stands answered same waits =
 pub turn-heard : (a b d : Surface) (e f : ViewerConnection) (n : ℕ) (piece bytes : List ℕ) → n ≡ e.number
     → ((c : Config) (list : List Event) → a.screen ≡ state c list → b.screen ≡ state c (list ++ Hear n piece ∷ []))
     → ((c : Config) (list : List Event) → a.screen ≡ state c list → bytes ≡ (answer_to c list (Hear n piece)).bytes)
-    → f ≡ record e { waiting = f.waiting; ended = f.ended } → (breaks_off f.ended ≡ false → waiting_bytes f.waiting ≡ waiting_bytes e.waiting ++ bytes) → Draws b d → HearsPiece piece a e d f
-turn-heard a b d e f n piece bytes its steps answers same waits draws c list began v h =
+    → f ≡ record e { waiting = f.waiting; ended = f.ended } → (breaks_off f.ended ≡ false → waiting_bytes f.waiting ≡ waiting_bytes e.waiting ++ bytes) → IsFew f.waiting → Draws b d
+    → HearsPiece piece a e d f
+turn-heard a b d e f n piece bytes its steps answers same waits few draws c list began v h =
     let es = list ++ h.events in
     turn-drawn b d f draws c list began v
     (heard-turn c list began v a b e f piece bytes h
     (subst (λ (m : ℕ). b.screen ≡ state c (es ++ Hear m piece ∷ [])) (its ∙ h.number) (steps c es h.screen))
-    (subst (λ (m : ℕ). bytes ≡ (answer_to c es (Hear m piece)).bytes) (its ∙ h.number) (answers c es h.screen)) same waits)
+    (subst (λ (m : ℕ). bytes ≡ (answer_to c es (Hear m piece)).bytes) (its ∙ h.number) (answers c es h.screen)) same waits few)
 
 -- an update is cut for a viewer, or there is none
 pub turn-cut : (a b : Surface) (e f : ViewerConnection) (m : ℕ) (bytes : List ℕ) → m ≡ e.number
     → ((c : Config) (list : List Event) → a.screen ≡ state c list → b.screen ≡ state c (list ++ Cut m ∷ []))
     → ((c : Config) (list : List Event) → a.screen ≡ state c list → bytes ≡ (answer_to c list (Cut m)).bytes)
-    → f ≡ record e { waiting = f.waiting } → waiting_bytes f.waiting ≡ waiting_bytes e.waiting ++ bytes → TakesTurn a e b f
-turn-cut a b e f number bytes its steps-at answers-at same waits c list began v t =
+    → f ≡ record e { waiting = f.waiting } → waiting_bytes f.waiting ≡ waiting_bytes e.waiting ++ bytes → (IsFew e.waiting → IsFew f.waiting) → TakesTurn a e b f
+turn-cut a b e f number bytes its steps-at answers-at same waits few c list began v t =
     let steps : (c : Config) (list : List Event) → a.screen ≡ state c list → b.screen ≡ state c (list ++ Cut e.number ∷ []) = λ c list h. subst (λ (m : ℕ). b.screen ≡ state c (list ++ Cut m ∷ [])) its (steps-at c list h) in
     let answers : (c : Config) (list : List Event) → a.screen ≡ state c list → bytes ≡ (answer_to c list (Cut e.number)).bytes = λ c list h. subst (λ (m : ℕ). bytes ≡ (answer_to c list (Cut m)).bytes) its (answers-at c list h) in
     let number : f.number ≡ e.number = ap (λ (x : ViewerConnection). x.number) same in
@@ -232,14 +237,15 @@ turn-cut a b e f number bytes its steps-at answers-at same waits c list began v 
             ∙ sym (bytes-own c n es (Cut n) refl) ∙ ap (λ m. bytes_of c m fs) (sym number);
         heard = λ fine. s.heard (λ is. fine (ended ∙ is));
         waits = λ fine. ap (λ l. l ++ bytes) (s.waits (ap breaks_off (sym ended) ∙ fine)) ∙ sym waits;
+        few = few s.few;
       });
     }
 
 -- what waits is written, as far as it is taken
 pub turn-written : (a b : Surface) (e f : ViewerConnection) (added unwritten : List ℕ) → b.screen ≡ a.screen → breaks_off e.ended ≡ false
     → f ≡ record e { carried = f.carried; waiting = f.waiting; ended = f.ended } → Moves e.carried f.carried [] added → added ++ unwritten ≡ waiting_bytes e.waiting
-    → (breaks_off f.ended ≡ false → unwritten ≡ waiting_bytes f.waiting) → TakesTurn a e b f
-turn-written a b e f added unwritten still whole same moved parts waits c list began v t =
+    → (breaks_off f.ended ≡ false → unwritten ≡ waiting_bytes f.waiting) → IsFew f.waiting → TakesTurn a e b f
+turn-written a b e f added unwritten still whole same moved parts waits few c list began v t =
     let number : f.number ≡ e.number = ap (λ (x : ViewerConnection). x.number) same in
     let s = t.served in
     let es = list ++ t.events in
@@ -258,6 +264,7 @@ turn-written a b e f added unwritten still whole same moved parts waits c list b
         due = append_assoc s.written added unwritten ∙ ap (λ l. s.written ++ l) (parts ∙ sym all) ∙ s.due ∙ ap (λ m. bytes_of c m es) (sym number);
         heard = λ fine. s.heard (fails e.ended whole);
         waits = waits;
+        few = few;
       };
     }
 

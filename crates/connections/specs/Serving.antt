@@ -10,8 +10,9 @@ use Rattle.receipts.specs.declared.Ended.{Ended}
 use Rattle.receipts.specs.declared.Ended.TheVariants.{Memory}
 use Rattle.receipts.specs.Checking.{may_break_off}
 use Rattle.receipts.specs.Histories.{bytes_of, heard_of}
-use Rattle.screen.specs.State.{state}
-use Rattle.connections.specs.Waiting.{Waiting, waiting_bytes}
+use Rattle.messages.specs.Reading.{is_open_rest}
+use Rattle.screen.specs.State.{State, state, viewer_at}
+use Rattle.connections.specs.Waiting.{Waiting, waiting_bytes, IsFew}
 use Rattle.connections.specs.Drawing.{Surface}
 
 -- what a transport has still to give and what was written to it, where these are known, and what is kept of the latter, where it is kept
@@ -38,7 +39,7 @@ abbrev pub breaks_off : Option Ended → Bool
 breaks_off None = false
 breaks_off (Some ended) = may_break_off ended
 
--- A viewer is served, or was until it ended. What was read of it is what the screen heard of it, but for a last piece where memory was refused. What was written to it, and then what waits, is what the screen with this one viewer gives, and the beginning of that where the viewer ended by a failure.
+-- A viewer is served, or was until it ended. What was read of it is what the screen heard of it, but for a last piece where memory was refused. What was written to it, and then what waits, is what the screen with this one viewer gives, and the beginning of that where the viewer ended by a failure. Few bytes are made before they are written.
 pub record IsServed (c : Config) (list : List Event) (began : Carried) (e : ViewerConnection) : Type 0 where
   pub unheard : List ℕ
   pub written : List ℕ
@@ -47,6 +48,7 @@ pub record IsServed (c : Config) (list : List Event) (began : Carried) (e : View
   pub due : written ++ unwritten ≡ bytes_of c e.number list
   pub heard : e.ended ≢ Some Memory → unheard ≡ []
   pub waits : breaks_off e.ended ≡ false → unwritten ≡ waiting_bytes e.waiting
+  pub few : IsFew e.waiting
 
 -- A viewer that left, by its transport and its receipt: the same, and all was written where nothing failed.
 pub record WasServed {T : Type 0} (c : Config) (list : List Event) (began : Carried) (unread written : T → Option (List ℕ)) (transport : T) (r : Receipt) : Type 0 where
@@ -65,17 +67,27 @@ abbrev pub IsOver : Option ViewerConnection → ℕ → Ended → Type 0
 IsOver None v ended = ⊥
 IsOver (Some e) v ended = (e.number ≡ v) × (e.ended ≡ Some ended) × (may_break_off ended ≡ false → waiting_bytes e.waiting ≡ [])
 
--- the screen, whether what moves is kept, the number of the next viewer, the connections by key, and the keys of those that are to be looked at
+-- the screen, whether what moves is kept, the number of the next viewer, the connections by key, the key of the next one, and the keys of those that are to be looked at
 pub record Serving : Type 0 where
   pub surface : Surface
   pub kept : Bool
   pub next : ℕ
   pub slots : List (Option ViewerConnection)
+  pub vacant : ℕ
   pub agenda : List ℕ
 
 -- the connection with a key, if there is one
 abbrev pub at_key : List (Option ViewerConnection) → ℕ → Option ViewerConnection
 at_key slots key = slice_index_or slots key None
+
+-- the number of the viewer that has a key
+abbrev pub number_at : List (Option ViewerConnection) → ℕ → Option ℕ
+number_at slots key = option_map (λ e. e.number) (at_key slots key)
+
+-- whether a viewer of a screen had its ServerInit (RFC 6143, 7.3.2), and met no fault; no viewer has not
+abbrev pub is_open_on : State → Option ℕ → Bool
+is_open_on screen None = false
+is_open_on screen (Some number) = elim (viewer_at screen number) [ None ↦ false | Some viewer ↦ is_open_rest viewer.heard ]
 
 -- whether what moves is kept, beside the history
 abbrev pub is_kept : History → Bool

@@ -10,7 +10,7 @@ use Rattle.connections.specs.declared.connection.Got.{Got}
 use Rattle.connections.specs.declared.connection.Got.TheVariants.{Piece}
 use Rattle.connections.specs.Drawing.{Surface}
 use Rattle.receipts.specs.Histories.{bytes_of, heard_of}
-use Rattle.connections.specs.Waiting.{waiting_bytes}
+use Rattle.connections.specs.Waiting.{waiting_bytes, IsFew}
 use Rattle.connections.specs.Serving.{Carried, ViewerConnection, Moves, IsServed}
 
 -- the bytes that a read gave
@@ -44,6 +44,7 @@ pub record HasRead (c : Config) (list : List Event) (began : Carried) (v : ℕ) 
   pub written : List ℕ
   pub moved : Moves began e.carried (heard_of v (list ++ events) ++ piece) written
   pub due : written ++ waiting_bytes e.waiting ≡ bytes_of c v (list ++ events)
+  pub few : IsFew e.waiting
 
 -- a piece that was read is heard, or its viewer ended
 abbrev pub HearsPiece : List ℕ → Surface → ViewerConnection → Surface → ViewerConnection → Type 0

@@ -1,9 +1,9 @@
 //! What a viewer was given, and what of it is not written yet.
 
 ghost use Rattle.std.specs.Prelude.{◌≡◌, ◌≢◌, ◌≤◌, ◌++◌, [], List, ℕ, IsTrue, OnOk, OnErr, length, take};
-ghost use Rattle.connections.specs.Waiting.{waiting_bytes};
+ghost use Rattle.connections.specs.Waiting.{waiting_bytes, IsFew};
 ghost use Rattle.connections.specs.Serving.{Moves};
-ghost use Rattle.connections.specs.Bounds.{WritesAtMost};
+ghost use Rattle.connections.specs.Bounds.{AreWrittenAtMost};
 ghost use Rattle.connections.specs.Carrying.{carried_by};
 ghost use Rattle.connections.specs.declared.backlog.Written.TheVariants as outcome;
 
@@ -35,14 +35,27 @@ pub(crate) struct Backlog {
 }
 
 impl Model for Backlog {
-    ghost use Rattle.std.specs.Prelude.{◌≤◌, length, drop};
-    ghost use Rattle.connections.specs.Waiting.{Waiting};
+    ghost use Rattle.std.specs.Prelude.{length, drop};
+    ghost use Rattle.connections.specs.Waiting.{Waiting, IsWithin};
 
     ghost Value = { Waiting };
 
     ghost view = { λ a. record { made = drop a.done a.made.items; update = a.update; behind = a.behind.items } };
 
-    ghost invariant = { λ a. a.done ≤ length a.made.items };
+    ghost invariant = { λ a. IsWithin a.done (length a.made.items) (length a.behind.items) };
+}
+
+/// Bytes come behind others. More than 64 KB in all are refused as want of memory: an opening is answered in less than one.
+fn append(all: &mut Vec<u8>, bytes: &[u8]) -> Result<(), AllocError>
+    requires { length all.old.items ≤ 65536 }
+    ensures ok { OnOk result (all.new.items ≡ all.old.items ++ bytes.now) }
+    ensures few { length all.new.items ≤ 65536 }
+    ensures err { OnErr result (all.new.items ≡ all.old.items) }
+{
+    if bytes.len() > BUFFER - all.len() {
+        return Err(AllocError);
+    }
+    all.extend_from_slice(bytes)
 }
 
 /// What came of a write.
@@ -114,18 +127,20 @@ impl Backlog {
     pub fn give(&mut self, bytes: &[u8]) -> Result<(), AllocError>
         ensures ok { OnOk result (waiting_bytes self.new ≡ waiting_bytes self.old ++ bytes.now) }
         ensures err { OnErr result (self.new ≡ self.old) }
+        ensures few { IsFew self.new }
     {
         if self.update.is_none() && self.behind.is_empty() {
-            self.made.extend_from_slice(bytes)
+            append(&mut self.made, bytes)
         } else {
-            self.behind.extend_from_slice(bytes)
+            append(&mut self.behind, bytes)
         }
     }
 
     /// An update is given, where nothing waits.
     pub fn start(&mut self, update: Update)
         requires { waiting_bytes self.old ≡ [] }
-        ensures { waiting_bytes self.new ≡ update }
+        ensures bytes { waiting_bytes self.new ≡ update }
+        ensures few { IsFew self.new }
     {
         self.update = Some(update.into_stream());
     }
@@ -140,7 +155,8 @@ impl Backlog {
         ensures sent { (written unwritten : List ℕ) ×
             Moves (carried_by T.unread T.written transport.old) (carried_by T.unread T.written transport.new) [] written ×
             (written ++ unwritten ≡ waiting_bytes self.old) × (result ≢ outcome.Memory → unwritten ≡ waiting_bytes self.new) }
-        ensures bound { WritesAtMost 65536 (T.written transport.old.transport) (T.written transport.new.transport) }
+        ensures bound { AreWrittenAtMost 65536 (T.written transport.old.transport) (T.written transport.new.transport) }
+        ensures few { IsFew self.new }
     {
         if self.done < self.made.len() {
             self.write_made(transport)
@@ -154,7 +170,8 @@ impl Backlog {
         ensures sent { (written : List ℕ) ×
             Moves (carried_by T.unread T.written transport.old) (carried_by T.unread T.written transport.new) [] written ×
             (written ++ waiting_bytes self.new ≡ waiting_bytes self.old) }
-        ensures bound { WritesAtMost 65536 (T.written transport.old.transport) (T.written transport.new.transport) }
+        ensures bound { AreWrittenAtMost 65536 (T.written transport.old.transport) (T.written transport.new.transport) }
+        ensures few { IsFew self.new }
     {
         let (count, outcome) = write_once(transport, &self.made[self.done..]);
         self.done += count;
@@ -175,7 +192,8 @@ impl Backlog {
         ensures sent { (written unwritten : List ℕ) ×
             Moves (carried_by T.unread T.written transport.old) (carried_by T.unread T.written transport.new) [] written ×
             (written ++ unwritten ≡ waiting_bytes self.old) × (result ≢ outcome.Memory → unwritten ≡ waiting_bytes self.new) }
-        ensures bound { WritesAtMost 65536 (T.written transport.old.transport) (T.written transport.new.transport) }
+        ensures bound { AreWrittenAtMost 65536 (T.written transport.old.transport) (T.written transport.new.transport) }
+        ensures few { IsFew self.new }
     {
         if self.make(buffer).is_err() {
             return Written::Memory;
@@ -192,6 +210,8 @@ impl Backlog {
         requires { self.old.made ≡ [] }
         ensures made { OnOk result (self.new.made ≡ []) }
         ensures bytes { OnOk result (buffer.new.items ++ waiting_bytes self.new ≡ waiting_bytes self.old) }
+        ensures bound { OnOk result (length buffer.new.items ≤ 65536) }
+        ensures few { IsFew self.new }
     {
         match self.update.take() {
             Some(mut update) => {
@@ -210,8 +230,10 @@ impl Backlog {
 
     /// Bytes that the transport didn't take come before all others, where none are made.
     fn keep(&mut self, bytes: &[u8]) -> Result<(), AllocError>
-        requires { self.old.made ≡ [] }
-        ensures { OnOk result (waiting_bytes self.new ≡ bytes.now ++ waiting_bytes self.old) }
+        requires none { self.old.made ≡ [] }
+        requires few { length bytes.now ≤ 65536 }
+        ensures bytes { OnOk result (waiting_bytes self.new ≡ bytes.now ++ waiting_bytes self.old) }
+        ensures few { IsFew self.new }
     {
         self.made.clear();
         self.done = 0;

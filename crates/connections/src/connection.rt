@@ -3,8 +3,8 @@
 ghost use Rattle.std.specs.Prelude.{◌≡◌, ◌≢◌, ◌≤◌, ◌++◌, ◌↔◌, [], List, ℕ, None, Some, true, false, IsTrue, ◌⊎◌, IsNone, length, unwrap_or};
 ghost use Rattle.receipts.specs.Checking.{may_break_off};
 ghost use Rattle.receipts.specs.declared.Ended.TheVariants as ended;
-ghost use Rattle.connections.specs.Waiting.{waiting_bytes};
-ghost use Rattle.connections.specs.Bounds.{WritesAtMost, ReadsAtMost};
+ghost use Rattle.connections.specs.Waiting.{waiting_bytes, IsFew};
+ghost use Rattle.connections.specs.Bounds.{AreWrittenAtMost, AreReadAtMost};
 ghost use Rattle.connections.specs.Serving.{Carried, ViewerConnection, Moves, breaks_off};
 ghost use Rattle.connections.specs.Recording.{none_yet};
 ghost use Rattle.connections.specs.Turns.{IsWithin, got_bytes};
@@ -229,7 +229,7 @@ impl<T: Transport> Connection<T> {
         ensures same { self.new ≡ record self.old { carried = self.new.carried } }
         ensures moved { Moves self.old.carried self.new.carried (got_bytes result room.new) [] }
         ensures within { IsWithin result room.new }
-        ensures bound { ReadsAtMost (length room.new) self.old.carried.unread self.new.carried.unread }
+        ensures bound { AreReadAtMost (length room.new) self.old.carried.unread self.new.carried.unread }
     {
         let size = room.len();
         match self.transport.transport.receive(room) {
@@ -256,6 +256,7 @@ impl<T: Transport> Connection<T> {
         ensures same { self.new ≡ record self.old { waiting = self.new.waiting; ended = self.new.ended } }
         ensures bytes { breaks_off self.new.ended ≡ false → waiting_bytes self.new.waiting ≡ waiting_bytes self.old.waiting ++ bytes.now }
         ensures ended { IsNone fault → (self.new.ended ≡ self.old.ended) ⊎ (self.new.ended ≡ Some ended.Memory) }
+        ensures few { IsFew self.new.waiting }
     {
         if let Some(fault) = fault {
             self.ended = Some(Ended::Fault(fault));
@@ -291,6 +292,7 @@ impl<T: Transport> Connection<T> {
         requires { waiting_bytes self.old.waiting ≡ [] }
         ensures same { self.new ≡ record self.old { waiting = self.new.waiting } }
         ensures bytes { waiting_bytes self.new.waiting ≡ update }
+        ensures few { IsFew self.new.waiting }
     {
         self.cuts = self.cuts.saturating_add(1);
         self.may_ask = false;
@@ -304,7 +306,8 @@ impl<T: Transport> Connection<T> {
             (written ++ unwritten ≡ waiting_bytes self.old.waiting) ×
             (breaks_off self.new.ended ≡ false → unwritten ≡ waiting_bytes self.new.waiting) }
         ensures ended { self.new.ended ≢ self.old.ended → breaks_off self.new.ended ≡ true }
-        ensures bound { WritesAtMost 65536 self.old.carried.written self.new.carried.written }
+        ensures bound { AreWrittenAtMost 65536 self.old.carried.written self.new.carried.written }
+        ensures few { IsFew self.new.waiting }
     {
         match self.backlog.write_some(&mut self.transport, buffer) {
             Written::Some => {}

@@ -1,13 +1,13 @@
 //! All connections of a screen's viewers.
 
-ghost use Rattle.std.specs.Prelude.{◌≡◌, ◌++◌, ◌∷◌, ◌+◌, [], List, ℕ, ◌<◌, None, Err, IfOk, IfSome, IsSome, OnOk, OnErr, length, option_map};
+ghost use Rattle.std.specs.Prelude.{◌≡◌, ◌++◌, ◌∷◌, ◌+◌, [], List, ℕ, ◌<◌, None, Some, Err, IfOk, IfSome, IsSome, OnOk, OnErr, length};
 ghost use Rattle.std.specs.Prelude.{not, ◌||◌, ◌==◌, is_some, count_by, MatchOption, IsOkUnless};
 ghost use Rattle.std.specs.Borrow.{sem};
 ghost use Rattle.scene.specs.declared.Config.{Config};
 ghost use Rattle.scene.specs.declared.Event.{Event};
 ghost use Rattle.scene.specs.Alone.{config_refusal};
 ghost use Rattle.connections.specs.Drawing.{Draws};
-ghost use Rattle.connections.specs.Serving.{Carried, GoesOn, IsOver, Serves, WasServed, at_key, is_kept};
+ghost use Rattle.connections.specs.Serving.{Carried, GoesOn, IsOver, Serves, WasServed, at_key, is_kept, is_open_on, number_at};
 ghost use Rattle.connections.specs.Recording.{none_yet};
 ghost use Rattle.connections.specs.Lending.{lends_canvas};
 
@@ -41,6 +41,16 @@ fn is_kept(history: History) -> bool
     ensures { result ≡ is_kept history }
 {
     matches!(history, History::Kept)
+}
+
+/// Whether a viewer had its ServerInit, and met no fault; false where there is none with the number.
+fn is_open(screen: &Screen, viewer: u64) -> bool
+    ensures { result ≡ is_open_on screen.now (Some viewer) }
+{
+    match screen.is_open(viewer) {
+        Ok(is_open) => is_open,
+        Err(_) => false,
+    }
 }
 
 /// A connection that is let go is watched no longer.
@@ -84,7 +94,7 @@ impl<T: Transport> Model for Connections<T> {
 
     ghost Value = { Serving };
 
-    ghost view = { λ a. record { surface = a.canvas; kept = a.is_kept; next = a.next; slots = a.connections.slots; agenda = a.agenda.items } };
+    ghost view = { λ a. record { surface = a.canvas; kept = a.is_kept; next = a.next; slots = a.connections.slots; vacant = a.connections.vacant_key; agenda = a.agenda.items } };
 }
 
 impl<T: Transport> Connections<T> {
@@ -125,7 +135,10 @@ impl<T: Transport> Connections<T> {
     }
 
     /// The key that the next connection is to have, unless another one ends before.
-    pub fn next_key(&self) -> usize {
+    pub fn next_key(&self) -> usize
+        ensures key { result ≡ self.now.vacant }
+        ensures none { at_key self.now.slots result ≡ None }
+    {
         self.connections.vacant_key()
     }
 
@@ -157,6 +170,8 @@ impl<T: Transport> Connections<T> {
         ensures serves { (config : Config) (began : ℕ → Carried) (list : List Event) → Serves config began list self.old →
             began self.old.next ≡ record { unread = T.unread transport; written = T.written transport; sent = none_yet self.old.kept } →
             OnOk result (Serves config began (list ++ Event.Connect self.old.next ∷ []) self.new) }
+        ensures key { IfOk result (λ key. key ≡ self.old.vacant) }
+        ensures viewer { IfOk result (λ key. number_at self.new.slots key ≡ Some self.old.next) }
         ensures err { OnErr result (self.new ≡ self.old) }
     {
         let Some(next) = self.next.checked_add(1) else {
@@ -179,7 +194,7 @@ impl<T: Transport> Connections<T> {
 
     /// The number of the viewer that has the key.
     pub fn viewer(&self, key: usize) -> Option<u64>
-        ensures { result ≡ option_map (λ e. e.number) (at_key self.now.slots key) }
+        ensures { result ≡ number_at self.now.slots key }
     {
         let connection = self.connections.get(key)?;
         Some(connection.number())
@@ -225,9 +240,11 @@ impl<T: Transport> Connections<T> {
     }
 
     /// Whether the viewer that has the key had its ServerInit (RFC 6143, 7.3.2), and met no fault.
-    pub fn is_open(&self, key: usize) -> bool {
+    pub fn is_open(&self, key: usize) -> bool
+        ensures { result ≡ is_open_on self.now.surface.screen (number_at self.now.slots key) }
+    {
         match self.viewer(key) {
-            Some(viewer) => self.canvas.screen().is_open(viewer) == Ok(true),
+            Some(viewer) => is_open(self.canvas.screen(), viewer),
             None => false,
         }
     }

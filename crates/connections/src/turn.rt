@@ -3,7 +3,7 @@
 
 ghost use Rattle.std.specs.Prelude.{◌≡◌, ◌*◌, [], false, IsTrue};
 ghost use Rattle.connections.specs.Waiting.{waiting_bytes};
-ghost use Rattle.connections.specs.Bounds.{WritesAtMost, ReadsAtMost};
+ghost use Rattle.connections.specs.Bounds.{AreWrittenAtMost, AreReadAtMost};
 ghost use Rattle.connections.specs.Drawing.{Draws};
 ghost use Rattle.connections.specs.Serving.{breaks_off};
 ghost use Rattle.connections.specs.Turns.{HearsPiece, TakesTurn};
@@ -30,7 +30,7 @@ pub(crate) fn listen<T: Transport, A: Application>(
     application: &mut A,
 ) -> Result<(), ScreenError>
     ensures turn { TakesTurn canvas.old connection.old canvas.new connection.new }
-    ensures bound { ReadsAtMost 128 connection.old.carried.unread connection.new.carried.unread }
+    ensures bound { AreReadAtMost 128 connection.old.carried.unread connection.new.carried.unread }
 {
     if !connection.may_read() {
         return Ok(());
@@ -91,7 +91,7 @@ pub(crate) fn send<T: Transport>(
     buffer: &mut Vec<u8>,
 )
     ensures turn { TakesTurn canvas.old connection.old canvas.new connection.new }
-    ensures bound { WritesAtMost (4 * 65536) connection.old.carried.written connection.new.carried.written }
+    ensures bound { AreWrittenAtMost (4 * 65536) connection.old.carried.written connection.new.carried.written }
 {
     connection.look_again(false);
     for _writes in 0..WRITES {

@@ -19,4 +19,4 @@ returns-clause-heard g c =
     turn-heard c.args.canvas.now c.hear.new.self c.tell.new.canvas c.args.connection.now f c.number-viewer.result c.args.piece.now bytes c.number-viewer.ensures c.in-Ok.ensures.step
     (λ config list h. c.as_slice.ensures ∙ c.in-Ok.ensures.answer config list h)
     (subst (λ (x : ViewerConnection). f ≡ record x { waiting = f.waiting; ended = f.ended }) still c.give.ensures.same)
-    (subst (λ (x : ViewerConnection). breaks_off f.ended ≡ false → waiting_bytes f.waiting ≡ waiting_bytes x.waiting ++ bytes) still c.give.ensures.bytes) c.tell.ensures.draws
+    (subst (λ (x : ViewerConnection). breaks_off f.ended ≡ false → waiting_bytes f.waiting ≡ waiting_bytes x.waiting ++ bytes) still c.give.ensures.bytes) c.give.ensures.few c.tell.ensures.draws

@@ -1,5 +1,4 @@
-use Rattle.std.proofs.Common.{◌≡◌, Option, None, rules}
-use Rattle.receipts.specs.declared.Ended.{Ended}
+use Rattle.std.proofs.Common.{◌≡◌, None, rules}
 use Rattle.connections.proofs.Turns.{turn-read}
 use Rattle.connections.proofs.turn.listen.Goals as goal
 

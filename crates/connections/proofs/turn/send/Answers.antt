@@ -8,6 +8,6 @@ loop-writes-preserved g c =
     let w = c.write.ensures.sent in
     record {
       turn = turn-then _ _ _ _ _ _ (turn-then _ _ _ _ _ _ c.loop-writes.invariant.turn c.prepare.ensures.turn)
-          (turn-written c.prepare.new.canvas c.prepare.new.canvas c.prepare.new.connection c.write.new.self w.0 w.1 refl (c.prepare.ensures.whole (search rules)) c.write.ensures.same w.2 w.3 w.4);
+          (turn-written c.prepare.new.canvas c.prepare.new.canvas c.prepare.new.connection c.write.new.self w.0 w.1 refl (c.prepare.ensures.whole (search rules)) c.write.ensures.same w.2 w.3 w.4 c.write.ensures.few);
       bound = one-write c.loop-writes._writes _ c.args.connection.now.carried c.loop-writes.connection.carried c.prepare.new.connection.carried c.write.new.self.carried c.loop-writes.invariant.bound c.prepare.ensures.carried c.write.ensures.bound (omega (arith));
     }

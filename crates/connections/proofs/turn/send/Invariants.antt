@@ -1,10 +1,10 @@
 use Rattle.std.proofs.Common.{◌*◌}
-use Rattle.connections.specs.Bounds.{WritesAtMost}
+use Rattle.connections.specs.Bounds.{AreWrittenAtMost}
 use Rattle.connections.specs.Turns.{TakesTurn}
 use Rattle.connections.proofs.turn.send.Given as goal
 
 abbrev pub invariant-loop-writes : goal.invariant-loop-writes
 invariant-loop-writes g l = record {
   turn : TakesTurn l.fn.canvas l.fn.connection l.canvas l.connection;
-  bound : WritesAtMost (l._writes * 65536) l.fn.connection.carried.written l.connection.carried.written;
+  bound : AreWrittenAtMost (l._writes * 65536) l.fn.connection.carried.written l.connection.carried.written;
 }

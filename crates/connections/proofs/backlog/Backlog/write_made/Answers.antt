@@ -4,7 +4,7 @@ use Rattle.viewer.specs.Given.{bytes_given}
 use Rattle.connections.specs.Waiting.{waiting_bytes}
 use Rattle.connections.specs.Serving.{Moves}
 use Rattle.connections.specs.Carrying.{carried_by}
-use Rattle.connections.proofs.Pieces.{taken_on}
+use Rattle.connections.proofs.Pieces.{taken_on, few-left}
 use Rattle.connections.proofs.Bounds.{writes-few}
 use Rattle.connections.proofs.backlog.Backlog.write_made.Goals as goal
 
@@ -21,4 +21,5 @@ returns-else-self-len g c =
         ap (λ l. take n (drop i.done l) ++ (drop (i.done + n) i.made.items ++ rest)) c.deref.ensures.value ∙ taken_on i.made.items rest i.done n ∙ ap waiting_bytes c.self.view_is,
       );
       bound = writes-few 65536 n _ _ _ c.write_once-count.ensures.moved.written c.write_once-count.ensures.most;
+      few = few-left (i.done + n) i.made.items i.behind.items i.update c.self.invariant.few_made c.self.invariant.few_behind;
     }

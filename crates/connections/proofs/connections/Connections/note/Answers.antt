@@ -1,5 +1,3 @@
-use Rattle.std.proofs.Common.{refl}
-use Rattle.connections.specs.Serving.{Serving, GoesOn}
 use Rattle.connections.proofs.Everyone.{goes-then, goes-is, goes-listed}
 use Rattle.connections.proofs.connections.Connections.note.Goals as goal
 

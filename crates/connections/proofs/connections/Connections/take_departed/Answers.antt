@@ -1,4 +1,4 @@
-use Rattle.std.proofs.Common.{◌≡◌, Some, None, refl, sym, ap, ◌∙◌, subst}
+use Rattle.std.proofs.Common.{sym, subst}
 use Rattle.connections.specs.Serving.{Serving, IsOver, at_key}
 use Rattle.connections.proofs.Everyone.{parted}
 use Rattle.connections.proofs.connections.Connections.take_departed.Goals as goal
