@@ -1,6 +1,7 @@
 -- Where all seats that were made are given back and the queue is empty, each viewer's inputs are what its seat accepted.
 use Rattle.std.proofs.Common.{◌≡◌, ◌≢◌, ◌⊎◌, inl, inr, ⊎_elim, ℕ, zero, suc, ◌+◌, ◌<◌, ◌≤◌, ◌==◌, Bool, true, false, cond, true≢false, List, [], ◌∷◌, ◌++◌, map, length, sym, refl, ap, ◌∙◌, subst, eq-eqb, ne_eqb, arith}
-use Rattle.std.specs.Prelude.{if◌then◌else◌, nat_eq, All}
+use Rattle.std.specs.Prelude.{if◌then◌else◌, nat_eq, All, sum_by}
+use Rattle.std.proofs.lemmas.List.Sums.{sum_by-cons}
 use Rattle.std.specs.List.{AllByRecursion, IsDistinct, filter}
 use Rattle.std.proofs.lemmas.Bool.{eqb-false}
 use Rattle.std.proofs.lemmas.Bool.Decides.{eqb_tells}
@@ -150,3 +151,26 @@ join_returns u v before left ss n is after empty closed all apart theirs =
     let none : length empty.0 ≡ 0 = empty.1 in
     let fewer = reached.1 in
     settled closed.0 n (before ++ left) whole.0 ss whole.1 (omega (arith, none, fewer)) (length-map ss note_of ∙ all) apart theirs
+
+-- ---- and there are no others
+
+noted_sum : (ss : List Putting) → noted_items (map note_of ss) ≡ sum_by (λ (s : Putting). length s.accepted) ss
+noted_sum [] = refl
+noted_sum (s ∷ ss) = ap (λ n. length s.accepted + n) (noted_sum ss) ∙ sym (sum_by-cons (λ (t : Putting). length t.accepted) s ss)
+
+all_counted : (items : List Told) (n : ℕ) (taken : List Told) (seats : List View) (ss : List Putting) → Keeps items n taken (map note_of ss) seats → noted_items (map note_of ss) ≤ length taken → length (map note_of ss) ≡ n
+    → length taken ≡ sum_by (λ (s : Putting). length s.accepted) ss
+all_counted items n taken seats ss h fewer all =
+    let lengths = h.lengths in
+    let light = none_weigh (λ (u : View). length u.accepted) seats (λ k v at. ap (λ (u : View). length u.accepted) (all_spent items n taken (map note_of ss) seats h all k v at)) in
+    let same : length taken ≡ noted_items (map note_of ss) = omega (arith, lengths, light, fewer) in
+    same ∙ noted_sum ss
+
+pub join_counts : (u v : View) (before left : List Told) (ss : List Putting) (n : ℕ) → u ≡ taker (before ++ left) (map note_of ss) → v ≡ joined n u.taken u.noted → Held 0 (Reached u) → (items : List Told) × Closed v items
+    → length ss ≡ n → length (before ++ left) ≡ sum_by (λ (s : Putting). length s.accepted) ss
+join_counts u v before left ss n is after empty closed all =
+    let whole : Closed (joined n (before ++ left) (map note_of ss)) closed.0 = subst (λ (y : View). Closed y closed.0) (after ∙ ap (λ (y : View). joined n y.taken y.noted) is) closed.1 in
+    let reached : Reached (taker (before ++ left) (map note_of ss)) empty.0 = subst (λ (y : View). Reached y empty.0) is empty.2 in
+    let none : length empty.0 ≡ 0 = empty.1 in
+    let fewer = reached.1 in
+    all_counted closed.0 n (before ++ left) whole.0 ss whole.1 (omega (arith, none, fewer)) (length-map ss note_of ∙ all)

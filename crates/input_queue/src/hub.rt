@@ -1,6 +1,6 @@
 //! The queue's ends.
 ghost use Rattle.std.specs.Prelude.{◌≡◌, ◌≤◌, ◌<◌, ◌+◌, ◌-◌, ◌^◌, [], ◌++◌, ◌∷◌, ℕ, List, length, map, All, min, IfOk, MatchResult};
-ghost use Rattle.std.specs.Prelude.{MatchOption, IsOkUnless, nat_le, ◌&&◌, MatchBool};
+ghost use Rattle.std.specs.Prelude.{MatchOption, IsOkUnless, nat_le, ◌&&◌, MatchBool, sum_by};
 ghost use Rattle.input_queue.specs.Ends.{Putting, of_viewer, ViewersApart, QueuedBeside, AllTaken, note_of};
 ghost use Rattle.input_queue.specs.declared.Told.{Told};
 ghost use Rattle.crossbeam_queue.specs.Passes.{view as known, IsPassOf};
@@ -200,8 +200,10 @@ impl InputHub {
     ) -> Result<Left, AllocError>
         requires taker { taker.queue ≡ self.queue }
         requires seats { All (λ s. s.queue ≡ self.queue) seats.items }
-        ensures { IfOk result (λ left. length seats.items ≡ self.seats → self.seats < 2 ^ 64 - 1 → ViewersApart seats.items →
+        ensures each { IfOk result (λ left. length seats.items ≡ self.seats → self.seats < 2 ^ 64 - 1 → ViewersApart seats.items →
             All (λ s. of_viewer s.viewer (taker.taken ++ left.items) ≡ s.accepted) seats.items) }
+        ensures no_other { IfOk result (λ left. length seats.items ≡ self.seats → self.seats < 2 ^ 64 - 1 →
+            length (taker.taken ++ left.items) ≡ sum_by (λ s. length s.accepted) seats.items) }
     {
         let InputHub {
             alloc,
