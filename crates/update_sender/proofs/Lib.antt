@@ -1,5 +1,7 @@
 mod Stepped
 mod Absent
+mod Refused
 mod Written
 mod Served
+mod Putting
 mod Finished

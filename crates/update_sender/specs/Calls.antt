@@ -1,5 +1,7 @@
--- The event that a drawing call is.
-use Rattle.std.specs.Prelude.{Bool, true, false, [], ◌∷◌}
+-- The event that a drawing call is, and when it is refused.
+use Rattle.std.specs.Prelude.{ℕ, Bool, true, false, [], ◌∷◌, Option, None}
+use Rattle.scene.specs.Alone.{pixels_refusal, text_refusal, size_refusal}
+use Rattle.scene.specs.declared.ScreenError.{ScreenError}
 use Rattle.scene.specs.declared.Event.{Event}
 use Rattle.scene.specs.declared.Event.TheVariants as events
 use Rattle.update_sender.specs.declared.drawing.Drawing.{Drawing}
@@ -22,3 +24,11 @@ event_of (NewFramebuffer width height) = events.Resize width height
 abbrev pub may_be_sent : Drawing → Bool
 may_be_sent (Write rect colours) = false
 may_be_sent _ = true
+
+-- why it is refused on a screen of so many columns and rows, if it is
+abbrev pub call_refusal : ℕ → ℕ → Drawing → Option ScreenError
+call_refusal width height (Write rect colours) = pixels_refusal width height rect colours.now
+call_refusal width height (Paint rect colours) = pixels_refusal width height rect colours.now
+call_refusal width height (CutText text) = text_refusal text.now
+call_refusal width height (NewFramebuffer w h) = size_refusal w h
+call_refusal width height _ = None

@@ -31,6 +31,10 @@ greeted v history = record {
   version = server_version;
 }
 
+-- a number, as a count that stops at 2^64 - 1 has it
+abbrev pub counted : ℕ → ℕ
+counted n = min n (2 ^ 64 - 1)
+
 -- a count that stops at 2^64 - 1
 abbrev pub one_more : ℕ → ℕ
 one_more n = min (n + 1) (2 ^ 64 - 1)

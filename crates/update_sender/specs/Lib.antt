@@ -3,5 +3,7 @@ pub mod Standing
 pub mod Calls
 pub mod Ends
 pub mod Recorded
+pub mod Inputs
+pub mod Reasons
 pub mod Serving
 pub mod Finishing

@@ -1,9 +1,11 @@
 -- What stands behind the lock, and what each hold does to it.
-use Rattle.std.specs.Prelude.{◌≡◌, ℕ, suc, Bool, true, false, List, [], ◌∷◌, ◌++◌, length, Option, Some, None}
+use Rattle.std.specs.Prelude.{◌≡◌, ◌≢◌, ℕ, suc, Bool, true, false, List, [], ◌∷◌, ◌++◌, length, Option, Some, None}
 use Rattle.messages.specs.Reading.{fault_in_rest, is_open_rest}
 use Rattle.viewer.specs.Viewer.{KeptViewer}
+use Rattle.scene.specs.declared.Answer.{Answer}
 use Rattle.scene.specs.declared.Event.{Event}
 use Rattle.scene.specs.declared.Event.TheVariants.{Cut}
+use Rattle.scene.specs.Alone.{gives}
 use Rattle.scene.specs.History.{accepted, drawings, connects}
 use Rattle.screen.specs.State.{State, state, viewer_at}
 use Rattle.update_sender.specs.declared.turn.Turn.{Turn}
@@ -62,7 +64,18 @@ abbrev pub is_open_now : Option KeptViewer → Bool
 is_open_now None = false
 is_open_now (Some viewer) = is_open_rest viewer.heard
 
+-- an update that is sent has bytes
+abbrev pub HasBytes : Turn → Type 0
+HasBytes (Send update) = update ≢ []
+HasBytes turn = Unit {0}
+
 -- a turn is an event where it sends
 abbrev pub Takes : ℕ → Locked → Locked → Option Turn → Type 0
 Takes v old new (Some (Send update)) = StepsAlone (Cut v) old new
 Takes v old new _ = new ≡ old
+
+-- where nothing ends its sender, a viewer is sent what the screen answers to a cut; its sender waits where that is nothing
+abbrev pub TellsTurn : Option Turn → Answer → Type 0
+TellsTurn None answer = answer ≡ gives []
+TellsTurn (Some (Send update)) answer = (answer ≡ gives update) × (update ≢ [])
+TellsTurn (Some turn) answer = ⊥

@@ -1,11 +1,14 @@
 //! The application's end, which draws. Where the history is kept it keeps its accepted calls too, in room that is made before
 //! the screen is held.
 
-ghost use Rattle.std.specs.Prelude.{◌≡◌, ◌<◌, ◌∷◌, [], true, OnOk, OnErr, IfOk, is_some};
+ghost use Rattle.std.specs.Prelude.{◌≡◌, ◌<◌, ◌∷◌, [], ℕ, true, OnOk, OnErr, IfOk, IsOkUnless, is_some};
 ghost use Rattle.scene.specs.declared.Event.{Event};
-ghost use Rattle.update_sender.specs.Calls.{event_of};
+ghost use Rattle.scene.specs.declared.ScreenError.TheVariants as refusals;
+ghost use Rattle.scene.specs.Alone.{pixels_refusal, size_refusal, text_refusal};
+ghost use Rattle.scene.specs.Refusals.{Refuses};
+ghost use Rattle.update_sender.specs.Calls.{call_refusal, event_of};
 ghost use Rattle.update_sender.specs.Ends.{drew};
-ghost use Rattle.update_sender.specs.Recorded.{first_of, items_of};
+ghost use Rattle.update_sender.specs.Recorded.{HasRoom, first_of, items_of};
 
 use crate::drawing::Drawing;
 use crate::recorded::Recorded;
@@ -105,6 +108,17 @@ fn event_in(drawn: &Recorded<Event>, drawing: &Drawing<'_>) -> Result<Event, All
     })
 }
 
+/// The same, and room for it.
+fn event_for(drawn: &mut Recorded<Event>, drawing: &Drawing<'_>) -> Result<Event, AllocError>
+    ensures event { is_some (items_of drawn.old.items) ≡ true → IfOk result (λ event. event ≡ event_of drawing.now) }
+    ensures room { OnOk result (HasRoom 1 drawn.new.items) }
+    ensures same { items_of drawn.new.items ≡ items_of drawn.old.items }
+{
+    let event = event_in(drawn, drawing)?;
+    drawn.make_room(1)?;
+    Ok(event)
+}
+
 impl<L: Ledger> Brush<L> {
     /// A brush that has drawn nothing, with all parts of its ledger.
     pub(crate) fn new(alloc: Global, history: History, share: Share<L>) -> Brush<L>
@@ -127,10 +141,12 @@ impl<L: Ledger> Brush<L> {
         drawing: &Drawing<'_>,
     ) -> Result<(), ScreenError>
         ensures drawn { OnOk result (self.new ≡ drew (event_of drawing.now) self.old) }
+        ensures refused { (width : ℕ) × (height : ℕ) × Refuses result (call_refusal width height drawing.now) }
         ensures err { OnErr result (self.new ≡ self.old) }
     {
-        let event = event_in(&self.drawn, drawing)?;
-        self.drawn.make_room(1)?;
+        let Ok(event) = event_for(&mut self.drawn, drawing) else {
+            return Err(shared.desk.lock(rt).refusal_of(drawing));
+        };
         shared.desk.lock(rt).draw(&mut self.share, drawing)?;
         self.drawn.push(event);
         if drawing.may_be_sent() {
@@ -148,6 +164,7 @@ impl<L: Ledger> Brush<L> {
         colours: &[u32],
     ) -> Result<(), ScreenError>
         ensures drawn { OnOk result (self.new ≡ drew (Event.Write rect colours.now) self.old) }
+        ensures refused { (width : ℕ) × (height : ℕ) × Refuses result (pixels_refusal width height rect colours.now) }
         ensures err { OnErr result (self.new ≡ self.old) }
     {
         self.draw(shared, rt, &Drawing::Write { rect, colours })
@@ -162,6 +179,7 @@ impl<L: Ledger> Brush<L> {
         colours: &[u32],
     ) -> Result<(), ScreenError>
         ensures drawn { OnOk result (self.new ≡ drew (Event.Paint rect colours.now) self.old) }
+        ensures refused { (width : ℕ) × (height : ℕ) × Refuses result (pixels_refusal width height rect colours.now) }
         ensures err { OnErr result (self.new ≡ self.old) }
     {
         self.draw(shared, rt, &Drawing::Paint { rect, colours })
@@ -178,6 +196,7 @@ impl<L: Ledger> Brush<L> {
         y2: i32,
     ) -> Result<(), ScreenError>
         ensures drawn { OnOk result (self.new ≡ drew (Event.Mark (record { x1 = x1; y1 = y1; x2 = x2; y2 = y2 } ∷ [])) self.old) }
+        ensures refused { IsOkUnless result refusals.OutOfMemory }
         ensures err { OnErr result (self.new ≡ self.old) }
     {
         self.draw(shared, rt, &Drawing::MarkRect(Rect { x1, y1, x2, y2 }))
@@ -191,6 +210,7 @@ impl<L: Ledger> Brush<L> {
         region: &Region,
     ) -> Result<(), ScreenError>
         ensures drawn { OnOk result (self.new ≡ drew (Event.Mark region.now.list) self.old) }
+        ensures refused { IsOkUnless result refusals.OutOfMemory }
         ensures err { OnErr result (self.new ≡ self.old) }
     {
         self.draw(shared, rt, &Drawing::MarkRegion(region))
@@ -210,6 +230,7 @@ impl<L: Ledger> Brush<L> {
     ) -> Result<(), ScreenError>
         ensures drawn { OnOk result (self.new ≡
             drew (Event.ScheduleCopy (record { x1 = x1; y1 = y1; x2 = x2; y2 = y2 } ∷ []) dx dy) self.old) }
+        ensures refused { IsOkUnless result refusals.OutOfMemory }
         ensures err { OnErr result (self.new ≡ self.old) }
     {
         self.draw(
@@ -233,6 +254,7 @@ impl<L: Ledger> Brush<L> {
         dy: i32,
     ) -> Result<(), ScreenError>
         ensures drawn { OnOk result (self.new ≡ drew (Event.ScheduleCopy region.now.list dx dy) self.old) }
+        ensures refused { IsOkUnless result refusals.OutOfMemory }
         ensures err { OnErr result (self.new ≡ self.old) }
     {
         self.draw(shared, rt, &Drawing::ScheduleCopyRegion { region, dx, dy })
@@ -252,6 +274,7 @@ impl<L: Ledger> Brush<L> {
     ) -> Result<(), ScreenError>
         ensures drawn { OnOk result (self.new ≡
             drew (Event.DoCopy (record { x1 = x1; y1 = y1; x2 = x2; y2 = y2 } ∷ []) dx dy) self.old) }
+        ensures refused { IsOkUnless result refusals.OutOfMemory }
         ensures err { OnErr result (self.new ≡ self.old) }
     {
         self.draw(
@@ -275,6 +298,7 @@ impl<L: Ledger> Brush<L> {
         dy: i32,
     ) -> Result<(), ScreenError>
         ensures drawn { OnOk result (self.new ≡ drew (Event.DoCopy region.now.list dx dy) self.old) }
+        ensures refused { IsOkUnless result refusals.OutOfMemory }
         ensures err { OnErr result (self.new ≡ self.old) }
     {
         self.draw(shared, rt, &Drawing::DoCopyRegion { region, dx, dy })
@@ -283,6 +307,7 @@ impl<L: Ledger> Brush<L> {
     /// `Screen::bell`.
     pub fn bell<R: Wait>(&mut self, shared: &Shared<L>, rt: &R) -> Result<(), ScreenError>
         ensures drawn { OnOk result (self.new ≡ drew (Event.Bell) self.old) }
+        ensures refused { IsOkUnless result refusals.OutOfMemory }
         ensures err { OnErr result (self.new ≡ self.old) }
     {
         self.draw(shared, rt, &Drawing::Bell)
@@ -296,6 +321,7 @@ impl<L: Ledger> Brush<L> {
         text: &[u8],
     ) -> Result<(), ScreenError>
         ensures drawn { OnOk result (self.new ≡ drew (Event.CutText text.now) self.old) }
+        ensures refused { Refuses result (text_refusal text.now) }
         ensures err { OnErr result (self.new ≡ self.old) }
     {
         self.draw(shared, rt, &Drawing::CutText(text))
@@ -310,6 +336,7 @@ impl<L: Ledger> Brush<L> {
         height: u32,
     ) -> Result<(), ScreenError>
         ensures drawn { OnOk result (self.new ≡ drew (Event.Resize width height) self.old) }
+        ensures refused { Refuses result (size_refusal width height) }
         ensures err { OnErr result (self.new ≡ self.old) }
     {
         self.draw(shared, rt, &Drawing::NewFramebuffer { width, height })

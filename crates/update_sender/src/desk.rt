@@ -2,18 +2,19 @@
 //! drawing calls are counted. Each call is one hold: it does one event, or changes nothing.
 
 ghost use Rattle.std.specs.Prelude.{◌≡◌, List, [], None, Some, true, OnOk, OnErr, IfOk, MatchBool, MatchOption, IsOkUnless, ◌+◌};
-ghost use Rattle.std.specs.Prelude.{◌<◌, is_some, Ok};
+ghost use Rattle.std.specs.Prelude.{◌<◌, ◌≢◌, is_some, Ok, IfSome};
 ghost use Rattle.messages.specs.Server.{server_version};
 ghost use Rattle.scene.specs.declared.Config.{Config};
 ghost use Rattle.scene.specs.declared.Event.{Event};
-ghost use Rattle.scene.specs.Alone.{something_to_send};
+ghost use Rattle.scene.specs.Alone.{something_to_send, Tells, gives};
+ghost use Rattle.viewer.specs.Given.{bytes_given};
 ghost use Rattle.scene.specs.Answers.{answer_to};
 ghost use Rattle.scene.specs.declared.ScreenError.TheVariants as refusals;
 ghost use Rattle.scene.specs.Refusals.{absence, Refuses};
 ghost use Rattle.screen.specs.State.{state, viewer_at, refusal};
-ghost use Rattle.update_sender.specs.Calls.{event_of};
+ghost use Rattle.update_sender.specs.Calls.{call_refusal, event_of};
 ghost use Rattle.update_sender.specs.Numbers.{is_next};
-ghost use Rattle.update_sender.specs.Standing.{Draws, Joins, Stands, StepsAlone, Takes, ending, is_open_now};
+ghost use Rattle.update_sender.specs.Standing.{Draws, Joins, Stands, StepsAlone, Takes, TellsTurn, HasBytes, ending, is_open_now};
 
 use crate::drawing::Drawing;
 use crate::turn::Turn;
@@ -100,6 +101,8 @@ impl<L: Ledger> Desk<L> {
     /// A piece of a viewer's bytes is heard.
     pub fn hear(&mut self, number: u64, piece: &[u8]) -> Result<Answer, ScreenError>
         ensures step { OnOk result (StepsAlone (Event.Hear number piece.now) self.old self.new) }
+        ensures answer { (config : Config) (list : List Event) → self.old.screen ≡ state config list →
+            Tells (λ a. a) result (answer_to config list (Event.Hear number piece.now)) }
         ensures refused { Refuses result (absence (viewer_at self.old.screen number)) }
         ensures err { OnErr result (self.new ≡ self.old) }
     {
@@ -134,6 +137,7 @@ impl<L: Ledger> Desk<L> {
         ensures counted { OnOk result (share.new.amount ≡ share.old.amount + 1) }
         ensures parts { share.new.parts ≡ share.old.parts }
         ensures refused { Refuses result (refusal self.old.screen (event_of drawing.now)) }
+        ensures call { Refuses result (call_refusal self.old.screen.picture.width self.old.screen.picture.height drawing.now) }
         ensures err { OnErr result (self.new ≡ self.old) }
         ensures not_counted { OnErr result (share.new.amount ≡ share.old.amount) }
     {
@@ -142,10 +146,25 @@ impl<L: Ledger> Desk<L> {
         Ok(())
     }
 
+    /// Why a drawing call is not made for want of memory: the refusal that is due, and else that want.
+    pub fn refusal_of(&self, drawing: &Drawing<'_>) -> ScreenError
+        ensures { MatchOption (call_refusal self.now.screen.picture.width self.now.screen.picture.height drawing.now)
+            (result ≡ refusals.OutOfMemory) (λ e. result ≡ e) }
+    {
+        match drawing.refusal(self.screen.width(), self.screen.height()) {
+            Some(refusal) => refusal,
+            None => ScreenError::OutOfMemory,
+        }
+    }
+
     /// Cuts an update for a viewer, if there is something to send.
     fn cut(&mut self, number: u64) -> Result<Option<Update>, ScreenError>
         ensures step { IfOk result (λ update. MatchOption update (self.new ≡ self.old)
             (λ _. StepsAlone (Event.Cut number) self.old self.new)) }
+        ensures answer { (config : Config) (list : List Event) → self.old.screen ≡ state config list →
+            Tells (λ update. gives (bytes_given update)) result (answer_to config list (Event.Cut number)) }
+        ensures some { IfOk result (λ update. IfSome update (λ u. u ≢ [])) }
+        ensures refused { Refuses result (absence (viewer_at self.old.screen number)) }
         ensures err { OnErr result (self.new ≡ self.old) }
     {
         kept_is_enough();
@@ -159,6 +178,10 @@ impl<L: Ledger> Desk<L> {
     pub fn take_turn(&mut self, number: u64) -> Result<Option<Turn>, AllocError>
         ensures ends { MatchOption (ending self.old number) (Unit {0}) (λ turn. result ≡ Ok (Some turn)) }
         ensures takes { IfOk result (λ turn. Takes number self.old self.new turn) }
+        ensures bytes { IfOk result (λ turn. IfSome turn HasBytes) }
+        ensures answer { (config : Config) (list : List Event) → self.old.screen ≡ state config list →
+            ending self.old number ≡ None →
+            IfOk result (λ turn. TellsTurn turn (answer_to config list (Event.Cut number))) }
         ensures err { OnErr result (self.new ≡ self.old) }
     {
         if self.stopped {

@@ -1,5 +1,7 @@
 //! What a sender asks before it encodes and before it writes.
 
+ghost use Rattle.std.specs.Prelude.{◌≡◌, true};
+
 /// What `serve_sender` asks and tells, each time outside the lock. An answer of false ends the sender as `Ended::Gate`.
 pub trait Gate {
     /// Before an update is encoded: whether the sender goes on.
@@ -20,11 +22,15 @@ pub trait Gate {
 pub struct OpenGate;
 
 impl Gate for OpenGate {
-    fn encoding(&self, _viewer: u64) -> bool {
+    fn encoding(&self, _viewer: u64) -> bool
+        ensures { result ≡ true }
+    {
         true
     }
 
-    fn writing(&self, _viewer: u64) -> bool {
+    fn writing(&self, _viewer: u64) -> bool
+        ensures { result ≡ true }
+    {
         true
     }
 

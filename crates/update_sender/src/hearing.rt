@@ -4,9 +4,9 @@ ghost use Rattle.std.specs.Prelude.{◌≡◌, OnOk, OnErr, MatchResult, length}
 ghost use Rattle.update_sender.specs.Serving.{HearsPiece, HearsNoMore};
 
 use crate::ends::Listener;
+use crate::reasons::{count_read, unheard_for};
 use crate::shared::{Heard, Shared};
 use receipts::Ended;
-use screen::ScreenError;
 use std::io::Read;
 use std::sync::Wait;
 use std::sync::ledger::Ledger;
@@ -26,15 +26,9 @@ pub fn hear_piece<L: Ledger, Rd: Read, R: Wait>(
         (λ e. (listener.new ≡ listener.old) × HearsNoMore (Rd.remaining reader.old) (Rd.remaining reader.new) e) }
 {
     let mut piece = [0u8; PIECE];
-    let Ok(count) = reader.read(&mut piece) else {
-        return Err(Ended::ReadFailed);
-    };
-    if count == 0 {
-        return Err(Ended::EndOfInput);
-    }
+    let count = count_read(reader.read(&mut piece))?;
     match shared.hear_further(rt, listener, &piece[..count]) {
         Ok(heard) => Ok(heard),
-        Err(ScreenError::NoViewer) => Err(Ended::Closed),
-        Err(_) => Err(Ended::Memory),
+        Err(refusal) => Err(unheard_for(refusal)),
     }
 }

@@ -22,6 +22,7 @@ mod gate;
 mod hearing;
 mod opening;
 mod reader;
+mod reasons;
 mod recorded;
 mod sender;
 mod shared;

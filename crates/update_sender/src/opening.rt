@@ -1,12 +1,14 @@
 //! A viewer's opening, from the server's version to the ServerInit (RFC 6143, 7.1 to 7.3).
 
-ghost use Rattle.std.specs.Prelude.{◌≡◌, List, ℕ, [], MatchResult};
-ghost use Rattle.update_sender.specs.Serving.{Opens, IsOf, Hears, Sends, OpeningEnds, receipt_of};
+ghost use Rattle.std.specs.Prelude.{◌≡◌, ◌++◌, List, ℕ, [], MatchResult};
+ghost use Rattle.update_sender.specs.Serving.{GreetingEnds, Opens, IsOf, Hears, Replies, Sends, OpeningEnds, receipt_of};
 
 use crate::ends::{Line, Listener, Speaker};
 use crate::hearing::hear_piece;
+use crate::reasons::no_fault;
 use crate::shared::{Heard, Shared};
 use receipts::{Ended, Receipt};
+use screen::Answer;
 use std::io::{Read, Write};
 use std::sync::Wait;
 use std::sync::ledger::Ledger;
@@ -82,7 +84,9 @@ fn greet<L: Ledger, Rd: Read, W: Write, R: Wait>(
         (λ _. Hears (Rd.remaining reader.old) (Rd.remaining reader.new) listener.old listener.new [])
         (λ e. (unheard : List ℕ) × Hears (Rd.remaining reader.old) (Rd.remaining reader.new) listener.old listener.new unheard ×
         OpeningEnds e (Rd.remaining reader.new) unheard) }
-    ensures sent { Sends (W.contents writer.old) (W.contents writer.new) speaker.old speaker.new }
+    ensures sent { MatchResult result
+        (λ _. (answers : List ℕ) × Sends (W.contents writer.old) (W.contents writer.new) speaker.old speaker.new (version.now ++ answers))
+        (λ e. (added : List ℕ) × Sends (W.contents writer.old) (W.contents writer.new) speaker.old speaker.new added × GreetingEnds e added version.now) }
 {
     speaker.write(writer, version)?;
     for _ in rt.forever() {
@@ -91,6 +95,15 @@ fn greet<L: Ledger, Rd: Read, W: Write, R: Wait>(
         }
     }
     unreachable!()
+}
+
+/// Writes the answer to a piece that was heard. Why the opening ends with it, if it does.
+fn reply<W: Write>(speaker: &mut Speaker, writer: &mut W, answer: &Answer) -> Result<(), Ended>
+    ensures { (added : List ℕ) × Sends (W.contents writer.old) (W.contents writer.new) speaker.old speaker.new added ×
+        Replies result added answer.now }
+{
+    speaker.write(writer, answer.bytes.as_slice())?;
+    no_fault(answer.closed)
 }
 
 /// Hears a piece, and writes its answer. Whether the viewer is open now.
@@ -106,17 +119,16 @@ fn open_further<L: Ledger, Rd: Read, W: Write, R: Wait>(
         (λ _. Hears (Rd.remaining reader.old) (Rd.remaining reader.new) listener.old listener.new [])
         (λ e. (unheard : List ℕ) × Hears (Rd.remaining reader.old) (Rd.remaining reader.new) listener.old listener.new unheard ×
         OpeningEnds e (Rd.remaining reader.new) unheard) }
-    ensures sent { Sends (W.contents writer.old) (W.contents writer.new) speaker.old speaker.new }
+    ensures sent { MatchResult result
+        (λ _. (answer : List ℕ) × Sends (W.contents writer.old) (W.contents writer.new) speaker.old speaker.new answer)
+        (λ e. (added : List ℕ) × Sends (W.contents writer.old) (W.contents writer.new) speaker.old speaker.new added × GreetingEnds e added []) }
 {
     let Heard {
         answer,
         is_open,
         ..
     } = hear_piece(rt, shared, listener, reader)?;
-    speaker.write(writer, answer.bytes.as_slice())?;
-    if let Some(fault) = answer.closed {
-        return Err(Ended::Fault(fault));
-    }
+    reply(speaker, writer, &answer)?;
     listener.waiting = answer.inputs;
     Ok(is_open)
 }

@@ -1,17 +1,22 @@
 //! A viewer's reader: what it says is heard, and its inputs go into the application's queue.
 
-ghost use Rattle.std.specs.Prelude.{◌≡◌, List, ℕ, [], MatchResult};
+ghost use Rattle.std.specs.Prelude.{◌≡◌, ◌≤◌, ◌+◌, List, ℕ, [], ◌∷◌, IsOk, MatchOption, MatchResult};
+ghost use Rattle.messages.specs.declared.Input.{Input};
+ghost use Rattle.receipts.specs.declared.Ended.TheVariants as ended;
 ghost use Rattle.update_sender.specs.Recorded.{all_of};
-ghost use Rattle.update_sender.specs.Ends.{Listening};
+ghost use Rattle.update_sender.specs.Ends.{Listening, counted};
+ghost use Rattle.update_sender.specs.Inputs.{Puts};
 ghost use Rattle.update_sender.specs.Serving.{Hears, ReadingEnds};
 
 use crate::ends::Listener;
 use crate::hearing::hear_piece;
+use crate::reasons::no_fault;
 use crate::shared::Shared;
 use input_queue::{InputHub, InputSeat};
 use listed::Listed;
 use messages::Input;
 use receipts::Ended;
+use screen::Answer;
 use std::io::Read;
 use std::sync::Wait;
 use std::sync::ledger::Ledger;
@@ -50,45 +55,69 @@ pub fn serve_reader<L: Ledger, Rd: Read, R: Wait>(
         Hears (Rd.remaining reader.old) (Rd.remaining reader.new) listener l unheard ×
         ReadingEnds result.ended (Rd.remaining reader.new) unheard
         × (result.pieces ≡ l.pieces) × (result.heard ≡ all_of l.heard) }
+    ensures puts { (inputs : List Input) × (dropped : ℕ) × Puts inputs seat result.seat dropped ×
+        (result.dropped ≡ counted dropped) }
     ensures seat { result.seat ≡ record seat { accepted = result.seat.accepted } }
 {
     let waiting = listener.take_waiting();
-    let mut dropped = put_all(rt, hub, &mut seat, waiting);
-    let ended = hear_all(
-        rt,
-        shared,
-        &mut listener,
-        reader,
-        hub,
-        &mut seat,
-        &mut dropped,
-    );
+    let dropped = put_all(rt, hub, &mut seat, waiting);
+    let (ended, more) = hear_all(rt, shared, &mut listener, reader, hub, &mut seat);
     shared.close_at_last(rt, listener.viewer);
     ReadHalf {
         viewer: listener.viewer,
         pieces: listener.pieces,
         heard: listener.heard.into_listed(),
-        dropped,
+        dropped: dropped.saturating_add(more),
         ended,
         seat,
+    }
+}
+
+/// Puts an input: how many met a full queue, 0 or 1.
+fn put_one<R: Wait>(rt: &R, hub: &InputHub, seat: &mut InputSeat, input: Input) -> u64
+    requires { seat.old.queue ≡ hub.now.queue }
+    ensures puts { Puts (input ∷ []) seat.old seat.new result }
+    ensures seat { seat.new ≡ record seat.old { accepted = seat.new.accepted } }
+    ensures few { result ≤ 1 }
+{
+    match hub.put(rt, seat, input) {
+        Ok(()) => 0,
+        Err(_) => 1,
     }
 }
 
 /// Puts inputs in order. How many met a full queue.
 fn put_all<R: Wait>(rt: &R, hub: &InputHub, seat: &mut InputSeat, inputs: Listed<Input>) -> u64
     requires { seat.old.queue ≡ hub.now.queue }
-    ensures { seat.new ≡ record seat.old { accepted = seat.new.accepted } }
+    ensures puts { (dropped : ℕ) × Puts inputs seat.old seat.new dropped × (result ≡ counted dropped) }
+    ensures seat { seat.new ≡ record seat.old { accepted = seat.new.accepted } }
 {
     let mut dropped = 0u64;
     for input in inputs.into_vec() {
-        if hub.put(rt, seat, input).is_err() {
-            dropped = dropped.saturating_add(1);
-        }
+        dropped = dropped.saturating_add(put_one(rt, hub, seat, input));
     }
     dropped
 }
 
-/// Hears until reading ends. Why it does.
+/// Puts the inputs of a piece that was heard, and adds how many met a full queue. Why reading ends with it, if it does.
+fn take_in<R: Wait>(
+    rt: &R,
+    hub: &InputHub,
+    seat: &mut InputSeat,
+    dropped: &mut u64,
+    answer: Answer,
+) -> Result<(), Ended>
+    requires { seat.old.queue ≡ hub.now.queue }
+    ensures puts { (more : ℕ) × Puts answer.inputs seat.old seat.new more ×
+        (dropped.new ≡ counted (dropped.old + counted more)) }
+    ensures seat { seat.new ≡ record seat.old { accepted = seat.new.accepted } }
+    ensures fault { MatchOption answer.closed (IsOk result) (λ fault. result ≡ Err (ended.Fault fault)) }
+{
+    *dropped = dropped.saturating_add(put_all(rt, hub, seat, answer.inputs));
+    no_fault(answer.closed)
+}
+
+/// Hears until reading ends. Why it does, and how many inputs met a full queue.
 fn hear_all<L: Ledger, Rd: Read, R: Wait>(
     rt: &R,
     shared: &Shared<L>,
@@ -96,22 +125,23 @@ fn hear_all<L: Ledger, Rd: Read, R: Wait>(
     reader: &mut Rd,
     hub: &InputHub,
     seat: &mut InputSeat,
-    dropped: &mut u64,
-) -> Ended
+) -> (Ended, u64)
     requires { seat.old.queue ≡ hub.now.queue }
     ensures heard { (unheard : List ℕ) ×
         Hears (Rd.remaining reader.old) (Rd.remaining reader.new) listener.old listener.new unheard ×
-        ReadingEnds result (Rd.remaining reader.new) unheard }
+        ReadingEnds result.0 (Rd.remaining reader.new) unheard }
+    ensures puts { (inputs : List Input) × (dropped : ℕ) × Puts inputs seat.old seat.new dropped ×
+        (result.1 ≡ counted dropped) }
     ensures seat { seat.new ≡ record seat.old { accepted = seat.new.accepted } }
 {
+    let mut dropped = 0u64;
     for _ in rt.forever() {
         let answer = match hear_piece(rt, shared, listener, reader) {
             Ok(heard) => heard.answer,
-            Err(ended) => return ended,
+            Err(ended) => return (ended, dropped),
         };
-        *dropped = dropped.saturating_add(put_all(rt, hub, seat, answer.inputs));
-        if let Some(fault) = answer.closed {
-            return Ended::Fault(fault);
+        if let Err(ended) = take_in(rt, hub, seat, &mut dropped, answer) {
+            return (ended, dropped);
         }
     }
     unreachable!()

@@ -1,14 +1,14 @@
 //! A viewer's sender: updates are cut, encoded and written in pieces, until there is nothing more to come.
 
-ghost use Rattle.std.specs.Prelude.{◌≡◌, ◌≤◌, List, ℕ, OnOk, OnErr, IfErr};
+ghost use Rattle.std.specs.Prelude.{◌≡◌, ◌≢◌, [], List, ℕ, OnErr, IfOk, IfErr, MatchResult};
 ghost use Rattle.update_sender.specs.Recorded.{all_of};
 ghost use Rattle.update_sender.specs.Ends.{Speaking, has_cut};
-ghost use Rattle.update_sender.specs.Serving.{CutsAndSends, CuttingEnds, SendingEnds};
+ghost use Rattle.update_sender.specs.Serving.{CutsAndSends, CuttingEnds, SendsNoMore, SendsUpdate};
 
 use crate::ends::Speaker;
 use crate::gate::Gate;
+use crate::reasons::passed;
 use crate::shared::Shared;
-use crate::turn::Turn;
 use crate::writing::{BUFFER, fill};
 use listed::Listed;
 use receipts::Ended;
@@ -43,9 +43,8 @@ pub fn serve_sender<L: Ledger, W: Write, G: Gate, R: Wait>(
     gate: &G,
 ) -> WriteHalf
     ensures viewer { result.viewer ≡ speaker.viewer }
-    ensures sent { (s : Speaking) × CutsAndSends (W.contents writer.old) (W.contents writer.new) speaker s ×
+    ensures sent { (s : Speaking) × CutsAndSends (W.contents writer.old) (W.contents writer.new) speaker s result.ended ×
         (result.cuts ≡ s.cuts) × (result.sent ≡ all_of s.sent) }
-    ensures ended { SendingEnds result.ended }
 {
     let viewer = speaker.viewer;
     let ended = send_all(rt, shared, &mut speaker, writer, gate);
@@ -69,8 +68,7 @@ fn send_all<L: Ledger, W: Write, G: Gate, R: Wait>(
     writer: &mut W,
     gate: &G,
 ) -> Ended
-    ensures sent { CutsAndSends (W.contents writer.old) (W.contents writer.new) speaker.old speaker.new }
-    ensures ended { SendingEnds result }
+    ensures { CutsAndSends (W.contents writer.old) (W.contents writer.new) speaker.old speaker.new result }
 {
     for _ in rt.forever() {
         if let Err(ended) = send_next(rt, shared, speaker, writer, gate) {
@@ -88,19 +86,16 @@ fn send_next<L: Ledger, W: Write, G: Gate, R: Wait>(
     writer: &mut W,
     gate: &G,
 ) -> Result<(), Ended>
-    ensures sent { CutsAndSends (W.contents writer.old) (W.contents writer.new) speaker.old speaker.new }
-    ensures ended { IfErr result SendingEnds }
+    ensures { MatchResult result
+        (λ _. SendsUpdate (W.contents writer.old) (W.contents writer.new) speaker.old speaker.new)
+        (λ e. SendsNoMore (W.contents writer.old) (W.contents writer.new) speaker.old speaker.new e) }
 {
     let update = next_update(rt, shared, speaker)?;
-    if !gate.encoding(speaker.viewer) {
-        return Err(Ended::Gate);
-    }
+    passed(gate.encoding(speaker.viewer))?;
     let mut stream = update.into_stream();
     let mut buffer = Vec::with_capacity(shared.alloc, BUFFER)?;
     fill(&mut buffer, &mut stream)?;
-    if !gate.writing(speaker.viewer) {
-        return Err(Ended::Gate);
-    }
+    passed(gate.writing(speaker.viewer))?;
     let count = speaker.write_stream(writer, &mut buffer, &mut stream)?;
     gate.wrote(speaker.viewer, count);
     Ok(())
@@ -112,17 +107,12 @@ fn next_update<L: Ledger, R: Wait>(
     shared: &Shared<L>,
     speaker: &mut Speaker,
 ) -> Result<Update, Ended>
-    ensures cut { OnOk result ((speaker.new ≡ has_cut speaker.old) × (speaker.old.cuts ≤ speaker.new.cuts)) }
+    ensures cut { IfOk result (λ update. (update ≢ []) × (speaker.new ≡ has_cut speaker.old)) }
     ensures err { OnErr result (speaker.new ≡ speaker.old) }
     ensures ended { IfErr result CuttingEnds }
 {
-    match shared.wait_turn(rt, speaker.viewer)? {
-        Turn::Send(update) => {
-            speaker.count_cut();
-            Ok(update)
-        }
-        Turn::Stopped => Err(Ended::Stopped),
-        Turn::Closed => Err(Ended::Closed),
-        Turn::Faulty(fault) => Err(Ended::Fault(fault)),
-    }
+    let turn = shared.wait_turn(rt, speaker.viewer)?;
+    let update = turn.update()?;
+    speaker.count_cut();
+    Ok(update)
 }

@@ -1,15 +1,17 @@
 //! The lock, and the viewers' calls. Each holds the lock for one event; what follows from it, as an update's encoding, is done
 //! once the lock is free. A hold after which a waiting sender may go on wakes the senders.
 
-ghost use Rattle.std.specs.Prelude.{◌≡◌, ◌<◌, ◌⊎◌, None, OnOk, OnErr, IfOk, IfErr, MatchOption, IsOkUnless};
+ghost use Rattle.std.specs.Prelude.{◌≡◌, ◌≢◌, ◌<◌, ◌⊎◌, [], None, OnOk, OnErr, IfOk, IfErr, MatchOption, IsOkUnless, length};
 ghost use Rattle.scene.specs.declared.ScreenError.TheVariants as refusals;
 ghost use Rattle.scene.specs.Alone.{config_refusal};
 ghost use Rattle.update_sender.specs.Ends.{greeted, listened, has_cut};
-ghost use Rattle.update_sender.specs.Recorded.{first_of};
+ghost use Rattle.update_sender.specs.Recorded.{HasRoom, first_of};
+ghost use Rattle.update_sender.specs.Standing.{HasBytes};
 
 use crate::brush::Brush;
 use crate::desk::Desk;
 use crate::ends::{Line, Listener, Speaker};
+use crate::recorded::Recorded;
 use crate::turn::Turn;
 use screen::{Answer, Config, Screen, ScreenError, Update};
 use std::alloc::{AllocError, Global};
@@ -142,7 +144,7 @@ impl<L: Ledger> Shared<L> {
         ensures refused { IfErr result (λ e. (e ≡ refusals.NoViewer) ⊎ (e ≡ refusals.OutOfMemory)) }
     {
         listener.heard.make_room(piece.len())?;
-        let heard = self.hear_in_hold(rt, listener.viewer, piece)?;
+        let heard = self.hear_in_hold(rt, listener.viewer, &listener.heard, piece)?;
         if heard.has_turn {
             self.moved.notify_all();
         }
@@ -151,8 +153,15 @@ impl<L: Ledger> Shared<L> {
         Ok(heard)
     }
 
-    /// One hold of it.
-    fn hear_in_hold<R: Wait>(&self, rt: &R, viewer: u64, piece: &[u8]) -> Result<Heard, ScreenError>
+    /// One hold of it, once there is room for the piece among those that were heard: what the screen has heard is kept.
+    fn hear_in_hold<R: Wait>(
+        &self,
+        rt: &R,
+        viewer: u64,
+        _kept: &Recorded<u8>,
+        piece: &[u8],
+    ) -> Result<Heard, ScreenError>
+        requires room { HasRoom (length piece.now) _kept.now.items }
         ensures refused { IfErr result (λ e. (e ≡ refusals.NoViewer) ⊎ (e ≡ refusals.OutOfMemory)) }
     {
         let mut desk = self.desk.lock(rt);
@@ -165,7 +174,9 @@ impl<L: Ledger> Shared<L> {
     }
 
     /// Waits until a viewer's sender has something to do.
-    pub(crate) fn wait_turn<R: Wait>(&self, rt: &R, viewer: u64) -> Result<Turn, AllocError> {
+    pub(crate) fn wait_turn<R: Wait>(&self, rt: &R, viewer: u64) -> Result<Turn, AllocError>
+        ensures { IfOk result HasBytes }
+    {
         let mut desk = self.desk.lock(rt);
         for _ in rt.forever() {
             if let Some(turn) = desk.take_turn(viewer)? {
@@ -183,8 +194,8 @@ impl<L: Ledger> Shared<L> {
         rt: &R,
         speaker: &mut Speaker,
     ) -> Result<Option<Update>, AllocError>
-        ensures cut { IfOk result (λ update. MatchOption update (speaker.new ≡ speaker.old) (λ _. speaker.new ≡
-            has_cut speaker.old)) }
+        ensures cut { IfOk result (λ update. MatchOption update (speaker.new ≡ speaker.old) (λ update. (update ≢ []) ×
+            (speaker.new ≡ has_cut speaker.old))) }
         ensures err { OnErr result (speaker.new ≡ speaker.old) }
     {
         match self.wait_turn(rt, speaker.viewer)? {

@@ -1,5 +1,11 @@
 //! A sender's turn.
 
+ghost use Rattle.std.specs.Prelude.{◌≡◌, ◌≢◌, [], IfOk, IfErr};
+ghost use Rattle.update_sender.specs.Reasons.{sent_in};
+ghost use Rattle.update_sender.specs.Serving.{CuttingEnds};
+ghost use Rattle.update_sender.specs.Standing.{HasBytes};
+
+use receipts::Ended;
 use screen::{Fault, Update};
 
 /// What a viewer's sender does next: it sends an update, or ends.
@@ -13,4 +19,20 @@ pub enum Turn {
     Closed,
     /// Ends, since the viewer met a fault.
     Faulty(Fault),
+}
+
+impl Turn {
+    /// The update that is sent, or why the sender ends.
+    pub fn update(self) -> Result<Update, Ended>
+        ensures turn { result ≡ sent_in self }
+        ensures bytes { HasBytes self → IfOk result (λ update. update ≢ []) }
+        ensures ends { IfErr result CuttingEnds }
+    {
+        match self {
+            Turn::Send(update) => Ok(update),
+            Turn::Stopped => Err(Ended::Stopped),
+            Turn::Closed => Err(Ended::Closed),
+            Turn::Faulty(fault) => Err(Ended::Fault(fault)),
+        }
+    }
 }

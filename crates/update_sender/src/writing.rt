@@ -1,11 +1,13 @@
 //! Bytes on their way to a viewer: those that are written are kept, where the history is, and no others.
 
-ghost use Rattle.std.specs.Prelude.{◌≡◌, ◌≢◌, ◌<◌, ◌≤◌, ◌⊎◌, ◌++◌, [], ℕ, List, length, take, OnOk, IfErr};
+ghost use Rattle.std.specs.Prelude.{◌≡◌, ◌≢◌, ◌<◌, ◌≤◌, ◌⊎◌, ◌++◌, [], ℕ, List, length, take, min, ◌-◌, ◌^◌, OnOk, IfOk, IfErr};
 ghost use Rattle.std.specs.Io.KnownBytes.{Appends};
 ghost use Rattle.receipts.specs.declared.Ended.TheVariants as ended;
 ghost use Rattle.update_sender.specs.Ends.{has_sent};
+ghost use Rattle.update_sender.specs.Serving.{Writes};
 
 use crate::ends::Speaker;
+use crate::reasons::all_written;
 use receipts::Ended;
 use std::alloc::AllocError;
 use std::io::Write;
@@ -49,16 +51,13 @@ impl Speaker {
     /// Writes bytes to the viewer. What is written is kept, in room that is made before.
     pub(crate) fn write<W: Write>(&mut self, writer: &mut W, bytes: &[u8]) -> Result<(), Ended>
         ensures sent { (added : List ℕ) × Appends (W.contents writer.old) (W.contents writer.new) added ×
-            (self.new ≡ has_sent added self.old) × OnOk result (added ≡ bytes.now) }
+            (self.new ≡ has_sent added self.old) × Writes result added bytes.now }
         ensures ended { IfErr result (λ e. (e ≡ ended.Memory) ⊎ (e ≡ ended.WriteFailed)) }
     {
         self.sent.make_room(bytes.len())?;
         let done = put_on(writer, bytes);
         self.sent.append(&bytes[..done]);
-        if done < bytes.len() {
-            return Err(Ended::WriteFailed);
-        }
-        Ok(())
+        all_written(done, bytes.len())
     }
 
     /// Writes what a buffer has, and then the rest of an update, a buffer at a time. How many bytes these are. What is written
@@ -70,7 +69,8 @@ impl Speaker {
         stream: &mut Stream,
     ) -> Result<u64, Ended>
         ensures sent { (added : List ℕ) × Appends (W.contents writer.old) (W.contents writer.new) added ×
-            (self.new ≡ has_sent added self.old) × OnOk result (added ≡ buffer.old.items ++ stream.old) }
+            (self.new ≡ has_sent added self.old) × Writes result added (buffer.old.items ++ stream.old) }
+        ensures count { IfOk result (λ count. count ≡ min (length (buffer.old.items ++ stream.old)) (2 ^ 64 - 1)) }
         ensures ended { IfErr result (λ e. (e ≡ ended.Memory) ⊎ (e ≡ ended.WriteFailed)) }
     {
         self.write(writer, buffer)?;

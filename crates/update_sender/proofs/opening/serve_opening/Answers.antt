@@ -8,7 +8,7 @@ pub returns-in-Ok-clause-viewer : goal.returns-in-Ok-clause-viewer
 returns-in-Ok-clause-viewer g c =
     let line = ap (λ (l : Listening). l.viewer) c.ends-listener.ensures.listener in (
       hears-one-viewer _ _ _ _ _ c.in-Ok.ensures.heard ∙ line,
-      ap (λ (s : Speaking). s.viewer) c.in-Ok.ensures.sent.2 ∙ sym c.ends-listener.ensures.viewer ∙ line,
+      ap (λ (s : Speaking). s.viewer) c.in-Ok.ensures.sent.1.1 ∙ sym c.ends-listener.ensures.viewer ∙ line,
     )
 
 pub returns-clause-viewer : goal.returns-clause-viewer

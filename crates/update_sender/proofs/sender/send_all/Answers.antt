@@ -1,8 +1,11 @@
-use Rattle.update_sender.proofs.Served.{cuts-then}
+use Rattle.update_sender.proofs.Served.{updates-none, updates-more, updates-end}
 use Rattle.update_sender.proofs.sender.send_all.Goals as goal
 
-pub returns-in-Err-clause-sent : goal.returns-in-Err-clause-sent
-returns-in-Err-clause-sent g c = cuts-then _ _ _ _ _ _ c.loop.invariant c.send_next.ensures.sent
+pub loop-init : goal.loop-init
+loop-init g c = updates-none _ _
+
+pub returns-in-Err : goal.returns-in-Err
+returns-in-Err g c = updates-end _ _ _ _ _ _ _ c.loop.invariant c.in-Err.ensures
 
 pub loop-preserved : goal.loop-preserved
-loop-preserved g c = cuts-then _ _ _ _ _ _ c.loop.invariant c.send_next.ensures.sent
+loop-preserved g c = updates-more _ _ _ _ _ _ c.loop.invariant c.in_default.ensures

@@ -4,7 +4,7 @@ use Rattle.update_sender.proofs.ends.Speaker.write_stream.Given as goal
 
 -- what is written and what is left are the update's bytes
 abbrev pub invariant-loop-buffer : goal.invariant-loop-buffer
-invariant-loop-buffer g l = SendsSome (g.W.Write.contents l.fn.writer) (g.W.Write.contents l.writer) l.fn.self l.self l.stream (l.fn.buffer.items ++ l.fn.stream)
+invariant-loop-buffer g l = SendsSome (g.W.Write.contents l.fn.writer) (g.W.Write.contents l.writer) l.fn.self l.self l.stream (l.fn.buffer.items ++ l.fn.stream) l.count
 
 abbrev pub decreases-loop-buffer : goal.decreases-loop-buffer
 decreases-loop-buffer g l = length l.stream
