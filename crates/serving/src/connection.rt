@@ -24,7 +24,8 @@ pub(crate) fn serve_connection<L: Ledger + Send + Sync, R: Threads + Wait + Sync
     hub: &InputHub,
     seat: InputSeat,
 ) -> Receipt
-    requires { seat.queue ≡ hub.now.queue }
+    requires queue { seat.queue ≡ hub.now.queue }
+    requires viewer { seat.viewer ≡ line.listener.viewer }
     ensures { result.viewer ≡ line.listener.viewer }
 {
     // Without this an answer may wait for the next one. Where the system refuses it, all else stays.
@@ -60,6 +61,7 @@ fn serve_open<L: Ledger + Send + Sync, R: Threads + Wait + Sync>(
     seat: InputSeat,
 ) -> Receipt
     requires seat { seat.queue ≡ hub.now.queue }
+    requires own { seat.viewer ≡ listener.viewer }
     requires viewer { listener.viewer ≡ speaker.viewer }
     ensures { result.viewer ≡ speaker.viewer }
 {
@@ -67,7 +69,8 @@ fn serve_open<L: Ledger + Send + Sync, R: Threads + Wait + Sync>(
         thread::scope_env(),
         rt,
         move |scope| -> (ReadHalf, WriteHalf)
-            requires { seat.queue ≡ hub.now.queue }
+            requires queue { seat.queue ≡ hub.now.queue }
+            requires viewer { seat.viewer ≡ listener.viewer }
             ensures read { result.0.viewer ≡ listener.viewer }
             ensures write { result.1.viewer ≡ speaker.viewer }
         { serve_halves(rt, shared, listener, speaker, stream, hub, seat, scope) },
@@ -87,7 +90,8 @@ fn serve_halves<'s, E, L: Ledger + Send + Sync + 's, R: Threads + Wait + Sync + 
     seat: InputSeat,
     scope: &Scope<'s, E>,
 ) -> (ReadHalf, WriteHalf)
-    requires { seat.queue ≡ hub.now.queue }
+    requires queue { seat.queue ≡ hub.now.queue }
+    requires viewer { seat.viewer ≡ listener.viewer }
     ensures read { result.0.viewer ≡ listener.viewer }
     ensures write { result.1.viewer ≡ speaker.viewer }
 {
@@ -119,7 +123,8 @@ fn read_half<L: Ledger, R: Wait>(
     hub: &InputHub,
     seat: InputSeat,
 ) -> ReadHalf
-    requires { seat.queue ≡ hub.now.queue }
+    requires queue { seat.queue ≡ hub.now.queue }
+    requires viewer { seat.viewer ≡ listener.viewer }
     ensures { result.viewer ≡ listener.viewer }
 {
     let mut reader = stream;

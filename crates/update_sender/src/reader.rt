@@ -49,7 +49,8 @@ pub fn serve_reader<L: Ledger, Rd: Read, R: Wait>(
     hub: &InputHub,
     mut seat: InputSeat,
 ) -> ReadHalf
-    requires { seat.queue ≡ hub.now.queue }
+    requires queue { seat.queue ≡ hub.now.queue }
+    requires viewer { seat.viewer ≡ listener.viewer }
     ensures viewer { result.viewer ≡ listener.viewer }
     ensures heard { (l : Listening) × (unheard : List ℕ) ×
         Hears (Rd.remaining reader.old) (Rd.remaining reader.new) listener l unheard ×

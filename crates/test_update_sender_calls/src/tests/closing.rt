@@ -77,7 +77,7 @@ fn read_all<L: Ledger, R: Wait>(
         shared.stop(rt);
         return None;
     };
-    let seat = hub.seat(1);
+    let seat = hub.seat(listener.viewer());
     Some(serve_reader(rt, shared, listener, &mut source, &hub, seat))
 }
 

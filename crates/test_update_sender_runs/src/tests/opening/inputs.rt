@@ -125,7 +125,7 @@ fn puts<L: Ledger, R: Wait>(
     let Ok((mut hub, mut taker)) = InputHub::new(alloc, case.capacity) else {
         return false;
     };
-    let seat = hub.seat(1);
+    let seat = hub.seat(listener.viewer());
     let half = serve_reader(rt, shared, listener, &mut source, &hub, seat);
     has_read(&half, case) && are_taken(rt, &hub, &mut taker, case.taken)
 }
