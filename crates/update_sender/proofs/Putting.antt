@@ -19,3 +19,7 @@ puts-frame (x ∷ xs) s t n (inr p) = puts-frame xs s t p.0 p.2
 -- more are put, and counted
 pub puts-on : (xs ys : List Input) (s t u : Putting) (m n a b : ℕ) → Puts xs s t m → a ≡ counted m → Puts ys t u n → b ≡ counted (a + counted n) → (inputs : List Input) × (dropped : ℕ) × Puts inputs s u dropped × (b ≡ counted dropped)
 puts-on xs ys s t u m n a b p e q f = (xs ++ ys, m + n, puts-then xs ys s t u m n p q, omega (arith, e, f))
+
+-- those that waited are put first
+pub puts-first : (xs ys waited : List Input) (s t u : Putting) (m n a b c : ℕ) → xs ≡ waited → Puts xs s t m → a ≡ counted m → Puts ys t u n → b ≡ counted n → c ≡ counted (a + b) → (later : List Input) × (dropped : ℕ) × Puts (waited ++ later) s u dropped × (c ≡ counted dropped)
+puts-first xs ys waited s t u m n a b c is p e q f k = (ys, m + n, subst (λ (l : List Input). Puts (l ++ ys) s u (m + n)) is (puts-then xs ys s t u m n p q), omega (arith, e, f, k))

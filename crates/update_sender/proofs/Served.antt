@@ -15,7 +15,7 @@ use Rattle.scene.specs.declared.ScreenError.{ScreenError}
 use Rattle.scene.specs.declared.ScreenError.TheVariants.{NoViewer, OutOfMemory}
 use Rattle.receipts.specs.declared.Ended.{Ended}
 use Rattle.receipts.specs.declared.Ended.TheVariants.{EndOfInput, Fault, ReadFailed, WriteFailed, Memory, Gate, Closed, Stopped}
-use Rattle.update_sender.specs.Ends.{Listening, Speaking, counted, listened, has_sent, has_cut}
+use Rattle.update_sender.specs.Ends.{Listening, Speaking, counted, listened, without_waiting, has_sent, has_cut}
 use Rattle.update_sender.specs.Reasons.{unheard_for}
 use Rattle.update_sender.specs.Serving.{IsPiece, after_pieces, Hears, ReadingEnds, OpeningEnds, HearsPiece, HearsNoMore, WritingEnds, Sends, Writes, Replies, GreetingEnds, bytes_of, after_update, after_updates, after_last, SendingEnds, SendsUpdate, SendsNoMore, SendsUpdates, CutsAndSends}
 
@@ -37,11 +37,18 @@ hears-nothing a l = record { pieces = []; each = All-nil IsPiece; heard = refl; 
 pub hears-no-more : (a b : Option (List ℕ)) (l : Listening) (unheard : List ℕ) → Consumes a b unheard → Hears a b l l unheard
 hears-no-more a b l unheard read = record { pieces = []; each = All-nil IsPiece; heard = refl; read = read }
 
+-- whatever inputs wait
+pub hears-waiting : (a b : Option (List ℕ)) (l m n : Listening) (unheard : List ℕ) → Hears a b l m unheard → without_waiting n ≡ without_waiting m → Hears a b l n unheard
+hears-waiting a b l m n unheard h is = record { pieces = h.pieces; each = h.each; heard = is ∙ h.heard; read = h.read }
+
+pub hears-from : (a b : Option (List ℕ)) (l k m : Listening) (unheard : List ℕ) → Hears a b k m unheard → without_waiting k ≡ without_waiting l → Hears a b l m unheard
+hears-from a b l k m unheard h is = record { pieces = h.pieces; each = h.each; heard = h.heard ∙ ap (after_pieces h.pieces) is; read = h.read }
+
 pub hears-a-piece : (a b : Option (List ℕ)) (l m : Listening) → HearsPiece a b l m → Hears a b l m []
 hears-a-piece a b l m h = record {
   pieces = h.0 ∷ [];
   each = All-cons IsPiece h.0 [] h.1 (All-nil IsPiece);
-  heard = h.3;
+  heard = ap without_waiting h.3;
   read = subst (Consumes a b) (sym (append-nil (h.0 ++ []) ∙ append-nil h.0)) h.2;
 }
 
@@ -49,7 +56,7 @@ pub hears-then : (a b c : Option (List ℕ)) (l m n : Listening) (unheard : List
 hears-then a b c l m n unheard h k = record {
   pieces = h.pieces ++ k.pieces;
   each = All-append IsPiece h.pieces k.pieces h.each k.each;
-  heard = k.heard ∙ ap (after_pieces k.pieces) h.heard ∙ sym (after_pieces-append h.pieces k.pieces l);
+  heard = k.heard ∙ ap (after_pieces k.pieces) h.heard ∙ sym (after_pieces-append h.pieces k.pieces (without_waiting l));
   read = subst (Consumes a c) (sym (ap (λ bytes. bytes ++ unheard) (concat-append h.pieces k.pieces) ∙ append_assoc (concat h.pieces) (concat k.pieces) unheard))
       (Consumes-trans a b c (concat h.pieces) (concat k.pieces ++ unheard) (subst (Consumes a b) (append-nil (concat h.pieces)) h.read) k.read);
 }
@@ -59,7 +66,7 @@ after_pieces-viewer [] l = refl
 after_pieces-viewer (p ∷ ps) l = after_pieces-viewer ps (listened p l)
 
 pub hears-one-viewer : (a b : Option (List ℕ)) (l m : Listening) (unheard : List ℕ) → Hears a b l m unheard → m.viewer ≡ l.viewer
-hears-one-viewer a b l m unheard h = ap (λ (n : Listening). n.viewer) h.heard ∙ after_pieces-viewer h.pieces l
+hears-one-viewer a b l m unheard h = ap (λ (n : Listening). n.viewer) h.heard ∙ after_pieces-viewer h.pieces (without_waiting l)
 
 abbrev err_of : {X : Type 0} → Ended → Result X Ended → Ended
 err_of other (Ok x) = other

@@ -1,15 +1,17 @@
 -- What contracts see of a viewer's two ends, and of the application's brush.
 use Rattle.std.specs.Prelude.{ℕ, ◌+◌, ◌-◌, ◌^◌, min, List, [], ◌∷◌, ◌++◌, Option, option_map}
+use Rattle.messages.specs.declared.Input.{Input}
 use Rattle.messages.specs.Server.{server_version}
 use Rattle.scene.specs.declared.Event.{Event}
 use Rattle.scene.specs.declared.History.{History}
 use Rattle.update_sender.specs.Recorded.{first_of}
 
--- what was heard of a viewer: how many pieces, and their bytes where the history is kept
+-- what was heard of a viewer: how many pieces, and their bytes where the history is kept; and its inputs that wait for a queue
 pub record Listening : Type 0 where
   pub viewer : ℕ
   pub pieces : ℕ
   pub heard : Option (List ℕ)
+  pub waiting : List Input
 
 -- what was sent to it: how many updates were cut, and the bytes where the history is kept
 pub record Speaking : Type 0 where
@@ -26,7 +28,7 @@ pub record Greeting : Type 0 where
 -- one that has just connected
 abbrev pub greeted : ℕ → History → Greeting
 greeted v history = record {
-  listener = record { viewer = v; pieces = 0; heard = first_of history };
+  listener = record { viewer = v; pieces = 0; heard = first_of history; waiting = [] };
   speaker = record { viewer = v; cuts = 0; sent = first_of history };
   version = server_version;
 }
@@ -42,6 +44,10 @@ one_more n = min (n + 1) (2 ^ 64 - 1)
 -- a piece more was heard
 abbrev pub listened : List ℕ → Listening → Listening
 listened piece l = record l { pieces = one_more l.pieces; heard = option_map (λ bytes. bytes ++ piece) l.heard }
+
+-- no inputs wait
+abbrev pub without_waiting : Listening → Listening
+without_waiting l = record l { waiting = [] }
 
 -- an update more was cut
 abbrev pub has_cut : Speaking → Speaking

@@ -10,7 +10,7 @@ use Rattle.receipts.specs.declared.Ended.TheVariants.{EndOfInput, Fault, ReadFai
 use Rattle.update_sender.specs.declared.opening.Opened.{Opened}
 use Rattle.update_sender.specs.declared.opening.Opened.TheVariants.{Ready, Over}
 use Rattle.update_sender.specs.Recorded.{all_of}
-use Rattle.update_sender.specs.Ends.{Listening, Speaking, Greeting, listened, has_cut, has_sent}
+use Rattle.update_sender.specs.Ends.{Listening, Speaking, Greeting, listened, without_waiting, has_cut, has_sent}
 
 -- Reading. The readers' and the writers' bytes are known, or nothing is said of them.
 
@@ -27,7 +27,7 @@ after_pieces (piece ∷ pieces) l = after_pieces pieces (listened piece l)
 pub record Hears (left remains : Option (List ℕ)) (before after : Listening) (unheard : List ℕ) : Type 0 where
   pub pieces : List (List ℕ)
   pub each : All IsPiece pieces
-  pub heard : after ≡ after_pieces pieces before
+  pub heard : without_waiting after ≡ after_pieces pieces (without_waiting before)
   pub read : Consumes left remains (concat pieces ++ unheard)
 
 -- How reading ends. The last piece that was read stays unheard where memory was refused for it, or its viewer was closed, and nothing does elsewhere.

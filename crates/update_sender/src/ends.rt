@@ -3,7 +3,7 @@
 ghost use Rattle.std.specs.Prelude.{◌≡◌, ◌≤◌};
 ghost use Rattle.scene.specs.declared.History.{History};
 ghost use Rattle.messages.specs.Server.{server_version};
-ghost use Rattle.update_sender.specs.Ends.{greeted, listened, has_cut};
+ghost use Rattle.update_sender.specs.Ends.{greeted, listened, has_cut, without_waiting};
 ghost use Rattle.update_sender.specs.Recorded.{HasRoom};
 
 use crate::recorded::Recorded;
@@ -31,7 +31,7 @@ impl Model for Listener {
 
     ghost Value = { Listening };
 
-    ghost view = { λ a. record { viewer = a.viewer; pieces = a.pieces; heard = items_of a.heard.items } };
+    ghost view = { λ a. record { viewer = a.viewer; pieces = a.pieces; heard = items_of a.heard.items; waiting = a.waiting } };
 }
 
 impl Listener {
@@ -44,7 +44,8 @@ impl Listener {
 
     /// The inputs that wait, which are then no more.
     pub(crate) fn take_waiting(&mut self) -> Listed<Input>
-        ensures { self.new ≡ self.old }
+        ensures waiting { result ≡ self.old.waiting }
+        ensures rest { self.new ≡ without_waiting self.old }
     {
         let none = Listed::new(self.alloc);
         mem::replace(&mut self.waiting, none)

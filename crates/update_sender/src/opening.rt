@@ -1,6 +1,6 @@
 //! A viewer's opening, from the server's version to the ServerInit (RFC 6143, 7.1 to 7.3).
 
-ghost use Rattle.std.specs.Prelude.{◌≡◌, ◌++◌, List, ℕ, [], MatchResult};
+ghost use Rattle.std.specs.Prelude.{◌≡◌, ◌++◌, List, ℕ, [], OnErr, OnOk, MatchResult};
 ghost use Rattle.update_sender.specs.Serving.{GreetingEnds, Opens, IsOf, Hears, Replies, Sends, OpeningEnds, receipt_of};
 
 use crate::ends::{Line, Listener, Speaker};
@@ -97,13 +97,22 @@ fn greet<L: Ledger, Rd: Read, W: Write, R: Wait>(
     unreachable!()
 }
 
-/// Writes the answer to a piece that was heard. Why the opening ends with it, if it does.
-fn reply<W: Write>(speaker: &mut Speaker, writer: &mut W, answer: &Answer) -> Result<(), Ended>
-    ensures { (added : List ℕ) × Sends (W.contents writer.old) (W.contents writer.new) speaker.old speaker.new added ×
-        Replies result added answer.now }
+/// Writes the answer to a piece that was heard, and has its inputs wait. Why the opening ends with it, if it does.
+fn reply<W: Write>(
+    listener: &mut Listener,
+    speaker: &mut Speaker,
+    writer: &mut W,
+    answer: Answer,
+) -> Result<(), Ended>
+    ensures sent { (added : List ℕ) × Sends (W.contents writer.old) (W.contents writer.new) speaker.old speaker.new added ×
+        Replies result added answer }
+    ensures waiting { OnOk result (listener.new ≡ record listener.old { waiting = answer.inputs }) }
+    ensures err { OnErr result (listener.new ≡ listener.old) }
 {
     speaker.write(writer, answer.bytes.as_slice())?;
-    no_fault(answer.closed)
+    no_fault(answer.closed)?;
+    listener.waiting = answer.inputs;
+    Ok(())
 }
 
 /// Hears a piece, and writes its answer. Whether the viewer is open now.
@@ -128,7 +137,6 @@ fn open_further<L: Ledger, Rd: Read, W: Write, R: Wait>(
         is_open,
         ..
     } = hear_piece(rt, shared, listener, reader)?;
-    reply(speaker, writer, &answer)?;
-    listener.waiting = answer.inputs;
+    reply(listener, speaker, writer, answer)?;
     Ok(is_open)
 }

@@ -1,6 +1,6 @@
 //! A viewer's reader: what it says is heard, and its inputs go into the application's queue.
 
-ghost use Rattle.std.specs.Prelude.{◌≡◌, ◌≤◌, ◌+◌, List, ℕ, [], ◌∷◌, IsOk, MatchOption, MatchResult};
+ghost use Rattle.std.specs.Prelude.{◌≡◌, ◌≤◌, ◌+◌, List, ℕ, [], ◌∷◌, ◌++◌, IsOk, MatchOption, MatchResult};
 ghost use Rattle.messages.specs.declared.Input.{Input};
 ghost use Rattle.receipts.specs.declared.Ended.TheVariants as ended;
 ghost use Rattle.update_sender.specs.Recorded.{all_of};
@@ -56,7 +56,7 @@ pub fn serve_reader<L: Ledger, Rd: Read, R: Wait>(
         Hears (Rd.remaining reader.old) (Rd.remaining reader.new) listener l unheard ×
         ReadingEnds result.ended (Rd.remaining reader.new) unheard
         × (result.pieces ≡ l.pieces) × (result.heard ≡ all_of l.heard) }
-    ensures puts { (inputs : List Input) × (dropped : ℕ) × Puts inputs seat result.seat dropped ×
+    ensures puts { (later : List Input) × (dropped : ℕ) × Puts (listener.waiting ++ later) seat result.seat dropped ×
         (result.dropped ≡ counted dropped) }
     ensures seat { result.seat ≡ record seat { accepted = result.seat.accepted } }
 {
