@@ -1,0 +1,3 @@
+pub mod Fetching
+pub mod Drawing
+pub mod Pieces

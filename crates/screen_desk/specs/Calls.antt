@@ -1,0 +1,120 @@
+-- What the calls of a desk do: the number that each answers, and the desk before and after it.
+use Rattle.std.specs.Prelude.{◌≡◌, ◌≢◌, ◌⊎◌, ℕ, ◌+◌, ◌*◌, ◌^◌, nat_lt, min, ℤ, pos, ◌<ℤ◌, ◌≤ℤ◌, ◌&&◌, if◌then◌else◌, List, [], ◌∷◌, ◌++◌, length, drop, take, slice_index, Option, Some, None, option_map, MatchOption}
+use Rattle.std.specs.Map.{keys_of}
+use Rattle.region.specs.declared.Rect.{Rect}
+use Rattle.scene.specs.declared.Config.{Config}
+use Rattle.scene.specs.declared.Event.{Event}
+use Rattle.scene.specs.declared.Event.TheVariants.{Connect, Hear, Cut, Close}
+use Rattle.scene.specs.Alone.{config_refusal, something_to_send, some_bytes}
+use Rattle.scene.specs.Answers.{answer_to}
+use Rattle.viewer.specs.Viewer.{KeptViewer}
+use Rattle.screen.specs.State.{State, state, viewer_at}
+use Rattle.screen_desk.specs.Codes.{Answers, code_of, done, fault_code, no_viewer, off_screen, one_or_zero, out_of_memory, shut, truth_code}
+use Rattle.screen_desk.specs.Desk.{Standing, StandsFor, IsListOf, due, region_due, cut_due, absence, put_output, without, next_piece, left_of}
+use Rattle.screen_desk.specs.Inputs.{told_by, IsFetched}
+use Rattle.screen_desk.specs.declared.told.Told.{Told}
+
+-- the desk opens a screen with nothing on it, or is as it was
+pub record Opens (c : Config) (old new : Standing) (code : ℤ) : Type 0 where
+  pub answer : Answers (option_map code_of (config_refusal c)) (λ n. n ≡ done) code
+  pub opened : code ≡ done → new ≡ record { screen = Some (state c []); output = []; inputs = []; text = [] }
+  pub refused : code ≢ done → new ≡ old
+
+-- a call draws: where it is done its event comes behind the others, and else nothing changed; what waits stays
+pub record Draws (e : Event) (old new : Standing) (code : ℤ) : Type 0 where
+  pub answer : Answers (due old e) (λ n. n ≡ done) code
+  pub step : (c : Config) (list : List Event) → StandsFor c list old → code ≡ done → StandsFor c (list ++ e ∷ []) new
+  pub same : new ≡ record old { screen = new.screen }
+  pub refused : code ≢ done → new ≡ old
+
+-- the same for the places of a list of rectangles, which the event has by their canonical list
+pub record DrawsRegion (rects : List Rect) (event : List Rect → Event) (old new : Standing) (code : ℤ) : Type 0 where
+  pub answer : Answers (region_due old rects) (λ n. n ≡ done) code
+  pub step : code ≡ done → (places : List Rect) × (IsListOf rects places × ((c : Config) (list : List Event) → StandsFor c list old → StandsFor c (list ++ event places ∷ []) new))
+  pub same : new ≡ record old { screen = new.screen }
+  pub refused : code ≢ done → new ≡ old
+
+-- a viewer connects, and what it is answered waits for it
+pub record Connects (v : ℕ) (old new : Standing) (code : ℤ) : Type 0 where
+  pub answer : Answers (due old (Connect v)) (λ n. n ≡ done) code
+  pub step : (c : Config) (list : List Event) → StandsFor c list old → code ≡ done → StandsFor c (list ++ Connect v ∷ []) new
+  pub output : (c : Config) (list : List Event) → StandsFor c list old → code ≡ done → new.output ≡ put_output v (answer_to c list (Connect v)).bytes old.output
+  pub same : new ≡ record old { screen = new.screen; output = new.output }
+  pub refused : code ≢ done → new ≡ old
+
+-- a viewer is heard: what it is answered waits for it, what it told waits for the program, and the number says why it is heard no further
+pub record Hears (v : ℕ) (piece : List ℕ) (old new : Standing) (code : ℤ) : Type 0 where
+  pub answer : Answers (due old (Hear v piece)) (λ n. pos 0 ≤ℤ n) code
+  pub step : (c : Config) (list : List Event) → StandsFor c list old → pos 0 ≤ℤ code → StandsFor c (list ++ Hear v piece ∷ []) new
+  pub fault : (c : Config) (list : List Event) → StandsFor c list old → pos 0 ≤ℤ code → code ≡ fault_code (answer_to c list (Hear v piece)).closed
+  pub output : (c : Config) (list : List Event) → StandsFor c list old → pos 0 ≤ℤ code → new.output ≡ put_output v (answer_to c list (Hear v piece)).bytes old.output
+  pub inputs : (c : Config) (list : List Event) → StandsFor c list old → pos 0 ≤ℤ code → new.inputs ≡ old.inputs ++ told_by v (answer_to c list (Hear v piece)).inputs
+  pub same : new.text ≡ old.text
+  pub refused : code <ℤ pos 0 → new ≡ old
+
+-- an update is cut for a viewer, for which it waits, and 1 is answered; 0 where there is nothing to send
+pub record Cuts (v : ℕ) (old new : Standing) (code : ℤ) : Type 0 where
+  pub answer : Answers (cut_due old v) (λ n. (n ≡ pos 0) ⊎ (n ≡ pos 1)) code
+  pub step : (c : Config) (list : List Event) → StandsFor c list old → pos 0 ≤ℤ code → StandsFor c (list ++ Cut v ∷ []) new
+  pub number : (c : Config) (list : List Event) → StandsFor c list old → pos 0 ≤ℤ code → code ≡ one_or_zero (some_bytes (answer_to c list (Cut v)).bytes)
+  pub output : (c : Config) (list : List Event) → StandsFor c list old → pos 0 ≤ℤ code → new.output ≡ put_output v (answer_to c list (Cut v)).bytes old.output
+  pub same : new ≡ record old { screen = new.screen; output = new.output }
+  pub refused : code <ℤ pos 0 → new ≡ old
+
+-- a viewer's connection is closed, and nothing waits for it any more
+pub record Closes (v : ℕ) (old new : Standing) (code : ℤ) : Type 0 where
+  pub answer : Answers (due old (Close v)) (λ n. n ≡ done) code
+  pub step : (c : Config) (list : List Event) → StandsFor c list old → code ≡ done → StandsFor c (list ++ Close v ∷ []) new
+  pub output : code ≡ done → new.output ≡ without v old.output
+  pub same : new ≡ record old { screen = new.screen; output = new.output }
+  pub refused : code ≢ done → new ≡ old
+
+-- the first bytes of the first piece that waits for a viewer are put at the room's start, and the number says how many they are: none only where there is no room, or the piece has none
+pub record Gives (v : ℕ) (old new : Standing) (room_old room_new : List ℕ) (code : ℤ) : Type 0 where
+  pub answer : Answers (absence old.screen v) (λ n. pos 0 ≤ℤ n) code
+  pub given : pos 0 ≤ℤ code → (bytes left : List ℕ) × ((bytes ++ left ≡ next_piece v old.output) × (code ≡ pos (length bytes)) × (room_new ≡ bytes ++ drop (length bytes) room_old) × (new.output ≡ left_of v left old.output))
+  pub some : code ≡ pos 0 → (room_old ≡ []) ⊎ (next_piece v old.output ≡ [])
+  pub same : new ≡ record old { output = new.output }
+  pub refused : code <ℤ pos 0 → (new ≡ old) × (room_new ≡ room_old)
+
+-- the first inputs that wait are put at the room's start, up to the first text, and the number says how many they are
+pub record Fetches (old new : Standing) (room_old room_new : List Told) (code : ℤ) : Type 0 where
+  pub answer : MatchOption old.screen (code ≡ shut) (λ screen. pos 0 ≤ℤ code)
+  pub fetched : pos 0 ≤ℤ code → (number : ℕ) × ((code ≡ pos number) × IsFetched (length room_old) old.inputs new.inputs room_old room_new old.text new.text number)
+  pub same : new ≡ record old { inputs = new.inputs; text = new.text }
+  pub refused : code <ℤ pos 0 → (new ≡ old) × (room_new ≡ room_old)
+
+abbrev pub count_shown : List ℕ → List ℕ → ℕ
+count_shown items room = min (min (length items) (length room)) (2 ^ 30)
+
+-- the first items of a list are put at the room's start, as many as fit, at most 2^30, and the number says how many they are
+pub record Shows (items : List ℕ) (old new : Standing) (room_old room_new : List ℕ) (code : ℤ) : Type 0 where
+  pub answer : MatchOption old.screen (code ≡ shut) (λ screen. (code ≡ pos (count_shown items room_old)) ⊎ (code ≡ out_of_memory))
+  pub shown : pos 0 ≤ℤ code → room_new ≡ take (count_shown items room_old) items ++ drop (count_shown items room_old) room_old
+  pub same : new ≡ old
+  pub refused : code <ℤ pos 0 → room_new ≡ room_old
+
+-- the live viewers' numbers, in order of connecting
+abbrev pub numbers_of : Option State → List ℕ
+numbers_of None = []
+numbers_of (Some screen) = keys_of screen.viewers
+
+-- a call changes nothing, and answers what its screen holds, or shut
+pub record Tells (number : State → ℤ) (old new : Standing) (code : ℤ) : Type 0 where
+  pub answer : MatchOption old.screen (code ≡ shut) (λ screen. code ≡ number screen)
+  pub same : new ≡ old
+
+-- what a screen holds of a viewer, or no_viewer
+abbrev pub of_viewer : ℕ → (KeptViewer → ℤ) → State → ℤ
+of_viewer v number screen = elim (viewer_at screen v) [ None ↦ no_viewer | Some viewer ↦ number viewer ]
+
+-- the colour of a place, or off_screen
+abbrev pub colour_at : ℕ → ℕ → State → ℤ
+colour_at x y screen =
+    if nat_lt x screen.picture.width && nat_lt y screen.picture.height then pos (slice_index screen.picture.colours (y * screen.picture.width + x)) else off_screen
+
+-- whether a cut would give a viewer something
+pub record TellsPending (v : ℕ) (old new : Standing) (code : ℤ) : Type 0 where
+  pub answer : Answers (absence old.screen v) (λ n. (n ≡ pos 0) ⊎ (n ≡ pos 1)) code
+  pub number : (c : Config) (list : List Event) → StandsFor c list old → code ≡ truth_code (something_to_send (answer_to c list (Cut v)))
+  pub same : new ≡ old

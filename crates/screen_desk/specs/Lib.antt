@@ -1,0 +1,4 @@
+pub mod Codes
+pub mod Inputs
+pub mod Desk
+pub mod Calls

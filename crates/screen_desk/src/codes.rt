@@ -1,0 +1,81 @@
+//! The numbers that calls answer.
+
+ghost use Rattle.std.specs.Prelude.{◌≡◌, pos};
+ghost use Rattle.screen_desk.specs.Codes as code;
+
+use screen::{Fault, ScreenError};
+
+/// A coordinate of a region's rectangle is not from -2^20 to 2^20.
+pub const OUT_OF_RANGE: i32 = -10;
+
+/// The viewer has output that waits: fetch it before the next update is cut.
+pub const OUTPUT_WAITS: i32 = -11;
+
+/// There is no such place on the screen.
+pub const OFF_SCREEN: i32 = -12;
+
+/// The desk is shut.
+pub const SHUT: i32 = -32;
+
+/// The code of a refusal: -1 to -9, in the order of the errors of `ScreenError`.
+pub fn code_of(error: ScreenError) -> i32
+    ensures { result ≡ code.code_of error }
+{
+    match error {
+        ScreenError::BadSize => -1,
+        ScreenError::BadName => -2,
+        ScreenError::BadRectLimit => -3,
+        ScreenError::BadRect => -4,
+        ScreenError::BadPixelCount => -5,
+        ScreenError::TextTooLong => -6,
+        ScreenError::NoViewer => -7,
+        ScreenError::NumberInUse => -8,
+        ScreenError::OutOfMemory => -9,
+    }
+}
+
+/// Why a viewer is heard no further: 0 where it is heard, 1 to 4, and 256 and more for a message of a type that there isn't
+/// (RFC 6143, 7.5), by its type.
+pub fn fault_code(fault: Option<Fault>) -> i32
+    ensures { result ≡ code.fault_code fault }
+{
+    match fault {
+        None => 0,
+        Some(Fault::BadVersion) => 1,
+        Some(Fault::BadSecurityType) => 2,
+        Some(Fault::BadBitsPerPixel) => 3,
+        Some(Fault::ColourMapUnsupported) => 4,
+        Some(Fault::UnknownMessage(kind)) => 256 + i32::from(kind),
+    }
+}
+
+/// 0, or the code of a refusal.
+pub(crate) fn done_or(answer: Result<(), ScreenError>) -> i32
+    ensures { result ≡ code.done_code answer }
+{
+    match answer {
+        Ok(()) => 0,
+        Err(e) => code_of(e),
+    }
+}
+
+/// 1 or 0, or the code of a refusal.
+pub(crate) fn truth_or(answer: Result<bool, ScreenError>) -> i32
+    ensures { result ≡ code.truth_code answer }
+{
+    match answer {
+        Ok(true) => 1,
+        Ok(false) => 0,
+        Err(e) => code_of(e),
+    }
+}
+
+/// The number of a fault, or the code of a refusal.
+pub(crate) fn fault_or(answer: Result<Option<Fault>, ScreenError>) -> i32
+    ensures { result ≡ code.fault_or_code answer }
+{
+    match answer {
+        Ok(fault) => fault_code(fault),
+        Err(e) => code_of(e),
+    }
+}

@@ -1,0 +1,70 @@
+//! Rectangles as another language lays them out.
+
+ghost use Rattle.std.specs.Prelude.{◌≡◌, map, IfOk, not};
+ghost use Rattle.std.specs.List.{list_any};
+ghost use Rattle.region.specs.RegionView.{in_range, coordinate as coordinate_in_range};
+ghost use Rattle.screen_desk.specs.Desk.{rect_of};
+
+use screen::Rect;
+use std::alloc::{AllocError, Global};
+
+/// The places (x, y) with x1 <= x < x2 and y1 <= y < y2; none where x1 >= x2 or y1 >= y2.
+#[repr(C)]
+#[derive(Clone, Copy, Debug, PartialEq, Eq)]
+pub struct Corners {
+    pub x1: i32,
+    pub y1: i32,
+    pub x2: i32,
+    pub y2: i32,
+}
+
+/// The furthest coordinate of a region's rectangle, and its opposite.
+const FURTHEST: i32 = 1 << 20;
+
+fn is_near(coordinate: i32) -> bool
+    ensures { result ≡ coordinate_in_range coordinate }
+{
+    -FURTHEST <= coordinate && coordinate <= FURTHEST
+}
+
+fn is_far(corners: Corners) -> bool
+    ensures { result ≡ not (in_range (rect_of corners)) }
+{
+    let is_first_near = is_near(corners.x1) & is_near(corners.y1);
+    let is_second_near = is_near(corners.x2) & is_near(corners.y2);
+    !(is_first_near & is_second_near)
+}
+
+/// Whether a coordinate of one is not from -2^20 to 2^20.
+pub(crate) fn are_far(list: &[Corners]) -> bool
+    ensures { result ≡ list_any (λ r. not (in_range r)) (map rect_of list.now) }
+{
+    for corners in list {
+        if is_far(*corners) {
+            return true;
+        }
+    }
+    false
+}
+
+fn rect_of(corners: Corners) -> Rect
+    ensures { result ≡ rect_of corners }
+{
+    Rect {
+        x1: corners.x1,
+        y1: corners.y1,
+        x2: corners.x2,
+        y2: corners.y2,
+    }
+}
+
+/// The same rectangles.
+pub(crate) fn rects_of(alloc: Global, list: &[Corners]) -> Result<Vec<Rect>, AllocError>
+    ensures { IfOk result (λ rects. rects.items ≡ map rect_of list.now) }
+{
+    let mut rects = Vec::with_capacity(alloc, list.len())?;
+    for corners in list {
+        rects.push(rect_of(*corners))?;
+    }
+    Ok(rects)
+}

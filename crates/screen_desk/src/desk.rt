@@ -1,0 +1,574 @@
+//! The desk: the calls of a screen, and what waits to be fetched.
+
+ghost use Rattle.std.specs.Prelude.{◌≡◌, ◌≢◌, ◌≤◌, ◌<◌, ◌^◌, ◌-◌, ◌+◌, ◌++◌, ◌∷◌, [], ℕ, List, pos, map, length, min, take, drop, Some, None, MatchOption, IfSome};
+ghost use Rattle.std.specs.Map.{keys_of};
+ghost use Rattle.messages.specs.Reading.{fault_in_rest, is_open_rest};
+ghost use Rattle.scene.specs.declared.Event.{Event};
+ghost use Rattle.scene.specs.declared.History.TheVariants.{NotKept};
+ghost use Rattle.std.specs.Prelude.{ℤ, IfOk, OnOk, OnErr, IsOkUnless, MatchResult, is_some, not, false};
+ghost use Rattle.std.specs.List.{list_any};
+ghost use Rattle.region.specs.Region.{covers, IsCanonical};
+ghost use Rattle.region.specs.RegionView.{in_range};
+ghost use Rattle.scene.specs.declared.Config.{Config};
+ghost use Rattle.scene.specs.Alone.{config_refusal, is_size, some_bytes};
+ghost use Rattle.scene.specs.Answers.{answer_to};
+ghost use Rattle.scene.specs.Refusals.{Refuses};
+ghost use Rattle.screen.specs.State.{state, refusal, viewer_at};
+ghost use Rattle.screen_desk.specs.Codes as code;
+ghost use Rattle.screen_desk.specs.Calls.{Opens, Draws, DrawsRegion, Connects, Hears, Cuts, Closes, TellsPending, Gives, Fetches, Shows, Tells, numbers_of, of_viewer, colour_at};
+ghost use Rattle.screen_desk.specs.Desk.{nothing_there, rect_of, config_of, put_output};
+ghost use Rattle.screen_desk.specs.Inputs.{in_order, told_by};
+
+use crate::codes::{
+    OFF_SCREEN, OUT_OF_RANGE, OUTPUT_WAITS, SHUT, code_of, done_or, fault_or, truth_or,
+};
+use crate::corners::{Corners, are_far, rects_of};
+use crate::inputs::Inputs;
+use crate::output::{Output, copy_to, drop_output, fetch_output, first_for, put_bytes};
+use crate::told::Told;
+use listed::Listed;
+use screen::{Config, Fault, History, Rect, Region, Screen, ScreenError};
+use std::alloc::{AllocError, Global};
+use std::marker::Model;
+
+/// A screen, or none where the desk is shut; what its viewers are to be sent; and what they told. Each call answers `SHUT` where
+/// it is shut, but for `open` and `shut`; a number below 0 is the code of a refusal, and nothing has changed then.
+#[derive(Drop)]
+pub struct Desk {
+    alloc: Global,
+    screen: Option<Screen>,
+    output: Vec<Output>,
+    inputs: Inputs,
+    text: Listed<u8>,
+}
+
+impl Model for Desk {
+    ghost use Rattle.screen_desk.specs.Inputs.{in_order};
+    ghost use Rattle.screen_desk.specs.Desk.{Standing};
+
+    ghost Value = { Standing };
+
+    ghost view = { λ a. record { screen = a.screen; output = a.output.items; inputs = in_order a.inputs.next a.inputs.later.items; text = a.text } };
+}
+
+/// Whether a screen may have so many columns and rows.
+fn is_size(width: u32, height: u32) -> bool
+    ensures { result ≡ is_size width height }
+{
+    1 <= width && width <= 8192 && 1 <= height && height <= 8192 && width * height <= 1 << 24
+}
+
+/// Why no screen is made of a configuration.
+fn refusal_of(width: u32, height: u32, name: &[u8], rects_per_update: u32) -> Option<ScreenError>
+    ensures { result ≡ config_refusal (config_of width height name.now rects_per_update) }
+{
+    if !is_size(width, height) {
+        return Some(ScreenError::BadSize);
+    }
+    if name.len() > 255 {
+        return Some(ScreenError::BadName);
+    }
+    if !(1 <= rects_per_update && rects_per_update <= 1000) {
+        return Some(ScreenError::BadRectLimit);
+    }
+    None
+}
+
+/// A screen, which keeps no events.
+fn new_screen(
+    alloc: Global,
+    width: u32,
+    height: u32,
+    name: &[u8],
+    rects_per_update: u32,
+) -> Result<Screen, ScreenError>
+    ensures made { IfOk result (λ screen. screen ≡ state (config_of width height name.now rects_per_update) []) }
+    ensures refused { Refuses result (config_refusal (config_of width height name.now rects_per_update)) }
+{
+    if let Some(refusal) = refusal_of(width, height, name, rects_per_update) {
+        return Err(refusal);
+    }
+    let config = Config {
+        width,
+        height,
+        name: Listed::from_slice(alloc, name)?,
+        rects_per_update,
+        history: History::NotKept,
+    };
+    Screen::new(alloc, config)
+}
+
+/// The places of rectangles whose coordinates are from -2^20 to 2^20. `OutOfMemory` where the room for them is refused.
+fn region_of(alloc: Global, list: &[Corners]) -> Result<Region, ScreenError>
+    requires { list_any (λ r. not (in_range r)) (map rect_of list.now) ≡ false }
+    ensures canonical { IfOk result (λ region. IsCanonical region.list) }
+    ensures places { IfOk result (λ region. (x y : ℤ) → covers region.list x y ≡ covers (map rect_of list.now) x y) }
+    ensures refused { IsOkUnless result ScreenError.OutOfMemory }
+{
+    let rects = rects_of(alloc, list)?;
+    let region = Region::from_rects_in_range(alloc, &rects)?;
+    region.list_is_canonical();
+    Ok(region)
+}
+
+/// A count of at most 2^30, or the code of a refusal.
+fn count_or(answer: Result<usize, AllocError>) -> i32
+    requires { IfOk answer (λ count. count ≤ 2 ^ 30) }
+    ensures { MatchResult answer (λ count. result ≡ pos count) (λ _. result ≡ code.out_of_memory) }
+{
+    match answer {
+        Ok(count) => count as i32,
+        Err(_) => code_of(ScreenError::OutOfMemory),
+    }
+}
+
+/// A viewer connects.
+fn connect_viewer(
+    screen: &mut Screen,
+    output: &mut Vec<Output>,
+    viewer: u64,
+) -> Result<(), ScreenError>
+    ensures step { (config : Config) (list : List Event) → screen.old ≡ state config list →
+        OnOk result (screen.new ≡ state config (list ++ Event.Connect viewer ∷ [])) }
+    ensures output { (config : Config) (list : List Event) → screen.old ≡ state config list →
+        OnOk result (output.new.items ≡ put_output viewer (answer_to config list (Event.Connect viewer)).bytes output.old.items) }
+    ensures refused { Refuses result (refusal screen.old (Event.Connect viewer)) }
+    ensures err { OnErr result ((screen.new ≡ screen.old) × (output.new.items ≡ output.old.items)) }
+{
+    if screen.is_live(viewer) {
+        return Err(ScreenError::NumberInUse);
+    }
+    output.reserve(1)?;
+    let version = screen.connect(viewer)?;
+    put_bytes(output, viewer, version.into_vec());
+    Ok(())
+}
+
+/// A piece of a viewer's bytes is heard. Why it is heard no further, if it met a fault.
+fn hear_piece(
+    screen: &mut Screen,
+    output: &mut Vec<Output>,
+    inputs: &mut Inputs,
+    viewer: u64,
+    piece: &[u8],
+) -> Result<Option<Fault>, ScreenError>
+    ensures step { (config : Config) (list : List Event) → screen.old ≡ state config list →
+        OnOk result (screen.new ≡ state config (list ++ Event.Hear viewer piece.now ∷ [])) }
+    ensures fault { (config : Config) (list : List Event) → screen.old ≡ state config list →
+        IfOk result (λ fault. fault ≡ (answer_to config list (Event.Hear viewer piece.now)).closed) }
+    ensures output { (config : Config) (list : List Event) → screen.old ≡ state config list →
+        OnOk result (output.new.items ≡ put_output viewer (answer_to config list (Event.Hear viewer piece.now)).bytes output.old.items) }
+    ensures inputs { (config : Config) (list : List Event) → screen.old ≡ state config list →
+        OnOk result (in_order inputs.new.next inputs.new.later.items ≡ in_order inputs.old.next inputs.old.later.items ++
+        told_by viewer (answer_to config list (Event.Hear viewer piece.now)).inputs) }
+    ensures refused { Refuses result (refusal screen.old (Event.Hear viewer piece.now)) }
+    ensures err { OnErr result ((screen.new ≡ screen.old) × (output.new.items ≡ output.old.items) ×
+        (in_order inputs.new.next inputs.new.later.items ≡ in_order inputs.old.next inputs.old.later.items)) }
+{
+    if !screen.is_live(viewer) {
+        return Err(ScreenError::NoViewer);
+    }
+    output.reserve(1)?;
+    inputs.make_room()?;
+    let answer = screen.hear(viewer, piece)?;
+    put_bytes(output, viewer, answer.bytes.into_vec());
+    inputs.put(viewer, answer.inputs);
+    Ok(answer.closed)
+}
+
+/// An update is cut for a viewer. Whether there is something to send.
+fn cut_update(
+    alloc: Global,
+    screen: &mut Screen,
+    output: &mut Vec<Output>,
+    viewer: u64,
+) -> Result<bool, ScreenError>
+    ensures step { (config : Config) (list : List Event) → screen.old ≡ state config list →
+        OnOk result (screen.new ≡ state config (list ++ Event.Cut viewer ∷ [])) }
+    ensures number { (config : Config) (list : List Event) → screen.old ≡ state config list →
+        IfOk result (λ some. some ≡ some_bytes (answer_to config list (Event.Cut viewer)).bytes) }
+    ensures output { (config : Config) (list : List Event) → screen.old ≡ state config list →
+        OnOk result (output.new.items ≡ put_output viewer (answer_to config list (Event.Cut viewer)).bytes output.old.items) }
+    ensures refused { Refuses result (refusal screen.old (Event.Cut viewer)) }
+    ensures err { OnErr result ((screen.new ≡ screen.old) × (output.new.items ≡ output.old.items)) }
+{
+    if !screen.is_live(viewer) {
+        return Err(ScreenError::NoViewer);
+    }
+    output.reserve(1)?;
+    let Some(update) = screen.cut(viewer)? else {
+        return Ok(false);
+    };
+    output.push_reserved(Output::of_update(alloc, viewer, update));
+    Ok(true)
+}
+
+impl Desk {
+    /// A desk that is shut. This takes no memory.
+    pub fn new(alloc: Global) -> Desk
+        ensures { result ≡ nothing_there }
+    {
+        Desk {
+            alloc,
+            screen: None,
+            output: Vec::new(alloc),
+            inputs: Inputs::new(alloc),
+            text: Listed::new(alloc),
+        }
+    }
+
+    /// Nothing waits any more.
+    fn clear(&mut self)
+        ensures { self.new ≡ record nothing_there { screen = self.old.screen } }
+    {
+        self.output = Vec::new(self.alloc);
+        self.inputs = Inputs::new(self.alloc);
+        self.text = Listed::new(self.alloc);
+    }
+
+    /// `Screen::paint`.
+    pub fn paint(&mut self, x1: i32, y1: i32, x2: i32, y2: i32, colours: &[u32]) -> i32
+        ensures { Draws (Event.Paint (record { x1 = x1; y1 = y1; x2 = x2; y2 = y2 }) colours.now) self.old self.new result }
+    {
+        let Some(screen) = &mut self.screen else {
+            return SHUT;
+        };
+        done_or(screen.paint(Rect { x1, y1, x2, y2 }, colours))
+    }
+
+    /// `Screen::write_pixels`.
+    pub fn write_pixels(&mut self, x1: i32, y1: i32, x2: i32, y2: i32, colours: &[u32]) -> i32
+        ensures { Draws (Event.Write (record { x1 = x1; y1 = y1; x2 = x2; y2 = y2 }) colours.now) self.old self.new result }
+    {
+        let Some(screen) = &mut self.screen else {
+            return SHUT;
+        };
+        done_or(screen.write_pixels(Rect { x1, y1, x2, y2 }, colours))
+    }
+
+    /// `Screen::mark_rect` (`rfbMarkRectAsModified` of `rfb.h`).
+    pub fn mark_rect(&mut self, x1: i32, y1: i32, x2: i32, y2: i32) -> i32
+        ensures { Draws (Event.Mark (record { x1 = x1; y1 = y1; x2 = x2; y2 = y2 } ∷ [])) self.old self.new result }
+    {
+        let Some(screen) = &mut self.screen else {
+            return SHUT;
+        };
+        done_or(screen.mark_rect(x1, y1, x2, y2))
+    }
+
+    /// `Screen::schedule_copy_rect` (`rfbScheduleCopyRect` of `rfb.h`).
+    pub fn schedule_copy_rect(
+        &mut self,
+        x1: i32,
+        y1: i32,
+        x2: i32,
+        y2: i32,
+        dx: i32,
+        dy: i32,
+    ) -> i32
+        ensures { Draws (Event.ScheduleCopy (record { x1 = x1; y1 = y1; x2 = x2; y2 = y2 } ∷ []) dx dy) self.old self.new result }
+    {
+        let Some(screen) = &mut self.screen else {
+            return SHUT;
+        };
+        done_or(screen.schedule_copy_rect(x1, y1, x2, y2, dx, dy))
+    }
+
+    /// `Screen::do_copy_rect` (`rfbDoCopyRect` of `rfb.h`).
+    pub fn do_copy_rect(&mut self, x1: i32, y1: i32, x2: i32, y2: i32, dx: i32, dy: i32) -> i32
+        ensures { Draws (Event.DoCopy (record { x1 = x1; y1 = y1; x2 = x2; y2 = y2 } ∷ []) dx dy) self.old self.new result }
+    {
+        let Some(screen) = &mut self.screen else {
+            return SHUT;
+        };
+        done_or(screen.do_copy_rect(x1, y1, x2, y2, dx, dy))
+    }
+
+    /// `Screen::bell` (`rfbSendBell` of `rfb.h`).
+    pub fn bell(&mut self) -> i32
+        ensures { Draws (Event.Bell) self.old self.new result }
+    {
+        let Some(screen) = &mut self.screen else {
+            return SHUT;
+        };
+        done_or(screen.bell())
+    }
+
+    /// `Screen::cut_text` (`rfbSendServerCutText` of `rfb.h`).
+    pub fn cut_text(&mut self, text: &[u8]) -> i32
+        ensures { Draws (Event.CutText text.now) self.old self.new result }
+    {
+        let Some(screen) = &mut self.screen else {
+            return SHUT;
+        };
+        done_or(screen.cut_text(text))
+    }
+
+    /// `Screen::new_framebuffer` (`rfbNewFramebuffer` of `rfb.h`).
+    pub fn new_framebuffer(&mut self, width: u32, height: u32) -> i32
+        ensures { Draws (Event.Resize width height) self.old self.new result }
+    {
+        let Some(screen) = &mut self.screen else {
+            return SHUT;
+        };
+        done_or(screen.new_framebuffer(width, height))
+    }
+
+    /// `Screen::mark_region` (`rfbMarkRegionAsModified` of `rfb.h`) for the places of a list of rectangles. `OUT_OF_RANGE` where a
+    /// coordinate is not from -2^20 to 2^20.
+    pub fn mark_region(&mut self, list: &[Corners]) -> i32
+        ensures { DrawsRegion (map rect_of list.now) (λ places. Event.Mark places) self.old self.new result }
+    {
+        let Some(screen) = &mut self.screen else {
+            return SHUT;
+        };
+        if are_far(list) {
+            return OUT_OF_RANGE;
+        }
+        let Ok(region) = region_of(self.alloc, list) else {
+            return code_of(ScreenError::OutOfMemory);
+        };
+        done_or(screen.mark_region(&region))
+    }
+
+    /// `Screen::schedule_copy_region` (`rfbScheduleCopyRegion` of `rfb.h`), likewise.
+    pub fn schedule_copy_region(&mut self, list: &[Corners], dx: i32, dy: i32) -> i32
+        ensures { DrawsRegion (map rect_of list.now) (λ places. Event.ScheduleCopy places dx dy) self.old self.new result }
+    {
+        let Some(screen) = &mut self.screen else {
+            return SHUT;
+        };
+        if are_far(list) {
+            return OUT_OF_RANGE;
+        }
+        let Ok(region) = region_of(self.alloc, list) else {
+            return code_of(ScreenError::OutOfMemory);
+        };
+        done_or(screen.schedule_copy_region(&region, dx, dy))
+    }
+
+    /// `Screen::do_copy_region` (`rfbDoCopyRegion` of `rfb.h`), likewise.
+    pub fn do_copy_region(&mut self, list: &[Corners], dx: i32, dy: i32) -> i32
+        ensures { DrawsRegion (map rect_of list.now) (λ places. Event.DoCopy places dx dy) self.old self.new result }
+    {
+        let Some(screen) = &mut self.screen else {
+            return SHUT;
+        };
+        if are_far(list) {
+            return OUT_OF_RANGE;
+        }
+        let Ok(region) = region_of(self.alloc, list) else {
+            return code_of(ScreenError::OutOfMemory);
+        };
+        done_or(screen.do_copy_region(&region, dx, dy))
+    }
+
+    /// A black screen with no viewer (`rfbGetScreen` of `rfb.h`); what was open is shut. `name` is the desktop's (RFC 6143, 7.3.2), of at
+    /// most 255 bytes, and an update has at most `rects_per_update` copies and as many rectangles of pixels, 1 to 1000.
+    pub fn open(&mut self, width: u32, height: u32, name: &[u8], rects_per_update: u32) -> i32
+        ensures { Opens (config_of width height name.now rects_per_update) self.old self.new result }
+    {
+        match new_screen(self.alloc, width, height, name, rects_per_update) {
+            Ok(screen) => {
+                self.screen = Some(screen);
+                self.clear();
+                0
+            }
+            Err(e) => code_of(e),
+        }
+    }
+
+    /// The screen is gone, with all that it held (`rfbScreenCleanup` of `rfb.h`). It answers 0, also where the desk is shut.
+    pub fn shut(&mut self) -> i32
+        ensures { (self.new ≡ nothing_there) × (result ≡ code.done) }
+    {
+        self.screen = None;
+        self.clear();
+        0
+    }
+
+    /// `Screen::connect`; the server's version waits for the viewer (RFC 6143, 7.1.1).
+    pub fn connect(&mut self, viewer: u64) -> i32
+        ensures { Connects viewer self.old self.new result }
+    {
+        let Some(screen) = &mut self.screen else {
+            return SHUT;
+        };
+        done_or(connect_viewer(screen, &mut self.output, viewer))
+    }
+
+    /// `Screen::hear`: what the viewer is answered waits for it, and what it told waits for `inputs`. 0, or why it is heard no further:
+    /// `fault_code`; it is to be sent what waits, and then closed.
+    pub fn hear(&mut self, viewer: u64, piece: &[u8]) -> i32
+        ensures { Hears viewer piece.now self.old self.new result }
+    {
+        let Some(screen) = &mut self.screen else {
+            return SHUT;
+        };
+        fault_or(hear_piece(screen, &mut self.output, &mut self.inputs, viewer, piece))
+    }
+
+    /// `Screen::pending`: 1 where an update would be cut, else 0.
+    pub fn is_pending(&mut self, viewer: u64) -> i32
+        ensures { TellsPending viewer self.old self.new result }
+    {
+        let Some(screen) = &self.screen else {
+            return SHUT;
+        };
+        truth_or(screen.pending(viewer))
+    }
+
+    /// `Screen::cut`: 1, and the update waits for the viewer, to be encoded as it is fetched; 0 where there is nothing to send.
+    /// `OUTPUT_WAITS` where output waits for it: so no more than one update is held for a viewer.
+    pub fn cut(&mut self, viewer: u64) -> i32
+        ensures { Cuts viewer self.old self.new result }
+    {
+        let Some(screen) = &mut self.screen else {
+            return SHUT;
+        };
+        if !screen.is_live(viewer) {
+            return code_of(ScreenError::NoViewer);
+        }
+        if first_for(&self.output, viewer).is_some() {
+            return OUTPUT_WAITS;
+        }
+        truth_or(cut_update(self.alloc, screen, &mut self.output, viewer))
+    }
+
+    /// `Screen::close` (`rfbCloseClient` of `rfb.h`); nothing waits for the viewer any more.
+    pub fn close(&mut self, viewer: u64) -> i32
+        ensures { Closes viewer self.old self.new result }
+    {
+        let Some(screen) = &mut self.screen else {
+            return SHUT;
+        };
+        let answer = screen.close(viewer);
+        if answer.is_ok() {
+            drop_output(&mut self.output, viewer);
+        }
+        done_or(answer)
+    }
+
+    /// Puts the next bytes that wait for a viewer at the room's start, as many as are made and fit, and takes them from what waits. How many they are;
+    /// the rest of the room stays. 0 where nothing waits, or the room has no place.
+    pub fn output(&mut self, viewer: u64, room: &mut [u8]) -> i32
+        ensures { Gives viewer self.old self.new room.old room.new result }
+    {
+        let Some(screen) = &self.screen else {
+            return SHUT;
+        };
+        if !screen.is_live(viewer) {
+            return code_of(ScreenError::NoViewer);
+        }
+        count_or(fetch_output(&mut self.output, viewer, room))
+    }
+
+    /// Puts the first inputs that wait at the room's start, up to the first text, and takes them from what waits. How many they are; the
+    /// rest of the room stays. The text's bytes are had by `text`, until a call fetches another.
+    pub fn inputs(&mut self, room: &mut [Told]) -> i64
+        ensures { Fetches self.old self.new room.old room.new result }
+    {
+        if self.screen.is_none() {
+            return i64::from(SHUT);
+        }
+        self.inputs.fetch(room, &mut self.text) as i64
+    }
+
+    /// Puts the first bytes of the text that was fetched last at the room's start, at most 2^30. How many they are; the rest of the room
+    /// stays.
+    pub fn text(&mut self, room: &mut [u8]) -> i32
+        ensures { Shows self.old.text self.old self.new room.old room.new result }
+    {
+        if self.screen.is_none() {
+            return SHUT;
+        }
+        copy_to(room, self.text.as_slice()) as i32
+    }
+
+    /// `Screen::numbers`: puts the live viewers' numbers at the room's start, in order of connecting, as many as there is room for, at
+    /// most 2^30. How many these are; the rest of the room stays.
+    pub fn numbers(&mut self, room: &mut [u64]) -> i32
+        ensures { Shows (numbers_of self.old.screen) self.old self.new room.old room.new result }
+    {
+        let Some(screen) = &self.screen else {
+            return SHUT;
+        };
+        match screen.numbers() {
+            Ok(numbers) => copy_to(room, numbers.as_slice()) as i32,
+            Err(_) => code_of(ScreenError::OutOfMemory),
+        }
+    }
+
+    /// `Screen::viewer_count`, at most 2^30.
+    pub fn viewer_count(&mut self) -> i32
+        ensures { Tells (λ screen. pos (min (length screen.viewers) (2 ^ 30))) self.old self.new result }
+    {
+        let Some(screen) = &self.screen else {
+            return SHUT;
+        };
+        screen.viewer_count().min(1 << 30) as i32
+    }
+
+    /// `Screen::is_live`: 1 or 0.
+    pub fn is_live(&mut self, viewer: u64) -> i32
+        ensures { Tells (λ screen. code.one_or_zero (is_some (viewer_at screen viewer))) self.old self.new result }
+    {
+        let Some(screen) = &self.screen else {
+            return SHUT;
+        };
+        i32::from(screen.is_live(viewer))
+    }
+
+    /// `Screen::is_open`: 1 or 0.
+    pub fn is_open(&mut self, viewer: u64) -> i32
+        ensures { Tells (of_viewer viewer (λ seen. code.one_or_zero (is_open_rest seen.heard))) self.old self.new result }
+    {
+        let Some(screen) = &self.screen else {
+            return SHUT;
+        };
+        truth_or(screen.is_open(viewer))
+    }
+
+    /// `Screen::fault`: 0, or why the viewer is heard no further, by `fault_code`.
+    pub fn fault(&mut self, viewer: u64) -> i32
+        ensures { Tells (of_viewer viewer (λ seen. code.fault_code (fault_in_rest seen.heard))) self.old self.new result }
+    {
+        let Some(screen) = &self.screen else {
+            return SHUT;
+        };
+        fault_or(screen.fault(viewer))
+    }
+
+    /// `Screen::width`: 1 to 8192.
+    pub fn width(&mut self) -> i64
+        ensures { Tells (λ screen. pos screen.picture.width) self.old self.new result }
+    {
+        let Some(screen) = &self.screen else {
+            return i64::from(SHUT);
+        };
+        i64::from(screen.width())
+    }
+
+    /// `Screen::height`: 1 to 8192.
+    pub fn height(&mut self) -> i64
+        ensures { Tells (λ screen. pos screen.picture.height) self.old self.new result }
+    {
+        let Some(screen) = &self.screen else {
+            return i64::from(SHUT);
+        };
+        i64::from(screen.height())
+    }
+
+    /// `Screen::colour`: `0x00RRGGBB`. `OFF_SCREEN` off the screen.
+    pub fn colour(&mut self, x: u32, y: u32) -> i64
+        ensures { Tells (colour_at x y) self.old self.new result }
+    {
+        let Some(screen) = &self.screen else {
+            return i64::from(SHUT);
+        };
+        match screen.colour(x, y) {
+            Some(colour) => i64::from(colour),
+            None => i64::from(OFF_SCREEN),
+        }
+    }
+}

@@ -1,0 +1,26 @@
+//! What a program in another language is given of a screen: each call of `Screen` as a call that answers a number, 0 or more where
+//! it is done, and below 0 the code of its refusal, where nothing has changed. Besides it keeps what viewers are to be sent until
+//! that is fetched, and what they told the program.
+//!
+//! ```
+//! let mut desk = Desk::new(alloc);
+//! desk.open(2, 1, b"demo", 50);
+//! desk.connect(1);
+//! let count = desk.output(1, &mut room); // 12, and "RFB 003.008\n" in the room
+//! desk.hear(1, b"RFB 003.008\n\x01\x01");
+//! desk.paint(0, 0, 3, 1, &[1, 2, 3]); // -4: it is not on the screen
+//! ```
+#![tactic(auto)]
+
+mod codes;
+mod corners;
+mod desk;
+mod inputs;
+mod output;
+mod told;
+
+pub use codes::{OFF_SCREEN, OUT_OF_RANGE, OUTPUT_WAITS, SHUT, code_of, fault_code};
+pub use corners::Corners;
+pub use desk::Desk;
+pub use screen::{Fault, Input, ScreenError};
+pub use told::Told;
