@@ -1,0 +1,123 @@
+/* Codes, inputs, faults, pieces, and calls after shut: "edges ok" where each answer is the one that stands here. */
+#include "vnc_screen.h"
+#include <stdio.h>
+#include <string.h>
+
+#define IS(call, want) do { long got = (long)(call); if (got != (long)(want)) { printf("line %d: %s gives %ld\n", __LINE__, #call, got); return 1; } } while (0)
+
+static const uint8_t opening[14] = "RFB 003.008\n\x01\x01";
+
+int main(void)
+{
+    static const uint8_t name[256] = "x";
+    static uint8_t room[9000], text[300000];
+    static uint32_t colours[64 * 48];
+    vnc_screen *s = 0;
+    vnc_input in[4];
+    uint64_t numbers[3] = {0, 0, 0};
+    const vnc_rect all = {0, 0, 64, 48}, far = {0, 0, 2000000, 1};
+    uint8_t head[8] = {6, 0, 0, 0, 0, 4, 0, 1}; /* a text of 262,145 bytes */
+    long sum = 0;
+    int32_t n, i;
+
+    IS(vnc_screen_abi(), VNC_SCREEN_ABI);
+    IS(vnc_screen_new(0, 1, name, 1, 50, &s), VNC_BAD_SIZE);
+    IS(vnc_screen_new(8193, 1, name, 1, 50, &s), VNC_BAD_SIZE);
+    IS(vnc_screen_new(1, 1, name, 256, 50, &s), VNC_BAD_NAME);
+    IS(vnc_screen_new(1, 1, name, 1, 0, &s), VNC_BAD_RECT_LIMIT);
+    IS(s != 0, 0);
+    IS(vnc_screen_new(64, 48, name, 1, 50, &s), 0);
+    IS(vnc_screen_width(s), 64);
+    IS(vnc_screen_height(s), 48);
+    IS(vnc_screen_connect(s, 7), 0);
+    IS(vnc_screen_connect(s, 7), VNC_NUMBER_IN_USE);
+    IS(vnc_screen_output(s, 7, room, 5), 5);
+    IS(vnc_screen_output(s, 7, room + 5, sizeof room - 5), 7);
+    IS(memcmp(room, "RFB 003.008\n", 12), 0);
+    IS(vnc_screen_output(s, 8, room, 1), VNC_NO_VIEWER);
+    IS(vnc_screen_hear(s, 8, opening, 14), VNC_NO_VIEWER);
+    IS(vnc_screen_hear(s, 7, opening, 0), 0);
+    IS(vnc_screen_is_open(s, 7), 0);
+    IS(vnc_screen_hear(s, 7, opening, 14), 0);
+    IS(vnc_screen_is_open(s, 7), 1);
+    IS(vnc_screen_output(s, 7, room, sizeof room), 31);
+
+    IS(vnc_screen_paint(s, 0, 0, 2, 1, colours, 1), VNC_BAD_PIXEL_COUNT);
+    IS(vnc_screen_paint(s, -1, 0, 1, 1, colours, 1), VNC_BAD_RECT);
+    for (i = 0; i < 64 * 48; i++) colours[i] = (uint32_t)i;
+    IS(vnc_screen_paint(s, 0, 0, 64, 48, colours, 64 * 48), 0);
+    IS(vnc_screen_colour(s, 63, 47), 64 * 48 - 1);
+    IS(vnc_screen_colour(s, 64, 0), VNC_OFF_SCREEN);
+    IS(vnc_screen_mark_rect(s, -2147483647 - 1, 99, 2147483647, -99), 0);
+    IS(vnc_screen_mark_region(s, &all, 1), 0);
+    IS(vnc_screen_mark_region(s, &far, 1), VNC_OUT_OF_RANGE);
+    IS(vnc_screen_schedule_copy_region(s, &far, 1, 1, 1), VNC_OUT_OF_RANGE);
+    IS(vnc_screen_do_copy_region(s, &all, 1, 0, 0), 0);
+    IS(vnc_screen_bell(s), 0);
+    IS(vnc_screen_cut_text(s, (const uint8_t *)"hi", 2), 0);
+    IS(vnc_screen_cut_text(s, text, 65537), VNC_TEXT_TOO_LONG);
+    IS(vnc_screen_is_pending(s, 7), 1);
+    IS(vnc_screen_cut(s, 7), 1);
+    IS(vnc_screen_cut(s, 7), VNC_OUTPUT_WAITS);
+    while ((n = vnc_screen_output(s, 7, room, sizeof room)) > 0) sum += n;
+    IS(n, 0);
+    IS(sum, 11);
+    IS(vnc_screen_cut(s, 7), 0);
+    IS(vnc_screen_hear(s, 7, (const uint8_t *)"\x03\x00\x00\x00\x00\x00\x00\x40\x00\x30", 10), 0);
+    IS(vnc_screen_cut(s, 7), 1);
+    for (sum = 0; (n = vnc_screen_output(s, 7, room, sizeof room)) > 0;) sum += n;
+    IS(sum, 4 + 12 + 4 * 64 * 48);
+
+    IS(vnc_screen_hear(s, 7, (const uint8_t *)"\x04\x01\0\0\0\0\0\x61\x05\x05\0\x03\0\x04\x06\0\0\0\0\0\0\x03yes", 25), 0);
+    IS(vnc_screen_connect(s, 9), 0);
+    IS(vnc_screen_hear(s, 9, opening, 14), 0);
+    IS(vnc_screen_hear(s, 9, (const uint8_t *)"\x04\x00\0\0\0\0\0\x62", 8), 0);
+    IS(vnc_screen_inputs(s, in, 2), 2);
+    IS(in[0].viewer == 7 && in[0].kind == VNC_KEY && in[0].down == 1 && in[0].key == 0x61, 1);
+    IS(in[1].kind == VNC_POINTER && in[1].buttons == 5 && in[1].x == 3 && in[1].y == 4, 1);
+    IS(vnc_screen_inputs(s, in, 4), 1);
+    IS(in[0].kind == VNC_TEXT && in[0].length == 3 && in[0].shortened == 0, 1);
+    IS(vnc_screen_text(s, text, sizeof text), 3);
+    IS(memcmp(text, "yes", 3), 0);
+    IS(vnc_screen_inputs(s, in, 4), 1);
+    IS(in[0].viewer == 9 && in[0].kind == VNC_KEY && in[0].down == 0 && in[0].key == 0x62, 1);
+    IS(vnc_screen_inputs(s, in, 4), 0);
+    IS(vnc_screen_hear(s, 9, head, 8), 0);
+    memset(text, 'y', sizeof text);
+    IS(vnc_screen_hear(s, 9, text, 262145), 0);
+    IS(vnc_screen_inputs(s, in, 4), 1);
+    IS(in[0].kind == VNC_TEXT && in[0].length == 262144 && in[0].shortened == 1, 1);
+    IS(vnc_screen_text(s, text, 10), 10);
+
+    IS(vnc_screen_viewer_count(s), 2);
+    IS(vnc_screen_numbers(s, numbers, 3), 2);
+    IS(numbers[0] == 7 && numbers[1] == 9 && numbers[2] == 0, 1);
+    IS(vnc_screen_hear(s, 9, (const uint8_t *)"\xff", 1), VNC_UNKNOWN_MESSAGE + 255);
+    IS(vnc_screen_fault(s, 9), VNC_UNKNOWN_MESSAGE + 255);
+    IS(vnc_screen_fault(s, 7), 0);
+    IS(vnc_screen_close(s, 9), 0);
+    IS(vnc_screen_close(s, 9), VNC_NO_VIEWER);
+    IS(vnc_screen_is_live(s, 9), 0);
+    IS(vnc_screen_new_framebuffer(s, 8192, 2049), VNC_BAD_SIZE);
+    IS(vnc_screen_new_framebuffer(s, 3, 2), 0);
+    IS(vnc_screen_write_pixels(s, 0, 0, 3, 2, colours, 6), 0);
+    IS(vnc_screen_schedule_copy_rect(s, 1, 0, 3, 2, 1, 0), 0);
+    IS(vnc_screen_do_copy_rect(s, 1, 0, 3, 1, 1, 0), 0);
+    IS(vnc_screen_colour(s, 2, 0), 1);
+
+    IS(vnc_screen_shut(s), 0);
+    IS(vnc_screen_bell(s), VNC_SHUT);
+    IS(vnc_screen_connect(s, 1), VNC_SHUT);
+    IS(vnc_screen_output(s, 7, room, 1), VNC_SHUT);
+    IS(vnc_screen_inputs(s, in, 4), VNC_SHUT);
+    IS(vnc_screen_width(s), VNC_SHUT);
+    IS(vnc_screen_shut(s), 0);
+    IS(vnc_screen_open(s, 8192, 2048, name, 1, 1), 0);
+    IS(vnc_screen_open(s, 8192, 2049, name, 1, 1), VNC_BAD_SIZE);
+    IS(vnc_screen_width(s), 8192);
+    IS(vnc_screen_open(s, 2, 2, name, 1, 1), 0);
+    IS(vnc_screen_viewer_count(s), 0);
+    vnc_screen_free(s);
+    puts("edges ok");
+    return 0;
+}

@@ -1,0 +1,159 @@
+/* vnc_screen.h: a screen of a VNC server (RFC 6143) for C. What each call does is proved of the library; this header, and the C that
+ * includes it, are not.
+ *
+ * The program has the sockets, the loop and the threads. A screen has a picture and any number of viewers, each by a number that the
+ * program chooses, such as its socket's. The program gives the screen what it read of a viewer (vnc_screen_hear), asks for updates
+ * (vnc_screen_cut), and sends each viewer what waits for it (vnc_screen_output). No call waits, locks or starts a thread.
+ *
+ * Ownership  A vnc_screen lies in memory of the program's, of vnc_screen_size() bytes at a multiple of 16, as malloc gives it:
+ *            vnc_screen_new and vnc_screen_free see to that. From vnc_screen_init on only the library reads and writes there. Once it
+ *            is shut it holds no other memory: the program may free its own, or open a screen there again. Memory that a call is given
+ *            is used during that call alone, and the library hands out no pointers.
+ * Threads    One call at a time for each screen, by any thread: where several threads use one, a lock of the program's stands around
+ *            each call. Two screens have nothing in common.
+ * Results    0 or more: done. Below 0: a vnc_code, and nothing has changed. A screen that is shut answers VNC_SHUT to each call
+ *            but vnc_screen_open and vnc_screen_shut.
+ * Held       What waits for a viewer is bounded: the server's words of the opening, some 300 bytes, and one update, which holds 4
+ *            bytes for each place and is encoded as it is fetched. Inputs wait until they are fetched.
+ * Undefined  A pointer to a screen that is null, freed, not initialised or moved; room or data that isn't there for its count; two
+ *            calls for one screen at once; a call from a signal handler, or from the child of a fork of a program with threads.
+ *            Anything else is answered, by a code where it can't be done.
+ */
+#ifndef VNC_SCREEN_H
+#define VNC_SCREEN_H
+
+#include <stddef.h>
+#include <stdint.h>
+#include <stdlib.h>
+
+#ifdef __cplusplus
+extern "C" {
+#endif
+
+/* Grows with each change that a program made before it can see; vnc_screen_abi() is the library's. */
+#define VNC_SCREEN_ABI 1
+
+typedef struct vnc_screen vnc_screen;
+
+enum vnc_code {
+    VNC_BAD_SIZE = -1,        /* columns or rows are not 1 to 8192, or there are more than 2^24 places */
+    VNC_BAD_NAME = -2,        /* a name of more than 255 bytes */
+    VNC_BAD_RECT_LIMIT = -3,  /* not 1 to 1000 */
+    VNC_BAD_RECT = -4,        /* not on the screen, or corners in the wrong order */
+    VNC_BAD_PIXEL_COUNT = -5, /* not as many colours as places */
+    VNC_TEXT_TOO_LONG = -6,   /* more than 65536 bytes */
+    VNC_NO_VIEWER = -7,       /* no live viewer has the number */
+    VNC_NUMBER_IN_USE = -8,   /* a live viewer has it */
+    VNC_OUT_OF_MEMORY = -9,   /* make the call again once there is memory */
+    VNC_OUT_OF_RANGE = -10,   /* a coordinate of a region is not -2^20 to 2^20 */
+    VNC_OUTPUT_WAITS = -11,   /* fetch what waits for the viewer first */
+    VNC_OFF_SCREEN = -12,     /* there is no such place */
+    VNC_SHUT = -32            /* the screen is shut */
+};
+
+/* Why a viewer is heard no further: what vnc_screen_hear and vnc_screen_fault answer above 0. Send it what waits, then close it. */
+enum vnc_fault {
+    VNC_BAD_VERSION = 1,        /* its first 12 bytes are no version (7.1.1) */
+    VNC_BAD_SECURITY_TYPE = 2,  /* it chose another than None (7.1.2) */
+    VNC_BAD_BITS_PER_PIXEL = 3, /* not 8, 16 or 32 (7.4) */
+    VNC_COLOUR_MAP = 4,         /* a format of more than 8 bits with a colour map */
+    VNC_UNKNOWN_MESSAGE = 256   /* and its type: a message of a type that there isn't (7.5) */
+};
+
+/* The places (x, y) with x1 <= x < x2 and y1 <= y < y2. */
+typedef struct vnc_rect {
+    int32_t x1, y1, x2, y2;
+} vnc_rect;
+
+enum vnc_kind { VNC_KEY = 1, VNC_POINTER = 2, VNC_TEXT = 3 };
+
+/* What a viewer told (7.5.4 to 7.5.6). What doesn't belong to its kind is 0. */
+typedef struct vnc_input {
+    uint64_t viewer;
+    uint32_t kind;      /* a vnc_kind */
+    uint32_t down;      /* of a key: 1 where it went down, 0 where it went up */
+    uint32_t key;       /* of a key: its keysym */
+    uint32_t buttons;   /* of the pointer: a bit for each button that is down */
+    uint32_t x, y;      /* of the pointer: where it is, maybe off the screen */
+    uint64_t length;    /* of a text: its bytes, at most 262144 */
+    uint32_t shortened; /* of a text: 1 where only its first 262144 bytes are kept */
+} vnc_input;
+
+uint32_t vnc_screen_abi(void);
+
+/* The bytes of a vnc_screen. */
+size_t vnc_screen_size(void);
+
+/* Makes such memory a screen that is shut. Do this once: what was open there would not be freed. */
+void vnc_screen_init(vnc_screen *screen);
+
+/* A black screen with no viewer (rfbGetScreen); what was open there is shut. `name` is the desktop's name, with no zero at its end;
+ * `rects` is how many copies, and how many rectangles of pixels, one update has at most: 50 serves. */
+int32_t vnc_screen_open(vnc_screen *screen, uint32_t width, uint32_t height, const uint8_t *name, size_t name_count, uint32_t rects);
+
+/* All that the screen holds is freed (rfbScreenCleanup); 0. */
+int32_t vnc_screen_shut(vnc_screen *screen);
+
+/* Memory for a screen, which is opened: 0, or a vnc_code. */
+static inline int32_t vnc_screen_new(uint32_t width, uint32_t height, const uint8_t *name, size_t name_count, uint32_t rects, vnc_screen **out)
+{
+    int32_t code;
+    vnc_screen *screen = (vnc_screen *)malloc(vnc_screen_size());
+    if (!screen) return VNC_OUT_OF_MEMORY;
+    vnc_screen_init(screen);
+    code = vnc_screen_open(screen, width, height, name, name_count, rects);
+    if (code < 0) free(screen);
+    else *out = screen;
+    return code;
+}
+
+static inline void vnc_screen_free(vnc_screen *screen)
+{
+    if (!screen) return;
+    vnc_screen_shut(screen);
+    free(screen);
+}
+
+/* Viewers. */
+int32_t vnc_screen_connect(vnc_screen *screen, uint64_t viewer);                                    /* 0 */
+int32_t vnc_screen_hear(vnc_screen *screen, uint64_t viewer, const uint8_t *piece, size_t count);   /* 0, or a vnc_fault */
+int32_t vnc_screen_is_pending(vnc_screen *screen, uint64_t viewer); /* 1 where an update would be cut, else 0 */
+int32_t vnc_screen_cut(vnc_screen *screen, uint64_t viewer);        /* 1: an update waits for it; 0: there is nothing to send */
+int32_t vnc_screen_close(vnc_screen *screen, uint64_t viewer);      /* 0; nothing waits for it any more (rfbCloseClient) */
+
+/* The next bytes that wait for a viewer go to `room`, and wait no more: how many, 0 where none wait. Call it until it answers 0. */
+int32_t vnc_screen_output(vnc_screen *screen, uint64_t viewer, uint8_t *room, size_t count);
+
+/* The next inputs of all viewers go to `room`, and wait no more: how many, 0 where none wait. A text is the last of a call's: its
+ * bytes are had by vnc_screen_text until vnc_screen_inputs gives another text. */
+int64_t vnc_screen_inputs(vnc_screen *screen, vnc_input *room, size_t count);
+int32_t vnc_screen_text(vnc_screen *screen, uint8_t *room, size_t count); /* the first bytes of it, as many as fit: how many */
+
+/* Drawing; each is 0 where it is done. Colours are 0x00RRGGBB, row by row; a top byte other than 0 is cleared. */
+int32_t vnc_screen_paint(vnc_screen *screen, int32_t x1, int32_t y1, int32_t x2, int32_t y2, const uint32_t *colours, size_t count);
+int32_t vnc_screen_write_pixels(vnc_screen *screen, int32_t x1, int32_t y1, int32_t x2, int32_t y2, const uint32_t *colours, size_t count); /* no viewer is told */
+int32_t vnc_screen_mark_rect(vnc_screen *screen, int32_t x1, int32_t y1, int32_t x2, int32_t y2);                                          /* rfbMarkRectAsModified */
+int32_t vnc_screen_mark_region(vnc_screen *screen, const vnc_rect *rects, size_t count);                                                   /* rfbMarkRegionAsModified */
+int32_t vnc_screen_schedule_copy_rect(vnc_screen *screen, int32_t x1, int32_t y1, int32_t x2, int32_t y2, int32_t dx, int32_t dy);         /* rfbScheduleCopyRect */
+int32_t vnc_screen_schedule_copy_region(vnc_screen *screen, const vnc_rect *rects, size_t count, int32_t dx, int32_t dy);                  /* rfbScheduleCopyRegion */
+int32_t vnc_screen_do_copy_rect(vnc_screen *screen, int32_t x1, int32_t y1, int32_t x2, int32_t y2, int32_t dx, int32_t dy);               /* rfbDoCopyRect */
+int32_t vnc_screen_do_copy_region(vnc_screen *screen, const vnc_rect *rects, size_t count, int32_t dx, int32_t dy);                        /* rfbDoCopyRegion */
+int32_t vnc_screen_bell(vnc_screen *screen);                                                /* rfbSendBell */
+int32_t vnc_screen_cut_text(vnc_screen *screen, const uint8_t *text, size_t count);         /* rfbSendServerCutText */
+int32_t vnc_screen_new_framebuffer(vnc_screen *screen, uint32_t width, uint32_t height);    /* rfbNewFramebuffer; black */
+
+/* What the screen holds. */
+int64_t vnc_screen_width(vnc_screen *screen);
+int64_t vnc_screen_height(vnc_screen *screen);
+int64_t vnc_screen_colour(vnc_screen *screen, uint32_t x, uint32_t y);
+int32_t vnc_screen_viewer_count(vnc_screen *screen);
+int32_t vnc_screen_numbers(vnc_screen *screen, uint64_t *room, size_t count); /* the live viewers' numbers, as many as fit: how many */
+int32_t vnc_screen_is_live(vnc_screen *screen, uint64_t viewer);              /* 1 or 0 */
+int32_t vnc_screen_is_open(vnc_screen *screen, uint64_t viewer);              /* 1 where its opening is over and it met no fault, else 0 */
+int32_t vnc_screen_fault(vnc_screen *screen, uint64_t viewer);                /* 0, or a vnc_fault */
+
+#ifdef __cplusplus
+}
+#endif
+
+#endif

@@ -1,0 +1,398 @@
+//! A screen for programs in C: doors to `screen_desk`, one for each of its calls. The program has the sockets and the loop; nothing
+//! here waits, locks or starts a thread.
+//!
+//! Each door takes a pointer to memory of the program's in which a desk lies: `vnc_screen_init` puts one there, which is shut. Its
+//! contract is that of the desk's call, from the desk that lies there before to the one that lies there after it.
+#![tactic(auto)]
+
+ghost use types.Logic.{sem};
+ghost use denote.RawPtr.{room_at};
+ghost use Rattle.vnc_screen.specs.Lying.{desk_row, holds, leaves};
+ghost use Rattle.std.specs.Prelude.{◌≡◌, ◌∷◌, [], ◌^◌, pos, map, min, length, is_some};
+ghost use Rattle.messages.specs.Reading.{fault_in_rest, is_open_rest};
+ghost use Rattle.scene.specs.declared.Event.{Event};
+ghost use Rattle.screen.specs.State.{viewer_at};
+ghost use Rattle.screen_desk.specs.Codes as codes;
+ghost use Rattle.screen_desk.specs.Calls.{Opens, Draws, DrawsRegion, Connects, Hears, Cuts, Closes, TellsPending, Gives, Fetches, Shows, Tells, numbers_of, of_viewer, colour_at};
+ghost use Rattle.screen_desk.specs.Desk.{nothing_there, rect_of, config_of};
+
+use screen_desk::{Corners, Desk, Told};
+use std::alloc::Global;
+use std::mem::size_of;
+use std::ptr;
+
+/// What C sees behind its pointer: nothing.
+#[repr(C)]
+#[derive(Drop)]
+pub struct Place {
+    unseen: u8,
+}
+
+/// The number of this interface: `VNC_SCREEN_ABI` of the header.
+#[unsafe(no_mangle)]
+pub extern "C" fn vnc_screen_abi() -> u32 {
+    1
+}
+
+/// How many bytes of memory C has to give for a screen; their address is a multiple of 16.
+#[unsafe(no_mangle)]
+pub extern "C" fn vnc_screen_size() -> usize {
+    size_of::<Desk>()
+}
+
+/// Puts a desk that is shut into C's memory.
+#[unsafe(no_mangle)]
+pub unsafe extern "C" fn vnc_screen_init(at: *mut Place, alloc: Global)
+    requires* { sem 𝓛 (room_at desk_row at) }
+    ensures* { sem 𝓛 (leaves at (λ desk. desk ≡ nothing_there)) }
+{
+    ptr::write(at as *mut Desk, Desk::new(alloc))
+}
+
+/// `Desk::paint`.
+#[unsafe(no_mangle)]
+pub unsafe extern "C" fn vnc_screen_paint(
+    at: *mut Place,
+    x1: i32,
+    y1: i32,
+    x2: i32,
+    y2: i32,
+    colours: &[u32],
+) -> i32
+    ghost before: { desk_row.Denot }
+    requires* { sem 𝓛 (holds at before) }
+    ensures* { sem 𝓛 (leaves at (λ after. Draws (Event.Paint (record { x1 = x1; y1 = y1; x2 = x2; y2 = y2 }) colours.now) before after result)) }
+{
+    Desk::paint(&mut *(at as *mut Desk), x1, y1, x2, y2, colours)
+}
+
+/// `Desk::write_pixels`.
+#[unsafe(no_mangle)]
+pub unsafe extern "C" fn vnc_screen_write_pixels(
+    at: *mut Place,
+    x1: i32,
+    y1: i32,
+    x2: i32,
+    y2: i32,
+    colours: &[u32],
+) -> i32
+    ghost before: { desk_row.Denot }
+    requires* { sem 𝓛 (holds at before) }
+    ensures* { sem 𝓛 (leaves at (λ after. Draws (Event.Write (record { x1 = x1; y1 = y1; x2 = x2; y2 = y2 }) colours.now) before after result)) }
+{
+    Desk::write_pixels(&mut *(at as *mut Desk), x1, y1, x2, y2, colours)
+}
+
+/// `Desk::mark_rect`.
+#[unsafe(no_mangle)]
+pub unsafe extern "C" fn vnc_screen_mark_rect(
+    at: *mut Place,
+    x1: i32,
+    y1: i32,
+    x2: i32,
+    y2: i32,
+) -> i32
+    ghost before: { desk_row.Denot }
+    requires* { sem 𝓛 (holds at before) }
+    ensures* { sem 𝓛 (leaves at (λ after. Draws (Event.Mark (record { x1 = x1; y1 = y1; x2 = x2; y2 = y2 } ∷ [])) before after result)) }
+{
+    Desk::mark_rect(&mut *(at as *mut Desk), x1, y1, x2, y2)
+}
+
+/// `Desk::schedule_copy_rect`.
+#[unsafe(no_mangle)]
+pub unsafe extern "C" fn vnc_screen_schedule_copy_rect(
+    at: *mut Place,
+    x1: i32,
+    y1: i32,
+    x2: i32,
+    y2: i32,
+    dx: i32,
+    dy: i32,
+) -> i32
+    ghost before: { desk_row.Denot }
+    requires* { sem 𝓛 (holds at before) }
+    ensures* { sem 𝓛 (leaves at (λ after. Draws (Event.ScheduleCopy (record { x1 = x1; y1 = y1; x2 = x2; y2 = y2 } ∷ []) dx dy) before after result)) }
+{
+    Desk::schedule_copy_rect(&mut *(at as *mut Desk), x1, y1, x2, y2, dx, dy)
+}
+
+/// `Desk::do_copy_rect`.
+#[unsafe(no_mangle)]
+pub unsafe extern "C" fn vnc_screen_do_copy_rect(
+    at: *mut Place,
+    x1: i32,
+    y1: i32,
+    x2: i32,
+    y2: i32,
+    dx: i32,
+    dy: i32,
+) -> i32
+    ghost before: { desk_row.Denot }
+    requires* { sem 𝓛 (holds at before) }
+    ensures* { sem 𝓛 (leaves at (λ after. Draws (Event.DoCopy (record { x1 = x1; y1 = y1; x2 = x2; y2 = y2 } ∷ []) dx dy) before after result)) }
+{
+    Desk::do_copy_rect(&mut *(at as *mut Desk), x1, y1, x2, y2, dx, dy)
+}
+
+/// `Desk::bell`.
+#[unsafe(no_mangle)]
+pub unsafe extern "C" fn vnc_screen_bell(at: *mut Place) -> i32
+    ghost before: { desk_row.Denot }
+    requires* { sem 𝓛 (holds at before) }
+    ensures* { sem 𝓛 (leaves at (λ after. Draws (Event.Bell) before after result)) }
+{
+    Desk::bell(&mut *(at as *mut Desk))
+}
+
+/// `Desk::cut_text`.
+#[unsafe(no_mangle)]
+pub unsafe extern "C" fn vnc_screen_cut_text(at: *mut Place, text: &[u8]) -> i32
+    ghost before: { desk_row.Denot }
+    requires* { sem 𝓛 (holds at before) }
+    ensures* { sem 𝓛 (leaves at (λ after. Draws (Event.CutText text.now) before after result)) }
+{
+    Desk::cut_text(&mut *(at as *mut Desk), text)
+}
+
+/// `Desk::new_framebuffer`.
+#[unsafe(no_mangle)]
+pub unsafe extern "C" fn vnc_screen_new_framebuffer(at: *mut Place, width: u32, height: u32) -> i32
+    ghost before: { desk_row.Denot }
+    requires* { sem 𝓛 (holds at before) }
+    ensures* { sem 𝓛 (leaves at (λ after. Draws (Event.Resize width height) before after result)) }
+{
+    Desk::new_framebuffer(&mut *(at as *mut Desk), width, height)
+}
+
+/// `Desk::mark_region`.
+#[unsafe(no_mangle)]
+pub unsafe extern "C" fn vnc_screen_mark_region(at: *mut Place, list: &[Corners]) -> i32
+    ghost before: { desk_row.Denot }
+    requires* { sem 𝓛 (holds at before) }
+    ensures* { sem 𝓛 (leaves at (λ after. DrawsRegion (map rect_of list.now) (λ places. Event.Mark places) before after result)) }
+{
+    Desk::mark_region(&mut *(at as *mut Desk), list)
+}
+
+/// `Desk::schedule_copy_region`.
+#[unsafe(no_mangle)]
+pub unsafe extern "C" fn vnc_screen_schedule_copy_region(
+    at: *mut Place,
+    list: &[Corners],
+    dx: i32,
+    dy: i32,
+) -> i32
+    ghost before: { desk_row.Denot }
+    requires* { sem 𝓛 (holds at before) }
+    ensures* { sem 𝓛 (leaves at (λ after. DrawsRegion (map rect_of list.now) (λ places. Event.ScheduleCopy places dx dy) before after result)) }
+{
+    Desk::schedule_copy_region(&mut *(at as *mut Desk), list, dx, dy)
+}
+
+/// `Desk::do_copy_region`.
+#[unsafe(no_mangle)]
+pub unsafe extern "C" fn vnc_screen_do_copy_region(
+    at: *mut Place,
+    list: &[Corners],
+    dx: i32,
+    dy: i32,
+) -> i32
+    ghost before: { desk_row.Denot }
+    requires* { sem 𝓛 (holds at before) }
+    ensures* { sem 𝓛 (leaves at (λ after. DrawsRegion (map rect_of list.now) (λ places. Event.DoCopy places dx dy) before after result)) }
+{
+    Desk::do_copy_region(&mut *(at as *mut Desk), list, dx, dy)
+}
+
+/// `Desk::open`.
+#[unsafe(no_mangle)]
+pub unsafe extern "C" fn vnc_screen_open(
+    at: *mut Place,
+    width: u32,
+    height: u32,
+    name: &[u8],
+    rects_per_update: u32,
+) -> i32
+    ghost before: { desk_row.Denot }
+    requires* { sem 𝓛 (holds at before) }
+    ensures* { sem 𝓛 (leaves at (λ after. Opens (config_of width height name.now rects_per_update) before after result)) }
+{
+    Desk::open(
+        &mut *(at as *mut Desk),
+        width,
+        height,
+        name,
+        rects_per_update,
+    )
+}
+
+/// `Desk::shut`.
+#[unsafe(no_mangle)]
+pub unsafe extern "C" fn vnc_screen_shut(at: *mut Place) -> i32
+    ghost before: { desk_row.Denot }
+    requires* { sem 𝓛 (holds at before) }
+    ensures* { sem 𝓛 (leaves at (λ after. (after ≡ nothing_there) × (result ≡ codes.done))) }
+{
+    Desk::shut(&mut *(at as *mut Desk))
+}
+
+/// `Desk::connect`.
+#[unsafe(no_mangle)]
+pub unsafe extern "C" fn vnc_screen_connect(at: *mut Place, viewer: u64) -> i32
+    ghost before: { desk_row.Denot }
+    requires* { sem 𝓛 (holds at before) }
+    ensures* { sem 𝓛 (leaves at (λ after. Connects viewer before after result)) }
+{
+    Desk::connect(&mut *(at as *mut Desk), viewer)
+}
+
+/// `Desk::hear`.
+#[unsafe(no_mangle)]
+pub unsafe extern "C" fn vnc_screen_hear(at: *mut Place, viewer: u64, piece: &[u8]) -> i32
+    ghost before: { desk_row.Denot }
+    requires* { sem 𝓛 (holds at before) }
+    ensures* { sem 𝓛 (leaves at (λ after. Hears viewer piece.now before after result)) }
+{
+    Desk::hear(&mut *(at as *mut Desk), viewer, piece)
+}
+
+/// `Desk::is_pending`.
+#[unsafe(no_mangle)]
+pub unsafe extern "C" fn vnc_screen_is_pending(at: *mut Place, viewer: u64) -> i32
+    ghost before: { desk_row.Denot }
+    requires* { sem 𝓛 (holds at before) }
+    ensures* { sem 𝓛 (leaves at (λ after. TellsPending viewer before after result)) }
+{
+    Desk::is_pending(&mut *(at as *mut Desk), viewer)
+}
+
+/// `Desk::cut`.
+#[unsafe(no_mangle)]
+pub unsafe extern "C" fn vnc_screen_cut(at: *mut Place, viewer: u64) -> i32
+    ghost before: { desk_row.Denot }
+    requires* { sem 𝓛 (holds at before) }
+    ensures* { sem 𝓛 (leaves at (λ after. Cuts viewer before after result)) }
+{
+    Desk::cut(&mut *(at as *mut Desk), viewer)
+}
+
+/// `Desk::close`.
+#[unsafe(no_mangle)]
+pub unsafe extern "C" fn vnc_screen_close(at: *mut Place, viewer: u64) -> i32
+    ghost before: { desk_row.Denot }
+    requires* { sem 𝓛 (holds at before) }
+    ensures* { sem 𝓛 (leaves at (λ after. Closes viewer before after result)) }
+{
+    Desk::close(&mut *(at as *mut Desk), viewer)
+}
+
+/// `Desk::output`.
+#[unsafe(no_mangle)]
+pub unsafe extern "C" fn vnc_screen_output(at: *mut Place, viewer: u64, room: &mut [u8]) -> i32
+    ghost before: { desk_row.Denot }
+    requires* { sem 𝓛 (holds at before) }
+    ensures* { sem 𝓛 (leaves at (λ after. Gives viewer before after room.old room.new result)) }
+{
+    Desk::output(&mut *(at as *mut Desk), viewer, room)
+}
+
+/// `Desk::inputs`.
+#[unsafe(no_mangle)]
+pub unsafe extern "C" fn vnc_screen_inputs(at: *mut Place, room: &mut [Told]) -> i64
+    ghost before: { desk_row.Denot }
+    requires* { sem 𝓛 (holds at before) }
+    ensures* { sem 𝓛 (leaves at (λ after. Fetches before after room.old room.new result)) }
+{
+    Desk::inputs(&mut *(at as *mut Desk), room)
+}
+
+/// `Desk::text`.
+#[unsafe(no_mangle)]
+pub unsafe extern "C" fn vnc_screen_text(at: *mut Place, room: &mut [u8]) -> i32
+    ghost before: { desk_row.Denot }
+    requires* { sem 𝓛 (holds at before) }
+    ensures* { sem 𝓛 (leaves at (λ after. Shows before.text before after room.old room.new result)) }
+{
+    Desk::text(&mut *(at as *mut Desk), room)
+}
+
+/// `Desk::numbers`.
+#[unsafe(no_mangle)]
+pub unsafe extern "C" fn vnc_screen_numbers(at: *mut Place, room: &mut [u64]) -> i32
+    ghost before: { desk_row.Denot }
+    requires* { sem 𝓛 (holds at before) }
+    ensures* { sem 𝓛 (leaves at (λ after. Shows (numbers_of before.screen) before after room.old room.new result)) }
+{
+    Desk::numbers(&mut *(at as *mut Desk), room)
+}
+
+/// `Desk::viewer_count`.
+#[unsafe(no_mangle)]
+pub unsafe extern "C" fn vnc_screen_viewer_count(at: *mut Place) -> i32
+    ghost before: { desk_row.Denot }
+    requires* { sem 𝓛 (holds at before) }
+    ensures* { sem 𝓛 (leaves at (λ after. Tells (λ screen. pos (min (length screen.viewers) (2 ^ 30))) before after result)) }
+{
+    Desk::viewer_count(&mut *(at as *mut Desk))
+}
+
+/// `Desk::is_live`.
+#[unsafe(no_mangle)]
+pub unsafe extern "C" fn vnc_screen_is_live(at: *mut Place, viewer: u64) -> i32
+    ghost before: { desk_row.Denot }
+    requires* { sem 𝓛 (holds at before) }
+    ensures* { sem 𝓛 (leaves at (λ after. Tells (λ screen. codes.one_or_zero (is_some (viewer_at screen viewer))) before after result)) }
+{
+    Desk::is_live(&mut *(at as *mut Desk), viewer)
+}
+
+/// `Desk::is_open`.
+#[unsafe(no_mangle)]
+pub unsafe extern "C" fn vnc_screen_is_open(at: *mut Place, viewer: u64) -> i32
+    ghost before: { desk_row.Denot }
+    requires* { sem 𝓛 (holds at before) }
+    ensures* { sem 𝓛 (leaves at (λ after. Tells (of_viewer viewer (λ seen. codes.one_or_zero (is_open_rest seen.heard))) before after result)) }
+{
+    Desk::is_open(&mut *(at as *mut Desk), viewer)
+}
+
+/// `Desk::fault`.
+#[unsafe(no_mangle)]
+pub unsafe extern "C" fn vnc_screen_fault(at: *mut Place, viewer: u64) -> i32
+    ghost before: { desk_row.Denot }
+    requires* { sem 𝓛 (holds at before) }
+    ensures* { sem 𝓛 (leaves at (λ after. Tells (of_viewer viewer (λ seen. codes.fault_code (fault_in_rest seen.heard))) before after result)) }
+{
+    Desk::fault(&mut *(at as *mut Desk), viewer)
+}
+
+/// `Desk::width`.
+#[unsafe(no_mangle)]
+pub unsafe extern "C" fn vnc_screen_width(at: *mut Place) -> i64
+    ghost before: { desk_row.Denot }
+    requires* { sem 𝓛 (holds at before) }
+    ensures* { sem 𝓛 (leaves at (λ after. Tells (λ screen. pos screen.picture.width) before after result)) }
+{
+    Desk::width(&mut *(at as *mut Desk))
+}
+
+/// `Desk::height`.
+#[unsafe(no_mangle)]
+pub unsafe extern "C" fn vnc_screen_height(at: *mut Place) -> i64
+    ghost before: { desk_row.Denot }
+    requires* { sem 𝓛 (holds at before) }
+    ensures* { sem 𝓛 (leaves at (λ after. Tells (λ screen. pos screen.picture.height) before after result)) }
+{
+    Desk::height(&mut *(at as *mut Desk))
+}
+
+/// `Desk::colour`.
+#[unsafe(no_mangle)]
+pub unsafe extern "C" fn vnc_screen_colour(at: *mut Place, x: u32, y: u32) -> i64
+    ghost before: { desk_row.Denot }
+    requires* { sem 𝓛 (holds at before) }
+    ensures* { sem 𝓛 (leaves at (λ after. Tells (colour_at x y) before after result)) }
+{
+    Desk::colour(&mut *(at as *mut Desk), x, y)
+}
