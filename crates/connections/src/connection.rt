@@ -19,6 +19,9 @@ use std::alloc::{AllocError, Global};
 use std::io::ErrorKind;
 use std::marker::Model;
 
+/// So many full reads one after the other may be a text that was copied: 64 KB. What says more is in no hurry.
+const LONG: u32 = 512;
+
 /// A viewer's connection. It is heard until it ends, and what waits for it then is written still, unless it ended by a failure.
 #[derive(Drop)]
 pub(crate) struct Connection<T: Transport> {
@@ -31,8 +34,8 @@ pub(crate) struct Connection<T: Transport> {
     heard: Option<Vec<u8>>,
     cuts: u64,
     readiness: Readiness,
-    // its last read gave as many bytes as there was room for
-    is_flooding: bool,
+    // how many of its last reads gave as many bytes as there was room for, one after the other
+    full_reads: u32,
     // as many writes were made as one turn has: an update may be cut at once
     looks_again: bool,
     // it stands on the agenda
@@ -91,7 +94,7 @@ impl<T: Transport> Connection<T> {
                 may_write: true,
                 is_hung_up: false,
             },
-            is_flooding: false,
+            full_reads: 0,
             looks_again: false,
             is_listed: false,
             may_ask: false,
@@ -161,7 +164,12 @@ impl<T: Transport> Connection<T> {
 
     /// Whether its last read gave as many bytes as there was room for.
     pub fn is_flooding(&self) -> bool {
-        self.is_flooding
+        self.full_reads > 0
+    }
+
+    /// Whether nothing can be done for it at once but to hear more, and it said 64 KB already without a pause.
+    pub fn only_floods(&self) -> bool {
+        self.full_reads > LONG && self.may_read() && !self.can_send()
     }
 
     /// Whether a write may take something.
@@ -200,11 +208,14 @@ impl<T: Transport> Connection<T> {
         }
     }
 
+    /// Whether bytes can be written to it at once.
+    fn can_send(&self) -> bool {
+        self.may_write() && (self.looks_again || !self.backlog.is_empty())
+    }
+
     /// Whether something can be done for it at once.
     pub fn has_work(&self) -> bool {
-        self.may_read()
-            || self.may_write() && (self.looks_again || !self.backlog.is_empty())
-            || self.over().is_some()
+        self.may_read() || self.can_send() || self.over().is_some()
     }
 
     /// It ends. A failure takes the place of another reason.
@@ -223,6 +234,18 @@ impl<T: Transport> Connection<T> {
         }
     }
 
+    /// A read gave bytes, as many as there was room for or fewer.
+    fn count_read(&mut self, is_full: bool)
+        ensures { self.new ≡ self.old }
+    {
+        self.full_reads = if is_full {
+            self.full_reads.saturating_add(1)
+        } else {
+            0
+        };
+        self.readiness.may_read = is_full || self.readiness.is_hung_up;
+    }
+
     /// One read. A piece that doesn't fill its room was all that there was, unless the peer hung up: then its bytes are read to
     /// their end.
     pub fn receive(&mut self, room: &mut [u8]) -> Got
@@ -235,13 +258,12 @@ impl<T: Transport> Connection<T> {
         match self.transport.transport.receive(room) {
             Ok(0) => Got::End,
             Ok(count) => {
-                self.is_flooding = count >= size;
-                self.readiness.may_read = self.is_flooding || self.readiness.is_hung_up;
+                self.count_read(count >= size);
                 Got::Piece(count)
             }
             Err(e) => match e.kind() {
                 ErrorKind::WouldBlock => {
-                    self.is_flooding = false;
+                    self.full_reads = 0;
                     self.readiness.may_read = false;
                     Got::Nothing
                 }

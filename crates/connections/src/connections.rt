@@ -1,7 +1,7 @@
 //! All connections of a screen's viewers.
 
 ghost use Rattle.std.specs.Prelude.{◌≡◌, ◌++◌, ◌∷◌, ◌+◌, [], List, ℕ, ◌<◌, None, Some, Err, IfOk, IfSome, IsSome, OnOk, OnErr, length};
-ghost use Rattle.std.specs.Prelude.{not, ◌||◌, ◌==◌, is_some, count_by, MatchOption, IsOkUnless};
+ghost use Rattle.std.specs.Prelude.{true, false, not, ◌||◌, ◌==◌, is_some, count_by, MatchOption, IsOkUnless};
 ghost use Rattle.std.specs.Borrow.{sem};
 ghost use Rattle.scene.specs.declared.Config.{Config};
 ghost use Rattle.scene.specs.declared.Event.{Event};
@@ -24,6 +24,9 @@ use std::alloc::{AllocError, Global};
 use std::marker::Model;
 use std::mem;
 use std::time::Duration;
+
+/// In how many turns a viewer that floods is heard once, while others have something to do.
+const TURNS: u32 = 8;
 
 /// What a transport was found ready for. It may be out of date: a call that would wait says so.
 #[derive(Clone, Copy, Debug, PartialEq, Eq)]
@@ -84,6 +87,8 @@ pub struct Connections<T: Transport> {
     later: Vec<usize>,
     // the keys of those that may have asked for places since an update was cut for them, and perhaps of others
     asking: Vec<usize>,
+    // how many turns there were since a viewer that floods was heard
+    since_flood: u32,
     // what is read, and what is written
     room: [u8; PIECE],
     buffer: Vec<u8>,
@@ -115,6 +120,7 @@ impl<T: Transport> Connections<T> {
             agenda: Vec::new(alloc),
             later: Vec::new(alloc),
             asking: Vec::new(alloc),
+            since_flood: 0,
             room: [0; PIECE],
             buffer: Vec::with_capacity(alloc, BUFFER)?,
         })
@@ -147,6 +153,32 @@ impl<T: Transport> Connections<T> {
         ensures { result ≡ (not (length self.now.agenda == 0) || self.now.surface.drawn) }
     {
         !self.agenda.is_empty() || self.canvas.has_drawn()
+    }
+
+    /// Whether nothing can be done in a turn at once but to hear viewers that said 64 KB already without a pause. A program may wait a
+    /// little then, so that they take less from others.
+    pub fn only_floods(&self) -> bool
+        ensures { result ≡ true → self.now.surface.drawn ≡ false }
+    {
+        if self.canvas.has_drawn() {
+            return false;
+        }
+        for place in 0..self.agenda.len() {
+            if let Some(key) = self.listed(place)
+                && !self.only_floods_at(key)
+            {
+                return false;
+            }
+        }
+        true
+    }
+
+    /// Whether nothing can be done at once for a connection but to hear more, and it said 64 KB already without a pause.
+    fn only_floods_at(&self, key: usize) -> bool {
+        match self.connections.get(key) {
+            Some(connection) => connection.only_floods(),
+            None => true,
+        }
     }
 
     /// The screen, to be looked at.
@@ -299,8 +331,8 @@ impl<T: Transport> Connections<T> {
     }
 
     /// One turn. Of each connection on the agenda one piece of at most 128 bytes is read and heard, and the application is told what
-    /// it says; of those whose last read gave so many only the one that waited longest. Then each is written what it was given, and
-    /// cut updates, in at most four writes of at most 65,536 bytes.
+    /// it says; of those whose last read gave so many only the one that waited longest, and that in one turn of eight while others have
+    /// something to do. Then each is written what it was given, and cut updates, in at most four writes of at most 65,536 bytes.
     ///
     /// Whatever list of events the screen stood for, it stands for it with others behind it, and by that list each viewer is served:
     /// what was read of it is what the screen heard of it, and what was written to it is, with what waits for it, what the screen with
@@ -308,7 +340,7 @@ impl<T: Transport> Connections<T> {
     pub fn turn<A: Application>(&mut self, application: &mut A) -> Result<(), ScreenError>
         ensures served { GoesOn self.old self.new }
     {
-        let flooding = self.listen_all(application)?;
+        let flooding = self.listen_in_turn(application)?;
         self.list_watching()?;
         self.send_all();
         self.list_busy(flooding)?;
@@ -370,9 +402,47 @@ impl<T: Transport> Connections<T> {
         None
     }
 
-    /// Hears a piece of each on the agenda that may have one; of those that flood, of the first alone, whose key is answered.
+    /// Hears a piece of each on the agenda that may have one, and of those that flood of one, in one turn of eight where others have
+    /// something to do. The key of the latter.
+    fn listen_in_turn<A: Application>(
+        &mut self,
+        application: &mut A,
+    ) -> Result<Option<usize>, ScreenError>
+        ensures served { GoesOn self.old self.new }
+    {
+        let hears_flood = self.since_flood >= TURNS - 1 || self.all_flood();
+        let flooding = self.listen_all(hears_flood, application)?;
+        self.count_turn(flooding.is_some());
+        Ok(flooding)
+    }
+
+    /// Whether all on the agenda flood.
+    fn all_flood(&self) -> bool {
+        for place in 0..self.agenda.len() {
+            if let Some(key) = self.listed(place)
+                && !self.is_flooding(key)
+            {
+                return false;
+            }
+        }
+        true
+    }
+
+    /// A turn was taken in which a viewer that floods was heard, or not.
+    fn count_turn(&mut self, heard_flood: bool)
+        ensures { self.new ≡ self.old }
+    {
+        self.since_flood = if heard_flood {
+            0
+        } else {
+            self.since_flood.saturating_add(1)
+        };
+    }
+
+    /// Hears a piece of each on the agenda that may have one; of those that flood, of the first alone, whose key is answered, or of none.
     fn listen_all<A: Application>(
         &mut self,
+        hears_flood: bool,
         application: &mut A,
     ) -> Result<Option<usize>, ScreenError>
         ensures served { GoesOn self.old self.new }
@@ -383,7 +453,7 @@ impl<T: Transport> Connections<T> {
                 return Ok(flooding);
             };
             if self.is_flooding(key) {
-                if flooding.is_some() {
+                if flooding.is_some() || !hears_flood {
                     continue;
                 }
                 flooding = Some(key);

@@ -1,3 +1,5 @@
 pub mod CommandLine
 pub mod Watching
 pub mod Screens
+pub mod Application
+pub mod Endings

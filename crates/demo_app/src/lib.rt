@@ -7,6 +7,7 @@
 #![tactic(auto)]
 
 mod command_line;
+mod endings;
 mod one_thread;
 mod own;
 mod own_one_thread;

@@ -1,12 +1,16 @@
 //! `serve --one-thread`: the same screen, served by an event loop.
 
-ghost use Rattle.std.specs.Prelude.{◌≡◌, ◌⊎◌, None, IfOk};
+ghost use Rattle.std.specs.Prelude.{◌≡◌, ◌⊎◌, ◌++◌, ◌∷◌, [], List, None, IfOk, OnOk, option_map};
+ghost use Rattle.std.specs.Option.{option_to_list};
+ghost use Rattle.scene.specs.declared.Config.{Config};
+ghost use Rattle.scene.specs.declared.Event.{Event};
+ghost use Rattle.screen.specs.State.{state};
+ghost use Rattle.demo_app.specs.Application.{event_for, kept_in, stroke_event};
 ghost use Rattle.scene.specs.Alone.{config_refusal};
 ghost use Rattle.connections.specs.Drawing.{Draws};
 
-use crate::serve::{
-    Easel, ServeOptions, Stroke, WHITE, config_of, print_ends, print_judgement, print_refusal,
-};
+use crate::endings::{print_ends, print_judgement};
+use crate::serve::{Easel, ServeOptions, Stroke, WHITE, config_of, print_refusal};
 use event_loop::{Application, Canvas, EventLoop, Limits, LoopError, WhenFull};
 use messages::Input;
 use mio::net::TcpListener;
@@ -32,7 +36,9 @@ struct Showing {
 }
 
 /// The drawing call that a stroke is.
-fn event_of(alloc: Global, stroke: Stroke<'_>) -> Result<Event, AllocError> {
+fn event_of(alloc: Global, stroke: Stroke<'_>) -> Result<Event, AllocError>
+    ensures { IfOk result (λ event. event ≡ stroke_event stroke.entry) }
+{
     Ok(match stroke {
         Stroke::Place(rect) => Event::Paint {
             rect,
@@ -47,6 +53,8 @@ fn event_of(alloc: Global, stroke: Stroke<'_>) -> Result<Event, AllocError> {
 
 /// Draws a stroke.
 fn draw(canvas: &mut Canvas, stroke: Stroke<'_>) -> Result<(), ScreenError>
+    ensures step { (config : Config) (list : List Event) → canvas.old.screen ≡ state config list →
+        OnOk result (canvas.new.screen ≡ state config (list ++ stroke_event stroke.entry ∷ [])) }
     ensures draws { Draws canvas.old canvas.new }
 {
     match stroke {
@@ -58,7 +66,9 @@ fn draw(canvas: &mut Canvas, stroke: Stroke<'_>) -> Result<(), ScreenError>
 
 impl Showing {
     /// A stroke is kept, where what is drawn is.
-    fn keep(&mut self, stroke: Stroke<'_>) -> Result<(), AllocError> {
+    fn keep(&mut self, stroke: Stroke<'_>) -> Result<(), AllocError>
+        ensures { OnOk result (kept_in self.new.drawn ≡ option_map (λ events. events ++ stroke_event stroke.entry ∷ []) (kept_in self.old.drawn)) }
+    {
         if let Some(drawn) = &mut self.drawn {
             drawn.push(event_of(self.alloc, stroke)?)?;
         }
@@ -67,12 +77,14 @@ impl Showing {
 }
 
 impl Application for Showing {
-    fn told(
-        &mut self,
-        canvas: &mut Canvas,
-        _viewer: u64,
-        input: &Input,
-    ) -> Result<(), ScreenError> {
+    fn told(&mut self, canvas: &mut Canvas, _viewer: u64, input: &Input) -> Result<(), ScreenError>
+        ensures step { (config : Config) (list : List Event) → canvas.old.screen ≡ state config list →
+            OnOk result (canvas.new.screen ≡
+            state config (list ++ option_to_list (event_for self.old.easel.width self.old.easel.height input.now))) }
+        ensures kept { OnOk result (kept_in self.new.drawn ≡ option_map (λ events.
+            events ++ option_to_list (event_for self.old.easel.width self.old.easel.height input.now)) (kept_in self.old.drawn)) }
+        ensures draws { Draws canvas.old canvas.new }
+    {
         let Some(stroke) = self.easel.stroke(input) else {
             return Ok(());
         };

@@ -4,12 +4,12 @@ ghost use Rattle.std.specs.Prelude.{◌≡◌, ◌⊎◌, None, IfOk};
 ghost use Rattle.scene.specs.Alone.{config_refusal};
 ghost use Rattle.connections.specs.Drawing.{Draws};
 
+use crate::endings::print_judgement;
 use crate::one_thread::trouble_of;
 use crate::own::{
     COLOURS, Drawer, END, PLACES, TARGET, config, connect_all, join_all, network_trouble,
     print_shows, spawn_all, status_of,
 };
-use crate::serve::print_judgement;
 use crate::watching::shut_all;
 use event_loop::{Application, Canvas, EventLoop, Limits, WhenFull};
 use messages::Input;

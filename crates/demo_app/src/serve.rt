@@ -1,11 +1,14 @@
 //! `serve`: a screen over TCP, on which viewers paint places, ring bells and copy texts.
 
-ghost use Rattle.std.specs.Prelude.{◌≡◌, ◌<◌, ◌⊎◌, IfOk};
+ghost use Rattle.std.specs.Prelude.{◌≡◌, ◌<◌, ◌⊎◌, take, IfOk, OnOk, MatchOption, option_map};
+ghost use Rattle.update_sender.specs.Ends.{drew};
+ghost use Rattle.demo_app.specs.Application.{event_for, painted, stroke_event};
 ghost use Rattle.demo_app.specs.Screens.{config_by};
 
+use crate::endings::{print_ends, print_judgement};
 use messages::Input;
 use play_script::refusal_text;
-use receipts::{Ended, FinishError, Receipt, Report};
+use receipts::Receipt;
 use screen::{Config, History, Listed, Rect, ScreenError};
 use script_player::trouble::{Trouble, flush, print, report};
 use serving::{Application, ServeError, Told, serve_viewers};
@@ -62,12 +65,28 @@ pub(crate) enum Stroke<'a> {
 /// The colour of a place that is painted.
 pub(crate) const WHITE: u32 = 0xff_ffff;
 
+/// The first bytes of a text, as many as are sent back.
+fn first_of(text: &[u8]) -> &[u8]
+    ensures { result.now ≡ take 65536 text.now }
+{
+    if text.len() <= TEXT_LIMIT {
+        text
+    } else {
+        &text[..TEXT_LIMIT]
+    }
+}
+
 impl Easel {
-    /// The rectangle of one place, where that is on the screen.
-    fn place(&self, x: u16, y: u16) -> Option<Rect> {
-        let is_on_screen = u32::from(x) < self.width && u32::from(y) < self.height;
+    /// The rectangle of the place that a pointer paints, where its first button is down and it is on the screen.
+    fn painted(&self, mask: u8, x: u16, y: u16) -> Option<Rect>
+        ensures { result ≡ painted self.now.width self.now.height mask x y }
+    {
+        let is_painted = mask & 1 == 1 && u32::from(x) < self.width && u32::from(y) < self.height;
+        if !is_painted {
+            return None;
+        }
         let (x1, y1) = (i32::from(x), i32::from(y));
-        is_on_screen.then(|| Rect {
+        Some(Rect {
             x1,
             y1,
             x2: x1 + 1,
@@ -76,17 +95,17 @@ impl Easel {
     }
 
     /// What an input has it draw, if anything.
-    pub fn stroke<'a>(&self, input: &'a Input) -> Option<Stroke<'a>> {
+    pub fn stroke<'a>(&self, input: &'a Input) -> Option<Stroke<'a>>
+        ensures { option_map stroke_event result ≡ event_for self.now.width self.now.height input.now }
+    {
         match input {
-            Input::Pointer { mask, x, y } if mask & 1 == 1 => {
-                Some(Stroke::Place(self.place(*x, *y)?))
+            Input::Pointer { mask, x, y } => {
+                let rect = self.painted(*mask, *x, *y)?;
+                Some(Stroke::Place(rect))
             }
             Input::Key { down: true, .. } => Some(Stroke::Bell),
-            Input::Text { text, .. } => {
-                let text = text.as_slice();
-                Some(Stroke::Text(text.get(..TEXT_LIMIT).unwrap_or(text)))
-            }
-            _ => None,
+            Input::Key { down: false, .. } => None,
+            Input::Text { text, .. } => Some(Stroke::Text(first_of(text.as_slice()))),
         }
     }
 }
@@ -98,7 +117,10 @@ impl<L: Ledger> Application<L> for Easel {
         shared: &Shared<L>,
         brush: &mut Brush<L>,
         told: &Told,
-    ) -> Result<(), ScreenError> {
+    ) -> Result<(), ScreenError>
+        ensures drawn { MatchOption (event_for self.old.width self.old.height told.now.input) (brush.new ≡ brush.old)
+            (λ e. OnOk result (brush.new ≡ drew e brush.old)) }
+    {
         match self.stroke(&told.input) {
             Some(Stroke::Place(rect)) => brush.paint(shared, rt, rect, &[WHITE]),
             Some(Stroke::Bell) => brush.bell(shared, rt),
@@ -117,45 +139,6 @@ pub(crate) fn trouble_of(error: ServeError) -> Trouble {
     }
 }
 
-/// The name of how a viewer ended.
-fn name_of(ended: Ended) -> &'static str {
-    match ended {
-        Ended::EndOfInput => "EndOfInput",
-        Ended::Fault(_) => "Fault",
-        Ended::ReadFailed => "ReadFailed",
-        Ended::WriteFailed => "WriteFailed",
-        Ended::Memory => "Memory",
-        Ended::Gate => "Gate",
-        Ended::Closed => "Closed",
-        Ended::Stopped => "Stopped",
-    }
-}
-
-/// The code of an error of `finish`.
-fn code_of(error: FinishError) -> u8 {
-    match error {
-        FinishError::NotKept => 1,
-        FinishError::Drawing { .. } => 2,
-        FinishError::Missing { .. } => 3,
-        FinishError::Count { .. } => 4,
-        FinishError::Bytes { .. } => 5,
-        FinishError::OutOfMemory => 6,
-    }
-}
-
-/// Prints a line for each viewer.
-pub(crate) fn print_ends<W: Write>(
-    alloc: Global,
-    writer: &mut W,
-    receipts: &[Receipt],
-) -> Result<(), Trouble> {
-    for receipt in receipts {
-        let line = format!(in alloc; "viewer {} {}\n", receipt.viewer, name_of(receipt.ended))?;
-        print(writer, line.as_bytes())?;
-    }
-    Ok(())
-}
-
 /// Judges the run, and prints what comes of it. The status.
 pub(crate) fn print_verdict<L: Ledger, W: Write>(
     alloc: Global,
@@ -167,27 +150,6 @@ pub(crate) fn print_verdict<L: Ledger, W: Write>(
     ensures { IfOk result (λ status. (status ≡ 0) ⊎ (status ≡ 4)) }
 {
     print_judgement(alloc, writer, finish(shared, brush, receipts))
-}
-
-/// Prints a judgement. The status.
-pub(crate) fn print_judgement<W: Write>(
-    alloc: Global,
-    writer: &mut W,
-    judgement: Result<Report, FinishError>,
-) -> Result<u8, Trouble>
-    ensures { IfOk result (λ status. (status ≡ 0) ⊎ (status ≡ 4)) }
-{
-    match judgement {
-        Ok(_) => {
-            print(writer, b"finish ok\n")?;
-            Ok(0)
-        }
-        Err(error) => {
-            let line = format!(in alloc; "finish {} {error}\n", code_of(error))?;
-            print(writer, line.as_bytes())?;
-            Ok(4)
-        }
-    }
 }
 
 /// The screen that the options say.

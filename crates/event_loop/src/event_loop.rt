@@ -2,9 +2,11 @@
 
 ghost use Rattle.std.specs.Prelude.{◌≡◌, [], None, IfOk, OnOk, is_some, count_by};
 ghost use Rattle.std.specs.Borrow.{sem};
+ghost use Rattle.std.specs.Duration.{as_nanos};
 ghost use Rattle.scene.specs.declared.Config.{Config};
 ghost use Rattle.scene.specs.Alone.{config_refusal};
 ghost use Rattle.connections.specs.Serving.{Serves};
+ghost use Rattle.event_loop.specs.declared.event_loop.WhenFull.TheVariants as when_full;
 ghost use Rattle.event_loop.specs.Lending.{lends_canvas};
 ghost use Rattle.event_loop.specs.Sockets.{sockets, GoesOnServing};
 
@@ -27,6 +29,9 @@ const ACCEPTED: u32 = 32;
 
 /// After how many milliseconds the listener is asked again where the system had no room for a connection.
 const RETRY: u64 = 100;
+
+/// How many milliseconds a turn waits for something else where only viewers that flood can be heard.
+const FLOOD_PAUSE: u64 = 1;
 
 /// Why a loop ended.
 #[derive(Clone, Copy, Debug, PartialEq, Eq)]
@@ -75,7 +80,12 @@ pub struct Limits {
 
 impl Limits {
     /// 1,024 viewers at once, a further one waits, and without end; 10 seconds for an opening.
-    pub fn usual() -> Limits {
+    pub fn usual() -> Limits
+        ensures live { result.live_viewers ≡ 1024 }
+        ensures full { result.when_full ≡ when_full.Wait }
+        ensures all { result.all_viewers ≡ u64.MAX }
+        ensures time { as_nanos result.opening_time ≡ 10_000_000_000 }
+    {
         Limits {
             live_viewers: 1024,
             when_full: WhenFull::Wait,
@@ -274,13 +284,25 @@ impl EventLoop {
 
     /// How long a turn may wait.
     fn wait_for(&self, now: Instant, timeout: Option<Duration>) -> Option<Duration> {
-        if !self.has_ticked || self.accepts() || self.connections.is_busy() {
+        if !self.has_ticked || self.accepts() {
             return Some(Duration::ZERO);
         }
         let until = |then: Instant| then.duration_since(now);
         let mut wait = shorter(timeout, self.newcomers.next_after(now));
         wait = shorter(wait, self.next_tick.map(until));
-        shorter(wait, self.retry.map(until))
+        wait = shorter(wait, self.retry.map(until));
+        shorter(wait, self.pause())
+    }
+
+    /// How long a turn may wait at most for what can be done at once: a little where that is to hear floods alone.
+    fn pause(&self) -> Option<Duration> {
+        if !self.connections.is_busy() {
+            return None;
+        }
+        if self.connections.only_floods() {
+            return Some(Duration::from_millis(FLOOD_PAUSE));
+        }
+        Some(Duration::ZERO)
     }
 
     /// Waits until something is ready, the application's time comes, or the time is up, and notes what was found. The time that it is.

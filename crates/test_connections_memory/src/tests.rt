@@ -303,7 +303,7 @@ fn told_in_turns(
     Ok(counting.told)
 }
 
-/// Of three viewers that flood, one is heard in a turn once it is known that they do, each in its turn; and a fourth one in each.
+/// Of three viewers that flood, one is heard in eight turns once it is known that they do, each in its turn; and a fourth one in each.
 fn are_heard_in_turn<'a>(
     alloc: Global,
     connections: &mut Connections<Line<'a>>,
@@ -314,10 +314,10 @@ fn are_heard_in_turn<'a>(
     }
     let calm = admit(connections, saying(alloc, flood).in_pieces(20, Then::Ends))?;
     told_in_turns(connections, calm, 1)?;
-    // two pieces of 128 bytes for each that floods, and six of 20 for the other
-    let [first, second, third, fourth] = told_in_turns(connections, calm, 6)?;
+    // two pieces of 128 bytes for each that floods, and 48 of 20 for the other
+    let [first, second, third, fourth] = told_in_turns(connections, calm, 48)?;
     let is_fair = |count: u64| (42..=43).contains(&count);
-    Ok(is_fair(first) && is_fair(second) && is_fair(third) && fourth == 20)
+    Ok(is_fair(first) && is_fair(second) && is_fair(third) && fourth == 160)
 }
 
 fn floods_are_heard_in_turn(alloc: Global) -> Result<bool, ScreenError> {

@@ -8,4 +8,4 @@ widened (Ok s) (inr h) = inr (inr h)
 widened (Err e) h = tt
 
 pub returns-then-options : goal.returns-then-options
-returns-then-options g c = widened c.print_judgement.result c.print_judgement.ensures
+returns-then-options g c = widened c.print_judgement.result c.print_judgement.ensures.either

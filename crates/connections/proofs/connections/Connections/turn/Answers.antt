@@ -2,14 +2,14 @@ use Rattle.connections.proofs.Everyone.{goes-then, goes-listed}
 use Rattle.connections.proofs.connections.Connections.turn.Goals as goal
 
 pub returns-in_err-list_watching : goal.returns-in_err-list_watching
-returns-in_err-list_watching g c = record { served = goes-then _ _ _ c.listen_all.ensures.served c.list_watching.ensures.served }
+returns-in_err-list_watching g c = record { served = goes-then _ _ _ c.listen_in_turn.ensures.served c.list_watching.ensures.served }
 
 pub returns-in_err-list_busy : goal.returns-in_err-list_busy
 returns-in_err-list_busy g c = record {
-  served = goes-then _ _ _ (goes-then _ _ _ (goes-then _ _ _ c.listen_all.ensures.served c.list_watching.ensures.served) c.send_all.ensures.served) (goes-listed _ _ c.list_busy.ensures.same);
+  served = goes-then _ _ _ (goes-then _ _ _ (goes-then _ _ _ c.listen_in_turn.ensures.served c.list_watching.ensures.served) c.send_all.ensures.served) (goes-listed _ _ c.list_busy.ensures.same);
 }
 
 pub returns : goal.returns
 returns g c = record {
-  served = goes-then _ _ _ (goes-then _ _ _ (goes-then _ _ _ c.listen_all.ensures.served c.list_watching.ensures.served) c.send_all.ensures.served) (goes-listed _ _ c.list_busy.ensures.same);
+  served = goes-then _ _ _ (goes-then _ _ _ (goes-then _ _ _ c.listen_in_turn.ensures.served c.list_watching.ensures.served) c.send_all.ensures.served) (goes-listed _ _ c.list_busy.ensures.same);
 }
