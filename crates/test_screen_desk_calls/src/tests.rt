@@ -1,0 +1,235 @@
+//! Each call once, with what RFC 6143 has for it.
+
+use screen_desk::{Corners, Desk, OFF_SCREEN, OUT_OF_RANGE, OUTPUT_WAITS, SHUT, Told};
+use std::alloc::Global;
+use std::test::Fail;
+
+/// The opening of a viewer of version 3.8 that takes the security type None and shares (7.1.1, 7.1.2, 7.3.1).
+const OPENING: &[u8] = b"RFB 003.008\n\x01\x01";
+
+/// A request for all of a screen of 2 by 1 (7.5.3).
+const REQUEST: &[u8] = b"\x03\x00\x00\x00\x00\x00\x00\x02\x00\x01";
+
+const NOTHING_TOLD: Told = Told {
+    viewer: 0,
+    kind: 0,
+    down: 0,
+    key: 0,
+    buttons: 0,
+    x: 0,
+    y: 0,
+    length: 0,
+    shortened: 0,
+};
+
+const ALL: Corners = Corners {
+    x1: 0,
+    y1: 0,
+    x2: 2,
+    y2: 1,
+};
+
+/// A screen of 2 by 1 named "demo".
+fn opened(alloc: Global) -> Desk {
+    let mut desk = Desk::new(alloc);
+    let _code = desk.open(2, 1, b"demo", 50);
+    desk
+}
+
+/// The same with a viewer 7 whose opening is over, and who was sent what it was answered.
+fn with_viewer(alloc: Global) -> Desk {
+    let mut desk = opened(alloc);
+    let _code = desk.connect(7);
+    let _count = desk.output(7, &mut [0; 64]);
+    let _code = desk.hear(7, OPENING);
+    let _count = desk.output(7, &mut [0; 64]);
+    desk
+}
+
+#[test]
+fn a_viewer_is_answered(rt: HostRuntime) -> Result<(), Fail> {
+    let mut desk = opened(rt.alloc());
+    let mut version = [0; 12];
+    let mut answer = [0; 34];
+    assert_eq!(rt; desk.connect(7), 0);
+    // 7.1.1
+    assert_eq!(rt; desk.output(7, &mut version), 12);
+    assert_eq!(rt; &version, b"RFB 003.008\n");
+    assert_eq!(rt; desk.hear(7, OPENING), 0);
+    // 7.1.2, 7.1.3 and 7.3.2
+    assert_eq!(rt; desk.output(7, &mut answer), 34);
+    let init =
+        b"\x01\x01\x00\x00\x00\x00\x00\x02\x00\x01\x20\x18\x00\x01\x00\xff\x00\xff\x00\xff\x10\x08\x00\x00\x00\x00\x00\x00\x00\x04demo";
+    assert_eq!(rt; &answer, init);
+    assert_eq!(rt; desk.is_open(7), 1);
+    Ok(())
+}
+
+#[test]
+fn an_update_is_fetched_in_pieces(rt: HostRuntime) -> Result<(), Fail> {
+    let mut desk = with_viewer(rt.alloc());
+    let mut first = [0; 4];
+    let mut second = [0; 12];
+    let mut third = [0; 8];
+    assert_eq!(rt; desk.paint(0, 0, 1, 1, &[0xff_0000]), 0);
+    assert_eq!(rt; desk.hear(7, REQUEST), 0);
+    assert_eq!(rt; desk.cut(7), 1);
+    assert_eq!(rt; desk.cut(7), OUTPUT_WAITS);
+    // 7.6.1: the head, of which 4 bytes are taken first, and then the colours
+    assert_eq!(rt; desk.output(7, &mut first), 4);
+    assert_eq!(rt; desk.output(7, &mut second), 12);
+    assert_eq!(rt; desk.output(7, &mut third), 8);
+    assert_eq!(rt; &first, b"\x00\x00\x00\x01");
+    assert_eq!(rt;
+        &second,
+        b"\x00\x00\x00\x00\x00\x02\x00\x01\x00\x00\x00\x00"
+    );
+    assert_eq!(rt; &third, b"\x00\x00\xff\x00\x00\x00\x00\x00");
+    assert_eq!(rt; desk.cut(7), 0);
+    Ok(())
+}
+
+#[test]
+fn an_update_is_pending_once_it_is_asked_for(rt: HostRuntime) -> Result<(), Fail> {
+    let mut desk = with_viewer(rt.alloc());
+    assert_eq!(rt; desk.is_pending(7), 0);
+    assert_eq!(rt; desk.hear(7, REQUEST), 0);
+    assert_eq!(rt; desk.is_pending(7), 1);
+    assert_eq!(rt; desk.close(7), 0);
+    assert_eq!(rt; desk.close(7), -7);
+    Ok(())
+}
+
+#[test]
+fn inputs_are_fetched_up_to_a_text(rt: HostRuntime) -> Result<(), Fail> {
+    let mut desk = with_viewer(rt.alloc());
+    let mut room = [NOTHING_TOLD; 4];
+    let mut text = [0; 8];
+    // 7.5.4: a goes down. 7.5.5: the buttons 1 and 3, at (3, 4). 7.5.6
+    assert_eq!(rt;
+        desk.hear(
+            7,
+            b"\x04\x01\x00\x00\x00\x00\x00\x61\x05\x05\x00\x03\x00\x04"
+        ),
+        0
+    );
+    assert_eq!(rt;
+        desk.hear(
+            7,
+            b"\x06\x00\x00\x00\x00\x00\x00\x03yes\x05\x00\x00\x00\x00\x00"
+        ),
+        0
+    );
+    assert_eq!(rt; desk.inputs(&mut room), 3);
+    assert_eq!(rt;
+        room[0],
+        Told {
+            viewer: 7,
+            kind: 1,
+            down: 1,
+            key: 0x61,
+            ..NOTHING_TOLD
+        }
+    );
+    assert_eq!(rt;
+        room[1],
+        Told {
+            viewer: 7,
+            kind: 2,
+            buttons: 5,
+            x: 3,
+            y: 4,
+            ..NOTHING_TOLD
+        }
+    );
+    assert_eq!(rt;
+        room[2],
+        Told {
+            viewer: 7,
+            kind: 3,
+            length: 3,
+            ..NOTHING_TOLD
+        }
+    );
+    assert_eq!(rt; desk.text(&mut text), 3);
+    assert_eq!(rt; &text[..3], b"yes".as_slice());
+    assert_eq!(rt; desk.inputs(&mut room), 1);
+    Ok(())
+}
+
+#[test]
+fn a_fault_has_the_messages_type(rt: HostRuntime) -> Result<(), Fail> {
+    let mut desk = with_viewer(rt.alloc());
+    assert_eq!(rt; desk.fault(7), 0);
+    assert_eq!(rt; desk.hear(7, b"\xff"), 511);
+    assert_eq!(rt; desk.fault(7), 511);
+    assert_eq!(rt; desk.is_open(7), 0);
+    assert_eq!(rt; desk.fault(8), -7);
+    Ok(())
+}
+
+#[test]
+fn a_screen_is_opened_or_refused(rt: HostRuntime) -> Result<(), Fail> {
+    let mut desk = Desk::new(rt.alloc());
+    assert_eq!(rt; desk.open(8192, 2049, b"", 1), -1);
+    assert_eq!(rt; desk.open(2, 1, &[0x61; 256], 1), -2);
+    assert_eq!(rt; desk.open(2, 1, b"", 1001), -3);
+    assert_eq!(rt; desk.bell(), SHUT);
+    assert_eq!(rt; desk.open(2, 1, b"", 1), 0);
+    assert_eq!(rt; desk.bell(), 0);
+    assert_eq!(rt; desk.shut(), 0);
+    assert_eq!(rt; desk.width(), i64::from(SHUT));
+    Ok(())
+}
+
+#[test]
+fn places_are_painted(rt: HostRuntime) -> Result<(), Fail> {
+    let mut desk = opened(rt.alloc());
+    assert_eq!(rt; desk.write_pixels(0, 0, 2, 1, &[1, 2]), 0);
+    assert_eq!(rt; desk.colour(1, 0), 2);
+    assert_eq!(rt; desk.paint(0, 0, 3, 1, &[1, 2, 3]), -4);
+    assert_eq!(rt; desk.paint(0, 0, 2, 1, &[1]), -5);
+    assert_eq!(rt; desk.do_copy_rect(1, 0, 2, 1, 1, 0), 0);
+    assert_eq!(rt; desk.colour(1, 0), 1);
+    assert_eq!(rt; desk.colour(2, 0), i64::from(OFF_SCREEN));
+    Ok(())
+}
+
+#[test]
+fn regions_are_lists_of_rectangles(rt: HostRuntime) -> Result<(), Fail> {
+    let mut desk = opened(rt.alloc());
+    let far = Corners { x2: 1 << 21, ..ALL };
+    assert_eq!(rt; desk.mark_region(&[ALL]), 0);
+    assert_eq!(rt; desk.mark_region(&[ALL, far]), OUT_OF_RANGE);
+    assert_eq!(rt; desk.schedule_copy_region(&[ALL], 1, 0), 0);
+    assert_eq!(rt; desk.do_copy_region(&[ALL], 0, 1), 0);
+    Ok(())
+}
+
+#[test]
+fn other_drawing_is_done(rt: HostRuntime) -> Result<(), Fail> {
+    let mut desk = opened(rt.alloc());
+    assert_eq!(rt; desk.mark_rect(2, 1, 0, 0), 0);
+    assert_eq!(rt; desk.schedule_copy_rect(1, 0, 2, 1, 1, 0), 0);
+    assert_eq!(rt; desk.cut_text(b"hi"), 0);
+    assert_eq!(rt; desk.new_framebuffer(3, 0), -1);
+    assert_eq!(rt; desk.new_framebuffer(3, 2), 0);
+    assert_eq!(rt; desk.width(), 3);
+    assert_eq!(rt; desk.height(), 2);
+    Ok(())
+}
+
+#[test]
+fn viewers_have_numbers(rt: HostRuntime) -> Result<(), Fail> {
+    let mut desk = opened(rt.alloc());
+    let mut numbers = [0; 4];
+    assert_eq!(rt; desk.connect(9), 0);
+    assert_eq!(rt; desk.connect(9), -8);
+    assert_eq!(rt; desk.connect(4), 0);
+    assert_eq!(rt; desk.viewer_count(), 2);
+    assert_eq!(rt; desk.is_live(4), 1);
+    assert_eq!(rt; desk.is_live(5), 0);
+    assert_eq!(rt; desk.numbers(&mut numbers), 2);
+    assert_eq!(rt; numbers, [9, 4, 0, 0]);
+    Ok(())
+}
