@@ -1,7 +1,7 @@
 #!/usr/bin/env python3
 """Writes the proofs of the doors: walks.py CRATE-FOLDER
 
-A door is an exported function of src/doors.rt that takes a pointer to a desk and hands what else it is given to one method of
+A door is an exported function of src/lib.rt that takes a pointer to a desk and hands what else it is given to one method of
 `Desk`. Its proof lends the desk at the pointer to the method for the call, and takes it back. It depends on the parameters' types
 alone, so it is made here, from the door's own signature: proofs/DOOR/Proof.antt. A door whose parameters are of another kind than
 those below is refused."""
