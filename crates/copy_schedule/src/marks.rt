@@ -160,9 +160,8 @@ impl Marks {
         Ok(prepared)
     }
 
-    /// The marks as drawing leaves them that stands in a log, the first entry's first. Each entry makes new regions, so a long
-    /// log is first made shorter by `joined_log`. `AllocError` where memory is refused.
-    pub fn apply_log(
+    /// The marks as `apply_log` would leave them. `AllocError` where memory is refused.
+    pub fn prepare_log(
         &self,
         entries: &[LogEntry],
         uses_copyrect: bool,
@@ -246,6 +245,22 @@ impl Marks {
         ensures err { OnErr result (self.new ≡ self.old) }
     {
         let prepared = self.prepare_copy(region, dx, dy, uses_copyrect)?;
+        self.commit(prepared);
+        Ok(())
+    }
+
+    /// The drawing of a log, the first entry's first: each `Mark` by `mark`, each `Copy` by `copy`. Each entry makes new regions,
+    /// so a long log is first made shorter by `joined_log`. After an `AllocError` the marks are as they were.
+    pub fn apply_log(
+        &mut self,
+        entries: &[LogEntry],
+        uses_copyrect: bool,
+    ) -> Result<(), AllocError>
+        requires cut { All (IsCutEntry self.old.width self.old.height) entries.now }
+        ensures ok { OnOk result (self.new ≡ logged uses_copyrect entries.now self.old) }
+        ensures err { OnErr result (self.new ≡ self.old) }
+    {
+        let prepared = self.prepare_log(entries, uses_copyrect)?;
         self.commit(prepared);
         Ok(())
     }

@@ -111,6 +111,18 @@ impl Framebuffer {
         }
     }
 
+    /// The colours of row y from the left, of which none is copied, or None off the picture.
+    pub fn row(&self, y: u32) -> Option<&[u32]>
+        ensures inside { IsSome result ↔ (y < self.now.height) }
+        ensures colours { IfSome result (λ row. row.now ≡ take self.now.width (drop (y * self.now.width) self.now.colours)) }
+    {
+        if y < self.height {
+            Some(colours_of(&self.rows[y as usize]))
+        } else {
+            None
+        }
+    }
+
     /// The colours of a block of the picture, row by row. It may have no places.
     pub fn read(&self, block: Block) -> Result<Vec<u32>, AllocError>
         requires wide { block.left + block.columns ≤ self.now.width }

@@ -3,7 +3,7 @@
 //! changes.
 
 ghost use Rattle.std.specs.Prelude.{◌≡◌, ◌≢◌, ◌++◌, ◌∷◌, [], List, IfSome, IfOk, OnOk, OnErr, MatchOption, MatchResult, IsOk};
-ghost use Rattle.std.specs.Prelude.{IsOkUnless, IsSome, None, length, slice_index, is_some, option_map, ◌↔◌, ◌<◌, ◌≤◌, ◌+◌, ◌*◌};
+ghost use Rattle.std.specs.Prelude.{IsOkUnless, IsSome, None, length, take, drop, slice_index, is_some, option_map, ◌↔◌, ◌<◌, ◌≤◌, ◌+◌, ◌*◌};
 ghost use Rattle.std.specs.Map.{keys_of};
 ghost use Rattle.messages.specs.Reading.{fault_in_rest, is_open_rest};
 ghost use Rattle.messages.specs.Server.{server_version};
@@ -87,6 +87,15 @@ impl Screen {
         ensures colour { IfSome result (λ colour. colour ≡ slice_index self.now.picture.colours (y * self.now.picture.width + x)) }
     {
         self.scene.colour(x, y)
+    }
+
+    /// The colours `0x00RRGGBB` of the places of row y, from the left, of which none is copied; None off the screen.
+    pub fn row(&self, y: u32) -> Option<&[u32]>
+        ensures inside { IsSome result ↔ (y < self.now.picture.height) }
+        ensures colours { IfSome result (λ row. row.now ≡
+            take self.now.picture.width (drop (y * self.now.picture.width) self.now.picture.colours)) }
+    {
+        self.scene.row(y)
     }
 
     /// How many viewers are live: connected, and not closed. A viewer that met a fault is live until it is closed.

@@ -81,11 +81,11 @@ fn marks_after(
         return Ok(None);
     }
     if log.len() == 1 {
-        let prepared = standing.marks.apply_log(log, standing.uses_copyrect)?;
+        let prepared = standing.marks.prepare_log(log, standing.uses_copyrect)?;
         return Ok(Some(prepared.into_marks()));
     }
     let joined = joined_log(alloc, log, standing.uses_copyrect)?;
-    let prepared = standing.marks.apply_log(&joined, standing.uses_copyrect)?;
+    let prepared = standing.marks.prepare_log(&joined, standing.uses_copyrect)?;
     Ok(Some(prepared.into_marks()))
 }
 

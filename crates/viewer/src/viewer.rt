@@ -187,12 +187,12 @@ impl Viewer {
     /// The marks as they are once the drawing is known that stands in a log, the first entry's first; `commit` puts them in
     /// place. Each entry makes new regions, so a long log is first made shorter by `joined_log`. `AllocError` where memory is
     /// refused.
-    pub fn apply_log(&self, entries: &[LogEntry]) -> Result<Prepared, AllocError>
+    pub fn prepare_log(&self, entries: &[LogEntry]) -> Result<Prepared, AllocError>
         requires cut { All (IsCutEntry self.now.marks.width self.now.marks.height) entries.now }
         ensures { IfOk result (λ prepared. prepared ≡ logged self.now.uses_copyrect entries.now self.now.marks) }
     {
         let standing = &self.standing;
-        standing.marks.apply_log(entries, standing.uses_copyrect)
+        standing.marks.prepare_log(entries, standing.uses_copyrect)
     }
 
     /// The marks as they are once the screen has another size, 1 to 8192 columns and rows: every place is owed, and of the places

@@ -82,7 +82,7 @@ fn take(log: &[LogEntry], shared: &Shared, lagging: &mut Lagging) -> Result<(), 
         record { viewer = viewer_told shared.now.entries.items lagging.old.viewer; taken = length log.now }) }
     ensures err { OnErr result (lagging.new ≡ lagging.old) }
 {
-    let prepared = lagging.viewer.apply_log(&shared.entries)?;
+    let prepared = lagging.viewer.prepare_log(&shared.entries)?;
     lagging.viewer.commit(prepared);
     lagging.taken = log.len();
     Ok(())
@@ -128,7 +128,7 @@ fn take_lacked(log: &[LogEntry], lagging: &mut Lagging) -> Result<(), AllocError
     ensures ok { OnOk result (lagging.new ≡ up_to_date log.now lagging.old) }
     ensures err { OnErr result (lagging.new ≡ lagging.old) }
 {
-    let prepared = lagging.viewer.apply_log(lacked(log, lagging))?;
+    let prepared = lagging.viewer.prepare_log(lacked(log, lagging))?;
     lagging.viewer.commit(prepared);
     lagging.taken = log.len();
     Ok(())

@@ -29,8 +29,8 @@ fn marks_all(marks: &Marks, alloc: Global, log: &[LogEntry]) -> Result<bool, All
     requires cut { All (IsCutEntry marks.now.width marks.now.height) log.now }
 {
     let joined = joined_log(alloc, log, true)?;
-    let by_log = marks.apply_log(log, true)?.into_marks();
-    let by_joined = marks.apply_log(&joined, true)?.into_marks();
+    let by_log = marks.prepare_log(log, true)?.into_marks();
+    let by_joined = marks.prepare_log(&joined, true)?.into_marks();
     let all = [Rect {
         x1: 0,
         y1: 0,

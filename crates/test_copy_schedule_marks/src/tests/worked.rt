@@ -85,9 +85,7 @@ fn mark_in_two(marks: &mut Marks, alloc: Global, rects: &[Rect]) -> Result<bool,
 
 fn mark_by_log(marks: &mut Marks, alloc: Global, rects: &[Rect]) -> Result<(), AllocError> {
     let log = [LogEntry::Mark(region_of(alloc, rects)?)];
-    let prepared = marks.apply_log(&log, true)?;
-    marks.commit(prepared);
-    Ok(())
+    marks.apply_log(&log, true)
 }
 
 /// Whether no copy is pending before `commit`.

@@ -3,8 +3,8 @@ use Rattle.std.specs.List.{All}
 use Rattle.copy_schedule.specs.Log.{IsCutEntry}
 use Rattle.viewer.proofs.hearing.marks_after.Goals as goal
 
-pub apply_log-requires-2 : goal.apply_log-requires-2
-apply_log-requires-2 c = record {
+pub prepare_log-requires-2 : goal.prepare_log-requires-2
+prepare_log-requires-2 c = record {
   cut = subst (All (IsCutEntry c.args.standing.now.marks.width c.args.standing.now.marks.height)) (sym c.deref.ensures.value)
       (c.in_ok-joined.ensures.cut c.args.standing.now.marks.width c.args.standing.now.marks.height c.requires.cut);
 }

@@ -2,8 +2,8 @@ use Rattle.std.proofs.Common.{sym, subst, All}
 use Rattle.copy_schedule.specs.Log.{IsCutEntry}
 use Rattle.test_copy_schedule_marks.proofs.tests.logs.marks_all.Goals as goal
 
-pub apply_log-requires-2 : goal.apply_log-requires-2
-apply_log-requires-2 c = record {
+pub prepare_log-requires-2 : goal.prepare_log-requires-2
+prepare_log-requires-2 c = record {
   cut =
       subst (All (IsCutEntry c.args.marks.now.width c.args.marks.now.height)) (sym c.deref.ensures.value)
       (c.in_ok-joined.ensures.cut c.args.marks.now.width c.args.marks.now.height c.requires.cut);
