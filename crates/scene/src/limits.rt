@@ -1,14 +1,15 @@
 //! The limits of a configuration, of a rectangle of colours, and of a text.
 
-ghost use Rattle.std.specs.Prelude.{◌≡◌, None, Some, MatchResult};
-ghost use Rattle.scene.specs.Alone.{is_size, config_refusal, is_span, pixels_refusal, size_refusal, text_refusal};
+ghost use Rattle.std.specs.Prelude.{◌≡◌, ◌*◌, ◌-ℤ◌, nat_abs, None, Some, MatchResult};
+ghost use Rattle.scene.specs.declared.History.{History};
+ghost use Rattle.scene.specs.Alone.{is_size, config_refusal, is_span, is_within, pixels_refusal, size_refusal, text_refusal};
 ghost use Rattle.scene.specs.Checked.{IsChecked};
 
 use crate::{Config, ScreenError};
 use framebuffer::{Block, Framebuffer, block_of};
 use region::{LONGEST_SIDE, Rect};
 
-/// Whether a screen may have so many columns and rows.
+/// Whether a screen may have so many columns and rows: 1 to 8192 each, with at most 2^24 places.
 fn is_size(width: u32, height: u32) -> bool
     ensures { result ≡ is_size width height }
 {
@@ -16,20 +17,46 @@ fn is_size(width: u32, height: u32) -> bool
     1 <= width && width <= longest && 1 <= height && height <= longest && width * height <= 1 << 24
 }
 
+/// Why a screen can't have so many columns and rows, if it can't: `BadSize` unless each is 1 to 8192, with at most 2^24 places.
+pub fn size_refusal(width: u32, height: u32) -> Option<ScreenError>
+    ensures { result ≡ size_refusal width height }
+{
+    if is_size(width, height) {
+        None
+    } else {
+        Some(ScreenError::BadSize)
+    }
+}
+
+/// Why no screen is made with so many columns and rows, a name, and so many rectangles an update, if none is: `BadSize`, then
+/// `BadName` above 255 bytes, then `BadRectLimit` unless there are 1 to 1000.
+pub fn config_refusal(
+    width: u32,
+    height: u32,
+    name: &[u8],
+    rects_per_update: u32,
+) -> Option<ScreenError>
+    ensures { (history : History) → result ≡ config_refusal (record {
+        width = width; height = height; name = name.now; rects_per_update = rects_per_update; history = history }) }
+{
+    if !is_size(width, height) {
+        return Some(ScreenError::BadSize);
+    }
+    if name.len() > 255 {
+        return Some(ScreenError::BadName);
+    }
+    if !(1 <= rects_per_update && rects_per_update <= 1000) {
+        return Some(ScreenError::BadRectLimit);
+    }
+    None
+}
+
 /// Why no screen is made of a configuration.
 pub fn refusal_of(config: &Config) -> Option<ScreenError>
     ensures { result ≡ config_refusal config.now }
 {
-    if !is_size(config.width, config.height) {
-        return Some(ScreenError::BadSize);
-    }
-    if config.name.as_slice().len() > 255 {
-        return Some(ScreenError::BadName);
-    }
-    if !(1 <= config.rects_per_update && config.rects_per_update <= 1000) {
-        return Some(ScreenError::BadRectLimit);
-    }
-    None
+    let name = config.name.as_slice();
+    config_refusal(config.width, config.height, name, config.rects_per_update)
 }
 
 /// Whether 0 <= from <= to <= limit.
@@ -39,40 +66,68 @@ fn is_span(from: i32, to: i32, limit: u32) -> bool
     0 <= from && from <= to && to as u32 <= limit
 }
 
+/// Whether a rectangle with its corners in order is on a screen of so many columns and rows.
+fn is_within(width: u32, height: u32, rect: Rect) -> bool
+    ensures { result ≡ is_within width height rect }
+{
+    is_span(rect.x1, rect.x2, width) && is_span(rect.y1, rect.y2, height)
+}
+
+/// How many places are between a rectangle's corners.
+fn places_of(rect: Rect) -> u64
+    ensures { result ≡ nat_abs (rect.x2 -ℤ rect.x1) * nat_abs (rect.y2 -ℤ rect.y1) }
+{
+    let columns = u64::from(rect.x2.abs_diff(rect.x1));
+    let rows = u64::from(rect.y2.abs_diff(rect.y1));
+    columns * rows
+}
+
+/// Why a rectangle's colours are not replaced by these on a screen of so many columns and rows, if they are not: `BadRect` unless its
+/// corners are in order and on the screen, then `BadPixelCount` unless there is a colour for each place.
+pub fn pixels_refusal(
+    width: u32,
+    height: u32,
+    rect: Rect,
+    colours: &[u32],
+) -> Option<ScreenError>
+    ensures { result ≡ pixels_refusal width height rect colours.now }
+{
+    if !is_within(width, height, rect) {
+        return Some(ScreenError::BadRect);
+    }
+    if colours.len() as u64 != places_of(rect) {
+        return Some(ScreenError::BadPixelCount);
+    }
+    None
+}
+
+/// Why a text is not sent, if it is not: `TextTooLong` above 65,536 bytes.
+pub fn text_refusal(text: &[u8]) -> Option<ScreenError>
+    ensures { result ≡ text_refusal text.now }
+{
+    if text.len() > 65_536 {
+        return Some(ScreenError::TextTooLong);
+    }
+    None
+}
+
+/// Nothing, or the refusal.
+pub fn unless_refused(refusal: Option<ScreenError>) -> Result<(), ScreenError>
+    ensures { MatchResult result (λ _. refusal ≡ None) (λ e. refusal ≡ Some e) }
+{
+    match refusal {
+        None => Ok(()),
+        Some(refusal) => Err(refusal),
+    }
+}
+
 /// The block of a rectangle of a screen whose colours may be replaced by these, or why they may not.
 pub fn checked(picture: &Framebuffer, rect: Rect, colours: &[u32]) -> Result<Block, ScreenError>
     ensures { MatchResult result (IsChecked picture.now.width picture.now.height rect colours.now)
         (λ e. pixels_refusal picture.now.width picture.now.height rect colours.now ≡ Some e) }
 {
-    if !(is_span(rect.x1, rect.x2, picture.width())
-        && is_span(rect.y1, rect.y2, picture.height()))
-    {
-        return Err(ScreenError::BadRect);
+    match pixels_refusal(picture.width(), picture.height(), rect, colours) {
+        None => Ok(block_of(rect)),
+        Some(refusal) => Err(refusal),
     }
-    let block = block_of(rect);
-    if colours.len() != block.columns * block.rows {
-        return Err(ScreenError::BadPixelCount);
-    }
-    Ok(block)
-}
-
-/// Nothing, or why a screen can't have so many columns and rows: `BadSize` unless each is 1 to 8192, with at most 2^24 places.
-pub fn checked_size(width: u32, height: u32) -> Result<(), ScreenError>
-    ensures { MatchResult result (λ _. size_refusal width height ≡ None) (λ e. size_refusal width height ≡ Some e) }
-{
-    if is_size(width, height) {
-        Ok(())
-    } else {
-        Err(ScreenError::BadSize)
-    }
-}
-
-/// Nothing, or why a text can't be sent: `TextTooLong` above 65,536 bytes.
-pub fn checked_text(text: &[u8]) -> Result<(), ScreenError>
-    ensures { MatchResult result (λ _. text_refusal text.now ≡ None) (λ e. text_refusal text.now ≡ Some e) }
-{
-    if text.len() > 1 << 16 {
-        return Err(ScreenError::TextTooLong);
-    }
-    Ok(())
 }

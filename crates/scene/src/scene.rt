@@ -16,7 +16,7 @@ ghost use Rattle.scene.specs.Refusals.{viewer_at, absence, presence, refusal, Re
 use crate::answers::{settled, with_bytes, with_nothing, with_reply};
 use crate::arriving::let_in;
 use crate::drawing::{moves_nothing, owe_rects, owe_region, region_of, region_of_rect, tell};
-use crate::limits::{checked, checked_size, checked_text, refusal_of};
+use crate::limits::{checked, refusal_of, size_refusal, text_refusal, unless_refused};
 use crate::{Answer, Config, Event, History, ScreenError};
 use framebuffer::{Framebuffer, destinations};
 use listed::Listed;
@@ -173,14 +173,14 @@ impl Scene {
     pub fn check_text(&self, text: &[u8]) -> Result<(), ScreenError>
         ensures { MatchResult result (λ _. text_refusal text.now ≡ None) (λ e. text_refusal text.now ≡ Some e) }
     {
-        checked_text(text)
+        unless_refused(text_refusal(text))
     }
 
     /// Nothing, or why the screen can't have so many columns and rows: `BadSize` unless each is 1 to 8192, with at most 2^24 places.
     pub fn check_size(&self, width: u32, height: u32) -> Result<(), ScreenError>
         ensures { MatchResult result (λ _. size_refusal width height ≡ None) (λ e. size_refusal width height ≡ Some e) }
     {
-        checked_size(width, height)
+        unless_refused(size_refusal(width, height))
     }
 
     /// Nothing, or why no viewer may connect with a number: `NumberInUse` where a live viewer has it.
@@ -367,7 +367,7 @@ impl Scene {
         ensures refused { Refuses result (refusal self.old (Event.CutText text.now)) }
         ensures err { OnErr result (self.new ≡ self.old) }
     {
-        checked_text(text)?;
+        unless_refused(text_refusal(text))?;
         self.viewers.text(text)?;
         Ok(())
     }
@@ -383,7 +383,7 @@ impl Scene {
         ensures refused { Refuses result (refusal self.old (Event.Resize width height)) }
         ensures err { OnErr result (self.new ≡ self.old) }
     {
-        checked_size(width, height)?;
+        unless_refused(size_refusal(width, height))?;
         let picture = Framebuffer::new(self.alloc, width, height)?;
         self.viewers.resize(width as u16, height as u16)?;
         self.picture = picture;

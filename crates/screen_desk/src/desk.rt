@@ -10,7 +10,7 @@ ghost use Rattle.std.specs.List.{list_any};
 ghost use Rattle.region.specs.Region.{covers, IsCanonical};
 ghost use Rattle.region.specs.RegionView.{in_range};
 ghost use Rattle.scene.specs.declared.Config.{Config};
-ghost use Rattle.scene.specs.Alone.{config_refusal, is_size, some_bytes};
+ghost use Rattle.scene.specs.Alone.{config_refusal, some_bytes};
 ghost use Rattle.scene.specs.Answers.{answer_to};
 ghost use Rattle.scene.specs.Refusals.{Refuses};
 ghost use Rattle.screen.specs.State.{state, refusal, viewer_at};
@@ -27,7 +27,7 @@ use crate::inputs::Inputs;
 use crate::output::{Output, copy_to, drop_output, fetch_output, first_for, put_bytes};
 use crate::told::Told;
 use listed::Listed;
-use screen::{Config, Fault, History, Rect, Region, Screen, ScreenError};
+use screen::{Config, Fault, History, Rect, Region, Screen, ScreenError, config_refusal};
 use std::alloc::{AllocError, Global};
 use std::marker::Model;
 
@@ -51,29 +51,6 @@ impl Model for Desk {
     ghost view = { λ a. record { screen = a.screen; output = a.output.items; inputs = in_order a.inputs.next a.inputs.later.items; text = a.text } };
 }
 
-/// Whether a screen may have so many columns and rows.
-fn is_size(width: u32, height: u32) -> bool
-    ensures { result ≡ is_size width height }
-{
-    1 <= width && width <= 8192 && 1 <= height && height <= 8192 && width * height <= 1 << 24
-}
-
-/// Why no screen is made of a configuration.
-fn refusal_of(width: u32, height: u32, name: &[u8], rects_per_update: u32) -> Option<ScreenError>
-    ensures { result ≡ config_refusal (config_of width height name.now rects_per_update) }
-{
-    if !is_size(width, height) {
-        return Some(ScreenError::BadSize);
-    }
-    if name.len() > 255 {
-        return Some(ScreenError::BadName);
-    }
-    if !(1 <= rects_per_update && rects_per_update <= 1000) {
-        return Some(ScreenError::BadRectLimit);
-    }
-    None
-}
-
 /// A screen, which keeps no events.
 fn new_screen(
     alloc: Global,
@@ -85,7 +62,7 @@ fn new_screen(
     ensures made { IfOk result (λ screen. screen ≡ state (config_of width height name.now rects_per_update) []) }
     ensures refused { Refuses result (config_refusal (config_of width height name.now rects_per_update)) }
 {
-    if let Some(refusal) = refusal_of(width, height, name, rects_per_update) {
+    if let Some(refusal) = config_refusal(width, height, name, rects_per_update) {
         return Err(refusal);
     }
     let config = Config {

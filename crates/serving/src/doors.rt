@@ -1,5 +1,9 @@
 //! The connections that are served, so that all can be shut at once.
 
+ghost use Rattle.std.specs.Prelude.{◌≡◌, true, false, IsOkUnless};
+ghost use Rattle.serving.specs.declared.serving.ServeError.TheVariants as error;
+ghost use Rattle.scene.specs.declared.ScreenError.TheVariants as refusal;
+
 use crate::serving::ServeError;
 use slab::Slab;
 use std::alloc::Global;
@@ -33,7 +37,11 @@ pub(crate) fn shut(stream: &TcpStream) {
 
 impl Streams {
     /// Keeps a handle of a connection. Refused where all are shut.
-    fn admit(&mut self, stream: TcpStream) -> Result<Slot, ServeError> {
+    fn admit(&mut self, stream: TcpStream) -> Result<Slot, ServeError>
+        ensures shut { self.old.are_shut ≡ true → result ≡ Err error.Network }
+        ensures open { self.old.are_shut ≡ false → IsOkUnless result (error.Screen refusal.OutOfMemory) }
+        ensures same { self.new.are_shut ≡ self.old.are_shut }
+    {
         if self.are_shut {
             return Err(ServeError::Network);
         }
@@ -42,12 +50,16 @@ impl Streams {
     }
 
     /// A handle is kept no longer.
-    fn leave(&mut self, slot: Slot) {
+    fn leave(&mut self, slot: Slot)
+        ensures { self.new.are_shut ≡ self.old.are_shut }
+    {
         let _stream = self.streams.try_remove(slot.key);
     }
 
     /// Shuts all that are served, and lets in no other.
-    fn shut_all(&mut self) {
+    fn shut_all(&mut self)
+        ensures { self.new.are_shut ≡ true }
+    {
         self.are_shut = true;
         for (_key, stream) in &self.streams {
             shut(stream);

@@ -60,6 +60,7 @@ fn seating_for(alloc: Global, viewers: u64) -> Result<Seating, AllocError>
     ensures taker { IfOk result (λ q. q.taker.queue ≡ q.hub.queue) }
     ensures seats { IfOk result (λ q. All (λ s. s.queue ≡ q.hub.queue) q.seats.items) }
     ensures seated { IfOk result (λ q. AreSeated viewers q.seats.items) }
+    ensures capacity { IfOk result (λ q. q.hub.capacity ≡ 1024) }
 {
     // the capacity is one that a hub may have
     let Ok((mut hub, taker)) = InputHub::new(alloc, INPUTS) else {

@@ -1,81 +1,16 @@
 //! The drawing calls of the application, as one value each.
 
-ghost use Rattle.std.specs.Prelude.{◌≡◌, ◌*◌, ◌-ℤ◌, nat_abs, ◌++◌, ◌∷◌, [], List, OnOk, OnErr};
+ghost use Rattle.std.specs.Prelude.{◌≡◌, ◌++◌, ◌∷◌, [], List, OnOk, OnErr};
 ghost use Rattle.scene.specs.declared.Config.{Config};
 ghost use Rattle.scene.specs.declared.Event.{Event};
-ghost use Rattle.scene.specs.Alone.{nothing_to_say, Tells, is_size, is_span, is_within, pixels_refusal, size_refusal, text_refusal};
+ghost use Rattle.scene.specs.Alone.{nothing_to_say, Tells};
 ghost use Rattle.scene.specs.Answers.{answer_to};
 ghost use Rattle.scene.specs.Refusals.{Refuses};
 ghost use Rattle.screen.specs.State.{state, refusal};
 ghost use Rattle.update_sender.specs.Calls.{call_refusal, event_of, may_be_sent};
 
-use region::{LONGEST_SIDE, Rect, Region};
-use screen::{Screen, ScreenError};
-
-/// Whether 0 <= from <= to <= limit.
-fn is_span(from: i32, to: i32, limit: u32) -> bool
-    ensures { result ≡ is_span from to limit }
-{
-    0 <= from && from <= to && to as u32 <= limit
-}
-
-/// Whether a rectangle with its corners in order is on a screen of so many columns and rows.
-fn is_within(width: u32, height: u32, rect: Rect) -> bool
-    ensures { result ≡ is_within width height rect }
-{
-    is_span(rect.x1, rect.x2, width) && is_span(rect.y1, rect.y2, height)
-}
-
-/// How many places are between a rectangle's corners.
-fn places_of(rect: Rect) -> u64
-    ensures { result ≡ nat_abs (rect.x2 -ℤ rect.x1) * nat_abs (rect.y2 -ℤ rect.y1) }
-{
-    let columns = u64::from(rect.x2.abs_diff(rect.x1));
-    let rows = u64::from(rect.y2.abs_diff(rect.y1));
-    columns * rows
-}
-
-/// Why a rectangle's colours are not replaced by these on a screen of so many columns and rows, if they are not.
-fn pixels_refusal(width: u32, height: u32, rect: Rect, colours: &[u32]) -> Option<ScreenError>
-    ensures { result ≡ pixels_refusal width height rect colours.now }
-{
-    if !is_within(width, height, rect) {
-        return Some(ScreenError::BadRect);
-    }
-    if colours.len() as u64 != places_of(rect) {
-        return Some(ScreenError::BadPixelCount);
-    }
-    None
-}
-
-/// Why a text is not sent, if it is not.
-fn text_refusal(text: &[u8]) -> Option<ScreenError>
-    ensures { result ≡ text_refusal text.now }
-{
-    if text.len() > 65_536 {
-        return Some(ScreenError::TextTooLong);
-    }
-    None
-}
-
-/// Whether a screen may have so many columns and rows.
-fn is_size(width: u32, height: u32) -> bool
-    ensures { result ≡ is_size width height }
-{
-    let longest = LONGEST_SIDE as u32;
-    1 <= width && width <= longest && 1 <= height && height <= longest && width * height <= 1 << 24
-}
-
-/// Why a screen doesn't get so many columns and rows, if it does not.
-fn size_refusal(width: u32, height: u32) -> Option<ScreenError>
-    ensures { result ≡ size_refusal width height }
-{
-    if is_size(width, height) {
-        None
-    } else {
-        Some(ScreenError::BadSize)
-    }
-}
+use region::{Rect, Region};
+use screen::{Screen, ScreenError, pixels_refusal, size_refusal, text_refusal};
 
 /// One drawing call with what it draws. Rectangles are as they were given.
 #[derive(Drop)]

@@ -20,6 +20,8 @@ fn is_held(screen: &Screen) -> bool {
         && !screen.is_live(9)
         && screen.colour(2, 1) == Some(0xff8000)
         && screen.colour(4, 0).is_none()
+        && screen.row(1) == Some([0, 0, 0xff8000, 0].as_slice())
+        && screen.row(3).is_none()
         && screen.fault(5) == Ok(Some(Fault::BadVersion))
         && screen.pending(5) == Ok(false)
         && screen.pending(9) == Err(ScreenError::NoViewer)

@@ -1,0 +1,86 @@
+//! How many entries of drawing stand in the log that the viewers share: each call that marks a place leaves one, any other none, and
+//! none is left where no viewer lacks one.
+
+use super::new_screen;
+use screen::{Screen, ScreenError};
+use std::alloc::Global;
+use std::process::Abort;
+use std::test::Fail;
+use test_screens::{open, rect, region, request, say, show};
+
+/// So many entries stand in the log.
+fn expect_log(rt: &impl Abort, screen: &Screen, count: usize) {
+    assert_eq!(rt; screen.log_len(), count);
+}
+
+/// Two viewers show a black screen of 4 by 3.
+fn show_two(screen: &mut Screen) -> Result<(), ScreenError> {
+    show(screen, (4, 3), &[0; 12])?;
+    open(screen, 2)?;
+    say(screen, 2, &request(false, 0, 0, 4, 3))?;
+    screen.cut(2)?;
+    Ok(())
+}
+
+/// Calls that mark no place: of nothing, off the screen, from beyond it, to where a place stands already; and colours that are only
+/// written.
+fn mark_nothing(alloc: Global, screen: &mut Screen) -> Result<(), ScreenError> {
+    screen.paint(rect(1, 1, 1, 1), &[])?;
+    screen.write_pixels(rect(0, 0, 1, 1), &[7])?;
+    screen.mark_rect(4, 0, 9, 3)?;
+    screen.mark_rect(2, 2, 2, 3)?;
+    screen.mark_region(&region(alloc, rect(-5, -5, -1, -1))?)?;
+    screen.do_copy_rect(0, 0, 2, 2, 0, 0)?;
+    screen.schedule_copy_rect(0, 0, 2, 2, 4, 0)?;
+    screen.do_copy_region(&region(alloc, rect(3, 3, 3, 3))?, 1, 0)
+}
+
+/// Calls that mark a place, each of another kind: seven.
+fn mark_some(alloc: Global, screen: &mut Screen) -> Result<(), ScreenError> {
+    let (one, two) = (rect(1, 1, 2, 2), rect(2, 1, 4, 3));
+    screen.paint(one, &[5])?;
+    screen.mark_rect(3, 2, 9, 9)?;
+    screen.mark_region(&region(alloc, two)?)?;
+    screen.schedule_copy_rect(1, 0, 2, 1, 1, 0)?;
+    screen.schedule_copy_region(&region(alloc, two)?, 0, 1)?;
+    screen.do_copy_rect(0, 0, 9, 1, 1, 0)?;
+    screen.do_copy_region(&region(alloc, one)?, -1, 0)
+}
+
+/// Both viewers ask for what changed, and are sent it.
+fn bring_up(screen: &mut Screen) -> Result<(), ScreenError> {
+    for viewer in [1, 2] {
+        say(screen, viewer, &request(true, 0, 0, 4, 3))?;
+        screen.cut(viewer)?;
+    }
+    Ok(())
+}
+
+/// Nothing stands where there are no viewers, nor where nothing is marked; else an entry a call, until all viewers have them.
+fn expect_entries(
+    rt: &impl Abort,
+    alloc: Global,
+    screen: &mut Screen,
+) -> Result<(), ScreenError> {
+    mark_some(alloc, screen)?;
+    expect_log(rt, screen, 0);
+    show_two(screen)?;
+    mark_nothing(alloc, screen)?;
+    expect_log(rt, screen, 0);
+    mark_some(alloc, screen)?;
+    expect_log(rt, screen, 7);
+    mark_nothing(alloc, screen)?;
+    expect_log(rt, screen, 7);
+    bring_up(screen)?;
+    expect_log(rt, screen, 0);
+    screen.mark_rect(0, 0, 1, 1)?;
+    expect_log(rt, screen, 1);
+    Ok(())
+}
+
+#[test]
+fn an_entry_stands_only_where_something_is_marked(rt: HostRuntime) -> Result<(), Fail> {
+    let mut screen = new_screen(rt.alloc(), (4, 3))?;
+    expect_entries(&rt, rt.alloc(), &mut screen)?;
+    Ok(())
+}
