@@ -8,8 +8,8 @@ use Rattle.std.proofs.lemmas.List.{length-append, length-map}
 use Rattle.region.specs.declared.Rect.{Rect}
 use Rattle.region.specs.Region.{in_rect, covers}
 use Rattle.region.specs.RegionView.{SharePlace, IsBox}
-use Rattle.region_queries.specs.declared.Rectangle.{Rectangle}
-use Rattle.region_queries.specs.Queries.{intervals_in_all, in_rectangle, IsBounds, SharePlace as BandsShare}
+use Rattle.region_sets.specs.declared.queries.Rectangle.{Rectangle}
+use Rattle.region_sets.specs.Queries.{intervals_in_all, in_rectangle, IsBounds, SharePlace as BandsShare}
 use Rattle.region_bands.specs.declared.Interval.{Interval}
 use Rattle.region_bands.specs.Bands.{Band, Bands, rows_of, nothing}
 use Rattle.region_rows.specs.declared.Keep.{Keep}

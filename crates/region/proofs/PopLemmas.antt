@@ -13,9 +13,9 @@ use Rattle.region.specs.Pops.{IsFirst, IsWithout}
 use Rattle.region_bands.specs.declared.Interval.{Interval}
 use Rattle.region_bands.specs.Bands.{Band, rows_of}
 use Rattle.region_sets.specs.Sets.{AreBands, has}
-use Rattle.region_queries.specs.Queries.{in_rectangle}
-use Rattle.region_queries.specs.declared.Rectangle.{Rectangle}
-use Rattle.region_edits.specs.Ends.{end_in_band, end_rectangle}
+use Rattle.region_sets.specs.Queries.{in_rectangle}
+use Rattle.region_sets.specs.declared.queries.Rectangle.{Rectangle}
+use Rattle.region_sets.specs.Ends.{end_in_band, end_rectangle}
 use Rattle.region.specs.Rects.{rect_of, rect_in, rects_of_band, rects_in}
 use Rattle.region.proofs.BandRectLemmas.{covers_has}
 use Rattle.region.proofs.CallLemmas.{in_same}

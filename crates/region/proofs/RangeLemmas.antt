@@ -11,7 +11,7 @@ use Rattle.region_bands.specs.declared.Interval.{Interval}
 use Rattle.region_bands.specs.declared.Rows.{Rows}
 use Rattle.region_bands.specs.Bands.{Band, Reading, reading, rows_of, first_row}
 use Rattle.region_sets.specs.Sets.{AreBands, IsBand}
-use Rattle.region_edits.specs.Moves.{IsMovableInterval, AreMovableRows, IsMovable}
+use Rattle.region_sets.specs.Moves.{IsMovableInterval, AreMovableRows, IsMovable}
 use Rattle.region.specs.Rects.{rect_of, rects_of_band, rects_in}
 use Rattle.region.proofs.ListLemmas.{first_there, none_there, left_is}
 

@@ -5,7 +5,7 @@ use Rattle.region.specs.Region.{in_rect, covers, reversed_if}
 use Rattle.region_bands.specs.declared.Interval.{Interval}
 use Rattle.region_bands.specs.declared.Rows.{Rows}
 use Rattle.region_bands.specs.Bands.{Band, Bands, rows_of}
-use Rattle.region_queries.specs.declared.Rectangle.{Rectangle}
+use Rattle.region_sets.specs.declared.queries.Rectangle.{Rectangle}
 use Rattle.region_rows.specs.Rows.{IsRow, row_has}
 use Rattle.region_rows.specs.RowLemmas.{Below}
 use Rattle.region_sets.specs.Sets.{AreBands, EndBy, has, in_rows}

@@ -10,7 +10,7 @@ ghost use Rattle.region.specs.Rects.{rect_of, rect_in, rects_in, lines_in};
 
 use crate::Rect;
 use region_bands::{Interval, Reader, Rows};
-use region_queries::Rectangle;
+use region_sets::Rectangle;
 use std::alloc::AllocError;
 
 fn rect_of(rows: Rows, columns: Interval) -> Rect

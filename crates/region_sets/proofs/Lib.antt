@@ -1,3 +1,11 @@
 pub mod StayLemmas
 pub mod CountLemmas
 pub mod MergeLemmas
+pub mod RowLemmas
+pub mod BandLemmas
+pub mod BoundsLemmas
+pub mod CopyLemmas
+pub mod SeamLemmas
+pub mod EndLemmas
+pub mod MoveLemmas
+pub mod MovedLemmas

@@ -8,3 +8,8 @@ pub mod CutLemmas
 pub mod WholeLemmas
 pub mod GapLemmas
 pub mod RoomLemmas
+pub mod Queries
+pub mod Walks
+pub mod Seams
+pub mod Ends
+pub mod Moves

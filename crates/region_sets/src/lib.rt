@@ -1,7 +1,10 @@
-//! Sets of places as bands of rows, combined by one walk over both lists, from where they differ on.
+//! Sets of places as bands of rows: combined by one walk over both lists, from where they differ on; asked; and changed where they
+//! stand.
 //!
 //! `strips` has one step of the walk, `gaps` moves the gap to where it begins, `counts` says how much room is enough for it, and
-//! `merges` makes a list of its own of two.
+//! `merges` makes a list of its own of two. `queries` has what is asked, with `rows` for the walks over what is left of a row.
+//! `edits` has the changes: `seams` joins the bands on both sides of the gap, `ends` takes an interval out at an end of the bands,
+//! and `moves` moves one band.
 #![tactic(auto)]
 
 ghost use Rattle.std.specs.Prelude.{◌≡◌, ◌≢◌, ◌↔◌, ◌≤◌, ◌+◌, ◌||◌, ◌&&◌, ◌⊎◌, [], ◌∷◌, ◌++◌, List, length, IsTrue, Some, None};
@@ -17,13 +20,21 @@ ghost use Rattle.region_sets.specs.Strips.{IsStripRow, FirstIs, NoneKept, Rests,
 ghost use Rattle.region_sets.specs.Room.{IsGap, IsRoom, IsWhole, GapMoved, Enough, HoldsStrip, start};
 
 mod counts;
+mod edits;
+mod ends;
 mod gaps;
 mod merges;
+mod moves;
+mod queries;
+mod rows;
+mod seams;
 mod strips;
 
 pub use counts::count_room;
+pub use edits::{copy_bands, offset, pop};
 pub use gaps::move_gap;
 pub use merges::merge_bands;
+pub use queries::{Rectangle, bounds, contains, count_intervals, count_nodes, meets};
 use region_bands::{BandList, Reader, Rows};
 use region_rows::{Keep, copy_left, copy_other, count_row, make_row, same_kept, skip_row};
 use strips::{Strip, bands_start, drop_ended, enter_strip, leave_strip, next_strip, pass_ended};

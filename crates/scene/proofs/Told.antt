@@ -19,7 +19,7 @@ use Rattle.region.specs.Places.{IsOnScreen, source_rect, longest_side}
 use Rattle.copy_schedule.specs.declared.Mark.TheVariants.{Copied}
 use Rattle.copy_schedule.specs.Marks.{Marks, mark_at, asked_at, copies_of, pixels_of}
 use Rattle.copy_schedule.specs.CutLemmas.{copies_on_screen, sources_inside, pixels_on_screen}
-use Rattle.viewer_picture.specs.Areas.{area_of}
+use Rattle.viewer.specs.Areas.{area_of}
 use Rattle.framebuffer.specs.Picture.{colours_of}
 use Rattle.viewer_picture.specs.Messages.{Agreed, ColourMap, Display, is_in_picture, may_come, rectangles_at, messages_in}
 use Rattle.viewer_picture.specs.Encodings.{number_of}

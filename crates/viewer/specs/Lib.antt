@@ -1,4 +1,5 @@
 pub mod Short
+pub mod Areas
 pub mod Viewer
 pub mod Hearing
 pub mod Sending

@@ -12,7 +12,7 @@ use Rattle.messages.specs.declared.Encoding.TheVariants as encoding
 use Rattle.messages.specs.Grammar.{desktop_size}
 use Rattle.messages.specs.Reading.{Rest, is_open_rest}
 use Rattle.messages.specs.Server.{bell, cut_text, colour_map, update_head}
-use Rattle.viewer_picture.specs.Areas.{area_of}
+use Rattle.viewer.specs.Areas.{area_of}
 use Rattle.framebuffer.specs.Picture.{colours_of}
 use Rattle.viewer.specs.declared.notices.Notice.{Notice}
 use Rattle.viewer.specs.declared.notices.Notice.TheVariants as notice

@@ -6,7 +6,7 @@ ghost use Rattle.region.specs.Places.{IsOnScreen, source_rect, longest_side};
 ghost use Rattle.copy_schedule.specs.Marks.{IsInside, HasSourcesInside, new_marks, cut_of};
 ghost use Rattle.pixel_translate.specs.declared.PixelFormat.{PixelFormat};
 ghost use Rattle.messages.specs.declared.Encoding.{Encoding};
-ghost use Rattle.viewer_picture.specs.Areas.{area_of};
+ghost use Rattle.viewer.specs.Areas.{area_of};
 ghost use Rattle.framebuffer.specs.Picture.{colours_of};
 ghost use Rattle.viewer.specs.Sending.{copy_bytes, pixel_rectangle, bytes_of, with_update, sending_open, sending_kept};
 ghost use Rattle.viewer.specs.Standings.{viewer_in};

@@ -1,6 +1,6 @@
 use Rattle.std.proofs.Common.{◌≡◌, [], ◌++◌, ap, subst, None}
 use Rattle.std.specs.Prelude.{◌↔◌, IfSome}
-use Rattle.region_queries.specs.Queries.{IsBounds}
+use Rattle.region_sets.specs.Queries.{IsBounds}
 use Rattle.region.proofs.Region.bbox.Goals as goal
 use Rattle.region.proofs.CallLemmas.{boxed_none, boxed_some}
 

@@ -1,5 +1,5 @@
 use Rattle.std.proofs.Common.{◌++◌, length, ◌∙◌, ap}
-use Rattle.region_queries.specs.Queries.{intervals_in_all}
+use Rattle.region_sets.specs.Queries.{intervals_in_all}
 use Rattle.region.proofs.Region.count_rects.Goals as goal
 use Rattle.region.proofs.CallLemmas.{counted}
 

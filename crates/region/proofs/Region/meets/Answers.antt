@@ -1,6 +1,6 @@
 use Rattle.std.proofs.Common.{◌++◌, ap, sym, subst}
 use Rattle.std.specs.Prelude.{IsTrue, ◌↔◌}
-use Rattle.region_queries.specs.Queries.{SharePlace}
+use Rattle.region_sets.specs.Queries.{SharePlace}
 use Rattle.region.proofs.Region.meets.Goals as goal
 use Rattle.region.proofs.CallLemmas.{shares}
 

@@ -1,9 +1,0 @@
-use Rattle.std.specs.Prelude.{length}
-use Rattle.region_edits.proofs.CopyLemmas.{Copied}
-use Rattle.region_edits.proofs.copy_bands.Given as goal
-
-abbrev pub invariant-loop-rows : goal.invariant-loop-rows
-invariant-loop-rows l = Copied l.fn.to l.to l.fn.from l.from
-
-abbrev pub decreases-loop-rows : goal.decreases-loop-rows
-decreases-loop-rows l = length l.from.bands

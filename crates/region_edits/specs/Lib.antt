@@ -1,3 +1,0 @@
-pub mod Seams
-pub mod Ends
-pub mod Moves

@@ -1,3 +1,0 @@
-pub mod RowLemmas
-pub mod BandLemmas
-pub mod BoundsLemmas

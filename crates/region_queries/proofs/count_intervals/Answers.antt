@@ -1,6 +1,0 @@
-use Rattle.std.proofs.Common.{◌∙◌}
-use Rattle.region_queries.proofs.BandLemmas.{all_intervals}
-use Rattle.region_queries.proofs.count_intervals.Goals as goal
-
-pub returns : goal.returns
-returns c = c.count_all.ensures ∙ all_intervals c.args.bands.now.bands

@@ -1,9 +1,0 @@
-use Rattle.std.specs.Prelude.{length, ◌+◌}
-use Rattle.region_queries.proofs.RowLemmas.{Comparing}
-use Rattle.region_queries.proofs.rows.rows_meet.Given as goal
-
-abbrev pub invariant-loop-edge : goal.invariant-loop-edge
-invariant-loop-edge l = Comparing l.fn.first l.fn.second l.first l.second
-
-abbrev pub decreases-loop-edge : goal.decreases-loop-edge
-decreases-loop-edge l = length l.first.left + length l.second.left
