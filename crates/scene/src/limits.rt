@@ -37,7 +37,12 @@ pub fn config_refusal(
     rects_per_update: u32,
 ) -> Option<ScreenError>
     ensures { (history : History) → result ≡ config_refusal (record {
-        width = width; height = height; name = name.now; rects_per_update = rects_per_update; history = history }) }
+      width = width;
+      height = height;
+      name = name.now;
+      rects_per_update = rects_per_update;
+      history = history;
+    }) }
 {
     if !is_size(width, height) {
         return Some(ScreenError::BadSize);
@@ -84,12 +89,7 @@ fn places_of(rect: Rect) -> u64
 
 /// Why a rectangle's colours are not replaced by these on a screen of so many columns and rows, if they are not: `BadRect` unless its
 /// corners are in order and on the screen, then `BadPixelCount` unless there is a colour for each place.
-pub fn pixels_refusal(
-    width: u32,
-    height: u32,
-    rect: Rect,
-    colours: &[u32],
-) -> Option<ScreenError>
+pub fn pixels_refusal(width: u32, height: u32, rect: Rect, colours: &[u32]) -> Option<ScreenError>
     ensures { result ≡ pixels_refusal width height rect colours.now }
 {
     if !is_within(width, height, rect) {

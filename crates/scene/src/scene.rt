@@ -3,6 +3,7 @@
 ghost use Rattle.std.specs.Prelude.{◌≡◌, ◌≢◌, ◌++◌, ◌∷◌, [], List, IfSome, IfOk, OnOk, OnErr, MatchOption, MatchResult, IsOk};
 ghost use Rattle.std.specs.Prelude.{IsOkUnless, IsSome, None, Some, length, take, drop, slice_index, is_some, ◌↔◌, ◌<◌, ◌≤◌, ◌+◌, ◌*◌};
 ghost use Rattle.std.specs.Map.{keys_of};
+ghost use Rattle.viewer.specs.Viewer.{is_asking};
 ghost use Rattle.messages.specs.Reading.{fault_in_rest, is_open_rest};
 ghost use Rattle.messages.specs.Server.{server_version};
 ghost use Rattle.scene.specs.declared.Config.{Config};
@@ -155,6 +156,18 @@ impl Scene {
     {
         match self.viewers.is_open(number) {
             Some(open) => Ok(open),
+            None => Err(ScreenError::NoViewer),
+        }
+    }
+
+    /// Whether a viewer asked for places, and no update of places or of a size was cut for it since: a FramebufferUpdateRequest
+    /// (RFC 6143, 7.5.3) of its is unanswered. Refused as `NoViewer` where there is none with the number.
+    pub fn is_asking(&self, number: u64) -> Result<bool, ScreenError>
+        ensures { MatchOption (viewer_at self.now number) (result ≡ Err ScreenError.NoViewer) (λ viewer. result ≡
+            Ok (is_asking viewer)) }
+    {
+        match self.viewers.is_asking(number) {
+            Some(is_asking) => Ok(is_asking),
             None => Err(ScreenError::NoViewer),
         }
     }

@@ -5,6 +5,7 @@
 ghost use Rattle.std.specs.Prelude.{◌≡◌, ◌≢◌, ◌++◌, ◌∷◌, [], List, IfSome, IfOk, OnOk, OnErr, MatchOption, MatchResult, IsOk};
 ghost use Rattle.std.specs.Prelude.{IsOkUnless, IsSome, None, length, take, drop, slice_index, is_some, option_map, ◌↔◌, ◌<◌, ◌≤◌, ◌+◌, ◌*◌};
 ghost use Rattle.std.specs.Map.{keys_of};
+ghost use Rattle.viewer.specs.Viewer.{is_asking};
 ghost use Rattle.messages.specs.Reading.{fault_in_rest, is_open_rest};
 ghost use Rattle.messages.specs.Server.{server_version};
 ghost use Rattle.scene.specs.declared.Config.{Config};
@@ -143,6 +144,15 @@ impl Screen {
             Ok (is_open_rest viewer.heard)) }
     {
         self.scene.is_open(number)
+    }
+
+    /// Whether a viewer asked for places, and no update of places or of a size was cut for it since: a FramebufferUpdateRequest
+    /// (RFC 6143, 7.5.3) of its is unanswered. Refused as `NoViewer` where there is none with the number.
+    pub fn is_asking(&self, number: u64) -> Result<bool, ScreenError>
+        ensures { MatchOption (viewer_at self.now number) (result ≡ Err ScreenError.NoViewer) (λ viewer. result ≡
+            Ok (is_asking viewer)) }
+    {
+        self.scene.is_asking(number)
     }
 
     /// Replaces the colours of a rectangle by others, `0x00RRGGBB` row by row, whose top bytes are

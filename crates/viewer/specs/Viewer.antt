@@ -2,7 +2,7 @@
 use Rattle.std.specs.Prelude.{ℕ, ◌+◌, Bool, true, false, not, ◌&&◌, ◌||◌, if◌then◌else◌, nat_lt, min, List, [], ◌∷◌, ◌++◌, length, ℤ, pos, Option, None, Some, unwrap_or}
 use Rattle.region.specs.Region.{in_rect, on_screen}
 use Rattle.region.specs.Places.{some_place, cut_destination, same_offset}
-use Rattle.copy_schedule.specs.Marks.{Marks, new_marks, marked, copied_by, requested, resized, without_copyrect}
+use Rattle.copy_schedule.specs.Marks.{Marks, has_asked, new_marks, marked, copied_by, requested, resized, without_copyrect}
 use Rattle.pixel_translate.specs.declared.Area.{Area}
 use Rattle.pixel_translate.specs.declared.PixelFormat.{PixelFormat}
 use Rattle.pixel_translate.specs.Pixel.{server_format, is_colour_map}
@@ -50,6 +50,10 @@ is_open _ _ = false
 
 abbrev pub is_open_viewer : Viewer (List ℕ) → Bool
 is_open_viewer v = is_open (heard v.heard).phase (heard v.heard).end
+
+-- it asked for places, and no update of places or of a size was cut for it since: a request of its is unanswered (RFC 6143, 7.5.3)
+abbrev pub is_asking : {B : Type 0} → Viewer B → Bool
+is_asking v = has_asked v.marks
 
 -- no notice waits
 abbrev pub none_wait : List Notice → Bool

@@ -5,7 +5,7 @@ ghost use Rattle.std.specs.Prelude.{OnErr};
 ghost use Rattle.messages.specs.Reading.{rest, new_items, is_open_rest, fault_in_rest};
 ghost use Rattle.copy_schedule.specs.Marks.{Marks, pending};
 ghost use Rattle.copy_schedule.specs.Log.{logged, IsCutEntry};
-ghost use Rattle.viewer.specs.Viewer.{none_wait, noticed, new_viewer, kept_viewer, viewer_resized};
+ghost use Rattle.viewer.specs.Viewer.{is_asking, none_wait, noticed, new_viewer, kept_viewer, viewer_resized};
 ghost use Rattle.viewer.specs.Hearing.{after_items, heard_reply};
 ghost use Rattle.viewer.specs.Sending.{tells_size, sending_kept};
 ghost use Rattle.viewer.specs.Given.{bytes_given, keeps_notices};
@@ -90,6 +90,14 @@ impl Viewer {
             (tells_size self.now.marks.width self.now.marks.height self.now || pending (viewer_told log.now self.now).marks)))) }
     {
         is_pending(&self.standing, log)
+    }
+
+    /// Whether it asked for places since an update of places, or of a size, was cut for it: a FramebufferUpdateRequest (RFC 6143,
+    /// 7.5.3) of its is unanswered.
+    pub fn is_asking(&self) -> bool
+        ensures { result ≡ is_asking self.now }
+    {
+        self.standing.marks.has_asked()
     }
 
     /// Why the viewer is heard no further, if a fault was met.

@@ -7,6 +7,7 @@ ghost use Rattle.viewer.specs.Hearing.{after_items, heard_reply};
 ghost use Rattle.viewer.specs.Sending.{sending_kept};
 ghost use Rattle.viewer.specs.Given.{bytes_given};
 ghost use Rattle.copy_schedule.specs.Log.{IsCutEntry};
+ghost use Rattle.viewer.specs.Viewer.{is_asking};
 ghost use Rattle.viewer.specs.Told.{viewer_told};
 ghost use Rattle.viewer_list.specs.Viewers.{is_pending};
 ghost use Rattle.viewer_list.specs.Lagging.{waiting, caught_up, up_to_date, moved_where_known, IsCurrent, Fits, IsShared, IsFor};
@@ -185,6 +186,13 @@ pub fn hear_one(
     let heard = lagging.viewer.hear_after(lacked, name, piece)?;
     move_where_known(lagging, log, heard.knows_log);
     Ok(heard.reply)
+}
+
+/// Whether a request of the viewer is unanswered. Drawing has no say in it.
+pub fn is_asking_one(lagging: &Lagging) -> bool
+    ensures { (log : List LogEntry) → result ≡ is_asking (caught_up log lagging.now) }
+{
+    lagging.viewer.is_asking()
 }
 
 /// Whether an update that is cut now would have something to send. The marks lack the drawing still.

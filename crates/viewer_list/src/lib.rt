@@ -2,8 +2,8 @@
 //!
 //! A viewer's marks are needed where an update is cut for it, and where its messages change them. Until then it only lags: a
 //! drawing call appends an entry to the log, which stands there once for all viewers, and visits none of them, however many there
-//! are and whatever they ask for. A viewer keeps its position in the log, and catches up before its next bytes are heard or an
-//! update is cut for it. Whether something is to be sent to it is read from its marks and from the entries that they lack.
+//! are and whatever they ask for. A viewer keeps its position in the log, and catches up before an update is cut for it, or before
+//! bytes of it are heard that are more than inputs. Whether something is to be sent to it is read from its marks and from the entries that they lack.
 //! Contracts see each viewer as it would be had it been told of all drawing at once; the log is in no clause.
 //!
 //! The log has at most 256 entries besides joined ones, which are its first. Before a further one comes, they are joined as well:
@@ -31,7 +31,7 @@ ghost use Rattle.viewer.specs.Hearing.{after_items, heard_reply};
 ghost use Rattle.viewer.specs.Sending.{sending_kept};
 ghost use Rattle.viewer.specs.Given.{bytes_given};
 ghost use Rattle.region.specs.Places.{longest_side};
-ghost use Rattle.viewer.specs.Viewer.{KeptViewer, viewer_resized};
+ghost use Rattle.viewer.specs.Viewer.{KeptViewer, is_asking, viewer_resized};
 ghost use Rattle.viewer_list.specs.Viewers.{viewer_of, with_viewer, drawn, is_pending, IsOfSize, viewer_noticed};
 
 mod joining;
@@ -43,7 +43,7 @@ mod walks;
 use client_list::{Clients, ConnectError, NoViewer};
 use framebuffer::Framebuffer;
 use joining::{join_entries, start_anew};
-use lagging::{Lagging, cut_bytes_one, cut_one, hear_one, is_pending_one};
+use lagging::{Lagging, cut_bytes_one, cut_one, hear_one, is_asking_one, is_pending_one};
 use listed::Listed;
 use messages::Fault;
 use notices::{keep_texts, ring_all, texts};
@@ -153,6 +153,16 @@ impl ViewerList {
     {
         match self.viewers.get(number) {
             Some(lagging) => Some(lagging.viewer.fault()),
+            None => None,
+        }
+    }
+
+    /// Whether a request of the viewer with a number is unanswered (RFC 6143, 7.5.3); None where there is none.
+    pub fn is_asking(&self, number: u64) -> Option<bool>
+        ensures { result ≡ option_map is_asking (viewer_of self.now number) }
+    {
+        match self.viewers.get(number) {
+            Some(lagging) => Some(is_asking_one(lagging)),
             None => None,
         }
     }
