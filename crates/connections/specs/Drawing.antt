@@ -1,16 +1,21 @@
 -- What an application does to a screen.
-use Rattle.std.specs.Prelude.{◌≡◌, Bool, true, false, List, [], ◌++◌}
+use Rattle.std.specs.Prelude.{◌≡◌, ℕ, Bool, true, false, List, [], ◌++◌, None, Some}
 use Rattle.std.specs.List.{list_all}
 use Rattle.scene.specs.declared.Config.{Config}
 use Rattle.scene.specs.declared.Event.{Event}
 use Rattle.scene.specs.Alone.{owner_of}
 use Rattle.scene.specs.Answers.{is_drawing}
-use Rattle.screen.specs.State.{State, state}
+use Rattle.viewer.specs.Viewer.{is_asking}
+use Rattle.screen.specs.State.{State, state, viewer_at}
 
 -- a screen, and whether it may have been drawn on since its viewers were looked at
 pub record Surface : Type 0 where
   pub screen : State
   pub drawn : Bool
+
+-- whether a request of a viewer of a screen is unanswered; no viewer has one
+abbrev pub is_asking_on : State → ℕ → Bool
+is_asking_on screen v = elim (viewer_at screen v) [ None ↦ false | Some viewer ↦ is_asking viewer ]
 
 -- each event of a list is a drawing call
 abbrev pub are_drawings : List Event → Bool

@@ -7,7 +7,7 @@ ghost use Rattle.scene.specs.Answers.{answer_to};
 ghost use Rattle.scene.specs.Refusals.{Refuses};
 ghost use Rattle.screen.specs.State.{state, refusal};
 ghost use Rattle.viewer.specs.Given.{bytes_given};
-ghost use Rattle.connections.specs.Drawing.{Draws};
+ghost use Rattle.connections.specs.Drawing.{Draws, is_asking_on};
 
 use listed::Listed;
 use screen::{Answer, Rect, Region, Screen, ScreenError, Update};
@@ -50,6 +50,16 @@ impl Canvas {
             screen,
             has_drawn: false,
             has_noticed: false,
+        }
+    }
+
+    /// Whether a request of a viewer is unanswered; false where there is none with the number.
+    pub(crate) fn is_asking(&self, viewer: u64) -> bool
+        ensures { result ≡ is_asking_on self.now.screen viewer }
+    {
+        match self.screen.is_asking(viewer) {
+            Ok(is_asking) => is_asking,
+            Err(_) => false,
         }
     }
 

@@ -40,7 +40,7 @@ pub(crate) struct Connection<T: Transport> {
     looks_again: bool,
     // it stands on the agenda
     is_listed: bool,
-    // it was heard since an update was cut for it, so it may have asked for places
+    // it was heard since an update was cut for it, or has a request that none answered
     may_ask: bool,
     // it stands among those that may have asked
     is_watching: bool,
@@ -143,7 +143,7 @@ impl<T: Transport> Connection<T> {
         was_watching
     }
 
-    /// Whether it was heard since an update was cut for it last.
+    /// Whether a request of its may be unanswered: it was heard since an update was cut for it last, or that one left a request open.
     pub fn may_ask(&self) -> bool {
         self.may_ask
     }
@@ -309,15 +309,15 @@ impl<T: Transport> Connection<T> {
         }
     }
 
-    /// An update that was cut is given, where nothing waits.
-    pub fn start(&mut self, update: Update)
+    /// An update that was cut is given, where nothing waits, and which left a request unanswered or none.
+    pub fn start(&mut self, update: Update, is_asking: bool)
         requires { waiting_bytes self.old.waiting ≡ [] }
         ensures same { self.new ≡ record self.old { waiting = self.new.waiting } }
         ensures bytes { waiting_bytes self.new.waiting ≡ update }
         ensures few { IsFew self.new.waiting }
     {
         self.cuts = self.cuts.saturating_add(1);
-        self.may_ask = false;
+        self.may_ask = is_asking;
         self.backlog.start(update);
     }
 

@@ -16,7 +16,8 @@ use receipts::Ended;
 use screen::{Input, ScreenError};
 
 /// How many bytes are read and heard at once, at most: 12 requests, or 21 pointers. Hearing a request costs as much as a small
-/// update does, and who floods a screen holds up the others by a piece in each turn. Viewers that don't say less at once.
+/// update does, and who floods a screen holds up the others by a piece in one turn of eight. Viewers that don't say less
+/// at once.
 pub(crate) const PIECE: usize = 128;
 
 /// How many writes, each of 64 KB at most, are made for a viewer in one turn.
@@ -131,7 +132,7 @@ fn cut<T: Transport>(canvas: &mut Canvas, connection: &mut Connection<T>) -> boo
     }
     match canvas.cut(viewer) {
         Ok(Some(update)) => {
-            connection.start(update);
+            connection.start(update, canvas.is_asking(viewer));
             true
         }
         Ok(None) => false,

@@ -244,17 +244,11 @@ static ASKS_AGAIN: [u8; 34] =
 /// An update of the place (2, 1) in 123456 (7.6.1, 7.7.1).
 const CHANGE: &[u8] = b"\0\0\0\x01\0\x02\0\x01\0\x01\0\x01\0\0\0\0\x56\x34\x12\0";
 
-/// A viewer that waits for a change is sent one that is drawn between turns.
-fn change_comes(
-    alloc: Global,
-    connections: &mut Connections<Line<'_>>,
-) -> Result<bool, ScreenError> {
-    let mut counting = NOTHING;
-    let key = admit(
-        connections,
-        saying(alloc, &ASKS_AGAIN).in_pieces(24, Then::Waits),
-    )?;
-    turns(connections, &[key], 2, &mut counting)?;
+/// The same behind a Bell (7.6.3).
+const BELL_AND_CHANGE: &[u8] = b"\x02\0\0\0\x01\0\x02\0\x01\0\x01\0\x01\0\0\0\0\x56\x34\x12\0";
+
+/// A place is painted between turns: whether something could be done before, and after it.
+fn paint_between(connections: &mut Connections<Line<'_>>) -> Result<(bool, bool), ScreenError> {
     let place = Rect {
         x1: 2,
         y1: 1,
@@ -263,24 +257,55 @@ fn change_comes(
     };
     let was_busy = connections.is_busy();
     connections.canvas().paint(place, &[0x12_3456])?;
-    let is_busy = connections.is_busy();
+    Ok((was_busy, connections.is_busy()))
+}
+
+/// The screen's bell rings, and a turn is taken.
+fn ring(
+    connections: &mut Connections<Line<'_>>,
+    application: &mut Counting,
+) -> Result<(), ScreenError> {
+    connections.canvas().bell()?;
+    connections.turn(application)
+}
+
+/// A viewer that waits for a change is sent one that is drawn between turns; a bell that rings before doesn't answer its request.
+fn change_comes(
+    alloc: Global,
+    connections: &mut Connections<Line<'_>>,
+    rings: bool,
+    change: &[u8],
+) -> Result<bool, ScreenError> {
+    let mut counting = NOTHING;
+    let line = saying(alloc, &ASKS_AGAIN).in_pieces(24, Then::Waits);
+    let key = admit(connections, line)?;
+    turns(connections, &[key], 2, &mut counting)?;
+    if rings {
+        ring(connections, &mut counting)?;
+    }
+    let (was_busy, is_busy) = paint_between(connections)?;
     connections.turn(&mut counting)?;
     connections.close(key)?;
     let is_sent = match connections.take_departed() {
-        Some(departed) => departed.transport.taken.get(WHOLE..) == Some(CHANGE),
+        Some(departed) => departed.transport.taken.get(WHOLE..) == Some(change),
         None => false,
     };
     Ok(!was_busy && is_busy && is_sent)
 }
 
-fn a_change_comes(alloc: Global) -> Result<bool, ScreenError> {
+fn a_change_comes(alloc: Global, rings: bool, change: &[u8]) -> Result<bool, ScreenError> {
     let mut connections = painted(alloc, History::NotKept)?;
-    change_comes(alloc, &mut connections)
+    change_comes(alloc, &mut connections, rings, change)
 }
 
 #[test]
 fn what_is_drawn_between_turns_is_sent(rt: HostRuntime) {
-    assert_eq!(rt; a_change_comes(rt.alloc()), Ok(true));
+    assert_eq!(rt; a_change_comes(rt.alloc(), false, CHANGE), Ok(true));
+}
+
+#[test]
+fn a_bell_leaves_a_request_open(rt: HostRuntime) {
+    assert_eq!(rt; a_change_comes(rt.alloc(), true, BELL_AND_CHANGE), Ok(true));
 }
 
 /// An opening, and pointers in many pieces (7.5.5).

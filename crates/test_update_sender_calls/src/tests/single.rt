@@ -141,7 +141,7 @@ fn senders_end(rt: HostRuntime) -> Result<(), Fail> {
     Ok(())
 }
 
-/// Whether each drawing call is accepted, and one with too few colours is refused.
+/// Whether each drawing call is accepted, also one of no place, and one with too few colours is refused.
 fn draws_all<L: Ledger, R: Wait>(
     rt: &R,
     alloc: Global,
@@ -154,7 +154,9 @@ fn draws_all<L: Ledger, R: Wait>(
         x2: 4,
         y2: 3,
     };
+    let nothing = Rect { x2: 0, ..all };
     draw_each(rt, alloc, shared, brush)?;
+    brush.paint(shared, rt, nothing, &[])?;
     Ok(matches!(
         brush.paint(shared, rt, all, &[10]),
         Err(ScreenError::BadPixelCount)
