@@ -19,8 +19,34 @@ use std::alloc::{AllocError, Global};
 use std::io::ErrorKind;
 use std::marker::Model;
 
-/// So many full reads one after the other may be a text that was copied: 64 KB. What says more is in no hurry.
-const LONG: u32 = 512;
+/// How many bytes a viewer may say of late until it is in no hurry: a text that was copied may have so many.
+const LONG: u64 = 65_536;
+
+/// How many of these are forgotten in each millisecond.
+const FORGOTTEN: u64 = 64;
+
+/// How much a viewer said of late: what it says is added, and with time it is forgotten.
+#[derive(Clone, Copy, Debug)]
+struct Flow {
+    // so many bytes
+    level: u64,
+    // at this time, in milliseconds
+    since: u64,
+}
+
+impl Flow {
+    /// How much it is at a time that is no earlier: 64 bytes less for each millisecond.
+    fn level_at(self, now: u64) -> u64 {
+        let gone = now.saturating_sub(self.since).saturating_mul(FORGOTTEN);
+        self.level.saturating_sub(gone)
+    }
+
+    /// So many bytes are said at a time.
+    fn add(&mut self, count: usize, now: u64) {
+        self.level = self.level_at(now).saturating_add(count as u64);
+        self.since = now;
+    }
+}
 
 /// A viewer's connection. It is heard until it ends, and what waits for it then is written still, unless it ended by a failure.
 #[derive(Drop)]
@@ -34,8 +60,9 @@ pub(crate) struct Connection<T: Transport> {
     heard: Option<Vec<u8>>,
     cuts: u64,
     readiness: Readiness,
-    // how many of its last reads gave as many bytes as there was room for, one after the other
-    full_reads: u32,
+    // its last read gave as many bytes as there was room for
+    was_full: bool,
+    flow: Flow,
     // as many writes were made as one turn has: an update may be cut at once
     looks_again: bool,
     // it stands on the agenda
@@ -94,7 +121,8 @@ impl<T: Transport> Connection<T> {
                 may_write: true,
                 is_hung_up: false,
             },
-            full_reads: 0,
+            was_full: false,
+            flow: Flow { level: 0, since: 0 },
             looks_again: false,
             is_listed: false,
             may_ask: false,
@@ -162,14 +190,19 @@ impl<T: Transport> Connection<T> {
         self.ended.is_none() && self.readiness.may_read
     }
 
-    /// Whether its last read gave as many bytes as there was room for.
+    /// Whether its last read gave as many bytes as there was room for, or it said more than 64 KB of late.
     pub fn is_flooding(&self) -> bool {
-        self.full_reads > 0
+        self.was_full || self.says_much()
     }
 
-    /// Whether nothing can be done for it at once but to hear more, and it said 64 KB already without a pause.
+    /// Whether it said more than 64 KB of late.
+    fn says_much(&self) -> bool {
+        self.flow.level > LONG
+    }
+
+    /// Whether nothing can be done for it at once but to hear more, and it said more than 64 KB of late.
     pub fn only_floods(&self) -> bool {
-        self.full_reads > LONG && self.may_read() && !self.can_send()
+        self.says_much() && self.may_read() && !self.can_send()
     }
 
     /// Whether a write may take something.
@@ -234,21 +267,18 @@ impl<T: Transport> Connection<T> {
         }
     }
 
-    /// A read gave bytes, as many as there was room for or fewer.
-    fn count_read(&mut self, is_full: bool)
+    /// A read gave so many bytes at a time, as many as there was room for or fewer.
+    fn count_read(&mut self, count: usize, is_full: bool, now: u64)
         ensures { self.new ≡ self.old }
     {
-        self.full_reads = if is_full {
-            self.full_reads.saturating_add(1)
-        } else {
-            0
-        };
+        self.flow.add(count, now);
+        self.was_full = is_full;
         self.readiness.may_read = is_full || self.readiness.is_hung_up;
     }
 
     /// One read. A piece that doesn't fill its room was all that there was, unless the peer hung up: then its bytes are read to
-    /// their end.
-    pub fn receive(&mut self, room: &mut [u8]) -> Got
+    /// their end. The time that it is, in milliseconds, says how much was said of late.
+    pub fn receive(&mut self, room: &mut [u8], now: u64) -> Got
         ensures same { self.new ≡ record self.old { carried = self.new.carried } }
         ensures moved { Moves self.old.carried self.new.carried (got_bytes result room.new) [] }
         ensures within { IsWithin result room.new }
@@ -258,12 +288,12 @@ impl<T: Transport> Connection<T> {
         match self.transport.transport.receive(room) {
             Ok(0) => Got::End,
             Ok(count) => {
-                self.count_read(count >= size);
+                self.count_read(count, count >= size, now);
                 Got::Piece(count)
             }
             Err(e) => match e.kind() {
                 ErrorKind::WouldBlock => {
-                    self.full_reads = 0;
+                    self.was_full = false;
                     self.readiness.may_read = false;
                     Got::Nothing
                 }

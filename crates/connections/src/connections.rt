@@ -89,6 +89,8 @@ pub struct Connections<T: Transport> {
     asking: Vec<usize>,
     // how many turns there were since a viewer that floods was heard
     since_flood: u32,
+    // the time that it is, in milliseconds
+    now: u64,
     // what is read, and what is written
     room: [u8; PIECE],
     buffer: Vec<u8>,
@@ -121,6 +123,7 @@ impl<T: Transport> Connections<T> {
             later: Vec::new(alloc),
             asking: Vec::new(alloc),
             since_flood: 0,
+            now: 0,
             room: [0; PIECE],
             buffer: Vec::with_capacity(alloc, BUFFER)?,
         })
@@ -155,8 +158,16 @@ impl<T: Transport> Connections<T> {
         !self.agenda.is_empty() || self.canvas.has_drawn()
     }
 
-    /// Whether nothing can be done in a turn at once but to hear viewers that said 64 KB already without a pause. A program may wait a
-    /// little then, so that they take less from others.
+    /// The time that it is from now on, in milliseconds since some moment. By it is known who says much: of what a viewer said, 64 bytes
+    /// are forgotten in each millisecond. Where no time is told, nothing is forgotten.
+    pub fn set_time(&mut self, milliseconds: u64)
+        ensures { self.new ≡ self.old }
+    {
+        self.now = milliseconds;
+    }
+
+    /// Whether nothing can be done in a turn at once but to hear viewers that said more than 64 KB of late. A program may wait a little
+    /// then, so that they take less from others.
     pub fn only_floods(&self) -> bool
         ensures { result ≡ true → self.now.surface.drawn ≡ false }
     {
@@ -173,7 +184,7 @@ impl<T: Transport> Connections<T> {
         true
     }
 
-    /// Whether nothing can be done at once for a connection but to hear more, and it said 64 KB already without a pause.
+    /// Whether nothing can be done at once for a connection but to hear more, and it said more than 64 KB of late.
     fn only_floods_at(&self, key: usize) -> bool {
         match self.connections.get(key) {
             Some(connection) => connection.only_floods(),
@@ -331,8 +342,8 @@ impl<T: Transport> Connections<T> {
     }
 
     /// One turn. Of each connection on the agenda one piece of at most 128 bytes is read and heard, and the application is told what
-    /// it says; of those whose last read gave so many only the one that waited longest, and that in one turn of eight while others have
-    /// something to do. Then each is written what it was given, and cut updates, in at most four writes of at most 65,536 bytes.
+    /// it says; of those whose last read gave so many, or that said more than 64 KB of late, only the one that waited longest, and that
+    /// in one turn of eight while others have something to do. Then each is written what it was given, and cut updates, in at most four writes of at most 65,536 bytes.
     ///
     /// Whatever list of events the screen stood for, it stands for it with others behind it, and by that list each viewer is served:
     /// what was read of it is what the screen heard of it, and what was written to it is, with what waits for it, what the screen with
@@ -374,7 +385,7 @@ impl<T: Transport> Connections<T> {
         self.agenda.get(place).copied()
     }
 
-    /// Whether the last read of a connection gave as many bytes as there was room for, and it is still heard.
+    /// Whether a connection may say more, and its last read gave as many bytes as there was room for, or it said much of late.
     fn is_flooding(&self, key: usize) -> bool {
         match self.connections.get(key) {
             Some(connection) => connection.is_flooding() && connection.may_read(),
@@ -473,7 +484,15 @@ impl<T: Transport> Connections<T> {
         ensures agenda { self.new.agenda ≡ self.old.agenda }
     {
         match self.connections.get_mut(key) {
-            Some(connection) => listen(&mut self.canvas, connection, &mut self.room, application),
+            Some(connection) => {
+                listen(
+                    &mut self.canvas,
+                    connection,
+                    &mut self.room,
+                    self.now,
+                    application,
+                )
+            }
             None => Ok(()),
         }
     }

@@ -28,6 +28,7 @@ pub(crate) fn listen<T: Transport, A: Application>(
     canvas: &mut Canvas,
     connection: &mut Connection<T>,
     room: &mut [u8; PIECE],
+    now: u64,
     application: &mut A,
 ) -> Result<(), ScreenError>
     ensures turn { TakesTurn canvas.old connection.old canvas.new connection.new }
@@ -36,7 +37,7 @@ pub(crate) fn listen<T: Transport, A: Application>(
     if !connection.may_read() {
         return Ok(());
     }
-    match connection.receive(room) {
+    match connection.receive(room, now) {
         Got::Nothing => {}
         Got::End => connection.end(Ended::EndOfInput),
         Got::Failed => connection.end(Ended::ReadFailed),

@@ -103,6 +103,8 @@ pub struct EventLoop {
     limits: Limits,
     connections: Connections<Socket>,
     newcomers: Newcomers,
+    // when the first turn came
+    began: Option<Instant>,
     // how many viewers came
     came: u64,
     // a connection may wait at the listener
@@ -198,6 +200,7 @@ impl EventLoop {
             limits,
             connections: Connections::new(alloc, config)?,
             newcomers: Newcomers::new(alloc, limits.opening_time),
+            began: None,
             came: 0,
             may_accept: true,
             retry: None,
@@ -251,7 +254,7 @@ impl EventLoop {
         let now = self.wait(clock, timeout)?;
         self.tell_time(now, application)?;
         self.come_and_go(now, application)?;
-        self.turn(application)
+        self.turn(now, application)
     }
 
     /// Turns until the application is done.
@@ -344,10 +347,21 @@ impl EventLoop {
         self.let_go(now)
     }
 
+    /// How many milliseconds passed since the first turn.
+    fn milliseconds(&mut self, now: Instant) -> u64
+        ensures same { self.new ≡ self.old }
+    {
+        let began = self.began.unwrap_or(now);
+        self.began = Some(began);
+        now.duration_since(began).as_millis() as u64
+    }
+
     /// What viewers sent is heard, what they are given is written, and those that ended are parted with.
-    fn turn<A: Application>(&mut self, application: &mut A) -> Result<(), LoopError>
+    fn turn<A: Application>(&mut self, now: Instant, application: &mut A) -> Result<(), LoopError>
         ensures served { GoesOnServing self.old self.new }
     {
+        let milliseconds = self.milliseconds(now);
+        self.connections.set_time(milliseconds);
         self.connections.turn(application)?;
         self.part(application)
     }
