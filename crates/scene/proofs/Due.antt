@@ -18,7 +18,7 @@ use Rattle.scene.proofs.Owners.{answer-hit, state-find}
 use Rattle.scene.proofs.Connected.{found-viewer}
 
 -- what a screen keeps of a viewer with a number
-kept-at : (c : Config) (es : List Event) (v : ℕ) → viewer_at (scene_after c es) v ≡ option_map kept_viewer (viewer_of c v es)
+pub kept-at : (c : Config) (es : List Event) (v : ℕ) → viewer_at (scene_after c es) v ≡ option_map kept_viewer (viewer_of c v es)
 kept-at c es v = go (viewer_at (scene_after c es) v) (viewer_of c v es) (sym (found-viewer v (scene_after c es).viewers) ∙ state-find c es v)
   where
     go : (a : Option KeptViewer) (b : Option (Viewer (List ℕ))) → option_map {T = KeptViewer} {U = ℕ × KeptViewer} (λ w. (v, w)) a ≡ entry_of v b → a ≡ option_map kept_viewer b

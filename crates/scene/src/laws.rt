@@ -3,7 +3,7 @@
 ghost use Rattle.scene.specs.Claims.{told_alike, one_viewer_is_alone};
 ghost use Rattle.scene.specs.History.{accepted_is_enough, accepted_happens_again};
 ghost use Rattle.scene.specs.Pictures.{pictures_are_shown, maps_are_there};
-ghost use Rattle.scene.specs.Refusals.{refusals_are_due};
+ghost use Rattle.scene.specs.Refusals.{held_as_alone, refusals_are_due};
 
 use viewer_picture::rectangles_are_read;
 
@@ -32,6 +32,11 @@ pub fn maps_are_there()
 {
     rectangles_are_read();
 }
+
+/// What is held of a viewer, in a run with any number of them, is what the machine with that viewer alone has of it.
+pub fn held_as_alone()
+    ensures { held_as_alone }
+{}
 
 /// An event is answered the refusal that is due by what is held, and none where none is.
 pub fn refusals_are_due()

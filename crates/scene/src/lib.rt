@@ -12,7 +12,7 @@ mod limits;
 mod scene;
 
 pub use laws::{
-    accepted_happens_again, accepted_is_enough, maps_are_there, one_viewer_is_alone,
+    accepted_happens_again, accepted_is_enough, held_as_alone, maps_are_there, one_viewer_is_alone,
     pictures_are_shown, refusals_are_due, viewers_are_alone,
 };
 pub use limits::{config_refusal, pixels_refusal, size_refusal, text_refusal};
