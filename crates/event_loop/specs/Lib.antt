@@ -1,2 +1,3 @@
 pub mod Sockets
 pub mod Lending
+pub mod Opening

@@ -1,6 +1,6 @@
 //! The loop.
 
-ghost use Rattle.std.specs.Prelude.{◌≡◌, [], None, IfOk, OnOk, is_some, count_by};
+ghost use Rattle.std.specs.Prelude.{◌≡◌, [], None, Err, IfOk, OnOk, MatchOption, is_some, count_by};
 ghost use Rattle.std.specs.Borrow.{sem};
 ghost use Rattle.std.specs.Duration.{as_nanos};
 ghost use Rattle.scene.specs.declared.Config.{Config};
@@ -8,7 +8,9 @@ ghost use Rattle.scene.specs.Alone.{config_refusal};
 ghost use Rattle.connections.specs.Serving.{Serves};
 ghost use Rattle.event_loop.specs.declared.event_loop.WhenFull.TheVariants as when_full;
 ghost use Rattle.event_loop.specs.Lending.{lends_canvas};
+ghost use Rattle.event_loop.specs.declared.event_loop.LoopError.TheVariants as error;
 ghost use Rattle.event_loop.specs.Sockets.{sockets, GoesOnServing};
+ghost use Rattle.event_loop.specs.Opening.{IsOpenedOr};
 
 use crate::opening::Newcomers;
 use crate::poller::{Found, Poller, found_in};
@@ -179,7 +181,7 @@ fn now_by<C: Clock>(clock: &C) -> Result<Instant, LoopError> {
 
 impl EventLoop {
     /// A loop that serves a screen on a listener's address: 0 everywhere, with no viewer yet. Viewers are numbered from 1 on, as they
-    /// come. Refused as `Network` where the poller is, and as `Screen` where the configuration is outside its limits.
+    /// come. Refused as `Screen` where the configuration is outside its limits, then as `Network` where the poller is.
     pub fn new<R: Net>(
         rt: &R,
         alloc: Global,
@@ -189,7 +191,9 @@ impl EventLoop {
     ) -> Result<EventLoop, LoopError>
         ensures serves { IfOk result (λ served. Serves config (sockets config) [] served) }
         ensures accepted { OnOk result (config_refusal config ≡ None) }
+        ensures refused { MatchOption (config_refusal config) (IsOpenedOr result) (λ e. result ≡ Err (error.Screen e)) }
     {
+        let connections = Connections::new(alloc, config)?;
         let poller = Poller::new(rt, alloc).map_err(|_| LoopError::Network)?;
         if poller.add_listener(&mut listener).is_err() {
             return Err(LoopError::Network);
@@ -198,7 +202,7 @@ impl EventLoop {
             poller,
             listener,
             limits,
-            connections: Connections::new(alloc, config)?,
+            connections,
             newcomers: Newcomers::new(alloc, limits.opening_time),
             began: None,
             came: 0,

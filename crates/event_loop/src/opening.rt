@@ -1,5 +1,9 @@
 //! Which viewers have not had their ServerInit, and until when they may take for it.
 
+ghost use Rattle.std.specs.Prelude.{◌≡◌, ◌≤◌, ◌-◌, ◌++◌, ◌∷◌, [], None, OnOk, OnErr, IfSome, MatchOption, length, slice_get};
+ghost use Rattle.std.specs.Duration.{as_nanos, instant_nanos};
+ghost use Rattle.event_loop.specs.declared.opening.Newcomer.{Newcomer};
+
 use std::alloc::{AllocError, Global};
 use std::collections::VecDeque;
 use std::time::{Duration, Instant};
@@ -20,25 +24,42 @@ pub(crate) struct Newcomers {
 }
 
 impl Newcomers {
-    pub fn new(alloc: Global, patience: Duration) -> Newcomers {
+    /// Nobody, and how long each may take.
+    pub fn new(alloc: Global, patience: Duration) -> Newcomers
+        ensures nobody { result.waiting.items ≡ [] }
+        ensures patience { result.patience ≡ patience }
+    {
         Newcomers {
             patience,
             waiting: VecDeque::new(alloc),
         }
     }
 
-    pub fn len(&self) -> usize {
+    /// How many there are.
+    pub fn len(&self) -> usize
+        ensures { result ≡ length self.now.waiting.items }
+    {
         self.waiting.len()
     }
 
-    /// A viewer connected.
-    pub fn push(&mut self, key: usize, viewer: u64, since: Instant) -> Result<(), AllocError> {
+    /// A viewer connected: it comes last.
+    pub fn push(&mut self, key: usize, viewer: u64, since: Instant) -> Result<(), AllocError>
+        ensures patience { self.new.patience ≡ self.old.patience }
+        ensures ok { OnOk result (self.new.waiting.items ≡
+            self.old.waiting.items ++ (record { key = key; viewer = viewer; since = since }) ∷ []) }
+        ensures err { OnErr result (self.new.waiting.items ≡ self.old.waiting.items) }
+    {
         self.waiting.push_back(Newcomer { key, viewer, since })?;
         Ok(())
     }
 
-    /// The key and the number of the first whose time is up.
-    pub fn pop_late(&mut self, now: Instant) -> Option<(usize, u64)> {
+    /// The key and the number of the first, where its time is up; it is taken out.
+    pub fn pop_late(&mut self, now: Instant) -> Option<(usize, u64)>
+        ensures patience { self.new.patience ≡ self.old.patience }
+        ensures late { IfSome result (λ late. (first : Newcomer) × (self.old.waiting.items ≡ first ∷ self.new.waiting.items) ×
+            (late ≡ (first.key, first.viewer)) × (as_nanos self.old.patience ≤ instant_nanos now - instant_nanos first.since)) }
+        ensures none { result ≡ None → self.new.waiting.items ≡ self.old.waiting.items }
+    {
         let first = self.waiting.front()?;
         if now.duration_since(first.since) < self.patience {
             return None;
@@ -47,8 +68,11 @@ impl Newcomers {
         Some((first.key, first.viewer))
     }
 
-    /// After how long the first one's time is up.
-    pub fn next_after(&self, now: Instant) -> Option<Duration> {
+    /// After how long the first one's time is up; none where there is nobody.
+    pub fn next_after(&self, now: Instant) -> Option<Duration>
+        ensures { MatchOption (slice_get self.now.waiting.items 0) (result ≡ None) (λ first. IfSome result (λ wait.
+            as_nanos wait ≡ as_nanos self.now.patience - (instant_nanos now - instant_nanos first.since))) }
+    {
         let first = self.waiting.front()?;
         Some(
             self.patience
