@@ -1,7 +1,8 @@
 //! Which viewers have not had their ServerInit, and until when they may take for it.
 
 ghost use Rattle.std.specs.Prelude.{◌≡◌, ◌≤◌, ◌-◌, ◌++◌, ◌∷◌, [], None, OnOk, OnErr, IfSome, MatchOption, length, slice_get};
-ghost use Rattle.std.specs.Duration.{as_nanos, instant_nanos};
+ghost use Rattle.std.specs.Duration.{as_nanos};
+ghost use Rattle.std.specs.Time.{instant_nanos};
 ghost use Rattle.event_loop.specs.declared.opening.Newcomer.{Newcomer};
 
 use std::alloc::{AllocError, Global};
