@@ -10,11 +10,14 @@ use region::{Rect, Region};
 use scene::{Answer, Event, History};
 use std::alloc::{AllocError, Global};
 
-/// The events that were accepted, if they are kept, and room for further ones.
+/// The events that were accepted, if they are kept, and room for further ones: also for the closings of the viewers that connected,
+/// which therefore find room whenever they come.
 #[derive(Drop)]
 pub struct KeptEvents {
     alloc: Global,
     events: Option<Vec<Event>>,
+    // how many viewers connected and weren't closed
+    open: usize,
 }
 
 impl KeptEvents {
@@ -26,7 +29,11 @@ impl KeptEvents {
             History::Kept => Some(Vec::new(alloc)),
             History::NotKept => None,
         };
-        KeptEvents { alloc, events }
+        KeptEvents {
+            alloc,
+            events,
+            open: 0,
+        }
     }
 
     /// The events, if they are kept.
@@ -46,14 +53,44 @@ impl KeptEvents {
         self.events.is_some()
     }
 
-    /// Makes room for one more, where they are kept.
-    pub fn make_room(&mut self) -> Result<(), AllocError>
+    /// Makes room for so many more, at least one, where they are kept.
+    fn reserve(&mut self, count: usize) -> Result<(), AllocError>
+        requires { 1 ≤ count }
         ensures same { items_of self.new.events ≡ items_of self.old.events }
         ensures room { OnOk result (HasRoom self.new.events) }
     {
         match &mut self.events {
-            Some(events) => events.reserve(1),
+            Some(events) => events.reserve(count),
             None => Ok(()),
+        }
+    }
+
+    /// Makes room for one more, where they are kept, besides that for the closings.
+    pub fn make_room(&mut self) -> Result<(), AllocError>
+        ensures same { items_of self.new.events ≡ items_of self.old.events }
+        ensures room { OnOk result (HasRoom self.new.events) }
+    {
+        self.reserve(self.open.saturating_add(1))
+    }
+
+    /// Makes room for an event: for a connecting with its closing, for a closing in what was made when its viewer connected.
+    pub fn make_room_for(&mut self, event: &Event) -> Result<(), AllocError>
+        ensures same { items_of self.new.events ≡ items_of self.old.events }
+        ensures room { OnOk result (HasRoom self.new.events) }
+    {
+        match event {
+            Event::Connect { .. } => self.reserve(self.open.saturating_add(2)),
+            Event::Close { .. } => self.reserve(1),
+            _ => self.make_room(),
+        }
+    }
+
+    /// How many viewers are open once an event has happened.
+    fn open_after(&self, event: &Event) -> usize {
+        match event {
+            Event::Connect { .. } => self.open.saturating_add(1),
+            Event::Close { .. } => self.open.saturating_sub(1),
+            _ => self.open,
         }
     }
 
@@ -62,6 +99,7 @@ impl KeptEvents {
         requires room { HasRoom self.old.events }
         ensures { items_of self.new.events ≡ option_map (λ events. events ++ event ∷ []) (items_of self.old.events) }
     {
+        self.open = self.open_after(&event);
         if let Some(events) = &mut self.events {
             events.push_reserved(event);
         }

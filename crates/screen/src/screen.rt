@@ -435,13 +435,15 @@ impl Screen {
     {
         refusals_are_due();
         self.scene.check_free(number)?;
-        self.events.make_room()?;
+        let event = Event::Connect { viewer: number };
+        self.events.make_room_for(&event)?;
         let version = self.scene.connect(number)?;
-        self.events.push(Event::Connect { viewer: number });
+        self.events.push(event);
         Ok(version)
     }
 
-    /// Closes a viewer's connection. Refused as `NoViewer` where there is none with the number.
+    /// Closes a viewer's connection. Refused as `NoViewer` where there is none with the number. Where events are kept, room for this
+    /// one was made when the viewer connected.
     pub fn close(&mut self, number: u64) -> Result<(), ScreenError>
         ensures step { (config : Config) (list : List Event) → self.old ≡ state config list →
             OnOk result (self.new ≡ state config (list ++ Event.Close number ∷ [])) }
@@ -452,9 +454,10 @@ impl Screen {
     {
         refusals_are_due();
         self.scene.check_live(number)?;
-        self.events.make_room()?;
+        let event = Event::Close { viewer: number };
+        self.events.make_room_for(&event)?;
         self.scene.close(number)?;
-        self.events.push(Event::Close { viewer: number });
+        self.events.push(event);
         Ok(())
     }
 
@@ -531,7 +534,7 @@ impl Screen {
             return self.scene.apply(event);
         }
         let copy = self.events.copied_event(event)?;
-        self.events.make_room()?;
+        self.events.make_room_for(event)?;
         let answer = self.scene.apply(event)?;
         if !has_happened(event, &answer) {
             return Ok(answer);

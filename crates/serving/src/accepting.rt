@@ -14,6 +14,7 @@ use std::sync::Wait;
 use std::sync::ledger::Ledger;
 use std::thread;
 use std::thread::{Promise, Scope, Threads};
+use std::time::Clock;
 use update_sender::{Line, Shared};
 
 /// A connection, where its handle is kept, and the line of its viewer.
@@ -51,7 +52,7 @@ fn accept<L: Ledger, R: Wait>(
 }
 
 /// Serves a connection until its viewer has ended; its handle is not kept any longer then.
-fn serve_caller<L: Ledger + Send + Sync, R: Threads + Wait + Sync>(
+fn serve_caller<L: Ledger + Send + Sync, R: Threads + Wait + Clock + Sync>(
     rt: &R,
     shared: &Shared<L>,
     hub: &InputHub,
@@ -72,7 +73,7 @@ fn serve_caller<L: Ledger + Send + Sync, R: Threads + Wait + Sync>(
 /// Accepts a connection for each seat, the last of which is the first viewer's, and serves it in threads of its own. The
 /// viewers' receipts by number, once all have ended. On an error everything is ended: no viewer is waited for longer than it
 /// takes to see that its connection is shut.
-pub(crate) fn accept_all<L: Ledger + Send + Sync, R: Threads + Wait + Sync>(
+pub(crate) fn accept_all<L: Ledger + Send + Sync, R: Threads + Wait + Clock + Sync>(
     rt: &R,
     alloc: Global,
     listener: &TcpListener,
@@ -103,7 +104,7 @@ pub(crate) fn accept_all<L: Ledger + Send + Sync, R: Threads + Wait + Sync>(
 }
 
 /// The same in a scope, whose threads may still run after an error.
-fn serve_each<'s, E, L: Ledger + Send + Sync + 's, R: Threads + Wait + Sync + 's>(
+fn serve_each<'s, E, L: Ledger + Send + Sync + 's, R: Threads + Wait + Clock + Sync + 's>(
     rt: &'s R,
     alloc: Global,
     listener: &TcpListener,

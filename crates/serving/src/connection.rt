@@ -5,18 +5,35 @@ ghost use Rattle.std.specs.Prelude.{◌≡◌};
 use crate::doors::shut;
 use input_queue::{InputHub, InputSeat};
 use receipts::Receipt;
+use screen::ScreenError;
 use std::net::TcpStream;
 use std::sync::Wait;
 use std::sync::ledger::Ledger;
 use std::thread;
 use std::thread::{Promise, Scope, Threads};
+use std::time::{Clock, Duration};
 use update_sender::{
     Line, Listener, OpenGate, Opened, ReadHalf, Shared, Speaker, WriteHalf, receipt, serve_opening,
     serve_reader, serve_sender,
 };
 
+/// How long a closing that is refused for memory is let wait.
+const RETRY: Duration = Duration::from_millis(10);
+
+/// Closes a viewer whose reader or opening ended, if it is open still: where that was refused for memory, again after a little while,
+/// until there is some. Else its sender would wait for an update that nobody can be sent.
+fn close_at_last<L: Ledger, R: Wait + Clock>(rt: &R, shared: &Shared<L>, viewer: u64) {
+    for _ in rt.forever() {
+        match shared.close(rt, viewer) {
+            Err(ScreenError::OutOfMemory) => thread::sleep(rt, RETRY),
+            // It is closed, or was before.
+            Ok(()) | Err(_) => return,
+        }
+    }
+}
+
 /// Opens a viewer, and serves it by a reader and a sender thread until both have ended. The connection is shut then.
-pub(crate) fn serve_connection<L: Ledger + Send + Sync, R: Threads + Wait + Sync>(
+pub(crate) fn serve_connection<L: Ledger + Send + Sync, R: Threads + Wait + Clock + Sync>(
     rt: &R,
     shared: &Shared<L>,
     line: Line,
@@ -36,6 +53,7 @@ pub(crate) fn serve_connection<L: Ledger + Send + Sync, R: Threads + Wait + Sync
             serve_open(rt, shared, listener, speaker, &stream, hub, seat)
         }
         Opened::Over(receipt) => {
+            close_at_last(rt, shared, receipt.viewer);
             shut(&stream);
             receipt
         }
@@ -51,7 +69,7 @@ impl Promise<WriteHalf> for HalfOf {
 }
 
 /// The viewer's two threads. Whichever ends first ends the other one.
-fn serve_open<L: Ledger + Send + Sync, R: Threads + Wait + Sync>(
+fn serve_open<L: Ledger + Send + Sync, R: Threads + Wait + Clock + Sync>(
     rt: &R,
     shared: &Shared<L>,
     listener: Listener,
@@ -80,7 +98,7 @@ fn serve_open<L: Ledger + Send + Sync, R: Threads + Wait + Sync>(
 
 /// The same in a scope: the sender in a thread of it, the reader in this one. Where no thread can be started, the connection is
 /// shut, and both find it so.
-fn serve_halves<'s, E, L: Ledger + Send + Sync + 's, R: Threads + Wait + Sync + 's>(
+fn serve_halves<'s, E, L: Ledger + Send + Sync + 's, R: Threads + Wait + Clock + Sync + 's>(
     rt: &'s R,
     shared: &'s Shared<L>,
     listener: Listener,
@@ -115,7 +133,7 @@ fn serve_halves<'s, E, L: Ledger + Send + Sync + 's, R: Threads + Wait + Sync + 
 }
 
 /// The reader's thread.
-fn read_half<L: Ledger, R: Wait>(
+fn read_half<L: Ledger, R: Wait + Clock>(
     rt: &R,
     shared: &Shared<L>,
     listener: Listener,
@@ -130,6 +148,7 @@ fn read_half<L: Ledger, R: Wait>(
     let mut reader = stream;
     let half = serve_reader(rt, shared, listener, &mut reader, hub, seat);
     shut(stream);
+    close_at_last(rt, shared, half.viewer);
     half
 }
 

@@ -15,6 +15,7 @@ use std::sync::Wait;
 use std::sync::ledger::Ledger;
 use std::thread;
 use std::thread::{Promise, Scope, Threads};
+use std::time::Clock;
 use update_sender::{Brush, Shared};
 
 /// How many inputs may wait for the application. One that comes while so many wait is dropped.
@@ -111,7 +112,7 @@ fn serve_seats<'s, E, L, A, R>(
 where
     L: Ledger + Send + Sync + 's,
     A: Application<L>,
-    R: Threads + Wait + Net + Sync + 's,
+    R: Threads + Wait + Net + Clock + Sync + 's,
     requires queue { All (λ s. s.queue ≡ hub.now.queue) seats.items }
     requires seated { AreSeated (length seats.items) seats.items }
     requires taker { taker.queue ≡ hub.now.queue }
@@ -157,7 +158,7 @@ pub fn serve_viewers<L, A, R>(
 where
     L: Ledger + Send + Sync,
     A: Application<L>,
-    R: Threads + Wait + Net + Sync,
+    R: Threads + Wait + Net + Clock + Sync,
     ensures { IfOk result (λ receipts. AreNumbered viewers receipts.items) }
 {
     let Seating { hub, taker, seats } = seating_for(alloc, viewers)?;

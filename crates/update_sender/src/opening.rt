@@ -18,7 +18,8 @@ use std::sync::ledger::Ledger;
 pub enum Opened {
     /// The ServerInit is written. The viewer's two ends: one for `serve_reader`, one for `serve_sender`.
     Ready(Listener, Speaker),
-    /// It broke off, and the viewer is closed. What was heard and sent until then.
+    /// It broke off, and the viewer is closed, unless that was refused for memory (`Shared::close`). What was heard and sent until
+    /// then.
     Over(Receipt),
 }
 
@@ -50,7 +51,7 @@ pub fn serve_opening<L: Ledger, Rd: Read, W: Write, R: Wait>(
     match greeted {
         Ok(()) => Opened::Ready(listener, speaker),
         Err(ended) => {
-            shared.close_at_last(rt, listener.viewer());
+            let _closed = shared.close(rt, listener.viewer());
             Opened::Over(receipt_of(listener, speaker, ended))
         }
     }

@@ -40,7 +40,8 @@ pub struct ReadHalf {
 
 /// Reads pieces of at most 4,096 bytes, hears each, and puts its inputs at the seat, the listener's waiting ones first. An
 /// input that meets a full queue is dropped and counted. It ends, and closes the viewer, where the reader is at its end, a
-/// read fails, memory is refused, the viewer was closed by somebody else, or it says what no message says.
+/// read fails, memory is refused, the viewer was closed by somebody else, or it says what no message says. Where the closing is
+/// refused for memory, it ends all the same, and the viewer stays (`Shared::close`).
 pub fn serve_reader<L: Ledger, Rd: Read, R: Wait>(
     rt: &R,
     shared: &Shared<L>,
@@ -63,7 +64,7 @@ pub fn serve_reader<L: Ledger, Rd: Read, R: Wait>(
     let waiting = listener.take_waiting();
     let dropped = put_all(rt, hub, &mut seat, waiting);
     let (ended, more) = hear_all(rt, shared, &mut listener, reader, hub, &mut seat);
-    shared.close_at_last(rt, listener.viewer);
+    let _closed = shared.close(rt, listener.viewer);
     ReadHalf {
         viewer: listener.viewer,
         pieces: listener.pieces,

@@ -33,7 +33,8 @@ pub struct WriteHalf {
 /// Waits until there is something to send, cuts it, asks the gate, encodes its first 64 KB, asks the gate, writes them, and
 /// then encodes and writes the others, again and again. Beside the update it keeps a buffer of 65,536 bytes while it sends.
 /// It ends after `Shared::stop`, where the viewer is closed, and where it met a fault, the first of these; and where a write
-/// fails or takes no byte, memory is refused, or the gate refuses: then it closes the viewer. No lock is held but while an
+/// fails or takes no byte, memory is refused, or the gate refuses: then it closes the viewer, which stays where that is refused for
+/// memory (`Shared::close`). No lock is held but while an
 /// update is cut.
 pub fn serve_sender<L: Ledger, W: Write, G: Gate, R: Wait>(
     rt: &R,
@@ -49,7 +50,7 @@ pub fn serve_sender<L: Ledger, W: Write, G: Gate, R: Wait>(
     let viewer = speaker.viewer;
     let ended = send_all(rt, shared, &mut speaker, writer, gate);
     if ended.may_break_off() {
-        shared.close_at_last(rt, viewer);
+        let _closed = shared.close(rt, viewer);
     }
     gate.ended(viewer);
     WriteHalf {

@@ -18,7 +18,6 @@ use std::alloc::{AllocError, Global};
 use std::marker::Model;
 use std::sync::ledger::{Blank, Ledger};
 use std::sync::{Condvar, Mutex, Wait};
-use std::thread;
 
 /// A screen that threads share. Contracts see the configuration that it was made with.
 #[derive(Drop)]
@@ -90,25 +89,14 @@ impl<L: Ledger> Shared<L> {
         Ok(Line::new(self.alloc, number, self.config.history, version))
     }
 
-    /// A viewer's connection is closed. Refused as `NoViewer` where there is none with the number.
+    /// A viewer's connection is closed. Refused as `NoViewer` where there is none with the number, and as `OutOfMemory`: then the viewer
+    /// stays, and whoever serves it closes it later, or its sender may wait for an update that nobody can be sent.
     pub fn close<R: Wait>(&self, rt: &R, number: u64) -> Result<(), ScreenError>
         ensures refused { IfErr result (λ e. (e ≡ refusals.NoViewer) ⊎ (e ≡ refusals.OutOfMemory)) }
     {
         self.desk.lock(rt).close(number)?;
         self.moved.notify_all();
         Ok(())
-    }
-
-    /// The same for the viewer's own threads: what is refused for memory is tried again until there is some. Else the viewer
-    /// would stay, and its sender wait for ever for an update that nobody can be sent.
-    pub(crate) fn close_at_last<R: Wait>(&self, rt: &R, number: u64) {
-        for _ in rt.forever() {
-            match self.close(rt, number) {
-                Err(ScreenError::OutOfMemory) => thread::yield_now(),
-                // It is closed, or somebody else has done so.
-                Ok(()) | Err(_) => return,
-            }
-        }
     }
 
     /// Every later `cut_wait` gives None.

@@ -27,13 +27,13 @@ returns-then-is_err-clause-step c = λ config list h.
     (refused-unhappened event (answer_to config list event) (ap (λ o. is_none o) due ∙ found)) refl)
     (c.apply.ensures.step config list scene)
 
-pub returns-in_err-make_room-clause-answer : goal.returns-in_err-make_room-clause-answer
-returns-in_err-make_room-clause-answer c = λ config list h.
+pub returns-in_err-make_room_for-clause-answer : goal.returns-in_err-make_room_for-clause-answer
+returns-in_err-make_room_for-clause-answer c = λ config list h.
     let event = c.args.event.now in
     let scene = scene-is c.self.inside.scene (items_of c.self.inside.events.events) config list (c.self.view_is ∙ h) in
-    answers-memory _ c.from_residual-in_err-make_room.result (λ answer. answer ≡ answer_to config list event) (answer_to config list event).refused
+    answers-memory _ c.from_residual-in_err-make_room_for.result (λ answer. answer ≡ answer_to config list event) (answer_to config list event).refused
     (c.refusals_are_due.ensures config list event ∙ sym (ap (λ s. refusal s event) scene) ∙ check-passed c.check.result (refusal c.self.inside.scene event) c.check.ensures (sym (c.if-is_err.ensures).value))
-    c.from_residual-in_err-make_room.ensures.1
+    c.from_residual-in_err-make_room_for.ensures.1
 
 pub returns-then-not-has_happened-clause-step : goal.returns-then-not-has_happened-clause-step
 returns-then-not-has_happened-clause-step c = λ config list h.
@@ -41,10 +41,10 @@ returns-then-not-has_happened-clause-step c = λ config list h.
     let was = items_of c.self.inside.events.events in
     let is = c.self.view_is ∙ h in
     let scene = scene-is c.self.inside.scene was config list is in
-    stays config list event c.self.inside.scene c.apply-2.new.self was (items_of c.make_room.new.self.events) is
+    stays config list event c.self.inside.scene c.apply-2.new.self was (items_of c.make_room_for.new.self.events) is
     (c.in_ok-answer.ensures.step config list scene)
     (ap (has_happened event) (sym (c.in_ok-answer.ensures.answer config list scene)) ∙ sym c.has_happened.ensures ∙ c.if-not-has_happened.true)
-    c.in_ok-make_room.ensures.same
+    c.in_ok-make_room_for.ensures.same
 
 pub returns-clause-step : goal.returns-clause-step
 returns-clause-step c = λ config list h.
@@ -55,5 +55,5 @@ returns-clause-step c = λ config list h.
     goes_on config list event c.in_ok-copy.copy c.self.inside.scene c.apply-2.new.self was (items_of c.push.new.self.events) is
     (c.in_ok-answer.ensures.step config list scene)
     (ap (has_happened event) (sym (c.in_ok-answer.ensures.answer config list scene)) ∙ sym c.has_happened.ensures ∙ c.if-not-has_happened.false)
-    (c.push.ensures ∙ ap (option_map (λ (es : List Event). es ++ c.in_ok-copy.copy ∷ [])) c.in_ok-make_room.ensures.same)
+    (c.push.ensures ∙ ap (option_map (λ (es : List Event). es ++ c.in_ok-copy.copy ∷ [])) c.in_ok-make_room_for.ensures.same)
     (λ kept. c.in_ok-copy.ensures kept)

@@ -19,7 +19,7 @@ returns-clause-step c = λ config list h.
     goes_on config list event copy c.self.inside.scene c.connect.new.self was (items_of c.push.new.self.events) is
     (c.in_ok-version.ensures.step config list scene)
     (told-unrefused gives c.in_ok-version.version (answer_to config list event) (c.in_ok-version.ensures.answer config list scene))
-    (c.push.ensures ∙ ap (option_map (λ (es : List Event). es ++ copy ∷ [])) c.in_ok-make_room.ensures.same)
+    (c.push.ensures ∙ ap (option_map (λ (es : List Event). es ++ copy ∷ [])) c.in_ok-make_room_for.ensures.same)
     (λ kept. refl)
 
 pub returns-in_err-check_free-clause-answer : goal.returns-in_err-check_free-clause-answer
@@ -28,8 +28,8 @@ returns-in_err-check_free-clause-answer c = λ config list h.
     tells-error gives c.from_residual.result (answer_to config list (Connect c.args.number)) c.in_err-check_free.field-0.0
     (c.refusals_are_due.ensures config list (Connect c.args.number) ∙ sym (ap (λ s. refusal s (Connect c.args.number)) scene) ∙ c.in_err-check_free.ensures) c.from_residual.ensures.1
 
-pub returns-in_err-make_room-clause-answer : goal.returns-in_err-make_room-clause-answer
-returns-in_err-make_room-clause-answer c = λ config list h.
+pub returns-in_err-make_room_for-clause-answer : goal.returns-in_err-make_room_for-clause-answer
+returns-in_err-make_room_for-clause-answer c = λ config list h.
     let scene = scene-is c.self.inside.scene (items_of c.self.inside.events.events) config list (c.self.view_is ∙ h) in
-    tells-memory gives c.from_residual-in_err-make_room.result (answer_to config list (Connect c.args.number))
-    (c.refusals_are_due.ensures config list (Connect c.args.number) ∙ sym (ap (λ s. refusal s (Connect c.args.number)) scene) ∙ c.in_ok-check_free.ensures) c.from_residual-in_err-make_room.ensures.1
+    tells-memory gives c.from_residual-in_err-make_room_for.result (answer_to config list (Connect c.args.number))
+    (c.refusals_are_due.ensures config list (Connect c.args.number) ∙ sym (ap (λ s. refusal s (Connect c.args.number)) scene) ∙ c.in_ok-check_free.ensures) c.from_residual-in_err-make_room_for.ensures.1
