@@ -18,7 +18,7 @@ use std::net::{Ipv4Addr, Net, SocketAddr, TcpListener, TcpStream};
 use std::sync::Wait;
 use std::sync::ledger::{Blank, Ledger};
 use std::thread::{JoinHandle, Scope, Threads};
-use std::time::Duration;
+use std::time::{Clock, Duration};
 use std::{io, thread};
 use update_sender::{Brush, Shared};
 
@@ -177,7 +177,7 @@ fn run_in_scope<'s, E, L, R>(
 ) -> Result<Run, Trouble>
 where
     L: Ledger + Send + Sync,
-    R: Threads + Wait + Net + Sync,
+    R: Threads + Wait + Clock + Net + Sync,
 {
     let threads = spawn_all(alloc, streams, scope)?;
     let viewers = streams.len() as u64;
@@ -200,7 +200,7 @@ fn run_with_viewers<L, R>(
 ) -> Result<Run, Trouble>
 where
     L: Ledger + Send + Sync,
-    R: Threads + Wait + Net<Listener = TcpListener, Stream = TcpStream> + Sync,
+    R: Threads + Wait + Clock + Net<Listener = TcpListener, Stream = TcpStream> + Sync,
 {
     let bound = rt.bind(SocketAddr::from((Ipv4Addr::LOCALHOST, 0)));
     let listener = bound.map_err(network_trouble)?;
@@ -262,7 +262,7 @@ fn own<L, W, R>(
 where
     L: Ledger + Send + Sync,
     W: Write,
-    R: Threads + Wait + Net<Listener = TcpListener, Stream = TcpStream> + Sync,
+    R: Threads + Wait + Clock + Net<Listener = TcpListener, Stream = TcpStream> + Sync,
     requires name { blank.name ≡ L.name }
     requires parts { blank.parts ≡ L.parts }
     requires some { 0 < L.parts }
@@ -283,7 +283,7 @@ fn own_and_flush<L, W, R>(rt: &R, alloc: Global, blank: Blank, viewers: u32, wri
 where
     L: Ledger + Send + Sync,
     W: Write,
-    R: Threads + Wait + Net<Listener = TcpListener, Stream = TcpStream> + Sync,
+    R: Threads + Wait + Clock + Net<Listener = TcpListener, Stream = TcpStream> + Sync,
     requires name { blank.name ≡ L.name }
     requires parts { blank.parts ≡ L.parts }
     requires some { 0 < L.parts }
@@ -305,7 +305,7 @@ where
 pub fn self_on<W, R>(rt: &R, alloc: Global, viewers: u32, writer: &mut W) -> u8
 where
     W: Write,
-    R: Threads + Wait + Net<Listener = TcpListener, Stream = TcpStream> + Sync,
+    R: Threads + Wait + Clock + Net<Listener = TcpListener, Stream = TcpStream> + Sync,
     ensures { (result ≡ 0) ⊎ (result ≡ 3) ⊎ (result ≡ 4) ⊎ (result ≡ 5) }
 {
     own_and_flush::<Brand, W, R>(rt, alloc, Blank::new(1), viewers, writer)

@@ -19,6 +19,7 @@ use std::net::{Net, TcpListener};
 use std::sync::Wait;
 use std::sync::ledger::{Blank, Ledger};
 use std::thread::Threads;
+use std::time::Clock;
 use update_sender::{Brush, Shared, finish};
 
 /// What `serve` is told.
@@ -186,7 +187,7 @@ pub(crate) fn print_refusal<W: Write>(
 }
 
 /// Serves the viewers on a shared screen, and says how they ended. The status.
-fn serve<L: Ledger + Send + Sync, W: Write, R: Threads + Wait + Net + Sync>(
+fn serve<L: Ledger + Send + Sync, W: Write, R: Threads + Wait + Clock + Net + Sync>(
     rt: &R,
     alloc: Global,
     blank: Blank,
@@ -222,7 +223,7 @@ fn serve<L: Ledger + Send + Sync, W: Write, R: Threads + Wait + Net + Sync>(
 }
 
 /// The same, and what it printed is written out.
-fn serve_and_flush<L: Ledger + Send + Sync, W: Write, R: Threads + Wait + Net + Sync>(
+fn serve_and_flush<L: Ledger + Send + Sync, W: Write, R: Threads + Wait + Clock + Net + Sync>(
     rt: &R,
     alloc: Global,
     blank: Blank,
@@ -248,7 +249,7 @@ fn serve_and_flush<L: Ledger + Send + Sync, W: Write, R: Threads + Wait + Net + 
 /// of the run: `finish ok`, or `finish`, the code and the name of what is wrong. The status is 0; 1 after `refused`, for a
 /// configuration that no screen has; 3 after `out of memory`; 4 after a judgement that is not `ok`; 5 after `network fault`, and
 /// after a write that failed.
-pub fn serve_on<W: Write, R: Threads + Wait + Net + Sync>(
+pub fn serve_on<W: Write, R: Threads + Wait + Clock + Net + Sync>(
     rt: &R,
     alloc: Global,
     listener: &TcpListener,

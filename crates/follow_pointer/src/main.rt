@@ -20,11 +20,12 @@ use std::rt::Runtime;
 use std::sync::Wait;
 use std::sync::ledger::{Blank, Ledger};
 use std::thread::{Scope, Threads};
+use std::time::Clock;
 use std::{env, io, thread};
 use visitor::Visitor;
 
 /// Serves one viewer, until it leaves. The square is in the left upper corner at first.
-fn serve<L: Ledger + Send + Sync, R: Threads + Wait + Net + Sync>(
+fn serve<L: Ledger + Send + Sync, R: Threads + Wait + Clock + Net + Sync>(
     rt: &R,
     alloc: Global,
     blank: Blank,
@@ -48,7 +49,7 @@ fn serve<L: Ledger + Send + Sync, R: Threads + Wait + Net + Sync>(
 }
 
 /// The same, with a ledger that nobody looks into.
-fn serve_one<R: Threads + Wait + Net + Sync>(
+fn serve_one<R: Threads + Wait + Clock + Net + Sync>(
     rt: &R,
     alloc: Global,
     listener: &TcpListener,
@@ -74,7 +75,7 @@ fn visit(alloc: Global, mut visitor: Visitor) -> io::Result<Vec<u8>> {
 
 /// Serves the visitor, which runs in a thread of the scope. The listener is closed at the end, so that a visitor whom nobody
 /// served does not wait.
-fn look_in_scope<'s, E, R: Threads + Wait + Net + Sync>(
+fn look_in_scope<'s, E, R: Threads + Wait + Clock + Net + Sync>(
     rt: &R,
     alloc: Global,
     listener: TcpListener,
@@ -92,7 +93,7 @@ fn look_in_scope<'s, E, R: Threads + Wait + Net + Sync>(
 }
 
 /// Serves a viewer of its own.
-fn look<R: Threads + Wait + Net<Listener = TcpListener, Stream = TcpStream> + Sync>(
+fn look<R: Threads + Wait + Clock + Net<Listener = TcpListener, Stream = TcpStream> + Sync>(
     rt: &R,
     alloc: Global,
 ) -> io::Result<Vec<u8>> {
@@ -104,7 +105,7 @@ fn look<R: Threads + Wait + Net<Listener = TcpListener, Stream = TcpStream> + Sy
 }
 
 /// Serves a viewer on a port.
-fn show<R: Threads + Wait + Net<Listener = TcpListener, Stream = TcpStream> + Sync>(
+fn show<R: Threads + Wait + Clock + Net<Listener = TcpListener, Stream = TcpStream> + Sync>(
     rt: &R,
     alloc: Global,
     port: u16,
@@ -114,11 +115,9 @@ fn show<R: Threads + Wait + Net<Listener = TcpListener, Stream = TcpStream> + Sy
 }
 
 /// What the words behind the program's name say is done.
-fn run<R: Runtime + Threads + Wait + Net<Listener = TcpListener, Stream = TcpStream> + Sync>(
-    rt: &R,
-    alloc: Global,
-    words: &[String],
-) -> io::Result<()> {
+fn run<
+    R: Runtime + Threads + Wait + Clock + Net<Listener = TcpListener, Stream = TcpStream> + Sync,
+>(rt: &R, alloc: Global, words: &[String]) -> io::Result<()> {
     match words.get(1) {
         None => io::writer(rt).write_all(&look(rt, alloc)?),
         Some(word) => match word.parse() {

@@ -15,6 +15,7 @@ use std::sync::Wait;
 use std::sync::ledger::{Blank, Ledger};
 use std::test::*;
 use std::thread::Threads;
+use std::time::Clock;
 use std::{io, thread};
 use test_threads::{GREETED, OPENING, fresh};
 use update_sender::{Brush, Report, Sent, Shared, finish};
@@ -203,7 +204,7 @@ struct Served {
 /// Serves the clients, which talk in a thread of their own.
 fn serve_clients<
     L: Ledger + Send + Sync,
-    R: Threads + Wait + Net<Listener = TcpListener, Stream = TcpStream> + Sync,
+    R: Threads + Wait + Clock + Net<Listener = TcpListener, Stream = TcpStream> + Sync,
 >(
     rt: &R,
     alloc: Global,
@@ -268,7 +269,7 @@ fn is_accepted<L: Ledger>(
 /// Whether the clients see what they say, and the run is accepted.
 fn are_served<
     L: Ledger + Send + Sync,
-    R: Threads + Wait + Net<Listener = TcpListener, Stream = TcpStream> + Sync,
+    R: Threads + Wait + Clock + Net<Listener = TcpListener, Stream = TcpStream> + Sync,
 >(rt: &R, alloc: Global, blank: Blank, clients: &[Client]) -> Result<bool, Fail>
     requires name { blank.name ≡ L.name }
     requires parts { blank.parts ≡ L.parts }
@@ -280,11 +281,9 @@ fn are_served<
     Ok(is_accepted(shared, brush, served, clients))
 }
 
-fn each_is_served<R: Threads + Wait + Net<Listener = TcpListener, Stream = TcpStream> + Sync>(
-    rt: &R,
-    alloc: Global,
-    clients: &[Client],
-) -> Result<bool, Fail> {
+fn each_is_served<
+    R: Threads + Wait + Clock + Net<Listener = TcpListener, Stream = TcpStream> + Sync,
+>(rt: &R, alloc: Global, clients: &[Client]) -> Result<bool, Fail> {
     are_served::<Brand, R>(rt, alloc, Blank::new(1), clients)
 }
 
@@ -328,7 +327,7 @@ fn is_refused(served: &Served) -> bool {
 /// Whether the server ends with the refusal while one viewer is silent and another one is awaited.
 fn is_ended<
     L: Ledger + Send + Sync,
-    R: Threads + Wait + Net<Listener = TcpListener, Stream = TcpStream> + Sync,
+    R: Threads + Wait + Clock + Net<Listener = TcpListener, Stream = TcpStream> + Sync,
 >(rt: &R, alloc: Global, blank: Blank) -> Result<bool, Fail>
     requires name { blank.name ≡ L.name }
     requires parts { blank.parts ≡ L.parts }
@@ -339,7 +338,7 @@ fn is_ended<
     Ok(is_refused(&served))
 }
 
-fn ends<R: Threads + Wait + Net<Listener = TcpListener, Stream = TcpStream> + Sync>(
+fn ends<R: Threads + Wait + Clock + Net<Listener = TcpListener, Stream = TcpStream> + Sync>(
     rt: &R,
     alloc: Global,
 ) -> Result<bool, Fail> {
@@ -355,7 +354,7 @@ fn a_refusal_ends_everything(rt: HostRuntime) -> Result<(), Fail> {
 /// Whether a listener that doesn't wait is told of as failing.
 fn fails_on<
     L: Ledger + Send + Sync,
-    R: Threads + Wait + Net<Listener = TcpListener, Stream = TcpStream> + Sync,
+    R: Threads + Wait + Clock + Net<Listener = TcpListener, Stream = TcpStream> + Sync,
 >(rt: &R, alloc: Global, shared: &Shared<L>, brush: &mut Brush<L>) -> io::Result<bool> {
     let listener = rt.bind(SocketAddr::from((Ipv4Addr::LOCALHOST, 0)))?;
     listener.set_nonblocking(true)?;
@@ -366,7 +365,7 @@ fn fails_on<
 /// The same, on a screen of its own.
 fn fails<
     L: Ledger + Send + Sync,
-    R: Threads + Wait + Net<Listener = TcpListener, Stream = TcpStream> + Sync,
+    R: Threads + Wait + Clock + Net<Listener = TcpListener, Stream = TcpStream> + Sync,
 >(rt: &R, alloc: Global, blank: Blank) -> Result<bool, Fail>
     requires name { blank.name ≡ L.name }
     requires parts { blank.parts ≡ L.parts }
@@ -376,10 +375,9 @@ fn fails<
     Ok(fails_on(rt, alloc, &shared, &mut brush)?)
 }
 
-fn no_connection<R: Threads + Wait + Net<Listener = TcpListener, Stream = TcpStream> + Sync>(
-    rt: &R,
-    alloc: Global,
-) -> Result<bool, Fail> {
+fn no_connection<
+    R: Threads + Wait + Clock + Net<Listener = TcpListener, Stream = TcpStream> + Sync,
+>(rt: &R, alloc: Global) -> Result<bool, Fail> {
     fails::<Brand, R>(rt, alloc, Blank::new(1))
 }
 

@@ -58,7 +58,7 @@ fn play<L: Ledger>(rt: &HostRuntime, blank: Blank) -> ExitCode
 
 fn serve_by_threads<
     W: Write,
-    R: Threads + Wait + Net<Listener = TcpListener, Stream = TcpStream> + Sync,
+    R: Threads + Wait + Clock + Net<Listener = TcpListener, Stream = TcpStream> + Sync,
 >(rt: &R, alloc: Global, port: u16, options: &ServeOptions, writer: &mut W) -> Option<u8> {
     let listener = TcpListener::bind(rt, (Ipv4Addr::LOCALHOST, port)).ok()?;
     Some(serve_on(rt, alloc, &listener, options, writer))

@@ -192,7 +192,7 @@ fn talk_each<R: Net<Listener = TcpListener, Stream = TcpStream>>(
 }
 
 // Whether the clients read what they say, and what is printed is as it says, with its status, once they have gone.
-fn comes_out<R: Threads + Wait + Net<Listener = TcpListener, Stream = TcpStream> + Sync>(
+fn comes_out<R: Threads + Wait + Clock + Net<Listener = TcpListener, Stream = TcpStream> + Sync>(
     rt: &R,
     alloc: Global,
     run: &Run,
@@ -243,7 +243,7 @@ fn viewers_are_served_in_one_thread(rt: HostRuntime) -> Result<(), Fail> {
 }
 
 // Whether this is printed of one viewer at a listener, with this status.
-fn prints_of<R: Threads + Wait + Net<Listener = TcpListener, Stream = TcpStream> + Sync>(
+fn prints_of<R: Threads + Wait + Clock + Net<Listener = TcpListener, Stream = TcpStream> + Sync>(
     rt: &R,
     alloc: Global,
     listener: &TcpListener,
