@@ -1,6 +1,7 @@
 pub mod Alone
 pub mod Answers
 pub mod Refusals
+pub mod Calls
 pub mod Claims
 pub mod Shown
 pub mod Pictures

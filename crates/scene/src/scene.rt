@@ -12,13 +12,14 @@ ghost use Rattle.scene.specs.Alone.{config_refusal, pixels_refusal, size_refusal
 ghost use Rattle.scene.specs.Alone.{Tells};
 ghost use Rattle.viewer.specs.Given.{bytes_given};
 ghost use Rattle.scene.specs.Answers.{scene_after, answer_to};
+ghost use Rattle.scene.specs.Calls.{event_of};
 ghost use Rattle.scene.specs.Refusals.{viewer_at, absence, presence, refusal, Refuses};
 
 use crate::answers::{settled, with_bytes, with_nothing, with_reply};
 use crate::arriving::let_in;
 use crate::drawing::{moves_nothing, owe_rects, owe_region, region_of, region_of_rect, tell};
 use crate::limits::{checked, refusal_of, size_refusal, text_refusal, unless_refused};
-use crate::{Answer, Config, Event, History, ScreenError};
+use crate::{Answer, Config, Drawing, Event, History, ScreenError};
 use framebuffer::{Framebuffer, destinations};
 use listed::Listed;
 use messages::Fault;
@@ -356,6 +357,32 @@ impl Scene {
         Ok(())
     }
 
+    /// `schedule_copy` for the places of a region.
+    fn schedule_copy_region(&mut self, region: &Region, dx: i32, dy: i32) -> Result<(), ScreenError>
+        ensures step { (config : Config) (list : List Event) → self.old ≡ scene_after config list →
+            OnOk result (self.new ≡ scene_after config (list ++ Event.ScheduleCopy region.now.list dx dy ∷ [])) }
+        ensures answer { (config : Config) (list : List Event) → self.old ≡ scene_after config list →
+            Tells (λ _. nothing_to_say) result (answer_to config list (Event.ScheduleCopy region.now.list dx dy)) }
+        ensures refused { IsOkUnless result ScreenError.OutOfMemory }
+        ensures err { OnErr result (self.new ≡ self.old) }
+    {
+        let rects = region.rects(false, false)?;
+        self.schedule_copy(rects.as_slice(), dx, dy)
+    }
+
+    /// `do_copy` for the places of a region.
+    fn do_copy_region(&mut self, region: &Region, dx: i32, dy: i32) -> Result<(), ScreenError>
+        ensures step { (config : Config) (list : List Event) → self.old ≡ scene_after config list →
+            OnOk result (self.new ≡ scene_after config (list ++ Event.DoCopy region.now.list dx dy ∷ [])) }
+        ensures answer { (config : Config) (list : List Event) → self.old ≡ scene_after config list →
+            Tells (λ _. nothing_to_say) result (answer_to config list (Event.DoCopy region.now.list dx dy)) }
+        ensures refused { IsOkUnless result ScreenError.OutOfMemory }
+        ensures err { OnErr result (self.new ≡ self.old) }
+    {
+        let rects = region.rects(false, false)?;
+        self.do_copy(rects.as_slice(), dx, dy)
+    }
+
     /// A bell for every open viewer for which fewer than 64 notices wait (`rfbSendBell` of `rfb.h`). Refused
     /// for want of memory alone.
     pub fn bell(&mut self) -> Result<(), ScreenError>
@@ -401,6 +428,32 @@ impl Scene {
         self.viewers.resize(width as u16, height as u16)?;
         self.picture = picture;
         Ok(())
+    }
+
+    /// One of the drawing calls above.
+    pub fn draw(&mut self, drawing: &Drawing<'_>) -> Result<(), ScreenError>
+        ensures step { (config : Config) (list : List Event) → self.old ≡ scene_after config list →
+            OnOk result (self.new ≡ scene_after config (list ++ event_of drawing.now ∷ [])) }
+        ensures answer { (config : Config) (list : List Event) → self.old ≡ scene_after config list →
+            Tells (λ _. nothing_to_say) result (answer_to config list (event_of drawing.now)) }
+        ensures refused { Refuses result (refusal self.old (event_of drawing.now)) }
+        ensures err { OnErr result (self.new ≡ self.old) }
+    {
+        match drawing {
+            Drawing::Write { rect, colours } => self.write_pixels(*rect, colours),
+            Drawing::Paint { rect, colours } => self.paint(*rect, colours),
+            Drawing::MarkRect(rect) => self.mark_rects(&[*rect]),
+            Drawing::MarkRegion(region) => self.mark_region(region),
+            Drawing::ScheduleCopyRect { rect, dx, dy } => self.schedule_copy(&[*rect], *dx, *dy),
+            Drawing::ScheduleCopyRegion { region, dx, dy } => {
+                self.schedule_copy_region(region, *dx, *dy)
+            }
+            Drawing::DoCopyRect { rect, dx, dy } => self.do_copy(&[*rect], *dx, *dy),
+            Drawing::DoCopyRegion { region, dx, dy } => self.do_copy_region(region, *dx, *dy),
+            Drawing::Bell => self.bell(),
+            Drawing::CutText(text) => self.cut_text(text),
+            Drawing::NewFramebuffer { width, height } => self.new_framebuffer(*width, *height),
+        }
     }
 
     /// A viewer connects; it is given the server's version (RFC 6143, 7.1.1). Refused as

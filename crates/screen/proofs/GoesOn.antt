@@ -12,6 +12,9 @@ use Rattle.scene.specs.declared.Event.{Event}
 use Rattle.scene.specs.declared.Event.TheVariants.{Write, Paint, Mark, ScheduleCopy, DoCopy, Bell, CutText, Resize, Connect, Hear, Cut, Close}
 use Rattle.std.specs.declared.alloc.AllocError.{AllocError}
 use Rattle.scene.specs.declared.Answer.{Answer}
+use Rattle.scene.specs.declared.calls.Drawing.{Drawing}
+use Rattle.scene.specs.declared.calls.Drawing.TheVariants as Drawn
+use Rattle.scene.specs.Calls.{event_of}
 use Rattle.scene.specs.Alone.{Tells, some_bytes, gives}
 use Rattle.scene.specs.Answers.{answer_to, SceneState, scene_after}
 use Rattle.scene.specs.History.{has_happened, accepted_after, accepted, accepted_is_enough, accepted_happens_again}
@@ -86,6 +89,20 @@ pub stays : (c : Config) (list : List Event) (e : Event) (s now : SceneState) (h
 stays c list e s now h kept_now is step nothing kept =
     ap (λ (k : Option (List Event)). with_history now k) (kept ∙ history-is s h c list is ∙ history-stays c list e nothing)
     ∙ ap (λ (o : SceneState). with_history o (history_of c (list ++ e ∷ []))) step
+
+-- a drawing call that is not refused happens
+pub drawing-happened : (d : Drawing) (a : Answer) → is_none a.refused ≡ true → has_happened (event_of d) a ≡ true
+drawing-happened (Drawn.Write rect colours) a h = h
+drawing-happened (Drawn.Paint rect colours) a h = h
+drawing-happened (Drawn.MarkRect rect) a h = h
+drawing-happened (Drawn.MarkRegion region) a h = h
+drawing-happened (Drawn.ScheduleCopyRect rect dx dy) a h = h
+drawing-happened (Drawn.ScheduleCopyRegion region dx dy) a h = h
+drawing-happened (Drawn.DoCopyRect rect dx dy) a h = h
+drawing-happened (Drawn.DoCopyRegion region dx dy) a h = h
+drawing-happened Drawn.Bell a h = h
+drawing-happened (Drawn.CutText text) a h = h
+drawing-happened (Drawn.NewFramebuffer width height) a h = h
 
 -- what is answered is no refusal
 pub told-unrefused : {X : Type 0} (answer : X → Answer) (x : X) (a : Answer) → Tells answer (Ok x) a → is_none a.refused ≡ true

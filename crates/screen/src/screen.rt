@@ -6,6 +6,7 @@ ghost use Rattle.std.specs.Prelude.{◌≡◌, ◌≢◌, ◌++◌, ◌∷◌, [
 ghost use Rattle.std.specs.Prelude.{IsOkUnless, IsSome, None, length, take, drop, slice_index, is_some, option_map, ◌↔◌, ◌<◌, ◌≤◌, ◌+◌, ◌*◌};
 ghost use Rattle.std.specs.Map.{keys_of};
 ghost use Rattle.viewer.specs.Viewer.{is_asking};
+ghost use Rattle.scene.specs.Calls.{call_refusal, event_of};
 ghost use Rattle.messages.specs.Reading.{fault_in_rest, is_open_rest};
 ghost use Rattle.messages.specs.Server.{server_version};
 ghost use Rattle.scene.specs.declared.Config.{Config};
@@ -21,7 +22,7 @@ use listed::Listed;
 use messages::Fault;
 use region::{Rect, Region};
 use scene::{
-    Answer, Config, Event, Scene, ScreenError, accepted_happens_again, accepted_is_enough,
+    Answer, Config, Drawing, Event, Scene, ScreenError, accepted_happens_again, accepted_is_enough,
     refusals_are_due,
 };
 use std::alloc::{AllocError, Global};
@@ -155,6 +156,26 @@ impl Screen {
         self.scene.is_asking(number)
     }
 
+    /// One drawing call: one of the calls below, as a value. Refused as that call is.
+    pub fn draw(&mut self, drawing: &Drawing<'_>) -> Result<(), ScreenError>
+        ensures step { (config : Config) (list : List Event) → self.old ≡ state config list →
+            OnOk result (self.new ≡ state config (list ++ event_of drawing.now ∷ [])) }
+        ensures answer { (config : Config) (list : List Event) → self.old ≡ state config list →
+            Tells (λ _. nothing_to_say) result (answer_to config list (event_of drawing.now)) }
+        ensures refused { Refuses result (refusal self.old (event_of drawing.now)) }
+        ensures call { Refuses result (call_refusal self.old.picture.width self.old.picture.height drawing.now) }
+        ensures err { OnErr result (self.new ≡ self.old) }
+    {
+        if let Some(refusal) = drawing.refusal(self.scene.width(), self.scene.height()) {
+            return Err(refusal);
+        }
+        let event = self.events.event_of(drawing)?;
+        self.events.make_room()?;
+        self.scene.draw(drawing)?;
+        self.events.push(event);
+        Ok(())
+    }
+
     /// Replaces the colours of a rectangle by others, `0x00RRGGBB` row by row, whose top bytes are
     /// cleared, and owes it to every viewer. Refused as `BadRect` unless 0 <= x1 <= x2 <= width and
     /// 0 <= y1 <= y2 <= height, then as `BadPixelCount` unless there are as many colours as places.
@@ -166,15 +187,7 @@ impl Screen {
         ensures refused { Refuses result (refusal self.old (Event.Paint rect colours.now)) }
         ensures err { OnErr result (self.new ≡ self.old) }
     {
-        self.scene.check_pixels(rect, colours)?;
-        let copy = self.events.copied(colours)?;
-        self.events.make_room()?;
-        self.scene.paint(rect, colours)?;
-        self.events.push(Event::Paint {
-            rect,
-            colours: copy,
-        });
-        Ok(())
+        self.draw(&Drawing::Paint { rect, colours })
     }
 
     /// Replaces the colours of a rectangle by others, `0x00RRGGBB` row by row, whose top bytes are
@@ -187,31 +200,7 @@ impl Screen {
         ensures refused { Refuses result (refusal self.old (Event.Write rect colours.now)) }
         ensures err { OnErr result (self.new ≡ self.old) }
     {
-        self.scene.check_pixels(rect, colours)?;
-        let copy = self.events.copied(colours)?;
-        self.events.make_room()?;
-        self.scene.write_pixels(rect, colours)?;
-        self.events.push(Event::Write {
-            rect,
-            colours: copy,
-        });
-        Ok(())
-    }
-
-    /// The rectangles' places on the screen are owed to every viewer. Corners may stand in the wrong order, anywhere.
-    fn mark_rects(&mut self, rects: &[Rect]) -> Result<(), ScreenError>
-        ensures step { (config : Config) (list : List Event) → self.old ≡ state config list →
-            OnOk result (self.new ≡ state config (list ++ Event.Mark rects.now ∷ [])) }
-        ensures answer { (config : Config) (list : List Event) → self.old ≡ state config list →
-            Tells (λ _. nothing_to_say) result (answer_to config list (Event.Mark rects.now)) }
-        ensures refused { IsOkUnless result ScreenError.OutOfMemory }
-        ensures err { OnErr result (self.new ≡ self.old) }
-    {
-        let copy = self.events.copied(rects)?;
-        self.events.make_room()?;
-        self.scene.mark_rects(rects)?;
-        self.events.push(Event::Mark { rects: copy });
-        Ok(())
+        self.draw(&Drawing::Write { rect, colours })
     }
 
     /// The places of a rectangle, as far as they are on the screen, are owed to every viewer
@@ -226,7 +215,7 @@ impl Screen {
         ensures refused { IsOkUnless result ScreenError.OutOfMemory }
         ensures err { OnErr result (self.new ≡ self.old) }
     {
-        self.mark_rects(&[Rect { x1, y1, x2, y2 }])
+        self.draw(&Drawing::MarkRect(Rect { x1, y1, x2, y2 }))
     }
 
     /// The places of a region, as far as they are on the screen, are owed to every viewer
@@ -239,32 +228,7 @@ impl Screen {
         ensures refused { IsOkUnless result ScreenError.OutOfMemory }
         ensures err { OnErr result (self.new ≡ self.old) }
     {
-        let copy = self.events.rects_of(region)?;
-        self.events.make_room()?;
-        self.scene.mark_region(region)?;
-        self.events.push(Event::Mark { rects: copy });
-        Ok(())
-    }
-
-    /// Each viewer is told that the rectangles' places get the colours of the places (dx, dy) before them;
-    /// the picture stays.
-    fn schedule_copy(&mut self, rects: &[Rect], dx: i32, dy: i32) -> Result<(), ScreenError>
-        ensures step { (config : Config) (list : List Event) → self.old ≡ state config list →
-            OnOk result (self.new ≡ state config (list ++ Event.ScheduleCopy rects.now dx dy ∷ [])) }
-        ensures answer { (config : Config) (list : List Event) → self.old ≡ state config list →
-            Tells (λ _. nothing_to_say) result (answer_to config list (Event.ScheduleCopy rects.now dx dy)) }
-        ensures refused { IsOkUnless result ScreenError.OutOfMemory }
-        ensures err { OnErr result (self.new ≡ self.old) }
-    {
-        let copy = self.events.copied(rects)?;
-        self.events.make_room()?;
-        self.scene.schedule_copy(rects, dx, dy)?;
-        self.events.push(Event::ScheduleCopy {
-            rects: copy,
-            dx,
-            dy,
-        });
-        Ok(())
+        self.draw(&Drawing::MarkRegion(region))
     }
 
     /// Every viewer is told that the places of a rectangle that are on the screen with their sources get the
@@ -290,7 +254,8 @@ impl Screen {
         ensures refused { IsOkUnless result ScreenError.OutOfMemory }
         ensures err { OnErr result (self.new ≡ self.old) }
     {
-        self.schedule_copy(&[Rect { x1, y1, x2, y2 }], dx, dy)
+        let rect = Rect { x1, y1, x2, y2 };
+        self.draw(&Drawing::ScheduleCopyRect { rect, dx, dy })
     }
 
     /// The same for the places of a region (`rfbScheduleCopyRegion` of `rfb.h`).
@@ -307,28 +272,7 @@ impl Screen {
         ensures refused { IsOkUnless result ScreenError.OutOfMemory }
         ensures err { OnErr result (self.new ≡ self.old) }
     {
-        let rects = region.rects(false, false)?;
-        self.schedule_copy(rects.as_slice(), dx, dy)
-    }
-
-    /// The rectangles' places get the colours of the places (dx, dy) before them, and each viewer is told.
-    fn do_copy(&mut self, rects: &[Rect], dx: i32, dy: i32) -> Result<(), ScreenError>
-        ensures step { (config : Config) (list : List Event) → self.old ≡ state config list →
-            OnOk result (self.new ≡ state config (list ++ Event.DoCopy rects.now dx dy ∷ [])) }
-        ensures answer { (config : Config) (list : List Event) → self.old ≡ state config list →
-            Tells (λ _. nothing_to_say) result (answer_to config list (Event.DoCopy rects.now dx dy)) }
-        ensures refused { IsOkUnless result ScreenError.OutOfMemory }
-        ensures err { OnErr result (self.new ≡ self.old) }
-    {
-        let copy = self.events.copied(rects)?;
-        self.events.make_room()?;
-        self.scene.do_copy(rects, dx, dy)?;
-        self.events.push(Event::DoCopy {
-            rects: copy,
-            dx,
-            dy,
-        });
-        Ok(())
+        self.draw(&Drawing::ScheduleCopyRegion { region, dx, dy })
     }
 
     /// The places of a rectangle that are on the screen with their sources get the colours that the places
@@ -354,7 +298,8 @@ impl Screen {
         ensures refused { IsOkUnless result ScreenError.OutOfMemory }
         ensures err { OnErr result (self.new ≡ self.old) }
     {
-        self.do_copy(&[Rect { x1, y1, x2, y2 }], dx, dy)
+        let rect = Rect { x1, y1, x2, y2 };
+        self.draw(&Drawing::DoCopyRect { rect, dx, dy })
     }
 
     /// The same for the places of a region (`rfbDoCopyRegion` of `rfb.h`).
@@ -366,8 +311,7 @@ impl Screen {
         ensures refused { IsOkUnless result ScreenError.OutOfMemory }
         ensures err { OnErr result (self.new ≡ self.old) }
     {
-        let rects = region.rects(false, false)?;
-        self.do_copy(rects.as_slice(), dx, dy)
+        self.draw(&Drawing::DoCopyRegion { region, dx, dy })
     }
 
     /// A bell for every open viewer for which fewer than 64 notices wait (`rfbSendBell` of `rfb.h`). Refused
@@ -380,10 +324,7 @@ impl Screen {
         ensures refused { IsOkUnless result ScreenError.OutOfMemory }
         ensures err { OnErr result (self.new ≡ self.old) }
     {
-        self.events.make_room()?;
-        self.scene.bell()?;
-        self.events.push(Event::Bell);
-        Ok(())
+        self.draw(&Drawing::Bell)
     }
 
     /// A text for every open viewer for which fewer than 64 notices wait (`rfbSendServerCutText` of `rfb.h`).
@@ -396,12 +337,7 @@ impl Screen {
         ensures refused { Refuses result (refusal self.old (Event.CutText text.now)) }
         ensures err { OnErr result (self.new ≡ self.old) }
     {
-        self.scene.check_text(text)?;
-        let copy = self.events.copied(text)?;
-        self.events.make_room()?;
-        self.scene.cut_text(text)?;
-        self.events.push(Event::CutText { text: copy });
-        Ok(())
+        self.draw(&Drawing::CutText(text))
     }
 
     /// The screen has so many columns and rows from now on, and is 0 everywhere (`rfbNewFramebuffer` of `rfb.h`). Every place is owed
@@ -415,11 +351,7 @@ impl Screen {
         ensures refused { Refuses result (refusal self.old (Event.Resize width height)) }
         ensures err { OnErr result (self.new ≡ self.old) }
     {
-        self.scene.check_size(width, height)?;
-        self.events.make_room()?;
-        self.scene.new_framebuffer(width, height)?;
-        self.events.push(Event::Resize { width, height });
-        Ok(())
+        self.draw(&Drawing::NewFramebuffer { width, height })
     }
 
     /// A viewer connects; it is given the server's version (RFC 6143, 7.1.1). Refused as

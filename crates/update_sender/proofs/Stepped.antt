@@ -13,9 +13,9 @@ use Rattle.scene.specs.History.{has_happened, accepted_after, accepted, drawings
 use Rattle.screen.specs.State.{State, state, kept_is_enough}
 use Rattle.update_sender.specs.Numbers.{rises, newest, is_next}
 use Rattle.update_sender.specs.Standing.{Stands}
-use Rattle.update_sender.specs.Calls.{event_of}
-use Rattle.update_sender.specs.declared.drawing.Drawing.{Drawing}
-use Rattle.update_sender.specs.declared.drawing.Drawing.TheVariants as calls
+use Rattle.scene.specs.Calls.{event_of}
+use Rattle.scene.specs.declared.calls.Drawing.{Drawing}
+use Rattle.scene.specs.declared.calls.Drawing.TheVariants as calls
 
 -- ---- what happened
 

@@ -1,6 +1,5 @@
 pub mod Numbers
 pub mod Standing
-pub mod Calls
 pub mod Ends
 pub mod Recorded
 pub mod Inputs

@@ -6,16 +6,15 @@ ghost use Rattle.scene.specs.declared.Event.{Event};
 ghost use Rattle.scene.specs.declared.ScreenError.TheVariants as refusals;
 ghost use Rattle.scene.specs.Alone.{pixels_refusal, size_refusal, text_refusal};
 ghost use Rattle.scene.specs.Refusals.{Refuses};
-ghost use Rattle.update_sender.specs.Calls.{call_refusal, event_of};
+ghost use Rattle.scene.specs.Calls.{call_refusal, event_of};
 ghost use Rattle.update_sender.specs.Ends.{drew};
 ghost use Rattle.update_sender.specs.Recorded.{HasRoom, first_of, items_of};
 
-use crate::drawing::Drawing;
 use crate::recorded::Recorded;
 use crate::shared::Shared;
 use listed::Listed;
 use region::{Rect, Region};
-use screen::{Event, History, ScreenError};
+use screen::{Drawing, Event, History, ScreenError};
 use std::alloc::{AllocError, Global};
 use std::marker::Model;
 use std::sync::Wait;

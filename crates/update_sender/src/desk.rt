@@ -12,14 +12,13 @@ ghost use Rattle.scene.specs.Answers.{answer_to};
 ghost use Rattle.scene.specs.declared.ScreenError.TheVariants as refusals;
 ghost use Rattle.scene.specs.Refusals.{absence, Refuses};
 ghost use Rattle.screen.specs.State.{state, viewer_at, refusal};
-ghost use Rattle.update_sender.specs.Calls.{call_refusal, event_of};
+ghost use Rattle.scene.specs.Calls.{call_refusal, event_of};
 ghost use Rattle.update_sender.specs.Numbers.{is_next};
 ghost use Rattle.update_sender.specs.Standing.{Draws, Joins, Stands, StepsAlone, Takes, TellsTurn, HasBytes, ending, is_open_now};
 
-use crate::drawing::Drawing;
 use crate::turn::Turn;
 use listed::Listed;
-use screen::{Answer, Event, Screen, ScreenError, Update, kept_is_enough};
+use screen::{Answer, Drawing, Event, Screen, ScreenError, Update, kept_is_enough};
 use std::alloc::AllocError;
 use std::marker::Model;
 use std::sync::ledger::{Book, Ledger, Share};
@@ -141,7 +140,7 @@ impl<L: Ledger> Desk<L> {
         ensures err { OnErr result (self.new ≡ self.old) }
         ensures not_counted { OnErr result (share.new.amount ≡ share.old.amount) }
     {
-        drawing.draw_on(&mut self.screen)?;
+        self.screen.draw(drawing)?;
         self.drawings.add(share, 1);
         Ok(())
     }

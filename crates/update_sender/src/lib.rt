@@ -15,7 +15,6 @@
 
 mod brush;
 mod desk;
-mod drawing;
 mod ending;
 mod ends;
 mod gate;
