@@ -1,11 +1,27 @@
 //! The drawing calls of an application, as one value each.
 
-ghost use Rattle.std.specs.Prelude.{◌≡◌};
-ghost use Rattle.scene.specs.Calls.{call_refusal, may_be_sent};
+ghost use Rattle.std.specs.Prelude.{◌≡◌, ◌∷◌, [], IfOk};
+ghost use Rattle.scene.specs.Calls.{call_refusal, event_of, may_be_sent};
 
-use crate::ScreenError;
 use crate::limits::{pixels_refusal, size_refusal, text_refusal};
+use crate::{Event, ScreenError};
+use listed::Listed;
 use region::{Rect, Region};
+use std::alloc::{AllocError, Global};
+
+/// A rectangle as a list.
+fn list_of(alloc: Global, rect: Rect) -> Result<Listed<Rect>, AllocError>
+    ensures { IfOk result (λ rects. rects ≡ rect ∷ []) }
+{
+    Listed::from_slice(alloc, &[rect])
+}
+
+/// A region's canonical list.
+fn rects_of(region: &Region) -> Result<Listed<Rect>, AllocError>
+    ensures { IfOk result (λ rects. rects ≡ region.now.list) }
+{
+    region.rects(false, false)
+}
 
 /// One drawing call with what it draws. Rectangles are as they were given.
 #[derive(Drop)]
@@ -69,5 +85,55 @@ impl<'a> Drawing<'a> {
             Drawing::NewFramebuffer { width, height } => size_refusal(*width, *height),
             _ => None,
         }
+    }
+
+    /// The event that the call is: with a rectangle as it was given, with a region's canonical list.
+    pub fn to_event(&self, alloc: Global) -> Result<Event, AllocError>
+        ensures { IfOk result (λ event. event ≡ event_of self.now) }
+    {
+        Ok(match self {
+            Drawing::Write { rect, colours } => Event::Write {
+                rect: *rect,
+                colours: Listed::from_slice(alloc, colours)?,
+            },
+            Drawing::Paint { rect, colours } => Event::Paint {
+                rect: *rect,
+                colours: Listed::from_slice(alloc, colours)?,
+            },
+            Drawing::MarkRect(rect) => Event::Mark {
+                rects: list_of(alloc, *rect)?,
+            },
+            Drawing::MarkRegion(region) => Event::Mark {
+                rects: rects_of(region)?,
+            },
+            Drawing::ScheduleCopyRect { rect, dx, dy } => Event::ScheduleCopy {
+                rects: list_of(alloc, *rect)?,
+                dx: *dx,
+                dy: *dy,
+            },
+            Drawing::ScheduleCopyRegion { region, dx, dy } => Event::ScheduleCopy {
+                rects: rects_of(region)?,
+                dx: *dx,
+                dy: *dy,
+            },
+            Drawing::DoCopyRect { rect, dx, dy } => Event::DoCopy {
+                rects: list_of(alloc, *rect)?,
+                dx: *dx,
+                dy: *dy,
+            },
+            Drawing::DoCopyRegion { region, dx, dy } => Event::DoCopy {
+                rects: rects_of(region)?,
+                dx: *dx,
+                dy: *dy,
+            },
+            Drawing::Bell => Event::Bell,
+            Drawing::CutText(text) => Event::CutText {
+                text: Listed::from_slice(alloc, text)?,
+            },
+            Drawing::NewFramebuffer { width, height } => Event::Resize {
+                width: *width,
+                height: *height,
+            },
+        })
     }
 }

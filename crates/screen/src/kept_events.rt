@@ -7,7 +7,6 @@ ghost use Rattle.scene.specs.Calls.{event_of};
 ghost use Rattle.scene.specs.History.{has_happened};
 
 use listed::Listed;
-use region::{Rect, Region};
 use scene::{Answer, Drawing, Event, History};
 use std::alloc::{AllocError, Global};
 
@@ -107,7 +106,7 @@ impl KeptEvents {
     }
 
     /// A copy of what an event holds, for keeping; nothing where none are kept.
-    fn copied<T: Copy>(&self, items: &[T]) -> Result<Listed<T>, AllocError>
+    pub fn copied<T: Copy>(&self, items: &[T]) -> Result<Listed<T>, AllocError>
         ensures { is_some (items_of self.now.events) ≡ true → IfOk result (λ copy. copy ≡ items.now) }
     {
         if self.is_kept() {
@@ -117,72 +116,15 @@ impl KeptEvents {
         }
     }
 
-    /// A rectangle as a list, for keeping.
-    fn rect_in(&self, rect: Rect) -> Result<Listed<Rect>, AllocError>
-        ensures { is_some (items_of self.now.events) ≡ true → IfOk result (λ rects. rects ≡ rect ∷ []) }
-    {
-        self.copied(&[rect])
-    }
-
-    /// A region's canonical list, for keeping; nothing where none are kept.
-    fn rects_of(&self, region: &Region) -> Result<Listed<Rect>, AllocError>
-        ensures { is_some (items_of self.now.events) ≡ true → IfOk result (λ rects. rects ≡ region.now.list) }
-    {
-        if self.is_kept() {
-            region.rects(false, false)
-        } else {
-            Ok(Listed::new(self.alloc))
-        }
-    }
-
-    /// The event that a drawing call is, for keeping; without its lists where none are kept.
+    /// The event that a drawing call is, where events are kept; else any, which is dropped.
     pub fn event_of(&self, drawing: &Drawing<'_>) -> Result<Event, AllocError>
         ensures { is_some (items_of self.now.events) ≡ true → IfOk result (λ event. event ≡ event_of drawing.now) }
     {
-        Ok(match drawing {
-            Drawing::Write { rect, colours } => Event::Write {
-                rect: *rect,
-                colours: self.copied(colours)?,
-            },
-            Drawing::Paint { rect, colours } => Event::Paint {
-                rect: *rect,
-                colours: self.copied(colours)?,
-            },
-            Drawing::MarkRect(rect) => Event::Mark {
-                rects: self.rect_in(*rect)?,
-            },
-            Drawing::MarkRegion(region) => Event::Mark {
-                rects: self.rects_of(region)?,
-            },
-            Drawing::ScheduleCopyRect { rect, dx, dy } => Event::ScheduleCopy {
-                rects: self.rect_in(*rect)?,
-                dx: *dx,
-                dy: *dy,
-            },
-            Drawing::ScheduleCopyRegion { region, dx, dy } => Event::ScheduleCopy {
-                rects: self.rects_of(region)?,
-                dx: *dx,
-                dy: *dy,
-            },
-            Drawing::DoCopyRect { rect, dx, dy } => Event::DoCopy {
-                rects: self.rect_in(*rect)?,
-                dx: *dx,
-                dy: *dy,
-            },
-            Drawing::DoCopyRegion { region, dx, dy } => Event::DoCopy {
-                rects: self.rects_of(region)?,
-                dx: *dx,
-                dy: *dy,
-            },
-            Drawing::Bell => Event::Bell,
-            Drawing::CutText(text) => Event::CutText {
-                text: self.copied(text)?,
-            },
-            Drawing::NewFramebuffer { width, height } => Event::Resize {
-                width: *width,
-                height: *height,
-            },
-        })
+        if self.is_kept() {
+            drawing.to_event(self.alloc)
+        } else {
+            Ok(Event::Bell)
+        }
     }
 
     /// A copy of an event, for keeping; without its lists where none are kept.

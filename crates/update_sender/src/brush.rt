@@ -39,72 +39,15 @@ impl<L: Ledger> Model for Brush<L> {
     ghost invariant = { λ a. (a.share.parts ≡ L.parts) × (0 < a.share.parts) × Counts a.share.amount (items_of a.drawn.items) };
 }
 
-/// A rectangle as a list, for keeping.
-fn rect_in(drawn: &Recorded<Event>, rect: Rect) -> Result<Listed<Rect>, AllocError>
-    ensures { is_some (items_of drawn.now.items) ≡ true → IfOk result (λ rects. rects ≡ rect ∷ []) }
-{
-    drawn.copied(&[rect])
-}
-
-/// A region's canonical list, for keeping.
-fn rects_in(drawn: &Recorded<Event>, region: &Region) -> Result<Listed<Rect>, AllocError>
-    ensures { is_some (items_of drawn.now.items) ≡ true → IfOk result (λ rects. rects ≡ region.now.list) }
-{
-    if drawn.is_kept() {
-        region.rects(false, false)
-    } else {
-        drawn.copied(&[])
-    }
-}
-
-/// The event that a call is, for keeping; without its lists where none is kept.
+/// The event that a call is, where the calls are kept; else any, which is dropped.
 fn event_in(drawn: &Recorded<Event>, drawing: &Drawing<'_>) -> Result<Event, AllocError>
     ensures { is_some (items_of drawn.now.items) ≡ true → IfOk result (λ event. event ≡ event_of drawing.now) }
 {
-    Ok(match drawing {
-        Drawing::Write { rect, colours } => Event::Write {
-            rect: *rect,
-            colours: drawn.copied(colours)?,
-        },
-        Drawing::Paint { rect, colours } => Event::Paint {
-            rect: *rect,
-            colours: drawn.copied(colours)?,
-        },
-        Drawing::MarkRect(rect) => Event::Mark {
-            rects: rect_in(drawn, *rect)?,
-        },
-        Drawing::MarkRegion(region) => Event::Mark {
-            rects: rects_in(drawn, region)?,
-        },
-        Drawing::ScheduleCopyRect { rect, dx, dy } => Event::ScheduleCopy {
-            rects: rect_in(drawn, *rect)?,
-            dx: *dx,
-            dy: *dy,
-        },
-        Drawing::ScheduleCopyRegion { region, dx, dy } => Event::ScheduleCopy {
-            rects: rects_in(drawn, region)?,
-            dx: *dx,
-            dy: *dy,
-        },
-        Drawing::DoCopyRect { rect, dx, dy } => Event::DoCopy {
-            rects: rect_in(drawn, *rect)?,
-            dx: *dx,
-            dy: *dy,
-        },
-        Drawing::DoCopyRegion { region, dx, dy } => Event::DoCopy {
-            rects: rects_in(drawn, region)?,
-            dx: *dx,
-            dy: *dy,
-        },
-        Drawing::Bell => Event::Bell,
-        Drawing::CutText(text) => Event::CutText {
-            text: drawn.copied(text)?,
-        },
-        Drawing::NewFramebuffer { width, height } => Event::Resize {
-            width: *width,
-            height: *height,
-        },
-    })
+    if drawn.is_kept() {
+        drawing.to_event(drawn.allocator())
+    } else {
+        Ok(Event::Bell)
+    }
 }
 
 /// The same, and room for it.

@@ -77,15 +77,9 @@ impl<T> Recorded<T> {
         }
     }
 
-    /// A copy of what is to be noted; nothing where none is kept.
-    pub fn copied<U: Copy>(&self, elements: &[U]) -> Result<Listed<U>, AllocError>
-        ensures { is_some (items_of self.now.items) ≡ true → IfOk result (λ copy. copy ≡ elements.now) }
-    {
-        if self.is_kept() {
-            Listed::from_slice(self.alloc, elements)
-        } else {
-            Ok(Listed::new(self.alloc))
-        }
+    /// The allocator that it was made with.
+    pub fn allocator(&self) -> Global {
+        self.alloc
     }
 }
 

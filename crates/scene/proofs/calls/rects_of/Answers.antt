@@ -1,7 +1,7 @@
 use Rattle.std.proofs.Common.{◌≡◌, List, subst, IfOk}
 use Rattle.region.specs.declared.Rect.{Rect}
 use Rattle.region.specs.OrderLemmas.{in_order-plain}
-use Rattle.update_sender.proofs.brush.rects_in.Goals as goal
+use Rattle.scene.proofs.calls.rects_of.Goals as goal
 
 pub returns-then-is_kept : goal.returns-then-is_kept
 returns-then-is_kept c = λ kept. subst (λ (l : List Rect). IfOk c.rects.result (λ rects. rects ≡ l)) (in_order-plain c.args.region.now.list) c.rects.ensures.order

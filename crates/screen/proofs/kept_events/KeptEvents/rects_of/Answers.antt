@@ -1,7 +1,0 @@
-use Rattle.std.proofs.Common.{◌≡◌, List, subst, IfOk}
-use Rattle.region.specs.declared.Rect.{Rect}
-use Rattle.region.specs.OrderLemmas.{in_order-plain}
-use Rattle.screen.proofs.kept_events.KeptEvents.rects_of.Goals as goal
-
-pub returns-then-is_kept : goal.returns-then-is_kept
-returns-then-is_kept c = λ kept. subst (λ (l : List Rect). IfOk c.rects.result (λ rects. rects ≡ l)) (in_order-plain c.args.region.now.list) c.rects.ensures.order
