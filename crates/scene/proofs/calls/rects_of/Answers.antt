@@ -3,5 +3,5 @@ use Rattle.region.specs.declared.Rect.{Rect}
 use Rattle.region.specs.OrderLemmas.{in_order-plain}
 use Rattle.scene.proofs.calls.rects_of.Goals as goal
 
-pub returns-then-is_kept : goal.returns-then-is_kept
-returns-then-is_kept c = λ kept. subst (λ (l : List Rect). IfOk c.rects.result (λ rects. rects ≡ l)) (in_order-plain c.args.region.now.list) c.rects.ensures.order
+pub returns : goal.returns
+returns c = subst (λ (l : List Rect). IfOk c.rects.result (λ rects. rects ≡ l)) (in_order-plain c.args.region.now.list) c.rects.ensures.order
