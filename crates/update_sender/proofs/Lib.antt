@@ -5,3 +5,4 @@ mod Written
 mod Served
 mod Putting
 mod Finished
+mod Among
