@@ -4,8 +4,8 @@ ghost use Rattle.std.specs.Prelude.{◌≡◌, ◌⊎◌, ◌++◌, List, ℕ, f
 ghost use Rattle.std.specs.Io.KnownBytes.{Appends};
 ghost use Rattle.demo_app.specs.Endings.{end_line, end_name, judgement_line, judgement_status, wrong_line, wrong_name};
 
+use play_script::trouble::{Trouble, print};
 use receipts::{Ended, FinishError, Receipt, Report};
-use script_player::trouble::{Trouble, print};
 use std::alloc::{AllocError, Global};
 use std::io::Write;
 

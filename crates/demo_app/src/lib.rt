@@ -1,4 +1,4 @@
-//! What the program `vncdemo` does: `play`, which `script_player` has, `serve`, which shows a screen to viewers over TCP, and
+//! What the program `vncdemo` does: `play`, which `play_script` has, `serve`, which shows a screen to viewers over TCP, and
 //! `self`, which runs a server and its viewers in one process.
 //!
 //! The viewer of `self`, `Shown`, is handed on for tests of other programs.
@@ -19,6 +19,6 @@ pub use one_thread::serve_in_one_thread;
 pub use own::self_on;
 pub use own_one_thread::self_in_one_thread;
 pub use pixel_translate::{BitsPerPixel, Component};
-pub use script_player::{SCRIPT_LIMIT, Steps, play_over};
+pub use play_script::{SCRIPT_LIMIT, Steps, play_over};
 pub use serve::{ServeOptions, serve_on};
 pub use test_viewer::{Area, Fault, FaultKind, PixelFormat, Shown, Version};

@@ -14,9 +14,9 @@ use crate::serve::{Easel, ServeOptions, Stroke, WHITE, config_of, print_refusal}
 use event_loop::{Application, Canvas, EventLoop, Limits, LoopError, WhenFull};
 use messages::Input;
 use mio::net::TcpListener;
+use play_script::trouble::{Trouble, flush, report};
 use receipts::{FinishError, Receipt, Report, check};
 use screen::{Config, Event, Listed, ScreenError};
-use script_player::trouble::{Trouble, flush, report};
 use std::alloc::{AllocError, Global};
 use std::io::Write;
 use std::net::Net;

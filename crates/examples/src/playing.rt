@@ -2,7 +2,7 @@
 
 ghost use Rattle.std.specs.Prelude.{◌≡◌};
 
-use script_player::{Steps, play_over};
+use play_script::{Steps, play_over};
 use std::alloc::Global;
 use std::io::{Read, Write};
 use std::marker::Brand;

@@ -4,3 +4,5 @@ pub mod Texts
 pub mod Transcript
 pub mod Examples
 pub mod Claims
+pub mod Playing
+pub mod Reading

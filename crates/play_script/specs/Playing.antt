@@ -2,7 +2,7 @@
 use Rattle.std.specs.Prelude.{◌≡◌, ℕ, ⊤, Option, Some, None}
 use Rattle.screen.specs.State.{State, state}
 use Rattle.play_script.specs.Transcript.{Played, Next, on, over, Step}
-use Rattle.script_player.specs.declared.play.Said.{Said}
+use Rattle.play_script.specs.declared.play.Said.{Said}
 
 -- the screen stands for the events so far, or there is none yet
 abbrev pub StandsFor : Option State → Option Played → Type 0

@@ -1,5 +1,5 @@
 ghost use Rattle.std.specs.Prelude.{◌≡◌, ℕ, ◌+◌, ◌-◌, ◌^◌, ◌<◌, ◌≤◌, length, vec_len, IfOk, IfSome, IfErr};
-ghost use Rattle.script_player.specs.Reading.{CanEndReading};
+ghost use Rattle.play_script.specs.Reading.{CanEndReading};
 
 use crate::counted::CountedReader;
 use crate::trouble::Trouble;

@@ -4,13 +4,13 @@ ghost use Rattle.play_script.specs.Lines.{line_of};
 ghost use Rattle.play_script.specs.Texts.{bad_line};
 ghost use Rattle.play_script.specs.Transcript.{Played, step_of, transcript, status_of};
 ghost use Rattle.play_script.specs.declared.lines.Line.TheVariants as line;
-ghost use Rattle.script_player.specs.Playing.{StandsFor, Says};
+ghost use Rattle.play_script.specs.Playing.{StandsFor, Says};
 
 use crate::counted::CountedReader;
 use crate::reading::read_script;
 use crate::steps::Steps;
 use crate::trouble::{Trouble, flush, print, report};
-use play_script::{Line, answer_text, bad_line_text, cut_line, ok_text, parse_line, refusal_text};
+use crate::{Line, answer_text, bad_line_text, cut_line, ok_text, parse_line, refusal_text};
 use screen::{Config, Event, Screen, ScreenError};
 use std::alloc::{AllocError, Global};
 use std::io::{Read, Write};

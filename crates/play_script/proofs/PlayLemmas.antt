@@ -7,7 +7,7 @@ use Rattle.std.specs.Io.KnownBytes.{Appends}
 use Rattle.screen.specs.State.{State}
 use Rattle.play_script.specs.declared.lines.Line.{Line}
 use Rattle.play_script.specs.Transcript.{Played, Next, on, over, step_of, Outcome, with_text, outcome_from}
-use Rattle.script_player.specs.Playing.{StandsFor, GoesOn}
+use Rattle.play_script.specs.Playing.{StandsFor, GoesOn}
 
 pub appends_more : (a b c : Option (List ℕ)) (xs ys zs : List ℕ) → Appends a b xs → Appends b c ys → zs ≡ xs ++ ys → Appends a c zs
 appends_more None b c xs ys zs h g e = tt

@@ -4,8 +4,8 @@ use Rattle.std.specs.Io.KnownBytes.{Appends}
 use Rattle.play_script.specs.Words.{lines_of}
 use Rattle.play_script.specs.Lines.{line_of}
 use Rattle.play_script.specs.Transcript.{Played, on, outcome, outcome_from, with_text}
-use Rattle.script_player.specs.Playing.{StandsFor}
-use Rattle.script_player.proofs.play.play_text.Given as goal
+use Rattle.play_script.specs.Playing.{StandsFor}
+use Rattle.play_script.proofs.play.play_text.Given as goal
 
 abbrev pub invariant-loop-rest : goal.invariant-loop-rest
 invariant-loop-rest g l = record {

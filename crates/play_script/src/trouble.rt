@@ -18,7 +18,7 @@ pub enum Trouble {
 
 impl From<AllocError> for Trouble {
     ghost use Rattle.std.specs.Prelude.{◌≡◌};
-    ghost use Rattle.script_player.specs.declared.trouble.Trouble.TheVariants.{OutOfMemory};
+    ghost use Rattle.play_script.specs.declared.trouble.Trouble.TheVariants.{OutOfMemory};
 
     ghost from_gives = { λ _ e. e ≡ OutOfMemory };
 

@@ -4,8 +4,8 @@ use Rattle.play_script.specs.declared.lines.Line.{Line}
 use Rattle.play_script.specs.Words.{lines_of}
 use Rattle.play_script.specs.Lines.{line_of}
 use Rattle.play_script.specs.Transcript.{outcome}
-use Rattle.script_player.proofs.PlayLemmas.{appends_more, goes_on, ends, shorter}
-use Rattle.script_player.proofs.play.play_text.Goals as goal
+use Rattle.play_script.proofs.PlayLemmas.{appends_more, goes_on, ends, shorter}
+use Rattle.play_script.proofs.play.play_text.Goals as goal
 
 pub returns-in-Some-status-clause-transcript : goal.returns-in-Some-status-clause-transcript
 returns-in-Some-status-clause-transcript g c =

@@ -1,7 +1,7 @@
 -- Why a script could not be read.
 use Rattle.std.specs.Prelude.{ℕ, ⊤, ◌^◌, ◌<◌, List, length, Option, IfSome}
-use Rattle.script_player.specs.declared.trouble.Trouble.{Trouble}
-use Rattle.script_player.specs.declared.trouble.Trouble.TheVariants.{OutOfMemory, ReadFault, TooLong, NetworkFault, WriteFault}
+use Rattle.play_script.specs.declared.trouble.Trouble.{Trouble}
+use Rattle.play_script.specs.declared.trouble.Trouble.TheVariants.{OutOfMemory, ReadFault, TooLong, NetworkFault, WriteFault}
 
 -- a read can only fail where there was one, and a script that is too long has more than 2 ^ 24 bytes
 abbrev pub CanEndReading : ℕ → Option (List ℕ) → Trouble → Type 0
