@@ -251,11 +251,7 @@ impl Marks {
 
     /// The drawing of a log, the first entry's first: each `Mark` by `mark`, each `Copy` by `copy`. Each entry makes new regions,
     /// so a long log is first made shorter by `joined_log`. After an `AllocError` the marks are as they were.
-    pub fn apply_log(
-        &mut self,
-        entries: &[LogEntry],
-        uses_copyrect: bool,
-    ) -> Result<(), AllocError>
+    pub fn apply_log(&mut self, entries: &[LogEntry], uses_copyrect: bool) -> Result<(), AllocError>
         requires cut { All (IsCutEntry self.old.width self.old.height) entries.now }
         ensures ok { OnOk result (self.new ≡ logged uses_copyrect entries.now self.old) }
         ensures err { OnErr result (self.new ≡ self.old) }

@@ -57,11 +57,7 @@ fn bring_up(screen: &mut Screen) -> Result<(), ScreenError> {
 }
 
 /// Nothing stands where there are no viewers, nor where nothing is marked; else an entry a call, until all viewers have them.
-fn expect_entries(
-    rt: &impl Abort,
-    alloc: Global,
-    screen: &mut Screen,
-) -> Result<(), ScreenError> {
+fn expect_entries(rt: &impl Abort, alloc: Global, screen: &mut Screen) -> Result<(), ScreenError> {
     mark_some(alloc, screen)?;
     expect_log(rt, screen, 0);
     show_two(screen)?;
