@@ -150,6 +150,7 @@ int32_t vnc_screen_viewer_count(vnc_screen *screen);
 int32_t vnc_screen_numbers(vnc_screen *screen, uint64_t *room, size_t count); /* the live viewers' numbers, as many as fit: how many */
 int32_t vnc_screen_is_live(vnc_screen *screen, uint64_t viewer);              /* 1 or 0 */
 int32_t vnc_screen_is_open(vnc_screen *screen, uint64_t viewer);              /* 1 where its opening is over and it met no fault, else 0 */
+int32_t vnc_screen_is_asking(vnc_screen *screen, uint64_t viewer);            /* 1 where a request of its is unanswered, else 0 */
 int32_t vnc_screen_fault(vnc_screen *screen, uint64_t viewer);                /* 0, or a vnc_fault */
 
 #ifdef __cplusplus

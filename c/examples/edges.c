@@ -63,7 +63,10 @@ int main(void)
     IS(n, 0);
     IS(sum, 11);
     IS(vnc_screen_cut(s, 7), 0);
+    IS(vnc_screen_is_asking(s, 7), 0);
+    IS(vnc_screen_is_asking(s, 8), VNC_NO_VIEWER);
     IS(vnc_screen_hear(s, 7, (const uint8_t *)"\x03\x00\x00\x00\x00\x00\x00\x40\x00\x30", 10), 0);
+    IS(vnc_screen_is_asking(s, 7), 1);
     IS(vnc_screen_cut(s, 7), 1);
     for (sum = 0; (n = vnc_screen_output(s, 7, room, sizeof room)) > 0;) sum += n;
     IS(sum, 4 + 12 + 4 * 64 * 48);

@@ -3,6 +3,7 @@
 ghost use Rattle.std.specs.Prelude.{◌≡◌, ◌≢◌, ◌≤◌, ◌<◌, ◌^◌, ◌-◌, ◌+◌, ◌++◌, ◌∷◌, [], ℕ, List, pos, map, length, min, take, drop, Some, None, MatchOption, IfSome};
 ghost use Rattle.std.specs.Map.{keys_of};
 ghost use Rattle.messages.specs.Reading.{fault_in_rest, is_open_rest};
+ghost use Rattle.viewer.specs.Viewer.{is_asking};
 ghost use Rattle.scene.specs.declared.Event.{Event};
 ghost use Rattle.scene.specs.declared.History.TheVariants.{NotKept};
 ghost use Rattle.std.specs.Prelude.{ℤ, IfOk, OnOk, OnErr, IsOkUnless, MatchResult, is_some, not, false};
@@ -504,6 +505,16 @@ impl Desk {
             return SHUT;
         };
         truth_or(screen.is_open(viewer))
+    }
+
+    /// `Screen::is_asking`: 1 where a request of the viewer's is unanswered, else 0.
+    pub fn is_asking(&mut self, viewer: u64) -> i32
+        ensures { Tells (of_viewer viewer (λ seen. code.one_or_zero (is_asking seen))) self.old self.new result }
+    {
+        let Some(screen) = &self.screen else {
+            return SHUT;
+        };
+        truth_or(screen.is_asking(viewer))
     }
 
     /// `Screen::fault`: 0, or why the viewer is heard no further, by `fault_code`.

@@ -95,6 +95,7 @@ fn an_update_is_pending_once_it_is_asked_for(rt: HostRuntime) -> Result<(), Fail
     assert_eq!(rt; desk.is_pending(7), 0);
     assert_eq!(rt; desk.hear(7, REQUEST), 0);
     assert_eq!(rt; desk.is_pending(7), 1);
+    assert_eq!(rt; desk.is_asking(7), 1);
     assert_eq!(rt; desk.close(7), 0);
     assert_eq!(rt; desk.close(7), -7);
     Ok(())

@@ -10,6 +10,7 @@ ghost use denote.RawPtr.{room_at};
 ghost use Rattle.vnc_screen.specs.Lying.{desk_row, holds, leaves};
 ghost use Rattle.std.specs.Prelude.{◌≡◌, ◌∷◌, [], ◌^◌, pos, map, min, length, is_some};
 ghost use Rattle.messages.specs.Reading.{fault_in_rest, is_open_rest};
+ghost use Rattle.viewer.specs.Viewer.{is_asking};
 ghost use Rattle.scene.specs.declared.Event.{Event};
 ghost use Rattle.screen.specs.State.{viewer_at};
 ghost use Rattle.screen_desk.specs.Codes as codes;
@@ -355,6 +356,16 @@ pub unsafe extern "C" fn vnc_screen_is_open(at: *mut Place, viewer: u64) -> i32
     ensures* { sem 𝓛 (leaves at (λ after. Tells (of_viewer viewer (λ seen. codes.one_or_zero (is_open_rest seen.heard))) before after result)) }
 {
     Desk::is_open(&mut *(at as *mut Desk), viewer)
+}
+
+/// `Desk::is_asking`.
+#[unsafe(no_mangle)]
+pub unsafe extern "C" fn vnc_screen_is_asking(at: *mut Place, viewer: u64) -> i32
+    ghost before: { desk_row.Denot }
+    requires* { sem 𝓛 (holds at before) }
+    ensures* { sem 𝓛 (leaves at (λ after. Tells (of_viewer viewer (λ seen. codes.one_or_zero (is_asking seen))) before after result)) }
+{
+    Desk::is_asking(&mut *(at as *mut Desk), viewer)
 }
 
 /// `Desk::fault`.
