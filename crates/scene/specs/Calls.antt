@@ -4,8 +4,8 @@ use Rattle.scene.specs.Alone.{pixels_refusal, text_refusal, size_refusal}
 use Rattle.scene.specs.declared.ScreenError.{ScreenError}
 use Rattle.scene.specs.declared.Event.{Event}
 use Rattle.scene.specs.declared.Event.TheVariants as events
-use Rattle.scene.specs.declared.calls.Drawing.{Drawing}
-use Rattle.scene.specs.declared.calls.Drawing.TheVariants.{Write, Paint, MarkRect, MarkRegion, ScheduleCopyRect, ScheduleCopyRegion, DoCopyRect, DoCopyRegion, Bell, CutText, NewFramebuffer}
+use Rattle.scene.specs.declared.call.Drawing.{Drawing}
+use Rattle.scene.specs.declared.call.Drawing.TheVariants.{Write, Paint, MarkRect, MarkRegion, ScheduleCopyRect, ScheduleCopyRegion, DoCopyRect, DoCopyRegion, Bell, CutText, NewFramebuffer}
 
 abbrev pub event_of : Drawing → Event
 event_of (Write rect colours) = events.Write rect colours.now

@@ -6,13 +6,13 @@ ghost use Rattle.std.specs.Prelude.{◌≡◌, IfOk};
 
 mod answers;
 mod arriving;
-mod calls;
+mod call;
 mod drawing;
 mod laws;
 mod limits;
 mod scene;
 
-pub use calls::Drawing;
+pub use call::Drawing;
 pub use laws::{
     accepted_happens_again, accepted_is_enough, held_as_alone, maps_are_there, one_viewer_is_alone,
     pictures_are_shown, refusals_are_due, viewers_are_alone,

@@ -12,8 +12,8 @@ use Rattle.scene.specs.declared.Event.{Event}
 use Rattle.scene.specs.declared.Event.TheVariants.{Write, Paint, Mark, ScheduleCopy, DoCopy, Bell, CutText, Resize, Connect, Hear, Cut, Close}
 use Rattle.std.specs.declared.alloc.AllocError.{AllocError}
 use Rattle.scene.specs.declared.Answer.{Answer}
-use Rattle.scene.specs.declared.calls.Drawing.{Drawing}
-use Rattle.scene.specs.declared.calls.Drawing.TheVariants as Drawn
+use Rattle.scene.specs.declared.call.Drawing.{Drawing}
+use Rattle.scene.specs.declared.call.Drawing.TheVariants as Drawn
 use Rattle.scene.specs.Calls.{event_of}
 use Rattle.scene.specs.Alone.{Tells, some_bytes, gives}
 use Rattle.scene.specs.Answers.{answer_to, SceneState, scene_after}

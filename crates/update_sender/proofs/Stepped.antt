@@ -14,8 +14,8 @@ use Rattle.screen.specs.State.{State, state, kept_is_enough}
 use Rattle.update_sender.specs.Numbers.{rises, newest, is_next}
 use Rattle.update_sender.specs.Standing.{Stands}
 use Rattle.scene.specs.Calls.{event_of}
-use Rattle.scene.specs.declared.calls.Drawing.{Drawing}
-use Rattle.scene.specs.declared.calls.Drawing.TheVariants as calls
+use Rattle.scene.specs.declared.call.Drawing.{Drawing}
+use Rattle.scene.specs.declared.call.Drawing.TheVariants as calls
 
 -- ---- what happened
 
