@@ -1,4 +1,5 @@
-use Rattle.std.proofs.Common.{◌∙◌, sym, ap, List, Bool, list_any}
+use Rattle.std.proofs.Common.{◌∙◌, sym, ap, List, Bool}
+use Rattle.std.specs.List.{list_any}
 use Rattle.viewer_list.proofs.LagLemmas.{logged-alike}
 use Rattle.viewer_list.specs.Lagging.{waiting}
 use Rattle.viewer_list.proofs.lagging.is_asking_one.Goals as goal
