@@ -12,11 +12,11 @@ use Rattle.messages.specs.declared.Item.{Item}
 use Rattle.messages.specs.declared.Item.TheVariants as item
 use Rattle.framebuffer.specs.Frame.{Frame}
 use Rattle.viewer.specs.Viewer.{Viewer, is_open_viewer, after_item, kept_viewer}
-use Rattle.scene.specs.Alone.{One, at_size, step, own_step, draw_step, after, answers_from, alone, owner_of, drawing_refusal, drawn, shown_drawing, hearing, empty_screen, nothing_to_say, refuses}
+use Rattle.scene.specs.Alone.{One, at_size, step, own_step, draw_step, after, answers_from, alone, owner_of, drawing_refusal, shown_drawing, hearing, empty_screen, nothing_to_say, refuses}
 use Rattle.viewer.specs.Hearing.{after_items}
 use Rattle.scene.specs.Answers.{own, is_owner, is_drawing, last_of, answer_to, picture_of, viewer_of, live_from, after_arrival, entry_of, SceneState, scene_after}
 use Rattle.scene.specs.declared.ScreenError.TheVariants as refusals
-use Rattle.scene.proofs.Everyones.{one_of, now_at, own-picture, one-picture}
+use Rattle.scene.proofs.Everyones.{one_of, now_at, one-picture}
 use Rattle.scene.proofs.Steps.{after-append, filter-append, live-append}
 
 -- ---- the answer to the last event

@@ -1,5 +1,5 @@
 -- What a screen keeps true of itself.
-use Rattle.std.specs.Prelude.{◌≡◌, ◌*◌, ◌^◌, ◌≤◌, List, length, All}
+use Rattle.std.specs.Prelude.{◌*◌, ◌^◌, ◌≤◌, List, length, All}
 use Rattle.scene.specs.declared.Config.{Config}
 use Rattle.scene.specs.Alone.{at_size}
 use Rattle.framebuffer.specs.Frame.{Frame}

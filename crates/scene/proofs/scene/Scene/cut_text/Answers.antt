@@ -1,4 +1,4 @@
-use Rattle.std.proofs.Common.{ap, ◌∙◌, List, refl}
+use Rattle.std.proofs.Common.{sym, ap, ◌∙◌, List, refl}
 use Rattle.scene.specs.declared.Event.TheVariants.{CutText}
 use Rattle.viewer.specs.declared.notices.Notice.TheVariants as notice
 use Rattle.viewer_list.specs.Viewers.{viewer_noticed}
@@ -18,4 +18,4 @@ returns-clause-step c = λ config list h.
     let here = c.self.inside in
     let after : List _ → SceneState = λ pairs. record { config = here.config; picture = here.picture; viewers = pairs } in
     ap after c.in_ok-text.ensures.ok
-    ∙ state-drawn config here.config here.picture here.picture here.viewers.pairs (viewer_noticed (notice.CutText c.args.text.now)) (CutText c.args.text.now) list refl c.in_ok-checked_text.ensures refl (λ s. refl) (c.self.view_is ∙ h)
+    ∙ state-drawn config here.config here.picture here.picture here.viewers.pairs (viewer_noticed (notice.CutText c.args.text.now)) (CutText c.args.text.now) list refl (sym c.text_refusal.ensures ∙ c.in_ok-unless_refused.ensures) refl (λ s. refl) (c.self.view_is ∙ h)
