@@ -14,9 +14,9 @@ use Rattle.std.specs.declared.alloc.AllocError.{AllocError}
 use Rattle.scene.specs.declared.Answer.{Answer}
 use Rattle.scene.specs.declared.call.Drawing.{Drawing}
 use Rattle.scene.specs.declared.call.Drawing.TheVariants as Drawn
-use Rattle.scene.specs.Calls.{event_of}
+use Rattle.scene.specs.Calls.{call_refusal, event_of}
 use Rattle.scene.specs.Alone.{Tells, some_bytes, gives}
-use Rattle.scene.specs.Answers.{answer_to, SceneState, scene_after}
+use Rattle.scene.specs.Answers.{answer_to, refused_or_nothing, SceneState, scene_after}
 use Rattle.scene.specs.History.{has_happened, accepted_after, accepted, accepted_is_enough, accepted_happens_again}
 use Rattle.screen.specs.State.{State, with_history, scene_of, history_by, history_of, state, kept_is_enough}
 
@@ -89,6 +89,24 @@ pub stays : (c : Config) (list : List Event) (e : Event) (s now : SceneState) (h
 stays c list e s now h kept_now is step nothing kept =
     ap (λ (k : Option (List Event)). with_history now k) (kept ∙ history-is s h c list is ∙ history-stays c list e nothing)
     ∙ ap (λ (o : SceneState). with_history o (history_of c (list ++ e ∷ []))) step
+
+refused-is : (o : Option ScreenError) → (refused_or_nothing o).refused ≡ o
+refused-is None = refl
+refused-is (Some e) = refl
+
+-- a drawing call is answered the refusal that is due by the picture's size
+pub drawing-due : (c : Config) (list : List Event) (d : Drawing) → (answer_to c list (event_of d)).refused ≡ call_refusal (scene_after c list).picture.width (scene_after c list).picture.height d
+drawing-due c list (Drawn.Write rect colours) = refused-is _
+drawing-due c list (Drawn.Paint rect colours) = refused-is _
+drawing-due c list (Drawn.MarkRect rect) = refl
+drawing-due c list (Drawn.MarkRegion region) = refl
+drawing-due c list (Drawn.ScheduleCopyRect rect dx dy) = refl
+drawing-due c list (Drawn.ScheduleCopyRegion region dx dy) = refl
+drawing-due c list (Drawn.DoCopyRect rect dx dy) = refl
+drawing-due c list (Drawn.DoCopyRegion region dx dy) = refl
+drawing-due c list Drawn.Bell = refl
+drawing-due c list (Drawn.CutText text) = refused-is _
+drawing-due c list (Drawn.NewFramebuffer width height) = refused-is _
 
 -- a drawing call that is not refused happens
 pub drawing-happened : (d : Drawing) (a : Answer) → is_none a.refused ≡ true → has_happened (event_of d) a ≡ true

@@ -1,6 +1,6 @@
 //! The events that a screen keeps, in order, where it keeps any.
 
-ghost use Rattle.std.specs.Prelude.{◌≡◌, true, ◌∷◌, ◌++◌, [], List, IfOk, OnOk, is_some, option_map};
+ghost use Rattle.std.specs.Prelude.{◌≡◌, ◌≤◌, true, ◌∷◌, ◌++◌, [], List, IfOk, OnOk, is_some, option_map};
 ghost use Rattle.screen.specs.Kept.{HasRoom, items_of};
 ghost use Rattle.screen.specs.State.{history_by};
 ghost use Rattle.scene.specs.Calls.{event_of};
