@@ -88,3 +88,11 @@ draws_region rects places desk before s t f event result code output inputs text
     same = refl;
     refused = λ not_done. ap standing err;
   }
+
+-- what is refused is refused
+pub refuses-so : {X : Type 0} (result : Result X ScreenError) (due : Option ScreenError) (e : ScreenError) → due ≡ Some e → result ≡ Err e → Refuses result due
+refuses-so result due e is so = rw is so
+
+-- for memory alone where nothing else is due
+pub refuses-memory : {X : Type 0} (result : Result X ScreenError) (due : Option ScreenError) → due ≡ None → IsOkUnless result refusals.OutOfMemory → Refuses result due
+refuses-memory result due is so = rw is so
