@@ -1,8 +1,8 @@
 -- What a call of the screen makes of a canvas.
 use Rattle.std.proofs.Common.{◌≡◌, Bool, true, false, List, [], ◌∷◌, ◌++◌, Option, Some, None, Result, Ok, Err, OnOk, OnErr, IfOk, refl, sym, ap, ◌∙◌, append_assoc, subst}
-use Rattle.std.specs.Prelude.{MatchOption, MatchResult, IsOkUnless, ◌&&◌}
-use Rattle.std.proofs.lemmas.Bool.{and_from}
-use Rattle.std.proofs.lemmas.List.Folds.{list_all-append}
+use Rattle.std.specs.Prelude.{MatchOption, MatchResult, IsOkUnless, ◌&&◌, ◌||◌}
+use Rattle.std.proofs.lemmas.Bool.{and_from, or_parts, or_from}
+use Rattle.std.proofs.lemmas.List.Folds.{list_all-append, list_any-append}
 use Rattle.scene.specs.declared.Config.{Config}
 use Rattle.scene.specs.declared.ScreenError.{ScreenError}
 use Rattle.scene.specs.declared.ScreenError.TheVariants.{OutOfMemory}
@@ -11,27 +11,38 @@ use Rattle.scene.specs.declared.Answer.{Answer}
 use Rattle.scene.specs.Alone.{owner_of, Tells}
 use Rattle.scene.specs.Answers.{is_drawing}
 use Rattle.screen.specs.State.{State, state}
-use Rattle.connections.specs.Drawing.{Surface, Draws}
+use Rattle.connections.specs.Drawing.{Surface, Draws, is_notice, has_notice}
+
+-- no bell or text is among more calls
+still-quiet : (since : Bool) (calls : List Event) (e : Event) (before after : Bool) → after ≡ (is_notice e || before) → (before ≡ false → (since ≡ false) × (has_notice calls ≡ false)) → after ≡ false
+    → (since ≡ false) × (has_notice (calls ++ e ∷ []) ≡ false)
+still-quiet since calls e before after is quiet fine =
+    let parts = or_parts _ _ (sym is ∙ fine) in
+    let was = quiet parts.1 in
+    (was.0, list_any-append is_notice calls (e ∷ []) ∙ or_from _ _ was.1 (or_from _ _ parts.0 refl))
 
 -- a drawing call, which is refused or not
 pub draws_by : {X : Type 0} (r : Result X ScreenError) (a b : Surface) (e : Event) → owner_of e ≡ None
-    → ((c : Config) (list : List Event) → a.screen ≡ state c list → OnOk r (b.screen ≡ state c (list ++ e ∷ []))) → OnErr r (b.screen ≡ a.screen) → b.drawn ≡ true → Draws a b
-draws_by (Ok x) a b e own steps err drawn c list d = record {
+    → ((c : Config) (list : List Event) → a.screen ≡ state c list → OnOk r (b.screen ≡ state c (list ++ e ∷ []))) → OnErr r (b.screen ≡ a.screen) → b.drawn ≡ true → b.noticed ≡ (is_notice e || a.noticed) → Draws a b
+draws_by (Ok x) a b e own steps err drawn noticed c list since d = record {
   calls = d.calls ++ e ∷ [];
   drawings = list_all-append (λ e. is_drawing (owner_of e)) d.calls (e ∷ []) ∙ and_from _ _ d.drawings (ap (λ o. is_drawing o && true) own);
   screen = steps c (list ++ d.calls) d.screen ∙ ap (state c) (append_assoc list d.calls (e ∷ []));
   none = λ no. let both : true ≡ false = sym drawn ∙ no in absurd cc;
+  quiet = still-quiet since.noticed d.calls e a.noticed b.noticed noticed d.quiet;
 }
-draws_by (Err x) a b e own steps err drawn c list d = record {
+draws_by (Err x) a b e own steps err drawn noticed c list since d = record {
   calls = d.calls;
   drawings = d.drawings;
   screen = err ∙ d.screen;
   none = λ no. let both : true ≡ false = sym drawn ∙ no in absurd cc;
+  quiet = λ fine. d.quiet (or_parts _ _ (sym noticed ∙ fine)).1;
 }
 
-pub draws_from : {X : Type 0} (r : Result X ScreenError) (a b : Surface) (before : State) (drawn : Bool) (e : Event) → record { screen = before; drawn = drawn } ≡ a → owner_of e ≡ None
-    → ((c : Config) (list : List Event) → before ≡ state c list → OnOk r (b.screen ≡ state c (list ++ e ∷ []))) → OnErr r (b.screen ≡ before) → b.drawn ≡ true → Draws a b
-draws_from r a b before drawn e is own steps err now = subst (λ (x : Surface). Draws x b) is (draws_by r (record { screen = before; drawn = drawn }) b e own steps err now)
+pub draws_from : {X : Type 0} (r : Result X ScreenError) (a b : Surface) (before : State) (drawn noticed : Bool) (e : Event) → record { screen = before; drawn = drawn; noticed = noticed } ≡ a → owner_of e ≡ None
+    → ((c : Config) (list : List Event) → before ≡ state c list → OnOk r (b.screen ≡ state c (list ++ e ∷ []))) → OnErr r (b.screen ≡ before) → b.drawn ≡ true → b.noticed ≡ (is_notice e || noticed) → Draws a b
+draws_from r a b before drawn noticed e is own steps err now quiet =
+    subst (λ (x : Surface). Draws x b) is (draws_by r (record { screen = before; drawn = drawn; noticed = noticed }) b e own steps err now quiet)
 
 -- the bytes that a call told
 pub told-bytes : {X : Type 0} (f : X → Answer) (r : Result X ScreenError) (a : Answer) → Tells f r a → IfOk r (λ x. (f x).bytes ≡ a.bytes)

@@ -28,10 +28,10 @@ last-more [] a = refl
 last-more (b ∷ []) a = refl
 last-more (b ∷ d ∷ told) a = last-more (d ∷ told) a
 
-own-more : (v : ℕ) (es : List Event) (e : Event) → is_owner v (owner_of e) ≡ true → own v (es ++ e ∷ []) ≡ own v es ++ e ∷ []
+pub own-more : (v : ℕ) (es : List Event) (e : Event) → is_owner v (owner_of e) ≡ true → own v (es ++ e ∷ []) ≡ own v es ++ e ∷ []
 own-more v es e h = filter-append (λ a. is_owner v (owner_of a)) es (e ∷ []) ∙ ap (λ b. own v es ++ cond b (e ∷ []) []) h
 
-own-less : (v : ℕ) (es : List Event) (e : Event) → is_owner v (owner_of e) ≡ false → own v (es ++ e ∷ []) ≡ own v es
+pub own-less : (v : ℕ) (es : List Event) (e : Event) → is_owner v (owner_of e) ≡ false → own v (es ++ e ∷ []) ≡ own v es
 own-less v es e h = filter-append (λ a. is_owner v (owner_of a)) es (e ∷ []) ∙ ap (λ b. own v es ++ cond b (e ∷ []) []) h ∙ append-nil (own v es)
 
 abbrev given : Config → List Event → List ℕ
@@ -47,10 +47,10 @@ given-more c es e =
 is_mine : (v : ℕ) → (v == v) ≡ true
 is_mine v = (Decides-eqb v v).1 refl
 
-mine : (v : ℕ) (e : Event) → owner_of e ≡ Some v → is_owner v (owner_of e) ≡ true
+pub mine : (v : ℕ) (e : Event) → owner_of e ≡ Some v → is_owner v (owner_of e) ≡ true
 mine v e h = ap (is_owner v) h ∙ is_mine v
 
-answer-own : (c : Config) (v : ℕ) (es : List Event) (e : Event) → owner_of e ≡ Some v → answer_to c es e ≡ (step c e (after c (own v es) (empty_screen c))).1
+pub answer-own : (c : Config) (v : ℕ) (es : List Event) (e : Event) → owner_of e ≡ Some v → answer_to c es e ≡ (step c e (after c (own v es) (empty_screen c))).1
 answer-own c v es e h =
     let last : last_of (alone c (own v (es ++ e ∷ []))) ≡ (step c e (after c (own v es) (empty_screen c))).1 =
     ap (λ l. last_of (alone c l)) (own-more v es e (mine v e h)) ∙ ap last_of (answers-more c (own v es) e (empty_screen c)) ∙ last-more (alone c (own v es)) _ in
@@ -163,7 +163,7 @@ same-others c n v apart es (e ∷ more) h =
     same-then c v es (es ++ e ∷ []) (es ++ e ∷ more) (same-one c n v apart es e both.0)
     (subst (λ (l : List Event). SameFor c v (es ++ e ∷ []) l) (append_assoc es (e ∷ []) more) rest)
 
-drawing : (o : Option ℕ) → is_drawing o ≡ true → o ≡ None
+pub drawing : (o : Option ℕ) → is_drawing o ≡ true → o ≡ None
 drawing None h = refl
 drawing (Some v) h = absurd cc
 

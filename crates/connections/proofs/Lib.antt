@@ -1,5 +1,9 @@
 pub mod Drawing
 pub mod Pieces
+pub mod Among
+pub mod Seen
+pub mod Knowing
+pub mod Resting
 pub mod Given
 pub mod Turns
 pub mod Everyone

@@ -1,6 +1,7 @@
 -- Pieces of what waits.
-use Rattle.std.proofs.Common.{◌≡◌, ◌<◌, ◌≤◌, ◌+◌, List, ℕ, [], ◌∷◌, ◌++◌, Option, Some, length, take, drop, refl, ap, arith, sym, ◌∙◌, append_assoc, append-nil}
-use Rattle.std.proofs.lemmas.List.{length-append, length-drop, drop_all, take-append-drop, drop-drop}
+use Rattle.std.proofs.Common.{◌≡◌, ◌≢◌, ◌<◌, ◌≤◌, ◌+◌, List, ℕ, zero, suc, true, [], ◌∷◌, ◌++◌, Option, Some, None, length, take, drop, refl, ap, arith, sym, ◌∙◌, append_assoc, append-nil}
+use Rattle.std.proofs.lemmas.List.{length-append, length-drop, take-append-drop, drop-drop}
+use Rattle.scene.specs.Alone.{some_bytes}
 use Rattle.viewer.specs.Given.{bytes_given}
 use Rattle.connections.specs.Waiting.{Waiting, waiting_bytes, IsFew}
 
@@ -8,9 +9,18 @@ use Rattle.connections.specs.Waiting.{Waiting, waiting_bytes, IsFew}
 pub less-left : (old new left rest : List ℕ) → new ++ rest ≡ old ++ left → length old < length new → length rest < length left
 less-left old new left rest e more = omega (arith, more, ap (λ (l : List ℕ). length l) e, length-append new rest, length-append old left)
 
--- nothing is left behind the end
-pub none_left : (n : ℕ) (xs : List ℕ) → length xs ≤ n → drop n xs ≡ []
-none_left n xs over = drop_all n xs over
+-- some bytes that are made are left
+pub some_made : (n : ℕ) (made rest : List ℕ) → n < length made → some_bytes (drop n made ++ rest) ≡ true
+some_made n [] rest more = absurd (omega (arith, more))
+some_made zero (b ∷ made) rest more = refl
+some_made (suc n) (b ∷ made) rest more = some_made n made rest (omega (arith, more))
+
+-- an update is left
+pub some_update : (made : List ℕ) (update : Option (List ℕ)) (behind : List ℕ) → update ≢ None → update ≢ Some [] → some_bytes (made ++ (bytes_given update ++ behind)) ≡ true
+some_update (b ∷ made) update behind there some = refl
+some_update [] None behind there some = absurd (there refl)
+some_update [] (Some []) behind there some = absurd (some refl)
+some_update [] (Some (b ∷ bytes)) behind there some = refl
 
 -- what is taken of a buffer, and what is left
 pub taken : (n : ℕ) (b left before : List ℕ) → b ++ left ≡ before → take n b ++ (drop n b ++ left) ≡ before

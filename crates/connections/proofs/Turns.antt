@@ -10,15 +10,18 @@ use Rattle.scene.specs.declared.Event.{Event}
 use Rattle.scene.specs.declared.Event.TheVariants.{Hear, Cut}
 use Rattle.scene.specs.Alone.{owner_of}
 use Rattle.scene.specs.Answers.{is_owner, answer_to}
+use Rattle.scene.specs.Refusals.{held_as_alone}
 use Rattle.receipts.specs.declared.Ended.{Ended}
 use Rattle.receipts.specs.declared.Ended.TheVariants.{Memory, Closed}
 use Rattle.receipts.specs.Histories.{heard_of, bytes_of}
 use Rattle.screen.specs.State.{state}
 use Rattle.connections.specs.Waiting.{waiting_bytes, IsFew}
-use Rattle.connections.specs.Drawing.{Surface, IsDrawnFrom, Draws}
+use Rattle.connections.specs.Drawing.{Surface, IsDrawnFrom, Draws, is_asking_on}
+use Rattle.connections.specs.Attending.{Known, next_bytes}
 use Rattle.connections.specs.Serving.{Carried, ViewerConnection, Moves, breaks_off, IsServed}
-use Rattle.connections.specs.Turns.{are_of, IsTurnFrom, HasRead, HearsPiece, TakesTurn}
+use Rattle.connections.specs.Turns.{are_of, Knows, IsTurnFrom, HasRead, HearsPiece, TakesTurn}
 use Rattle.connections.proofs.Given.{SameFor, bytes-own, heard-own, heard-same, same-drawings, drawings-own}
+use Rattle.connections.proofs.Knowing.{knows-known, knows-looked, knows-drawn, knows-heard, knows-none, knows-cut}
 
 -- ---- bytes that move
 
@@ -65,6 +68,19 @@ served-same c es fs began e same h = record {
   few = h.few;
 }
 
+-- what is known of a connection doesn't matter
+pub served-alike : (c : Config) (es : List Event) (began : Carried) (e f : ViewerConnection) → f ≡ record e { known = f.known } → IsServed c es began e → IsServed c es began f
+served-alike c es began e f same h = subst (λ (x : ViewerConnection). IsServed c es began x) (sym same) (record {
+  unheard = h.unheard;
+  written = h.written;
+  unwritten = h.unwritten;
+  moved = h.moved;
+  due = h.due;
+  heard = h.heard;
+  waits = h.waits;
+  few = h.few;
+})
+
 own-then : (v : ℕ) (es fs : List Event) → are_of v es ≡ true → are_of v fs ≡ true → are_of v (es ++ fs) ≡ true
 own-then v es fs a b = list_all-append (λ e. is_owner v (owner_of e)) es fs ∙ and_from _ _ a b
 
@@ -72,12 +88,12 @@ own-one : (v : ℕ) (e : Event) → owner_of e ≡ Some v → are_of v (e ∷ []
 own-one v e h = ap (λ o. is_owner v o && true) h ∙ ap (λ b. b && true) ((Decides-eqb v v).1 refl)
 
 -- drawing calls behind a list
-pub drawn-on : (c : Config) (list : List Event) (a b : Surface) → a.screen ≡ state c list → Draws a b → IsDrawnFrom c list b
-drawn-on c list a b stands draws = draws c list (record { calls = []; drawings = refl; screen = stands ∙ ap (state c) (sym (append-nil list)); none = λ h. refl })
+pub drawn-on : (c : Config) (list : List Event) (a b : Surface) → a.screen ≡ state c list → Draws a b → IsDrawnFrom c list a b
+drawn-on c list a b stands draws = draws c list a (record { calls = []; drawings = refl; screen = stands ∙ ap (state c) (sym (append-nil list)); none = λ h. (h, refl); quiet = λ h. (h, refl) })
 
 -- the application draws in a viewer's turn
 pub turn-drawn : (a b : Surface) (e : ViewerConnection) → Draws a b → TakesTurn a e b e
-turn-drawn a b e draws c list began v t =
+turn-drawn a b e draws c list began v since t =
     let d = drawn-on c (list ++ t.events) a b t.screen draws in
     let far : (list ++ t.events) ++ d.calls ≡ list ++ (t.events ++ d.calls) = append_assoc list t.events d.calls in
     record {
@@ -87,12 +103,13 @@ turn-drawn a b e draws c list began v t =
       number = t.number;
       served = subst (λ (l : List Event). IsServed c l began e) far
           (served-same c (list ++ t.events) ((list ++ t.events) ++ d.calls) began e (same-drawings c e.number (list ++ t.events) d.calls d.drawings) t.served);
+      knows = subst (λ (l : List Event). Knows c list l v since b e.known) far (knows-drawn c list (list ++ t.events) v since a b e.known d t.knows);
     }
 
 -- a read of a viewer that hasn't ended
-pub turn-read : (c : Config) (list : List Event) (began : Carried) (v : ℕ) (a : Surface) (e f : ViewerConnection) (piece : List ℕ) → e.ended ≡ None
-    → f ≡ record e { carried = f.carried } → Moves e.carried f.carried piece [] → IsTurnFrom c list began v a e → HasRead c list began v piece a f
-turn-read c list began v a e f piece live same moved t =
+pub turn-read : (c : Config) (list : List Event) (began : Carried) (v : ℕ) (since a : Surface) (e f : ViewerConnection) (known : Known) (piece : List ℕ) → e.ended ≡ None
+    → f ≡ record e { carried = f.carried; known = known } → known.may_cut ≡ e.known.may_cut → known.may_ask ≡ e.known.may_ask → Moves e.carried f.carried piece [] → IsTurnFrom c list began v since a e → HasRead c list began v piece since a f
+turn-read c list began v since a e f known piece live same cut ask moved t =
     let s = t.served in
     let none : s.unheard ≡ [] = s.heard (λ is. let no : ◌≡◌ {A = Option Ended} None (Some Memory) = sym live ∙ is in absurd cc) in
     let all : s.unwritten ≡ waiting_bytes e.waiting = s.waits (ap breaks_off live) in
@@ -110,12 +127,14 @@ turn-read c list began v a e f piece live same moved t =
           (subst (λ (l : List ℕ). Moves began e.carried (heard_of e.number (list ++ t.events) ++ l) s.written) none s.moved)) moved;
       due = ap (λ w. s.written ++ waiting_bytes w) waiting ∙ ap (λ l. s.written ++ l) (sym all) ∙ s.due ∙ ap (λ n. bytes_of c n (list ++ t.events)) t.number;
       few = subst IsFew (sym waiting) s.few;
+      knows = let is : f.known ≡ known = ap (λ (x : ViewerConnection). x.known) same in
+          knows-known c list (list ++ t.events) v since a a e.known f.known refl (ap (λ (x : Known). x.may_cut) is ∙ cut) (ap (λ (x : Known). x.may_ask) is ∙ ask) t.knows;
     }
 
 -- a viewer of which nothing was read goes on, or ends
-pub turn-unread : (c : Config) (list : List Event) (began : Carried) (v : ℕ) (a : Surface) (e f : ViewerConnection)
-    → f ≡ record e { ended = f.ended } → HasRead c list began v [] a e → IsTurnFrom c list began v a f
-turn-unread c list began v a e f same h =
+pub turn-unread : (c : Config) (list : List Event) (began : Carried) (v : ℕ) (since a : Surface) (e f : ViewerConnection)
+    → f ≡ record e { ended = f.ended } → HasRead c list began v [] since a e → IsTurnFrom c list began v since a f
+turn-unread c list began v since a e f same h =
     let number : f.number ≡ v = ap (λ (x : ViewerConnection). x.number) same ∙ h.number in
     let carried : f.carried ≡ e.carried = ap (λ (x : ViewerConnection). x.carried) same in
     let waiting : f.waiting ≡ e.waiting = ap (λ (x : ViewerConnection). x.waiting) same in
@@ -135,11 +154,12 @@ turn-unread c list began v a e f same h =
         waits = λ fine. ap waiting_bytes (sym waiting);
         few = subst IsFew (sym waiting) h.few;
       };
+      knows = subst (λ (k : Known). Knows c list es v since a k) (sym (ap (λ (x : ViewerConnection). x.known) same)) h.knows;
     }
 
 -- memory was refused to hear a piece
 pub turn-unheard : (a b : Surface) (e f : ViewerConnection) (piece : List ℕ) → b ≡ a → f ≡ record e { ended = Some Memory } → HearsPiece piece a e b f
-turn-unheard a b e f piece still same c list began v h =
+turn-unheard a b e f piece still same c list began v since h =
     let number : f.number ≡ v = ap (λ (x : ViewerConnection). x.number) same ∙ h.number in
     let carried : f.carried ≡ e.carried = ap (λ (x : ViewerConnection). x.carried) same in
     let ended : f.ended ≡ Some Memory = ap (λ (x : ViewerConnection). x.ended) same in
@@ -159,14 +179,16 @@ turn-unheard a b e f piece still same c list began v h =
         waits = λ fine. let e : breaks_off f.ended ≡ true = ap breaks_off ended in absurd cc;
         few = subst IsFew (sym (ap (λ (x : ViewerConnection). x.waiting) same)) h.few;
       };
+      knows = let is : f.known ≡ e.known = ap (λ (x : ViewerConnection). x.known) same in
+          knows-known c list es v since a b e.known f.known still (ap (λ (x : Known). x.may_cut) is) (ap (λ (x : Known). x.may_ask) is) h.knows;
     }
 
 -- a piece is heard and answered
-heard-turn : (c : Config) (list : List Event) (began : Carried) (v : ℕ) (a b : Surface) (e f : ViewerConnection) (piece bytes : List ℕ)
-    → (h : HasRead c list began v piece a e) → b.screen ≡ state c ((list ++ h.events) ++ Hear v piece ∷ []) → bytes ≡ (answer_to c (list ++ h.events) (Hear v piece)).bytes
-    → f ≡ record e { waiting = f.waiting; ended = f.ended } → (breaks_off f.ended ≡ false → waiting_bytes f.waiting ≡ waiting_bytes e.waiting ++ bytes) → IsFew f.waiting
-    → IsTurnFrom c list began v b f
-heard-turn c list began v a b e f piece bytes h stands answered same waits few =
+heard-turn : (c : Config) (list : List Event) (began : Carried) (v : ℕ) (since a b : Surface) (e f : ViewerConnection) (piece bytes : List ℕ)
+    → (h : HasRead c list began v piece since a e) → b.drawn ≡ a.drawn → b.noticed ≡ a.noticed → f.known.may_cut ≡ true → f.known.may_ask ≡ true → b.screen ≡ state c ((list ++ h.events) ++ Hear v piece ∷ []) → bytes ≡ (answer_to c (list ++ h.events) (Hear v piece)).bytes
+    → f ≡ record e { waiting = f.waiting; ended = f.ended; known = f.known } → (breaks_off f.ended ≡ false → waiting_bytes f.waiting ≡ waiting_bytes e.waiting ++ bytes) → IsFew f.waiting
+    → IsTurnFrom c list began v since b f
+heard-turn c list began v since a b e f piece bytes h drawn noticed cut ask stands answered same waits few =
     let number : f.number ≡ v = ap (λ (x : ViewerConnection). x.number) same ∙ h.number in
     let carried : f.carried ≡ e.carried = ap (λ (x : ViewerConnection). x.carried) same in
     let es = list ++ h.events in
@@ -190,27 +212,35 @@ heard-turn c list began v a b e f piece bytes h stands answered same waits few =
         waits = λ fine. sym (waits fine);
         few = few;
       });
+      knows = subst (λ (l : List Event). Knows c list l v since b f.known) far (knows-heard c list es v since a b e.known f.known piece drawn noticed cut ask h.knows);
     }
 
+-- a connection once a piece was counted, and then answered
+pub counted-same : (e p f : ViewerConnection) → p ≡ record e { known = p.known } → f ≡ record p { waiting = f.waiting; ended = f.ended } → f ≡ record e { waiting = f.waiting; ended = f.ended; known = f.known }
+counted-same e p f counted answered =
+    let known : f.known ≡ p.known = ap (λ (x : ViewerConnection). x.known) answered in
+    answered ∙ ap (λ (x : ViewerConnection). record x { waiting = f.waiting; ended = f.ended }) counted ∙ ap (λ k. record e { waiting = f.waiting; ended = f.ended; known = k }) (sym known)
+
 -- and the application draws, as it is told
-pub turn-heard : (a b d : Surface) (e f : ViewerConnection) (n : ℕ) (piece bytes : List ℕ) → n ≡ e.number
+pub turn-heard : (a b d : Surface) (e f : ViewerConnection) (n : ℕ) (piece bytes : List ℕ) → n ≡ e.number → b.drawn ≡ a.drawn → b.noticed ≡ a.noticed → f.known.may_cut ≡ true → f.known.may_ask ≡ true
     → ((c : Config) (list : List Event) → a.screen ≡ state c list → b.screen ≡ state c (list ++ Hear n piece ∷ []))
     → ((c : Config) (list : List Event) → a.screen ≡ state c list → bytes ≡ (answer_to c list (Hear n piece)).bytes)
-    → f ≡ record e { waiting = f.waiting; ended = f.ended } → (breaks_off f.ended ≡ false → waiting_bytes f.waiting ≡ waiting_bytes e.waiting ++ bytes) → IsFew f.waiting → Draws b d
+    → f ≡ record e { waiting = f.waiting; ended = f.ended; known = f.known } → (breaks_off f.ended ≡ false → waiting_bytes f.waiting ≡ waiting_bytes e.waiting ++ bytes) → IsFew f.waiting → Draws b d
     → HearsPiece piece a e d f
-turn-heard a b d e f n piece bytes its steps answers same waits few draws c list began v h =
+turn-heard a b d e f n piece bytes its drawn noticed cut ask steps answers same waits few draws c list began v since h =
     let es = list ++ h.events in
-    turn-drawn b d f draws c list began v
-    (heard-turn c list began v a b e f piece bytes h
+    turn-drawn b d f draws c list began v since
+    (heard-turn c list began v since a b e f piece bytes h drawn noticed cut ask
     (subst (λ (m : ℕ). b.screen ≡ state c (es ++ Hear m piece ∷ [])) (its ∙ h.number) (steps c es h.screen))
     (subst (λ (m : ℕ). bytes ≡ (answer_to c es (Hear m piece)).bytes) (its ∙ h.number) (answers c es h.screen)) same waits few)
 
 -- an update is cut for a viewer, or there is none
-pub turn-cut : (a b : Surface) (e f : ViewerConnection) (m : ℕ) (bytes : List ℕ) → m ≡ e.number
+cut-turn : (a b : Surface) (e f : ViewerConnection) (m : ℕ) (bytes : List ℕ) → m ≡ e.number
     → ((c : Config) (list : List Event) → a.screen ≡ state c list → b.screen ≡ state c (list ++ Cut m ∷ []))
     → ((c : Config) (list : List Event) → a.screen ≡ state c list → bytes ≡ (answer_to c list (Cut m)).bytes)
-    → f ≡ record e { waiting = f.waiting } → waiting_bytes f.waiting ≡ waiting_bytes e.waiting ++ bytes → (IsFew e.waiting → IsFew f.waiting) → TakesTurn a e b f
-turn-cut a b e f number bytes its steps-at answers-at same waits few c list began v t =
+    → f ≡ record e { waiting = f.waiting; known = f.known } → waiting_bytes f.waiting ≡ waiting_bytes e.waiting ++ bytes → (IsFew e.waiting → IsFew f.waiting)
+    → ((c : Config) (before list : List Event) (since : Surface) → a.screen ≡ state c list → Knows c before list e.number since a e.known → Knows c before (list ++ Cut e.number ∷ []) e.number since b f.known) → TakesTurn a e b f
+cut-turn a b e f number bytes its steps-at answers-at same waits few knows c list began v since t =
     let steps : (c : Config) (list : List Event) → a.screen ≡ state c list → b.screen ≡ state c (list ++ Cut e.number ∷ []) = λ c list h. subst (λ (m : ℕ). b.screen ≡ state c (list ++ Cut m ∷ [])) its (steps-at c list h) in
     let answers : (c : Config) (list : List Event) → a.screen ≡ state c list → bytes ≡ (answer_to c list (Cut e.number)).bytes = λ c list h. subst (λ (m : ℕ). bytes ≡ (answer_to c list (Cut m)).bytes) its (answers-at c list h) in
     let number : f.number ≡ e.number = ap (λ (x : ViewerConnection). x.number) same in
@@ -239,13 +269,60 @@ turn-cut a b e f number bytes its steps-at answers-at same waits few c list bega
         waits = λ fine. ap (λ l. l ++ bytes) (s.waits (ap breaks_off (sym ended) ∙ fine)) ∙ sym waits;
         few = few s.few;
       });
+      knows = subst (λ (m : ℕ). Knows c list (list ++ (t.events ++ Cut n ∷ [])) m since b f.known) t.number
+          (subst (λ (l : List Event). Knows c list l n since b f.known) far (knows c list es since t.screen (subst (λ (m : ℕ). Knows c list es m since a e.known) (sym t.number) t.knows)));
     }
 
+-- an update is cut
+pub turn-cut : held_as_alone → (a b : Surface) (e f : ViewerConnection) (m : ℕ) (bytes : List ℕ) → m ≡ e.number
+    → ((c : Config) (list : List Event) → a.screen ≡ state c list → b.screen ≡ state c (list ++ Cut m ∷ []))
+    → ((c : Config) (list : List Event) → a.screen ≡ state c list → bytes ≡ (answer_to c list (Cut m)).bytes)
+    → f ≡ record e { waiting = f.waiting; known = f.known } → waiting_bytes f.waiting ≡ waiting_bytes e.waiting ++ bytes → (IsFew e.waiting → IsFew f.waiting)
+    → b.drawn ≡ a.drawn → b.noticed ≡ a.noticed → f.known.may_cut ≡ true → f.known.may_ask ≡ (e.known.may_ask && is_asking_on b.screen m) → TakesTurn a e b f
+turn-cut held a b e f m bytes its steps answers same waits few drawn noticed cut ask =
+    cut-turn a b e f m bytes its steps answers same waits few
+    (λ c before list since stands k.
+    knows-cut held c before list e.number since a b e.known f.known drawn noticed (subst (λ (n : ℕ). b.screen ≡ state c (list ++ Cut n ∷ [])) its (steps c list stands)) cut
+    (ask ∙ ap (λ n. e.known.may_ask && is_asking_on b.screen n) its) k)
+
+-- there is none to be cut
+pub turn-uncut : (a b : Surface) (e f : ViewerConnection) (m : ℕ) → m ≡ e.number
+    → ((c : Config) (list : List Event) → a.screen ≡ state c list → b.screen ≡ state c (list ++ Cut m ∷ []))
+    → ((c : Config) (list : List Event) → a.screen ≡ state c list → [] ≡ (answer_to c list (Cut m)).bytes)
+    → f ≡ record e { known = f.known } → b.drawn ≡ a.drawn → b.noticed ≡ a.noticed → f.known.may_ask ≡ e.known.may_ask → TakesTurn a e b f
+turn-uncut a b e f m its steps answers same drawn noticed ask =
+    let waiting : f.waiting ≡ e.waiting = ap (λ (x : ViewerConnection). x.waiting) same in
+    cut-turn a b e f m [] its steps answers (same ∙ ap (λ w. record e { waiting = w; known = f.known }) (sym waiting)) (ap waiting_bytes waiting ∙ sym (append-nil (waiting_bytes e.waiting))) (subst IsFew (sym waiting))
+    (λ c before list since stands k.
+    knows-none c before list e.number since a b e.known f.known drawn noticed ask (ap (λ n. next_bytes c n list) (sym its) ∙ sym (answers c list stands)) k)
+
+-- an update may be there to be cut
+pub turn-looked : (a : Surface) (e f : ViewerConnection) → f ≡ record e { known = f.known } → f.known.may_cut ≡ true → f.known.may_ask ≡ e.known.may_ask → TakesTurn a e a f
+turn-looked a e f same cut ask c list began v since t = record {
+  events = t.events;
+  own = t.own;
+  screen = t.screen;
+  number = ap (λ (x : ViewerConnection). x.number) same ∙ t.number;
+  served = served-alike c (list ++ t.events) began e f same t.served;
+  knows = knows-looked c list (list ++ t.events) v since a e.known f.known cut ask t.knows;
+}
+
+-- more is known of its transport
+pub turn-noted : (a : Surface) (e f : ViewerConnection) → f ≡ record e { known = f.known } → f.known.may_cut ≡ e.known.may_cut → f.known.may_ask ≡ e.known.may_ask → TakesTurn a e a f
+turn-noted a e f same cut ask c list began v since t = record {
+  events = t.events;
+  own = t.own;
+  screen = t.screen;
+  number = ap (λ (x : ViewerConnection). x.number) same ∙ t.number;
+  served = served-alike c (list ++ t.events) began e f same t.served;
+  knows = knows-known c list (list ++ t.events) v since a a e.known f.known refl cut ask t.knows;
+}
+
 -- what waits is written, as far as it is taken
-pub turn-written : (a b : Surface) (e f : ViewerConnection) (added unwritten : List ℕ) → b.screen ≡ a.screen → breaks_off e.ended ≡ false
-    → f ≡ record e { carried = f.carried; waiting = f.waiting; ended = f.ended } → Moves e.carried f.carried [] added → added ++ unwritten ≡ waiting_bytes e.waiting
+pub turn-written : (a b : Surface) (e f : ViewerConnection) (known : Known) (added unwritten : List ℕ) → b ≡ a → breaks_off e.ended ≡ false
+    → f ≡ record e { carried = f.carried; waiting = f.waiting; ended = f.ended; known = known } → known.may_cut ≡ e.known.may_cut → known.may_ask ≡ e.known.may_ask → Moves e.carried f.carried [] added → added ++ unwritten ≡ waiting_bytes e.waiting
     → (breaks_off f.ended ≡ false → unwritten ≡ waiting_bytes f.waiting) → IsFew f.waiting → TakesTurn a e b f
-turn-written a b e f added unwritten still whole same moved parts waits few c list began v t =
+turn-written a b e f known added unwritten still whole same cut ask moved parts waits few c list began v since t =
     let number : f.number ≡ e.number = ap (λ (x : ViewerConnection). x.number) same in
     let s = t.served in
     let es = list ++ t.events in
@@ -253,8 +330,10 @@ turn-written a b e f added unwritten still whole same moved parts waits few c li
     record {
       events = t.events;
       own = t.own;
-      screen = still ∙ t.screen;
+      screen = ap (λ (x : Surface). x.screen) still ∙ t.screen;
       number = number ∙ t.number;
+      knows = let is : f.known ≡ known = ap (λ (x : ViewerConnection). x.known) same in
+          knows-known c list es v since a b e.known f.known still (ap (λ (x : Known). x.may_cut) is ∙ cut) (ap (λ (x : Known). x.may_ask) is ∙ ask) t.knows;
       served = record {
         unheard = s.unheard;
         written = s.written ++ added;
@@ -269,20 +348,18 @@ turn-written a b e f added unwritten still whole same moved parts waits few c li
     }
 
 -- a viewer ends, by a failure or by being closed
-pub turn-ended : (a b : Surface) (e f : ViewerConnection) → b.screen ≡ a.screen → e.ended ≡ None → f ≡ record e { ended = f.ended } → TakesTurn a e b f
-turn-ended a b e f still live same c list began v t =
-    let carried : f.carried ≡ e.carried = ap (λ (x : ViewerConnection). x.carried) same in
-    let h = turn-read c list began v a e e [] live refl (moves-nothing e.carried) t in
-    let u = turn-unread c list began v a e f same h in
-    record { events = u.events; own = u.own; screen = still ∙ u.screen; number = u.number; served = u.served }
+pub turn-ended : (a b : Surface) (e f : ViewerConnection) → b ≡ a → e.ended ≡ None → f ≡ record e { ended = f.ended } → TakesTurn a e b f
+turn-ended a b e f still live same c list began v since t =
+    let h = turn-read c list began v since a e e e.known [] live refl refl refl (moves-nothing e.carried) t in
+    subst (λ (x : Surface). IsTurnFrom c list began v since x f) (sym still) (turn-unread c list began v since a e f same h)
 
 -- a viewer is closed, unless it ended before
 pub turn-closed : (a : Surface) (e f : ViewerConnection) → (f ≡ e) ⊎ ((e.ended ≡ None) × (f ≡ record e { ended = Some Closed })) → TakesTurn a e a f
-turn-closed a e f (inl same) c list began v t = subst (λ (x : ViewerConnection). IsTurnFrom c list began v a x) (sym same) t
-turn-closed a e f (inr h) c list began v t = turn-ended a a e f refl h.0 (h.1 ∙ ap (λ o. record e { ended = o }) (sym (ap (λ (x : ViewerConnection). x.ended) h.1))) c list began v t
+turn-closed a e f (inl same) c list began v since t = subst (λ (x : ViewerConnection). IsTurnFrom c list began v since a x) (sym same) t
+turn-closed a e f (inr h) c list began v since t = turn-ended a a e f refl h.0 (h.1 ∙ ap (λ o. record e { ended = o }) (sym (ap (λ (x : ViewerConnection). x.ended) h.1))) c list began v since t
 
 pub turn-stays : (a : Surface) (e : ViewerConnection) → TakesTurn a e a e
-turn-stays a e c list began v t = t
+turn-stays a e c list began v since t = t
 
 pub turn-then : (a b d : Surface) (e f g : ViewerConnection) → TakesTurn a e b f → TakesTurn b f d g → TakesTurn a e d g
-turn-then a b d e f g s t c list began v h = t c list began v (s c list began v h)
+turn-then a b d e f g s t c list began v since h = t c list began v since (s c list began v since h)

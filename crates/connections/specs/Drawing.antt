@@ -1,17 +1,19 @@
 -- What an application does to a screen.
 use Rattle.std.specs.Prelude.{◌≡◌, ℕ, Bool, true, false, List, [], ◌++◌, None, Some}
-use Rattle.std.specs.List.{list_all}
+use Rattle.std.specs.List.{list_all, list_any}
 use Rattle.scene.specs.declared.Config.{Config}
 use Rattle.scene.specs.declared.Event.{Event}
+use Rattle.scene.specs.declared.Event.TheVariants.{Bell, CutText}
 use Rattle.scene.specs.Alone.{owner_of}
 use Rattle.scene.specs.Answers.{is_drawing}
 use Rattle.viewer.specs.Viewer.{is_asking}
 use Rattle.screen.specs.State.{State, state, viewer_at}
 
--- a screen, and whether it may have been drawn on since its viewers were looked at
+-- a screen, whether it may have been drawn on since its viewers were looked at, and whether a bell or a text may be among that
 pub record Surface : Type 0 where
   pub screen : State
   pub drawn : Bool
+  pub noticed : Bool
 
 -- whether a request of a viewer of a screen is unanswered; no viewer has one
 abbrev pub is_asking_on : State → ℕ → Bool
@@ -21,13 +23,23 @@ is_asking_on screen v = elim (viewer_at screen v) [ None ↦ false | Some viewer
 abbrev pub are_drawings : List Event → Bool
 are_drawings es = list_all (λ e. is_drawing (owner_of e)) es
 
--- the screen stands for a list with drawing calls behind it, and with none where it wasn't drawn on
-pub record IsDrawnFrom (c : Config) (list : List Event) (surface : Surface) : Type 0 where
+-- a bell or a text
+abbrev pub is_notice : Event → Bool
+is_notice Bell = true
+is_notice (CutText text) = true
+is_notice _ = false
+
+abbrev pub has_notice : List Event → Bool
+has_notice es = list_any is_notice es
+
+-- The screen stands for a list with drawing calls behind it. Since another moment nothing was drawn where it says so, and no bell or text.
+pub record IsDrawnFrom (c : Config) (list : List Event) (since surface : Surface) : Type 0 where
   pub calls : List Event
   pub drawings : are_drawings calls ≡ true
   pub screen : surface.screen ≡ state c (list ++ calls)
-  pub none : surface.drawn ≡ false → calls ≡ []
+  pub none : surface.drawn ≡ false → (since.drawn ≡ false) × (calls ≡ [])
+  pub quiet : surface.noticed ≡ false → (since.noticed ≡ false) × (has_notice calls ≡ false)
 
 -- nothing but drawing calls happened
 abbrev pub Draws : Surface → Surface → Type 0
-Draws old new = (c : Config) (list : List Event) → IsDrawnFrom c list old → IsDrawnFrom c list new
+Draws old new = (c : Config) (list : List Event) (since : Surface) → IsDrawnFrom c list since old → IsDrawnFrom c list since new

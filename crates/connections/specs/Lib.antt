@@ -1,5 +1,7 @@
 pub mod Waiting
 pub mod Drawing
+pub mod Among
+pub mod Attending
 pub mod Serving
 pub mod Turns
 pub mod Lending

@@ -1,5 +1,5 @@
 -- What a viewer was given and is not written yet.
-use Rattle.std.specs.Prelude.{ℕ, ◌≤◌, List, ◌++◌, length, Option}
+use Rattle.std.specs.Prelude.{◌≢◌, ℕ, ◌≤◌, List, [], ◌++◌, length, Option, Some}
 use Rattle.viewer.specs.Given.{bytes_given}
 
 -- bytes that are made, then those that an update on its way is still to give, then those that came behind it
@@ -17,8 +17,9 @@ pub record IsFew (w : Waiting) : Type 0 where
   pub made : length w.made ≤ 65536
   pub behind : length w.behind ≤ 65536
 
--- so many bytes of those that are made are written, and these, and those that came behind, are few
-pub record IsWithin (done made behind : ℕ) : Type 0 where
+-- so many bytes of those that are made are written, these, and those that came behind, are few, and an update on its way has bytes to give
+pub record IsWithin (done made behind : ℕ) (update : Option (List ℕ)) : Type 0 where
   pub as_many : done ≤ made
   pub few_made : made ≤ 65536
   pub few_behind : behind ≤ 65536
+  pub some_left : update ≢ Some []

@@ -1,6 +1,7 @@
 //! What a viewer was given, and what of it is not written yet.
 
-ghost use Rattle.std.specs.Prelude.{◌≡◌, ◌≢◌, ◌≤◌, ◌++◌, [], List, ℕ, IsTrue, OnOk, OnErr, length, take};
+ghost use Rattle.std.specs.Prelude.{◌≡◌, ◌≢◌, ◌≤◌, ◌++◌, [], List, ℕ, not, OnOk, OnErr, length, take};
+ghost use Rattle.scene.specs.Alone.{some_bytes};
 ghost use Rattle.connections.specs.Waiting.{waiting_bytes, IsFew};
 ghost use Rattle.connections.specs.Serving.{Moves};
 ghost use Rattle.connections.specs.Bounds.{AreWrittenAtMost};
@@ -42,7 +43,7 @@ impl Model for Backlog {
 
     ghost view = { λ a. record { made = drop a.done a.made.items; update = a.update; behind = a.behind.items } };
 
-    ghost invariant = { λ a. IsWithin a.done (length a.made.items) (length a.behind.items) };
+    ghost invariant = { λ a. IsWithin a.done (length a.made.items) (length a.behind.items) a.update };
 }
 
 /// Bytes come behind others. More than 64 KB in all are refused as want of memory: an opening is answered in less than one.
@@ -116,9 +117,9 @@ impl Backlog {
     }
 
     /// Whether all that was given is written.
-    #[tactic(auto, using(crate::proofs::Pieces::none_left))]
+    #[tactic(auto, using(crate::proofs::Pieces::some_made, crate::proofs::Pieces::some_update))]
     pub fn is_empty(&self) -> bool
-        ensures { IsTrue result → waiting_bytes self.now ≡ [] }
+        ensures { result ≡ not (some_bytes (waiting_bytes self.now)) }
     {
         self.done >= self.made.len() && self.update.is_none() && self.behind.is_empty()
     }
@@ -136,9 +137,10 @@ impl Backlog {
         }
     }
 
-    /// An update is given, where nothing waits.
+    /// An update of some bytes is given, where nothing waits.
     pub fn start(&mut self, update: Update)
-        requires { waiting_bytes self.old ≡ [] }
+        requires none { waiting_bytes self.old ≡ [] }
+        requires some { update ≢ [] }
         ensures bytes { waiting_bytes self.new ≡ update }
         ensures few { IsFew self.new }
     {

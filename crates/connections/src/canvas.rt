@@ -1,6 +1,6 @@
 //! The screen as an application draws on it.
 
-ghost use Rattle.std.specs.Prelude.{◌≡◌, ◌++◌, ◌∷◌, [], List, true, IfOk, IsOkUnless, OnOk, OnErr};
+ghost use Rattle.std.specs.Prelude.{◌≡◌, ◌++◌, ◌∷◌, [], ◌≢◌, List, true, false, IfOk, IfSome, IsOkUnless, OnOk, OnErr};
 ghost use Rattle.scene.specs.declared.Config.{Config};
 ghost use Rattle.scene.specs.declared.Event.{Event};
 ghost use Rattle.scene.specs.Answers.{answer_to};
@@ -12,17 +12,6 @@ ghost use Rattle.connections.specs.Drawing.{Draws, is_asking_on};
 use listed::Listed;
 use screen::{Answer, Rect, Region, Screen, ScreenError, Update};
 use std::marker::Model;
-
-/// Who is to be looked at after drawing calls.
-#[derive(Clone, Copy, Debug, PartialEq, Eq)]
-pub(crate) enum Watching {
-    /// Nobody: nothing was drawn.
-    Nobody,
-    /// Those that asked for places.
-    Asking,
-    /// All: a notice waits for each.
-    All,
-}
 
 /// A screen to draw on, and whether it was drawn on since its viewers were looked at. Each drawing call is the screen's, with the
 /// same refusals, and leaves the screen as it was where it is refused; its viewers are looked at in the next turn.
@@ -39,7 +28,7 @@ impl Model for Canvas {
 
     ghost Value = { Surface };
 
-    ghost view = { λ a. record { screen = a.screen; drawn = a.has_drawn } };
+    ghost view = { λ a. record { screen = a.screen; drawn = a.has_drawn; noticed = a.has_noticed } };
 }
 
 impl Canvas {
@@ -236,25 +225,26 @@ impl Canvas {
         self.screen.new_framebuffer(width, height)
     }
 
-    /// Who is to be looked at, since this was asked last.
-    pub(crate) fn take_watching(&mut self) -> Watching
-        ensures screen { self.new.screen ≡ self.old.screen }
+    /// Those were looked at that are to be for what was drawn.
+    pub(crate) fn settle(&mut self)
+        ensures { self.new ≡ record self.old { drawn = false; noticed = false } }
     {
-        let watching = match (self.has_drawn, self.has_noticed) {
-            (false, _) => Watching::Nobody,
-            (true, false) => Watching::Asking,
-            (true, true) => Watching::All,
-        };
         self.has_drawn = false;
         self.has_noticed = false;
-        watching
     }
 
-    /// Whether it was drawn on since `take_watching`.
+    /// Whether it was drawn on since `settle`.
     pub(crate) fn has_drawn(&self) -> bool
         ensures { result ≡ self.now.drawn }
     {
         self.has_drawn
+    }
+
+    /// Whether a bell or a text is among what was drawn since `settle`.
+    pub(crate) fn has_noticed(&self) -> bool
+        ensures { result ≡ self.now.noticed }
+    {
+        self.has_noticed
     }
 
     /// `Screen::connect`.
@@ -263,6 +253,7 @@ impl Canvas {
             OnOk result (self.new.screen ≡ state config (list ++ Event.Connect number ∷ [])) }
         ensures answer { (config : Config) (list : List Event) → self.old.screen ≡ state config list →
             IfOk result (λ bytes. bytes ≡ (answer_to config list (Event.Connect number)).bytes) }
+        ensures same { self.new ≡ record self.old { screen = self.new.screen } }
         ensures err { OnErr result (self.new ≡ self.old) }
     {
         self.screen.connect(number)
@@ -274,6 +265,7 @@ impl Canvas {
             OnOk result (self.new.screen ≡ state config (list ++ Event.Hear number piece.now ∷ [])) }
         ensures answer { (config : Config) (list : List Event) → self.old.screen ≡ state config list →
             IfOk result (λ answer. answer.bytes ≡ (answer_to config list (Event.Hear number piece.now)).bytes) }
+        ensures same { self.new ≡ record self.old { screen = self.new.screen } }
         ensures err { OnErr result (self.new ≡ self.old) }
     {
         self.screen.hear(number, piece)
@@ -285,6 +277,8 @@ impl Canvas {
             OnOk result (self.new.screen ≡ state config (list ++ Event.Cut number ∷ [])) }
         ensures answer { (config : Config) (list : List Event) → self.old.screen ≡ state config list →
             IfOk result (λ update. bytes_given update ≡ (answer_to config list (Event.Cut number)).bytes) }
+        ensures same { self.new ≡ record self.old { screen = self.new.screen } }
+        ensures some { IfOk result (λ update. IfSome update (λ bytes. bytes ≢ [])) }
         ensures err { OnErr result (self.new ≡ self.old) }
     {
         self.screen.cut(number)
@@ -296,6 +290,7 @@ impl Canvas {
             OnOk result (self.new.screen ≡ state config (list ++ Event.Close number ∷ [])) }
         ensures answer { (config : Config) (list : List Event) → self.old.screen ≡ state config list →
             OnOk result ((answer_to config list (Event.Close number)).bytes ≡ []) }
+        ensures same { self.new ≡ record self.old { screen = self.new.screen } }
         ensures err { OnErr result (self.new ≡ self.old) }
     {
         self.screen.close(number)

@@ -1,11 +1,13 @@
 //! One viewer's connection: its transport, what is known of that one's readiness, and what is on its way to the viewer.
 
-ghost use Rattle.std.specs.Prelude.{◌≡◌, ◌≢◌, ◌≤◌, ◌++◌, ◌↔◌, [], List, ℕ, None, Some, true, false, IsTrue, ◌⊎◌, IsNone, length, unwrap_or};
+ghost use Rattle.std.specs.Prelude.{◌≡◌, ◌≢◌, ◌≤◌, ◌++◌, ◌+◌, ◌*◌, ◌-◌, ◌^◌, min, [], List, ℕ, None, Some, true, false, not, ◌&&◌, ◌||◌, ◌⊎◌, IsNone, length, unwrap_or};
 ghost use Rattle.receipts.specs.Checking.{may_break_off};
 ghost use Rattle.receipts.specs.declared.Ended.TheVariants as ended;
 ghost use Rattle.connections.specs.Waiting.{waiting_bytes, IsFew};
 ghost use Rattle.connections.specs.Bounds.{AreWrittenAtMost, AreReadAtMost};
-ghost use Rattle.connections.specs.Serving.{Carried, ViewerConnection, Moves, breaks_off};
+ghost use Rattle.connections.specs.Attending.{noted};
+ghost use Rattle.connections.specs.Serving.{Carried, ViewerConnection, Moves, breaks_off, may_read, may_write, has_waiting, over, can_send, has_work};
+ghost use Rattle.connections.specs.declared.connection.Got.TheVariants as got;
 ghost use Rattle.connections.specs.Recording.{none_yet};
 ghost use Rattle.connections.specs.Turns.{IsWithin, got_bytes};
 
@@ -36,13 +38,18 @@ struct Flow {
 
 impl Flow {
     /// How much it is at a time that is no earlier: 64 bytes less for each millisecond.
-    fn level_at(self, now: u64) -> u64 {
+    fn level_at(self, now: u64) -> u64
+        ensures { result ≡ self.level - (now - self.since) * 64 }
+    {
         let gone = now.saturating_sub(self.since).saturating_mul(FORGOTTEN);
         self.level.saturating_sub(gone)
     }
 
     /// So many bytes are said at a time.
-    fn add(&mut self, count: usize, now: u64) {
+    fn add(&mut self, count: usize, now: u64)
+        ensures level { self.new.level ≡ min (self.old.level - (now - self.old.since) * 64 + count) (2 ^ 64 - 1) }
+        ensures since { self.new.since ≡ now }
+    {
         self.level = self.level_at(now).saturating_add(count as u64);
         self.since = now;
     }
@@ -63,14 +70,10 @@ pub(crate) struct Connection<T: Transport> {
     // its last read gave as many bytes as there was room for
     was_full: bool,
     flow: Flow,
-    // as many writes were made as one turn has: an update may be cut at once
-    looks_again: bool,
-    // it stands on the agenda
-    is_listed: bool,
+    // an update may be there to be cut: none was found where it was looked for last, but it was heard since, or looked at after drawing
+    may_cut: bool,
     // it was heard since an update was cut for it, or has a request that none answered
     may_ask: bool,
-    // it stands among those that may have asked
-    is_watching: bool,
 }
 
 impl<T: Transport> Model for Connection<T> {
@@ -84,6 +87,7 @@ impl<T: Transport> Model for Connection<T> {
       carried = carried_by T.unread T.written a.transport;
       waiting = a.backlog;
       ended = a.ended;
+      known = record { may_read = a.readiness.may_read; may_write = a.readiness.may_write; may_cut = a.may_cut; may_ask = a.may_ask };
     } };
 }
 
@@ -101,12 +105,13 @@ pub(crate) enum Got {
 }
 
 impl<T: Transport> Connection<T> {
-    /// A connection whose transport may give bytes and may take some. What moves is kept, or not.
+    /// A connection whose transport may give bytes and may take some, and whose viewer may ask. What moves is kept, or not.
     pub fn new(alloc: Global, transport: T, number: u64, is_kept: bool) -> Connection<T>
         ensures number { result.number ≡ number }
         ensures carried { result.carried ≡ record { unread = T.unread transport; written = T.written transport; sent = none_yet is_kept } }
         ensures waiting { waiting_bytes result.waiting ≡ [] }
         ensures ended { result.ended ≡ None }
+        ensures known { result.known ≡ record { may_read = true; may_write = true; may_cut = true; may_ask = true } }
     {
         Connection {
             transport: Recording::new(alloc, transport, is_kept),
@@ -123,10 +128,8 @@ impl<T: Transport> Connection<T> {
             },
             was_full: false,
             flow: Flow { level: 0, since: 0 },
-            looks_again: false,
-            is_listed: false,
-            may_ask: false,
-            is_watching: false,
+            may_cut: true,
+            may_ask: true,
         }
     }
 
@@ -146,46 +149,30 @@ impl<T: Transport> Connection<T> {
 
     /// What is known of its transport, besides what was known before.
     pub fn note(&mut self, found: Readiness)
-        ensures { self.new ≡ self.old }
+        ensures { self.new ≡ record self.old { known = noted found self.old.known } }
     {
         self.readiness.may_read = self.readiness.may_read || found.may_read;
         self.readiness.may_write = self.readiness.may_write || found.may_write;
         self.readiness.is_hung_up = self.readiness.is_hung_up || found.is_hung_up;
     }
 
-    /// Puts it on the agenda, or takes it off. Whether it stood there.
-    pub fn list(&mut self, is_listed: bool) -> bool
-        ensures { self.new ≡ self.old }
-    {
-        let was_listed = self.is_listed;
-        self.is_listed = is_listed;
-        was_listed
-    }
-
-    /// Puts it among those that may have asked for places, or takes it out. Whether it stood there.
-    pub fn watch(&mut self, is_watching: bool) -> bool
-        ensures { self.new ≡ self.old }
-    {
-        let was_watching = self.is_watching;
-        self.is_watching = is_watching;
-        was_watching
-    }
-
     /// Whether a request of its may be unanswered: it was heard since an update was cut for it last, or that one left a request open.
-    pub fn may_ask(&self) -> bool {
+    pub fn may_ask(&self) -> bool
+        ensures { result ≡ self.now.known.may_ask }
+    {
         self.may_ask
     }
 
-    /// Whether an update may be cut for it at once, once what waits is written.
-    pub fn look_again(&mut self, looks_again: bool)
-        ensures { self.new ≡ self.old }
+    /// An update may be there to be cut for it, or there is none.
+    pub fn look(&mut self, may_cut: bool)
+        ensures { self.new ≡ record self.old { known = record self.old.known { may_cut = may_cut } } }
     {
-        self.looks_again = looks_again;
+        self.may_cut = may_cut;
     }
 
     /// Whether a read may give something.
     pub fn may_read(&self) -> bool
-        ensures { IsTrue result → self.now.ended ≡ None }
+        ensures { result ≡ may_read self.now }
     {
         self.ended.is_none() && self.readiness.may_read
     }
@@ -201,20 +188,22 @@ impl<T: Transport> Connection<T> {
     }
 
     /// Whether nothing can be done for it at once but to hear more, and it said more than 64 KB of late.
-    pub fn only_floods(&self) -> bool {
+    pub fn only_floods(&self) -> bool
+        ensures { result ≡ true → (may_read self.now ≡ true) × (can_send self.now ≡ false) }
+    {
         self.says_much() && self.may_read() && !self.can_send()
     }
 
     /// Whether a write may take something.
     pub fn may_write(&self) -> bool
-        ensures { IsTrue result → breaks_off self.now.ended ≡ false }
+        ensures { result ≡ may_write self.now }
     {
         !self.has_broken_off() && self.readiness.may_write
     }
 
     /// Whether all that it was given is written.
     pub fn is_idle(&self) -> bool
-        ensures { IsTrue result → waiting_bytes self.now.waiting ≡ [] }
+        ensures { result ≡ not (has_waiting self.now) }
     {
         self.backlog.is_empty()
     }
@@ -231,10 +220,9 @@ impl<T: Transport> Connection<T> {
 
     /// Why it ended, where nothing is left to be done for it.
     pub fn over(&self) -> Option<Ended>
-        ensures ended { result ≢ None → result ≡ self.now.ended }
-        ensures whole { result ≢ None → breaks_off self.now.ended ≡ false → waiting_bytes self.now.waiting ≡ [] }
+        ensures { result ≡ over self.now }
     {
-        if self.has_broken_off() || self.backlog.is_empty() {
+        if self.has_broken_off() || self.is_idle() {
             self.ended
         } else {
             None
@@ -242,12 +230,16 @@ impl<T: Transport> Connection<T> {
     }
 
     /// Whether bytes can be written to it at once.
-    fn can_send(&self) -> bool {
-        self.may_write() && (self.looks_again || !self.backlog.is_empty())
+    fn can_send(&self) -> bool
+        ensures { result ≡ can_send self.now }
+    {
+        self.may_write() && (self.may_cut || !self.is_idle())
     }
 
     /// Whether something can be done for it at once.
-    pub fn has_work(&self) -> bool {
+    pub fn has_work(&self) -> bool
+        ensures { result ≡ has_work self.now }
+    {
         self.may_read() || self.can_send() || self.over().is_some()
     }
 
@@ -269,7 +261,8 @@ impl<T: Transport> Connection<T> {
 
     /// A read gave so many bytes at a time, as many as there was room for or fewer.
     fn count_read(&mut self, count: usize, is_full: bool, now: u64)
-        ensures { self.new ≡ self.old }
+        ensures same { self.new ≡ record self.old { known = record self.old.known { may_read = self.new.known.may_read } } }
+        ensures full { is_full ≡ true → self.new.known.may_read ≡ true }
     {
         self.flow.add(count, now);
         self.was_full = is_full;
@@ -279,8 +272,9 @@ impl<T: Transport> Connection<T> {
     /// One read. A piece that doesn't fill its room was all that there was, unless the peer hung up: then its bytes are read to
     /// their end. The time that it is, in milliseconds, says how much was said of late.
     pub fn receive(&mut self, room: &mut [u8], now: u64) -> Got
-        ensures same { self.new ≡ record self.old { carried = self.new.carried } }
+        ensures same { self.new ≡ record self.old { carried = self.new.carried; known = record self.old.known { may_read = self.new.known.may_read } } }
         ensures moved { Moves self.old.carried self.new.carried (got_bytes result room.new) [] }
+        ensures full { result ≡ got.Piece (length room.new) → self.new.known.may_read ≡ true }
         ensures within { IsWithin result room.new }
         ensures bound { AreReadAtMost (length room.new) self.old.carried.unread self.new.carried.unread }
     {
@@ -328,32 +322,36 @@ impl<T: Transport> Connection<T> {
         }
     }
 
-    /// A piece was heard. It is kept, in room that was made.
+    /// A piece was heard, so an update may be there to be cut, and a request may be unanswered. It is kept, in room that was made.
     pub fn count_piece(&mut self, piece: &[u8])
-        ensures { self.new ≡ self.old }
+        ensures { self.new ≡ record self.old { known = record self.old.known { may_cut = true; may_ask = true } } }
     {
         self.pieces = self.pieces.saturating_add(1);
+        self.may_cut = true;
         self.may_ask = true;
         if let Some(heard) = &mut self.heard {
             let _kept = heard.extend_from_slice(piece);
         }
     }
 
-    /// An update that was cut is given, where nothing waits, and which left a request unanswered or none.
+    /// An update that was cut is given, where nothing waits, and which left a request unanswered or none. Another one may be there.
     pub fn start(&mut self, update: Update, is_asking: bool)
-        requires { waiting_bytes self.old.waiting ≡ [] }
-        ensures same { self.new ≡ record self.old { waiting = self.new.waiting } }
+        requires none { waiting_bytes self.old.waiting ≡ [] }
+        requires some { update ≢ [] }
+        ensures same { self.new ≡ record self.old { waiting = self.new.waiting; known = self.new.known } }
+        ensures known { self.new.known ≡ record self.old.known { may_cut = true; may_ask = self.old.known.may_ask && is_asking } }
         ensures bytes { waiting_bytes self.new.waiting ≡ update }
         ensures few { IsFew self.new.waiting }
     {
         self.cuts = self.cuts.saturating_add(1);
-        self.may_ask = is_asking;
+        self.may_cut = true;
+        self.may_ask = self.may_ask && is_asking;
         self.backlog.start(update);
     }
 
     /// One write of what waits, of at most 64 KB, where it was not broken off. A failure ends it.
     pub fn write(&mut self, buffer: &mut Vec<u8>)
-        ensures same { self.new ≡ record self.old { carried = self.new.carried; waiting = self.new.waiting; ended = self.new.ended } }
+        ensures same { self.new ≡ record self.old { carried = self.new.carried; waiting = self.new.waiting; ended = self.new.ended; known = record self.old.known { may_write = self.new.known.may_write } } }
         ensures sent { (written unwritten : List ℕ) × Moves self.old.carried self.new.carried [] written ×
             (written ++ unwritten ≡ waiting_bytes self.old.waiting) ×
             (breaks_off self.new.ended ≡ false → unwritten ≡ waiting_bytes self.new.waiting) }

@@ -1,20 +1,22 @@
 //! All connections of a screen's viewers.
 
-ghost use Rattle.std.specs.Prelude.{◌≡◌, ◌++◌, ◌∷◌, ◌+◌, [], List, ℕ, ◌<◌, None, Some, Err, IfOk, IfSome, IsSome, OnOk, OnErr, length};
-ghost use Rattle.std.specs.Prelude.{true, false, not, ◌||◌, ◌==◌, is_some, count_by, MatchOption, IsOkUnless};
+ghost use Rattle.std.specs.Prelude.{◌≡◌, ◌++◌, ◌∷◌, ◌+◌, [], List, ℕ, ◌<◌, None, Some, Err, IfOk, IfSome, IsSome, OnOk, OnErr, length, slice_index_or};
+ghost use Rattle.std.specs.Prelude.{true, false, not, ◌||◌, ◌==◌, is_some, count_by, MatchOption, IsOkUnless, option_map, ◌≢◌};
 ghost use Rattle.std.specs.Borrow.{sem};
 ghost use Rattle.scene.specs.declared.Config.{Config};
 ghost use Rattle.scene.specs.declared.Event.{Event};
 ghost use Rattle.scene.specs.Alone.{config_refusal};
-ghost use Rattle.connections.specs.Drawing.{Draws};
-ghost use Rattle.connections.specs.Serving.{Carried, GoesOn, IsOver, Serves, WasServed, at_key, is_kept, is_open_on, number_at};
+ghost use Rattle.connections.specs.Among.{is_among};
+ghost use Rattle.connections.specs.Serving.{Carried, GoesOn, HasNothingToDo, IsOver, Serves, ViewerConnection, WasServed, at_key, is_kept, is_open_on, may_cut_at, noted_by, number_at};
 ghost use Rattle.connections.specs.Recording.{none_yet};
 ghost use Rattle.connections.specs.Lending.{lends_canvas};
 
 use crate::application::Application;
 use crate::backlog::BUFFER;
-use crate::canvas::{Canvas, Watching};
+use crate::canvas::Canvas;
 use crate::connection::Connection;
+use crate::keys::KeySet;
+use crate::listing::{keep_asking, keep_busy, list_keys};
 use crate::transport::Transport;
 use crate::turn::{PIECE, listen, send};
 use receipts::{Ended, Receipt};
@@ -56,13 +58,6 @@ fn is_open(screen: &Screen, viewer: u64) -> bool
     }
 }
 
-/// A connection that is let go is watched no longer.
-fn forget(asking: &mut Vec<usize>, key: usize) {
-    if let Some(place) = asking.iter().position(|other| *other == key) {
-        asking.swap_remove(place);
-    }
-}
-
 /// What is left of a viewer that ended.
 #[derive(Drop)]
 pub struct Departed<T> {
@@ -82,15 +77,15 @@ pub struct Connections<T: Transport> {
     is_kept: bool,
     // the number of the next viewer
     next: u64,
-    // the keys of those that are to be looked at, and room for the next ones
-    agenda: Vec<usize>,
-    later: Vec<usize>,
-    // the keys of those that may have asked for places since an update was cut for them, and perhaps of others
-    asking: Vec<usize>,
+    // the keys of those that are to be looked at, of those that may have a request unanswered, and perhaps of others, and room for
+    // the next ones
+    agenda: KeySet,
+    asking: KeySet,
+    later: KeySet,
     // how many turns there were since a viewer that floods was heard
     since_flood: u32,
     // the time that it is, in milliseconds
-    now: u64,
+    time: u64,
     // what is read, and what is written
     room: [u8; PIECE],
     buffer: Vec<u8>,
@@ -101,7 +96,7 @@ impl<T: Transport> Model for Connections<T> {
 
     ghost Value = { Serving };
 
-    ghost view = { λ a. record { surface = a.canvas; kept = a.is_kept; next = a.next; slots = a.connections.slots; vacant = a.connections.vacant_key; agenda = a.agenda.items } };
+    ghost view = { λ a. record { surface = a.canvas; kept = a.is_kept; next = a.next; slots = a.connections.slots; vacant = a.connections.vacant_key; agenda = a.agenda.list; asking = a.asking.list } };
 }
 
 impl<T: Transport> Connections<T> {
@@ -119,11 +114,11 @@ impl<T: Transport> Connections<T> {
             canvas: Canvas::new(screen),
             connections: Slab::new(alloc),
             next: 1,
-            agenda: Vec::new(alloc),
-            later: Vec::new(alloc),
-            asking: Vec::new(alloc),
+            agenda: KeySet::new(alloc),
+            asking: KeySet::new(alloc),
+            later: KeySet::new(alloc),
             since_flood: 0,
-            now: 0,
+            time: 0,
             room: [0; PIECE],
             buffer: Vec::with_capacity(alloc, BUFFER)?,
         })
@@ -151,9 +146,12 @@ impl<T: Transport> Connections<T> {
         self.connections.vacant_key()
     }
 
-    /// Whether something can be done in a turn at once, without anything more being ready.
+    /// Whether something can be done in a turn at once, without anything more being ready. Where not, nothing can be done for any
+    /// connection until its transport is found ready or something is drawn.
     pub fn is_busy(&self) -> bool
-        ensures { result ≡ (not (length self.now.agenda == 0) || self.now.surface.drawn) }
+        ensures busy { result ≡ (not (length self.now.agenda == 0) || self.now.surface.drawn) }
+        ensures rests { (config : Config) (began : ℕ → Carried) (list : List Event) → Serves config began list self.now → result ≡ false →
+            (key : ℕ) (connection : ViewerConnection) → at_key self.now.slots key ≡ Some connection → HasNothingToDo config list connection }
     {
         !self.agenda.is_empty() || self.canvas.has_drawn()
     }
@@ -163,7 +161,7 @@ impl<T: Transport> Connections<T> {
     pub fn set_time(&mut self, milliseconds: u64)
         ensures { self.new ≡ self.old }
     {
-        self.now = milliseconds;
+        self.time = milliseconds;
     }
 
     /// Whether nothing can be done in a turn at once but to hear viewers that said more than 64 KB of late. A program may wait a little
@@ -220,17 +218,17 @@ impl<T: Transport> Connections<T> {
         let Some(next) = self.next.checked_add(1) else {
             return Err(ScreenError::NumberInUse);
         };
-        let most = self.connections.len().saturating_add(1);
         self.connections.reserve(1)?;
-        self.agenda.reserve(most)?;
-        self.later.reserve(most)?;
-        self.asking.reserve(most)?;
+        let most = self.connections.vacant_key();
+        self.agenda.make_room(most)?;
+        self.asking.make_room(most)?;
+        self.later.make_room(most)?;
         let version = self.canvas.connect(self.next)?;
         let mut connection = Connection::new(self.alloc, transport, self.next, self.is_kept);
         connection.give(version.as_slice(), None);
-        connection.list(true);
         let key = self.connections.insert_reserved(connection);
-        self.agenda.push_reserved(key);
+        self.agenda.insert_reserved(key);
+        self.asking.insert_reserved(key);
         self.next = next;
         Ok(key)
     }
@@ -296,49 +294,47 @@ impl<T: Transport> Connections<T> {
     /// made when it was admitted.
     pub fn note(&mut self, key: usize, found: Readiness) -> Result<(), AllocError>
         ensures served { GoesOn self.old self.new }
-        ensures same { self.new ≡ record self.old { agenda = self.new.agenda } }
+        ensures same { self.new ≡ record self.old { slots = self.new.slots; agenda = self.new.agenda } }
+        ensures noted { OnOk result (at_key self.new.slots key ≡ option_map (noted_by found) (at_key self.old.slots key)) }
+        ensures others { (other : ℕ) → other ≢ key → at_key self.new.slots other ≡ at_key self.old.slots other }
     {
+        self.agenda.insert(key)?;
         self.note_at(key, found);
-        self.list(key)
+        Ok(())
     }
 
-    /// What a connection's transport was found ready for.
+    /// What a connection's transport was found ready for, where it is to be looked at.
     fn note_at(&mut self, key: usize, found: Readiness)
-        ensures same { self.new ≡ self.old }
+        requires { is_among key self.old.agenda ≡ true }
+        ensures served { GoesOn self.old self.new }
+        ensures same { self.new ≡ record self.old { slots = self.new.slots } }
+        ensures noted { at_key self.new.slots key ≡ option_map (noted_by found) (at_key self.old.slots key) }
+        ensures others { (other : ℕ) → other ≢ key → at_key self.new.slots other ≡ at_key self.old.slots other }
     {
-        if let Some(connection) = self.connections.get_mut(key) {
-            connection.note(found);
-        }
+        let Some(connection) = self.connections.get_mut(key) else {
+            return;
+        };
+        connection.note(found);
     }
 
     /// A viewer is let go, as one that was closed; nothing where none has the key.
     pub fn close(&mut self, key: usize) -> Result<(), AllocError>
         ensures served { GoesOn self.old self.new }
     {
+        self.agenda.insert(key)?;
         self.end_at(key);
-        self.list(key)
+        Ok(())
     }
 
-    /// A viewer ends as one that was closed.
+    /// A viewer ends as one that was closed, where it is to be looked at.
     fn end_at(&mut self, key: usize)
+        requires { is_among key self.old.agenda ≡ true }
         ensures served { GoesOn self.old self.new }
     {
         let Some(connection) = self.connections.get_mut(key) else {
             return;
         };
         connection.close();
-    }
-
-    /// A connection is to be looked at.
-    fn list(&mut self, key: usize) -> Result<(), AllocError>
-        ensures same { self.new ≡ record self.old { agenda = self.new.agenda } }
-    {
-        if let Some(connection) = self.connections.get_mut(key)
-            && !connection.list(true)
-        {
-            self.agenda.push(key)?;
-        }
-        Ok(())
     }
 
     /// One turn. Of each connection on the agenda one piece of at most 128 bytes is read and heard, and the application is told what
@@ -365,14 +361,13 @@ impl<T: Transport> Connections<T> {
             (more : List Event) × Serves config began (list ++ more) self.new ×
             IfSome result (λ d. WasServed config (list ++ more) (began d.receipt.viewer) T.unread T.written d.transport d.receipt) }
     {
-        let place = self.find_over()?;
-        let key = self.listed(place)?;
+        let key = self.find_over()?;
         let (viewer, ended) = self.over_at(key)?;
         let Ok(()) = self.canvas.close(viewer) else {
             return None;
         };
-        self.agenda.remove(place);
-        forget(&mut self.asking, key);
+        self.agenda.remove(key);
+        self.asking.remove(key);
         let connection = self.connections.try_remove(key)?;
         let (transport, receipt) = connection.into_parts(self.alloc, ended);
         Some(Departed { transport, receipt })
@@ -380,9 +375,10 @@ impl<T: Transport> Connections<T> {
 
     /// The key at a place of the agenda; None behind the last.
     fn listed(&self, place: usize) -> Option<usize>
-        ensures { IsSome result → place < length self.now.agenda }
+        ensures value { place < length self.now.agenda → result ≡ Some (slice_index_or self.now.agenda place 0) }
+        ensures there { IfSome result (λ key. is_among key self.now.agenda ≡ true) }
     {
-        self.agenda.get(place).copied()
+        self.agenda.get(place)
     }
 
     /// Whether a connection may say more, and its last read gave as many bytes as there was room for, or it said much of late.
@@ -402,12 +398,14 @@ impl<T: Transport> Connections<T> {
         Some((connection.number(), ended))
     }
 
-    /// The first place of the agenda with a viewer that ended, and for which nothing is left to be done.
-    fn find_over(&self) -> Option<usize> {
+    /// The first key of the agenda whose viewer ended, and for which nothing is left to be done.
+    fn find_over(&self) -> Option<usize>
+        ensures { IfSome result (λ key. is_among key self.now.agenda ≡ true) }
+    {
         for place in 0..self.agenda.len() {
             let key = self.listed(place)?;
             if self.over_at(key).is_some() {
-                return Some(place);
+                return Some(key);
             }
         }
         None
@@ -474,12 +472,28 @@ impl<T: Transport> Connections<T> {
         Ok(flooding)
     }
 
-    /// Hears a piece of one connection.
+    /// Hears a piece of one connection of the agenda, which may ask from now on.
     fn listen_at<A: Application>(
         &mut self,
         key: usize,
         application: &mut A,
     ) -> Result<(), ScreenError>
+        requires { is_among key self.old.agenda ≡ true }
+        ensures served { GoesOn self.old self.new }
+        ensures agenda { self.new.agenda ≡ self.old.agenda }
+    {
+        self.asking.insert(key)?;
+        self.hear_at(key, application)
+    }
+
+    /// Hears a piece of one connection of the agenda, which is among those that may ask.
+    fn hear_at<A: Application>(
+        &mut self,
+        key: usize,
+        application: &mut A,
+    ) -> Result<(), ScreenError>
+        requires agenda { is_among key self.old.agenda ≡ true }
+        requires asking { is_among key self.old.asking ≡ true }
         ensures served { GoesOn self.old self.new }
         ensures agenda { self.new.agenda ≡ self.old.agenda }
     {
@@ -489,7 +503,7 @@ impl<T: Transport> Connections<T> {
                     &mut self.canvas,
                     connection,
                     &mut self.room,
-                    self.now,
+                    self.time,
                     application,
                 )
             }
@@ -509,8 +523,9 @@ impl<T: Transport> Connections<T> {
         }
     }
 
-    /// Writes to one connection.
+    /// Writes to one connection of the agenda.
     fn send_at(&mut self, key: usize)
+        requires { is_among key self.old.agenda ≡ true }
         ensures served { GoesOn self.old self.new }
         ensures agenda { self.new.agenda ≡ self.old.agenda }
     {
@@ -524,95 +539,91 @@ impl<T: Transport> Connections<T> {
     fn list_watching(&mut self) -> Result<(), AllocError>
         ensures served { GoesOn self.old self.new }
     {
-        match self.canvas.take_watching() {
-            Watching::Nobody => Ok(()),
-            Watching::Asking => self.list_asking(),
-            Watching::All => self.list_all(),
+        if !self.canvas.has_drawn() {
+            return Ok(());
         }
-    }
-
-    /// Those are to be looked at that were heard since an update was cut for them; the others are watched no longer.
-    fn list_asking(&mut self) -> Result<(), AllocError>
-        ensures same { self.new ≡ record self.old { agenda = self.new.agenda } }
-    {
-        self.later.clear();
-        for place in 0..self.asking.len() {
-            if let Some(key) = self.asking.get(place).copied() {
-                self.list_if_asking(key)?;
-            }
-        }
-        mem::swap(&mut self.asking, &mut self.later);
+        self.list_drawn()?;
+        self.look_at_all();
+        self.canvas.settle();
         Ok(())
     }
 
-    /// A connection is to be looked at, and watched further, if it was heard since an update was cut for it.
-    fn list_if_asking(&mut self, key: usize) -> Result<(), AllocError>
-        ensures same { self.new ≡ record self.old { agenda = self.new.agenda } }
+    /// Those are listed for whom drawing may have left something to send: all where a bell or a text was drawn, and else those that
+    /// may have a request unanswered.
+    fn list_drawn(&mut self) -> Result<(), AllocError>
+        ensures same { self.new ≡ record self.old { agenda = self.new.agenda; asking = self.new.asking } }
+        ensures served { GoesOn self.old self.new }
+        ensures listed { OnOk result ((key : ℕ) → may_cut_at self.old.slots key ≡ false → is_among key self.new.agenda ≡ false →
+            (self.old.surface.noticed ≡ false) × (is_among key self.new.asking ≡ false)) }
     {
-        if self.goes_on_watching(key) {
-            self.list(key)?;
-            self.later.push(key)?;
+        if self.canvas.has_noticed() {
+            self.list_all()
+        } else {
+            self.list_asking()
         }
-        Ok(())
-    }
-
-    /// Whether a connection was heard since an update was cut for it. It is watched no longer where it wasn't.
-    fn goes_on_watching(&mut self, key: usize) -> bool
-        ensures same { self.new ≡ self.old }
-    {
-        let Some(connection) = self.connections.get_mut(key) else {
-            return false;
-        };
-        let may_ask = connection.may_ask();
-        connection.watch(may_ask);
-        may_ask
     }
 
     /// All are to be looked at.
     fn list_all(&mut self) -> Result<(), AllocError>
         ensures same { self.new ≡ record self.old { agenda = self.new.agenda } }
+        ensures served { GoesOn self.old self.new }
+        ensures listed { OnOk result ((key : ℕ) → may_cut_at self.old.slots key ≡ false → is_among key self.new.agenda ≡ true) }
     {
-        self.agenda.clear();
-        self.agenda.reserve(self.connections.len())?;
-        for (key, _connection) in &self.connections {
-            self.agenda.push(key)?;
-        }
+        list_keys(&self.connections, &mut self.agenda)
+    }
+
+    /// Those are to be looked at that may have a request unanswered; of the others it is no longer thought.
+    fn list_asking(&mut self) -> Result<(), AllocError>
+        ensures same { self.new ≡ record self.old { agenda = self.new.agenda; asking = self.new.asking } }
+        ensures served { GoesOn self.old self.new }
+        ensures listed { OnOk result ((key : ℕ) → is_among key self.new.agenda ≡ false → is_among key self.new.asking ≡ false) }
+    {
+        keep_asking(
+            &self.connections,
+            &self.asking,
+            &mut self.agenda,
+            &mut self.later,
+        )?;
+        mem::swap(&mut self.asking, &mut self.later);
         Ok(())
+    }
+
+    /// An update may be there to be cut for each on the agenda.
+    fn look_at_all(&mut self)
+        ensures same { self.new ≡ record self.old { slots = self.new.slots } }
+        ensures served { GoesOn self.old self.new }
+        ensures looked { (key : ℕ) → is_among key self.old.agenda ≡ true → may_cut_at self.new.slots key ≡ true }
+        ensures others { (key : ℕ) → may_cut_at self.old.slots key ≡ true → may_cut_at self.new.slots key ≡ true }
+    {
+        for place in 0..self.agenda.len() {
+            let Some(key) = self.listed(place) else {
+                return;
+            };
+            self.look_at(key);
+        }
+    }
+
+    /// An update may be there to be cut for a connection of the agenda.
+    fn look_at(&mut self, key: usize)
+        requires { is_among key self.old.agenda ≡ true }
+        ensures same { self.new ≡ record self.old { slots = self.new.slots } }
+        ensures served { GoesOn self.old self.new }
+        ensures looked { may_cut_at self.new.slots key ≡ true }
+        ensures others { (other : ℕ) → may_cut_at self.old.slots other ≡ true → may_cut_at self.new.slots other ≡ true }
+    {
+        let Some(connection) = self.connections.get_mut(key) else {
+            return;
+        };
+        connection.look(true);
     }
 
     /// Those stay on the agenda that something can be done for at once, in their order, but for one that comes last.
     fn list_busy(&mut self, last: Option<usize>) -> Result<(), AllocError>
         ensures same { self.new ≡ record self.old { agenda = self.new.agenda } }
+        ensures served { GoesOn self.old self.new }
     {
-        self.later.clear();
-        for place in 0..self.agenda.len() {
-            if let Some(key) = self.listed(place)
-                && Some(key) != last
-            {
-                self.list_again(key)?;
-            }
-        }
-        if let Some(key) = last {
-            self.list_again(key)?;
-        }
+        keep_busy(&self.connections, &self.agenda, last, &mut self.later)?;
         mem::swap(&mut self.agenda, &mut self.later);
-        Ok(())
-    }
-
-    /// A connection that something can be done for at once is to be looked at in the next turn. One that was heard is watched.
-    fn list_again(&mut self, key: usize) -> Result<(), AllocError>
-        ensures { self.new ≡ self.old }
-    {
-        if let Some(connection) = self.connections.get_mut(key) {
-            let is_busy = connection.has_work();
-            connection.list(is_busy);
-            if is_busy {
-                self.later.push(key)?;
-            }
-            if connection.may_ask() && !connection.watch(true) {
-                self.asking.push(key)?;
-            }
-        }
         Ok(())
     }
 }

@@ -18,6 +18,8 @@ mod backlog;
 mod canvas;
 mod connection;
 mod connections;
+mod keys;
+mod listing;
 mod recording;
 mod transport;
 mod turn;

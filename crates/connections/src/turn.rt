@@ -1,7 +1,7 @@
 //! What is done for one connection in a turn: a piece is read and heard, and what waits is written, with updates that are cut as
 //! there is room for them.
 
-ghost use Rattle.std.specs.Prelude.{◌≡◌, ◌*◌, [], false, IsTrue};
+ghost use Rattle.std.specs.Prelude.{◌≡◌, ◌*◌, [], true, false, IsTrue};
 ghost use Rattle.connections.specs.Waiting.{waiting_bytes};
 ghost use Rattle.connections.specs.Bounds.{AreWrittenAtMost, AreReadAtMost};
 ghost use Rattle.connections.specs.Drawing.{Draws};
@@ -13,7 +13,7 @@ use crate::canvas::Canvas;
 use crate::connection::{Connection, Got};
 use crate::transport::Transport;
 use receipts::Ended;
-use screen::{Input, ScreenError};
+use screen::{Input, ScreenError, held_as_alone};
 
 /// How many bytes are read and heard at once, at most: 12 requests, or 21 pointers. Hearing a request costs as much as a small
 /// update does, and who floods a screen holds up the others by a piece in one turn of eight. Viewers that don't say less
@@ -93,21 +93,21 @@ pub(crate) fn send<T: Transport>(
     buffer: &mut Vec<u8>,
 )
     ensures turn { TakesTurn canvas.old connection.old canvas.new connection.new }
+    ensures asks { connection.new.known.may_ask ≡ true → connection.old.known.may_ask ≡ true }
     ensures bound { AreWrittenAtMost (4 * 65536) connection.old.carried.written connection.new.carried.written }
 {
-    connection.look_again(false);
     for _writes in 0..WRITES {
         if !prepare(canvas, connection) {
             return;
         }
         connection.write(buffer);
     }
-    connection.look_again(true);
 }
 
 /// Whether a write may take something, where an update is cut if nothing waits.
 fn prepare<T: Transport>(canvas: &mut Canvas, connection: &mut Connection<T>) -> bool
     ensures turn { TakesTurn canvas.old connection.old canvas.new connection.new }
+    ensures asks { connection.new.known.may_ask ≡ true → connection.old.known.may_ask ≡ true }
     ensures whole { IsTrue result → breaks_off connection.new.ended ≡ false }
     ensures carried { connection.new.carried ≡ connection.old.carried }
 {
@@ -124,6 +124,7 @@ fn prepare<T: Transport>(canvas: &mut Canvas, connection: &mut Connection<T>) ->
 fn cut<T: Transport>(canvas: &mut Canvas, connection: &mut Connection<T>) -> bool
     requires { waiting_bytes connection.old.waiting ≡ [] }
     ensures turn { TakesTurn canvas.old connection.old canvas.new connection.new }
+    ensures asks { connection.new.known.may_ask ≡ true → connection.old.known.may_ask ≡ true }
     ensures whole { IsTrue result → breaks_off connection.new.ended ≡ false }
     ensures carried { connection.new.carried ≡ connection.old.carried }
 {
@@ -131,12 +132,16 @@ fn cut<T: Transport>(canvas: &mut Canvas, connection: &mut Connection<T>) -> boo
     if connection.ended().is_some() {
         return false;
     }
+    held_as_alone();
     match canvas.cut(viewer) {
         Ok(Some(update)) => {
             connection.start(update, canvas.is_asking(viewer));
             true
         }
-        Ok(None) => false,
+        Ok(None) => {
+            connection.look(false);
+            false
+        }
         Err(_) => {
             connection.end(Ended::Memory);
             false

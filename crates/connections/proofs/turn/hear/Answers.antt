@@ -1,8 +1,10 @@
-use Rattle.std.proofs.Common.{◌≡◌, Some, refl, ap, ◌∙◌, subst, ◌++◌, false}
+use Rattle.std.proofs.Common.{◌≡◌, Some, refl, sym, ap, ◌∙◌, subst, ◌++◌, false}
 use Rattle.receipts.specs.declared.Ended.TheVariants.{Memory}
-use Rattle.connections.specs.Waiting.{waiting_bytes}
+use Rattle.connections.specs.Attending.{Known}
+use Rattle.connections.specs.Drawing.{Surface}
+use Rattle.connections.specs.Waiting.{Waiting, waiting_bytes}
 use Rattle.connections.specs.Serving.{ViewerConnection, breaks_off}
-use Rattle.connections.proofs.Turns.{turn-unheard, turn-heard}
+use Rattle.connections.proofs.Turns.{turn-unheard, turn-heard, counted-same}
 use Rattle.connections.proofs.turn.hear.Goals as goal
 
 pub returns-then-is_err-clause-heard : goal.returns-then-is_err-clause-heard
@@ -13,10 +15,17 @@ returns-in_default-clause-heard g c = turn-unheard _ _ _ _ _ c.in_default.ensure
 
 pub returns-clause-heard : goal.returns-clause-heard
 returns-clause-heard g c =
+    let e = c.args.connection.now in
+    let m = c.make_room.new.self in
+    let p = c.count_piece.new.self in
     let f = c.give.new.self in
     let bytes = c.as_slice.result.now in
-    let still = c.count_piece.ensures ∙ c.make_room.ensures in
-    turn-heard c.args.canvas.now c.hear.new.self c.tell.new.canvas c.args.connection.now f c.number-viewer.result c.args.piece.now bytes c.number-viewer.ensures c.in-Ok.ensures.step
-    (λ config list h. c.as_slice.ensures ∙ c.in-Ok.ensures.answer config list h)
-    (subst (λ (x : ViewerConnection). f ≡ record x { waiting = f.waiting; ended = f.ended }) still c.give.ensures.same)
-    (subst (λ (x : ViewerConnection). breaks_off f.ended ≡ false → waiting_bytes f.waiting ≡ waiting_bytes x.waiting ++ bytes) still c.give.ensures.bytes) c.give.ensures.few c.tell.ensures.draws
+    let still : p ≡ record m { known = p.known } = c.count_piece.ensures ∙ ap (λ (k : Known). record m { known = k }) (sym (ap (λ (x : ViewerConnection). x.known) c.count_piece.ensures)) in
+    let counted : p ≡ record e { known = p.known } = subst (λ (x : ViewerConnection). p ≡ record x { known = p.known }) c.make_room.ensures still in
+    let known = ap (λ (x : ViewerConnection). x.known) c.give.ensures.same ∙ ap (λ (x : ViewerConnection). x.known) c.count_piece.ensures in
+    let waiting : p.waiting ≡ e.waiting = ap (λ (x : ViewerConnection). x.waiting) counted in
+    turn-heard c.args.canvas.now c.hear.new.self c.tell.new.canvas e f c.number-viewer.result c.args.piece.now bytes c.number-viewer.ensures
+    (ap (λ (x : Surface). x.drawn) c.hear.ensures.same) (ap (λ (x : Surface). x.noticed) c.hear.ensures.same) (ap (λ (k : Known). k.may_cut) known) (ap (λ (k : Known). k.may_ask) known)
+    c.in-Ok.ensures.step (λ config list h. c.as_slice.ensures ∙ c.in-Ok.ensures.answer config list h)
+    (counted-same e p f counted c.give.ensures.same)
+    (subst (λ (w : Waiting). breaks_off f.ended ≡ false → waiting_bytes f.waiting ≡ waiting_bytes w ++ bytes) waiting c.give.ensures.bytes) c.give.ensures.few c.tell.ensures.draws

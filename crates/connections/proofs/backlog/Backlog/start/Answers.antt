@@ -6,4 +6,4 @@ use Rattle.connections.proofs.backlog.Backlog.start.Goals as goal
 pub returns-clause-bytes : goal.returns-clause-bytes
 returns-clause-bytes c =
     let i = c.self.inside in
-    started (record { made = drop i.done i.made.items; update = i.update; behind = i.behind.items }) c.into_stream.result (ap waiting_bytes c.self.view_is ∙ c.requires) ∙ c.into_stream.ensures
+    started (record { made = drop i.done i.made.items; update = i.update; behind = i.behind.items }) c.into_stream.result (ap waiting_bytes c.self.view_is ∙ c.requires.none) ∙ c.into_stream.ensures

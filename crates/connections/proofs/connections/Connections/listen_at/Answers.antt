@@ -1,7 +1,7 @@
-use Rattle.std.proofs.Common.{sym}
-use Rattle.connections.proofs.Everyone.{goes-at}
+use Rattle.connections.proofs.Everyone.{goes-then, goes-among}
 use Rattle.connections.proofs.connections.Connections.listen_at.Goals as goal
 
-pub returns-in-Some-clause-served : goal.returns-in-Some-clause-served
-returns-in-Some-clause-served g c =
-    goes-at c.args.self.now c.self.inside.canvas c.listen.new.canvas _ _ c.self.inside.connections.slots _ _ c.args.key c.in-Some.connection.now c.listen.new.connection c.self.view_is (sym c.in-Some.ensures.value) c.listen.ensures.turn
+pub returns-clause-served : goal.returns-clause-served
+returns-clause-served g c =
+    let i = c.self.inside in
+    goes-then _ _ _ (goes-among c.args.self.now i.canvas _ _ i.connections.slots _ i.agenda.list i.asking.list i.agenda.list c.insert.new.self.list c.self.view_is (λ key works there. there) (λ key asks. c.insert.ensures.kept key)) c.hear_at.ensures.served

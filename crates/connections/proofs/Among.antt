@@ -1,0 +1,92 @@
+-- Which keys are in a list.
+use Rattle.std.proofs.Common.{◌≡◌, ◌≢◌, ◌⊎◌, inl, inr, true≢false, subst, ◌+◌, ◌<◌, ℕ, zero, suc, Bool, true, false, List, [], ◌∷◌, ◌++◌, refl, sym, ap, ◌∙◌, arith}
+use Rattle.std.specs.Prelude.{◌==◌, ◌||◌, length, slice_index_or, remove}
+use Rattle.std.proofs.lemmas.Bool.Decides.{Decides-eqb}
+use Rattle.std.proofs.lemmas.List.Folds.{list_any-append, list_any_at}
+use Rattle.connections.specs.Among.{is_among, AreAmong}
+
+same-key : (k j : ℕ) → (k == j) ≡ true → (j == k) ≡ true
+same-key k j h = (Decides-eqb j k).1 (sym ((Decides-eqb k j).0 h))
+
+apart-key : (k j : ℕ) → (k == j) ≡ false → (j == k) ≡ false
+apart-key k j h = go (j == k) refl
+  where
+    go : (b : Bool) → (j == k) ≡ b → (j == k) ≡ false
+    go true is = let no : true ≡ false = sym (same-key j k is) ∙ h in absurd cc
+    go false is = is
+
+-- a key other than the last is before it
+pub among-before : (k last : ℕ) (keys : List ℕ) → (k == last) ≡ false → is_among k (keys ++ last ∷ []) ≡ true → is_among k keys ≡ true
+among-before k last keys apart there = go (is_among k keys) refl (sym (list_any-append (λ j. j == k) keys (last ∷ [])) ∙ there)
+  where
+    go : (b : Bool) → is_among k keys ≡ b → (is_among k keys || ((last == k) || false)) ≡ true → is_among k keys ≡ true
+    go true is h = is
+    go false is h = let a = apart-key k last apart in absurd cc
+
+-- the last is taken out, and its flag lowered
+pub lowered : (old new : List Bool) (key : ℕ) (keys rest : List ℕ) → keys ≡ rest ++ key ∷ [] → AreAmong old keys → slice_index_or new key false ≡ false
+    → ((k : ℕ) → (k == key) ≡ false → slice_index_or new k false ≡ slice_index_or old k false) → AreAmong new rest
+lowered old new key keys rest is among down others k up = go (k == key) refl
+  where
+    go : (b : Bool) → (k == key) ≡ b → is_among k rest ≡ true
+    go true same = let no : true ≡ false = sym up ∙ ap (λ j. slice_index_or new j false) ((Decides-eqb k key).0 same) ∙ down in absurd cc
+    go false apart = among-before k key rest apart (ap (is_among k) (sym is) ∙ among k (sym (others k apart) ∙ up))
+
+-- one is taken out of its place
+pub among_removed : (k key place : ℕ) (keys : List ℕ) → (k == key) ≡ false → place < length keys → slice_index_or keys place 0 ≡ key → is_among k keys ≡ true → is_among k (remove keys place) ≡ true
+among_removed k key place [] apart within is there = absurd (omega (arith, within))
+among_removed k key zero (j ∷ keys) apart within is there = go (j == k) refl there
+  where
+    go : (b : Bool) → (j == k) ≡ b → (b || is_among k keys) ≡ true → is_among k keys ≡ true
+    go true same h = let no : true ≡ false = sym same ∙ ap (λ i. i == k) is ∙ apart-key k key apart in absurd cc
+    go false off h = h
+among_removed k key (suc place) (j ∷ keys) apart within is there = go (j == k) refl there (among_removed k key place keys apart (omega (arith, within)) is)
+  where
+    go : (b : Bool) → (j == k) ≡ b → (b || is_among k keys) ≡ true → (is_among k keys ≡ true → is_among k (remove keys place) ≡ true) → (b || is_among k (remove keys place)) ≡ true
+    go true same h rest = refl
+    go false off h rest = rest h
+
+pub removed : (old new : List Bool) (key place : ℕ) (keys : List ℕ) → place < length keys → slice_index_or keys place 0 ≡ key → AreAmong old keys → slice_index_or new key false ≡ false
+    → ((k : ℕ) → (k == key) ≡ false → slice_index_or new k false ≡ slice_index_or old k false) → AreAmong new (remove keys place)
+removed old new key place keys within is among down others k up = go (k == key) refl
+  where
+    go : (b : Bool) → (k == key) ≡ b → is_among k (remove keys place) ≡ true
+    go true same = let no : true ≡ false = sym up ∙ ap (λ j. slice_index_or new j false) ((Decides-eqb k key).0 same) ∙ down in absurd cc
+    go false apart = among_removed k key place keys apart within is (among k (sym (others k apart) ∙ up))
+
+-- ---- by place
+
+-- where a key is
+pub place-among : (k : ℕ) (keys : List ℕ) → is_among k keys ≡ true → (i : ℕ) × (i < length keys) × (slice_index_or keys i 0 ≡ k)
+place-among k [] there = absurd cc
+place-among k (j ∷ keys) there = go (j == k) refl there (place-among k keys)
+  where
+    go : (b : Bool) → (j == k) ≡ b → (b || is_among k keys) ≡ true → (is_among k keys ≡ true → (i : ℕ) × (i < length keys) × (slice_index_or keys i 0 ≡ k))
+        → (i : ℕ) × (i < length (j ∷ keys)) × (slice_index_or (j ∷ keys) i 0 ≡ k)
+    go true is h rest = (0, omega arith, (Decides-eqb j k).0 is)
+    go false is h rest = let p = rest h in (suc p.0, omega (arith, p.1), p.2)
+
+-- what is at a place is there
+pub among_at : (i : ℕ) (k : ℕ) (keys : List ℕ) → i < length keys → k ≡ slice_index_or keys i k → is_among k keys ≡ true
+among_at i k keys within is = list_any_at (λ j. j == k) keys i k within (ap (λ j. j == k) (sym is) ∙ (Decides-eqb k k).1 refl)
+
+-- what holds of each place holds of each key
+pub each-among : (P : ℕ → Type 0) (keys : List ℕ) → ((i : ℕ) → i < length keys → P (slice_index_or keys i 0)) → (k : ℕ) → is_among k keys ≡ true → P k
+each-among P keys each k there = let p = place-among k keys there in subst P p.2 (each p.0 p.1)
+
+-- what holds of the first places holds of one more
+pub each-more : (P Q : ℕ → Type 0) (keys : List ℕ) (n : ℕ) → ((k : ℕ) → P k → Q k) → Q (slice_index_or keys n 0) → ((i : ℕ) → i < n → P (slice_index_or keys i 0)) → (i : ℕ) → i < n + 1 → Q (slice_index_or keys i 0)
+each-more P Q keys n goes here each i below = go (i == n) refl
+  where
+    go : (b : Bool) → (i == n) ≡ b → Q (slice_index_or keys i 0)
+    go true is = subst (λ (m : ℕ). Q (slice_index_or keys m 0)) (sym ((Decides-eqb i n).0 is)) here
+    go false is = goes _ (each i (let apart : i ≢ n = λ same. true≢false (sym ((Decides-eqb i n).1 same) ∙ is) in omega (arith, below, apart)))
+
+-- one came, or none
+pub among-came : (k key : ℕ) (old new : List ℕ) → (new ≡ old) ⊎ (new ≡ old ++ key ∷ []) → is_among k new ≡ true → (is_among k old ≡ true) ⊎ (k ≡ key)
+among-came k key old new (inl same) there = inl (ap (is_among k) (sym same) ∙ there)
+among-came k key old new (inr same) there = go (k == key) refl
+  where
+    go : (b : Bool) → (k == key) ≡ b → (is_among k old ≡ true) ⊎ (k ≡ key)
+    go true is = inr ((Decides-eqb k key).0 is)
+    go false is = inl (among-before k key old is (ap (is_among k) (sym same) ∙ there))

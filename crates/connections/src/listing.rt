@@ -1,0 +1,118 @@
+//! Which connections are to be looked at.
+
+ghost use Rattle.std.specs.Prelude.{◌≡◌, ℕ, ◌<◌, ◌⊎◌, Some, true, false, OnOk, length, slice_index_or};
+ghost use Rattle.connections.specs.Among.{is_among};
+ghost use Rattle.connections.specs.Serving.{at_key, may_ask_at, may_cut_at, works_at};
+
+use crate::connection::Connection;
+use crate::keys::KeySet;
+use crate::transport::Transport;
+use slab::Slab;
+use std::alloc::AllocError;
+
+/// Whether something can be done at once for the connection that has the key.
+fn has_work<T: Transport>(connections: &Slab<Connection<T>>, key: usize) -> bool
+    ensures { result ≡ works_at connections.now.slots key }
+{
+    match connections.get(key) {
+        Some(connection) => connection.has_work(),
+        None => false,
+    }
+}
+
+/// Whether a request of the viewer that has the key may be unanswered.
+fn may_ask<T: Transport>(connections: &Slab<Connection<T>>, key: usize) -> bool
+    ensures { result ≡ may_ask_at connections.now.slots key }
+{
+    match connections.get(key) {
+        Some(connection) => connection.may_ask(),
+        None => false,
+    }
+}
+
+/// The keys of all connections are put on the agenda.
+pub(crate) fn list_keys<T: Transport>(
+    connections: &Slab<Connection<T>>,
+    agenda: &mut KeySet,
+) -> Result<(), AllocError>
+    ensures listed { OnOk result ((key : ℕ) → may_cut_at connections.now.slots key ≡ false → is_among key agenda.new.list ≡ true) }
+    ensures more { (key : ℕ) → is_among key agenda.old.list ≡ true → is_among key agenda.new.list ≡ true }
+{
+    for (key, _connection) in connections {
+        agenda.insert(key)?;
+    }
+    Ok(())
+}
+
+/// Of those that may have had a request unanswered, those are kept for which it may be so still, and these are put on the agenda.
+pub(crate) fn keep_asking<T: Transport>(
+    connections: &Slab<Connection<T>>,
+    asking: &KeySet,
+    agenda: &mut KeySet,
+    kept: &mut KeySet,
+) -> Result<(), AllocError>
+    ensures kept { OnOk result ((key : ℕ) → may_ask_at connections.now.slots key ≡ true → is_among key asking.now.list ≡ true → is_among key kept.new.list ≡ true) }
+    ensures listed { OnOk result ((key : ℕ) → is_among key kept.new.list ≡ true → is_among key agenda.new.list ≡ true) }
+    ensures more { (key : ℕ) → is_among key agenda.old.list ≡ true → is_among key agenda.new.list ≡ true }
+{
+    kept.clear();
+    for place in 0..asking.len() {
+        if let Some(key) = asking.get(place)
+            && may_ask(connections, key)
+        {
+            agenda.insert(key)?;
+            kept.insert(key)?;
+        }
+    }
+    Ok(())
+}
+
+/// Of those on the agenda, those are kept that something can be done for at once, in their order, but for one that comes last.
+pub(crate) fn keep_busy<T: Transport>(
+    connections: &Slab<Connection<T>>,
+    agenda: &KeySet,
+    last: Option<usize>,
+    kept: &mut KeySet,
+) -> Result<(), AllocError>
+    ensures { OnOk result ((key : ℕ) → works_at connections.now.slots key ≡ true → is_among key agenda.now.list ≡ true → is_among key kept.new.list ≡ true) }
+{
+    kept.clear();
+    for key in agenda.as_slice() {
+        keep_unless_last(connections, *key, last, kept)?;
+    }
+    if let Some(key) = last {
+        keep_if_busy(connections, key, kept)?;
+    }
+    Ok(())
+}
+
+/// A key is kept if something can be done at once for its connection, and it isn't the one that comes last.
+fn keep_unless_last<T: Transport>(
+    connections: &Slab<Connection<T>>,
+    key: usize,
+    last: Option<usize>,
+    kept: &mut KeySet,
+) -> Result<(), AllocError>
+    ensures kept { OnOk result (works_at connections.now.slots key ≡ true → (last ≡ Some key) ⊎ (is_among key kept.new.list ≡ true)) }
+    ensures more { (k : ℕ) → is_among k kept.old.list ≡ true → is_among k kept.new.list ≡ true }
+{
+    match last {
+        Some(other) if other == key => Ok(()),
+        _ => keep_if_busy(connections, key, kept),
+    }
+}
+
+/// A key is kept if something can be done at once for its connection.
+fn keep_if_busy<T: Transport>(
+    connections: &Slab<Connection<T>>,
+    key: usize,
+    kept: &mut KeySet,
+) -> Result<(), AllocError>
+    ensures kept { OnOk result (works_at connections.now.slots key ≡ true → is_among key kept.new.list ≡ true) }
+    ensures more { (k : ℕ) → is_among k kept.old.list ≡ true → is_among k kept.new.list ≡ true }
+{
+    if has_work(connections, key) {
+        kept.insert(key)?;
+    }
+    Ok(())
+}
