@@ -1,5 +1,11 @@
 -- Steps of a loop, one after the other.
-use Rattle.std.proofs.Common.{◌≡◌, ℕ, List, [], ◌∷◌, ◌++◌, None, sym, ap, append_assoc, append-nil, subst}
+use Rattle.std.proofs.Common.{◌≡◌, ℕ, List, [], ◌∷◌, ◌++◌, Option, None, Some, Result, Err, sym, ap, append_assoc, append-nil, subst, inr}
+use Rattle.std.specs.Prelude.{MatchOption, IsOkUnless}
+use Rattle.scene.specs.declared.ScreenError.{ScreenError}
+use Rattle.scene.specs.declared.ScreenError.TheVariants.{OutOfMemory}
+use Rattle.event_loop.specs.declared.event_loop.LoopError.{LoopError}
+use Rattle.event_loop.specs.declared.event_loop.LoopError.TheVariants.{Screen}
+use Rattle.event_loop.specs.Opening.{IsOpenedOr}
 use Rattle.scene.specs.declared.Config.{Config}
 use Rattle.scene.specs.declared.Event.{Event}
 use Rattle.scene.specs.declared.Event.TheVariants.{Connect}
@@ -30,3 +36,9 @@ pub on-admitted : (a before b : Serving) → before ≡ a
 on-admitted a before b is admits c list s =
     let t : Serves c (sockets c) list before = subst (λ (x : Serving). Serves c (sockets c) list x) (sym is) s in
     (Connect before.next ∷ [], admits c (sockets c) list t (ap (λ kept. record { unread = None; written = None; sent = none_yet kept }) (sym t.kept)))
+
+-- connections that were refused are no loop
+pub refused-connections : {X : Type 0} (Y : Type 0) (made : Result X ScreenError) (refusal : ScreenError) (due : Option ScreenError) → made ≡ Err refusal → MatchOption due (IsOkUnless made OutOfMemory) (λ e. made ≡ Err e)
+    → MatchOption due (IsOpenedOr {X = Y} (Err (Screen refusal))) (λ e. ◌≡◌ {A = Result Y LoopError} (Err (Screen refusal)) (Err (Screen e)))
+refused-connections {X = X} Y made refusal None is h = inr (ap Screen (subst (λ (r : Result X ScreenError). IsOkUnless r OutOfMemory) is h))
+refused-connections Y made refusal (Some e) is h = let same : refusal ≡ e = cc in ap (λ r. Err (Screen r)) same

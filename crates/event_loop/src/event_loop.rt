@@ -193,7 +193,10 @@ impl EventLoop {
         ensures accepted { OnOk result (config_refusal config ≡ None) }
         ensures refused { MatchOption (config_refusal config) (IsOpenedOr result) (λ e. result ≡ Err (error.Screen e)) }
     {
-        let connections = Connections::new(alloc, config)?;
+        let connections = match Connections::new(alloc, config) {
+            Ok(connections) => connections,
+            Err(refusal) => return Err(LoopError::Screen(refusal)),
+        };
         let poller = Poller::new(rt, alloc).map_err(|_| LoopError::Network)?;
         if poller.add_listener(&mut listener).is_err() {
             return Err(LoopError::Network);
@@ -357,7 +360,7 @@ impl EventLoop {
     {
         let began = self.began.unwrap_or(now);
         self.began = Some(began);
-        now.duration_since(began).as_millis() as u64
+        u64::try_from(now.duration_since(began).as_millis()).unwrap_or(u64::MAX)
     }
 
     /// What viewers sent is heard, what they are given is written, and those that ended are parted with.
