@@ -17,15 +17,15 @@ use update_sender::{
     serve_reader, serve_sender,
 };
 
-/// How long a closing that is refused for memory is let wait.
-const RETRY: Duration = Duration::from_millis(10);
+/// How many milliseconds a closing that is refused for memory is let wait.
+const RETRY: u64 = 10;
 
 /// Closes a viewer whose reader or opening ended, if it is open still: where that was refused for memory, again after a little while,
 /// until there is some. Else its sender would wait for an update that nobody can be sent.
 fn close_at_last<L: Ledger, R: Wait + Clock>(rt: &R, shared: &Shared<L>, viewer: u64) {
     for _ in rt.forever() {
         match shared.close(rt, viewer) {
-            Err(ScreenError::OutOfMemory) => thread::sleep(rt, RETRY),
+            Err(ScreenError::OutOfMemory) => thread::sleep(rt, Duration::from_millis(RETRY)),
             // It is closed, or was before.
             Ok(()) | Err(_) => return,
         }
