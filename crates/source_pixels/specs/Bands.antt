@@ -1,0 +1,35 @@
+-- Rows that differ, gathered from the top into bands.
+use Rattle.std.specs.Prelude.{◌≡◌, ℕ, ◌-◌, ◌<◌, ◌≤◌, min, max, Bool, false, ◌&&◌, nat_le, nat_lt, ◌⊎◌, List, [], ◌∷◌, ◌++◌, length, slice_set, get_or, All, AllPairs}
+use Rattle.source_pixels.specs.declared.bands.Band.{Band}
+
+abbrev pub is_in_band : Band → ℕ → ℕ → Bool
+is_in_band b x y = nat_le b.from x && nat_lt x b.to && (nat_le b.top y && nat_lt y b.bottom)
+
+-- a band has places, in so many columns, above row y
+pub record IsBand (columns y : ℕ) (b : Band) : Type 0 where
+  pub some_columns : b.from < b.to
+  pub wide : b.to ≤ columns
+  pub some_rows : b.top < b.bottom
+  pub high : b.bottom ≤ y
+
+-- a band that holds two others, of which the second lies directly below the first
+pub record IsJoint (a b joint : Band) : Type 0 where
+  pub below : a.bottom ≡ b.top
+  pub top : joint.top ≡ a.top
+  pub bottom : joint.bottom ≡ b.bottom
+  pub from : joint.from ≡ min a.from b.from
+  pub to : joint.to ≡ max a.to b.to
+
+-- a band comes behind others, or is joined with the last of them
+abbrev pub Adds : List Band → Band → List Band → Type 0
+Adds old b new = (new ≡ old ++ b ∷ []) ⊎ ((0 < length old) × (joint : Band) × (IsJoint (get_or old (length old - 1) b) b joint × (new ≡ slice_set old (length old - 1) joint)))
+
+-- a place is in none of the bands
+abbrev pub IsOutside : List Band → ℕ → ℕ → Type 0
+IsOutside bands x y = All (λ b. is_in_band b x y ≡ false) bands
+
+-- bands of the rows above row y, from the top; where none of them is, a fact holds
+pub record AreBands (columns : ℕ) (same : ℕ → ℕ → Type 0) (y : ℕ) (bands : List Band) : Type 0 where
+  pub each : All (IsBand columns y) bands
+  pub ordered : AllPairs (λ a b. a.bottom ≤ b.top) bands
+  pub whole : (x r : ℕ) → r < y → IsOutside bands x r → same x r

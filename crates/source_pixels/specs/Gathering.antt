@@ -1,0 +1,29 @@
+-- What is gathered of the rows above row y.
+use Rattle.std.specs.Prelude.{◌≡◌, ℕ, ◌-◌, ◌*◌, ◌<◌, ◌≤◌, List, length, map, slice_index, sum}
+use Rattle.std.specs.List.{range_with_len}
+use Rattle.source_pixels.specs.declared.bands.Band.{Band}
+use Rattle.source_pixels.specs.declared.pieces.Piece.{Piece}
+use Rattle.source_pixels.specs.Source.{Source, colour_at}
+use Rattle.source_pixels.specs.Parts.{Part}
+use Rattle.source_pixels.specs.Bands.{AreBands}
+use Rattle.source_pixels.specs.Differences.{columns_beside, row_beside, row_count, block_colours}
+
+-- the place in column x of row y is the picture's, if it lies beside it
+abbrev pub IsSameAt : Source → Part → ℕ → ℕ → Type 0
+IsSameAt s p x y = x < length (row_beside s p y) → colour_at s x y ≡ slice_index (row_beside s p y) x
+
+pub record AreGathered (s : Source) (p : Part) (y : ℕ) (bands : List Band) (places : ℕ) : Type 0 where
+  pub are_bands : AreBands (columns_beside s p) (IsSameAt s p) y bands
+  pub counted : places ≡ sum (map (row_count s p) (range_with_len 0 y))
+  pub few : length bands ≤ places
+  pub small : places ≤ s.width * y
+
+-- a band with its colours
+abbrev pub piece_of : Source → Band → Piece
+piece_of s b = record {
+  left = b.from;
+  top = b.top;
+  columns = b.to - b.from;
+  rows = b.bottom - b.top;
+  colours = block_colours s b.from b.top (b.to - b.from) (b.bottom - b.top);
+}

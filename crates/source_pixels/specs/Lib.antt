@@ -1,0 +1,10 @@
+pub mod Formats
+pub mod Source
+pub mod Rows
+pub mod Examples
+pub mod RowLemmas
+pub mod SourceLemmas
+pub mod Parts
+pub mod Differences
+pub mod Bands
+pub mod Gathering

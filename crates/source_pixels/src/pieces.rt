@@ -1,0 +1,175 @@
+//! What differs between pixels and the part of a picture beside them, as rectangles with their colours.
+
+ghost use Rattle.std.specs.Prelude.{◌≡◌, ◌+◌, ◌-◌, ◌*◌, ◌<◌, ◌≤◌, length, take, min, MatchOption, IfOk, None};
+ghost use Rattle.source_pixels.specs.Source.{colours_at, source_refusal};
+ghost use Rattle.source_pixels.specs.Rows.{AreSame, IsDifference};
+ghost use Rattle.source_pixels.specs.Parts.{Part};
+ghost use Rattle.source_pixels.specs.Gathering.{AreGathered, piece_of};
+ghost use Rattle.source_pixels.specs.Differences.{block_colours, AreDifferences, rows_beside};
+
+use crate::bands::{Band, add};
+use crate::rows::RowDifference;
+use crate::source::PixelSource;
+use listed::Listed;
+use std::alloc::{AllocError, Global};
+
+/// The part of a picture that lies beside a program's pixels: its first row beside their first, its first column beside theirs.
+pub trait Beside {
+    /// Its size, and its colours.
+    ghost part: { Self → Part };
+
+    /// How many columns it has.
+    fn columns(&self) -> usize
+        ensures { result ≡ (part self.now).columns };
+
+    /// How many rows it has.
+    fn rows(&self) -> usize
+        ensures { result ≡ (part self.now).rows };
+
+    /// The colours `0x00RRGGBB` of row y, from the left.
+    fn row(&self, y: usize) -> &[u32]
+        requires { y < (part self.now).rows }
+        ensures { result.now ≡ (part self.now).row y };
+}
+
+/// A rectangle of the source's places, and their colours `0x00RRGGBB`, row by row.
+#[derive(Drop)]
+pub struct Piece {
+    pub left: usize,
+    pub top: usize,
+    pub columns: usize,
+    pub rows: usize,
+    pub colours: Listed<u32>,
+}
+
+/// What differs: rectangles that hold each place that differs, and how many places differ.
+#[derive(Drop)]
+pub struct Differences {
+    pub pieces: Listed<Piece>,
+    pub places: usize,
+}
+
+/// Where a row differs from the picture's, of which only the first columns are looked at.
+fn row_difference<B: Beside>(
+    source: &PixelSource<'_>,
+    picture: &B,
+    columns: usize,
+    y: usize,
+) -> Option<RowDifference>
+    requires top { y < source.now.height }
+    requires beside { y < (B.part picture.now).rows }
+    requires wide { columns ≤ source.now.width }
+    ensures { let row = take columns ((B.part picture.now).row y) in
+        MatchOption result (AreSame (colours_at source.now 0 y (length row)) row 0 (length row)) (λ d. IsDifference (colours_at source.now 0 y (length row)) row d) }
+{
+    let row = picture.row(y);
+    source.compare_row(y, &row[..row.len().min(columns)])
+}
+
+/// What is gathered of rows.
+#[derive(Drop)]
+struct Gathered {
+    bands: Vec<Band>,
+    places: usize,
+}
+
+/// The band of a row that differs.
+fn band_of(y: usize, difference: RowDifference) -> Band
+    requires { y < usize.MAX }
+    ensures top { result.top ≡ y }
+    ensures bottom { result.bottom ≡ y + 1 }
+    ensures from { result.from ≡ difference.from }
+    ensures to { result.to ≡ difference.to }
+{
+    Band {
+        top: y,
+        bottom: y + 1,
+        from: difference.from,
+        to: difference.to,
+        spans: difference.to.saturating_sub(difference.from),
+    }
+}
+
+/// Gathers the rows that differ, from the top.
+fn gather<B: Beside>(
+    alloc: Global,
+    source: &PixelSource<'_>,
+    picture: &B,
+) -> Result<Gathered, AllocError>
+    ensures accepted { source_refusal source.now ≡ None }
+    ensures gathered { IfOk result (λ g. AreGathered source.now (B.part picture.now) (rows_beside source.now (B.part picture.now)) g.bands.items g.places) }
+{
+    let columns = source.width().min(picture.columns());
+    let rows = source.height().min(picture.rows());
+    let mut bands = Vec::new(alloc);
+    let mut places = 0;
+    for y in 0..rows {
+        if let Some(difference) = row_difference(source, picture, columns, y) {
+            add(&mut bands, band_of(y, difference))?;
+            places += difference.places;
+        }
+    }
+    Ok(Gathered { bands, places })
+}
+
+/// Writes the colours of a band of the source, row by row, over others.
+fn write_band(source: &PixelSource<'_>, band: Band, colours: &mut [u32])
+    requires wide { band.to ≤ source.now.width }
+    requires high { band.bottom ≤ source.now.height }
+    requires columns { band.from ≤ band.to }
+    requires rows { band.top ≤ band.bottom }
+    requires whole { length colours.old ≡ (band.bottom - band.top) * (band.to - band.from) }
+    ensures { colours.new ≡ block_colours source.now band.from band.top (band.to - band.from) (band.bottom - band.top) }
+{
+    let columns = band.to - band.from;
+    for row in 0..band.bottom - band.top {
+        let places = &mut colours[row * columns..row * columns + columns];
+        source.copy_colours(band.from, band.top + row, places);
+    }
+}
+
+/// A band of the source with its colours.
+fn make_piece(alloc: Global, source: &PixelSource<'_>, band: Band) -> Result<Piece, AllocError>
+    requires wide { band.to ≤ source.now.width }
+    requires high { band.bottom ≤ source.now.height }
+    requires columns { band.from ≤ band.to }
+    requires rows { band.top ≤ band.bottom }
+    ensures { IfOk result (λ p. p ≡ piece_of source.now band) }
+{
+    let columns = band.to - band.from;
+    let rows = band.bottom - band.top;
+    let Some(count) = rows.checked_mul(columns) else {
+        return Err(AllocError);
+    };
+    let mut colours = vec![in alloc; 0u32; count]?;
+    write_band(source, band, &mut colours);
+    Ok(Piece {
+        left: band.from,
+        top: band.top,
+        columns,
+        rows,
+        colours: Listed::from_vec(colours),
+    })
+}
+
+/// What differs between a program's pixels and the part of a picture beside them. Rows that differ one below the other go into one
+/// rectangle, unless that were far larger than what differs. Where no place differs, no rectangle is made, and no memory is taken.
+/// Refused for want of memory alone.
+pub fn find_differences<B: Beside>(
+    alloc: Global,
+    source: &PixelSource<'_>,
+    picture: &B,
+) -> Result<Differences, AllocError>
+    ensures accepted { source_refusal source.now ≡ None }
+    ensures differ { IfOk result (λ d. AreDifferences source.now (B.part picture.now) d) }
+{
+    let gathered = gather(alloc, source, picture)?;
+    let mut pieces = Listed::new(alloc);
+    for band in &gathered.bands {
+        pieces.push(make_piece(alloc, source, *band)?)?;
+    }
+    Ok(Differences {
+        pieces,
+        places: gathered.places,
+    })
+}
