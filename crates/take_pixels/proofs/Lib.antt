@@ -1,0 +1,3 @@
+pub mod PaintedLemmas
+pub mod EventLemmas
+pub mod TakeLemmas

@@ -1,0 +1,74 @@
+-- A screen behind paints of what differs.
+use Rattle.std.proofs.Common.{◌≡◌, ℕ, List, ◌++◌, Option, None, Result, Err, take, sym, ◌∙◌, ap, subst, arith}
+use Rattle.std.specs.Prelude.{All, MatchOption, ◌⊎◌}
+use Rattle.std.proofs.lemmas.List.{get_or-take, length-take}
+use Rattle.region.specs.declared.Rect.{Rect}
+use Rattle.framebuffer.specs.Frame.{Frame, IsPicture}
+use Rattle.scene.specs.declared.Config.{Config}
+use Rattle.scene.specs.declared.ScreenError.{ScreenError}
+use Rattle.scene.specs.declared.ScreenError.TheVariants.{OutOfMemory}
+use Rattle.scene.specs.declared.Event.{Event}
+use Rattle.scene.specs.Alone.{config_refusal, pixels_refusal}
+use Rattle.screen.specs.State.{State, state}
+use Rattle.source_pixels.specs.declared.pieces.Piece.{Piece}
+use Rattle.source_pixels.specs.declared.pieces.Differences.{Differences}
+use Rattle.source_pixels.specs.Parts.{Part}
+use Rattle.source_pixels.specs.Source.{Source, source_refusal}
+use Rattle.source_pixels.specs.Differences.{AreDifferences, IsPiece}
+use Rattle.take_pixels.specs.Taken.{part_from, painted, taken, piece_rect, colour_on}
+use Rattle.take_pixels.specs.Paints.{paints_of}
+use Rattle.take_pixels.specs.Takes.{IsPartlyTaken}
+use Rattle.take_pixels.proofs.PaintedLemmas.{painted_is_taken, painted_size, partly}
+use Rattle.take_pixels.proofs.EventLemmas.{picture_whole, pictures-painted, piece_accepted}
+
+-- the picture behind some of the paints
+pub picture_behind : (s : Source) (left top : ℕ) (config : Config) (list : List Event) (old new : State) (qs : List Piece) → old ≡ state config list → All (IsPiece s (part_from old.picture left top)) qs
+    → new ≡ state config (list ++ paints_of left top qs) → new.picture ≡ painted left top qs old.picture
+picture_behind s left top config list old new qs stands pieces events =
+    ap (λ (o : State). o.picture) events
+    ∙ pictures-painted config list s old.picture left top qs pieces (sym (ap (λ (o : State). o.picture.width) stands)) (sym (ap (λ (o : State). o.picture.height) stands))
+    ∙ ap (painted left top qs) (sym (ap (λ (o : State). o.picture) stands))
+
+-- all of them take the source in
+pub picture_taken : (s : Source) (left top : ℕ) (config : Config) (list : List Event) (old new : State) (d : Differences) → source_refusal s ≡ None → config_refusal config ≡ None → old ≡ state config list
+    → AreDifferences s (part_from old.picture left top) d → new ≡ state config (list ++ paints_of left top d.pieces) → new.picture ≡ taken s left top old.picture
+picture_taken s left top config list old new d accepted fine stands differ events =
+    picture_behind s left top config list old new d.pieces stands differ.pieces events
+    ∙ painted_is_taken s old.picture left top d accepted (subst IsPicture (sym (ap (λ (o : State). o.picture) stands)) (picture_whole config list fine)) differ
+
+-- some of them take a part of it in
+pub partly_taken : (s : Source) (left top : ℕ) (config : Config) (list : List Event) (old new : State) (qs : List Piece) (error : ScreenError) → source_refusal s ≡ None → old ≡ state config list
+    → All (IsPiece s (part_from old.picture left top)) qs → new ≡ state config (list ++ paints_of left top qs) → error ≡ OutOfMemory → IsPartlyTaken s left top config list old new error
+partly_taken s left top config list old new qs error accepted stands pieces events memory = record {
+  memory = memory;
+  pieces = qs;
+  events = events;
+  places = λ x y wide high.
+      subst (λ (f : Frame). (colour_on f x y ≡ colour_on old.picture x y) ⊎ (colour_on f x y ≡ colour_on (taken s left top old.picture) x y))
+      (sym (picture_behind s left top config list old new qs stands pieces events))
+      (partly s (part_from old.picture left top) left top qs old.picture x y accepted pieces wide high);
+}
+
+-- a piece is refused for want of memory alone
+pub memory_alone : (s : Source) (left top : ℕ) (config : Config) (list : List Event) (old now : State) (qs : List Piece) (q : Piece) (rect : Rect) (colours : List ℕ) (error : ScreenError) → old ≡ state config list
+    → All (IsPiece s (part_from old.picture left top)) qs → now ≡ state config (list ++ paints_of left top qs) → IsPiece s (part_from old.picture left top) q → rect ≡ piece_rect left top q → colours ≡ q.colours
+    → MatchOption (pixels_refusal now.picture.width now.picture.height rect colours) (error ≡ OutOfMemory) (λ e. ◌≡◌ {A = Result (Unit {0}) ScreenError} (Err error) (Err e)) → error ≡ OutOfMemory
+memory_alone s left top config list old now qs q rect colours error stands pieces events piece rect_is colours_is told =
+    subst (λ (o : Option ScreenError). MatchOption o (error ≡ OutOfMemory) (λ e. ◌≡◌ {A = Result (Unit {0}) ScreenError} (Err error) (Err e))) fine told
+  where
+    here : now.picture ≡ painted left top qs old.picture
+    here = picture_behind s left top config list old now qs stands pieces events
+
+    fine : pixels_refusal now.picture.width now.picture.height rect colours ≡ None
+    fine =
+        ap (λ n. pixels_refusal n now.picture.height rect colours) (ap (λ (f : Frame). f.width) here ∙ (painted_size left top qs old.picture).0)
+        ∙ ap (λ n. pixels_refusal old.picture.width n rect colours) (ap (λ (f : Frame). f.height) here ∙ (painted_size left top qs old.picture).1)
+        ∙ ap (λ (r : Rect). pixels_refusal old.picture.width old.picture.height r colours) rect_is
+        ∙ ap (λ (l : List ℕ). pixels_refusal old.picture.width old.picture.height (piece_rect left top q) l) colours_is
+        ∙ piece_accepted s old.picture left top q piece
+
+-- the first pieces
+pub first_pieces : (s : Source) (p : Part) (n : ℕ) (qs : List Piece) → All (IsPiece s p) qs → All (IsPiece s p) (take n qs)
+first_pieces s p n qs pieces k d below =
+    let long = length-take n qs in
+    subst (IsPiece s p) (sym (get_or-take n qs k d (omega arith))) (pieces k d (omega arith))

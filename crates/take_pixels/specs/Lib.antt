@@ -1,0 +1,4 @@
+pub mod Taken
+pub mod Paints
+pub mod Takes
+pub mod Examples
