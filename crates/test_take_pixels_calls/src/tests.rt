@@ -1,0 +1,228 @@
+//! What no clause says of taking pixels: that each call succeeds where there is memory. Colours are worked out by hand from RFC 6143,
+//! section 7.4.
+
+use screen::{Config, History, Listed, Rect, Screen, ScreenError};
+use std::alloc::Global;
+use std::test::Fail;
+use take_pixels::{
+    BytesPerPixel, Component, PixelSource, SourceError, SourceFormat, TrueColour, differences,
+    rect_of, take,
+};
+
+/// A screen of 4 columns and 2 rows.
+fn small_screen(alloc: Global) -> Result<Screen, ScreenError> {
+    let config = Config {
+        width: 4,
+        height: 2,
+        name: Listed::from_slice(alloc, b"demo")?,
+        rects_per_update: 50,
+        history: History::Kept,
+    };
+    Screen::new(alloc, config)
+}
+
+/// Components of 5, 6 and 5 bits, red highest.
+fn rgb565(big_endian: bool) -> SourceFormat<'static> {
+    SourceFormat::TrueColour(TrueColour {
+        bytes: BytesPerPixel::Two,
+        big_endian,
+        red: Component { max: 31, shift: 11 },
+        green: Component { max: 63, shift: 5 },
+        blue: Component { max: 31, shift: 0 },
+    })
+}
+
+/// Components of 3, 3 and 2 bits, red lowest.
+fn bgr233() -> SourceFormat<'static> {
+    SourceFormat::TrueColour(TrueColour {
+        bytes: BytesPerPixel::One,
+        big_endian: false,
+        red: Component { max: 7, shift: 0 },
+        green: Component { max: 7, shift: 3 },
+        blue: Component { max: 3, shift: 6 },
+    })
+}
+
+/// Components of whole bytes, red in the lowest.
+fn red_lowest(bytes: BytesPerPixel, big_endian: bool) -> SourceFormat<'static> {
+    SourceFormat::TrueColour(TrueColour {
+        bytes,
+        big_endian,
+        red: Component { max: 255, shift: 0 },
+        green: Component { max: 255, shift: 8 },
+        blue: Component {
+            max: 255,
+            shift: 16,
+        },
+    })
+}
+
+/// How many places change where one row of two pixels is taken in at column 1 of row 1, and whether they then have these colours.
+fn takes(
+    alloc: Global,
+    bytes: &[u8],
+    format: SourceFormat<'_>,
+    colours: [u32; 2],
+) -> Result<Option<usize>, ScreenError> {
+    let mut screen = small_screen(alloc)?;
+    let Ok(source) = PixelSource::new(bytes, bytes.len(), 2, 1, format) else {
+        return Ok(None);
+    };
+    let places = take(alloc, &mut screen, 1, 1, &source)?;
+    let are_there = screen.colour(1, 1) == Some(colours[0])
+        && screen.colour(2, 1) == Some(colours[1]);
+    Ok(if are_there { Some(places) } else { None })
+}
+
+#[test]
+fn pixels_of_32_bits(rt: HostRuntime) -> Result<(), Fail> {
+    let format = SourceFormat::TrueColour(TrueColour::server());
+    let bytes = b"\x00\x80\xff\x55\x03\x02\x01\x00";
+    assert_eq!(rt;
+        takes(rt.alloc(), bytes, format, [0xff_8000, 0x01_0203])?,
+        Some(2)
+    );
+    Ok(())
+}
+
+#[test]
+fn pixels_of_whole_bytes(rt: HostRuntime) -> Result<(), Fail> {
+    let little = red_lowest(BytesPerPixel::Four, false);
+    let bytes = b"\xff\x80\x00\x55\x00\x00\x00\xff";
+    assert_eq!(rt; takes(rt.alloc(), bytes, little, [0xff_8000, 0])?, Some(1));
+    let big = red_lowest(BytesPerPixel::Four, true);
+    let bytes = b"\x55\x00\x80\xff\x00\x03\x02\x01";
+    assert_eq!(rt;
+        takes(rt.alloc(), bytes, big, [0xff_8000, 0x01_0203])?,
+        Some(2)
+    );
+    Ok(())
+}
+
+#[test]
+fn pixels_of_24_bits(rt: HostRuntime) -> Result<(), Fail> {
+    let little = red_lowest(BytesPerPixel::Three, false);
+    let bytes = b"\xff\x80\x00\x01\x02\x03";
+    assert_eq!(rt;
+        takes(rt.alloc(), bytes, little, [0xff_8000, 0x01_0203])?,
+        Some(2)
+    );
+    let big = red_lowest(BytesPerPixel::Three, true);
+    let bytes = b"\x00\x80\xff\x03\x02\x01";
+    assert_eq!(rt;
+        takes(rt.alloc(), bytes, big, [0xff_8000, 0x01_0203])?,
+        Some(2)
+    );
+    Ok(())
+}
+
+#[test]
+fn pixels_of_16_bits(rt: HostRuntime) -> Result<(), Fail> {
+    // 32 of 63 is 129.5 of 255
+    let bytes = b"\x00\xfc\xff\xff";
+    assert_eq!(rt;
+        takes(rt.alloc(), bytes, rgb565(false), [0xff_8200, 0xff_ffff])?,
+        Some(2)
+    );
+    let bytes = b"\xfc\x00\x00\x1f";
+    assert_eq!(rt;
+        takes(rt.alloc(), bytes, rgb565(true), [0xff_8200, 0x00_00ff])?,
+        Some(2)
+    );
+    Ok(())
+}
+
+#[test]
+fn pixels_of_8_bits(rt: HostRuntime) -> Result<(), Fail> {
+    // 1 of 3 is 85 of 255
+    assert_eq!(rt;
+        takes(rt.alloc(), b"\x07\x40", bgr233(), [0xff_0000, 0x00_0055])?,
+        Some(2)
+    );
+    Ok(())
+}
+
+#[test]
+fn places_of_a_table(rt: HostRuntime) -> Result<(), Fail> {
+    let table = [0x12_3456u32, 0xff_ab_cdef];
+    let format = SourceFormat::Table(&table);
+    assert_eq!(rt;
+        takes(rt.alloc(), b"\x01\x00", format, [0xab_cdef, 0x12_3456])?,
+        Some(2)
+    );
+    // beyond the table is black, as the screen is
+    assert_eq!(rt;
+        takes(rt.alloc(), b"\x01\x02", format, [0xab_cdef, 0])?,
+        Some(1)
+    );
+    Ok(())
+}
+
+/// Pixels of the whole screen, in which columns 1 and 2 of both rows are blue.
+const BLUE_SQUARE: &[u8; 32] =
+    b"\0\0\0\0\xff\0\0\0\xff\0\0\0\0\0\0\0\0\0\0\0\xff\0\0\0\xff\0\0\0\0\0\0\0";
+
+#[test]
+fn differences_are_one_rectangle(rt: HostRuntime) -> Result<(), Fail> {
+    let screen = small_screen(rt.alloc())?;
+    let format = SourceFormat::TrueColour(TrueColour::server());
+    let source = PixelSource::new(BLUE_SQUARE, 16, 4, 2, format)
+        .ok()
+        .ok_or("refused")?;
+    assert_eq!(rt; source.colour(2, 1), Some(0xff));
+    assert_eq!(rt; source.colour(4, 1), None);
+    let found = differences(rt.alloc(), &screen, 0, 0, &source)?;
+    assert_eq!(rt; found.places, 4);
+    assert_eq!(rt; found.pieces.len(), 1);
+    let Some(piece) = found.pieces.as_slice().first() else {
+        return Err("no piece".into());
+    };
+    assert_eq!(rt;
+        (piece.left, piece.top, piece.columns, piece.rows),
+        (1, 0, 2, 2)
+    );
+    assert_eq!(rt;
+        piece.colours.as_slice(),
+        [0xff, 0xff, 0xff, 0xff].as_slice()
+    );
+    let rect = Rect {
+        x1: 1,
+        y1: 0,
+        x2: 3,
+        y2: 2,
+    };
+    assert_eq!(rt; rect_of(0, 0, piece), rect);
+    Ok(())
+}
+
+#[test]
+fn what_is_off_the_screen_is_left_out(rt: HostRuntime) -> Result<(), Fail> {
+    let mut screen = small_screen(rt.alloc())?;
+    let format = SourceFormat::TrueColour(TrueColour::server());
+    let source = PixelSource::new(BLUE_SQUARE, 16, 4, 2, format)
+        .ok()
+        .ok_or("refused")?;
+    assert_eq!(rt; take(rt.alloc(), &mut screen, 2, 1, &source)?, 1);
+    assert_eq!(rt; screen.colour(3, 1), Some(0xff));
+    // the same again changes nothing, nor does a place off the screen
+    assert_eq!(rt; take(rt.alloc(), &mut screen, 2, 1, &source)?, 0);
+    assert_eq!(rt; take(rt.alloc(), &mut screen, u32::MAX, 0, &source)?, 0);
+    let events = screen.history().ok_or("not kept")?;
+    assert_eq!(rt; events.len(), 1);
+    Ok(())
+}
+
+#[test]
+fn pixels_are_refused(rt: HostRuntime) -> Result<(), Fail> {
+    let format = SourceFormat::TrueColour(TrueColour::server());
+    let refusal = PixelSource::new(b"\0\0\0\0\0\0\0", 4, 1, 2, format).err();
+    assert_eq!(rt; refusal, Some(SourceError::TooFewBytes));
+    let refusal = PixelSource::new(b"\0\0\0\0", 3, 1, 1, format).err();
+    assert_eq!(rt; refusal, Some(SourceError::StrideTooShort));
+    let refusal = PixelSource::new(b"", 0, 0, 0, SourceFormat::Table(&[])).err();
+    assert_eq!(rt; refusal, Some(SourceError::BadTable));
+    let wide = red_lowest(BytesPerPixel::Two, false);
+    let refusal = PixelSource::new(b"", 0, 0, 0, wide).err();
+    assert_eq!(rt; refusal, Some(SourceError::BadComponent));
+    Ok(())
+}
