@@ -5,6 +5,7 @@ ghost use Rattle.serving.specs.declared.serving.ServeError.TheVariants as error;
 ghost use Rattle.scene.specs.declared.ScreenError.TheVariants as refusal;
 
 use crate::serving::ServeError;
+use screen::ScreenError;
 use slab::Slab;
 use std::alloc::Global;
 use std::net::{Shutdown, TcpStream};
@@ -45,8 +46,10 @@ impl Streams {
         if self.are_shut {
             return Err(ServeError::Network);
         }
-        let key = self.streams.insert(stream)?;
-        Ok(Slot { key })
+        match self.streams.insert(stream) {
+            Ok(key) => Ok(Slot { key }),
+            Err(_) => Err(ServeError::Screen(ScreenError::OutOfMemory)),
+        }
     }
 
     /// A handle is kept no longer.
