@@ -1,17 +1,22 @@
 #!/usr/bin/env python3
 """Writes the proofs of the doors: walks.py CRATE-FOLDER
 
-A door is an exported function of src/lib.rt that takes a pointer to a desk and hands what else it is given to one method of
-`Desk`. Its proof lends the desk at the pointer to the method for the call, and takes it back. It depends on the parameters' types
+A door is an exported function of src/lib.rt that takes a pointer to a desk, or to a waker, and hands what else it is given to one
+method of what lies there. Its proof lends that to the method for the call, and takes it back. It depends on the parameters' types
 alone, so it is made here, from the door's own signature: proofs/DOOR/Proof.antt. A door whose parameters are of another kind than
 those below is refused."""
 import os
 import re
 import sys
 
-LIBRARY, MODULE, STRUCT = "screen_desk", "desk", "Desk"
+# what lies at a door's pointer: its library, module and name, and the words for its row, that it lies there, and that one is left there
+THINGS = {
+    "Desk": ("screen_desk", "desk", "desk_row", "holds", "leaves"),
+    "ServerDesk": ("server_desk", "desk", "desk_row", "holds", "leaves"),
+    "ServerWaker": ("server_desk", "waker", "waker_row", "holds_waker", "leaves_waker"),
+}
 WIDTHS = {"u8": "w8", "u16": "w16", "u32": "w32", "u64": "w64", "usize": "w64", "i8": "w8", "i16": "w16", "i32": "w32", "i64": "w64"}
-ROWS = {"Told": "told.Told", "Corners": "corners.Corners"}
+ROWS = {"Told": ("screen_desk", "told"), "Corners": ("screen_desk", "corners"), "Visit": ("server_desk", "visits")}
 
 STEPS = """◌≡◌, ℕ, List, [], ◌∷◌, ◌++◌, refl, vint, vptr, of_z, w8, w16, w32, w64, proved, full_share, id⊢, ftrue, fex, flft, flent, named, tables, ‵, raw, ◌⊛◌, some, later, prop, ◌$◌, ◌∵◌, !, qed, done, move, keep, drop, use1, use2, use3, split, join, fsplit, fjoin, fpick, fpack, pick, await, regoal, suffices, group, enter, of_opd, addr, stop, no_more, and_then, returns, alloc_all, pass_all, free_all, look_at, get, through, sets, lands_as, lft_new, lft_end, u8, u16, u32, u64, usize, i32, i64, yes, lends_ref, ref_back, Body, mem, uint_vals, uint_Tells, uint_Lawful, sint_Tells, sint_Lawful, shr_slice_vals, shr_slice_Tells, mut_slice_vals, mut_slice_Tells, Ptr, RawPtr, block_ptr, lies_at, in_a_block, rawptr_vals, rawptr_Tells, MutRef, plain, shr_slice_of, nothing, peeks, shows, Is, owns, types_at, calls_at, lasts, Lasts, triple_of, Stays, walk_of, stay_dropped, Goes-dropped, gave_slice, Goes-gave_slice, at_exit, ends_at, from, fld, hop, look_in_at, sub, whole, agg, get_in, feq_l, framed, WpFn"""
 
@@ -19,7 +24,7 @@ HEAD = """-- `{door}` lends the desk at its pointer to `{method}` for the call, 
 use Rattle.{crate}.proofs.Steps.{{{steps}}}
 use contract.Monad.{{fact}}
 use denote.Steps.{{heard}}
-use Rattle.{crate}.specs.Lying.{{desk_row, holds, leaves}}
+use Rattle.{crate}.specs.Lying.{{{row}, {holds}, {leaves}}}
 {uses}{rows}use Rattle.{crate}.specs.contracts.{door} as f
 use Rattle.{crate}.proofs.{door}.Statement.{{statement}}
 use Rattle.{crate}.proofs.{door}.Code as code
@@ -38,16 +43,16 @@ pub {door}_spec : {{M : Type 1}} → statement M
     f.Key.name code.function (code.unfolded 𝓤 𝓛.H 𝓜 𝓡 wired)
     (λ κs. {vals}) (λ κs. {tells}) (λ κs qs bounds a s are.
     let y : Ptr → W.Ghost = λ p. ((κs, qs, bounds, (p, a.1), (rawptr_vals p, {words})), s) in
-    qed 𝓛 ((({tokens}) ⊛ ‵ (owns (types_at f.signature.params κs) a (y a.0).0.4)) ∷ ‵ (holds a.0 s) ∷ []) ∵ split ! $ move ! (1 ∷ []) $ fsplit ! $ drop ! $ move ! (2 ∷ []) $
+    qed 𝓛 ((({tokens}) ⊛ ‵ (owns (types_at f.signature.params κs) a (y a.0).0.4)) ∷ ‵ ({holds} a.0 s) ∷ []) ∵ split ! $ move ! (1 ∷ []) $ fsplit ! $ drop ! $ move ! (2 ∷ []) $
     -- [what lies at the pointer; the other parameters; the tokens]
-    in_a_block ! a.0 (λ p. holds p s) (id⊢ 𝓤 _) (λ b o e.
+    in_a_block ! a.0 (λ p. {holds} p s) (id⊢ 𝓤 _) (λ b o e.
     regoal ! (λ p. prop (WpFn 𝓤 𝓛.H 𝓣.C 𝓣.Λ code.function (rawptr_vals p ++ {nested}) (W.post (y p)))) e refl $
     enter ! _ _ _ _ _ $ alloc_all ! (λ l. pass_all ! refl {typed} $
     sets ! (of_opd ! (get ! refl)) refl (tt, tt) $
     sets ! (addr ! (through ! refl (stop !))) refl (tt, tt) $
 {reborrows}    lft_new ! tt (λ α. move ! (1 ∷ []) $ let κ : List ℕ = α ∷ [] in
-    use1 𝓛 (later (some (λ (γ : ℕ). ‵ ((MutRef (named 0) κ desk_row).own_val (record {{ ref_ptr = (b, o); ghost_name = γ; now = s }}) (vptr b o ∷ [])) ⊛ ‵ (flent κ (Body (mem desk_row) b o γ)))))
-    (lends_ref 𝓛 desk_row (named 0) κ s b o) $ await ! tt $ pick ! (λ γ. split ! $
+    use1 𝓛 (later (some (λ (γ : ℕ). ‵ ((MutRef (named 0) κ {row}).own_val (record {{ ref_ptr = (b, o); ghost_name = γ; now = s }}) (vptr b o ∷ [])) ⊛ ‵ (flent κ (Body (mem {row}) b o γ)))))
+    (lends_ref 𝓛 {row} (named 0) κ s b o) $ await ! tt $ pick ! (λ γ. split ! $
     -- [the loan; what the lender keeps; the token of α; the other parameters; the tokens]
     let G = triple_of 𝓛 g.signature (g.spec 𝓛 𝓜.mem 𝓡.returns) in
     let z : G.Ghost = (((κ, κs), (full_share, qs), tt, (record {{ ref_ptr = (b, o); ghost_name = γ; now = s }}, a.1), (vptr b o ∷ [], (y a.0).0.4.1)), tt) in
@@ -60,13 +65,13 @@ pub {door}_spec : {{M : Type 1}} → statement M
     move ! (3 ∷ []) $ pick ! (λ ws. split ! $ move ! (1 ∷ []) $ heard ! _ (λ so. fsplit ! $ fsplit ! $
     -- [the desk's last value; its borrow; the others' last values; α is over; the tokens; the result; what the lender keeps]
 {length}    move ! (3 ∷ 6 ∷ 0 ∷ []) $
-    use3 𝓛 (later (‵ ((mem desk_row).own_at ws.0 b o))) (ref_back 𝓛 desk_row κ γ ws.0 b o) $ await ! tt $
+    use3 𝓛 (later (‵ ((mem {row}).own_at ws.0 b o))) (ref_back 𝓛 {row} κ γ ws.0 b o) $ await ! tt $
     -- [the desk; its borrow; the others' last values; the tokens; the result]
     move ! (4 ∷ []) $ peeks ! {result} (Is {result}) (shows 𝓛 {result}) r (v ∷ []) (λ is. lands_as ! refl refl {result_typed} $
     returns ! (look_at ! 0 refl) $ free_all ! refl $ keep ! (1 ∷ 4 ∷ 3 ∷ 0 ∷ []) $
     suffices ! _ (ends_at 𝓛 f.ended stayed c (y (block_ptr b o)) v r (tt, ws.1) {fit}) $
-    fpack ! ({so}) (λ _. holds (block_ptr b o) ws.0) so $
-    fpack ! desk_row.Denot (λ t. fex ({so_of_t}) (λ _. holds (block_ptr b o) t)) ws.0 $
+    fpack ! ({so}) (λ _. {holds} (block_ptr b o) ws.0) so $
+    fpack ! {row}.Denot (λ t. fex ({so_of_t}) (λ _. {holds} (block_ptr b o) t)) ws.0 $
     -- [what is served; the tokens; the others' last values; the result]
     move ! (2 ∷ []) $ nothing ! $ fjoin ! $ move ! (2 ∷ 0 ∷ 3 ∷ []) $ group ! 3 $ done !"""
 
@@ -141,7 +146,8 @@ def clause_of(text, names, kinds, after):
     return re.sub(r"\bbefore\b", "s", re.sub(r"\bafter\b", after, re.sub(r"\bresult\b", "r", text)))
 
 
-def walk(crate, door, method, names, kinds, result, clause, uses):
+def walk(crate, door, struct, method, names, kinds, result, clause, uses):
+    library, module, thing, holds, leaves = THINGS[struct]
     loans = sum(kind != "number" for kind, _ in kinds)
     vals, tells, stay, goes, shown, words, fit = ["rawptr_vals"], ["rawptr_Tells"], ["stay_dropped _ yes"], [f"Goes-dropped 𝓛 {loans} (plain (λ _. RawPtr)) yes (λ κs x w. refl)"], ["(tt, tt)"], [], ["tt"]
     loan = 0
@@ -175,11 +181,11 @@ def walk(crate, door, method, names, kinds, result, clause, uses):
         evaluated = f"and_then ! (get ! refl) ({evaluated})"
     structs = sorted({name for kind, name in kinds if kind != "number" and name not in WIDTHS})
     text = HEAD.format(
-        door=door, method=method, crate=crate, library=LIBRARY, module=MODULE, struct=STRUCT, steps=STEPS, uses=uses,
-        rows="".join(f"use Rattle.{LIBRARY}.specs.contracts.{ROWS[it]}.{{the_row as {it}-row}}\n" for it in structs),
+        door=door, method=method, crate=crate, library=library, module=module, struct=struct, row=thing, holds=holds, leaves=leaves, steps=STEPS, uses=uses,
+        rows="".join("use Rattle.{}.specs.contracts.{}.{it}.{{the_row as {it}-row}}\n".format(*ROWS[it], it=it) for it in structs),
     )
     body = WALK.format(
-        door=door, method=method, library=LIBRARY, module=MODULE, struct=STRUCT, stay=tuple_of(stay), goes=tuple_of(goes), vals=tuple_of(vals),
+        door=door, method=method, library=library, module=module, struct=struct, row=thing, holds=holds, stay=tuple_of(stay), goes=tuple_of(goes), vals=tuple_of(vals),
         tells=tuple_of(tells), words=tuple_of(words), tokens=tokens, nested=appended(words), typed=tuple_of(shown),
         reborrows="".join(REBORROW.format(local=number + 1, fits=at("are", number) + ".0.1.0") for number, (kind, _) in enumerate(kinds, 1) if kind == "written"),
         length=length_of(kinds), so=clause_of(clause, names, kinds, "ws.0"), so_of_t=clause_of(clause, names, kinds, "t"),
@@ -191,10 +197,10 @@ def walk(crate, door, method, names, kinds, result, clause, uses):
 
 
 def doors_in(text):
-    door = re.compile(r'pub unsafe extern "C" fn (\w+)\(\s*at: \*mut Place,?([^)]*)\) -> (\w+)\s*ghost before: [^\n]*\s*requires\* [^\n]*\s*ensures\* \{ sem 𝓛 \(leaves at \(λ after\. (.*?)\)\) \}\s*\{\s*Desk::(\w+)\(', re.S)
-    for name, given, result, clause, method in door.findall(text):
+    door = re.compile(r'pub unsafe extern "C" fn (\w+)\(\s*at: \*mut \w+,?([^)]*)\) -> (\w+)\s*ghost before: [^\n]*\s*requires\* [^\n]*\s*ensures\* \{ sem 𝓛 \(\w+ at \(λ after\. (.*?)\)\) \}\s*\{\s*(\w+)::(\w+)\(', re.S)
+    for name, given, result, clause, struct, method in door.findall(text):
         parameters = [it.strip().split(": ", 1) for it in re.split(r",\s*(?=\w+: |$)", given.strip().rstrip(",")) if it.strip()]
-        yield name, method, [it[0] for it in parameters], [kind_of(it[1]) for it in parameters], result, " ".join(clause.split())
+        yield name, struct, method, [it[0] for it in parameters], [kind_of(it[1]) for it in parameters], result, " ".join(clause.split())
 
 
 def main():
@@ -203,11 +209,11 @@ def main():
     with open(f"{folder}/src/lib.rt", encoding="utf-8") as it:
         text = it.read()
     # what the doors' clauses cite, a walk cites too
-    cited = "".join(it[len("ghost ") :].rstrip(";") + "\n" for it in re.findall(r"^ghost use [^;]*;$", text, re.M) if "Rattle.vnc_screen" not in it and "Rattle." in it)
-    for door, method, names, kinds, result, clause in doors_in(text):
+    cited = "".join(it[len("ghost ") :].rstrip(";") + "\n" for it in re.findall(r"^ghost use [^;]*;$", text, re.M) if f"Rattle.{crate}" not in it and "Rattle." in it)
+    for door, struct, method, names, kinds, result, clause in doors_in(text):
         os.makedirs(f"{folder}/proofs/{door}", exist_ok=True)
         with open(f"{folder}/proofs/{door}/Proof.antt", "w", encoding="utf-8") as out:
-            out.write(walk(crate, door, method, names, kinds, result, clause, cited))
+            out.write(walk(crate, door, struct, method, names, kinds, result, clause, cited))
         print(door)
 
 

@@ -1,0 +1,39 @@
+/* A library for LD_PRELOAD that refuses the Nth call of malloc or realloc, N as FAIL_AT says, to see what a program makes of it.
+ * cc -shared -fPIC -o refuse.so refuse.c -ldl */
+#define _GNU_SOURCE
+#include <dlfcn.h>
+#include <errno.h>
+#include <stdlib.h>
+
+static long at, refused = -1;
+
+static int refuses(void)
+{
+    if (refused < 0) {
+        const char *number = getenv("FAIL_AT");
+        refused = number ? atol(number) : 0;
+    }
+    return ++at == refused;
+}
+
+void *malloc(size_t count)
+{
+    static void *(*real)(size_t);
+    if (!real) *(void **)&real = dlsym(RTLD_NEXT, "malloc");
+    if (refuses()) {
+        errno = ENOMEM;
+        return 0;
+    }
+    return real(count);
+}
+
+void *realloc(void *old, size_t count)
+{
+    static void *(*real)(void *, size_t);
+    if (!real) *(void **)&real = dlsym(RTLD_NEXT, "realloc");
+    if (refuses()) {
+        errno = ENOMEM;
+        return 0;
+    }
+    return real(old, count);
+}

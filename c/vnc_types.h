@@ -1,0 +1,57 @@
+/* vnc_types.h: what vnc_screen.h and vnc_server.h have in common. */
+#ifndef VNC_TYPES_H
+#define VNC_TYPES_H
+
+#include <stddef.h>
+#include <stdint.h>
+
+/* Why a call was refused: what it answers below 0. */
+enum vnc_code {
+    VNC_BAD_SIZE = -1,        /* columns or rows are not 1 to 8192, or there are more than 2^24 places */
+    VNC_BAD_NAME = -2,        /* a name of more than 255 bytes */
+    VNC_BAD_RECT_LIMIT = -3,  /* not 1 to 1000 */
+    VNC_BAD_RECT = -4,        /* not on the screen, or corners in the wrong order */
+    VNC_BAD_PIXEL_COUNT = -5, /* not as many colours as places */
+    VNC_TEXT_TOO_LONG = -6,   /* more than 65536 bytes */
+    VNC_NO_VIEWER = -7,       /* no live viewer has the number */
+    VNC_NUMBER_IN_USE = -8,   /* a live viewer has it */
+    VNC_OUT_OF_MEMORY = -9,   /* make the call again once there is memory */
+    VNC_OUT_OF_RANGE = -10,   /* a coordinate of a region is not -2^20 to 2^20 */
+    VNC_OUTPUT_WAITS = -11,   /* fetch what waits for the viewer first */
+    VNC_OFF_SCREEN = -12,     /* there is no such place */
+    VNC_BAD_ADDRESS = -13,    /* no IP address in digits */
+    VNC_CANNOT_LISTEN = -14,  /* the system doesn't let the program listen there, or has no more handles */
+    VNC_NETWORK_FAILED = -15, /* the system failed to say which sockets are ready */
+    VNC_CLOCK_FAILED = -16,   /* the system failed to say what time it is */
+    VNC_SHUT = -32            /* the screen, or the server, is shut */
+};
+
+/* By which fault a viewer is heard no further. */
+enum vnc_fault {
+    VNC_BAD_VERSION = 1,        /* its first 12 bytes are no version (7.1.1) */
+    VNC_BAD_SECURITY_TYPE = 2,  /* it chose another than None (7.1.2) */
+    VNC_BAD_BITS_PER_PIXEL = 3, /* not 8, 16 or 32 (7.4) */
+    VNC_COLOUR_MAP = 4,         /* a format of more than 8 bits with a colour map */
+    VNC_UNKNOWN_MESSAGE = 256   /* and its type: a message of a type that there isn't (7.5) */
+};
+
+/* The places (x, y) with x1 <= x < x2 and y1 <= y < y2. */
+typedef struct vnc_rect {
+    int32_t x1, y1, x2, y2;
+} vnc_rect;
+
+enum vnc_kind { VNC_KEY = 1, VNC_POINTER = 2, VNC_TEXT = 3 };
+
+/* What a viewer told (7.5.4 to 7.5.6). What doesn't belong to its kind is 0. */
+typedef struct vnc_input {
+    uint64_t viewer;
+    uint32_t kind;      /* a vnc_kind */
+    uint32_t down;      /* of a key: 1 where it went down, 0 where it went up */
+    uint32_t key;       /* of a key: its keysym */
+    uint32_t buttons;   /* of the pointer: a bit for each button that is down */
+    uint32_t x, y;      /* of the pointer: where it is, maybe off the screen */
+    uint64_t length;    /* of a text: its bytes, at most 262144 */
+    uint32_t shortened; /* of a text: 1 where only its first 262144 bytes are kept */
+} vnc_input;
+
+#endif

@@ -1,0 +1,3 @@
+pub mod Waiting
+pub mod Drawing
+pub mod Turning

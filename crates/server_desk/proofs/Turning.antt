@@ -1,0 +1,115 @@
+-- Turns, and what begins them.
+use Rattle.std.proofs.Common.{◌≡◌, ◌≢◌, ◌≤◌, ◌-◌, ℕ, zero, suc, ℤ, List, [], ◌∷◌, ◌++◌, length, take, Option, Some, None, Result, Ok, Err, refl, sym, ap, ◌∙◌, inl, inr, subst, append-nil, arith}
+use Rattle.std.specs.Prelude.{MatchOption, IfErr, option_map, ◌⊎◌}
+use Rattle.messages.specs.declared.Input.{Input}
+use Rattle.scene.specs.declared.Config.{Config}
+use Rattle.scene.specs.declared.Event.{Event}
+use Rattle.scene.specs.declared.ScreenError.{ScreenError}
+use Rattle.scene.specs.declared.ScreenError.TheVariants.{OutOfMemory}
+use Rattle.scene.specs.Alone.{config_refusal}
+use Rattle.connections.specs.Serving.{Serving, Serves}
+use Rattle.event_loop.specs.Sockets.{sockets, GoesOnServing}
+use Rattle.event_loop.specs.declared.event_loop.LoopError.{LoopError}
+use Rattle.event_loop.specs.declared.event_loop.LoopError.TheVariants.{Screen}
+use Rattle.screen_desk.specs.Codes.{Answers, code_of, done, out_of_memory}
+use Rattle.screen_desk.proofs.Drawing.{never_done}
+use Rattle.server_desk.specs.declared.listening.ListenError.{ListenError}
+use Rattle.server_desk.specs.declared.listening.ListenError.TheVariants.{Refused, BadAddress, CannotListen}
+use Rattle.server_desk.specs.declared.visits.Visit.{Visit}
+use Rattle.server_desk.specs.Codes.{bad_address, cannot_listen, turn_code}
+use Rattle.server_desk.specs.Listening.{IsOfSystem, IsRefusedBy, listen_code}
+use Rattle.server_desk.specs.Desk.{Standing, IsPutBehind}
+use Rattle.server_desk.specs.Calls.{Listens, TakesTurn}
+
+-- ---- listening
+
+abbrev IsListenCode : ℤ → Type 0
+IsListenCode n = (n ≡ done) ⊎ ((n ≡ bad_address) ⊎ (n ≡ cannot_listen))
+
+never-listens : (e : ListenError) → listen_code e ≢ done
+never-listens (Refused e) = never_done e
+never-listens BadAddress = λ same. absurd (cc)
+never-listens CannotListen = λ same. absurd (cc)
+
+pub refused-so : {X : Type 0} (result : Result X ListenError) (o : Option ScreenError) (r : ScreenError) → o ≡ Some r → result ≡ Err (Refused r) → IsRefusedBy o result
+refused-so result o r is so = rw is so
+
+pub unrefused-so : {X : Type 0} (result : Result X ListenError) (o : Option ScreenError) → o ≡ None → IfErr result IsOfSystem → IsRefusedBy o result
+unrefused-so result o is so = rw is so
+
+-- what was made was not refused
+listens-ok : {X : Type 0} (result : Result X ListenError) (x : X) (o : Option ScreenError) → result ≡ Ok x → IsRefusedBy o result → Answers (option_map code_of o) IsListenCode done
+listens-ok result x None is h = inl (inl refl)
+listens-ok result x (Some e) is h = absurd (cc)
+
+of-system : (e : ListenError) → IsOfSystem e → IsListenCode (listen_code e) ⊎ (listen_code e ≡ out_of_memory)
+of-system (Refused e) h = inr (ap code_of h)
+of-system BadAddress h = inl (inr (inl refl))
+of-system CannotListen h = inl (inr (inr refl))
+
+listens-err : {X : Type 0} (result : Result X ListenError) (e : ListenError) (o : Option ScreenError) → result ≡ Err e → IsRefusedBy o result → Answers (option_map code_of o) IsListenCode (listen_code e)
+listens-err {X = X} result e None is h = of-system e (subst (λ (r : Result X ListenError). IfErr r IsOfSystem) is h)
+listens-err result e (Some r) is h = let same : e ≡ Refused r = cc in ap listen_code same
+
+-- it listens
+pub listens : {X : Type 0} (result : Result X ListenError) (x : X) (c : Config) (desk new : Standing) (s : Serving) (port : ℕ) → new ≡ record { served = Some s; port = port; inputs = []; visits = []; text = []; lost = 0 }
+    → Serves c (sockets c) [] s → result ≡ Ok x → IsRefusedBy (config_refusal c) result → Listens c desk new done
+listens result x c desk new s port so serves is h = rw so (record {
+  answer = listens-ok result x (config_refusal c) is h;
+  serves = λ is_done. serves;
+  inputs = λ is_done. refl;
+  visits = λ is_done. refl;
+  text = λ is_done. refl;
+  lost = λ is_done. refl;
+  refused = λ not_done. absurd (not_done refl);
+})
+
+-- it does not
+pub listens-not : {X : Type 0} (result : Result X ListenError) (e : ListenError) (c : Config) (desk : Standing) (code : ℤ) → code ≡ listen_code e → result ≡ Err e → IsRefusedBy (config_refusal c) result → Listens c desk desk code
+listens-not result e c desk code code_is is h = rw code_is (record {
+  answer = listens-err result e (config_refusal c) is h;
+  serves = λ is_done. absurd (never-listens e is_done);
+  inputs = λ is_done. absurd (never-listens e is_done);
+  visits = λ is_done. absurd (never-listens e is_done);
+  text = λ is_done. absurd (never-listens e is_done);
+  lost = λ is_done. absurd (never-listens e is_done);
+  refused = λ not_done. refl;
+})
+
+-- ---- turns
+
+nothing : {X : Type 0} (k : ℕ) → take {A = X} k [] ≡ []
+nothing zero = refl
+nothing (suc k) = refl
+
+-- nothing came
+puts-none : {X : Type 0} (most : ℕ) (old new : List X) → new ≡ old → IsPutBehind most old new
+puts-none most old new same = ([], same ∙ (sym (append-nil old) ∙ ap (λ l. old ++ l) (sym (nothing (most - length old)))))
+
+pub turns : (desk : Standing) (before : Option Serving) (s t : Serving) (answer : Result (Unit {0}) LoopError) (code : ℤ) (port : ℕ) (inputs inputs_kept inputs_put : List (ℕ × Input)) (visits visits_kept visits_put : List Visit) (text : List ℕ) (lost lost_now : ℕ)
+    → record { served = before; port = port; inputs = inputs; visits = visits; text = text; lost = lost } ≡ desk → before ≡ Some s → code ≡ turn_code answer → GoesOnServing s t
+    → inputs_kept ≡ inputs → visits_kept ≡ visits → IsPutBehind 4096 inputs_kept inputs_put → IsPutBehind 1024 visits_kept visits_put → lost ≤ lost_now
+    → TakesTurn desk (record { served = Some t; port = port; inputs = inputs_put; visits = visits_put; text = text; lost = lost_now }) code
+turns desk before s t answer code port inputs inputs_kept inputs_put visits visits_kept visits_put text lost lost_now view is code_is goes inputs_are visits_are inputs_come visits_come more =
+    rw (sym view) (rw is (record {
+      answer = (answer, code_is);
+      served = λ c list stands. goes c list stands;
+      inputs = subst (λ (l : List (ℕ × Input)). IsPutBehind 4096 l inputs_put) inputs_are inputs_come;
+      visits = subst (λ (l : List Visit). IsPutBehind 1024 l visits_put) visits_are visits_come;
+      lost = more;
+      same = refl;
+    }))
+
+-- memory is refused before it begins
+pub no-turn : (desk : Standing) (before : Option Serving) (s : Serving) (port : ℕ) (inputs inputs_kept : List (ℕ × Input)) (visits visits_kept : List Visit) (text : List ℕ) (lost : ℕ) (code : ℤ)
+    → record { served = before; port = port; inputs = inputs; visits = visits; text = text; lost = lost } ≡ desk → before ≡ Some s → code ≡ out_of_memory → inputs_kept ≡ inputs → visits_kept ≡ visits
+    → TakesTurn desk (record { served = Some s; port = port; inputs = inputs_kept; visits = visits_kept; text = text; lost = lost }) code
+no-turn desk before s port inputs inputs_kept visits visits_kept text lost code view is code_is inputs_are visits_are =
+    rw (sym view) (rw is (rw code_is (record {
+      answer = (Err (Screen OutOfMemory), refl);
+      served = λ c list stands. ([], rw (append-nil list) stands);
+      inputs = puts-none 4096 inputs inputs_kept inputs_are;
+      visits = puts-none 1024 visits visits_kept visits_are;
+      lost = omega arith;
+      same = refl;
+    })))

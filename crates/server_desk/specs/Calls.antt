@@ -1,0 +1,92 @@
+-- What the calls of a server's desk do: the number that each answers, and the desk before and after it.
+use Rattle.std.specs.Prelude.{◌≡◌, ◌≢◌, ◌⊎◌, ℕ, ◌^◌, ◌≤◌, min, ℤ, pos, Bool, true, false, ◌<ℤ◌, ◌≤ℤ◌, List, [], ◌∷◌, ◌++◌, length, drop, take, Result, MatchOption, option_map}
+use Rattle.region.specs.declared.Rect.{Rect}
+use Rattle.scene.specs.declared.Config.{Config}
+use Rattle.scene.specs.declared.Event.{Event}
+use Rattle.scene.specs.Alone.{config_refusal}
+use Rattle.connections.specs.Serving.{Serving}
+use Rattle.event_loop.specs.declared.event_loop.LoopError.{LoopError}
+use Rattle.screen_desk.specs.Codes.{Answers, code_of, done, shut}
+use Rattle.screen_desk.specs.Desk.{IsListOf}
+use Rattle.screen_desk.specs.Inputs.{IsFetched}
+use Rattle.screen_desk.specs.declared.told.Told.{Told}
+use Rattle.server_desk.specs.declared.visits.Visit.{Visit}
+use Rattle.server_desk.specs.Codes.{bad_address, cannot_listen, network_failed, turn_code}
+use Rattle.server_desk.specs.Desk.{Standing, StandsFor, IsAsBefore, IsPutBehind, due, region_due}
+
+-- the desk listens, and serves a screen with nothing on it to no viewer yet; or it is as it was
+pub record Listens (c : Config) (old new : Standing) (code : ℤ) : Type 0 where
+  pub answer : Answers (option_map code_of (config_refusal c)) (λ n. (n ≡ done) ⊎ ((n ≡ bad_address) ⊎ (n ≡ cannot_listen))) code
+  pub serves : code ≡ done → StandsFor c [] new
+  pub inputs : code ≡ done → new.inputs ≡ []
+  pub visits : code ≡ done → new.visits ≡ []
+  pub text : code ≡ done → new.text ≡ []
+  pub lost : code ≡ done → new.lost ≡ 0
+  pub refused : code ≢ done → new ≡ old
+
+-- A turn: whatever list of events the screen stood for, it stands for it with others behind it, and by that list each viewer is served, also where the turn ended by an error. What waited to be fetched waits still, and what came waits behind it.
+pub record TakesTurn (old new : Standing) (code : ℤ) : Type 0 where
+  pub answer : MatchOption old.served (code ≡ shut) (λ s. (answer : Result (Unit {0}) LoopError) × (code ≡ turn_code answer))
+  pub served : (c : Config) (list : List Event) → StandsFor c list old → (more : List Event) × StandsFor c (list ++ more) new
+  pub inputs : IsPutBehind 4096 old.inputs new.inputs
+  pub visits : IsPutBehind 1024 old.visits new.visits
+  pub lost : old.lost ≤ new.lost
+  pub same : new ≡ record old { served = new.served; inputs = new.inputs; visits = new.visits; lost = new.lost }
+
+-- a call draws: where it is done its event comes behind the others, and else nothing is drawn; what waits to be fetched stays
+pub record Draws (e : Event) (old new : Standing) (code : ℤ) : Type 0 where
+  pub answer : Answers (due old e) (λ n. n ≡ done) code
+  pub step : (c : Config) (list : List Event) → StandsFor c list old → code ≡ done → StandsFor c (list ++ e ∷ []) new
+  pub same : new ≡ record old { served = new.served }
+  pub refused : code ≢ done → IsAsBefore old new
+
+-- the same for the places of a list of rectangles, which the event has by their canonical list
+pub record DrawsRegion (rects : List Rect) (event : List Rect → Event) (old new : Standing) (code : ℤ) : Type 0 where
+  pub answer : Answers (region_due old rects) (λ n. n ≡ done) code
+  pub step : code ≡ done → (places : List Rect) × (IsListOf rects places × ((c : Config) (list : List Event) → StandsFor c list old → StandsFor c (list ++ event places ∷ []) new))
+  pub same : new ≡ record old { served = new.served }
+  pub refused : code ≢ done → IsAsBefore old new
+
+-- the first inputs that wait are put at the room's start, up to the first text, and the number says how many they are
+pub record FetchesInputs (old new : Standing) (room_old room_new : List Told) (code : ℤ) : Type 0 where
+  pub answer : MatchOption old.served (code ≡ shut) (λ s. pos 0 ≤ℤ code)
+  pub fetched : pos 0 ≤ℤ code → (number : ℕ) × ((code ≡ pos number) × IsFetched (length room_old) old.inputs new.inputs room_old room_new old.text new.text number)
+  pub same : new ≡ record old { inputs = new.inputs; text = new.text }
+  pub refused : code <ℤ pos 0 → (new ≡ old) × (room_new ≡ room_old)
+
+-- as many of a list as there is room for
+abbrev pub count_fitting : {X : Type 0} → List X → List X → ℕ
+count_fitting items room = min (length items) (length room)
+
+-- the first comings and goings that wait are put at the room's start, and the number says how many they are
+pub record FetchesVisits (old new : Standing) (room_old room_new : List Visit) (code : ℤ) : Type 0 where
+  pub answer : MatchOption old.served (code ≡ shut) (λ s. code ≡ pos (count_fitting old.visits room_old))
+  pub room : pos 0 ≤ℤ code → room_new ≡ take (count_fitting old.visits room_old) old.visits ++ drop (count_fitting old.visits room_old) room_old
+  pub others : pos 0 ≤ℤ code → new.visits ≡ drop (count_fitting old.visits room_old) old.visits
+  pub same : new ≡ record old { visits = new.visits }
+  pub refused : code <ℤ pos 0 → (new ≡ old) × (room_new ≡ room_old)
+
+-- the first bytes of the text that was fetched last are put at the room's start, as many as fit, at most 2^30, and the number says how many they are
+abbrev pub count_shown : List ℕ → List ℕ → ℕ
+count_shown text room = min (count_fitting text room) (2 ^ 30)
+
+pub record ShowsText (old new : Standing) (room_old room_new : List ℕ) (code : ℤ) : Type 0 where
+  pub answer : MatchOption old.served (code ≡ shut) (λ s. code ≡ pos (count_shown old.text room_old))
+  pub shown : pos 0 ≤ℤ code → room_new ≡ take (count_shown old.text room_old) old.text ++ drop (count_shown old.text room_old) room_old
+  pub same : new ≡ old
+  pub refused : code <ℤ pos 0 → room_new ≡ room_old
+
+-- a call changes nothing, and answers a number of what is served, or shut
+pub record Tells (number : Serving → ℤ) (old new : Standing) (code : ℤ) : Type 0 where
+  pub answer : MatchOption old.served (code ≡ shut) (λ s. code ≡ number s)
+  pub same : new ≡ old
+
+-- what a waker answers, by whether it is open
+abbrev pub IsWakeCode : Bool → ℤ → Type 0
+IsWakeCode true code = (code ≡ done) ⊎ (code ≡ network_failed)
+IsWakeCode false code = code ≡ shut
+
+-- a waker wakes, or the system refuses it, or it is shut; it stays so
+pub record Wakes (old new : Bool) (code : ℤ) : Type 0 where
+  pub answer : IsWakeCode old code
+  pub same : new ≡ old

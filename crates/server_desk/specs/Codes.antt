@@ -1,0 +1,42 @@
+-- The numbers that calls of a server answer, besides those of a screen's desk.
+use Rattle.std.specs.Prelude.{◌≡◌, ℕ, ℤ, pos, Result, Ok, Err, Some, None}
+use Rattle.receipts.specs.declared.Ended.{Ended}
+use Rattle.receipts.specs.declared.Ended.TheVariants as ended
+use Rattle.event_loop.specs.declared.event_loop.LoopError.{LoopError}
+use Rattle.event_loop.specs.declared.event_loop.LoopError.TheVariants.{Network, Clock, Screen}
+use Rattle.screen_desk.specs.Codes.{minus, done, code_of, fault_code}
+
+abbrev pub bad_address : ℤ
+bad_address = minus 13
+
+abbrev pub cannot_listen : ℤ
+cannot_listen = minus 14
+
+abbrev pub network_failed : ℤ
+network_failed = minus 15
+
+abbrev pub clock_failed : ℤ
+clock_failed = minus 16
+
+-- why a turn ended, or 0
+abbrev pub turn_code : Result (Unit {0}) LoopError → ℤ
+turn_code (Ok x) = done
+turn_code (Err Network) = network_failed
+turn_code (Err Clock) = clock_failed
+turn_code (Err (Screen e)) = code_of e
+
+-- why a viewer left
+abbrev pub reason_code : Ended → ℕ
+reason_code ended.EndOfInput = 1
+reason_code (ended.Fault f) = 2
+reason_code ended.ReadFailed = 3
+reason_code ended.WriteFailed = 4
+reason_code ended.Memory = 5
+reason_code ended.Gate = 6
+reason_code ended.Closed = 7
+reason_code ended.Stopped = 8
+
+-- by which fault, or 0
+abbrev pub fault_of : Ended → ℤ
+fault_of (ended.Fault f) = fault_code (Some f)
+fault_of e = pos 0

@@ -1,0 +1,55 @@
+-- What a server's desk holds.
+use Rattle.std.specs.Prelude.{◌≡◌, ◌≢◌, ℕ, ◌-◌, ℤ, List, [], ◌++◌, length, take, Option, Some, None, option_map, not}
+use Rattle.std.specs.List.{list_any}
+use Rattle.region.specs.declared.Rect.{Rect}
+use Rattle.region.specs.RegionView.{in_range}
+use Rattle.messages.specs.declared.Input.{Input}
+use Rattle.scene.specs.declared.Config.{Config}
+use Rattle.scene.specs.declared.Event.{Event}
+use Rattle.screen.specs.State.{State}
+use Rattle.connections.specs.Serving.{Serving, Serves}
+use Rattle.event_loop.specs.Sockets.{sockets}
+use Rattle.screen_desk.specs.Codes.{shut}
+use Rattle.screen_desk.specs.Desk.{due_by, far_or_none}
+use Rattle.server_desk.specs.declared.visits.Visit.{Visit}
+
+-- the screen and its viewers' connections, unless the desk is shut; the port; what came and wasn't fetched, the inputs with their viewers' numbers; the text that was fetched last; and how much was lost
+pub record Standing : Type 0 where
+  pub served : Option Serving
+  pub port : ℕ
+  pub inputs : List (ℕ × Input)
+  pub visits : List Visit
+  pub text : List ℕ
+  pub lost : ℕ
+
+abbrev pub nothing_there : Standing
+nothing_there = record { served = None; port = 0; inputs = []; visits = []; text = []; lost = 0 }
+
+-- the screen stands for a list of events, and by that list each viewer is served
+abbrev pub IsServedBy : Config → List Event → Option Serving → Type 0
+IsServedBy c list None = ⊥
+IsServedBy c list (Some s) = Serves c (sockets c) list s
+
+abbrev pub StandsFor : Config → List Event → Standing → Type 0
+StandsFor c list desk = IsServedBy c list desk.served
+
+abbrev pub screen_of : Standing → Option State
+screen_of desk = option_map (λ s. s.surface.screen) desk.served
+
+-- the screen is as it was, and so is what each viewer is served
+pub record IsAsBefore (old new : Standing) : Type 0 where
+  pub screen : screen_of new ≡ screen_of old
+  pub served : (c : Config) (list : List Event) → StandsFor c list old → StandsFor c list new
+  pub same : new ≡ record old { served = new.served }
+
+-- why an event is refused: the desk is shut, or its screen refuses it
+abbrev pub due : Standing → Event → Option ℤ
+due desk e = due_by (screen_of desk) e
+
+-- why a call for the places of rectangles is refused: the desk is shut, or a coordinate is beyond 2^20
+abbrev pub region_due : Standing → List Rect → Option ℤ
+region_due desk rects = elim desk.served [ None ↦ Some shut | Some s ↦ far_or_none (list_any (λ r. not (in_range r)) rects) ]
+
+-- what waits is what waited, and then what came, as far as so many may wait
+abbrev pub IsPutBehind : {X : Type 0} → ℕ → List X → List X → Type 0
+IsPutBehind {X} most old new = (came : List X) × (new ≡ old ++ take (most - length old) came)

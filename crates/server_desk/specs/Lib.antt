@@ -1,0 +1,5 @@
+pub mod Codes
+pub mod Visits
+pub mod Listening
+pub mod Desk
+pub mod Calls

@@ -1,0 +1,425 @@
+//! The desk: the calls of a server, and what waits to be fetched.
+
+ghost use Rattle.std.specs.Prelude.{◌≡◌, ◌≤◌, ◌∷◌, [], ◌^◌, pos, map, min, OnOk, is_some, count_by};
+ghost use Rattle.scene.specs.declared.Event.{Event};
+ghost use Rattle.scene.specs.Alone.{config_refusal};
+ghost use Rattle.screen_desk.specs.Codes as codes;
+ghost use Rattle.screen_desk.specs.Calls.{colour_at};
+ghost use Rattle.screen_desk.specs.Desk.{rect_of, config_of};
+ghost use Rattle.std.specs.VecDeque.{deque_capacity};
+ghost use Rattle.server_desk.specs.Desk.{nothing_there, IsPutBehind};
+ghost use Rattle.server_desk.specs.Calls.{Listens, TakesTurn, Draws, DrawsRegion, FetchesInputs, FetchesVisits, ShowsText, Tells};
+
+use crate::codes::{done_or, turn_code};
+use crate::corners::{are_far, region_of};
+use crate::gathering::Gathering;
+use crate::listening::{Listening, listen_on};
+use crate::news::{
+    MOST_INPUTS, MOST_TEXT, MOST_VISITS, copy_to, fetch_inputs, fetch_visits, is_text_at,
+    make_room, put_all,
+};
+use crate::system::{SystemClock, timeout_of};
+use crate::told::ToldBy;
+use crate::visits::Visit;
+use crate::waker::ServerWaker;
+use event_loop::{EventLoop, Listed, Rect, ScreenError};
+use screen_desk::{Corners, OFF_SCREEN, OUT_OF_RANGE, SHUT, Told, code_of};
+use std::alloc::{AllocError, Global};
+use std::collections::VecDeque;
+use std::marker::Model;
+
+/// A server in one thread, or none where the desk is shut; and what came of its viewers and wasn't fetched. Each call answers `SHUT`
+/// where it is shut, but for `listen` and `close`. A number below 0 is the code of a refusal, and nothing has changed then, but for
+/// `process_events`, which says what holds.
+///
+/// At most 4,096 inputs wait, 4 MB of texts, and 1,024 comings and goings. What comes when there is no more room, or memory for it is
+/// refused, is lost, and counted: `lost`.
+#[derive(Drop)]
+pub struct ServerDesk {
+    alloc: Global,
+    events: Option<EventLoop>,
+    port: u16,
+    inputs: VecDeque<ToldBy>,
+    visits: VecDeque<Visit>,
+    text: Listed<u8>,
+    // how many bytes of texts may come before they are too many
+    text_room: usize,
+    lost: u64,
+}
+
+impl Model for ServerDesk {
+    ghost use Rattle.server_desk.specs.Desk.{Standing};
+
+    ghost Value = { Standing };
+
+    ghost view = { λ a. record { served = a.events; port = a.port; inputs = a.inputs.items; visits = a.visits.items; text = a.text; lost = a.lost } };
+}
+
+/// Makes room for as much as may wait.
+fn make_all_room(
+    inputs: &mut VecDeque<ToldBy>,
+    visits: &mut VecDeque<Visit>,
+) -> Result<(), AllocError>
+    ensures inputs { inputs.new.items ≡ inputs.old.items }
+    ensures visits { visits.new.items ≡ visits.old.items }
+    ensures input_room { OnOk result (4096 ≤ deque_capacity inputs.new) }
+    ensures visit_room { OnOk result (1024 ≤ deque_capacity visits.new) }
+{
+    make_room(inputs, MOST_INPUTS)?;
+    make_room(visits, MOST_VISITS)?;
+    Ok(())
+}
+
+/// Puts what came behind what waits, in room that was made. How much of it is lost.
+fn keep(inputs: &mut VecDeque<ToldBy>, visits: &mut VecDeque<Visit>, came: Gathering) -> u64
+    requires inputs { 4096 ≤ deque_capacity inputs.old }
+    requires visits { 1024 ≤ deque_capacity visits.old }
+    ensures inputs { IsPutBehind 4096 inputs.old.items inputs.new.items }
+    ensures visits { IsPutBehind 1024 visits.old.items visits.new.items }
+{
+    let lost_inputs = put_all(inputs, came.inputs, MOST_INPUTS);
+    let lost_visits = put_all(visits, came.visits, MOST_VISITS);
+    let lost = lost_inputs.saturating_add(lost_visits) as u64;
+    came.lost.saturating_add(lost)
+}
+
+impl ServerDesk {
+    /// A desk that is shut. It takes no memory.
+    pub fn new(alloc: Global) -> ServerDesk
+        ensures { result ≡ nothing_there }
+    {
+        ServerDesk {
+            alloc,
+            events: None,
+            port: 0,
+            inputs: VecDeque::new(alloc),
+            visits: VecDeque::new(alloc),
+            text: Listed::new(alloc),
+            text_room: MOST_TEXT,
+            lost: 0,
+        }
+    }
+
+    /// Listens on a port of an address, and serves a black screen to as many viewers at once as `viewers` says (`rfbGetScreen` and
+    /// `rfbInitServer` of `rfb.h`); a further one waits until one has left. What was open is closed. `address` is an IP address in
+    /// digits, as `127.0.0.1`, `0.0.0.0` for all of the machine's, or `::1`; of port 0 the system chooses one, which `port` tells.
+    /// `name` is the desktop's (RFC 6143, 7.3.2), of at most 255 bytes. `BAD_ADDRESS` where the address isn't one, and
+    /// `CANNOT_LISTEN` where the system refuses it.
+    pub fn listen(
+        &mut self,
+        address: &[u8],
+        port: u16,
+        width: u32,
+        height: u32,
+        name: &[u8],
+        viewers: u32,
+    ) -> i32
+        ensures { Listens (config_of width height name.now 50) self.old self.new result }
+    {
+        match listen_on(self.alloc, address, port, width, height, name, viewers) {
+            Ok(Listening { events, port }) => {
+                self.events = Some(events);
+                self.port = port;
+                self.clear();
+                0
+            }
+            Err(e) => e.code(),
+        }
+    }
+
+    /// Nothing waits any more.
+    fn clear(&mut self)
+        ensures { self.new ≡ record self.old { inputs = []; visits = []; text = []; lost = 0 } }
+    {
+        self.inputs = VecDeque::new(self.alloc);
+        self.visits = VecDeque::new(self.alloc);
+        self.text = Listed::new(self.alloc);
+        self.text_room = MOST_TEXT;
+        self.lost = 0;
+    }
+
+    /// The server is gone: its port is free, and its viewers' connections are closed (`rfbShutdownServer` and `rfbScreenCleanup` of
+    /// `rfb.h`). It answers 0, also where the desk is shut.
+    pub fn close(&mut self) -> i32
+        ensures { (self.new ≡ nothing_there) × (result ≡ codes.done) }
+    {
+        self.events = None;
+        self.port = 0;
+        self.clear();
+        0
+    }
+
+    /// One turn of the loop (`rfbProcessEvents` of `rfb.h`): it waits until something is ready, at most so many milliseconds, and below 0
+    /// without end; then who came is accepted, what viewers sent is heard, and what they are owed is written. 0, or why the turn ended
+    /// before its end: a code of `code_of`, `NETWORK_FAILED` or `CLOCK_FAILED`; also then each viewer is served as far as the turn
+    /// came, and what it brought waits.
+    pub fn process_events(&mut self, milliseconds: i32) -> i32
+        ensures { TakesTurn self.old self.new result }
+    {
+        let Some(events) = &mut self.events else {
+            return SHUT;
+        };
+        if make_all_room(&mut self.inputs, &mut self.visits).is_err() {
+            return code_of(ScreenError::OutOfMemory);
+        }
+        let mut came = Gathering::new(self.alloc, self.text_room);
+        let answer = events.process_events(&SystemClock, timeout_of(milliseconds), &mut came);
+        self.text_room = came.text_room;
+        let lost = keep(&mut self.inputs, &mut self.visits, came);
+        self.lost = self.lost.saturating_add(lost);
+        turn_code(answer)
+    }
+
+    /// `Canvas::paint`.
+    pub fn paint(&mut self, x1: i32, y1: i32, x2: i32, y2: i32, colours: &[u32]) -> i32
+        ensures { Draws (Event.Paint (record { x1 = x1; y1 = y1; x2 = x2; y2 = y2 }) colours.now) self.old self.new result }
+    {
+        let Some(events) = &mut self.events else {
+            return SHUT;
+        };
+        done_or(events.canvas().paint(Rect { x1, y1, x2, y2 }, colours))
+    }
+
+    /// `Canvas::write_pixels`.
+    pub fn write_pixels(&mut self, x1: i32, y1: i32, x2: i32, y2: i32, colours: &[u32]) -> i32
+        ensures { Draws (Event.Write (record { x1 = x1; y1 = y1; x2 = x2; y2 = y2 }) colours.now) self.old self.new result }
+    {
+        let Some(events) = &mut self.events else {
+            return SHUT;
+        };
+        done_or(
+            events
+                .canvas()
+                .write_pixels(Rect { x1, y1, x2, y2 }, colours),
+        )
+    }
+
+    /// `Canvas::mark_rect` (`rfbMarkRectAsModified` of `rfb.h`).
+    pub fn mark_rect(&mut self, x1: i32, y1: i32, x2: i32, y2: i32) -> i32
+        ensures { Draws (Event.Mark (record { x1 = x1; y1 = y1; x2 = x2; y2 = y2 } ∷ [])) self.old self.new result }
+    {
+        let Some(events) = &mut self.events else {
+            return SHUT;
+        };
+        done_or(events.canvas().mark_rect(x1, y1, x2, y2))
+    }
+
+    /// `Canvas::schedule_copy_rect` (`rfbScheduleCopyRect` of `rfb.h`).
+    pub fn schedule_copy_rect(
+        &mut self,
+        x1: i32,
+        y1: i32,
+        x2: i32,
+        y2: i32,
+        dx: i32,
+        dy: i32,
+    ) -> i32
+        ensures { Draws (Event.ScheduleCopy (record { x1 = x1; y1 = y1; x2 = x2; y2 = y2 } ∷ []) dx dy) self.old self.new result }
+    {
+        let Some(events) = &mut self.events else {
+            return SHUT;
+        };
+        done_or(events.canvas().schedule_copy_rect(x1, y1, x2, y2, dx, dy))
+    }
+
+    /// `Canvas::do_copy_rect` (`rfbDoCopyRect` of `rfb.h`).
+    pub fn do_copy_rect(&mut self, x1: i32, y1: i32, x2: i32, y2: i32, dx: i32, dy: i32) -> i32
+        ensures { Draws (Event.DoCopy (record { x1 = x1; y1 = y1; x2 = x2; y2 = y2 } ∷ []) dx dy) self.old self.new result }
+    {
+        let Some(events) = &mut self.events else {
+            return SHUT;
+        };
+        done_or(events.canvas().do_copy_rect(x1, y1, x2, y2, dx, dy))
+    }
+
+    /// `Canvas::bell` (`rfbSendBell` of `rfb.h`).
+    pub fn bell(&mut self) -> i32
+        ensures { Draws (Event.Bell) self.old self.new result }
+    {
+        let Some(events) = &mut self.events else {
+            return SHUT;
+        };
+        done_or(events.canvas().bell())
+    }
+
+    /// `Canvas::cut_text` (`rfbSendServerCutText` of `rfb.h`).
+    pub fn cut_text(&mut self, text: &[u8]) -> i32
+        ensures { Draws (Event.CutText text.now) self.old self.new result }
+    {
+        let Some(events) = &mut self.events else {
+            return SHUT;
+        };
+        done_or(events.canvas().cut_text(text))
+    }
+
+    /// `Canvas::new_framebuffer` (`rfbNewFramebuffer` of `rfb.h`).
+    pub fn new_framebuffer(&mut self, width: u32, height: u32) -> i32
+        ensures { Draws (Event.Resize width height) self.old self.new result }
+    {
+        let Some(events) = &mut self.events else {
+            return SHUT;
+        };
+        done_or(events.canvas().new_framebuffer(width, height))
+    }
+
+    /// `Canvas::mark_region` (`rfbMarkRegionAsModified` of `rfb.h`) for the places of a list of rectangles. `OUT_OF_RANGE` where a
+    /// coordinate is not from -2^20 to 2^20.
+    pub fn mark_region(&mut self, list: &[Corners]) -> i32
+        ensures { DrawsRegion (map rect_of list.now) (λ places. Event.Mark places) self.old self.new result }
+    {
+        let Some(events) = &mut self.events else {
+            return SHUT;
+        };
+        if are_far(list) {
+            return OUT_OF_RANGE;
+        }
+        let Ok(region) = region_of(self.alloc, list) else {
+            return code_of(ScreenError::OutOfMemory);
+        };
+        done_or(events.canvas().mark_region(&region))
+    }
+
+    /// `Canvas::schedule_copy_region` (`rfbScheduleCopyRegion` of `rfb.h`), likewise.
+    pub fn schedule_copy_region(&mut self, list: &[Corners], dx: i32, dy: i32) -> i32
+        ensures { DrawsRegion (map rect_of list.now) (λ places. Event.ScheduleCopy places dx dy) self.old self.new result }
+    {
+        let Some(events) = &mut self.events else {
+            return SHUT;
+        };
+        if are_far(list) {
+            return OUT_OF_RANGE;
+        }
+        let Ok(region) = region_of(self.alloc, list) else {
+            return code_of(ScreenError::OutOfMemory);
+        };
+        done_or(events.canvas().schedule_copy_region(&region, dx, dy))
+    }
+
+    /// `Canvas::do_copy_region` (`rfbDoCopyRegion` of `rfb.h`), likewise.
+    pub fn do_copy_region(&mut self, list: &[Corners], dx: i32, dy: i32) -> i32
+        ensures { DrawsRegion (map rect_of list.now) (λ places. Event.DoCopy places dx dy) self.old self.new result }
+    {
+        let Some(events) = &mut self.events else {
+            return SHUT;
+        };
+        if are_far(list) {
+            return OUT_OF_RANGE;
+        }
+        let Ok(region) = region_of(self.alloc, list) else {
+            return code_of(ScreenError::OutOfMemory);
+        };
+        done_or(events.canvas().do_copy_region(&region, dx, dy))
+    }
+
+    /// Puts the first inputs that wait at the room's start, up to the first text, and takes them from what waits (`kbdAddEvent`,
+    /// `ptrAddEvent` and `setXCutText` of `rfb.h`). How many they are; the rest of the room stays. The text's bytes are had by `text`,
+    /// until a call fetches another.
+    pub fn inputs(&mut self, room: &mut [Told]) -> i64
+        ensures { FetchesInputs self.old self.new room.old room.new result }
+    {
+        if self.events.is_none() {
+            return i64::from(SHUT);
+        }
+        let count = fetch_inputs(&mut self.inputs, room, &mut self.text);
+        if is_text_at(room, count.wrapping_sub(1)) {
+            self.text_room = self.text_room.saturating_add(self.text.len());
+        }
+        count as i64
+    }
+
+    /// Puts the first bytes of the text that was fetched last at the room's start, at most 2^30. How many they are; the rest of the room
+    /// stays.
+    pub fn text(&mut self, room: &mut [u8]) -> i32
+        ensures { ShowsText self.old self.new room.old room.new result }
+    {
+        if self.events.is_none() {
+            return SHUT;
+        }
+        copy_to(room, self.text.as_slice()) as i32
+    }
+
+    /// Puts the first comings and goings that wait at the room's start, and takes them from what waits (`newClientHook` and
+    /// `clientGoneHook` of `rfb.h`). How many they are; the rest of the room stays.
+    pub fn comings_and_goings(&mut self, room: &mut [Visit]) -> i64
+        ensures { FetchesVisits self.old self.new room.old room.new result }
+    {
+        if self.events.is_none() {
+            return i64::from(SHUT);
+        }
+        fetch_visits(&mut self.visits, room) as i64
+    }
+
+    /// How many inputs, comings and goings were lost since `listen`, at most 2^62.
+    pub fn lost(&mut self) -> i64
+        ensures { Tells (λ _. pos (min self.old.lost (2 ^ 62))) self.old self.new result }
+    {
+        if self.events.is_none() {
+            return i64::from(SHUT);
+        }
+        self.lost.min(1 << 62) as i64
+    }
+
+    /// What ends a wait of `process_events` from another thread. It is shut where the desk is, or the system refuses it; and once the desk
+    /// is closed it wakes nobody. A desk has one at a time.
+    pub fn waker(&mut self) -> ServerWaker
+        ensures { self.new ≡ self.old }
+    {
+        match &self.events {
+            Some(events) => ServerWaker::new(events.waker().ok()),
+            None => ServerWaker::new(None),
+        }
+    }
+
+    /// The port that it listens on.
+    pub fn port(&mut self) -> i32
+        ensures { Tells (λ _. pos self.old.port) self.old self.new result }
+    {
+        if self.events.is_none() {
+            return SHUT;
+        }
+        i32::from(self.port)
+    }
+
+    /// How many viewers are connected, at most 2^30.
+    pub fn viewer_count(&mut self) -> i32
+        ensures { Tells (λ served. pos (min (count_by is_some served.slots) (2 ^ 30))) self.old self.new result }
+    {
+        let Some(events) = &self.events else {
+            return SHUT;
+        };
+        events.viewer_count().min(1 << 30) as i32
+    }
+
+    /// `Screen::width`: 1 to 8192.
+    pub fn width(&mut self) -> i64
+        ensures { Tells (λ served. pos served.surface.screen.picture.width) self.old self.new result }
+    {
+        let Some(events) = &self.events else {
+            return i64::from(SHUT);
+        };
+        i64::from(events.screen().width())
+    }
+
+    /// `Screen::height`: 1 to 8192.
+    pub fn height(&mut self) -> i64
+        ensures { Tells (λ served. pos served.surface.screen.picture.height) self.old self.new result }
+    {
+        let Some(events) = &self.events else {
+            return i64::from(SHUT);
+        };
+        i64::from(events.screen().height())
+    }
+
+    /// `Screen::colour`: `0x00RRGGBB`. `OFF_SCREEN` off the screen.
+    pub fn colour(&mut self, x: u32, y: u32) -> i64
+        ensures { Tells (λ served. colour_at x y served.surface.screen) self.old self.new result }
+    {
+        let Some(events) = &self.events else {
+            return i64::from(SHUT);
+        };
+        match events.screen().colour(x, y) {
+            Some(colour) => i64::from(colour),
+            None => i64::from(OFF_SCREEN),
+        }
+    }
+}

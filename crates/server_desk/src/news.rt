@@ -1,0 +1,110 @@
+//! What waits to be fetched.
+
+ghost use Rattle.std.specs.Prelude.{◌≡◌, ◌≤◌, ◌+◌, ◌-◌, ◌++◌, ◌^◌, length, take, drop, min, OnOk};
+ghost use Rattle.std.specs.VecDeque.{deque_len, deque_capacity};
+ghost use Rattle.screen_desk.specs.Inputs.{IsFetched};
+
+use crate::told::{ToldBy, told_as};
+use crate::visits::Visit;
+use event_loop::{Input, Listed};
+use screen_desk::Told;
+use std::alloc::AllocError;
+use std::collections::VecDeque;
+
+/// How many inputs wait at most.
+pub(crate) const MOST_INPUTS: usize = 4096;
+
+/// How many comings and goings wait at most.
+pub(crate) const MOST_VISITS: usize = 1024;
+
+/// How many bytes wait at most in texts: 16 of the longest.
+pub(crate) const MOST_TEXT: usize = 1 << 22;
+
+/// Makes room so that as many wait at most.
+pub(crate) fn make_room<T>(waiting: &mut VecDeque<T>, most: usize) -> Result<(), AllocError>
+    ensures same { waiting.new.items ≡ waiting.old.items }
+    ensures len { deque_len waiting.new ≡ deque_len waiting.old }
+    ensures room { OnOk result (most ≤ deque_capacity waiting.new) }
+{
+    waiting.reserve(most.saturating_sub(waiting.len()))
+}
+
+/// Puts what came behind what waits, as much as may wait, in room that was made. How much of it is lost.
+pub(crate) fn put_all<T: Drop>(
+    waiting: &mut VecDeque<T>,
+    mut came: VecDeque<T>,
+    most: usize,
+) -> usize
+    requires { most ≤ deque_capacity waiting.old }
+    ensures kept { waiting.new.items ≡ waiting.old.items ++ take (most - length waiting.old.items) came.items }
+    ensures lost { result ≡ length came.items - (most - length waiting.old.items) }
+{
+    while waiting.len() < most {
+        let Some(one) = came.pop_front() else {
+            return 0;
+        };
+        waiting.push_back_reserved(one);
+    }
+    came.len()
+}
+
+/// Fetches the first inputs, as many as there is room for, up to the first text, whose bytes are put into `text`. How many they are;
+/// the others wait on, and the rest of the room stays.
+pub(crate) fn fetch_inputs(
+    waiting: &mut VecDeque<ToldBy>,
+    room: &mut [Told],
+    text: &mut Listed<u8>,
+) -> usize
+    ensures { IsFetched (length room.old) waiting.old.items waiting.new.items room.old room.new text.old text.new result }
+{
+    let mut count = 0;
+    while count < room.len() {
+        let Some(first) = waiting.pop_front() else {
+            return count;
+        };
+        let (viewer, input) = first.into_parts();
+        room[count] = told_as(viewer, &input);
+        count += 1;
+        if let Input::Text { text: bytes, .. } = input {
+            *text = bytes;
+            return count;
+        }
+    }
+    count
+}
+
+/// Whether a text stands in a place of the room.
+pub(crate) fn is_text_at(room: &[Told], place: usize) -> bool {
+    room.get(place).is_some_and(|told| told.kind == 3)
+}
+
+/// Fetches the first comings and goings, as many as there is room for. How many they are; the others wait on, and the rest of the room
+/// stays.
+pub(crate) fn fetch_visits(waiting: &mut VecDeque<Visit>, room: &mut [Visit]) -> usize
+    ensures count { result ≡ min (length waiting.old.items) (length room.old) }
+    ensures room { room.new ≡ take result waiting.old.items ++ drop result room.old }
+    ensures rest { waiting.new.items ≡ drop result waiting.old.items }
+{
+    let mut count = 0;
+    while count < room.len() {
+        let Some(visit) = waiting.pop_front() else {
+            return count;
+        };
+        room[count] = visit;
+        count += 1;
+    }
+    count
+}
+
+/// How many bytes are copied at once, at most: 2^30, so that their count is a code.
+const MOST_COPIED: usize = 1 << 30;
+
+/// Copies as many of the first bytes as there is room for, at most 2^30. How many they are; the rest of the room stays.
+pub(crate) fn copy_to(room: &mut [u8], bytes: &[u8]) -> usize
+    ensures count { result ≡ min (min (length bytes.now) (length room.old)) (2 ^ 30) }
+    ensures room { room.new ≡ take result bytes.now ++ drop result room.old }
+{
+    let count = bytes.len().min(room.len()).min(MOST_COPIED);
+    room[..count].copy_from_slice(&bytes[..count]);
+    count
+}

@@ -1,0 +1,57 @@
+//! What a server needs of the system where no `main` hands it a runtime, as in a library for another language.
+
+use std::io;
+use std::net::{IpAddr, Net, SocketAddr, TcpListener, TcpStream};
+use std::time::{Clock, Duration};
+
+/// Stands for the right to use the network where `mio` asks for it. The calls of `mio` go to the system themselves; this one opens
+/// nothing.
+pub(crate) struct Network;
+
+impl Net for Network {
+    type Stream = TcpStream;
+
+    type Listener = TcpListener;
+
+    fn bind(&self, _addr: SocketAddr) -> io::Result<TcpListener> {
+        Err(io::Error::from(io::ErrorKind::Unsupported))
+    }
+
+    fn connect(&self, _addr: SocketAddr) -> io::Result<TcpStream> {
+        Err(io::Error::from(io::ErrorKind::Unsupported))
+    }
+}
+
+/// The system's clock that never goes back.
+pub(crate) struct SystemClock;
+
+impl Clock for SystemClock {
+    fn monotonic(&self) -> io::Result<Duration> {
+        let mut time = libc::types::timespec {
+            tv_sec: 0,
+            tv_nsec: 0,
+        };
+        if libc::clock_gettime(libc::CLOCK_MONOTONIC, &mut time) != 0 {
+            return Err(io::Error::from(io::ErrorKind::Other));
+        }
+        let nanoseconds = Duration::from_nanos(time.tv_nsec.unsigned_abs());
+        Ok(Duration::from_secs(time.tv_sec.unsigned_abs()).saturating_add(nanoseconds))
+    }
+
+    fn since_1970(&self) -> io::Result<Duration> {
+        Err(io::Error::from(io::ErrorKind::Unsupported))
+    }
+}
+
+/// An address by its digits, as `127.0.0.1` or `::1`, with a port. None where it isn't one.
+pub(crate) fn address_of(digits: &[u8], port: u16) -> Option<SocketAddr> {
+    let digits = str::from_utf8(digits).ok()?;
+    let address: IpAddr = digits.parse().ok()?;
+    Some(SocketAddr::from((address, port)))
+}
+
+/// How long a turn may wait at most, by milliseconds: without end below 0.
+pub(crate) fn timeout_of(milliseconds: i32) -> Option<Duration> {
+    let milliseconds = u64::try_from(milliseconds).ok()?;
+    Some(Duration::from_millis(milliseconds))
+}

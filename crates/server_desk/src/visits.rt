@@ -1,0 +1,46 @@
+//! Who came and went, in numbers.
+
+ghost use Rattle.std.specs.Prelude.{◌≡◌};
+ghost use Rattle.server_desk.specs.Visits.{coming_of, going_of};
+
+use crate::codes::{fault_of, reason_code};
+use event_loop::Ended;
+
+/// A viewer came, or it went. What doesn't belong to its kind is 0.
+#[repr(C)]
+#[derive(Clone, Copy, Debug, PartialEq, Eq)]
+pub struct Visit {
+    /// The number of the viewer: they are counted from 1, as they come.
+    pub viewer: u64,
+    /// 1 where it came, 2 where it went.
+    pub kind: u32,
+    /// Why it went: 1 it closed its connection, 2 it said what no message says, 3 a read failed, 4 a write failed, 5 memory was
+    /// refused for it, 7 it took too long for its opening.
+    pub reason: u32,
+    /// By which fault, as `fault_code` has it, where the reason is 2.
+    pub fault: i32,
+}
+
+/// A viewer came.
+pub(crate) fn coming_of(viewer: u64) -> Visit
+    ensures { result ≡ coming_of viewer }
+{
+    Visit {
+        viewer,
+        kind: 1,
+        reason: 0,
+        fault: 0,
+    }
+}
+
+/// A viewer went.
+pub(crate) fn going_of(viewer: u64, ended: Ended) -> Visit
+    ensures { result ≡ going_of viewer ended }
+{
+    Visit {
+        viewer,
+        kind: 2,
+        reason: reason_code(ended),
+        fault: fault_of(ended),
+    }
+}

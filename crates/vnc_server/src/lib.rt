@@ -1,0 +1,388 @@
+//! A server in one thread for programs in C: doors to `server_desk`, one for each of its calls. Nothing here locks or starts a thread,
+//! and only `vnc_server_process_events` waits, for as long as it is told.
+//!
+//! Each door takes a pointer to memory of the program's in which a desk lies: `vnc_server_init` puts one there, which is shut. Its
+//! contract is that of the desk's call, from the desk that lies there before to the one that lies there after it.
+#![tactic(auto)]
+
+ghost use types.Logic.{sem};
+ghost use denote.RawPtr.{room_at};
+ghost use Rattle.vnc_server.specs.Lying.{desk_row, waker_row, holds, leaves, holds_waker, leaves_waker, holds_beside_room, leaves_beside_waker};
+ghost use Rattle.std.specs.Prelude.{◌≡◌, ◌∷◌, [], ◌^◌, pos, map, min, false, is_some, count_by};
+ghost use Rattle.scene.specs.declared.Event.{Event};
+ghost use Rattle.screen_desk.specs.Codes as codes;
+ghost use Rattle.screen_desk.specs.Calls.{colour_at};
+ghost use Rattle.screen_desk.specs.Desk.{rect_of, config_of};
+ghost use Rattle.server_desk.specs.Desk.{nothing_there};
+ghost use Rattle.server_desk.specs.Calls.{Listens, TakesTurn, Draws, DrawsRegion, FetchesInputs, FetchesVisits, ShowsText, Tells, Wakes};
+
+use server_desk::{Corners, ServerDesk, ServerWaker, Told, Visit};
+use std::alloc::Global;
+use std::mem::size_of;
+use std::ptr;
+
+/// What C sees behind its pointer: nothing.
+#[repr(C)]
+#[derive(Drop)]
+pub struct Place {
+    unseen: u8,
+}
+
+/// What C sees behind its pointer to a waker: nothing.
+#[repr(C)]
+#[derive(Drop)]
+pub struct WakerPlace {
+    unseen: u8,
+}
+
+/// The number of this interface: `VNC_SERVER_ABI` of the header.
+#[unsafe(no_mangle)]
+pub extern "C" fn vnc_server_abi() -> u32 {
+    1
+}
+
+/// How many bytes of memory C has to give for a server; their address is a multiple of 16.
+#[unsafe(no_mangle)]
+pub extern "C" fn vnc_server_size() -> usize {
+    size_of::<ServerDesk>()
+}
+
+/// Puts a desk that is shut into C's memory.
+#[unsafe(no_mangle)]
+pub unsafe extern "C" fn vnc_server_init(at: *mut Place, alloc: Global)
+    requires* { sem 𝓛 (room_at desk_row at) }
+    ensures* { sem 𝓛 (leaves at (λ desk. desk ≡ nothing_there)) }
+{
+    ptr::write(at as *mut ServerDesk, ServerDesk::new(alloc))
+}
+
+/// `ServerDesk::listen`.
+#[unsafe(no_mangle)]
+pub unsafe extern "C" fn vnc_server_listen(
+    at: *mut Place,
+    address: &[u8],
+    port: u16,
+    width: u32,
+    height: u32,
+    name: &[u8],
+    viewers: u32,
+) -> i32
+    ghost before: { desk_row.Denot }
+    requires* { sem 𝓛 (holds at before) }
+    ensures* { sem 𝓛 (leaves at (λ after. Listens (config_of width height name.now 50) before after result)) }
+{
+    ServerDesk::listen(
+        &mut *(at as *mut ServerDesk),
+        address,
+        port,
+        width,
+        height,
+        name,
+        viewers,
+    )
+}
+
+/// `ServerDesk::close`.
+#[unsafe(no_mangle)]
+pub unsafe extern "C" fn vnc_server_close(at: *mut Place) -> i32
+    ghost before: { desk_row.Denot }
+    requires* { sem 𝓛 (holds at before) }
+    ensures* { sem 𝓛 (leaves at (λ after. (after ≡ nothing_there) × (result ≡ codes.done))) }
+{
+    ServerDesk::close(&mut *(at as *mut ServerDesk))
+}
+
+/// `ServerDesk::process_events`.
+#[unsafe(no_mangle)]
+pub unsafe extern "C" fn vnc_server_process_events(at: *mut Place, milliseconds: i32) -> i32
+    ghost before: { desk_row.Denot }
+    requires* { sem 𝓛 (holds at before) }
+    ensures* { sem 𝓛 (leaves at (λ after. TakesTurn before after result)) }
+{
+    ServerDesk::process_events(&mut *(at as *mut ServerDesk), milliseconds)
+}
+
+/// `ServerDesk::paint`.
+#[unsafe(no_mangle)]
+pub unsafe extern "C" fn vnc_server_paint(
+    at: *mut Place,
+    x1: i32,
+    y1: i32,
+    x2: i32,
+    y2: i32,
+    colours: &[u32],
+) -> i32
+    ghost before: { desk_row.Denot }
+    requires* { sem 𝓛 (holds at before) }
+    ensures* { sem 𝓛 (leaves at (λ after. Draws (Event.Paint (record { x1 = x1; y1 = y1; x2 = x2; y2 = y2 }) colours.now) before after result)) }
+{
+    ServerDesk::paint(&mut *(at as *mut ServerDesk), x1, y1, x2, y2, colours)
+}
+
+/// `ServerDesk::write_pixels`.
+#[unsafe(no_mangle)]
+pub unsafe extern "C" fn vnc_server_write_pixels(
+    at: *mut Place,
+    x1: i32,
+    y1: i32,
+    x2: i32,
+    y2: i32,
+    colours: &[u32],
+) -> i32
+    ghost before: { desk_row.Denot }
+    requires* { sem 𝓛 (holds at before) }
+    ensures* { sem 𝓛 (leaves at (λ after. Draws (Event.Write (record { x1 = x1; y1 = y1; x2 = x2; y2 = y2 }) colours.now) before after result)) }
+{
+    ServerDesk::write_pixels(&mut *(at as *mut ServerDesk), x1, y1, x2, y2, colours)
+}
+
+/// `ServerDesk::mark_rect`.
+#[unsafe(no_mangle)]
+pub unsafe extern "C" fn vnc_server_mark_rect(
+    at: *mut Place,
+    x1: i32,
+    y1: i32,
+    x2: i32,
+    y2: i32,
+) -> i32
+    ghost before: { desk_row.Denot }
+    requires* { sem 𝓛 (holds at before) }
+    ensures* { sem 𝓛 (leaves at (λ after. Draws (Event.Mark (record { x1 = x1; y1 = y1; x2 = x2; y2 = y2 } ∷ [])) before after result)) }
+{
+    ServerDesk::mark_rect(&mut *(at as *mut ServerDesk), x1, y1, x2, y2)
+}
+
+/// `ServerDesk::schedule_copy_rect`.
+#[unsafe(no_mangle)]
+pub unsafe extern "C" fn vnc_server_schedule_copy_rect(
+    at: *mut Place,
+    x1: i32,
+    y1: i32,
+    x2: i32,
+    y2: i32,
+    dx: i32,
+    dy: i32,
+) -> i32
+    ghost before: { desk_row.Denot }
+    requires* { sem 𝓛 (holds at before) }
+    ensures* { sem 𝓛 (leaves at (λ after. Draws (Event.ScheduleCopy (record { x1 = x1; y1 = y1; x2 = x2; y2 = y2 } ∷ []) dx dy) before after result)) }
+{
+    ServerDesk::schedule_copy_rect(&mut *(at as *mut ServerDesk), x1, y1, x2, y2, dx, dy)
+}
+
+/// `ServerDesk::do_copy_rect`.
+#[unsafe(no_mangle)]
+pub unsafe extern "C" fn vnc_server_do_copy_rect(
+    at: *mut Place,
+    x1: i32,
+    y1: i32,
+    x2: i32,
+    y2: i32,
+    dx: i32,
+    dy: i32,
+) -> i32
+    ghost before: { desk_row.Denot }
+    requires* { sem 𝓛 (holds at before) }
+    ensures* { sem 𝓛 (leaves at (λ after. Draws (Event.DoCopy (record { x1 = x1; y1 = y1; x2 = x2; y2 = y2 } ∷ []) dx dy) before after result)) }
+{
+    ServerDesk::do_copy_rect(&mut *(at as *mut ServerDesk), x1, y1, x2, y2, dx, dy)
+}
+
+/// `ServerDesk::bell`.
+#[unsafe(no_mangle)]
+pub unsafe extern "C" fn vnc_server_bell(at: *mut Place) -> i32
+    ghost before: { desk_row.Denot }
+    requires* { sem 𝓛 (holds at before) }
+    ensures* { sem 𝓛 (leaves at (λ after. Draws (Event.Bell) before after result)) }
+{
+    ServerDesk::bell(&mut *(at as *mut ServerDesk))
+}
+
+/// `ServerDesk::cut_text`.
+#[unsafe(no_mangle)]
+pub unsafe extern "C" fn vnc_server_cut_text(at: *mut Place, text: &[u8]) -> i32
+    ghost before: { desk_row.Denot }
+    requires* { sem 𝓛 (holds at before) }
+    ensures* { sem 𝓛 (leaves at (λ after. Draws (Event.CutText text.now) before after result)) }
+{
+    ServerDesk::cut_text(&mut *(at as *mut ServerDesk), text)
+}
+
+/// `ServerDesk::new_framebuffer`.
+#[unsafe(no_mangle)]
+pub unsafe extern "C" fn vnc_server_new_framebuffer(at: *mut Place, width: u32, height: u32) -> i32
+    ghost before: { desk_row.Denot }
+    requires* { sem 𝓛 (holds at before) }
+    ensures* { sem 𝓛 (leaves at (λ after. Draws (Event.Resize width height) before after result)) }
+{
+    ServerDesk::new_framebuffer(&mut *(at as *mut ServerDesk), width, height)
+}
+
+/// `ServerDesk::mark_region`.
+#[unsafe(no_mangle)]
+pub unsafe extern "C" fn vnc_server_mark_region(at: *mut Place, list: &[Corners]) -> i32
+    ghost before: { desk_row.Denot }
+    requires* { sem 𝓛 (holds at before) }
+    ensures* { sem 𝓛 (leaves at (λ after. DrawsRegion (map rect_of list.now) (λ places. Event.Mark places) before after result)) }
+{
+    ServerDesk::mark_region(&mut *(at as *mut ServerDesk), list)
+}
+
+/// `ServerDesk::schedule_copy_region`.
+#[unsafe(no_mangle)]
+pub unsafe extern "C" fn vnc_server_schedule_copy_region(
+    at: *mut Place,
+    list: &[Corners],
+    dx: i32,
+    dy: i32,
+) -> i32
+    ghost before: { desk_row.Denot }
+    requires* { sem 𝓛 (holds at before) }
+    ensures* { sem 𝓛 (leaves at (λ after. DrawsRegion (map rect_of list.now) (λ places. Event.ScheduleCopy places dx dy) before after result)) }
+{
+    ServerDesk::schedule_copy_region(&mut *(at as *mut ServerDesk), list, dx, dy)
+}
+
+/// `ServerDesk::do_copy_region`.
+#[unsafe(no_mangle)]
+pub unsafe extern "C" fn vnc_server_do_copy_region(
+    at: *mut Place,
+    list: &[Corners],
+    dx: i32,
+    dy: i32,
+) -> i32
+    ghost before: { desk_row.Denot }
+    requires* { sem 𝓛 (holds at before) }
+    ensures* { sem 𝓛 (leaves at (λ after. DrawsRegion (map rect_of list.now) (λ places. Event.DoCopy places dx dy) before after result)) }
+{
+    ServerDesk::do_copy_region(&mut *(at as *mut ServerDesk), list, dx, dy)
+}
+
+/// `ServerDesk::inputs`.
+#[unsafe(no_mangle)]
+pub unsafe extern "C" fn vnc_server_inputs(at: *mut Place, room: &mut [Told]) -> i64
+    ghost before: { desk_row.Denot }
+    requires* { sem 𝓛 (holds at before) }
+    ensures* { sem 𝓛 (leaves at (λ after. FetchesInputs before after room.old room.new result)) }
+{
+    ServerDesk::inputs(&mut *(at as *mut ServerDesk), room)
+}
+
+/// `ServerDesk::text`.
+#[unsafe(no_mangle)]
+pub unsafe extern "C" fn vnc_server_text(at: *mut Place, room: &mut [u8]) -> i32
+    ghost before: { desk_row.Denot }
+    requires* { sem 𝓛 (holds at before) }
+    ensures* { sem 𝓛 (leaves at (λ after. ShowsText before after room.old room.new result)) }
+{
+    ServerDesk::text(&mut *(at as *mut ServerDesk), room)
+}
+
+/// `ServerDesk::comings_and_goings`.
+#[unsafe(no_mangle)]
+pub unsafe extern "C" fn vnc_server_comings_and_goings(at: *mut Place, room: &mut [Visit]) -> i64
+    ghost before: { desk_row.Denot }
+    requires* { sem 𝓛 (holds at before) }
+    ensures* { sem 𝓛 (leaves at (λ after. FetchesVisits before after room.old room.new result)) }
+{
+    ServerDesk::comings_and_goings(&mut *(at as *mut ServerDesk), room)
+}
+
+/// `ServerDesk::lost`.
+#[unsafe(no_mangle)]
+pub unsafe extern "C" fn vnc_server_lost(at: *mut Place) -> i64
+    ghost before: { desk_row.Denot }
+    requires* { sem 𝓛 (holds at before) }
+    ensures* { sem 𝓛 (leaves at (λ after. Tells (λ _. pos (min before.lost (2 ^ 62))) before after result)) }
+{
+    ServerDesk::lost(&mut *(at as *mut ServerDesk))
+}
+
+/// `ServerDesk::port`.
+#[unsafe(no_mangle)]
+pub unsafe extern "C" fn vnc_server_port(at: *mut Place) -> i32
+    ghost before: { desk_row.Denot }
+    requires* { sem 𝓛 (holds at before) }
+    ensures* { sem 𝓛 (leaves at (λ after. Tells (λ _. pos before.port) before after result)) }
+{
+    ServerDesk::port(&mut *(at as *mut ServerDesk))
+}
+
+/// `ServerDesk::viewer_count`.
+#[unsafe(no_mangle)]
+pub unsafe extern "C" fn vnc_server_viewer_count(at: *mut Place) -> i32
+    ghost before: { desk_row.Denot }
+    requires* { sem 𝓛 (holds at before) }
+    ensures* { sem 𝓛 (leaves at (λ after. Tells (λ served. pos (min (count_by is_some served.slots) (2 ^ 30))) before after result)) }
+{
+    ServerDesk::viewer_count(&mut *(at as *mut ServerDesk))
+}
+
+/// `ServerDesk::width`.
+#[unsafe(no_mangle)]
+pub unsafe extern "C" fn vnc_server_width(at: *mut Place) -> i64
+    ghost before: { desk_row.Denot }
+    requires* { sem 𝓛 (holds at before) }
+    ensures* { sem 𝓛 (leaves at (λ after. Tells (λ served. pos served.surface.screen.picture.width) before after result)) }
+{
+    ServerDesk::width(&mut *(at as *mut ServerDesk))
+}
+
+/// `ServerDesk::height`.
+#[unsafe(no_mangle)]
+pub unsafe extern "C" fn vnc_server_height(at: *mut Place) -> i64
+    ghost before: { desk_row.Denot }
+    requires* { sem 𝓛 (holds at before) }
+    ensures* { sem 𝓛 (leaves at (λ after. Tells (λ served. pos served.surface.screen.picture.height) before after result)) }
+{
+    ServerDesk::height(&mut *(at as *mut ServerDesk))
+}
+
+/// `ServerDesk::colour`.
+#[unsafe(no_mangle)]
+pub unsafe extern "C" fn vnc_server_colour(at: *mut Place, x: u32, y: u32) -> i64
+    ghost before: { desk_row.Denot }
+    requires* { sem 𝓛 (holds at before) }
+    ensures* { sem 𝓛 (leaves at (λ after. Tells (λ served. colour_at x y served.surface.screen) before after result)) }
+{
+    ServerDesk::colour(&mut *(at as *mut ServerDesk), x, y)
+}
+
+/// How many bytes of memory C has to give for a waker; their address is a multiple of 16.
+#[unsafe(no_mangle)]
+pub extern "C" fn vnc_waker_size() -> usize {
+    size_of::<ServerWaker>()
+}
+
+/// Puts what `ServerDesk::waker` gives into C's memory.
+#[unsafe(no_mangle)]
+pub unsafe extern "C" fn vnc_waker_init(at: *mut Place, waker: *mut WakerPlace)
+    ghost before: { desk_row.Denot }
+    requires* { sem 𝓛 (holds_beside_room at waker before) }
+    ensures* { sem 𝓛 (leaves_beside_waker at waker before) }
+{
+    ptr::write(
+        waker as *mut ServerWaker,
+        ServerDesk::waker(&mut *(at as *mut ServerDesk)),
+    )
+}
+
+/// `ServerWaker::wake`.
+#[unsafe(no_mangle)]
+pub unsafe extern "C" fn vnc_waker_wake(at: *mut WakerPlace) -> i32
+    ghost before: { waker_row.Denot }
+    requires* { sem 𝓛 (holds_waker at before) }
+    ensures* { sem 𝓛 (leaves_waker at (λ after. Wakes before after result)) }
+{
+    ServerWaker::wake(&mut *(at as *mut ServerWaker))
+}
+
+/// `ServerWaker::close`.
+#[unsafe(no_mangle)]
+pub unsafe extern "C" fn vnc_waker_close(at: *mut WakerPlace) -> i32
+    ghost before: { waker_row.Denot }
+    requires* { sem 𝓛 (holds_waker at before) }
+    ensures* { sem 𝓛 (leaves_waker at (λ after. (after ≡ false) × (result ≡ codes.done))) }
+{
+    ServerWaker::close(&mut *(at as *mut ServerWaker))
+}
