@@ -107,6 +107,12 @@ static inline void vnc_server_free(vnc_server *server)
  * before, and the next turn goes on. */
 int32_t vnc_server_process_events(vnc_server *server, int32_t milliseconds);
 
+/* For a program that waits in a loop of its own, by poll, epoll or select: it takes a turn, of 0 milliseconds, once this handle is ready
+ * to be read, or once as many milliseconds are over as vnc_server_longest_wait says. Ask for these anew before each wait: drawing, and
+ * what a turn leaves to do, make it 0. The handle is the server's own until vnc_server_close: nothing is to be read from it. */
+int32_t vnc_server_fd(vnc_server *server);           /* the handle; VNC_SHUT */
+int32_t vnc_server_longest_wait(vnc_server *server); /* 0 to 2^31 - 1, which also says that there is no end; VNC_SHUT, VNC_CLOCK_FAILED */
+
 /* The next inputs of all viewers go to `room`, in the order in which they were told, and wait no more: how many, 0 where none wait. A
  * text is the last of a call's: its bytes are had by vnc_server_text until vnc_server_inputs gives another text. (kbdAddEvent,
  * ptrAddEvent, setXCutText.) */
@@ -115,6 +121,10 @@ int32_t vnc_server_text(vnc_server *server, uint8_t *room, size_t count); /* the
 
 /* Who came and went next goes to `room`, and waits no more: how many, 0 where none wait. (newClientHook, clientGoneHook.) */
 int64_t vnc_server_comings_and_goings(vnc_server *server, vnc_visit *room, size_t count);
+
+/* A viewer is let go (rfbCloseClient): 0. It is heard no more, and its connection is closed in a later turn, once what waits for it is
+ * written. VNC_NO_VIEWER where none has the number. */
+int32_t vnc_server_close_viewer(vnc_server *server, uint64_t viewer);
 
 /* How many inputs, comings and goings were lost since vnc_server_listen. */
 int64_t vnc_server_lost(vnc_server *server);

@@ -3,11 +3,13 @@ use Rattle.std.proofs.Common.{◌≡◌, ◌≢◌, ◌⊎◌, inl, inr, true≢
 use Rattle.std.specs.Prelude.{◌==◌, ◌&&◌, unwrap_or, length, slice_set}
 use Rattle.std.proofs.lemmas.List.{get_or-set_same, get_or-set_other}
 use Rattle.std.specs.Io.KnownBytes.{Appends, Consumes}
+use Rattle.std.proofs.lemmas.Bool.{and_from, or_parts, or_from}
 use Rattle.std.proofs.lemmas.Bool.Decides.{Decides-eqb}
 use Rattle.scene.specs.declared.Config.{Config}
 use Rattle.scene.specs.declared.Event.{Event}
 use Rattle.scene.specs.declared.Event.TheVariants.{Connect, Close}
-use Rattle.scene.specs.Answers.{viewer_of, answer_to}
+use Rattle.scene.specs.Alone.{owner_of}
+use Rattle.scene.specs.Answers.{viewer_of, answer_to, is_drawing}
 use Rattle.slab.specs.Slab.{Slab, get, Updates}
 use Rattle.receipts.specs.declared.Receipt.{Receipt}
 use Rattle.receipts.specs.declared.Ended.{Ended}
@@ -15,10 +17,10 @@ use Rattle.receipts.specs.declared.Ended.TheVariants.{Memory, Closed}
 use Rattle.receipts.specs.Histories.{heard_of, bytes_of}
 use Rattle.screen.specs.State.{state}
 use Rattle.connections.specs.Waiting.{waiting_bytes, IsFew}
-use Rattle.connections.specs.Drawing.{Surface, Draws}
+use Rattle.connections.specs.Drawing.{Surface, Draws, IsDrawnFrom, IsNotedAfter}
 use Rattle.connections.specs.Among.{is_among}
 use Rattle.connections.specs.Attending.{asks, IsSettled}
-use Rattle.connections.specs.Serving.{Carried, ViewerConnection, Moves, breaks_off, has_work, IsServed, WasServed, IsOver, IsAttended, Serving, at_key, works_at, may_cut_at, may_ask_at, is_kept, Serves, GoesOn}
+use Rattle.connections.specs.Serving.{Carried, ViewerConnection, Moves, breaks_off, has_work, IsServed, WasServed, IsOver, IsAttended, Serving, at_key, works_at, may_cut_at, may_ask_at, is_kept, Serves, GoesOn, drawn_is_served}
 use Rattle.connections.specs.Turns.{Knows, IsTurnFrom, TakesTurn}
 use Rattle.connections.proofs.Given.{SameFor, bytes-own, heard-same, same-others, same-drawings}
 use Rattle.connections.proofs.Turns.{served-same, drawn-on, moves-nothing}
@@ -121,30 +123,59 @@ goes-settled a b same screen looked c began list s =
 
 -- ---- the application draws
 
-pub goes-drawn : (a b : Serving) → Draws a.surface b.surface → b ≡ record a { surface = b.surface } → GoesOn a b
-goes-drawn a b draws same c began list s =
+-- after calls that were drawn each viewer is served by the list with them behind it
+serves-drawn : (c : Config) (began : ℕ → Carried) (list : List Event) (a b : Serving) (d : IsDrawnFrom c list a.surface b.surface) → b ≡ record a { surface = b.surface } → Serves c began list a → Serves c began (list ++ d.calls) b
+serves-drawn c began list a b d same s =
     let next : b.next ≡ a.next = ap (λ (x : Serving). x.next) same in
     let slots : b.slots ≡ a.slots = ap (λ (x : Serving). x.slots) same in
+    let stays : (v : ℕ) → SameFor c v list (list ++ d.calls) = λ v. same-drawings c v list d.calls d.drawings in
+    record {
+      screen = d.screen;
+      kept = ap (λ (x : Serving). x.kept) same ∙ s.kept;
+      each = λ key e there. let h = s.each key e (ap (λ l. at_key l key) (sym slots) ∙ there) in
+          (subst (λ (n : ℕ). e.number < n) (sym next) h.0, served-same c list (list ++ d.calls) (began e.number) e (stays e.number) h.1);
+      attended = λ key e there.
+          let h = s.attended key e (ap (λ l. at_key l key) (sym slots) ∙ there) in
+          record {
+            listed = λ works. ap (λ (x : Serving). is_among key x.agenda) same ∙ h.listed works;
+            asking = λ asks. ap (λ (x : Serving). is_among key x.asking) same ∙ h.asking asks;
+            answered = λ none. asks-drawings c e.number list d.calls d.drawings (h.answered none);
+            settled = λ none. settled-drawn c list a.surface b.surface e.number d (h.settled none);
+          };
+      apart = λ j k d e dj ek same. s.apart j k d e (ap (λ l. at_key l j) (sym slots) ∙ dj) (ap (λ l. at_key l k) (sym slots) ∙ ek) same;
+      unused = λ v free. let h = s.unused v (subst (λ (n : ℕ). n ≤ v) next free) in ((stays v).0 ∙ h.0, (stays v).1 ∙ h.1);
+    }
+
+pub goes-drawn : (a b : Serving) → Draws a.surface b.surface → b ≡ record a { surface = b.surface } → GoesOn a b
+goes-drawn a b draws same c began list s =
     let d = drawn-on c list a.surface b.surface s.screen draws in
-    let stays : (v : ℕ) → SameFor c v list (list ++ d.calls) = λ v. same-drawings c v list d.calls d.drawings in (
-      d.calls,
-      record {
-        screen = d.screen;
-        kept = ap (λ (x : Serving). x.kept) same ∙ s.kept;
-        each = λ key e there. let h = s.each key e (ap (λ l. at_key l key) (sym slots) ∙ there) in
-            (subst (λ (n : ℕ). e.number < n) (sym next) h.0, served-same c list (list ++ d.calls) (began e.number) e (stays e.number) h.1);
-        attended = λ key e there.
-            let h = s.attended key e (ap (λ l. at_key l key) (sym slots) ∙ there) in
-            record {
-              listed = λ works. ap (λ (x : Serving). is_among key x.agenda) same ∙ h.listed works;
-              asking = λ asks. ap (λ (x : Serving). is_among key x.asking) same ∙ h.asking asks;
-              answered = λ none. asks-drawings c e.number list d.calls d.drawings (h.answered none);
-              settled = λ none. settled-drawn c list a.surface b.surface e.number d (h.settled none);
-            };
-        apart = λ j k d e dj ek same. s.apart j k d e (ap (λ l. at_key l j) (sym slots) ∙ dj) (ap (λ l. at_key l k) (sym slots) ∙ ek) same;
-        unused = λ v free. let h = s.unused v (subst (λ (n : ℕ). n ≤ v) next free) in ((stays v).0 ∙ h.0, (stays v).1 ∙ h.1);
-      },
-    )
+    (d.calls, serves-drawn c began list a b d same s)
+
+-- one call that was noted: it happened, or was refused
+call-drawn : (c : Config) (list : List Event) (e : Event) (a b : Surface) → IsNotedAfter e a b → is_drawing (owner_of e) ≡ true → b.screen ≡ state c (list ++ e ∷ []) → IsDrawnFrom c list a b
+call-drawn c list e a b noted own screen = record {
+  calls = e ∷ [];
+  drawings = and_from _ _ own refl;
+  screen = screen;
+  none = λ no. absurd (true≢false (sym noted.drawn ∙ no));
+  quiet = λ fine. let parts = or_parts _ _ (sym noted.noticed ∙ fine) in (parts.1, or_from _ _ parts.0 refl);
+}
+
+call-undrawn : (c : Config) (list : List Event) (e : Event) (a b : Surface) → IsNotedAfter e a b → b.screen ≡ state c list → IsDrawnFrom c list a b
+call-undrawn c list e a b noted screen = record {
+  calls = [];
+  drawings = refl;
+  screen = screen ∙ ap (state c) (sym (append-nil list));
+  none = λ no. absurd (true≢false (sym noted.drawn ∙ no));
+  quiet = λ fine. ((or_parts _ _ (sym noted.noticed ∙ fine)).1, refl);
+}
+
+pub drawn-serves : drawn_is_served
+drawn-serves c began list e s surface noted serves = (
+  λ own screen. serves-drawn c began list s (record s { surface = surface }) (call-drawn c list e s.surface surface noted own screen) refl serves,
+  λ same. subst (λ (l : List Event). Serves c began l (record s { surface = surface })) (append-nil list)
+      (serves-drawn c began list s (record s { surface = surface }) (call-undrawn c list e s.surface surface noted (same ∙ serves.screen)) refl serves),
+)
 
 pub goes-drawn-by : (a : Serving) (before after : Surface) (kept : Bool) (next : ℕ) (slots : List (Option ViewerConnection)) (vacant : ℕ) (agenda asking : List ℕ)
     → record { surface = before; kept = kept; next = next; slots = slots; vacant = vacant; agenda = agenda; asking = asking } ≡ a → Draws before after

@@ -1,5 +1,5 @@
 -- What an application does to a screen.
-use Rattle.std.specs.Prelude.{◌≡◌, ℕ, Bool, true, false, List, [], ◌++◌, None, Some}
+use Rattle.std.specs.Prelude.{◌≡◌, ℕ, Bool, true, false, List, [], ◌++◌, ◌||◌, None, Some}
 use Rattle.std.specs.List.{list_all, list_any}
 use Rattle.scene.specs.declared.Config.{Config}
 use Rattle.scene.specs.declared.Event.{Event}
@@ -31,6 +31,11 @@ is_notice _ = false
 
 abbrev pub has_notice : List Event → Bool
 has_notice es = list_any is_notice es
+
+-- after a drawing call that happened or was refused, the viewers are to be looked at, and after a bell or a text all of them
+pub record IsNotedAfter (e : Event) (before after : Surface) : Type 0 where
+  pub drawn : after.drawn ≡ true
+  pub noticed : after.noticed ≡ (is_notice e || before.noticed)
 
 -- The screen stands for a list with drawing calls behind it. Since another moment nothing was drawn where it says so, and no bell or text.
 pub record IsDrawnFrom (c : Config) (list : List Event) (since surface : Surface) : Type 0 where

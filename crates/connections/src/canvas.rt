@@ -7,10 +7,11 @@ ghost use Rattle.scene.specs.Answers.{answer_to};
 ghost use Rattle.scene.specs.Refusals.{Refuses};
 ghost use Rattle.screen.specs.State.{state, refusal};
 ghost use Rattle.viewer.specs.Given.{bytes_given};
-ghost use Rattle.connections.specs.Drawing.{Draws, is_asking_on};
+ghost use Rattle.scene.specs.Calls.{event_of};
+ghost use Rattle.connections.specs.Drawing.{Draws, is_asking_on, is_notice, IsNotedAfter};
 
 use listed::Listed;
-use screen::{Answer, Rect, Region, Screen, ScreenError, Update};
+use screen::{Answer, Drawing, Rect, Region, Screen, ScreenError, Update};
 use std::marker::Model;
 
 /// A screen to draw on, and whether it was drawn on since its viewers were looked at. Each drawing call is the screen's, with the
@@ -29,6 +30,13 @@ impl Model for Canvas {
     ghost Value = { Surface };
 
     ghost view = { λ a. record { screen = a.screen; drawn = a.has_drawn; noticed = a.has_noticed } };
+}
+
+/// Whether a call is a bell or a text.
+fn is_notice(drawing: &Drawing<'_>) -> bool
+    ensures { result ≡ is_notice (event_of drawing.now) }
+{
+    matches!(drawing, Drawing::Bell | Drawing::CutText(_))
 }
 
 impl Canvas {
@@ -59,6 +67,20 @@ impl Canvas {
         &self.screen
     }
 
+    /// One drawing call, as a value: `Screen::draw`.
+    pub fn draw(&mut self, drawing: &Drawing<'_>) -> Result<(), ScreenError>
+        ensures step { (config : Config) (list : List Event) → self.old.screen ≡ state config list →
+            OnOk result (self.new.screen ≡ state config (list ++ event_of drawing.now ∷ [])) }
+        ensures refused { Refuses result (refusal self.old.screen (event_of drawing.now)) }
+        ensures err { OnErr result (self.new.screen ≡ self.old.screen) }
+        ensures draws { Draws self.old self.new }
+        ensures noted { IsNotedAfter (event_of drawing.now) self.old self.new }
+    {
+        self.has_drawn = true;
+        self.has_noticed = is_notice(drawing) || self.has_noticed;
+        self.screen.draw(drawing)
+    }
+
     /// `Screen::paint`.
     pub fn paint(&mut self, rect: Rect, colours: &[u32]) -> Result<(), ScreenError>
         ensures step { (config : Config) (list : List Event) → self.old.screen ≡ state config list →
@@ -68,8 +90,7 @@ impl Canvas {
         ensures draws { Draws self.old self.new }
         ensures drawn { self.new.drawn ≡ true }
     {
-        self.has_drawn = true;
-        self.screen.paint(rect, colours)
+        self.draw(&Drawing::Paint { rect, colours })
     }
 
     /// `Screen::write_pixels`.
@@ -81,8 +102,7 @@ impl Canvas {
         ensures draws { Draws self.old self.new }
         ensures drawn { self.new.drawn ≡ true }
     {
-        self.has_drawn = true;
-        self.screen.write_pixels(rect, colours)
+        self.draw(&Drawing::Write { rect, colours })
     }
 
     /// `Screen::mark_rect`.
@@ -94,8 +114,8 @@ impl Canvas {
         ensures draws { Draws self.old self.new }
         ensures drawn { self.new.drawn ≡ true }
     {
-        self.has_drawn = true;
-        self.screen.mark_rect(x1, y1, x2, y2)
+        let rect = Rect { x1, y1, x2, y2 };
+        self.draw(&Drawing::MarkRect(rect))
     }
 
     /// `Screen::mark_region`.
@@ -107,8 +127,7 @@ impl Canvas {
         ensures draws { Draws self.old self.new }
         ensures drawn { self.new.drawn ≡ true }
     {
-        self.has_drawn = true;
-        self.screen.mark_region(region)
+        self.draw(&Drawing::MarkRegion(region))
     }
 
     /// `Screen::schedule_copy_rect`.
@@ -128,8 +147,8 @@ impl Canvas {
         ensures draws { Draws self.old self.new }
         ensures drawn { self.new.drawn ≡ true }
     {
-        self.has_drawn = true;
-        self.screen.schedule_copy_rect(x1, y1, x2, y2, dx, dy)
+        let rect = Rect { x1, y1, x2, y2 };
+        self.draw(&Drawing::ScheduleCopyRect { rect, dx, dy })
     }
 
     /// `Screen::schedule_copy_region`.
@@ -146,8 +165,7 @@ impl Canvas {
         ensures draws { Draws self.old self.new }
         ensures drawn { self.new.drawn ≡ true }
     {
-        self.has_drawn = true;
-        self.screen.schedule_copy_region(region, dx, dy)
+        self.draw(&Drawing::ScheduleCopyRegion { region, dx, dy })
     }
 
     /// `Screen::do_copy_rect`.
@@ -167,8 +185,8 @@ impl Canvas {
         ensures draws { Draws self.old self.new }
         ensures drawn { self.new.drawn ≡ true }
     {
-        self.has_drawn = true;
-        self.screen.do_copy_rect(x1, y1, x2, y2, dx, dy)
+        let rect = Rect { x1, y1, x2, y2 };
+        self.draw(&Drawing::DoCopyRect { rect, dx, dy })
     }
 
     /// `Screen::do_copy_region`.
@@ -180,8 +198,7 @@ impl Canvas {
         ensures draws { Draws self.old self.new }
         ensures drawn { self.new.drawn ≡ true }
     {
-        self.has_drawn = true;
-        self.screen.do_copy_region(region, dx, dy)
+        self.draw(&Drawing::DoCopyRegion { region, dx, dy })
     }
 
     /// `Screen::bell`.
@@ -193,9 +210,7 @@ impl Canvas {
         ensures draws { Draws self.old self.new }
         ensures drawn { self.new.drawn ≡ true }
     {
-        self.has_drawn = true;
-        self.has_noticed = true;
-        self.screen.bell()
+        self.draw(&Drawing::Bell)
     }
 
     /// `Screen::cut_text`.
@@ -207,9 +222,7 @@ impl Canvas {
         ensures draws { Draws self.old self.new }
         ensures drawn { self.new.drawn ≡ true }
     {
-        self.has_drawn = true;
-        self.has_noticed = true;
-        self.screen.cut_text(text)
+        self.draw(&Drawing::CutText(text))
     }
 
     /// `Screen::new_framebuffer`.
@@ -221,8 +234,7 @@ impl Canvas {
         ensures draws { Draws self.old self.new }
         ensures drawn { self.new.drawn ≡ true }
     {
-        self.has_drawn = true;
-        self.screen.new_framebuffer(width, height)
+        self.draw(&Drawing::NewFramebuffer { width, height })
     }
 
     /// Those were looked at that are to be for what was drawn.

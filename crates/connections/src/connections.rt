@@ -16,7 +16,7 @@ use crate::backlog::BUFFER;
 use crate::canvas::Canvas;
 use crate::connection::Connection;
 use crate::keys::KeySet;
-use crate::listing::{keep_asking, keep_busy, list_keys};
+use crate::listing::{keep_asking, keep_busy, key_of, list_keys};
 use crate::transport::Transport;
 use crate::turn::{PIECE, listen, send};
 use receipts::{Ended, Receipt};
@@ -240,6 +240,14 @@ impl<T: Transport> Connections<T> {
     {
         let connection = self.connections.get(key)?;
         Some(connection.number())
+    }
+
+    /// The key of the viewer with a number; None where it isn't connected.
+    pub fn key_of(&self, viewer: u64) -> Option<usize>
+        ensures found { IfSome result (λ key. number_at self.now.slots key ≡ Some viewer) }
+        ensures none { result ≡ None → (key : ℕ) → number_at self.now.slots key ≢ Some viewer }
+    {
+        key_of(&self.connections, viewer)
     }
 
     /// The application is told that a viewer connected.

@@ -19,6 +19,7 @@ mod canvas;
 mod connection;
 mod connections;
 mod keys;
+mod laws;
 mod listing;
 mod recording;
 mod transport;
@@ -27,6 +28,9 @@ mod turn;
 pub use application::Application;
 pub use canvas::Canvas;
 pub use connections::{Connections, Departed, Readiness};
+pub use laws::drawn_is_served;
 pub use receipts::{Ended, Receipt};
-pub use screen::{Config, Fault, History, Input, Listed, Rect, Region, Screen, ScreenError};
+pub use screen::{
+    Config, Drawing, Fault, History, Input, Listed, Rect, Region, Screen, ScreenError,
+};
 pub use transport::{Both, Transport};

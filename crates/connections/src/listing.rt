@@ -1,8 +1,8 @@
 //! Which connections are to be looked at.
 
-ghost use Rattle.std.specs.Prelude.{◌≡◌, ℕ, ◌<◌, ◌⊎◌, Some, true, false, OnOk, length, slice_index_or};
+ghost use Rattle.std.specs.Prelude.{◌≡◌, ℕ, ◌<◌, ◌⊎◌, Some, None, ◌≢◌, true, false, IfSome, OnOk, length, slice_index_or};
 ghost use Rattle.connections.specs.Among.{is_among};
-ghost use Rattle.connections.specs.Serving.{at_key, may_ask_at, may_cut_at, works_at};
+ghost use Rattle.connections.specs.Serving.{at_key, number_at, may_ask_at, may_cut_at, works_at};
 
 use crate::connection::Connection;
 use crate::keys::KeySet;
@@ -28,6 +28,19 @@ fn may_ask<T: Transport>(connections: &Slab<Connection<T>>, key: usize) -> bool
         Some(connection) => connection.may_ask(),
         None => false,
     }
+}
+
+/// The key of the viewer with a number, if it is connected.
+pub(crate) fn key_of<T: Transport>(connections: &Slab<Connection<T>>, viewer: u64) -> Option<usize>
+    ensures found { IfSome result (λ key. number_at connections.now.slots key ≡ Some viewer) }
+    ensures none { result ≡ None → (key : ℕ) → number_at connections.now.slots key ≢ Some viewer }
+{
+    for (key, connection) in connections {
+        if connection.number() == viewer {
+            return Some(key);
+        }
+    }
+    None
 }
 
 /// The keys of all connections are put on the agenda.

@@ -1,11 +1,11 @@
 //! The loop.
 
-ghost use Rattle.std.specs.Prelude.{◌≡◌, [], None, Err, IfOk, OnOk, MatchOption, is_some, count_by};
+ghost use Rattle.std.specs.Prelude.{◌≡◌, ◌≢◌, ℕ, [], None, Some, Ok, Err, false, IfOk, OnOk, MatchOption, is_some, count_by};
 ghost use Rattle.std.specs.Borrow.{sem};
 ghost use Rattle.std.specs.Duration.{as_nanos};
 ghost use Rattle.scene.specs.declared.Config.{Config};
 ghost use Rattle.scene.specs.Alone.{config_refusal};
-ghost use Rattle.connections.specs.Serving.{Serves};
+ghost use Rattle.connections.specs.Serving.{Serves, number_at};
 ghost use Rattle.event_loop.specs.declared.event_loop.WhenFull.TheVariants as when_full;
 ghost use Rattle.event_loop.specs.Lending.{lends_canvas};
 ghost use Rattle.event_loop.specs.declared.event_loop.LoopError.TheVariants as error;
@@ -24,6 +24,7 @@ use std::io;
 use std::io::ErrorKind;
 use std::marker::Model;
 use std::net::Net;
+use std::os::fd::{AsRawFd, RawFd};
 use std::time::{Clock, Duration, Instant};
 
 /// How many connections are accepted in one turn, at most.
@@ -242,6 +243,26 @@ impl EventLoop {
     /// What ends a wait from another thread: the application is told that it was woken. One loop has one waker.
     pub fn waker(&self) -> io::Result<Waker> {
         self.poller.waker()
+    }
+
+    /// A viewer is let go, as one that was closed (`rfbCloseClient` of `rfb.h`): it is heard no more, and its connection is closed in
+    /// a later turn, once what waits for it is written. Whether one had the number; after an `AllocError` it is connected still.
+    pub fn close_viewer(&mut self, viewer: u64) -> Result<bool, AllocError>
+        ensures served { GoesOnServing self.old self.new }
+        ensures none { result ≡ Ok false → (key : ℕ) → number_at self.old.slots key ≢ Some viewer }
+    {
+        let Some(key) = self.connections.key_of(viewer) else {
+            return Ok(false);
+        };
+        self.connections.close(key)?;
+        Ok(true)
+    }
+
+    /// How long a turn without a timeout would wait now, where no socket becomes ready; None without end. A program with a loop of its
+    /// own takes a turn after this time, or once the loop's handle (`AsRawFd`) is ready to be read.
+    pub fn longest_wait<C: Clock>(&self, clock: &C) -> Result<Option<Duration>, LoopError> {
+        let now = now_by(clock)?;
+        Ok(self.wait_for(now, None))
     }
 
     /// One turn (`rfbProcessEvents` of `rfb.h`). Waits until something is ready, the application's time comes, or the time is up,
@@ -530,5 +551,12 @@ impl EventLoop {
         self.may_accept = true;
         self.connections.tell_left(departed.receipt, application)?;
         Ok(true)
+    }
+}
+
+/// For a program with a loop of its own: `poll` and `epoll` find it ready to be read where a socket of the loop's is ready.
+impl AsRawFd for EventLoop {
+    fn as_raw_fd(&self) -> RawFd {
+        self.poller.handle()
     }
 }

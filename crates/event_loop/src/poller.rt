@@ -7,6 +7,7 @@ use mio::{Events, Interest, Poll, Token, Waker};
 use std::alloc::Global;
 use std::io;
 use std::net::Net;
+use std::os::fd::{AsRawFd, RawFd};
 use std::time::Duration;
 
 /// How many sockets are reported at once, at most.
@@ -63,6 +64,11 @@ impl Poller {
     /// Waits until a socket is ready or the time is up.
     pub fn wait(&mut self, timeout: Option<Duration>) -> io::Result<()> {
         self.poll.poll(&mut self.events, timeout)
+    }
+
+    /// The system's handle that is ready to be read where something was found that no wait has told yet.
+    pub fn handle(&self) -> RawFd {
+        self.poll.as_raw_fd()
     }
 
     /// What was found at the last wait.

@@ -1,5 +1,5 @@
 -- Calls that draw.
-use Rattle.std.proofs.Common.{◌≡◌, ◌≢◌, ℕ, ℤ, List, [], ◌∷◌, ◌++◌, Option, Some, None, Result, Ok, Err, refl, sym, ap, ◌∙◌, inl, inr}
+use Rattle.std.proofs.Common.{◌≡◌, ◌≢◌, ℕ, ℤ, List, [], ◌∷◌, ◌++◌, Option, Some, None, Result, Ok, Err, refl, sym, ap, ◌∙◌, inl, inr, subst}
 use Rattle.std.proofs.lemmas.Option.{same_Some}
 use Rattle.std.specs.Prelude.{OnOk, OnErr, IsOkUnless, option_map, not, false}
 use Rattle.std.specs.List.{list_any}
@@ -12,8 +12,8 @@ use Rattle.scene.specs.declared.ScreenError.{ScreenError}
 use Rattle.scene.specs.declared.ScreenError.TheVariants as refusals
 use Rattle.scene.specs.Refusals.{Refuses}
 use Rattle.screen.specs.State.{State, state, refusal}
-use Rattle.screen_desk.specs.Codes.{Answers, code_of, done, done_code}
-use Rattle.screen_desk.specs.Desk.{Standing, IsListOf}
+use Rattle.screen_desk.specs.Codes.{Answers, IsRefusal, code_of, done, done_code, shut}
+use Rattle.screen_desk.specs.Desk.{Standing, StandsFor, IsListOf, due_by, far_or_none, region_due}
 use Rattle.screen_desk.specs.Calls.{Draws, DrawsRegion}
 
 -- no refusal has the code of what is done
@@ -65,29 +65,33 @@ draws desk before s t f e result code output inputs text view is same code_is st
     refused = λ not_done. ap standing err;
   }
 
--- and for the places of rectangles
-pub draws_region : (rects places : List Rect) (desk : Standing) (before : Option State) (s t : State) (f : Event) (event : List Rect → Event) (result : Result (Unit {0}) ScreenError) (code : ℤ) (output : List (ℕ × List ℕ)) (inputs : List (ℕ × Input)) (text : List ℕ)
-    → record { screen = before; output = output; inputs = inputs; text = text } ≡ desk → before ≡ Some s → list_any (λ r. not (in_range r)) rects ≡ false → IsListOf rects places → f ≡ event places → code ≡ done_code result
-    → ((c : Config) (list : List Event) → s ≡ state c list → OnOk result (t ≡ state c (list ++ f ∷ []))) → IsOkUnless result refusals.OutOfMemory → OnErr result (t ≡ s)
-    → DrawsRegion rects event desk (record { screen = Some t; output = output; inputs = inputs; text = text }) code
-draws_region rects places desk before s t f event result code output inputs text view is near list_of same code_is step refuses err = rw (sym view) (rw is (rw code_is (go result step refuses err))) where
-  standing : State → Standing
-  standing s = record { screen = Some s; output = output; inputs = inputs; text = text }
+-- a drawing call that can't be refused but for memory, for the places of rectangles
+pub draws_places : (rects places : List Rect) (event : List Rect → Event) (e : Event) (old new : Standing) (code : ℤ) → e ≡ event places → ((s : State) → refusal s e ≡ None) → IsListOf rects places → region_due old rects ≡ None
+    → Draws e old new code → DrawsRegion rects event old new code
+draws_places rects places event e old new code same free list_of accepted d = record {
+  answer = subst (λ o. Answers o (λ n. n ≡ done) code) (sym accepted) (answers old.screen refl d.answer);
+  step = λ is_done. (places, (list_of, λ c list stands. subst (λ (f : Event). StandsFor c (list ++ f ∷ []) new) same (d.step c list stands is_done)));
+  same = d.same;
+  refused = d.refused;
+}
+  where
+    answers : (o : Option State) → old.screen ≡ o → Answers (due_by o e) (λ n. n ≡ done) code → Answers None (λ n. n ≡ done) code
+    answers None is h = let two : ◌≡◌ {A = Option ℤ} (Some shut) None = ap (λ o. elim o [ None ↦ Some shut | Some s ↦ far_or_none (list_any (λ r. not (in_range r)) rects) ]) (sym is) ∙ accepted in absurd cc
+    answers (Some s) is h = subst (λ o. Answers (option_map code_of o) (λ n. n ≡ done) code) (free s) h
 
-  go : (result : Result (Unit {0}) ScreenError) → ((c : Config) (list : List Event) → s ≡ state c list → OnOk result (t ≡ state c (list ++ f ∷ []))) → IsOkUnless result refusals.OutOfMemory → OnErr result (t ≡ s)
-      → DrawsRegion rects event (standing s) (standing t) (done_code result)
-  go (Ok x) step refuses err = record {
-    answer = rw near (inl refl);
-    step = λ is_done. (places, (list_of, λ c list stands. rw (sym same) (ap Some (step c list (same_Some _ _ stands)))));
-    same = refl;
-    refused = λ not_done. absurd (not_done refl);
-  }
-  go (Err x) step refuses err = record {
-    answer = rw near (inr (ap code_of refuses));
-    step = λ is_done. absurd (never_done x is_done);
-    same = refl;
-    refused = λ not_done. ap standing err;
-  }
+-- a refusal
+pub undrawn_places : (rects : List Rect) (event : List Rect → Event) (desk : Standing) (code : ℤ) → IsRefusal (region_due desk rects) code → DrawsRegion rects event desk desk code
+undrawn_places rects event desk code h = record {
+  answer = never (region_due desk rects) h.answer;
+  step = λ is_done. absurd (h.refuses is_done);
+  same = refl;
+  refused = λ not_done. refl;
+}
+  where
+    never : (o : Option ℤ) → Answers o (λ n. ⊥) code → Answers o (λ n. n ≡ done) code
+    never None (inl no) = absurd no
+    never None (inr memory) = inr memory
+    never (Some refusal) same = same
 
 -- what is refused is refused
 pub refuses-so : {X : Type 0} (result : Result X ScreenError) (due : Option ScreenError) (e : ScreenError) → due ≡ Some e → result ≡ Err e → Refuses result due

@@ -1,5 +1,5 @@
 -- The numbers that calls answer: 0 and more where they are done, below 0 where they are refused.
-use Rattle.std.specs.Prelude.{◌≡◌, ◌⊎◌, ℕ, ◌+◌, ℤ, pos, neg_ℤ, Bool, if◌then◌else◌, Option, Some, None, Result, Ok, Err}
+use Rattle.std.specs.Prelude.{◌≡◌, ◌≢◌, ◌⊎◌, ℕ, ◌+◌, ℤ, pos, neg_ℤ, Bool, if◌then◌else◌, Option, Some, None, Result, Ok, Err}
 use Rattle.messages.specs.declared.Fault.{Fault}
 use Rattle.messages.specs.declared.Fault.TheVariants as fault
 use Rattle.scene.specs.declared.ScreenError.{ScreenError}
@@ -71,3 +71,8 @@ fault_or_code (Err e) = code_of e
 abbrev pub Answers : Option ℤ → (ℤ → Type 0) → ℤ → Type 0
 Answers None IsGiven code = IsGiven code ⊎ (code ≡ out_of_memory)
 Answers (Some refusal) IsGiven code = code ≡ refusal
+
+-- a number is the code of a refusal: of the one that is due, and where none is, of that for memory
+pub record IsRefusal (due : Option ℤ) (code : ℤ) : Type 0 where
+  pub answer : Answers due (λ n. ⊥) code
+  pub refuses : code ≢ done

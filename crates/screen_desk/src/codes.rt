@@ -1,7 +1,10 @@
 //! The numbers that calls answer.
 
-ghost use Rattle.std.specs.Prelude.{◌≡◌, pos};
+ghost use Rattle.std.specs.Prelude.{◌≡◌, ◌≢◌, pos, Option, option_map, MatchResult};
+ghost use Rattle.scene.specs.declared.ScreenError.{ScreenError};
+ghost use Rattle.scene.specs.Refusals.{Refuses};
 ghost use Rattle.screen_desk.specs.Codes as code;
+ghost use Rattle.screen_desk.specs.Codes.{Answers};
 
 use screen::{Fault, ScreenError};
 
@@ -50,8 +53,10 @@ pub fn fault_code(fault: Option<Fault>) -> i32
 }
 
 /// 0, or the code of a refusal.
-pub(crate) fn done_or(answer: Result<(), ScreenError>) -> i32
-    ensures { result ≡ code.done_code answer }
+pub fn done_or(answer: Result<(), ScreenError>) -> i32
+    ensures code { result ≡ code.done_code answer }
+    ensures done { MatchResult answer (λ _. result ≡ code.done) (λ _. result ≢ code.done) }
+    ensures answers { (due : Option ScreenError) → Refuses answer due → Answers (option_map code.code_of due) (λ n. n ≡ code.done) result }
 {
     match answer {
         Ok(()) => 0,

@@ -1,11 +1,11 @@
 //! Rectangles as another language lays them out.
 
-ghost use Rattle.std.specs.Prelude.{◌≡◌, map, IfOk, not};
+ghost use Rattle.std.specs.Prelude.{◌≡◌, map, IfOk, IsOkUnless, not, false};
 ghost use Rattle.std.specs.List.{list_any};
 ghost use Rattle.region.specs.RegionView.{in_range, coordinate as coordinate_in_range};
-ghost use Rattle.screen_desk.specs.Desk.{rect_of};
+ghost use Rattle.screen_desk.specs.Desk.{rect_of, IsListOf};
 
-use screen::Rect;
+use screen::{Rect, Region, ScreenError};
 use std::alloc::{AllocError, Global};
 
 /// The places (x, y) with x1 <= x < x2 and y1 <= y < y2; none where x1 >= x2 or y1 >= y2.
@@ -36,7 +36,7 @@ fn is_far(corners: Corners) -> bool
 }
 
 /// Whether a coordinate of one is not from -2^20 to 2^20.
-pub(crate) fn are_far(list: &[Corners]) -> bool
+pub fn are_far(list: &[Corners]) -> bool
     ensures { result ≡ list_any (λ r. not (in_range r)) (map rect_of list.now) }
 {
     for corners in list {
@@ -59,7 +59,7 @@ fn rect_of(corners: Corners) -> Rect
 }
 
 /// The same rectangles.
-pub(crate) fn rects_of(alloc: Global, list: &[Corners]) -> Result<Vec<Rect>, AllocError>
+fn rects_of(alloc: Global, list: &[Corners]) -> Result<Vec<Rect>, AllocError>
     ensures { IfOk result (λ rects. rects.items ≡ map rect_of list.now) }
 {
     let mut rects = Vec::with_capacity(alloc, list.len())?;
@@ -67,4 +67,16 @@ pub(crate) fn rects_of(alloc: Global, list: &[Corners]) -> Result<Vec<Rect>, All
         rects.push(rect_of(*corners))?;
     }
     Ok(rects)
+}
+
+/// The places of rectangles whose coordinates are from -2^20 to 2^20. `OutOfMemory` where the room for them is refused.
+pub fn region_of(alloc: Global, list: &[Corners]) -> Result<Region, ScreenError>
+    requires { list_any (λ r. not (in_range r)) (map rect_of list.now) ≡ false }
+    ensures places { IfOk result (λ region. IsListOf (map rect_of list.now) region.list) }
+    ensures refused { IsOkUnless result ScreenError.OutOfMemory }
+{
+    let rects = rects_of(alloc, list)?;
+    let region = Region::from_rects_in_range(alloc, &rects)?;
+    region.list_is_canonical();
+    Ok(region)
 }

@@ -6,29 +6,28 @@ ghost use Rattle.messages.specs.Reading.{fault_in_rest, is_open_rest};
 ghost use Rattle.viewer.specs.Viewer.{is_asking};
 ghost use Rattle.scene.specs.declared.Event.{Event};
 ghost use Rattle.scene.specs.declared.History.TheVariants.{NotKept};
-ghost use Rattle.std.specs.Prelude.{ℤ, IfOk, OnOk, OnErr, IsOkUnless, MatchResult, is_some, not, false};
-ghost use Rattle.std.specs.List.{list_any};
-ghost use Rattle.region.specs.Region.{covers, IsCanonical};
-ghost use Rattle.region.specs.RegionView.{in_range};
+ghost use Rattle.std.specs.Prelude.{ℤ, IfOk, IfErr, OnOk, OnErr, IsOkUnless, MatchResult, is_some, not, false};
 ghost use Rattle.scene.specs.declared.Config.{Config};
 ghost use Rattle.scene.specs.Alone.{config_refusal, some_bytes};
 ghost use Rattle.scene.specs.Answers.{answer_to};
+ghost use Rattle.scene.specs.Calls.{event_of};
 ghost use Rattle.scene.specs.Refusals.{Refuses};
 ghost use Rattle.screen.specs.State.{state, refusal, viewer_at};
 ghost use Rattle.screen_desk.specs.Codes as code;
+ghost use Rattle.screen_desk.specs.Codes.{IsRefusal};
 ghost use Rattle.screen_desk.specs.Calls.{Opens, Draws, DrawsRegion, Connects, Hears, Cuts, Closes, TellsPending, Gives, Fetches, Shows, Tells, numbers_of, of_viewer, colour_at};
-ghost use Rattle.screen_desk.specs.Desk.{nothing_there, rect_of, config_of, put_output};
+ghost use Rattle.screen_desk.specs.Desk.{nothing_there, rect_of, config_of, put_output, region_due, IsListOf};
 ghost use Rattle.screen_desk.specs.Inputs.{in_order, told_by};
 
 use crate::codes::{
     OFF_SCREEN, OUT_OF_RANGE, OUTPUT_WAITS, SHUT, code_of, done_or, fault_or, truth_or,
 };
-use crate::corners::{Corners, are_far, rects_of};
+use crate::corners::{Corners, are_far, region_of};
 use crate::inputs::Inputs;
 use crate::output::{Output, copy_to, drop_output, fetch_output, first_for, put_bytes};
 use crate::told::Told;
 use listed::Listed;
-use screen::{Config, Fault, History, Rect, Region, Screen, ScreenError, config_refusal};
+use screen::{Config, Drawing, Fault, History, Rect, Region, Screen, ScreenError, config_refusal};
 use std::alloc::{AllocError, Global};
 use std::marker::Model;
 
@@ -74,19 +73,6 @@ fn new_screen(
         history: History::NotKept,
     };
     Screen::new(alloc, config)
-}
-
-/// The places of rectangles whose coordinates are from -2^20 to 2^20. `OutOfMemory` where the room for them is refused.
-fn region_of(alloc: Global, list: &[Corners]) -> Result<Region, ScreenError>
-    requires { list_any (λ r. not (in_range r)) (map rect_of list.now) ≡ false }
-    ensures canonical { IfOk result (λ region. IsCanonical region.list) }
-    ensures places { IfOk result (λ region. (x y : ℤ) → covers region.list x y ≡ covers (map rect_of list.now) x y) }
-    ensures refused { IsOkUnless result ScreenError.OutOfMemory }
-{
-    let rects = rects_of(alloc, list)?;
-    let region = Region::from_rects_in_range(alloc, &rects)?;
-    region.list_is_canonical();
-    Ok(region)
 }
 
 /// A count of at most 2^30, or the code of a refusal.
@@ -204,34 +190,56 @@ impl Desk {
         self.text = Listed::new(self.alloc);
     }
 
-    /// `Screen::paint`.
-    pub fn paint(&mut self, x1: i32, y1: i32, x2: i32, y2: i32, colours: &[u32]) -> i32
-        ensures { Draws (Event.Paint (record { x1 = x1; y1 = y1; x2 = x2; y2 = y2 }) colours.now) self.old self.new result }
+    /// `Screen::draw`: one of the calls below, as a value.
+    fn draw(&mut self, drawing: &Drawing<'_>) -> i32
+        ensures { Draws (event_of drawing.now) self.old self.new result }
     {
         let Some(screen) = &mut self.screen else {
             return SHUT;
         };
-        done_or(screen.paint(Rect { x1, y1, x2, y2 }, colours))
+        done_or(screen.draw(drawing))
+    }
+
+    /// The places of a list of rectangles, or the code of the refusal: `OUT_OF_RANGE` where a coordinate is not from -2^20 to 2^20.
+    fn places_of(&self, list: &[Corners]) -> Result<Region, i32>
+        ensures places { IfOk result (λ region. IsListOf (map rect_of list.now) region.list) }
+        ensures accepted { OnOk result (region_due self.now (map rect_of list.now) ≡ None) }
+        ensures refused { IfErr result (λ number. IsRefusal (region_due self.now (map rect_of list.now)) number) }
+    {
+        if self.screen.is_none() {
+            return Err(SHUT);
+        }
+        if are_far(list) {
+            return Err(OUT_OF_RANGE);
+        }
+        match region_of(self.alloc, list) {
+            Ok(region) => Ok(region),
+            Err(e) => Err(code_of(e)),
+        }
+    }
+
+    /// `Screen::paint`.
+    pub fn paint(&mut self, x1: i32, y1: i32, x2: i32, y2: i32, colours: &[u32]) -> i32
+        ensures { Draws (Event.Paint (record { x1 = x1; y1 = y1; x2 = x2; y2 = y2 }) colours.now) self.old self.new result }
+    {
+        let rect = Rect { x1, y1, x2, y2 };
+        self.draw(&Drawing::Paint { rect, colours })
     }
 
     /// `Screen::write_pixels`.
     pub fn write_pixels(&mut self, x1: i32, y1: i32, x2: i32, y2: i32, colours: &[u32]) -> i32
         ensures { Draws (Event.Write (record { x1 = x1; y1 = y1; x2 = x2; y2 = y2 }) colours.now) self.old self.new result }
     {
-        let Some(screen) = &mut self.screen else {
-            return SHUT;
-        };
-        done_or(screen.write_pixels(Rect { x1, y1, x2, y2 }, colours))
+        let rect = Rect { x1, y1, x2, y2 };
+        self.draw(&Drawing::Write { rect, colours })
     }
 
     /// `Screen::mark_rect` (`rfbMarkRectAsModified` of `rfb.h`).
     pub fn mark_rect(&mut self, x1: i32, y1: i32, x2: i32, y2: i32) -> i32
         ensures { Draws (Event.Mark (record { x1 = x1; y1 = y1; x2 = x2; y2 = y2 } ∷ [])) self.old self.new result }
     {
-        let Some(screen) = &mut self.screen else {
-            return SHUT;
-        };
-        done_or(screen.mark_rect(x1, y1, x2, y2))
+        let rect = Rect { x1, y1, x2, y2 };
+        self.draw(&Drawing::MarkRect(rect))
     }
 
     /// `Screen::schedule_copy_rect` (`rfbScheduleCopyRect` of `rfb.h`).
@@ -246,50 +254,37 @@ impl Desk {
     ) -> i32
         ensures { Draws (Event.ScheduleCopy (record { x1 = x1; y1 = y1; x2 = x2; y2 = y2 } ∷ []) dx dy) self.old self.new result }
     {
-        let Some(screen) = &mut self.screen else {
-            return SHUT;
-        };
-        done_or(screen.schedule_copy_rect(x1, y1, x2, y2, dx, dy))
+        let rect = Rect { x1, y1, x2, y2 };
+        self.draw(&Drawing::ScheduleCopyRect { rect, dx, dy })
     }
 
     /// `Screen::do_copy_rect` (`rfbDoCopyRect` of `rfb.h`).
     pub fn do_copy_rect(&mut self, x1: i32, y1: i32, x2: i32, y2: i32, dx: i32, dy: i32) -> i32
         ensures { Draws (Event.DoCopy (record { x1 = x1; y1 = y1; x2 = x2; y2 = y2 } ∷ []) dx dy) self.old self.new result }
     {
-        let Some(screen) = &mut self.screen else {
-            return SHUT;
-        };
-        done_or(screen.do_copy_rect(x1, y1, x2, y2, dx, dy))
+        let rect = Rect { x1, y1, x2, y2 };
+        self.draw(&Drawing::DoCopyRect { rect, dx, dy })
     }
 
     /// `Screen::bell` (`rfbSendBell` of `rfb.h`).
     pub fn bell(&mut self) -> i32
         ensures { Draws (Event.Bell) self.old self.new result }
     {
-        let Some(screen) = &mut self.screen else {
-            return SHUT;
-        };
-        done_or(screen.bell())
+        self.draw(&Drawing::Bell)
     }
 
     /// `Screen::cut_text` (`rfbSendServerCutText` of `rfb.h`).
     pub fn cut_text(&mut self, text: &[u8]) -> i32
         ensures { Draws (Event.CutText text.now) self.old self.new result }
     {
-        let Some(screen) = &mut self.screen else {
-            return SHUT;
-        };
-        done_or(screen.cut_text(text))
+        self.draw(&Drawing::CutText(text))
     }
 
     /// `Screen::new_framebuffer` (`rfbNewFramebuffer` of `rfb.h`).
     pub fn new_framebuffer(&mut self, width: u32, height: u32) -> i32
         ensures { Draws (Event.Resize width height) self.old self.new result }
     {
-        let Some(screen) = &mut self.screen else {
-            return SHUT;
-        };
-        done_or(screen.new_framebuffer(width, height))
+        self.draw(&Drawing::NewFramebuffer { width, height })
     }
 
     /// `Screen::mark_region` (`rfbMarkRegionAsModified` of `rfb.h`) for the places of a list of rectangles. `OUT_OF_RANGE` where a
@@ -297,48 +292,36 @@ impl Desk {
     pub fn mark_region(&mut self, list: &[Corners]) -> i32
         ensures { DrawsRegion (map rect_of list.now) (λ places. Event.Mark places) self.old self.new result }
     {
-        let Some(screen) = &mut self.screen else {
-            return SHUT;
-        };
-        if are_far(list) {
-            return OUT_OF_RANGE;
+        match self.places_of(list) {
+            Ok(region) => self.draw(&Drawing::MarkRegion(&region)),
+            Err(code) => code,
         }
-        let Ok(region) = region_of(self.alloc, list) else {
-            return code_of(ScreenError::OutOfMemory);
-        };
-        done_or(screen.mark_region(&region))
     }
 
     /// `Screen::schedule_copy_region` (`rfbScheduleCopyRegion` of `rfb.h`), likewise.
     pub fn schedule_copy_region(&mut self, list: &[Corners], dx: i32, dy: i32) -> i32
         ensures { DrawsRegion (map rect_of list.now) (λ places. Event.ScheduleCopy places dx dy) self.old self.new result }
     {
-        let Some(screen) = &mut self.screen else {
-            return SHUT;
-        };
-        if are_far(list) {
-            return OUT_OF_RANGE;
+        match self.places_of(list) {
+            Ok(region) => {
+                let region = &region;
+                self.draw(&Drawing::ScheduleCopyRegion { region, dx, dy })
+            }
+            Err(code) => code,
         }
-        let Ok(region) = region_of(self.alloc, list) else {
-            return code_of(ScreenError::OutOfMemory);
-        };
-        done_or(screen.schedule_copy_region(&region, dx, dy))
     }
 
     /// `Screen::do_copy_region` (`rfbDoCopyRegion` of `rfb.h`), likewise.
     pub fn do_copy_region(&mut self, list: &[Corners], dx: i32, dy: i32) -> i32
         ensures { DrawsRegion (map rect_of list.now) (λ places. Event.DoCopy places dx dy) self.old self.new result }
     {
-        let Some(screen) = &mut self.screen else {
-            return SHUT;
-        };
-        if are_far(list) {
-            return OUT_OF_RANGE;
+        match self.places_of(list) {
+            Ok(region) => {
+                let region = &region;
+                self.draw(&Drawing::DoCopyRegion { region, dx, dy })
+            }
+            Err(code) => code,
         }
-        let Ok(region) = region_of(self.alloc, list) else {
-            return code_of(ScreenError::OutOfMemory);
-        };
-        done_or(screen.do_copy_region(&region, dx, dy))
     }
 
     /// A black screen with no viewer (`rfbGetScreen` of `rfb.h`); what was open is shut. `name` is the desktop's (RFC 6143, 7.3.2), of at

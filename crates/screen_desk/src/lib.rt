@@ -19,8 +19,9 @@ mod inputs;
 mod output;
 mod told;
 
-pub use codes::{OFF_SCREEN, OUT_OF_RANGE, OUTPUT_WAITS, SHUT, code_of, fault_code};
-pub use corners::Corners;
+pub use codes::{OFF_SCREEN, OUT_OF_RANGE, OUTPUT_WAITS, SHUT, code_of, done_or, fault_code};
+pub use corners::{Corners, are_far, region_of};
 pub use desk::Desk;
+pub use output::copy_to;
 pub use screen::{Fault, Input, ScreenError};
-pub use told::Told;
+pub use told::{Told, told_as};

@@ -34,7 +34,7 @@ impl Model for Output {
 }
 
 /// Copies as many of the first items as there is room for, at most 2^30. How many they are; the rest of the room stays.
-pub(crate) fn copy_to<T: Copy>(room: &mut [T], items: &[T]) -> usize
+pub fn copy_to<T: Copy>(room: &mut [T], items: &[T]) -> usize
     ensures count { result ≡ min (min (length items.now) (length room.old)) (2 ^ 30) }
     ensures room { room.new ≡ take result items.now ++ drop result room.old }
 {

@@ -49,7 +49,7 @@ const NOTHING: Told = Told {
 };
 
 /// What a viewer told, in numbers.
-pub(crate) fn told_as(viewer: u64, input: &Input) -> Told
+pub fn told_as(viewer: u64, input: &Input) -> Told
     ensures { result ≡ told_as viewer input.now }
 {
     match input {

@@ -1,99 +1,104 @@
 -- Calls that draw.
 use Rattle.std.proofs.Common.{◌≡◌, ◌≢◌, ℕ, ℤ, true, List, [], ◌∷◌, ◌++◌, Option, Some, None, Result, Ok, Err, refl, sym, ap, ◌∙◌, inl, inr, subst}
-use Rattle.std.specs.Prelude.{OnOk, OnErr, IsOkUnless, option_map, not, false}
+use Rattle.std.specs.Prelude.{OnOk, OnErr, MatchResult, option_map, not}
 use Rattle.std.specs.List.{list_any}
-use Rattle.std.proofs.lemmas.Bool.{and_from}
 use Rattle.region.specs.declared.Rect.{Rect}
 use Rattle.region.specs.RegionView.{in_range}
 use Rattle.messages.specs.declared.Input.{Input}
 use Rattle.scene.specs.declared.Config.{Config}
 use Rattle.scene.specs.declared.Event.{Event}
 use Rattle.scene.specs.declared.ScreenError.{ScreenError}
-use Rattle.scene.specs.declared.ScreenError.TheVariants as refusals
+use Rattle.scene.specs.declared.call.Drawing.{Drawing}
+use Rattle.scene.specs.declared.call.Drawing.TheVariants.{Write, Paint, MarkRect, MarkRegion, ScheduleCopyRect, ScheduleCopyRegion, DoCopyRect, DoCopyRegion, Bell, CutText, NewFramebuffer}
 use Rattle.scene.specs.Alone.{owner_of}
 use Rattle.scene.specs.Answers.{is_drawing}
+use Rattle.scene.specs.Calls.{event_of}
 use Rattle.scene.specs.Refusals.{Refuses}
 use Rattle.screen.specs.State.{State, state, refusal}
-use Rattle.connections.specs.Drawing.{Surface, are_drawings}
-use Rattle.connections.specs.Serving.{Carried, Serving, Serves}
-use Rattle.connections.proofs.Given.{SameFor, same-drawings}
-use Rattle.connections.proofs.Turns.{served-same}
-use Rattle.connections.proofs.Everyone.{serves-same}
+use Rattle.connections.specs.Drawing.{Surface, IsNotedAfter}
+use Rattle.connections.specs.Serving.{Serving, drawn_is_served}
 use Rattle.event_loop.specs.Sockets.{sockets}
-use Rattle.screen_desk.specs.Codes.{Answers, code_of, done, done_code}
-use Rattle.screen_desk.specs.Desk.{IsListOf}
-use Rattle.screen_desk.proofs.Drawing.{never_done, answer_ok, answer_err}
+use Rattle.screen_desk.specs.Codes.{Answers, IsRefusal, code_of, done, shut}
+use Rattle.screen_desk.specs.Desk.{IsListOf, due_by, far_or_none}
 use Rattle.server_desk.specs.declared.visits.Visit.{Visit}
-use Rattle.server_desk.specs.Desk.{Standing, StandsFor, IsAsBefore}
+use Rattle.server_desk.specs.Desk.{Standing, StandsFor, region_due}
 use Rattle.server_desk.specs.Calls.{Draws, DrawsRegion}
 
-abbrev drawn_on : Serving → Surface → Serving
-drawn_on s t = record s { surface = t }
+-- a drawing call is nobody's
+pub drawing_own : (d : Drawing) → is_drawing (owner_of (event_of d)) ≡ true
+drawing_own (Write rect colours) = refl
+drawing_own (Paint rect colours) = refl
+drawing_own (MarkRect rect) = refl
+drawing_own (MarkRegion region) = refl
+drawing_own (ScheduleCopyRect rect dx dy) = refl
+drawing_own (ScheduleCopyRegion region dx dy) = refl
+drawing_own (DoCopyRect rect dx dy) = refl
+drawing_own (DoCopyRegion region dx dy) = refl
+drawing_own Bell = refl
+drawing_own (CutText text) = refl
+drawing_own (NewFramebuffer width height) = refl
 
--- after a drawing call each viewer is served by the list with the call behind it
-serves-drawn : (c : Config) (began : ℕ → Carried) (list : List Event) (e : Event) (s : Serving) (t : Surface) → owner_of e ≡ None → t.screen ≡ state c (list ++ e ∷ []) → Serves c began list s → Serves c began (list ++ e ∷ []) (drawn_on s t)
-serves-drawn c began list e s t own screen h =
-    let drawings : are_drawings (e ∷ []) ≡ true = and_from _ _ (ap is_drawing own) refl in
-    let stays : (v : ℕ) → SameFor c v list (list ++ e ∷ []) = λ v. same-drawings c v list (e ∷ []) drawings in
-    record {
-      screen = screen;
-      kept = h.kept;
-      each = λ key f there. let g = h.each key f there in (g.0, served-same c list (list ++ e ∷ []) (began f.number) f (stays f.number) g.1);
-      apart = h.apart;
-      unused = λ v free. let g = h.unused v free in ((stays v).0 ∙ g.0, (stays v).1 ∙ g.1);
-    }
+-- what is known of a call by its code
+abbrev IsCodeOf : Result (Unit {0}) ScreenError → ℤ → Type 0
+IsCodeOf result code = MatchResult result (λ _. code ≡ done) (λ _. code ≢ done)
 
--- after a refusal by the list as it was
-serves-undrawn : (c : Config) (began : ℕ → Carried) (list : List Event) (s : Serving) (t : Surface) → t.screen ≡ s.surface.screen → Serves c began list s → Serves c began list (drawn_on s t)
-serves-undrawn c began list s t screen h = serves-same c began list s (drawn_on s t) screen refl refl refl h
+happened : {P : Type 0} (result : Result (Unit {0}) ScreenError) (code : ℤ) → IsCodeOf result code → code ≡ done → OnOk result P → P
+happened (Ok x) code is is_done p = p
+happened (Err x) code is is_done p = absurd (is is_done)
 
-pub draws : (desk : Standing) (before : Option Serving) (s : Serving) (a t : Surface) (f e : Event) (result : Result (Unit {0}) ScreenError) (code : ℤ) (port : ℕ) (inputs : List (ℕ × Input)) (visits : List Visit) (text : List ℕ) (lost : ℕ)
-    → record { served = before; port = port; inputs = inputs; visits = visits; text = text; lost = lost } ≡ desk → before ≡ Some s → a ≡ s.surface → f ≡ e → owner_of f ≡ None → code ≡ done_code result
-    → ((c : Config) (list : List Event) → a.screen ≡ state c list → OnOk result (t.screen ≡ state c (list ++ f ∷ []))) → Refuses result (refusal a.screen f) → OnErr result (t.screen ≡ a.screen)
-    → Draws e desk (record { served = Some (drawn_on s t); port = port; inputs = inputs; visits = visits; text = text; lost = lost }) code
-draws desk before s a t f e result code port inputs visits text lost view is same event own code_is step refuses err =
-    rw (sym view) (rw is (rw code_is (rw (sym event) (subst (λ (x : Surface). ((c : Config) (list : List Event) → x.screen ≡ state c list → OnOk result (t.screen ≡ state c (list ++ f ∷ []))) → Refuses result (refusal x.screen f) → OnErr result (t.screen ≡ x.screen) → Draws f (standing s) (standing (drawn_on s t)) (done_code result)) (sym same) (go result) step refuses err))))
+was_refused : {P : Type 0} (result : Result (Unit {0}) ScreenError) (code : ℤ) → IsCodeOf result code → code ≢ done → OnErr result P → P
+was_refused (Ok x) code is not_done p = absurd (not_done is)
+was_refused (Err x) code is not_done p = p
+
+pub draws : drawn_is_served → (desk : Standing) (before : Option Serving) (s : Serving) (a t : Surface) (e : Event) (result : Result (Unit {0}) ScreenError) (code : ℤ) (port : ℕ) (inputs : List (ℕ × Input)) (visits : List Visit) (text : List ℕ) (lost : ℕ)
+    → record { served = before; port = port; inputs = inputs; visits = visits; text = text; lost = lost } ≡ desk → before ≡ Some s → a ≡ s.surface → is_drawing (owner_of e) ≡ true → IsCodeOf result code
+    → ((due : Option ScreenError) → Refuses result due → Answers (option_map code_of due) (λ n. n ≡ done) code)
+    → ((c : Config) (list : List Event) → a.screen ≡ state c list → OnOk result (t.screen ≡ state c (list ++ e ∷ []))) → Refuses result (refusal a.screen e) → OnErr result (t.screen ≡ a.screen) → IsNotedAfter e a t
+    → Draws e desk (record { served = Some (record s { surface = t }); port = port; inputs = inputs; visits = visits; text = text; lost = lost }) code
+draws law desk before s a t e result code port inputs visits text lost view is same own code_is answers step refuses err noted =
+    rw (sym view) (rw is (subst (λ (x : Surface). ((c : Config) (list : List Event) → x.screen ≡ state c list → OnOk result (t.screen ≡ state c (list ++ e ∷ []))) → Refuses result (refusal x.screen e) → OnErr result (t.screen ≡ x.screen) → IsNotedAfter e x t → Draws e (standing s) (standing later) code) (sym same) drawn step refuses err noted))
   where
     standing : Serving → Standing
     standing s = record { served = Some s; port = port; inputs = inputs; visits = visits; text = text; lost = lost }
 
-    go : (result : Result (Unit {0}) ScreenError) → ((c : Config) (list : List Event) → s.surface.screen ≡ state c list → OnOk result (t.screen ≡ state c (list ++ f ∷ []))) → Refuses result (refusal s.surface.screen f) → OnErr result (t.screen ≡ s.surface.screen)
-        → Draws f (standing s) (standing (drawn_on s t)) (done_code result)
-    go (Ok x) step refuses err = record {
-      answer = answer_ok {X = Unit {0}} x (refusal s.surface.screen f) (λ n. n ≡ done) done refl refuses;
-      step = λ c list stands is_done. serves-drawn c (sockets c) list f s t own (step c list stands.screen) stands;
+    later : Serving
+    later = record s { surface = t }
+
+    drawn : ((c : Config) (list : List Event) → s.surface.screen ≡ state c list → OnOk result (t.screen ≡ state c (list ++ e ∷ []))) → Refuses result (refusal s.surface.screen e) → OnErr result (t.screen ≡ s.surface.screen) → IsNotedAfter e s.surface t
+        → Draws e (standing s) (standing later) code
+    drawn step refuses err noted = record {
+      answer = answers (refusal s.surface.screen e) refuses;
+      step = λ c list stands is_done. (law c (sockets c) list e s t noted stands).0 own (happened result code code_is is_done (step c list stands.screen));
       same = refl;
-      refused = λ not_done. absurd (not_done refl);
-    }
-    go (Err x) step refuses err = record {
-      answer = answer_err {X = Unit {0}} (Err x) x (refusal s.surface.screen f) (λ n. n ≡ done) refl refuses;
-      step = λ c list stands is_done. absurd (never_done x is_done);
-      same = refl;
-      refused = λ not_done. record { screen = ap Some err; served = λ c list stands. serves-undrawn c (sockets c) list s t err stands; same = refl };
+      refused = λ not_done.
+          let as_before = was_refused result code code_is not_done err in
+          record { screen = ap Some as_before; served = λ c list stands. (law c (sockets c) list e s t noted stands).1 as_before; same = refl };
     }
 
--- and for the places of rectangles
-pub draws_region : (rects places : List Rect) (desk : Standing) (before : Option Serving) (s : Serving) (a t : Surface) (e : Event) (event : List Rect → Event) (result : Result (Unit {0}) ScreenError) (code : ℤ) (port : ℕ) (inputs : List (ℕ × Input)) (visits : List Visit) (text : List ℕ) (lost : ℕ)
-    → record { served = before; port = port; inputs = inputs; visits = visits; text = text; lost = lost } ≡ desk → before ≡ Some s → a ≡ s.surface → owner_of e ≡ None → list_any (λ r. not (in_range r)) rects ≡ false → IsListOf rects places → e ≡ event places → code ≡ done_code result
-    → ((c : Config) (list : List Event) → a.screen ≡ state c list → OnOk result (t.screen ≡ state c (list ++ e ∷ []))) → IsOkUnless result refusals.OutOfMemory → OnErr result (t.screen ≡ a.screen)
-    → DrawsRegion rects event desk (record { served = Some (drawn_on s t); port = port; inputs = inputs; visits = visits; text = text; lost = lost }) code
-draws_region rects places desk before s a t e event result code port inputs visits text lost view is same own near list_of places_are code_is step refuses err =
-    rw (sym view) (rw is (rw code_is (subst (λ (x : Surface). ((c : Config) (list : List Event) → x.screen ≡ state c list → OnOk result (t.screen ≡ state c (list ++ e ∷ []))) → OnErr result (t.screen ≡ x.screen) → DrawsRegion rects event (standing s) (standing (drawn_on s t)) (done_code result)) (sym same) (go result refuses) step err)))
+-- a drawing call that can't be refused but for memory, for the places of rectangles
+pub draws_places : (rects places : List Rect) (event : List Rect → Event) (e : Event) (old new : Standing) (code : ℤ) → e ≡ event places → ((s : State) → refusal s e ≡ None) → IsListOf rects places → region_due old rects ≡ None
+    → Draws e old new code → DrawsRegion rects event old new code
+draws_places rects places event e old new code same free list_of accepted d = record {
+  answer = subst (λ o. Answers o (λ n. n ≡ done) code) (sym accepted) (answers old.served refl d.answer);
+  step = λ is_done. (places, (list_of, λ c list stands. subst (λ (f : Event). StandsFor c (list ++ f ∷ []) new) same (d.step c list stands is_done)));
+  same = d.same;
+  refused = d.refused;
+}
   where
-    standing : Serving → Standing
-    standing s = record { served = Some s; port = port; inputs = inputs; visits = visits; text = text; lost = lost }
+    answers : (o : Option Serving) → old.served ≡ o → Answers (due_by (option_map (λ s. s.surface.screen) o) e) (λ n. n ≡ done) code → Answers None (λ n. n ≡ done) code
+    answers None is h = let two : ◌≡◌ {A = Option ℤ} (Some shut) None = ap (λ o. elim o [ None ↦ Some shut | Some s ↦ far_or_none (list_any (λ r. not (in_range r)) rects) ]) (sym is) ∙ accepted in absurd cc
+    answers (Some s) is h = subst (λ o. Answers (option_map code_of o) (λ n. n ≡ done) code) (free s.surface.screen) h
 
-    go : (result : Result (Unit {0}) ScreenError) → IsOkUnless result refusals.OutOfMemory → ((c : Config) (list : List Event) → s.surface.screen ≡ state c list → OnOk result (t.screen ≡ state c (list ++ e ∷ []))) → OnErr result (t.screen ≡ s.surface.screen)
-        → DrawsRegion rects event (standing s) (standing (drawn_on s t)) (done_code result)
-    go (Ok x) refuses step err = record {
-      answer = rw near (inl refl);
-      step = λ is_done. (places, (list_of, λ c list stands. subst (λ (f : Event). StandsFor c (list ++ f ∷ []) (standing (drawn_on s t))) places_are (serves-drawn c (sockets c) list e s t own (step c list stands.screen) stands)));
-      same = refl;
-      refused = λ not_done. absurd (not_done refl);
-    }
-    go (Err x) refuses step err = record {
-      answer = rw near (inr (ap code_of refuses));
-      step = λ is_done. absurd (never_done x is_done);
-      same = refl;
-      refused = λ not_done. record { screen = ap Some err; served = λ c list stands. serves-undrawn c (sockets c) list s t err stands; same = refl };
-    }
+-- a refusal
+pub undrawn_places : (rects : List Rect) (event : List Rect → Event) (desk : Standing) (code : ℤ) → IsRefusal (region_due desk rects) code → DrawsRegion rects event desk desk code
+undrawn_places rects event desk code h = record {
+  answer = never (region_due desk rects) h.answer;
+  step = λ is_done. absurd (h.refuses is_done);
+  same = refl;
+  refused = λ not_done. record { screen = refl; served = λ c list stands. stands; same = refl };
+}
+  where
+    never : (o : Option ℤ) → Answers o (λ n. ⊥) code → Answers o (λ n. n ≡ done) code
+    never None (inl no) = absurd no
+    never None (inr memory) = inr memory
+    never (Some refusal) same = same

@@ -1,17 +1,18 @@
 -- What the calls of a server's desk do: the number that each answers, and the desk before and after it.
-use Rattle.std.specs.Prelude.{◌≡◌, ◌≢◌, ◌⊎◌, ℕ, ◌^◌, ◌≤◌, min, ℤ, pos, Bool, true, false, ◌<ℤ◌, ◌≤ℤ◌, List, [], ◌∷◌, ◌++◌, length, drop, take, Result, MatchOption, option_map}
+use Rattle.std.specs.Prelude.{◌≡◌, ◌≢◌, ◌⊎◌, ℕ, ◌^◌, ◌≤◌, min, ℤ, pos, Bool, true, false, ◌<ℤ◌, ◌≤ℤ◌, List, [], ◌∷◌, ◌++◌, length, drop, take, Option, Some, None, Result, Ok, MatchOption, option_map}
+use Rattle.std.specs.declared.alloc.AllocError.{AllocError}
 use Rattle.region.specs.declared.Rect.{Rect}
 use Rattle.scene.specs.declared.Config.{Config}
 use Rattle.scene.specs.declared.Event.{Event}
 use Rattle.scene.specs.Alone.{config_refusal}
-use Rattle.connections.specs.Serving.{Serving}
+use Rattle.connections.specs.Serving.{Serving, number_at}
 use Rattle.event_loop.specs.declared.event_loop.LoopError.{LoopError}
 use Rattle.screen_desk.specs.Codes.{Answers, code_of, done, shut}
 use Rattle.screen_desk.specs.Desk.{IsListOf}
 use Rattle.screen_desk.specs.Inputs.{IsFetched}
 use Rattle.screen_desk.specs.declared.told.Told.{Told}
 use Rattle.server_desk.specs.declared.visits.Visit.{Visit}
-use Rattle.server_desk.specs.Codes.{bad_address, cannot_listen, network_failed, turn_code}
+use Rattle.server_desk.specs.Codes.{bad_address, cannot_listen, network_failed, closed_code, turn_code}
 use Rattle.server_desk.specs.Desk.{Standing, StandsFor, IsAsBefore, IsPutBehind, due, region_due}
 
 -- the desk listens, and serves a screen with nothing on it to no viewer yet; or it is as it was
@@ -80,6 +81,17 @@ pub record ShowsText (old new : Standing) (room_old room_new : List ℕ) (code :
 pub record Tells (number : Serving → ℤ) (old new : Standing) (code : ℤ) : Type 0 where
   pub answer : MatchOption old.served (code ≡ shut) (λ s. code ≡ number s)
   pub same : new ≡ old
+
+-- a call changes nothing, and answers some number, or shut
+pub record TellsSome (old new : Standing) (code : ℤ) : Type 0 where
+  pub answer : old.served ≡ None → code ≡ shut
+  pub same : new ≡ old
+
+-- A viewer is let go, where one has the number. Each is served as before, by the list that the screen stood for or that with more events behind it.
+pub record LetsGo (v : ℕ) (old new : Standing) (code : ℤ) : Type 0 where
+  pub answer : MatchOption old.served (code ≡ shut) (λ s. (there : Result Bool AllocError) × (code ≡ closed_code there) × (there ≡ Ok false → (key : ℕ) → number_at s.slots key ≢ Some v))
+  pub served : (c : Config) (list : List Event) → StandsFor c list old → (more : List Event) × StandsFor c (list ++ more) new
+  pub same : new ≡ record old { served = new.served }
 
 -- what a waker answers, by whether it is open
 abbrev pub IsWakeCode : Bool → ℤ → Type 0

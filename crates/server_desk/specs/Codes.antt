@@ -1,10 +1,11 @@
 -- The numbers that calls of a server answer, besides those of a screen's desk.
-use Rattle.std.specs.Prelude.{◌≡◌, ℕ, ℤ, pos, Result, Ok, Err, Some, None}
+use Rattle.std.specs.Prelude.{◌≡◌, ℕ, ℤ, pos, Bool, true, false, Result, Ok, Err, Some, None}
+use Rattle.std.specs.declared.alloc.AllocError.{AllocError}
 use Rattle.receipts.specs.declared.Ended.{Ended}
 use Rattle.receipts.specs.declared.Ended.TheVariants as ended
 use Rattle.event_loop.specs.declared.event_loop.LoopError.{LoopError}
 use Rattle.event_loop.specs.declared.event_loop.LoopError.TheVariants.{Network, Clock, Screen}
-use Rattle.screen_desk.specs.Codes.{minus, done, code_of, fault_code}
+use Rattle.screen_desk.specs.Codes.{minus, done, no_viewer, out_of_memory, code_of, fault_code}
 
 abbrev pub bad_address : ℤ
 bad_address = minus 13
@@ -24,6 +25,12 @@ turn_code (Ok x) = done
 turn_code (Err Network) = network_failed
 turn_code (Err Clock) = clock_failed
 turn_code (Err (Screen e)) = code_of e
+
+-- a viewer is let go, or why not
+abbrev pub closed_code : Result Bool AllocError → ℤ
+closed_code (Ok true) = done
+closed_code (Ok false) = no_viewer
+closed_code (Err e) = out_of_memory
 
 -- why a viewer left
 abbrev pub reason_code : Ended → ℕ

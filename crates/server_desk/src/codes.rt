@@ -1,11 +1,11 @@
 //! The numbers that calls answer besides those of `screen_desk`.
 
 ghost use Rattle.std.specs.Prelude.{◌≡◌};
-ghost use Rattle.screen_desk.specs.Codes.{done_code};
 ghost use Rattle.server_desk.specs.Codes as code;
 
 use event_loop::{Ended, LoopError, ScreenError};
 use screen_desk::{code_of, fault_code};
+use std::alloc::AllocError;
 
 /// The address is no IP address in digits, as `127.0.0.1` or `::1`.
 pub const BAD_ADDRESS: i32 = -13;
@@ -19,16 +19,6 @@ pub const NETWORK_FAILED: i32 = -15;
 /// The system failed to say what time it is.
 pub const CLOCK_FAILED: i32 = -16;
 
-/// 0, or the code of a refusal.
-pub(crate) fn done_or(answer: Result<(), ScreenError>) -> i32
-    ensures { result ≡ done_code answer }
-{
-    match answer {
-        Ok(()) => 0,
-        Err(e) => code_of(e),
-    }
-}
-
 /// 0, or why a turn ended.
 pub(crate) fn turn_code(answer: Result<(), LoopError>) -> i32
     ensures { result ≡ code.turn_code answer }
@@ -38,6 +28,17 @@ pub(crate) fn turn_code(answer: Result<(), LoopError>) -> i32
         Err(LoopError::Network) => NETWORK_FAILED,
         Err(LoopError::Clock) => CLOCK_FAILED,
         Err(LoopError::Screen(e)) => code_of(e),
+    }
+}
+
+/// 0 where a viewer is let go, or why it isn't.
+pub(crate) fn closed_code(answer: Result<bool, AllocError>) -> i32
+    ensures { result ≡ code.closed_code answer }
+{
+    match answer {
+        Ok(true) => 0,
+        Ok(false) => code_of(ScreenError::NoViewer),
+        Err(_) => code_of(ScreenError::OutOfMemory),
     }
 }
 

@@ -1,32 +1,36 @@
 //! The desk: the calls of a server, and what waits to be fetched.
 
-ghost use Rattle.std.specs.Prelude.{◌≡◌, ◌≤◌, ◌∷◌, [], ◌^◌, pos, map, min, OnOk, is_some, count_by};
+ghost use Rattle.std.specs.Prelude.{◌≡◌, ◌≤◌, ◌∷◌, [], ◌^◌, pos, map, min, None, IfOk, IfErr, OnOk, is_some, count_by};
 ghost use Rattle.scene.specs.declared.Event.{Event};
 ghost use Rattle.scene.specs.Alone.{config_refusal};
+ghost use Rattle.scene.specs.Calls.{event_of};
 ghost use Rattle.screen_desk.specs.Codes as codes;
+ghost use Rattle.screen_desk.specs.Codes.{IsRefusal};
 ghost use Rattle.screen_desk.specs.Calls.{colour_at};
-ghost use Rattle.screen_desk.specs.Desk.{rect_of, config_of};
+ghost use Rattle.screen_desk.specs.Desk.{rect_of, config_of, IsListOf};
 ghost use Rattle.std.specs.VecDeque.{deque_capacity};
-ghost use Rattle.server_desk.specs.Desk.{nothing_there, IsPutBehind};
-ghost use Rattle.server_desk.specs.Calls.{Listens, TakesTurn, Draws, DrawsRegion, FetchesInputs, FetchesVisits, ShowsText, Tells};
+ghost use Rattle.server_desk.specs.Desk.{nothing_there, IsPutBehind, region_due};
+ghost use Rattle.server_desk.specs.Calls.{Listens, TakesTurn, Draws, DrawsRegion, FetchesInputs, FetchesVisits, ShowsText, Tells, TellsSome, LetsGo};
 
-use crate::codes::{done_or, turn_code};
-use crate::corners::{are_far, region_of};
+use crate::codes::{CLOCK_FAILED, closed_code, turn_code};
 use crate::gathering::Gathering;
 use crate::listening::{Listening, listen_on};
 use crate::news::{
-    MOST_INPUTS, MOST_TEXT, MOST_VISITS, copy_to, fetch_inputs, fetch_visits, is_text_at,
+    MOST_INPUTS, MOST_TEXT, MOST_VISITS, fetch_inputs, fetch_visits, is_text_at,
     make_room, put_all,
 };
-use crate::system::{SystemClock, timeout_of};
+use crate::system::{SystemClock, milliseconds_of, timeout_of};
 use crate::told::ToldBy;
 use crate::visits::Visit;
 use crate::waker::ServerWaker;
-use event_loop::{EventLoop, Listed, Rect, ScreenError};
-use screen_desk::{Corners, OFF_SCREEN, OUT_OF_RANGE, SHUT, Told, code_of};
+use event_loop::{Drawing, EventLoop, Listed, Rect, Region, ScreenError, drawn_is_served};
+use screen_desk::{
+    Corners, OFF_SCREEN, OUT_OF_RANGE, SHUT, Told, are_far, code_of, copy_to, done_or, region_of,
+};
 use std::alloc::{AllocError, Global};
 use std::collections::VecDeque;
 use std::marker::Model;
+use std::os::fd::AsRawFd;
 
 /// A server in one thread, or none where the desk is shut; and what came of its viewers and wasn't fetched. Each call answers `SHUT`
 /// where it is shut, but for `listen` and `close`. A number below 0 is the code of a refusal, and nothing has changed then, but for
@@ -170,38 +174,92 @@ impl ServerDesk {
         turn_code(answer)
     }
 
-    /// `Canvas::paint`.
-    pub fn paint(&mut self, x1: i32, y1: i32, x2: i32, y2: i32, colours: &[u32]) -> i32
-        ensures { Draws (Event.Paint (record { x1 = x1; y1 = y1; x2 = x2; y2 = y2 }) colours.now) self.old self.new result }
+    /// `EventLoop::close_viewer` (`rfbCloseClient` of `rfb.h`): the viewer is let go in a later turn. `NoViewer`'s code where none has the
+    /// number.
+    pub fn close_viewer(&mut self, viewer: u64) -> i32
+        ensures { LetsGo viewer self.old self.new result }
     {
         let Some(events) = &mut self.events else {
             return SHUT;
         };
-        done_or(events.canvas().paint(Rect { x1, y1, x2, y2 }, colours))
+        closed_code(events.close_viewer(viewer))
+    }
+
+    /// The system's handle that is ready to be read where a turn has something to do that came over the network.
+    pub fn handle(&mut self) -> i32
+        ensures { TellsSome self.old self.new result }
+    {
+        match &self.events {
+            Some(events) => events.as_raw_fd(),
+            None => SHUT,
+        }
+    }
+
+    /// For how many milliseconds a turn without end would wait now where nothing comes over the network, at most 2^31 - 1, which also stands
+    /// for no end. `CLOCK_FAILED` where the system doesn't tell the time.
+    pub fn longest_wait(&mut self) -> i32
+        ensures { TellsSome self.old self.new result }
+    {
+        let Some(events) = &self.events else {
+            return SHUT;
+        };
+        match events.longest_wait(&SystemClock) {
+            Ok(wait) => milliseconds_of(wait),
+            Err(_) => CLOCK_FAILED,
+        }
+    }
+
+    /// `Canvas::draw`: one of the calls below, as a value.
+    fn draw(&mut self, drawing: &Drawing<'_>) -> i32
+        ensures { Draws (event_of drawing.now) self.old self.new result }
+    {
+        let Some(events) = &mut self.events else {
+            return SHUT;
+        };
+        drawn_is_served();
+        done_or(events.canvas().draw(drawing))
+    }
+
+    /// The places of a list of rectangles, or the code of the refusal: `OUT_OF_RANGE` where a coordinate is not from -2^20 to 2^20.
+    fn places_of(&self, list: &[Corners]) -> Result<Region, i32>
+        ensures places { IfOk result (λ region. IsListOf (map rect_of list.now) region.list) }
+        ensures accepted { OnOk result (region_due self.now (map rect_of list.now) ≡ None) }
+        ensures refused { IfErr result (λ number. IsRefusal (region_due self.now (map rect_of list.now)) number) }
+    {
+        if self.events.is_none() {
+            return Err(SHUT);
+        }
+        if are_far(list) {
+            return Err(OUT_OF_RANGE);
+        }
+        match region_of(self.alloc, list) {
+            Ok(region) => Ok(region),
+            Err(e) => Err(code_of(e)),
+        }
+    }
+
+    /// `Canvas::paint`.
+    pub fn paint(&mut self, x1: i32, y1: i32, x2: i32, y2: i32, colours: &[u32]) -> i32
+        ensures { Draws (Event.Paint (record { x1 = x1; y1 = y1; x2 = x2; y2 = y2 }) colours.now) self.old self.new result }
+    {
+        let rect = Rect { x1, y1, x2, y2 };
+        self.draw(&Drawing::Paint { rect, colours })
     }
 
     /// `Canvas::write_pixels`.
     pub fn write_pixels(&mut self, x1: i32, y1: i32, x2: i32, y2: i32, colours: &[u32]) -> i32
         ensures { Draws (Event.Write (record { x1 = x1; y1 = y1; x2 = x2; y2 = y2 }) colours.now) self.old self.new result }
     {
-        let Some(events) = &mut self.events else {
-            return SHUT;
-        };
-        done_or(
-            events
-                .canvas()
-                .write_pixels(Rect { x1, y1, x2, y2 }, colours),
-        )
+        let rect = Rect { x1, y1, x2, y2 };
+        self.draw(&Drawing::Write { rect, colours })
     }
 
     /// `Canvas::mark_rect` (`rfbMarkRectAsModified` of `rfb.h`).
     pub fn mark_rect(&mut self, x1: i32, y1: i32, x2: i32, y2: i32) -> i32
         ensures { Draws (Event.Mark (record { x1 = x1; y1 = y1; x2 = x2; y2 = y2 } ∷ [])) self.old self.new result }
     {
-        let Some(events) = &mut self.events else {
-            return SHUT;
-        };
-        done_or(events.canvas().mark_rect(x1, y1, x2, y2))
+        let rect = Rect { x1, y1, x2, y2 };
+        self.draw(&Drawing::MarkRect(rect))
     }
 
     /// `Canvas::schedule_copy_rect` (`rfbScheduleCopyRect` of `rfb.h`).
@@ -216,50 +274,37 @@ impl ServerDesk {
     ) -> i32
         ensures { Draws (Event.ScheduleCopy (record { x1 = x1; y1 = y1; x2 = x2; y2 = y2 } ∷ []) dx dy) self.old self.new result }
     {
-        let Some(events) = &mut self.events else {
-            return SHUT;
-        };
-        done_or(events.canvas().schedule_copy_rect(x1, y1, x2, y2, dx, dy))
+        let rect = Rect { x1, y1, x2, y2 };
+        self.draw(&Drawing::ScheduleCopyRect { rect, dx, dy })
     }
 
     /// `Canvas::do_copy_rect` (`rfbDoCopyRect` of `rfb.h`).
     pub fn do_copy_rect(&mut self, x1: i32, y1: i32, x2: i32, y2: i32, dx: i32, dy: i32) -> i32
         ensures { Draws (Event.DoCopy (record { x1 = x1; y1 = y1; x2 = x2; y2 = y2 } ∷ []) dx dy) self.old self.new result }
     {
-        let Some(events) = &mut self.events else {
-            return SHUT;
-        };
-        done_or(events.canvas().do_copy_rect(x1, y1, x2, y2, dx, dy))
+        let rect = Rect { x1, y1, x2, y2 };
+        self.draw(&Drawing::DoCopyRect { rect, dx, dy })
     }
 
     /// `Canvas::bell` (`rfbSendBell` of `rfb.h`).
     pub fn bell(&mut self) -> i32
         ensures { Draws (Event.Bell) self.old self.new result }
     {
-        let Some(events) = &mut self.events else {
-            return SHUT;
-        };
-        done_or(events.canvas().bell())
+        self.draw(&Drawing::Bell)
     }
 
     /// `Canvas::cut_text` (`rfbSendServerCutText` of `rfb.h`).
     pub fn cut_text(&mut self, text: &[u8]) -> i32
         ensures { Draws (Event.CutText text.now) self.old self.new result }
     {
-        let Some(events) = &mut self.events else {
-            return SHUT;
-        };
-        done_or(events.canvas().cut_text(text))
+        self.draw(&Drawing::CutText(text))
     }
 
     /// `Canvas::new_framebuffer` (`rfbNewFramebuffer` of `rfb.h`).
     pub fn new_framebuffer(&mut self, width: u32, height: u32) -> i32
         ensures { Draws (Event.Resize width height) self.old self.new result }
     {
-        let Some(events) = &mut self.events else {
-            return SHUT;
-        };
-        done_or(events.canvas().new_framebuffer(width, height))
+        self.draw(&Drawing::NewFramebuffer { width, height })
     }
 
     /// `Canvas::mark_region` (`rfbMarkRegionAsModified` of `rfb.h`) for the places of a list of rectangles. `OUT_OF_RANGE` where a
@@ -267,48 +312,36 @@ impl ServerDesk {
     pub fn mark_region(&mut self, list: &[Corners]) -> i32
         ensures { DrawsRegion (map rect_of list.now) (λ places. Event.Mark places) self.old self.new result }
     {
-        let Some(events) = &mut self.events else {
-            return SHUT;
-        };
-        if are_far(list) {
-            return OUT_OF_RANGE;
+        match self.places_of(list) {
+            Ok(region) => self.draw(&Drawing::MarkRegion(&region)),
+            Err(code) => code,
         }
-        let Ok(region) = region_of(self.alloc, list) else {
-            return code_of(ScreenError::OutOfMemory);
-        };
-        done_or(events.canvas().mark_region(&region))
     }
 
     /// `Canvas::schedule_copy_region` (`rfbScheduleCopyRegion` of `rfb.h`), likewise.
     pub fn schedule_copy_region(&mut self, list: &[Corners], dx: i32, dy: i32) -> i32
         ensures { DrawsRegion (map rect_of list.now) (λ places. Event.ScheduleCopy places dx dy) self.old self.new result }
     {
-        let Some(events) = &mut self.events else {
-            return SHUT;
-        };
-        if are_far(list) {
-            return OUT_OF_RANGE;
+        match self.places_of(list) {
+            Ok(region) => {
+                let region = &region;
+                self.draw(&Drawing::ScheduleCopyRegion { region, dx, dy })
+            }
+            Err(code) => code,
         }
-        let Ok(region) = region_of(self.alloc, list) else {
-            return code_of(ScreenError::OutOfMemory);
-        };
-        done_or(events.canvas().schedule_copy_region(&region, dx, dy))
     }
 
     /// `Canvas::do_copy_region` (`rfbDoCopyRegion` of `rfb.h`), likewise.
     pub fn do_copy_region(&mut self, list: &[Corners], dx: i32, dy: i32) -> i32
         ensures { DrawsRegion (map rect_of list.now) (λ places. Event.DoCopy places dx dy) self.old self.new result }
     {
-        let Some(events) = &mut self.events else {
-            return SHUT;
-        };
-        if are_far(list) {
-            return OUT_OF_RANGE;
+        match self.places_of(list) {
+            Ok(region) => {
+                let region = &region;
+                self.draw(&Drawing::DoCopyRegion { region, dx, dy })
+            }
+            Err(code) => code,
         }
-        let Ok(region) = region_of(self.alloc, list) else {
-            return code_of(ScreenError::OutOfMemory);
-        };
-        done_or(events.canvas().do_copy_region(&region, dx, dy))
     }
 
     /// Puts the first inputs that wait at the room's start, up to the first text, and takes them from what waits (`kbdAddEvent`,

@@ -12,7 +12,6 @@
 #![tactic(auto)]
 
 mod codes;
-mod corners;
 mod desk;
 mod gathering;
 mod listening;

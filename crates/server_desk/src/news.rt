@@ -4,10 +4,10 @@ ghost use Rattle.std.specs.Prelude.{◌≡◌, ◌≤◌, ◌+◌, ◌-◌, ◌+
 ghost use Rattle.std.specs.VecDeque.{deque_len, deque_capacity};
 ghost use Rattle.screen_desk.specs.Inputs.{IsFetched};
 
-use crate::told::{ToldBy, told_as};
+use crate::told::ToldBy;
 use crate::visits::Visit;
 use event_loop::{Input, Listed};
-use screen_desk::Told;
+use screen_desk::{Told, told_as};
 use std::alloc::AllocError;
 use std::collections::VecDeque;
 
@@ -93,18 +93,5 @@ pub(crate) fn fetch_visits(waiting: &mut VecDeque<Visit>, room: &mut [Visit]) ->
         room[count] = visit;
         count += 1;
     }
-    count
-}
-
-/// How many bytes are copied at once, at most: 2^30, so that their count is a code.
-const MOST_COPIED: usize = 1 << 30;
-
-/// Copies as many of the first bytes as there is room for, at most 2^30. How many they are; the rest of the room stays.
-pub(crate) fn copy_to(room: &mut [u8], bytes: &[u8]) -> usize
-    ensures count { result ≡ min (min (length bytes.now) (length room.old)) (2 ^ 30) }
-    ensures room { room.new ≡ take result bytes.now ++ drop result room.old }
-{
-    let count = bytes.len().min(room.len()).min(MOST_COPIED);
-    room[..count].copy_from_slice(&bytes[..count]);
     count
 }

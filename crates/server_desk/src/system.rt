@@ -55,3 +55,15 @@ pub(crate) fn timeout_of(milliseconds: i32) -> Option<Duration> {
     let milliseconds = u64::try_from(milliseconds).ok()?;
     Some(Duration::from_millis(milliseconds))
 }
+
+/// The longest wait that is told, in milliseconds.
+const LONGEST: u128 = i32::MAX as u128;
+
+/// How many milliseconds a wait takes, none of it cut off; at most 2^31 - 1, also where it has no end.
+pub(crate) fn milliseconds_of(wait: Option<Duration>) -> i32 {
+    let Some(wait) = wait else {
+        return i32::MAX;
+    };
+    let milliseconds = wait.as_nanos().div_ceil(1_000_000);
+    milliseconds.min(LONGEST) as i32
+}

@@ -1,10 +1,8 @@
-//! What a viewer told, in numbers.
+//! What a viewer told.
 
-ghost use Rattle.std.specs.Prelude.{◌≡◌, IfOk, if◌then◌else◌};
-ghost use Rattle.screen_desk.specs.Inputs.{told_as, one_if};
+ghost use Rattle.std.specs.Prelude.{◌≡◌, IfOk};
 
 use event_loop::{Input, Listed};
-use screen_desk::Told;
 use std::alloc::{AllocError, Global};
 use std::marker::Model;
 
@@ -36,55 +34,6 @@ impl ToldBy {
         ensures { result ≡ self }
     {
         (self.viewer, self.input)
-    }
-}
-
-/// 1 for true.
-fn one_if(truth: bool) -> u32
-    ensures { result ≡ one_if truth }
-{
-    if truth { 1 } else { 0 }
-}
-
-const NOTHING: Told = Told {
-    viewer: 0,
-    kind: 0,
-    down: 0,
-    key: 0,
-    buttons: 0,
-    x: 0,
-    y: 0,
-    length: 0,
-    shortened: 0,
-};
-
-/// What a viewer told, in numbers.
-pub(crate) fn told_as(viewer: u64, input: &Input) -> Told
-    ensures { result ≡ told_as viewer input.now }
-{
-    match input {
-        Input::Key { down, key } => Told {
-            viewer,
-            kind: 1,
-            down: one_if(*down),
-            key: *key,
-            ..NOTHING
-        },
-        Input::Pointer { mask, x, y } => Told {
-            viewer,
-            kind: 2,
-            buttons: u32::from(*mask),
-            x: u32::from(*x),
-            y: u32::from(*y),
-            ..NOTHING
-        },
-        Input::Text { text, shortened } => Told {
-            viewer,
-            kind: 3,
-            length: text.len() as u64,
-            shortened: one_if(*shortened),
-            ..NOTHING
-        },
     }
 }
 

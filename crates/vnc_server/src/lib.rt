@@ -14,7 +14,7 @@ ghost use Rattle.screen_desk.specs.Codes as codes;
 ghost use Rattle.screen_desk.specs.Calls.{colour_at};
 ghost use Rattle.screen_desk.specs.Desk.{rect_of, config_of};
 ghost use Rattle.server_desk.specs.Desk.{nothing_there};
-ghost use Rattle.server_desk.specs.Calls.{Listens, TakesTurn, Draws, DrawsRegion, FetchesInputs, FetchesVisits, ShowsText, Tells, Wakes};
+ghost use Rattle.server_desk.specs.Calls.{Listens, TakesTurn, Draws, DrawsRegion, FetchesInputs, FetchesVisits, ShowsText, Tells, TellsSome, LetsGo, Wakes};
 
 use server_desk::{Corners, ServerDesk, ServerWaker, Told, Visit};
 use std::alloc::Global;
@@ -100,6 +100,36 @@ pub unsafe extern "C" fn vnc_server_process_events(at: *mut Place, milliseconds:
     ensures* { sem 𝓛 (leaves at (λ after. TakesTurn before after result)) }
 {
     ServerDesk::process_events(&mut *(at as *mut ServerDesk), milliseconds)
+}
+
+/// `ServerDesk::close_viewer`.
+#[unsafe(no_mangle)]
+pub unsafe extern "C" fn vnc_server_close_viewer(at: *mut Place, viewer: u64) -> i32
+    ghost before: { desk_row.Denot }
+    requires* { sem 𝓛 (holds at before) }
+    ensures* { sem 𝓛 (leaves at (λ after. LetsGo viewer before after result)) }
+{
+    ServerDesk::close_viewer(&mut *(at as *mut ServerDesk), viewer)
+}
+
+/// `ServerDesk::handle`.
+#[unsafe(no_mangle)]
+pub unsafe extern "C" fn vnc_server_fd(at: *mut Place) -> i32
+    ghost before: { desk_row.Denot }
+    requires* { sem 𝓛 (holds at before) }
+    ensures* { sem 𝓛 (leaves at (λ after. TellsSome before after result)) }
+{
+    ServerDesk::handle(&mut *(at as *mut ServerDesk))
+}
+
+/// `ServerDesk::longest_wait`.
+#[unsafe(no_mangle)]
+pub unsafe extern "C" fn vnc_server_longest_wait(at: *mut Place) -> i32
+    ghost before: { desk_row.Denot }
+    requires* { sem 𝓛 (holds at before) }
+    ensures* { sem 𝓛 (leaves at (λ after. TellsSome before after result)) }
+{
+    ServerDesk::longest_wait(&mut *(at as *mut ServerDesk))
 }
 
 /// `ServerDesk::paint`.

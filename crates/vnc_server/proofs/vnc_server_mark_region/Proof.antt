@@ -9,7 +9,7 @@ use Rattle.screen_desk.specs.Codes as codes
 use Rattle.screen_desk.specs.Calls.{colour_at}
 use Rattle.screen_desk.specs.Desk.{rect_of, config_of}
 use Rattle.server_desk.specs.Desk.{nothing_there}
-use Rattle.server_desk.specs.Calls.{Listens, TakesTurn, Draws, DrawsRegion, FetchesInputs, FetchesVisits, ShowsText, Tells, Wakes}
+use Rattle.server_desk.specs.Calls.{Listens, TakesTurn, Draws, DrawsRegion, FetchesInputs, FetchesVisits, ShowsText, Tells, TellsSome, LetsGo, Wakes}
 use Rattle.screen_desk.specs.contracts.corners.Corners.{the_row as Corners-row}
 use Rattle.vnc_server.specs.contracts.vnc_server_mark_region as f
 use Rattle.vnc_server.proofs.vnc_server_mark_region.Statement.{statement}

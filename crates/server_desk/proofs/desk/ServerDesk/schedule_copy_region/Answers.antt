@@ -1,6 +1,9 @@
-use Rattle.std.proofs.Common.{rules, refl, sym, ◌∙◌}
-use Rattle.server_desk.proofs.Drawing.{draws_region}
+use Rattle.std.proofs.Common.{refl}
+use Rattle.server_desk.proofs.Drawing.{draws_places, undrawn_places}
 use Rattle.server_desk.proofs.desk.ServerDesk.schedule_copy_region.Goals as goal
 
-pub returns : goal.returns
-returns c = draws_region _ _ _ _ c.in-Some.events _ _ _ _ c.schedule_copy_region.result _ _ _ _ _ _ c.self.view_is c.in-Some.is c.canvas.ensures.value refl (sym c.are_far.ensures ∙ c.if-are_far.false) (record { canonical = c.in-Ok.ensures.canonical; places = c.in-Ok.ensures.places }) (search rules) (search rules) c.schedule_copy_region.ensures.step c.schedule_copy_region.ensures.refused c.schedule_copy_region.ensures.err
+pub returns-in-Ok : goal.returns-in-Ok
+returns-in-Ok c = draws_places _ _ _ _ _ _ _ refl (λ s. refl) c.in-Ok.ensures.places c.in-Ok.ensures.accepted c.draw.ensures
+
+pub returns-in-Err : goal.returns-in-Err
+returns-in-Err c = undrawn_places _ _ _ _ c.in-Err.ensures.refused

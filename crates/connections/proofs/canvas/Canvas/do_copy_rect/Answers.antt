@@ -1,6 +1,0 @@
-use Rattle.std.proofs.Common.{refl}
-use Rattle.connections.proofs.Drawing.{draws_from}
-use Rattle.connections.proofs.canvas.Canvas.do_copy_rect.Goals as goal
-
-pub returns-clause-draws : goal.returns-clause-draws
-returns-clause-draws c = draws_from c.do_copy_rect.result c.args.self.now _ c.self.inside.screen c.self.inside.has_drawn c.self.inside.has_noticed _ c.self.view_is refl c.do_copy_rect.ensures.step c.do_copy_rect.ensures.err refl refl

@@ -1,0 +1,6 @@
+use Rattle.std.proofs.Common.{refl}
+use Rattle.connections.proofs.Drawing.{draws_from}
+use Rattle.connections.proofs.canvas.Canvas.draw.Goals as goal
+
+pub returns-clause-draws : goal.returns-clause-draws
+returns-clause-draws c = draws_from c.draw.result c.args.self.now _ c.self.inside.screen c.self.inside.has_drawn c.self.inside.has_noticed _ c.self.view_is refl c.draw.ensures.step c.draw.ensures.err refl refl
