@@ -70,13 +70,14 @@ call_undrawn c list e a b noted screen = record {
   quiet = λ fine. ((or_parts _ _ (sym noted.noticed ∙ fine)).1, refl);
 }
 
-pub draws : drawn_is_served → (desk : Standing) (before : Option Serving) (s : Serving) (a t : Surface) (e : Event) (result : Result (Unit {0}) ScreenError) (code : ℤ) (port : ℕ) (inputs : List (ℕ × Input)) (visits : List Visit) (text : List ℕ) (lost : ℕ)
-    → record { served = before; port = port; inputs = inputs; visits = visits; text = text; lost = lost } ≡ desk → before ≡ Some s → a ≡ s.surface → is_drawing (owner_of e) ≡ true → IsCodeOf result code
+pub draws : drawn_is_served → (desk : Standing) (before : Option Serving) (s : Serving) (a t : Surface) (e : Event) (result : Result (Unit {0}) ScreenError) (number code : ℤ) (port : ℕ) (inputs : List (ℕ × Input)) (visits : List Visit) (text : List ℕ) (lost : ℕ)
+    → number ≡ code → record { served = before; port = port; inputs = inputs; visits = visits; text = text; lost = lost } ≡ desk → before ≡ Some s → a ≡ s.surface → is_drawing (owner_of e) ≡ true → IsCodeOf result code
     → ((due : Option ScreenError) → Refuses result due → Answers (option_map code_of due) (λ n. n ≡ done) code)
     → ((c : Config) (list : List Event) → a.screen ≡ state c list → OnOk result (t.screen ≡ state c (list ++ e ∷ []))) → Refuses result (refusal a.screen e) → OnErr result (t.screen ≡ a.screen) → IsNotedAfter e a t
-    → Draws e desk (record { served = Some (record s { surface = t }); port = port; inputs = inputs; visits = visits; text = text; lost = lost }) code
-draws law desk before s a t e result code port inputs visits text lost view is same own code_is answers step refuses err noted =
-    rw (sym view) (rw is (subst (λ (x : Surface). ((c : Config) (list : List Event) → x.screen ≡ state c list → OnOk result (t.screen ≡ state c (list ++ e ∷ []))) → Refuses result (refusal x.screen e) → OnErr result (t.screen ≡ x.screen) → IsNotedAfter e x t → Draws e (standing s) (standing later) code) (sym same) drawn step refuses err noted))
+    → Draws e desk (record { served = Some (record s { surface = t }); port = port; inputs = inputs; visits = visits; text = text; lost = lost }) number
+unfolding call_drawn call_undrawn
+draws law desk before s a t e result number code port inputs visits text lost number_is view is same own code_is answers step refuses err noted =
+    rw (sym view) (rw is (rw number_is (subst (λ (x : Surface). ((c : Config) (list : List Event) → x.screen ≡ state c list → OnOk result (t.screen ≡ state c (list ++ e ∷ []))) → Refuses result (refusal x.screen e) → OnErr result (t.screen ≡ x.screen) → IsNotedAfter e x t → Draws e (standing s) (standing later) code) (sym same) drawn step refuses err noted)))
   where
     standing : Serving → Standing
     standing s = record { served = Some s; port = port; inputs = inputs; visits = visits; text = text; lost = lost }
@@ -100,29 +101,29 @@ draws law desk before s a t e result code port inputs visits text lost view is s
     }
 
 -- a drawing call that can't be refused but for memory, for the places of rectangles
-pub draws_places : (rects places : List Rect) (event : List Rect → Event) (e : Event) (old new : Standing) (code : ℤ) → e ≡ event places → ((s : State) → refusal s e ≡ None) → IsListOf rects places → region_due old rects ≡ None
-    → Draws e old new code → DrawsRegion rects event old new code
-draws_places rects places event e old new code same free list_of accepted d = record {
-  answer = subst (λ o. Answers o (λ n. n ≡ done) code) (sym accepted) (answers old.served refl d.answer);
+pub draws_places : (rects places : List Rect) (event : List Rect → Event) (e : Event) (old new : Standing) (n code : ℤ) → code ≡ n → e ≡ event places → ((s : State) → refusal s e ≡ None) → IsListOf rects places → region_due old rects ≡ None
+    → Draws e old new n → DrawsRegion rects event old new code
+draws_places rects places event e old new n code code_is same free list_of accepted d = rw code_is (record {
+  answer = subst (λ o. Answers o (λ n. n ≡ done) n) (sym accepted) (answers old.served refl d.answer);
   step = λ is_done. (places, (list_of, λ c list stands. subst (λ (f : Event). StandsFor c (list ++ f ∷ []) new) same (d.step c list stands is_done)));
   same = d.same;
   refused = d.refused;
-}
+})
   where
-    answers : (o : Option Serving) → old.served ≡ o → Answers (due_by (option_map (λ s. s.surface.screen) o) e) (λ n. n ≡ done) code → Answers None (λ n. n ≡ done) code
+    answers : (o : Option Serving) → old.served ≡ o → Answers (due_by (option_map (λ s. s.surface.screen) o) e) (λ n. n ≡ done) n → Answers None (λ n. n ≡ done) n
     answers None is h = let two : ◌≡◌ {A = Option ℤ} (Some shut) None = ap (λ o. elim o [ None ↦ Some shut | Some s ↦ far_or_none (list_any (λ r. not (in_range r)) rects) ]) (sym is) ∙ accepted in absurd cc
-    answers (Some s) is h = subst (λ o. Answers (option_map code_of o) (λ n. n ≡ done) code) (free s.surface.screen) h
+    answers (Some s) is h = subst (λ o. Answers (option_map code_of o) (λ n. n ≡ done) n) (free s.surface.screen) h
 
 -- a refusal
-pub undrawn_places : (rects : List Rect) (event : List Rect → Event) (desk : Standing) (code : ℤ) → IsRefusal (region_due desk rects) code → DrawsRegion rects event desk desk code
-undrawn_places rects event desk code h = record {
+pub undrawn_places : (rects : List Rect) (event : List Rect → Event) (desk : Standing) (n code : ℤ) → code ≡ n → IsRefusal (region_due desk rects) n → DrawsRegion rects event desk desk code
+undrawn_places rects event desk n code code_is h = rw code_is (record {
   answer = never (region_due desk rects) h.answer;
   step = λ is_done. absurd (h.refuses is_done);
   same = refl;
   refused = λ not_done. record { screen = refl; served = λ c list stands. stands; same = refl };
-}
+})
   where
-    never : (o : Option ℤ) → Answers o (λ n. ⊥) code → Answers o (λ n. n ≡ done) code
-    never None (inl no) = absurd no
+    never : (o : Option ℤ) → Answers o (λ n. ⊥) n → Answers o (λ n. n ≡ done) n
+    never None (inl impossible) = absurd impossible
     never None (inr memory) = inr memory
-    never (Some refusal) same = same
+    never (Some r) same = same

@@ -65,6 +65,7 @@ IsCode r code = MatchResult r (λ places. code ≡ pos (min places (2 ^ 62))) (�
 taken_in : drawn_is_served → (s : Source) (left top : ℕ) (a : Serving) (t : Surface) (r : Result ℕ ScreenError) (code : ℤ) → IsCode r code
     → ((config : Config) (list : List Event) → config_refusal config ≡ None → a.surface.screen ≡ state config list → Takes s left top config list a.surface.screen t.screen r) → t.drawn ≡ true → t.noticed ≡ a.surface.noticed
     → TakesIn left top code (Some s) (Some a) (Some (record a { surface = t }))
+unfolding painted
 taken_in law s left top a t (Ok places) code is takes drawn noticed = λ c list fine serves.
     let taken = takes c list fine serves.screen in
     inl (record {
@@ -78,24 +79,24 @@ taken_in law s left top a t (Err e) code is takes drawn noticed = λ c list fine
     inr (
       is ∙ ap code_of partly.memory,
       record {
-        taken = subst (λ (x : ScreenError). IsPartlyTaken s left top c list a.surface.screen t.screen x) partly.memory partly;
+        taken = record { memory = refl; pieces = partly.pieces; events = partly.events; places = partly.places };
         served = law c (sockets c) list a t (painted c list left top partly.pieces a.surface t partly.events drawn noticed) serves;
       },
     )
 
-pub takes : drawn_is_served → (desk : Standing) (before : Option Serving) (s : Serving) (a t : Surface) (source : Option Source) (made : Source) (left top : ℕ) (r : Result ℕ ScreenError) (code : ℤ) (port : ℕ) (inputs : List (ℕ × Input)) (visits : List Visit) (text : List ℕ) (lost : ℕ)
-    → record { served = before; port = port; inputs = inputs; visits = visits; text = text; lost = lost } ≡ desk → before ≡ Some s → a ≡ s.surface → source_due source ≡ None → source ≡ Some made → IsCode r code
+pub takes : drawn_is_served → (desk : Standing) (before : Option Serving) (s : Serving) (a t : Surface) (source : Option Source) (made : Source) (left top : ℕ) (r : Result ℕ ScreenError) (number code : ℤ) (port : ℕ) (inputs : List (ℕ × Input)) (visits : List Visit) (text : List ℕ) (lost : ℕ)
+    → number ≡ code → record { served = before; port = port; inputs = inputs; visits = visits; text = text; lost = lost } ≡ desk → before ≡ Some s → a ≡ s.surface → source_due source ≡ None → source ≡ Some made → IsCode r code
     → ((config : Config) (list : List Event) → config_refusal config ≡ None → a.screen ≡ state config list → Takes made left top config list a.screen t.screen r) → t.drawn ≡ true → t.noticed ≡ a.noticed
-    → TakesPixels source left top desk (record { served = Some (record s { surface = t }); port = port; inputs = inputs; visits = visits; text = text; lost = lost }) code
-takes law desk before s a t source made left top r code port inputs visits text lost view is same accepted source_is code_is taking drawn noticed =
-    rw (sym view) (rw is (record {
+    → TakesPixels source left top desk (record { served = Some (record s { surface = t }); port = port; inputs = inputs; visits = visits; text = text; lost = lost }) number
+takes law desk before s a t source made left top r number code port inputs visits text lost number_is view is same accepted source_is code_is taking drawn noticed =
+    rw (sym view) (rw is (rw number_is (record {
       refused = λ refusal due. let two : ◌≡◌ {A = Option ℤ} None (Some refusal) = sym accepted ∙ due in absurd cc;
       taken = λ fine. subst (λ (o : Option Source). TakesIn left top code o (Some s) (Some later)) (sym source_is)
           (taken_in law made left top s t r code code_is
           (subst (λ (x : Surface). (config : Config) (list : List Event) → config_refusal config ≡ None → x.screen ≡ state config list → Takes made left top config list x.screen t.screen r) same taking)
           drawn (noticed ∙ ap (λ (x : Surface). x.noticed) same));
       same = refl;
-    }))
+    })))
   where
     later : Serving
     later = record s { surface = t }

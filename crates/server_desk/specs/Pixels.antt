@@ -1,5 +1,5 @@
 -- A program's own pixels, as another language lays them out.
-use Rattle.std.specs.Prelude.{◌≡◌, ℕ, suc, ◌==◌, not, nat_le, ◌&&◌, if◌then◌else◌, ℤ, List, [], ◌∷◌, Option, Some, None, option_map, option_and_then}
+use Rattle.std.specs.Prelude.{◌≡◌, ℕ, ◌==◌, not, nat_le, ◌&&◌, if◌then◌else◌, ℤ, List, [], ◌∷◌, Option, Some, None, option_map, option_and_then}
 use Rattle.pixel_translate.specs.declared.Component.{Component}
 use Rattle.source_pixels.specs.declared.formats.BytesPerPixel.{BytesPerPixel}
 use Rattle.source_pixels.specs.declared.formats.BytesPerPixel.TheVariants.{One, Two, Three, Four}
@@ -23,30 +23,29 @@ abbrev pub too_few_bytes : ℤ
 too_few_bytes = minus 19
 
 abbrev pub bytes_of : ℕ → Option BytesPerPixel
-bytes_of 1 = Some One
-bytes_of 2 = Some Two
-bytes_of 3 = Some Three
-bytes_of 4 = Some Four
-bytes_of n = None
+bytes_of n = if n == 1 then Some One else (if n == 2 then Some Two else (if n == 3 then Some Three else (if n == 4 then Some Four else None)))
 
 -- a component whose greatest value has 16 bits
 abbrev pub component_of : ℕ → ℕ → Option Component
 component_of max shift = if nat_le max 0xffff && nat_le shift 0xff then Some (record { max = max; shift = shift }) else None
 
+infixl 10 ◌>>=◌
+abbrev pub ◌>>=◌ : {A B : Type 0} → Option A → (A → Option B) → Option B
+o >>= f = option_and_then f o
+
 abbrev pub true_colour_of : PixelLayout → Option Layout
 true_colour_of l =
-    option_and_then (bytes_of l.bytes_per_pixel) (λ bytes.
-    option_and_then (component_of l.red_max l.red_shift) (λ red.
-    option_and_then (component_of l.green_max l.green_shift) (λ green.
-    option_and_then (component_of l.blue_max l.blue_shift) (λ blue.
-    Some (record { bytes = bytes; big_endian = not (l.big_endian == 0); red = red; green = green; blue = blue })))))
+    bytes_of l.bytes_per_pixel >>= λ bytes.
+    component_of l.red_max l.red_shift >>= λ red.
+    component_of l.green_max l.green_shift >>= λ green.
+    component_of l.blue_max l.blue_shift >>= λ blue.
+    Some (record { bytes = bytes; big_endian = not (l.big_endian == 0); red = red; green = green; blue = blue })
 
 -- what a pixel's bytes say: by a layout; by a table of so many colours where there is none; and where there is neither, as 0x00RRGGBB
 abbrev pub format_of : List PixelLayout → ℕ → SourceFormat → Option SourceFormat
-format_of [] zero table = Some (TrueColour server_format)
-format_of [] (suc n) table = Some table
-format_of (l ∷ []) zero table = option_map TrueColour (true_colour_of l)
-format_of ls n table = None
+format_of [] n table = if n == 0 then Some (TrueColour server_format) else Some table
+format_of (l ∷ []) n table = if n == 0 then option_map TrueColour (true_colour_of l) else None
+format_of (l ∷ m ∷ ls) n table = None
 
 abbrev pub source_from : ℕ → ℕ → ℕ → List ℕ → Option SourceFormat → Option Source
 source_from width height stride bytes format = option_map (λ f. record { width = width; height = height; stride = stride; bytes = bytes; format = f }) format

@@ -14,7 +14,7 @@ ghost use Rattle.server_desk.specs.Calls.{Listens, TakesTurn, Draws, DrawsRegion
 ghost use Rattle.server_desk.specs.Pixels.{format_of, source_from};
 ghost use Rattle.source_pixels.specs.declared.formats.SourceFormat.TheVariants as format;
 
-use crate::codes::{CLOCK_FAILED, closed_code, turn_code};
+use crate::codes::{CLOCK_FAILED, closed_code, places_code, turn_code};
 use crate::gathering::Gathering;
 use crate::listening::{Listening, listen_on};
 use crate::news::{
@@ -363,7 +363,7 @@ impl ServerDesk {
         layouts: &[PixelLayout],
         table: &[u32],
     ) -> i64
-        ensures { TakesPixels (source_from width height stride bytes.now (format_of layouts.now (length table.now) (format.Table table))) left top self.old self.new result }
+        ensures { TakesPixels (source_from width height stride bytes.now (format_of layouts.now (length table.now) (format.Table table.entry))) left top self.old self.new result }
     {
         let Some(events) = &mut self.events else {
             return i64::from(SHUT);
@@ -373,10 +373,7 @@ impl ServerDesk {
             Err(code) => return i64::from(code),
         };
         drawn_is_served();
-        match events.canvas().take(self.alloc, left, top, &source) {
-            Ok(places) => places.min(1 << 62) as i64,
-            Err(e) => i64::from(code_of(e)),
-        }
+        places_code(events.canvas().take(self.alloc, left, top, &source))
     }
 
     /// Puts the first inputs that wait at the room's start, up to the first text, and takes them from what waits (`kbdAddEvent`,

@@ -74,7 +74,7 @@ fn true_colour_of(layout: PixelLayout) -> Option<TrueColour>
 
 /// What a pixel's bytes say: by a layout, by a table where there is none, and where there is neither, as `TrueColour::server` does.
 fn format_of<'a>(layouts: &[PixelLayout], table: &'a [u32]) -> Option<SourceFormat<'a>>
-    ensures { result ≡ pixels.format_of layouts.now (length table.now) (kind.Table table) }
+    ensures { result ≡ pixels.format_of layouts.now (length table.now) (kind.Table table.entry) }
 {
     if layouts.is_empty() {
         if table.is_empty() {
@@ -108,9 +108,9 @@ pub(crate) fn source_of<'a>(
     layouts: &[PixelLayout],
     table: &'a [u32],
 ) -> Result<PixelSource<'a>, i32>
-    ensures source { IfOk result (λ source. pixels.source_from width height stride bytes.now (pixels.format_of layouts.now (length table.now) (kind.Table table)) ≡ Some source) }
-    ensures accepted { OnOk result (pixels.source_due (pixels.source_from width height stride bytes.now (pixels.format_of layouts.now (length table.now) (kind.Table table))) ≡ None) }
-    ensures refused { IfErr result (λ refusal. pixels.source_due (pixels.source_from width height stride bytes.now (pixels.format_of layouts.now (length table.now) (kind.Table table))) ≡ Some refusal) }
+    ensures source { IfOk result (λ source. pixels.source_from width height stride bytes.now (pixels.format_of layouts.now (length table.now) (kind.Table table.entry)) ≡ Some source) }
+    ensures accepted { OnOk result (pixels.source_due (pixels.source_from width height stride bytes.now (pixels.format_of layouts.now (length table.now) (kind.Table table.entry))) ≡ None) }
+    ensures refused { IfErr result (λ refusal. pixels.source_due (pixels.source_from width height stride bytes.now (pixels.format_of layouts.now (length table.now) (kind.Table table.entry))) ≡ Some refusal) }
 {
     let Some(format) = format_of(layouts, table) else {
         return Err(BAD_FORMAT);

@@ -235,7 +235,7 @@ pub unsafe extern "C" fn vnc_server_take(
 ) -> i64
     ghost before: { desk_row.Denot }
     requires* { sem 𝓛 (holds at before) }
-    ensures* { sem 𝓛 (leaves at (λ after. TakesPixels (source_from width height stride bytes.now (format_of layouts.now (length table.now) (format.Table table))) left top before after result)) }
+    ensures* { sem 𝓛 (leaves at (λ after. TakesPixels (source_from width height stride bytes.now (format_of layouts.now (length table.now) (format.Table table.entry))) left top before after result)) }
 {
     ServerDesk::take(
         &mut *(at as *mut ServerDesk),
