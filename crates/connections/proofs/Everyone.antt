@@ -278,9 +278,9 @@ at-set slots key e f there = get_or-set_same slots key (Some f) None (within slo
 pub asks-same : (e f : ViewerConnection) (asking : List ℕ) (key : ℕ) → f.known.may_ask ≡ e.known.may_ask → f.known.may_ask ≡ true → (e.known.may_ask ≡ true) ⊎ (is_among key asking ≡ true)
 asks-same e f asking key same ask = inl (sym same ∙ ask)
 
-pub asks-closed : (e f : ViewerConnection) (asking : List ℕ) (key : ℕ) → (f ≡ e) ⊎ ((e.ended ≡ None) × (f ≡ record e { ended = Some Closed })) → f.known.may_ask ≡ true → (e.known.may_ask ≡ true) ⊎ (is_among key asking ≡ true)
-asks-closed e f asking key (inl same) ask = inl (sym (ap (λ (x : ViewerConnection). x.known.may_ask) same) ∙ ask)
-asks-closed e f asking key (inr same) ask = inl (sym (ap (λ (x : ViewerConnection). x.known.may_ask) same.1) ∙ ask)
+pub asks-closed : (e f : ViewerConnection) (o : Option Ended) (asking : List ℕ) (key : ℕ) → (f ≡ e) ⊎ ((e.ended ≡ None) × (f ≡ record e { ended = o })) → f.known.may_ask ≡ true → (e.known.may_ask ≡ true) ⊎ (is_among key asking ≡ true)
+asks-closed e f o asking key (inl same) ask = inl (sym (ap (λ (x : ViewerConnection). x.known.may_ask) same) ∙ ask)
+asks-closed e f o asking key (inr same) ask = inl (sym (ap (λ (x : ViewerConnection). x.known.may_ask) same.1) ∙ ask)
 
 -- ---- all that are to be looked at are
 

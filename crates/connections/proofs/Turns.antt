@@ -353,10 +353,10 @@ turn-ended a b e f still live same c list began v since t =
     let h = turn-read c list began v since a e e e.known [] live refl refl refl (moves-nothing e.carried) t in
     subst (λ (x : Surface). IsTurnFrom c list began v since x f) (sym still) (turn-unread c list began v since a e f same h)
 
--- a viewer is closed, unless it ended before
-pub turn-closed : (a : Surface) (e f : ViewerConnection) → (f ≡ e) ⊎ ((e.ended ≡ None) × (f ≡ record e { ended = Some Closed })) → TakesTurn a e a f
-turn-closed a e f (inl same) c list began v since t = subst (λ (x : ViewerConnection). IsTurnFrom c list began v since a x) (sym same) t
-turn-closed a e f (inr h) c list began v since t = turn-ended a a e f refl h.0 (h.1 ∙ ap (λ o. record e { ended = o }) (sym (ap (λ (x : ViewerConnection). x.ended) h.1))) c list began v since t
+-- a viewer is let go, unless it ended before
+pub turn-closed : (a : Surface) (e f : ViewerConnection) (o : Option Ended) → (f ≡ e) ⊎ ((e.ended ≡ None) × (f ≡ record e { ended = o })) → TakesTurn a e a f
+turn-closed a e f o (inl same) c list began v since t = subst (λ (x : ViewerConnection). IsTurnFrom c list began v since a x) (sym same) t
+turn-closed a e f o (inr h) c list began v since t = turn-ended a a e f refl h.0 (h.1 ∙ ap (λ o. record e { ended = o }) (sym (ap (λ (x : ViewerConnection). x.ended) h.1))) c list began v since t
 
 pub turn-stays : (a : Surface) (e : ViewerConnection) → TakesTurn a e a e
 turn-stays a e c list began v since t = t

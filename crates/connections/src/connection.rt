@@ -250,12 +250,12 @@ impl<T: Transport> Connection<T> {
         self.ended = Some(ended);
     }
 
-    /// It ends as one that was closed, unless it ended before.
-    pub fn close(&mut self)
-        ensures { (self.new ≡ self.old) ⊎ ((self.old.ended ≡ None) × (self.new ≡ record self.old { ended = Some ended.Closed })) }
+    /// It ends so, unless it ended before.
+    pub fn close(&mut self, ended: Ended)
+        ensures { (self.new ≡ self.old) ⊎ ((self.old.ended ≡ None) × (self.new ≡ record self.old { ended = Some ended })) }
     {
         if self.ended.is_none() {
-            self.ended = Some(Ended::Closed);
+            self.ended = Some(ended);
         }
     }
 

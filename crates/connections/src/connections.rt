@@ -329,24 +329,34 @@ impl<T: Transport> Connections<T> {
         connection.note(found);
     }
 
-    /// A viewer is let go, as one that was closed; nothing where none has the key.
+    /// A viewer is let go, as one that was closed (`Ended::Closed`), once what waits for it is written; nothing where none has the key.
     pub fn close(&mut self, key: usize) -> Result<(), AllocError>
         ensures served { GoesOn self.old self.new }
     {
         self.agenda.insert(key)?;
-        self.end_at(key);
+        self.end_at(key, Ended::Closed);
         Ok(())
     }
 
-    /// A viewer ends as one that was closed, where it is to be looked at.
-    fn end_at(&mut self, key: usize)
+    /// A viewer is let go at once, as one that the application refused (`Ended::Gate`): what waits for it isn't written. Nothing where
+    /// none has the key.
+    pub fn refuse(&mut self, key: usize) -> Result<(), AllocError>
+        ensures served { GoesOn self.old self.new }
+    {
+        self.agenda.insert(key)?;
+        self.end_at(key, Ended::Gate);
+        Ok(())
+    }
+
+    /// A viewer ends so, where it is to be looked at.
+    fn end_at(&mut self, key: usize, ended: Ended)
         requires { is_among key self.old.agenda ≡ true }
         ensures served { GoesOn self.old self.new }
     {
         let Some(connection) = self.connections.get_mut(key) else {
             return;
         };
-        connection.close();
+        connection.close(ended);
     }
 
     /// One turn. Of each connection on the agenda one piece of at most 128 bytes is read and heard, and the application is told what

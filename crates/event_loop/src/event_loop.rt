@@ -245,8 +245,9 @@ impl EventLoop {
         self.poller.waker()
     }
 
-    /// A viewer is let go, as one that was closed (`rfbCloseClient` of `rfb.h`): it is heard no more, and its connection is closed in
-    /// a later turn, once what waits for it is written. Whether one had the number; after an `AllocError` it is connected still.
+    /// A viewer is let go, as one that the application refused (`rfbCloseClient` of `rfb.h`, and `RFB_CLIENT_REFUSE`): it is heard no
+    /// more, it is written nothing more, and its connection is closed at the end of the next turn. Whether one had the number; after an
+    /// `AllocError` it is connected still.
     pub fn close_viewer(&mut self, viewer: u64) -> Result<bool, AllocError>
         ensures served { GoesOnServing self.old self.new }
         ensures none { result ≡ Ok false → (key : ℕ) → number_at self.old.slots key ≢ Some viewer }
@@ -254,7 +255,7 @@ impl EventLoop {
         let Some(key) = self.connections.key_of(viewer) else {
             return Ok(false);
         };
-        self.connections.close(key)?;
+        self.connections.refuse(key)?;
         Ok(true)
     }
 
@@ -266,8 +267,8 @@ impl EventLoop {
     }
 
     /// One turn (`rfbProcessEvents` of `rfb.h`). Waits until something is ready, the application's time comes, or the time is up,
-    /// but not where something can be done at once. Then connections that came are accepted, what viewers sent is heard, and what
-    /// they are given is written, as `Connections::turn` says.
+    /// but not where something can be done at once. Then what viewers sent is heard, and what they are given is written, as
+    /// `Connections::turn` says; last, connections that came are accepted, which are heard from the next turn on.
     ///
     /// Whatever list of events the screen stood for, it stands for it with others behind it, and by that list each viewer is served:
     /// what waits for it is the end of what the screen with this one viewer gives it.
@@ -281,8 +282,8 @@ impl EventLoop {
     {
         let now = self.wait(clock, timeout)?;
         self.tell_time(now, application)?;
-        self.come_and_go(now, application)?;
-        self.turn(now, application)
+        self.turn(now, application)?;
+        self.come_and_go(now, application)
     }
 
     /// Turns until the application is done.
