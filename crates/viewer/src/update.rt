@@ -125,23 +125,6 @@ fn put_part(alloc: Global, out: &mut Vec<u8>, part: &Part) -> Result<(), AllocEr
     }
 }
 
-/// The bytes of the colour map where it is owed, of notices, and then of a FramebufferUpdate if there is one.
-pub(crate) fn encode_all(
-    alloc: Global,
-    map_owed: bool,
-    notices: &[Notice],
-    part: &Part,
-) -> Result<Vec<u8>, AllocError>
-    requires { All IsShort notices.now }
-    ensures { IfOk result (λ bytes. bytes.items ≡ all_bytes map_owed notices.now part.now) }
-{
-    let mut out = Vec::new(alloc);
-    put_map(&mut out, map_owed)?;
-    put_notices(&mut out, notices)?;
-    put_part(alloc, &mut out, part)?;
-    Ok(out)
-}
-
 impl Update {
     /// An update of the colour map where it is owed, of notices, and of what is said of the screen.
     pub(crate) fn new(alloc: Global, map_owed: bool, notices: Vec<Notice>, part: Part) -> Update
@@ -161,7 +144,11 @@ impl Update {
     pub fn encode(&self) -> Result<Vec<u8>, AllocError>
         ensures { IfOk result (λ bytes. bytes.items ≡ self.now) }
     {
-        encode_all(self.alloc, self.map_owed, &self.notices, &self.part)
+        let mut out = Vec::new(self.alloc);
+        put_map(&mut out, self.map_owed)?;
+        put_notices(&mut out, &self.notices)?;
+        put_part(self.alloc, &mut out, &self.part)?;
+        Ok(out)
     }
 
     /// The same bytes, to be given in pieces: no more is encoded at once than a row in Raw, a row of tiles in
