@@ -1,7 +1,6 @@
 //! The colours of an update's rectangle: copied, or in rows that are shared with the picture until it is drawn over.
 
-ghost use Rattle.std.specs.Prelude.{◌≡◌, ◌+◌, ◌*◌, ◌^◌, ◌≤◌, ◌<◌, ◌↔◌, ◌++◌, IsTrue, true, length, take, drop, flat_map, IfOk};
-ghost use Rattle.std.specs.Prelude.{OnOk, OnErr};
+ghost use Rattle.std.specs.Prelude.{◌≡◌, ◌+◌, ◌*◌, ◌^◌, ◌≤◌, ◌<◌, ◌↔◌, ◌++◌, IsTrue, true, length, take, drop, IfOk, OnOk};
 ghost use Rattle.encode_rre.specs.Rre.{rre};
 ghost use Rattle.framebuffer.specs.Blocks.{block_colours};
 

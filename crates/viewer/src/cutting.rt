@@ -11,7 +11,7 @@ ghost use Rattle.framebuffer.specs.Picture.{colours_of};
 ghost use Rattle.viewer.specs.Sending.{copy_bytes, pixel_rectangle, bytes_of, with_update, sending_open, sending_kept};
 ghost use Rattle.viewer.specs.Standings.{viewer_in};
 ghost use Rattle.framebuffer.specs.Blocks.{block_rect, FitsIn};
-ghost use Rattle.viewer.specs.Updates.{moved_bytes, coloured_bytes, rectangles_bytes, part_bytes};
+ghost use Rattle.viewer.specs.Updates.{moved_bytes, coloured_bytes, rectangles_bytes};
 ghost use Rattle.viewer.specs.Given.{planned_bytes, planned_viewer, prepared_bytes, after_prepared, IsSomething};
 
 use crate::colours::Colours;

@@ -1,6 +1,6 @@
 //! The notices that wait for a viewer, in the order in which they were made.
 
-ghost use Rattle.std.specs.Prelude.{◌≡◌, ◌++◌, [], All, IfOk, OnOk, OnErr, flat_map, nat_lt, length};
+ghost use Rattle.std.specs.Prelude.{◌≡◌, ◌++◌, [], All, IfOk, OnOk, flat_map, nat_lt, length};
 ghost use Rattle.viewer.specs.Viewer.{none_wait, with_notice};
 ghost use Rattle.viewer.specs.Sending.{notice_bytes};
 ghost use Rattle.viewer.specs.Short.{IsShort};
