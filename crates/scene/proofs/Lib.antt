@@ -11,6 +11,7 @@ mod Sent
 mod Drawn
 mod Copies
 mod Calls
+mod Next
 mod Refused
 mod Owing
 mod Watched

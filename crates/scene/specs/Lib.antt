@@ -1,6 +1,7 @@
 pub mod Alone
 pub mod Answers
 pub mod Refusals
+pub mod Next
 pub mod Calls
 pub mod Claims
 pub mod Shown

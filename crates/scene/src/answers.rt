@@ -1,12 +1,13 @@
 //! What calls answered, as answers to events.
 
-ghost use Rattle.std.specs.Prelude.{◌≡◌, MatchResult};
+ghost use Rattle.std.specs.Prelude.{◌≡◌, IfOk, MatchResult};
+ghost use Rattle.viewer.specs.Given.{prepared_bytes};
 ghost use Rattle.scene.specs.Alone.{nothing_to_say, gives, refuses, settled, answer_of};
 
 use crate::{Answer, ScreenError};
 use listed::Listed;
 use std::alloc::{AllocError, Global};
-use viewer::Reply;
+use viewer::{PreparedUpdate, Reply};
 
 /// Bytes for the viewer, and nothing else.
 pub fn with_bytes(
@@ -22,6 +23,16 @@ pub fn with_bytes(
         closed: None,
         refused: None,
     })
+}
+
+/// The bytes of an update that is prepared; none where there is nothing to send.
+pub fn encoded(alloc: Global, prepared: &Option<PreparedUpdate>) -> Result<Vec<u8>, AllocError>
+    ensures { IfOk result (λ bytes. bytes.items ≡ prepared_bytes prepared.now) }
+{
+    match prepared {
+        None => Ok(Vec::new(alloc)),
+        Some(prepared) => prepared.encode(),
+    }
 }
 
 /// What a viewer's bytes gave.

@@ -3,6 +3,7 @@
 ghost use Rattle.std.specs.Prelude.{◌≡◌, ◌≢◌, ◌++◌, ◌∷◌, [], List, IfSome, IfOk, OnOk, OnErr, MatchOption, MatchResult, IsOk};
 ghost use Rattle.std.specs.Prelude.{IsOkUnless, IsSome, None, Some, length, take, drop, slice_index, is_some, ◌↔◌, ◌<◌, ◌≤◌, ◌+◌, ◌*◌};
 ghost use Rattle.std.specs.Map.{keys_of};
+ghost use Rattle.std.specs.Option.{option_map};
 ghost use Rattle.viewer.specs.Viewer.{is_asking};
 ghost use Rattle.messages.specs.Reading.{fault_in_rest, is_open_rest};
 ghost use Rattle.messages.specs.Server.{server_version};
@@ -13,9 +14,10 @@ ghost use Rattle.scene.specs.Alone.{Tells};
 ghost use Rattle.viewer.specs.Given.{bytes_given};
 ghost use Rattle.scene.specs.Answers.{scene_after, answer_to};
 ghost use Rattle.scene.specs.Calls.{event_of};
+ghost use Rattle.scene.specs.Next.{IsNext};
 ghost use Rattle.scene.specs.Refusals.{viewer_at, absence, presence, refusal, Refuses};
 
-use crate::answers::{settled, with_bytes, with_nothing, with_reply};
+use crate::answers::{encoded, settled, with_bytes, with_nothing, with_reply};
 use crate::arriving::let_in;
 use crate::drawing::{moves_nothing, owe_rects, owe_region, region_of, region_of_rect, tell};
 use crate::limits::{checked, refusal_of, size_refusal, text_refusal, unless_refused};
@@ -26,7 +28,7 @@ use messages::Fault;
 use region::{Rect, Region};
 use std::alloc::{AllocError, Global};
 use std::marker::Model;
-use viewer::{LogEntry, Update};
+use viewer::{LogEntry, PreparedUpdate, Update};
 use viewer_list::ViewerList;
 
 /// One framebuffer, drawn in by the application, and its viewers.
@@ -533,12 +535,8 @@ impl Scene {
         ensures refused { Refuses result (absence (viewer_at self.old number)) }
         ensures err { OnErr result (self.new ≡ self.old) }
     {
-        let limit = self.config.rects_per_update;
-        let given = self.viewers.cut(number, &mut self.picture, limit)?;
-        let Some(update) = given else {
-            return Err(ScreenError::NoViewer);
-        };
-        Ok(update)
+        let prepared = self.prepare_cut(number)?;
+        Ok(self.commit_cut(number, prepared))
     }
 
     /// The same, encoded before the viewer changes.
@@ -550,12 +548,36 @@ impl Scene {
         ensures refused { Refuses result (absence (viewer_at self.old number)) }
         ensures err { OnErr result (self.new ≡ self.old) }
     {
+        let prepared = self.prepare_cut(number)?;
+        let bytes = encoded(self.alloc, &prepared)?;
+        self.commit_cut(number, prepared);
+        Ok(Listed::from_vec(bytes))
+    }
+
+    /// Prepares an update for a viewer; None where there is nothing to send. Refused as `NoViewer` where there is none with the
+    /// number. Nothing changes.
+    fn prepare_cut(&mut self, number: u64) -> Result<Option<PreparedUpdate>, ScreenError>
+        ensures next { IfOk result (IsNext self.new number) }
+        ensures some { IfOk result (λ prepared. IfSome prepared (λ p. p.update ≢ [])) }
+        ensures refused { Refuses result (absence (viewer_at self.old number)) }
+        ensures same { self.new ≡ self.old }
+    {
         let limit = self.config.rects_per_update;
-        let given = self.viewers.cut_bytes(number, &mut self.picture, limit)?;
-        let Some(bytes) = given else {
+        let given = self.viewers.prepare_cut(number, &mut self.picture, limit)?;
+        let Some(prepared) = given else {
             return Err(ScreenError::NoViewer);
         };
-        Ok(Listed::from_vec(bytes))
+        Ok(prepared)
+    }
+
+    /// Cuts what was prepared for a viewer.
+    fn commit_cut(&mut self, number: u64, prepared: Option<PreparedUpdate>) -> Option<Update>
+        requires { IsNext self.old number prepared }
+        ensures step { (config : Config) (list : List Event) → self.old ≡ scene_after config list →
+            self.new ≡ scene_after config (list ++ Event.Cut number ∷ []) }
+        ensures update { result ≡ option_map (λ p. p.update) prepared }
+    {
+        self.viewers.commit_cut(number, prepared)
     }
 
     /// One event, or why it is refused.

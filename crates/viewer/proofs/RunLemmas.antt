@@ -4,7 +4,7 @@ use Rattle.std.specs.List.{flat_map}
 use Rattle.std.proofs.Math.Nat.{zero-mul, add-mul, mul_comm, mul-le-mul_right}
 use Rattle.std.proofs.lemmas.Nat.{div-add-mod'}
 use Rattle.std.proofs.Math.Seq.{take-add}
-use Rattle.std.proofs.lemmas.List.{length-append, length-take, length-take-le, length-drop, take_rest, take-take, drop-take, drop-drop, take-append-drop}
+use Rattle.std.proofs.lemmas.List.{length-append, length-take-le, length-drop, take_rest, take-take, drop-take, drop-drop, take-append-drop}
 use Rattle.std.proofs.lemmas.List.Concat.{flat_map-append}
 
 -- a picture with places has columns
@@ -44,11 +44,6 @@ run_on f old new colours run done is added =
     ∙ take-append-drop (length run) (drop done colours) in
     ap (λ l. l ++ flat_map f behind) added ∙ append_assoc old (flat_map f run) (flat_map f behind)
     ∙ ap (λ l. old ++ l) (sym (flat_map-append f run behind) ∙ ap (flat_map f) split)
-
--- it ends where the colours end, or before
-pub run_within : (colours run : List ℕ) (done : ℕ) → done < length colours → run ≡ take (length run) (drop done colours) → done + length run ≤ length colours
-run_within colours run done below is =
-    omega (arith, ap (λ (l : List ℕ). length l) is, length-take (length run) (drop done colours), length-drop done colours)
 
 -- some of a run is taken behind what was taken before it
 pub part_on : (all run part new : List ℕ) (from some : ℕ) → part ≡ take (length part) (drop from all) → run ≡ take (length run) (drop (from + length part) all) → new ≡ part ++ take some run → some ≤ length run

@@ -3,6 +3,7 @@ use Rattle.std.specs.Prelude.{◌≢◌, ℕ, Bool, false, ◌&&◌, nat_lt, len
 use Rattle.messages.specs.Reading.{is_open_rest}
 use Rattle.copy_schedule.specs.Marks.{Marks}
 use Rattle.viewer.specs.declared.standing.Planned.{Planned}
+use Rattle.viewer.specs.declared.cutting.PreparedUpdate.{PreparedUpdate}
 use Rattle.viewer.specs.declared.parts.Part.{Part}
 use Rattle.viewer.specs.declared.parts.Part.TheVariants.{Nothing}
 use Rattle.viewer.specs.Viewer.{KeptViewer}
@@ -25,6 +26,15 @@ planned_bytes v p = front_bytes v ++ part_bytes p.part
 
 abbrev pub planned_viewer : KeptViewer → Planned → KeptViewer
 planned_viewer v p = record v { map_owed = false; notices = []; told = p.told; marks = marks_put v.marks p.marks }
+
+-- the bytes of an update that is prepared, or none; and the viewer once it is cut
+abbrev pub prepared_bytes : Option PreparedUpdate → List ℕ
+prepared_bytes None = []
+prepared_bytes (Some p) = p.update
+
+abbrev pub after_prepared : KeptViewer → Option PreparedUpdate → KeptViewer
+after_prepared v None = v
+after_prepared v (Some p) = record v { map_owed = false; notices = []; told = p.told; marks = marks_put v.marks p.marks }
 
 -- what is sent isn't empty, unless it is nothing
 abbrev pub IsSomething : Part → Type 0

@@ -1,17 +1,11 @@
 //! The colours of an update's rectangle: copied, or in rows that are shared with the picture until it is drawn over.
 
-ghost use Rattle.std.specs.Prelude.{◌≡◌, ◌+◌, ◌*◌, ◌^◌, ◌≤◌, ◌<◌, ◌↔◌, ◌++◌, IsTrue, true, length, take, drop, flat_map, IfOk};
-ghost use Rattle.std.specs.Prelude.{OnOk, OnErr};
-ghost use Rattle.pixel_translate.specs.Pixel.{colour_bytes};
-ghost use Rattle.encode_raw.specs.Raw.{raw};
+ghost use Rattle.std.specs.Prelude.{◌≡◌, ◌+◌, ◌*◌, ◌^◌, ◌≤◌, ◌<◌, ◌↔◌, ◌++◌, IsTrue, true, length, take, drop, IfOk, OnOk};
+ghost use Rattle.encode_rre.specs.Rre.{rre};
 ghost use Rattle.framebuffer.specs.Blocks.{block_colours};
-ghost use Rattle.viewer.specs.Sending.{encoded};
 
-use encode_hextile::encode_hextile_with_table;
-use encode_raw::{encode_raw_with_table, put_raw_pixels, rect_header};
 use encode_rre::{encode_rre_by_rows, encode_rre_with_table};
 use framebuffer::{Block, Framebuffer, Snapshot};
-use messages::Encoding;
 use pixel_translate::{Area, Table};
 use std::alloc::{AllocError, Global};
 use std::marker::Model;
@@ -56,27 +50,6 @@ fn rest_of_row(snapshot: &Snapshot, done: usize) -> &[u32]
     &snapshot.row(done / columns)[done % columns..]
 }
 
-/// Appends a rectangle of colours in RRE or Hextile, which take them in one list, and in the viewer's format.
-fn put_whole(
-    out: &mut Vec<u8>,
-    area: Area,
-    colours: &[u32],
-    encoding: Encoding,
-    table: &Table,
-) -> Result<(), AllocError>
-    requires wide { 1 ≤ area.w }
-    requires high { 1 ≤ area.h }
-    requires whole { length colours.now ≡ area.w * area.h }
-    ensures ok { OnOk result (out.new.items ≡ out.old.items ++ encoded encoding table.now area colours.now) }
-    ensures err { OnErr result (out.new.items ≡ out.old.items) }
-{
-    match encoding {
-        Encoding::Raw => encode_raw_with_table(out, area, colours, table),
-        Encoding::Rre => encode_rre_with_table(out, area, colours, table),
-        Encoding::Hextile => encode_hextile_with_table(out, area, colours, table),
-    }
-}
-
 /// Whether a snapshot has as many columns and rows as an area.
 fn is_of_size(snapshot: &Snapshot, area: Area) -> bool
     ensures width { result ≡ true → snapshot.now.width ≡ area.w }
@@ -85,26 +58,24 @@ fn is_of_size(snapshot: &Snapshot, area: Area) -> bool
     snapshot.width() == usize::from(area.w) && snapshot.height() == usize::from(area.h)
 }
 
-/// Appends a rectangle of shared colours in RRE or Hextile. RRE takes the rows as they stand; for Hextile they are gathered.
+/// Appends a rectangle of shared colours in RRE, which takes the rows as they stand.
 fn put_shared(
     out: &mut Vec<u8>,
     area: Area,
     snapshot: &Snapshot,
-    encoding: Encoding,
     table: &Table,
 ) -> Result<(), AllocError>
     requires wide { 1 ≤ area.w }
     requires high { 1 ≤ area.h }
     requires whole { length snapshot.now.colours ≡ area.w * area.h }
-    ensures ok { OnOk result (out.new.items ≡ out.old.items ++ encoded encoding table.now area snapshot.now.colours) }
-    ensures err { OnErr result (out.new.items ≡ out.old.items) }
+    ensures { OnOk result (out.new.items ≡ out.old.items ++ rre table.now area snapshot.now.colours) }
 {
-    if encoding == Encoding::Rre && is_of_size(snapshot, area) {
+    if is_of_size(snapshot, area) {
         let lines = snapshot.lines()?;
         return encode_rre_by_rows(out, area, &lines, table);
     }
     let colours = snapshot.colours()?;
-    put_whole(out, area, &colours, encoding, table)
+    encode_rre_with_table(out, area, &colours, table)
 }
 
 impl Colours {
@@ -134,7 +105,7 @@ impl Colours {
     }
 
     /// The colours from a place on: shared ones to the end of a row, copied ones to their end.
-    pub fn run_from(&self, done: usize) -> &[u32]
+    fn run_from(&self, done: usize) -> &[u32]
         requires { done < length self.now }
         ensures part { result.now ≡ take (length result.now) (drop done self.now) }
         ensures some { 1 ≤ length result.now }
@@ -173,56 +144,16 @@ impl Colours {
         Ok(part)
     }
 
-    /// Appends them as a rectangle in Raw, run by run.
-    fn put_raw(&self, out: &mut Vec<u8>, area: Area, table: &Table) -> Result<(), AllocError>
-        ensures { OnOk result (out.new.items ≡ out.old.items ++ raw table.now area self.now) }
-    {
-        rect_header(out, area, 0)?;
-        let mut done = 0;
-        while self.goes_on(done) {
-            let run = self.run_from(done);
-            put_raw_pixels(out, run, table)?;
-            done += run.len();
-        }
-        Ok(())
-    }
-
-    /// Appends them as a rectangle in RRE or Hextile.
-    pub fn put_gathered(
-        &self,
-        out: &mut Vec<u8>,
-        area: Area,
-        encoding: Encoding,
-        table: &Table,
-    ) -> Result<(), AllocError>
+    /// Appends them as a rectangle in RRE.
+    pub fn put_rre(&self, out: &mut Vec<u8>, area: Area, table: &Table) -> Result<(), AllocError>
         requires wide { 1 ≤ area.w }
         requires high { 1 ≤ area.h }
         requires whole { length self.now ≡ area.w * area.h }
-        ensures ok { OnOk result (out.new.items ≡ out.old.items ++ encoded encoding table.now area self.now) }
-        ensures err { OnErr result (out.new.items ≡ out.old.items) }
+        ensures { OnOk result (out.new.items ≡ out.old.items ++ rre table.now area self.now) }
     {
         match &self.storage {
-            Storage::Copied(colours) => put_whole(out, area, colours, encoding, table),
-            Storage::Shared(snapshot) => put_shared(out, area, snapshot, encoding, table),
-        }
-    }
-
-    /// Appends them as a rectangle in the viewer's encoding and format.
-    pub fn put(
-        &self,
-        out: &mut Vec<u8>,
-        area: Area,
-        encoding: Encoding,
-        table: &Table,
-    ) -> Result<(), AllocError>
-        requires wide { 1 ≤ area.w }
-        requires high { 1 ≤ area.h }
-        requires whole { length self.now ≡ area.w * area.h }
-        ensures { OnOk result (out.new.items ≡ out.old.items ++ encoded encoding table.now area self.now) }
-    {
-        match encoding {
-            Encoding::Raw => self.put_raw(out, area, table),
-            Encoding::Rre | Encoding::Hextile => self.put_gathered(out, area, encoding, table),
+            Storage::Copied(colours) => encode_rre_with_table(out, area, colours, table),
+            Storage::Shared(snapshot) => put_shared(out, area, snapshot, table),
         }
     }
 }

@@ -1,7 +1,7 @@
 //! What an update takes out of the screen: its size, or the rectangles that the marks chose, with their colours.
 
 ghost use Rattle.std.specs.Prelude.{◌≡◌, ◌<◌, ◌≤◌, ◌+◌, ◌*◌, ◌^◌, All, length, flat_map, IfOk, ◌-ℤ◌, nat_abs, [], ◌≢◌, Some, None, IfSome};
-ghost use Rattle.std.specs.Prelude.{OnOk, OnErr};
+ghost use Rattle.std.specs.Prelude.{is_some};
 ghost use Rattle.region.specs.Places.{IsOnScreen, source_rect, longest_side};
 ghost use Rattle.copy_schedule.specs.Marks.{IsInside, HasSourcesInside, new_marks, cut_of};
 ghost use Rattle.pixel_translate.specs.declared.PixelFormat.{PixelFormat};
@@ -11,8 +11,8 @@ ghost use Rattle.framebuffer.specs.Picture.{colours_of};
 ghost use Rattle.viewer.specs.Sending.{copy_bytes, pixel_rectangle, bytes_of, with_update, sending_open, sending_kept};
 ghost use Rattle.viewer.specs.Standings.{viewer_in};
 ghost use Rattle.framebuffer.specs.Blocks.{block_rect, FitsIn};
-ghost use Rattle.viewer.specs.Updates.{moved_bytes, coloured_bytes, rectangles_bytes, part_bytes};
-ghost use Rattle.viewer.specs.Given.{bytes_given, planned_bytes, planned_viewer, IsSomething};
+ghost use Rattle.viewer.specs.Updates.{moved_bytes, coloured_bytes, rectangles_bytes};
+ghost use Rattle.viewer.specs.Given.{planned_bytes, planned_viewer, prepared_bytes, after_prepared, IsSomething};
 
 use crate::colours::Colours;
 use crate::hearing::tells_size;
@@ -20,7 +20,7 @@ use crate::parts::{Coloured, Moved, Part, Rectangles};
 use crate::sizes::Size;
 use crate::standing::{Planned, Standing, put_marks};
 use crate::translation::Translation;
-use crate::update::{Update, encode_all};
+use crate::update::Update;
 use copy_schedule::{Cut, Marks, PreparedCut};
 use framebuffer::{Block, Framebuffer, block_within};
 use messages::Encoding;
@@ -227,26 +227,51 @@ fn plan(
     }
 }
 
-/// Cuts an update for a viewer, or None where there is nothing to send. All growths are made before
-/// the viewer changes.
-pub fn cut_in(
+/// An update that is prepared for a viewer, and the size that the viewer was told and its marks once it is cut; the marks stand
+/// here only where they change.
+#[derive(Drop)]
+pub struct PreparedUpdate {
+    update: Update,
+    told: Option<Size>,
+    marks: Option<Marks>,
+}
+
+impl PreparedUpdate {
+    /// The bytes that the viewer is sent, as `Update::encode` gives them.
+    pub fn encode(&self) -> Result<Vec<u8>, AllocError>
+        ensures { IfOk result (λ bytes. bytes.items ≡ prepared_bytes (Some self.now)) }
+    {
+        self.update.encode()
+    }
+
+    /// Whether the viewer's marks change. They know all drawing then that the viewer was told of.
+    pub fn has_marks(&self) -> bool
+        ensures { result ≡ is_some self.now.marks }
+    {
+        self.marks.is_some()
+    }
+}
+
+/// Prepares an update for a viewer, or None where there is nothing to send.
+pub fn prepare_in(
     alloc: Global,
     picture: &mut Framebuffer,
     limit: u32,
-    standing: &mut Standing,
-) -> Result<Option<Update>, AllocError>
+    standing: &Standing,
+) -> Result<Option<PreparedUpdate>, AllocError>
     requires limit { limit ≤ 1000 }
-    requires width { standing.old.marks.width ≡ picture.old.width }
-    requires height { standing.old.marks.height ≡ picture.old.height }
+    requires width { standing.now.marks.width ≡ picture.old.width }
+    requires height { standing.now.marks.height ≡ picture.old.height }
     ensures same { picture.new ≡ picture.old }
-    ensures bytes { IfOk result (λ update. bytes_given update ≡
-        (sending_kept picture.old.width picture.old.height limit picture.old.colours (viewer_in standing.old)).0) }
-    ensures viewer { OnOk result (viewer_in standing.new ≡
-        (sending_kept picture.old.width picture.old.height limit picture.old.colours (viewer_in standing.old)).1) }
-    ensures some { IfOk result (λ update. IfSome update (λ u. u ≢ [])) }
-    ensures width { standing.new.marks.width ≡ standing.old.marks.width }
-    ensures height { standing.new.marks.height ≡ standing.old.marks.height }
-    ensures err { OnErr result (standing.new ≡ standing.old) }
+    ensures bytes { IfOk result (λ prepared. prepared_bytes prepared ≡
+        (sending_kept picture.old.width picture.old.height limit picture.old.colours (viewer_in standing.now)).0) }
+    ensures viewer { IfOk result (λ prepared. after_prepared (viewer_in standing.now) prepared ≡
+        (sending_kept picture.old.width picture.old.height limit picture.old.colours (viewer_in standing.now)).1) }
+    ensures some { IfOk result (λ prepared. IfSome prepared (λ p. p.update ≢ [])) }
+    ensures width { IfOk result (λ prepared. (after_prepared (viewer_in standing.now) prepared).marks.width ≡
+        standing.now.marks.width) }
+    ensures height { IfOk result (λ prepared. (after_prepared (viewer_in standing.now) prepared).marks.height ≡
+        standing.now.marks.height) }
 {
     if !standing.ear.is_open() {
         return Ok(None);
@@ -255,42 +280,29 @@ pub fn cut_in(
     if part.is_nothing() && standing.notices.is_empty() && !standing.map_owed {
         return Ok(None);
     }
-    let notices = standing.notices.take(alloc)?;
+    let notices = standing.notices.share(alloc)?;
     let map_owed = standing.map_owed;
-    standing.map_owed = false;
-    standing.told = told;
-    put_marks(standing, marks);
-    Ok(Some(Update::new(alloc, map_owed, notices, part)))
+    let update = Update::new(alloc, map_owed, notices, part);
+    Ok(Some(PreparedUpdate {
+        update,
+        told,
+        marks,
+    }))
 }
 
-/// The same, encoded.
-pub fn cut_bytes_in(
-    alloc: Global,
-    picture: &mut Framebuffer,
-    limit: u32,
-    standing: &mut Standing,
-) -> Result<Vec<u8>, AllocError>
-    requires limit { limit ≤ 1000 }
-    requires width { standing.old.marks.width ≡ picture.old.width }
-    requires height { standing.old.marks.height ≡ picture.old.height }
-    ensures same { picture.new ≡ picture.old }
-    ensures bytes { IfOk result (λ bytes. bytes.items ≡
-        (sending_kept picture.old.width picture.old.height limit picture.old.colours (viewer_in standing.old)).0) }
-    ensures viewer { OnOk result (viewer_in standing.new ≡
-        (sending_kept picture.old.width picture.old.height limit picture.old.colours (viewer_in standing.old)).1) }
-    ensures width { standing.new.marks.width ≡ standing.old.marks.width }
-    ensures height { standing.new.marks.height ≡ standing.old.marks.height }
-    ensures err { OnErr result (standing.new ≡ standing.old) }
+/// Cuts what is prepared for a viewer.
+pub fn commit_in(standing: &mut Standing, prepared: PreparedUpdate) -> Update
+    ensures update { result ≡ prepared_bytes (Some prepared) }
+    ensures viewer { viewer_in standing.new ≡ after_prepared (viewer_in standing.old) (Some prepared) }
 {
-    if !standing.ear.is_open() {
-        return Ok(Vec::new(alloc));
-    }
-    let Planned { part, told, marks } = plan(alloc, picture, limit, standing)?;
-    let notices = standing.notices.as_slice();
-    let bytes = encode_all(alloc, standing.map_owed, notices, &part)?;
+    let PreparedUpdate {
+        update,
+        told,
+        marks,
+    } = prepared;
     standing.map_owed = false;
     standing.told = told;
     standing.notices.clear();
     put_marks(standing, marks);
-    Ok(bytes)
+    update
 }

@@ -76,8 +76,7 @@ fn begin_rectangle(
             Ok(Some(Begun::Colours(0)))
         }
         Encoding::Rre => {
-            let colours = &rectangle.colours;
-            colours.put_gathered(out, rectangle.area, encoding, table)?;
+            rectangle.colours.put_rre(out, rectangle.area, table)?;
             Ok(None)
         }
         Encoding::Hextile => {
@@ -190,7 +189,7 @@ fn reached_after(next: usize, begun: Option<Begun>) -> Reached
 
 /// Appends the next part of rectangles, behind what is reached: the head with the copies, a rectangle in RRE, the head of
 /// another, some of the pixels of one in Raw, or a row of tiles of one in Hextile. What is reached then.
-fn put_next(
+pub fn put_next(
     alloc: Global,
     out: &mut Vec<u8>,
     rectangles: &Rectangles,
@@ -221,6 +220,18 @@ fn put_next(
             let begun = go_on(alloc, out, &coloured[next], table, begun)?;
             Ok(reached_after(next, begun))
         }
+    }
+}
+
+/// Whether nothing of rectangles is left behind what is reached.
+pub fn is_nothing_left(rectangles: &Rectangles, reached: Reached) -> bool
+    requires { IsWithin rectangles.now.coloured.items reached }
+    ensures { IsTrue result ↔ (left_of rectangles.now reached ≡ []) }
+{
+    match reached {
+        Reached::Nothing => false,
+        Reached::Before(next) => next >= rectangles.coloured.len(),
+        Reached::Within(_, _) => false,
     }
 }
 
@@ -261,11 +272,7 @@ impl RectanglesLeft {
     pub fn is_ended(&self) -> bool
         ensures { IsTrue result ↔ (self.now ≡ []) }
     {
-        match self.reached {
-            Reached::Nothing => false,
-            Reached::Before(next) => next >= self.rectangles.coloured.len(),
-            Reached::Within(_, _) => false,
-        }
+        is_nothing_left(&self.rectangles, self.reached)
     }
 
     /// Appends the next part.

@@ -20,9 +20,10 @@ mod update;
 mod viewer;
 
 pub use copy_schedule::{LogEntry, Prepared};
+pub use cutting::PreparedUpdate;
 use listed::Listed;
 use messages::{Fault, Input};
-pub use notices::Notice;
+pub use notices::{Notice, Text};
 pub use sizes::Size;
 pub use stream::Stream;
 pub use update::Update;

@@ -1,15 +1,54 @@
 //! The notices that wait for a viewer, in the order in which they were made.
 
-ghost use Rattle.std.specs.Prelude.{◌≡◌, ◌++◌, [], All, IfOk, OnOk, OnErr, flat_map, nat_lt, length};
+ghost use Rattle.std.specs.Prelude.{◌≡◌, ◌++◌, [], All, IfOk, OnOk, flat_map, nat_lt, length};
 ghost use Rattle.viewer.specs.Viewer.{none_wait, with_notice};
 ghost use Rattle.viewer.specs.Sending.{notice_bytes};
 ghost use Rattle.viewer.specs.Short.{IsShort};
 
-use listed::Listed;
 use messages::{put_bell, put_cut_text};
 use std::alloc::{AllocError, Global};
 use std::marker::Model;
-use std::mem;
+use std::sync::Arc;
+
+/// A text, which all share to whom it goes. Contracts see the list of its bytes.
+#[derive(Debug, Drop)]
+pub struct Text {
+    bytes: Arc<Vec<u8>>,
+}
+
+impl Model for Text {
+    ghost use Rattle.std.specs.Prelude.{ℕ, List};
+    ghost use Rattle.std.specs.Arc.{arc_value};
+
+    ghost Value = { List ℕ };
+
+    ghost view = { λ t. (arc_value t.bytes).items };
+}
+
+impl Text {
+    /// A copy of a text. `AllocError` where its room is refused.
+    pub fn new(alloc: Global, bytes: &[u8]) -> Result<Text, AllocError>
+        ensures { IfOk result (λ text. text ≡ bytes.now) }
+    {
+        let bytes = Arc::new(alloc, Vec::from_slice(alloc, bytes)?)?;
+        Ok(Text { bytes })
+    }
+
+    /// The same text, for one more. This takes no memory; `AllocError` where 2^64 - 1 share it.
+    pub fn share(&self) -> Result<Text, AllocError>
+        ensures { IfOk result (λ text. text ≡ self.now) }
+    {
+        let bytes = Arc::try_clone(&self.bytes)?;
+        Ok(Text { bytes })
+    }
+
+    /// Its bytes.
+    pub fn as_slice(&self) -> &[u8]
+        ensures { result.now ≡ self.now }
+    {
+        &self.bytes
+    }
+}
 
 /// What goes to a viewer before the rectangles of its next update.
 #[derive(Debug, Drop)]
@@ -17,7 +56,19 @@ pub enum Notice {
     /// A Bell (RFC 6143, 7.6.3).
     Bell,
     /// A ServerCutText (RFC 6143, 7.6.4).
-    CutText(Listed<u8>),
+    CutText(Text),
+}
+
+impl Notice {
+    /// The same notice, for one more. This takes no memory; `AllocError` where 2^64 - 1 share its text.
+    fn share(&self) -> Result<Notice, AllocError>
+        ensures { IfOk result (λ notice. notice ≡ self.now) }
+    {
+        match self {
+            Notice::Bell => Ok(Notice::Bell),
+            Notice::CutText(text) => Ok(Notice::CutText(text.share()?)),
+        }
+    }
 }
 
 /// How many notices wait at most; a further one is not kept.
@@ -75,14 +126,6 @@ impl Notices {
         self.waiting.is_empty()
     }
 
-    /// The notices that wait.
-    pub fn as_slice(&self) -> &[Notice]
-        ensures items { result.now ≡ self.now }
-        ensures short { All IsShort result.now }
-    {
-        &self.waiting
-    }
-
     /// No notice waits from now on.
     pub fn clear(&mut self)
         ensures { self.new ≡ [] }
@@ -90,18 +133,16 @@ impl Notices {
         self.waiting.clear();
     }
 
-    /// Takes all that wait out.
-    pub fn take(&mut self, alloc: Global) -> Result<Vec<Notice>, AllocError>
-        ensures taken { IfOk result (λ taken. taken.items ≡ self.old) }
-        ensures short { IfOk result (λ taken. All IsShort taken.items) }
-        ensures left { OnOk result (self.new ≡ []) }
-        ensures err { OnErr result (self.new ≡ self.old) }
+    /// All that wait, shared with an update.
+    pub fn share(&self, alloc: Global) -> Result<Vec<Notice>, AllocError>
+        ensures items { IfOk result (λ shared. shared.items ≡ self.now) }
+        ensures short { IfOk result (λ shared. All IsShort shared.items) }
     {
-        if self.waiting.is_empty() {
-            return Ok(Vec::new(alloc));
+        let mut shared = Vec::with_capacity(alloc, self.waiting.len())?;
+        for notice in &self.waiting {
+            shared.push(notice.share()?)?;
         }
-        let room = Vec::with_capacity(alloc, MOST)?;
-        Ok(mem::replace(&mut self.waiting, room))
+        Ok(shared)
     }
 }
 

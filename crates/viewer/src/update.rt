@@ -4,16 +4,16 @@ ghost use Rattle.std.specs.Prelude.{◌≡◌, ◌+◌, ◌<◌, ◌++◌, All, 
 ghost use Rattle.messages.specs.Server.{update_head};
 ghost use Rattle.viewer.specs.Short.{IsShort};
 ghost use Rattle.viewer.specs.Sending.{map_bytes, size_bytes};
-ghost use Rattle.viewer.specs.Updates.{moved_bytes, coloured_bytes, rectangles_bytes, part_bytes, all_bytes};
+ghost use Rattle.viewer.specs.Updates.{moved_bytes, rectangles_bytes, part_bytes, all_bytes};
 
-use crate::left::UpdateLeft;
+use crate::left::{Reached, UpdateLeft, is_nothing_left, put_next};
 use crate::notices::{Notice, put_notices};
 use crate::parts::{Coloured, Moved, Part, Rectangles};
 use crate::sizes::Size;
 use crate::stream::Stream;
 use encode_raw::{encode_copy, rect_header};
 use messages::{DESKTOP_SIZE, Encoding, put_colour_map, put_update_head};
-use pixel_translate::{Area, Table};
+use pixel_translate::Area;
 use std::alloc::{AllocError, Global};
 use std::marker::Model;
 
@@ -50,33 +50,6 @@ fn put_moves(out: &mut Vec<u8>, moves: &[Moved]) -> Result<(), AllocError>
     Ok(())
 }
 
-/// Appends a rectangle of colours in the viewer's encoding and format.
-fn put_rectangle(
-    out: &mut Vec<u8>,
-    rectangle: &Coloured,
-    encoding: Encoding,
-    table: &Table,
-) -> Result<(), AllocError>
-    ensures { OnOk result (out.new.items ≡ out.old.items ++ coloured_bytes encoding table.now rectangle.now) }
-{
-    rectangle.colours.put(out, rectangle.area, encoding, table)
-}
-
-/// Appends rectangles of colours in the viewer's encoding and format.
-fn put_coloured(
-    out: &mut Vec<u8>,
-    rectangles: &[Coloured],
-    encoding: Encoding,
-    table: &Table,
-) -> Result<(), AllocError>
-    ensures { OnOk result (out.new.items ≡ out.old.items ++ flat_map (coloured_bytes encoding table.now) rectangles.now) }
-{
-    for rectangle in rectangles {
-        put_rectangle(out, rectangle, encoding, table)?;
-    }
-    Ok(())
-}
-
 /// How many bytes rectangles have in Raw, or more.
 fn size_of(rectangles: &[Coloured]) -> usize {
     let mut size = 0usize;
@@ -98,16 +71,22 @@ pub fn put_opening(out: &mut Vec<u8>, rectangles: &Rectangles) -> Result<(), All
     put_moves(out, &rectangles.moves)
 }
 
-/// Appends a FramebufferUpdate. The room for all of it in Raw is made at once.
-fn put_rectangles(out: &mut Vec<u8>, rectangles: &Rectangles) -> Result<(), AllocError>
+/// Appends a FramebufferUpdate, one part after the other. The room for all of it in Raw is made at once.
+fn put_rectangles(
+    alloc: Global,
+    out: &mut Vec<u8>,
+    rectangles: &Rectangles,
+) -> Result<(), AllocError>
     ensures { OnOk result (out.new.items ≡ out.old.items ++ rectangles_bytes rectangles.now) }
 {
     if rectangles.encoding == Encoding::Raw {
         out.reserve(size_of(&rectangles.coloured).saturating_add(4 + 16 * rectangles.moves.len()))?;
     }
-    put_opening(out, rectangles)?;
-    let table = rectangles.format.table();
-    put_coloured(out, &rectangles.coloured, rectangles.encoding, table)
+    let mut reached = Reached::Nothing;
+    'parts: while !is_nothing_left(rectangles, reached) {
+        reached = put_next(alloc, out, rectangles, reached)?;
+    }
+    Ok(())
 }
 
 /// Appends the colour map where it is owed (RFC 6143, 7.6.2).
@@ -136,31 +115,14 @@ pub(crate) fn put_size(out: &mut Vec<u8>, size: Size) -> Result<(), AllocError>
 }
 
 /// Appends a FramebufferUpdate if there is one.
-fn put_part(out: &mut Vec<u8>, part: &Part) -> Result<(), AllocError>
+fn put_part(alloc: Global, out: &mut Vec<u8>, part: &Part) -> Result<(), AllocError>
     ensures { OnOk result (out.new.items ≡ out.old.items ++ part_bytes part.now) }
 {
     match part {
         Part::Nothing => Ok(()),
         Part::NewSize(size) => put_size(out, *size),
-        Part::Places(rectangles) => put_rectangles(out, rectangles),
+        Part::Places(rectangles) => put_rectangles(alloc, out, rectangles),
     }
-}
-
-/// The bytes of the colour map where it is owed, of notices, and then of a FramebufferUpdate if there is one.
-pub(crate) fn encode_all(
-    alloc: Global,
-    map_owed: bool,
-    notices: &[Notice],
-    part: &Part,
-) -> Result<Vec<u8>, AllocError>
-    requires { All IsShort notices.now }
-    ensures { IfOk result (λ bytes. bytes.items ≡ all_bytes map_owed notices.now part.now) }
-{
-    let mut out = Vec::new(alloc);
-    put_map(&mut out, map_owed)?;
-    put_notices(&mut out, notices)?;
-    put_part(&mut out, part)?;
-    Ok(out)
 }
 
 impl Update {
@@ -182,7 +144,11 @@ impl Update {
     pub fn encode(&self) -> Result<Vec<u8>, AllocError>
         ensures { IfOk result (λ bytes. bytes.items ≡ self.now) }
     {
-        encode_all(self.alloc, self.map_owed, &self.notices, &self.part)
+        let mut out = Vec::new(self.alloc);
+        put_map(&mut out, self.map_owed)?;
+        put_notices(&mut out, &self.notices)?;
+        put_part(self.alloc, &mut out, &self.part)?;
+        Ok(out)
     }
 
     /// The same bytes, to be given in pieces: no more is encoded at once than a row in Raw, a row of tiles in

@@ -8,13 +8,13 @@ ghost use Rattle.copy_schedule.specs.Log.{logged, IsCutEntry};
 ghost use Rattle.viewer.specs.Viewer.{is_asking, none_wait, noticed, new_viewer, kept_viewer, viewer_resized};
 ghost use Rattle.viewer.specs.Hearing.{after_items, heard_reply};
 ghost use Rattle.viewer.specs.Sending.{tells_size, sending_kept};
-ghost use Rattle.viewer.specs.Given.{bytes_given, keeps_notices};
+ghost use Rattle.viewer.specs.Given.{bytes_given, prepared_bytes, after_prepared, keeps_notices};
 ghost use Rattle.viewer.specs.Short.{IsShort};
 ghost use Rattle.viewer.specs.Told.{viewer_told, told_unless};
 ghost use Rattle.region.specs.Places.{longest_side};
 
 use crate::HeardPiece;
-use crate::cutting::{cut_bytes_in, cut_in};
+use crate::cutting::{PreparedUpdate, commit_in, prepare_in};
 use crate::hearing::{hear_in, is_pending, new_standing};
 use crate::notices::Notice;
 use crate::sizes::{Size, view_by, whole};
@@ -127,28 +127,40 @@ impl Viewer {
         ensures height { self.new.marks.height ≡ self.old.marks.height }
         ensures err { OnErr result (self.new ≡ self.old) }
     {
-        cut_in(self.alloc, picture, limit, &mut self.standing)
+        match self.prepare_cut(picture, limit)? {
+            None => Ok(None),
+            Some(prepared) => Ok(Some(self.commit_cut(prepared))),
+        }
     }
 
-    /// The same, encoded before the viewer changes; no bytes where there is nothing to send.
-    pub fn cut_bytes(
-        &mut self,
+    /// Prepares an update of the picture for the viewer, with at most so many copies and so many rectangles of colours; None where
+    /// there is nothing to send. `commit_cut` cuts it.
+    pub fn prepare_cut(
+        &self,
         picture: &mut Framebuffer,
         limit: u32,
-    ) -> Result<Vec<u8>, AllocError>
+    ) -> Result<Option<PreparedUpdate>, AllocError>
         requires limit { limit ≤ 1000 }
-        requires width { self.old.marks.width ≡ picture.old.width }
-        requires height { self.old.marks.height ≡ picture.old.height }
+        requires width { self.now.marks.width ≡ picture.old.width }
+        requires height { self.now.marks.height ≡ picture.old.height }
         ensures same { picture.new ≡ picture.old }
-        ensures bytes { IfOk result (λ bytes. bytes.items ≡
-            (sending_kept picture.old.width picture.old.height limit picture.old.colours self.old).0) }
-        ensures viewer { OnOk result (self.new ≡
-            (sending_kept picture.old.width picture.old.height limit picture.old.colours self.old).1) }
-        ensures width { self.new.marks.width ≡ self.old.marks.width }
-        ensures height { self.new.marks.height ≡ self.old.marks.height }
-        ensures err { OnErr result (self.new ≡ self.old) }
+        ensures bytes { IfOk result (λ prepared. prepared_bytes prepared ≡
+            (sending_kept picture.old.width picture.old.height limit picture.old.colours self.now).0) }
+        ensures viewer { IfOk result (λ prepared. after_prepared self.now prepared ≡
+            (sending_kept picture.old.width picture.old.height limit picture.old.colours self.now).1) }
+        ensures some { IfOk result (λ prepared. IfSome prepared (λ p. p.update ≢ [])) }
+        ensures width { IfOk result (λ prepared. (after_prepared self.now prepared).marks.width ≡ self.now.marks.width) }
+        ensures height { IfOk result (λ prepared. (after_prepared self.now prepared).marks.height ≡ self.now.marks.height) }
     {
-        cut_bytes_in(self.alloc, picture, limit, &mut self.standing)
+        prepare_in(self.alloc, picture, limit, &self.standing)
+    }
+
+    /// Cuts the update that was prepared. This takes no memory.
+    pub fn commit_cut(&mut self, prepared: PreparedUpdate) -> Update
+        ensures update { result ≡ prepared_bytes (Some prepared) }
+        ensures viewer { self.new ≡ after_prepared self.old (Some prepared) }
+    {
+        commit_in(&mut self.standing, prepared)
     }
 
     /// Whether the viewer had its ServerInit (RFC 6143, 7.3.2) and met no fault.

@@ -2,10 +2,11 @@
 
 ghost use Rattle.copy_schedule.specs.declared.LogEntry.{LogEntry};
 ghost use Rattle.std.specs.Prelude.{All, true, false, ◌≡◌, ◌≢◌, ◌++◌, [], ℕ, List, ◌≤◌, length, IfOk, IfSome, OnOk, OnErr};
+ghost use Rattle.std.specs.Option.{option_map};
 ghost use Rattle.messages.specs.Reading.{rest, new_items};
 ghost use Rattle.viewer.specs.Hearing.{after_items, heard_reply};
 ghost use Rattle.viewer.specs.Sending.{sending_kept};
-ghost use Rattle.viewer.specs.Given.{bytes_given};
+ghost use Rattle.viewer.specs.Given.{prepared_bytes, after_prepared};
 ghost use Rattle.copy_schedule.specs.Log.{IsCutEntry};
 ghost use Rattle.viewer.specs.Viewer.{is_asking};
 ghost use Rattle.viewer.specs.Told.{viewer_told};
@@ -14,7 +15,7 @@ ghost use Rattle.viewer_list.specs.Lagging.{waiting, caught_up, up_to_date, move
 
 use framebuffer::Framebuffer;
 use std::alloc::{AllocError, Global};
-use viewer::{LogEntry, Reply, Update, Viewer};
+use viewer::{LogEntry, PreparedUpdate, Reply, Update, Viewer};
 
 /// A viewer, and its position in the log: how many of the log's first entries its marks have taken. They lack the others.
 #[derive(Drop)]
@@ -203,52 +204,47 @@ pub fn is_pending_one(lagging: &Lagging, log: &[LogEntry]) -> bool
     lagging.viewer.is_pending_after(lacked(log, lagging))
 }
 
-/// An update is cut for the viewer, once its marks have caught up. Where it would have nothing to send, they needn't.
-pub fn cut_one(
+/// An update is prepared for the viewer, once its marks have caught up. Where it would have nothing to send, they needn't.
+pub fn prepare_one(
     lagging: &mut Lagging,
     log: &[LogEntry],
     picture: &mut Framebuffer,
     limit: u32,
-) -> Result<Option<Update>, AllocError>
+) -> Result<Option<PreparedUpdate>, AllocError>
     requires fits { Fits log.now lagging.old }
     requires limit { limit ≤ 1000 }
     requires width { (caught_up log.now lagging.old).marks.width ≡ picture.old.width }
     requires height { (caught_up log.now lagging.old).marks.height ≡ picture.old.height }
     ensures same { picture.new ≡ picture.old }
-    ensures bytes { IfOk result (λ update. bytes_given update ≡
+    ensures bytes { IfOk result (λ prepared. prepared_bytes prepared ≡
         (sending_kept picture.old.width picture.old.height limit picture.old.colours (caught_up log.now lagging.old)).0) }
-    ensures viewer { OnOk result (caught_up log.now lagging.new ≡
+    ensures viewer { IfOk result (λ prepared. after_prepared (caught_up log.now lagging.old) prepared ≡
         (sending_kept picture.old.width picture.old.height limit picture.old.colours (caught_up log.now lagging.old)).1) }
-    ensures some { IfOk result (λ update. IfSome update (λ u. u ≢ [])) }
+    ensures some { IfOk result (λ prepared. IfSome prepared (λ p. p.update ≢ [])) }
     ensures fits { Fits log.now lagging.new }
-    ensures err { OnErr result (caught_up log.now lagging.new ≡ caught_up log.now lagging.old) }
+    ensures kept { caught_up log.now lagging.new ≡ caught_up log.now lagging.old }
 {
     if !is_pending_one(lagging, log) {
         return Ok(None);
     }
     catch_up(lagging, log)?;
-    lagging.viewer.cut(picture, limit)
+    lagging.viewer.prepare_cut(picture, limit)
 }
 
-/// The same, encoded before the viewer changes.
-pub fn cut_bytes_one(
+/// What was prepared is cut for the viewer, if anything was. Where its marks change, they lack nothing then.
+pub fn commit_one(
     lagging: &mut Lagging,
     log: &[LogEntry],
-    picture: &mut Framebuffer,
-    limit: u32,
-) -> Result<Vec<u8>, AllocError>
-    requires fits { Fits log.now lagging.old }
-    requires limit { limit ≤ 1000 }
-    requires width { (caught_up log.now lagging.old).marks.width ≡ picture.old.width }
-    requires height { (caught_up log.now lagging.old).marks.height ≡ picture.old.height }
-    ensures same { picture.new ≡ picture.old }
-    ensures bytes { IfOk result (λ bytes. bytes.items ≡
-        (sending_kept picture.old.width picture.old.height limit picture.old.colours (caught_up log.now lagging.old)).0) }
-    ensures viewer { OnOk result (caught_up log.now lagging.new ≡
-        (sending_kept picture.old.width picture.old.height limit picture.old.colours (caught_up log.now lagging.old)).1) }
+    prepared: Option<PreparedUpdate>,
+) -> Option<Update>
+    requires { Fits log.now lagging.old }
+    ensures update { result ≡ option_map (λ p. p.update) prepared }
+    ensures viewer { caught_up log.now lagging.new ≡ after_prepared (caught_up log.now lagging.old) prepared }
     ensures fits { Fits log.now lagging.new }
-    ensures err { OnErr result (caught_up log.now lagging.new ≡ caught_up log.now lagging.old) }
 {
-    catch_up(lagging, log)?;
-    lagging.viewer.cut_bytes(picture, limit)
+    let prepared = prepared?;
+    if prepared.has_marks() {
+        lagging.taken = log.len();
+    }
+    Some(lagging.viewer.commit_cut(prepared))
 }

@@ -29,7 +29,7 @@ ghost use Rattle.messages.specs.Reading.{rest, new_items, fault_in_rest, is_open
 ghost use Rattle.viewer.specs.declared.notices.Notice.{Notice};
 ghost use Rattle.viewer.specs.Hearing.{after_items, heard_reply};
 ghost use Rattle.viewer.specs.Sending.{sending_kept};
-ghost use Rattle.viewer.specs.Given.{bytes_given};
+ghost use Rattle.viewer.specs.Given.{prepared_bytes, after_prepared};
 ghost use Rattle.region.specs.Places.{longest_side};
 ghost use Rattle.viewer.specs.Viewer.{KeptViewer, is_asking, viewer_resized};
 ghost use Rattle.viewer_list.specs.Viewers.{viewer_of, with_viewer, drawn, is_pending, IsOfSize, viewer_noticed};
@@ -43,14 +43,13 @@ mod walks;
 use client_list::{Clients, ConnectError, NoViewer};
 use framebuffer::Framebuffer;
 use joining::{join_entries, start_anew};
-use lagging::{Lagging, cut_bytes_one, cut_one, hear_one, is_asking_one, is_pending_one};
-use listed::Listed;
+use lagging::{Lagging, commit_one, hear_one, is_asking_one, is_pending_one, prepare_one};
 use messages::Fault;
 use notices::{keep_texts, ring_all, texts};
 use resizing::{prepare_all, resize_all};
 use std::alloc::{AllocError, Global};
 use std::marker::Model;
-use viewer::{LogEntry, Reply, Update, Viewer};
+use viewer::{LogEntry, PreparedUpdate, Reply, Update, Viewer};
 use walks::some_lags;
 
 /// How many entries the log has at most besides joined ones.
@@ -290,63 +289,48 @@ impl ViewerList {
         Ok(Some(reply))
     }
 
-    /// Cuts an update of the picture for the viewer with a number, with at most so many copies and so many rectangles of colours;
-    /// None where no viewer has the number, or `Some(None)` where there is nothing to send. After an `AllocError` the viewers are
-    /// as they were.
-    pub fn cut(
+    /// Prepares an update of the picture for the viewer with a number, with at most so many copies and so many rectangles of
+    /// colours; None where no viewer has the number, or `Some(None)` where there is nothing to send. `commit_cut` cuts it. The
+    /// viewers stay as they are, also after an `AllocError`.
+    pub fn prepare_cut(
         &mut self,
         number: u64,
         picture: &mut Framebuffer,
         limit: u32,
-    ) -> Result<Option<Option<Update>>, AllocError>
+    ) -> Result<Option<Option<PreparedUpdate>>, AllocError>
         requires limit { limit ≤ 1000 }
         requires width { (v : KeptViewer) → viewer_of self.old number ≡ Some v → v.marks.width ≡ picture.old.width }
         requires height { (v : KeptViewer) → viewer_of self.old number ≡ Some v → v.marks.height ≡ picture.old.height }
         ensures same { picture.new ≡ picture.old }
+        ensures kept { self.new.pairs ≡ self.old.pairs }
         ensures absent { viewer_of self.old number ≡ None → result ≡ Ok None }
-        ensures none { viewer_of self.old number ≡ None → self.new.pairs ≡ self.old.pairs }
         ensures bytes { (v : KeptViewer) → viewer_of self.old number ≡ Some v →
-            IfOk result (λ update. option_map bytes_given update ≡
+            IfOk result (λ prepared. option_map prepared_bytes prepared ≡
             Some (sending_kept picture.old.width picture.old.height limit picture.old.colours v).0) }
         ensures viewer { (v : KeptViewer) → viewer_of self.old number ≡ Some v →
-            OnOk result (self.new.pairs ≡ with_viewer self.old number
-            (sending_kept picture.old.width picture.old.height limit picture.old.colours v).1) }
-        ensures some { IfOk result (λ update. IfSome update (λ u. IfSome u (λ bytes. bytes ≢ []))) }
-        ensures err { OnErr result (self.new.pairs ≡ self.old.pairs) }
+            IfOk result (λ prepared. option_map (after_prepared v) prepared ≡
+            Some (sending_kept picture.old.width picture.old.height limit picture.old.colours v).1) }
+        ensures some { IfOk result (λ prepared. IfSome prepared (λ given. IfSome given (λ p. p.update ≢ []))) }
     {
         let Some(lagging) = self.viewers.get_mut(number) else {
             return Ok(None);
         };
-        let update = cut_one(lagging, &self.log, picture, limit)?;
-        Ok(Some(update))
+        let prepared = prepare_one(lagging, &self.log, picture, limit)?;
+        Ok(Some(prepared))
     }
 
-    /// The same, encoded before the viewer changes; no bytes where there is nothing to send.
-    pub fn cut_bytes(
-        &mut self,
-        number: u64,
-        picture: &mut Framebuffer,
-        limit: u32,
-    ) -> Result<Option<Vec<u8>>, AllocError>
-        requires limit { limit ≤ 1000 }
-        requires width { (v : KeptViewer) → viewer_of self.old number ≡ Some v → v.marks.width ≡ picture.old.width }
-        requires height { (v : KeptViewer) → viewer_of self.old number ≡ Some v → v.marks.height ≡ picture.old.height }
-        ensures same { picture.new ≡ picture.old }
-        ensures absent { viewer_of self.old number ≡ None → result ≡ Ok None }
-        ensures none { viewer_of self.old number ≡ None → self.new.pairs ≡ self.old.pairs }
-        ensures bytes { (v : KeptViewer) → viewer_of self.old number ≡ Some v →
-            IfOk result (λ bytes. option_map (λ b. b.items) bytes ≡
-            Some (sending_kept picture.old.width picture.old.height limit picture.old.colours v).0) }
+    /// Cuts what was prepared for the viewer with a number; None where that is nothing, or where no viewer has the number. This
+    /// takes no memory.
+    pub fn commit_cut(&mut self, number: u64, prepared: Option<PreparedUpdate>) -> Option<Update>
+        ensures absent { viewer_of self.old number ≡ None → self.new.pairs ≡ self.old.pairs }
+        ensures update { viewer_of self.old number ≢ None → result ≡ option_map (λ p. p.update) prepared }
         ensures viewer { (v : KeptViewer) → viewer_of self.old number ≡ Some v →
-            OnOk result (self.new.pairs ≡ with_viewer self.old number
-            (sending_kept picture.old.width picture.old.height limit picture.old.colours v).1) }
-        ensures err { OnErr result (self.new.pairs ≡ self.old.pairs) }
+            self.new.pairs ≡ with_viewer self.old number (after_prepared v prepared) }
     {
         let Some(lagging) = self.viewers.get_mut(number) else {
-            return Ok(None);
+            return None;
         };
-        let bytes = cut_bytes_one(lagging, &self.log, picture, limit)?;
-        Ok(Some(bytes))
+        commit_one(lagging, &self.log, prepared)
     }
 
     // The log is emptied where no viewer lacks an entry.

@@ -9,9 +9,8 @@ ghost use Rattle.viewer_list.specs.Viewers.{text_for};
 
 use crate::lagging::Lagging;
 use client_list::Clients;
-use listed::Listed;
 use std::alloc::{AllocError, Global};
-use viewer::Notice;
+use viewer::{Notice, Text};
 
 /// Each viewer keeps a Bell, where it is open.
 pub fn ring_all(viewers: &mut Clients<Lagging>)
@@ -25,17 +24,17 @@ pub fn ring_all(viewers: &mut Clients<Lagging>)
 }
 
 /// A text for a viewer, if it would keep one.
-fn text_for(alloc: Global, lagging: &Lagging, text: &[u8]) -> Result<Option<Notice>, AllocError>
+fn text_for(lagging: &Lagging, text: &Text) -> Result<Option<Notice>, AllocError>
     ensures { IfOk result (λ notice. notice ≡ text_for text.now lagging.now.viewer) }
 {
     if lagging.viewer.keeps_notices() {
-        Ok(Some(Notice::CutText(Listed::from_slice(alloc, text)?)))
+        Ok(Some(Notice::CutText(text.share()?)))
     } else {
         Ok(None)
     }
 }
 
-/// A text for each viewer that would keep one.
+/// A text for each viewer that would keep one; all share its bytes.
 pub fn texts(
     alloc: Global,
     viewers: &Clients<Lagging>,
@@ -43,10 +42,11 @@ pub fn texts(
 ) -> Result<Vec<Option<Notice>>, AllocError>
     ensures { IfOk result (λ notices. notices.items ≡ map (λ l. text_for text.now l.viewer) (values_of viewers.now.pairs)) }
 {
+    let shared = Text::new(alloc, text)?;
     let mut notices = Vec::with_capacity(alloc, viewers.len())?;
     let mut position = viewers.first();
     while let Some(at) = position {
-        notices.push(text_for(alloc, viewers.at(at), text)?)?;
+        notices.push(text_for(viewers.at(at), &shared)?)?;
         position = viewers.next(at);
     }
     Ok(notices)

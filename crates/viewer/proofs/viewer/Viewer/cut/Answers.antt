@@ -1,4 +1,0 @@
-use Rattle.viewer.proofs.viewer.Viewer.cut.Goals as goal
-
-pub returns-clause-bytes : goal.returns-clause-bytes
-returns-clause-bytes c = rw (← c.self.view_is) c.cut_in.ensures.bytes
