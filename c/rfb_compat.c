@@ -6,7 +6,6 @@
 #define _POSIX_C_SOURCE 200809L
 #include "rfb_compat.h"
 #include "vnc_server.h"
-#include <limits.h>
 #include <poll.h>
 #include <pthread.h>
 #include <stdarg.h>
@@ -18,11 +17,10 @@ struct rfbCompat {
     vnc_waker *waker;
     pthread_mutex_t lock;
     pthread_t looper;   /* the thread of rfbRunEventLoop, where hasLooper */
-    rfbBool hasLooper, isEnding;
-    rfbBool isStale;    /* memory was refused as pixels were taken */
+    rfbBool hasLooper, isEnding, isStale; /* stale: memory was refused as pixels were taken */
     int depth, waiting; /* turns that run, as a hook may take one; those that wait */
     long usec;
-    uint64_t next;      /* the next viewer's number */
+    uint64_t last;      /* the number of the viewer that came last */
 };
 
 static void lock(rfbScreenInfoPtr s) { pthread_mutex_lock(&s->compat->lock); }
@@ -177,8 +175,7 @@ static void come(rfbScreenInfoPtr s, uint64_t number)
 {
     static char unknown[] = "unknown";
     rfbClientPtr cl = s->socketState == RFB_SOCKET_READY ? (rfbClientPtr)calloc(1, sizeof *cl) : NULL;
-    for (; s->compat->next < number; s->compat->next++) let_go(s, s->compat->next); /* whose coming was lost */
-    s->compat->next = number + 1;
+    while (++s->compat->last < number) let_go(s, s->compat->last); /* whose coming was lost */
     if (!cl) { let_go(s, number); return; }
     cl->screen = s, cl->number = number, cl->sock = -1, cl->host = unknown, cl->next = s->clientHead;
     s->clientHead = cl;
@@ -195,7 +192,7 @@ static void close_some(rfbScreenInfoPtr s)
         if (cl->isClosing && !cl->isLetGo) let_go(s, cl->number);
         cl->isLetGo = cl->isClosing;
     }
-    while (vnc_server_viewer_count(s->compat->server) > known && let_go(s, s->compat->next)) s->compat->next++;
+    while (vnc_server_viewer_count(s->compat->server) > known && let_go(s, s->compat->last + 1)) s->compat->last++;
 }
 
 /* An input goes to the program's hook. While a client holds a button down, the pointer is its alone. */
@@ -228,8 +225,7 @@ static void settle(rfbScreenInfoPtr s)
     if (s->socketState != RFB_SOCKET_SHUTDOWN || s->clientHead) return;
     vnc_waker_free(c->waker);
     vnc_server_free(c->server);
-    c->waker = NULL;
-    c->server = NULL;
+    c->waker = NULL, c->server = NULL;
 }
 
 /* ---- turns ---- */
@@ -245,12 +241,10 @@ static rfbBool wants_password(rfbScreenInfoPtr s)
 static void serve(rfbScreenInfoPtr s)
 {
     vnc_server *server = s->compat->server;
-    rfbBool isStale = s->compat->isStale;
     vnc_visit visit;
     vnc_input in;
     int32_t code;
-    s->compat->isStale = FALSE;
-    if (isStale) take(s, 0, 0, s->width, s->height);
+    if (s->compat->isStale) { s->compat->isStale = FALSE; take(s, 0, 0, s->width, s->height); }
     close_some(s);
     code = vnc_server_process_events(server, 0);
     if (code < 0) rfbErr("a turn ended early: code %d\n", (int)code);
@@ -262,22 +256,16 @@ static void serve(rfbScreenInfoPtr s)
     while (vnc_server_inputs(server, &in, 1) > 0) tell(s, &in);
 }
 
-/* How many milliseconds a turn waits, of `ms` at most, or without end below 0. */
-static int wait_of(struct rfbCompat *c, int ms)
-{
-    int most = !c->server ? -1 : c->isEnding ? 0 : c->isStale ? RETRY : vnc_server_longest_wait(c->server);
-    return most >= 0 && (ms < 0 || most < ms) ? most : ms;
-}
-
-/* One turn: whether the server had something to do. It waits without the lock. */
+/* One turn, which waits so many milliseconds at most, without the lock, or without end below 0: whether the server had something to do. */
 static rfbBool turn(rfbScreenInfoPtr s, int ms)
 {
     struct rfbCompat *c = s->compat;
     struct pollfd ready = {-1, POLLIN, 0};
+    int most;
     lock(s);
-    c->depth++;
-    c->waiting++;
-    ms = wait_of(c, ms);
+    c->depth++, c->waiting++;
+    most = !c->server ? -1 : c->isEnding ? 0 : c->isStale ? RETRY : vnc_server_longest_wait(c->server);
+    if (most >= 0 && (ms < 0 || most < ms)) ms = most;
     if (c->server) ready.fd = vnc_server_fd(c->server);
     unlock(s);
     poll(&ready, 1, ms);
@@ -291,7 +279,7 @@ static rfbBool turn(rfbScreenInfoPtr s, int ms)
     return ready.fd >= 0 && (ms == 0 || ready.revents) ? TRUE : FALSE;
 }
 
-static int ms_of(rfbScreenInfoPtr s, long usec) { return usec < 0 ? s->deferUpdateTime : usec / 1000 < INT_MAX ? (int)((usec + 999) / 1000) : INT_MAX; }
+static int ms_of(rfbScreenInfoPtr s, long usec) { return usec < 0 ? s->deferUpdateTime : usec < 1000000000 ? (int)((usec + 999) / 1000) : 1000000; }
 rfbBool rfbProcessEvents(rfbScreenInfoPtr s, long usec) { return turn(s, ms_of(s, usec)); }
 
 rfbBool rfbIsActive(rfbScreenInfoPtr s)
@@ -341,10 +329,8 @@ rfbScreenInfoPtr rfbGetScreen(int *argc, char **argv, int width, int height, int
     pthread_mutexattr_init(&recursive);
     pthread_mutexattr_settype(&recursive, PTHREAD_MUTEX_RECURSIVE);
     pthread_mutex_init(&s->compat->lock, &recursive);
-    s->compat->next = 1;
     s->whitePixel = 0xffffffff, s->port = 5900, s->deferUpdateTime = 5, s->listenInterface = htonl(INADDR_ANY);
-    s->desktopName = "LibVNCServer";
-    s->ptrAddEvent = rfbDefaultPtrAddEvent;
+    s->desktopName = "LibVNCServer", s->ptrAddEvent = rfbDefaultPtrAddEvent;
     rfbProcessArguments(s, argc, argv);
     return s;
 }
@@ -374,8 +360,7 @@ void rfbNewFramebuffer(rfbScreenInfoPtr s, char *frameBuffer, int width, int hei
     lock(s);
     if (c->server && (s->width != width || s->height != height)) code = vnc_server_new_framebuffer(c->server, (uint32_t)width, (uint32_t)height);
     if (code == 0 && !set_format(s, width, height, bitsPerSample, samplesPerPixel, bytesPerPixel)) code = VNC_BAD_FORMAT;
-    if (code < 0) rfbErr("rfbNewFramebuffer: the server ends: code %d\n", (int)code);
-    if (code < 0) c->isEnding = TRUE; /* as the old one may be gone */
+    if (code < 0) { rfbErr("rfbNewFramebuffer: the server ends: code %d\n", (int)code); c->isEnding = TRUE; } /* as the old one may be gone */
     s->frameBuffer = code < 0 ? NULL : frameBuffer;
     take(s, 0, 0, s->width, s->height);
     wake(s);
@@ -391,8 +376,7 @@ void rfbShutdownServer(rfbScreenInfoPtr s, rfbBool disconnectClients)
     if (disconnectClients) c->isEnding = TRUE;
     wake(s);
     unlock(s);
-    if (joins) pthread_join(c->looper, NULL);
-    if (joins) c->hasLooper = FALSE;
+    if (joins) { pthread_join(c->looper, NULL); c->hasLooper = FALSE; }
     lock(s);
     if (c->depth == 0) settle(s);
     unlock(s);
@@ -425,10 +409,9 @@ static char *value_of(const char *name, int *argc, char **argv)
 
 rfbBool rfbProcessArguments(rfbScreenInfoPtr s, int *argc, char **argv)
 {
-    char *port = value_of("-rfbport", argc, argv), *address = value_of("-listen", argc, argv), *name = value_of("-desktop", argc, argv);
+    char *port = value_of("-rfbport", argc, argv), *address = value_of("-listen", argc, argv);
     char *password = value_of("-passwd", argc, argv), *file = value_of("-rfbauth", argc, argv);
     if (port) s->port = atoi(port);
-    if (name) s->desktopName = name;
     if (password || file) s->authPasswdData = password ? password : file; /* which is refused */
     if (address && inet_pton(AF_INET, strcmp(address, "localhost") ? address : "127.0.0.1", &s->listenInterface) != 1) s->port = 0; /* likewise */
     return TRUE;

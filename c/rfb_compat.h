@@ -2,13 +2,13 @@
  * with this in place of <rfb/rfb.h>. Written from the names and their meaning. Neither this nor the C behind it is proved.
  * cc program.c rfb_compat.c rfb_compat_draw.c $(pkg-config --cflags --libs vnc_server) -lpthread
  *
- * As there    The program draws in frameBuffer, in its own format, and marks what it changed. deferUpdateTime milliseconds after the
- *             first mark, what stands in the marked places then is sent, where it differs from what was sent. Hooks run in the loop.
+ * As there    The program draws in frameBuffer, in its own format, and then marks what it changed. What stands there as it is marked is
+ *             sent, where it differs from what was there. Hooks run in the loop.
  * Refused     A screen that wants a password is never served: see rfbInitServer. A client that is put on hold is closed.
  * Not here    What docs/C_LIBRARY.md lists. A field that is not read says so; what is missing doesn't compile.
- * Threads     Each call takes the screen's lock, which is recursive. The loop has it but while it waits and while hooks run. A client
- *             iterator holds it from rfbGetClientIterator to rfbReleaseClientIterator. A rfbClientPtr lasts until its clientGoneHook
- *             has returned. frameBuffer is read with no lock of the program's. One thread takes the turns.
+ * Threads     Each call takes the screen's lock, which is recursive. The loop has it but while it waits, and so do hooks: a hook must
+ *             not wait for another thread that calls. One thread takes the turns. A rfbClientPtr lasts until its clientGoneHook has
+ *             returned. frameBuffer is read with no lock of the program's.
  * Machines    Those with pthreads whose lowest byte comes first.
  */
 #ifndef RFB_COMPAT_H
@@ -97,7 +97,7 @@ typedef struct _rfbScreenInfo {
     int port;                       /* 1 to 65535 */
     in_addr_t listenInterface;      /* all of the machine's, unless it is set before rfbInitServer */
     enum rfbSocketState socketState;
-    int deferUpdateTime;            /* in milliseconds, 5 at first */
+    int deferUpdateTime;            /* milliseconds that rfbProcessEvents waits below 0; updates are not put off */
     rfbBool alwaysShared;           /* not read: all share, whatever a viewer asks */
     struct _rfbClientRec *clientHead, *pointerClient;
     char *frameBuffer;              /* the program's */
@@ -126,8 +126,8 @@ typedef struct _rfbClientRec {
     rfbBool isClosing, isLetGo, isGone; /* not the program's */
 } rfbClientRec;
 
-/* The server. Colours have 1 to 10 bits a sample, and pixels 1 to 4 bytes: else rfbGetScreen gives NULL. It also does where an argument
- * (-rfbport, -listen, -desktop, -deferupdate, -passwd, -rfbauth) has no value or a bad one. */
+/* The server. 1 to 8192 columns and rows, 1 to 10 bits a sample, and pixels of 1 to 4 bytes: else rfbGetScreen gives NULL. Of arguments it
+ * takes out -rfbport, -listen, -passwd and -rfbauth with their values. */
 rfbScreenInfoPtr rfbGetScreen(int *argc, char **argv, int width, int height, int bitsPerSample, int samplesPerPixel, int bytesPerPixel);
 
 /* Listens. Where it can't, or a password is wanted, it says so by rfbErr, and nobody is served: socketState is RFB_SOCKET_SHUTDOWN,
@@ -142,7 +142,7 @@ void rfbShutdownServer(rfbScreenInfoPtr s, rfbBool disconnectClients);
 void rfbScreenCleanup(rfbScreenInfoPtr s); /* not from a hook */
 rfbBool rfbIsActive(rfbScreenInfoPtr s);
 
-/* A turn, which waits so many microseconds at most, below 0 deferUpdateTime. TRUE where places changed that are sent. */
+/* A turn, which waits so many microseconds at most, below 0 deferUpdateTime. TRUE where the server had something to do. */
 rfbBool rfbProcessEvents(rfbScreenInfoPtr s, long usec);
 void rfbRunEventLoop(rfbScreenInfoPtr s, long usec, rfbBool runInBackground); /* it waits without end where usec is below 0 */
 rfbBool rfbProcessArguments(rfbScreenInfoPtr s, int *argc, char **argv);
@@ -165,7 +165,7 @@ void rfbSendServerCutText(rfbScreenInfoPtr s, char *text, int len); /* at most 6
 void rfbCloseClient(rfbClientPtr cl); /* in the next turn */
 void rfbDefaultPtrAddEvent(int buttonMask, int x, int y, rfbClientPtr cl);
 
-/* Regions: the places of any of their rectangles. Where memory is refused the first two give NULL, and sraRgnOr aborts the program. */
+/* Regions: the places of any of their rectangles. Where memory is refused the first two give NULL, or, as sraRgnOr, abort the program. */
 sraRegion *sraRgnCreate(void);
 sraRegion *sraRgnCreateRect(int x1, int y1, int x2, int y2);
 void sraRgnDestroy(sraRegion *r);

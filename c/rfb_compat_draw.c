@@ -69,8 +69,7 @@ rfbFontDataPtr rfbLoadConsoleFont(char *filename)
     if (file) fclose(file);
     if (!isRead) { free(f); return NULL; }
     for (int c = 0; c < 256; c++) f->metaData[5 * c] = 16 * c, f->metaData[5 * c + 1] = 8, f->metaData[5 * c + 2] = 16;
-    f->font.data = f->data;
-    f->font.metaData = f->metaData;
+    f->font.data = f->data, f->font.metaData = f->metaData;
     return &f->font;
 }
 
@@ -148,44 +147,35 @@ rfbCursorPtr rfbMakeXCursor(int width, int height, char *source, char *mask)
     return c;
 }
 
-void rfbFreeCursor(rfbCursorPtr c)
-{
-    if (c && c->cleanupRichSource) free(c->richSource);
-    if (c && c->cleanup) free(c);
-}
+void rfbFreeCursor(rfbCursorPtr c) { if (c && c->cleanupRichSource) free(c->richSource); if (c && c->cleanup) free(c); }
 
 void rfbDefaultPtrAddEvent(int buttonMask, int x, int y, rfbClientPtr cl)
 {
     (void)buttonMask;
-    cl->screen->cursorX = x;
-    cl->screen->cursorY = y;
+    cl->screen->cursorX = x, cl->screen->cursorY = y;
 }
 
 /* ---- regions ---- */
 
 sraRegion *sraRgnCreate(void) { return (sraRegion *)calloc(1, sizeof(sraRegion)); }
 
-sraRegion *sraRgnCreateRect(int x1, int y1, int x2, int y2)
-{
-    sraRegion *r = (sraRegion *)malloc(sizeof *r);
-    if (r) r->at = (sraRect *)malloc(sizeof *r->at);
-    if (!r || !r->at) { free(r); return NULL; }
-    r->at->x1 = x1, r->at->y1 = y1, r->at->x2 = x2, r->at->y2 = y2;
-    r->count = 1;
-    return r;
-}
-
-void sraRgnDestroy(sraRegion *r)
-{
-    if (r) free(r->at);
-    free(r);
-}
+void sraRgnDestroy(sraRegion *r) { if (r) free(r->at); free(r); }
 
 void sraRgnOr(sraRegion *dst, const sraRegion *src)
 {
-    sraRect *more = (sraRect *)realloc(dst->at, (dst->count + src->count + 1) * sizeof *more);
+    const size_t count = src->count;
+    sraRect *more = (sraRect *)realloc(dst->at, (dst->count + count + 1) * sizeof *more);
     if (!more) abort();
-    for (size_t k = 0; k < src->count; k++) more[dst->count + k] = src->at[k];
     dst->at = more;
-    dst->count += src->count;
+    if (count) memcpy(more + dst->count, src->at, count * sizeof *more);
+    dst->count += count;
+}
+
+sraRegion *sraRgnCreateRect(int x1, int y1, int x2, int y2)
+{
+    sraRect one = {x1, y1, x2, y2};
+    const sraRegion src = {&one, 1};
+    sraRegion *r = sraRgnCreate();
+    if (r) sraRgnOr(r, &src);
+    return r;
 }
