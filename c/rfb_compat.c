@@ -1,8 +1,8 @@
 /* rfb_compat.c: the server of rfb_compat.h, over vnc_server.h.
  *
- * The library has a picture of its own, and a mark takes what stands in frameBuffer then into it. A copy moves frameBuffer and the picture
- * alike, and then takes where it came to: so what was drawn and not marked is put right there. Nothing is taken while nobody watches;
- * for a viewer that comes, all is. */
+ * The library has a picture of its own. A mark is kept as a rectangle, and the next turn takes what stands there then out of frameBuffer
+ * into the picture. A copy first takes what is marked, then moves frameBuffer and the picture alike, and marks where it came to: so what
+ * was drawn and not marked is put right there. Nothing is taken while nobody watches; for a viewer that comes, all is. */
 #define _POSIX_C_SOURCE 200809L
 #include "rfb_compat.h"
 #include "vnc_server.h"
@@ -10,16 +10,18 @@
 #include <pthread.h>
 #include <stdarg.h>
 
-enum { MOST_VIEWERS = 1000, MOST_COLUMNS = 8192, MOST_ROWS = 8192, RETRY = 10 };
+enum { MOST_VIEWERS = 1000, MOST_COLUMNS = 8192, MOST_ROWS = 8192, MOST_MARKS = 32, LONGEST = 1000000 };
 
 struct rfbCompat {
     vnc_server *server; /* none before rfbInitServer, and once it has ended */
     vnc_waker *waker;
     pthread_mutex_t lock;
     pthread_t looper;   /* the thread of rfbRunEventLoop, where hasLooper */
-    rfbBool hasLooper, isEnding, isStale; /* stale: memory was refused as pixels were taken */
+    rfbBool hasLooper, isEnding;
     int depth, waiting; /* turns that run, as a hook may take one; those that wait */
     long usec;
+    sraRect marked[MOST_MARKS];
+    int marks;
     uint64_t last;      /* the number of the viewer that came last */
 };
 
@@ -63,22 +65,34 @@ static int64_t take_rect(rfbScreenInfoPtr s, sraRect r)
                            stride, f->trueColour ? &format : NULL, f->trueColour ? 1 : 0, table, f->trueColour ? 0 : 256);
 }
 
-/* Takes what of a rectangle lies on the screen, its corners in any order. */
-static void take(rfbScreenInfoPtr s, int x1, int y1, int x2, int y2)
+/* What is marked is taken. Where memory is refused the rest stays marked. */
+static void take_marks(rfbScreenInfoPtr s)
 {
-    const sraRect r = {larger(smaller(x1, x2), 0), larger(smaller(y1, y2), 0), smaller(larger(x1, x2), s->width), smaller(larger(y1, y2), s->height)};
-    const int64_t code = s->compat->server && s->clientHead && s->frameBuffer && r.x1 < r.x2 && r.y1 < r.y2 ? take_rect(s, r) : 0;
-    if (code == VNC_OUT_OF_MEMORY) s->compat->isStale = TRUE;
-    else if (code < 0) rfbErr("frameBuffer can't be taken: code %d\n", (int)code);
-    if (code != 0) wake(s);
+    struct rfbCompat *c = s->compat;
+    for (; c->marks > 0; c->marks--) {
+        const int64_t code = c->server && s->frameBuffer ? take_rect(s, c->marked[c->marks - 1]) : 0;
+        if (code == VNC_OUT_OF_MEMORY) return;
+        if (code < 0) rfbErr("frameBuffer can't be taken: code %d\n", (int)code);
+    }
 }
 
-void rfbMarkRectAsModified(rfbScreenInfoPtr s, int x1, int y1, int x2, int y2)
+/* Marks what of a rectangle lies on the screen, its corners in any order. */
+static void mark(rfbScreenInfoPtr s, int x1, int y1, int x2, int y2)
 {
-    lock(s);
-    take(s, x1, y1, x2, y2);
-    unlock(s);
+    struct rfbCompat *c = s->compat;
+    sraRect r = {larger(smaller(x1, x2), 0), larger(smaller(y1, y2), 0), smaller(larger(x1, x2), s->width), smaller(larger(y1, y2), s->height)};
+    if (!s->clientHead || r.x1 >= r.x2 || r.y1 >= r.y2) return;
+    for (int k = 0; k < c->marks; k++) {
+        const sraRect m = c->marked[k], both = {smaller(r.x1, m.x1), smaller(r.y1, m.y1), larger(r.x2, m.x2), larger(r.y2, m.y2)};
+        if (memcmp(&both, &m, sizeof m) == 0) return;
+        if (c->marks == MOST_MARKS) r = both; /* which becomes the one around all */
+    }
+    if (c->marks == MOST_MARKS) c->marks = 0;
+    c->marked[c->marks++] = r;
+    wake(s);
 }
+
+void rfbMarkRectAsModified(rfbScreenInfoPtr s, int x1, int y1, int x2, int y2) { lock(s); mark(s, x1, y1, x2, y2); unlock(s); }
 
 void rfbMarkRegionAsModified(rfbScreenInfoPtr s, sraRegionPtr r)
 {
@@ -90,8 +104,7 @@ void rfbMarkRegionAsModified(rfbScreenInfoPtr s, sraRegionPtr r)
 /* What of a rectangle lies on the screen, and comes from there. */
 static sraRect copied(rfbScreenInfoPtr s, sraRect r, int dx, int dy)
 {
-    const sraRect none = {0, 0, 0, 0};
-    const sraRect on = {larger(r.x1, larger(dx, 0)), larger(r.y1, larger(dy, 0)), smaller(r.x2, s->width + smaller(dx, 0)), smaller(r.y2, s->height + smaller(dy, 0))};
+    const sraRect none = {0, 0, 0, 0}, on = {larger(r.x1, larger(dx, 0)), larger(r.y1, larger(dy, 0)), smaller(r.x2, s->width + smaller(dx, 0)), smaller(r.y2, s->height + smaller(dy, 0))};
     return on.x1 < on.x2 && on.y1 < on.y2 ? on : none;
 }
 
@@ -114,13 +127,13 @@ static void copy(rfbScreenInfoPtr s, const sraRect *to, size_t count, int dx, in
 {
     if (!s->frameBuffer || dx <= -s->width || dx >= s->width || dy <= -s->height || dy >= s->height) return;
     lock(s);
+    if (!isMoved) take_marks(s);
     if (!isMoved) copy_pixels(s, to, count, dx, dy);
     for (size_t k = 0; k < count; k++) {
         const sraRect r = copied(s, to[k], dx, dy);
         if (s->clientHead && s->compat->server) vnc_server_do_copy_rect(s->compat->server, r.x1, r.y1, r.x2, r.y2, dx, dy);
-        take(s, r.x1, r.y1, r.x2, r.y2);
+        mark(s, r.x1, r.y1, r.x2, r.y2);
     }
-    wake(s);
     unlock(s);
 }
 
@@ -147,20 +160,8 @@ void rfbSendServerCutText(rfbScreenInfoPtr s, char *text, int len) { if (text &&
 
 /* ---- clients; the lock is held ---- */
 
-void rfbCloseClient(rfbClientPtr cl)
-{
-    lock(cl->screen);
-    cl->isClosing = TRUE;
-    wake(cl->screen);
-    unlock(cl->screen);
-}
-
-static rfbClientPtr client_of(rfbScreenInfoPtr s, uint64_t number)
-{
-    rfbClientPtr cl = s->clientHead;
-    while (cl && cl->number != number) cl = cl->next;
-    return cl;
-}
+void rfbCloseClient(rfbClientPtr cl) { lock(cl->screen); cl->isClosing = TRUE; wake(cl->screen); unlock(cl->screen); }
+static rfbClientPtr client_of(rfbClientPtr cl, uint64_t number) { while (cl && cl->number != number) cl = cl->next; return cl; }
 
 /* Whether a viewer was let go. Where that is refused, nobody is served any more. */
 static rfbBool let_go(rfbScreenInfoPtr s, uint64_t number)
@@ -180,7 +181,9 @@ static void come(rfbScreenInfoPtr s, uint64_t number)
     cl->screen = s, cl->number = number, cl->sock = -1, cl->host = unknown, cl->next = s->clientHead;
     s->clientHead = cl;
     if (s->newClientHook && s->newClientHook(cl) != RFB_CLIENT_ACCEPT) cl->isClosing = TRUE;
-    if (!cl->isClosing) take(s, 0, 0, s->width, s->height);
+    if (cl->isClosing) return;
+    mark(s, 0, 0, s->width, s->height);
+    take_marks(s);
 }
 
 /* Lets go those that are to be closed, and viewers that no client is of, as their coming was lost. */
@@ -198,7 +201,7 @@ static void close_some(rfbScreenInfoPtr s)
 /* An input goes to the program's hook. While a client holds a button down, the pointer is its alone. */
 static void tell(rfbScreenInfoPtr s, const vnc_input *in)
 {
-    rfbClientPtr cl = client_of(s, in->viewer);
+    rfbClientPtr cl = client_of(s->clientHead, in->viewer);
     char *text;
     if (!cl || cl->isClosing || cl->viewOnly || (in->kind == VNC_POINTER && s->pointerClient && s->pointerClient != cl)) return;
     if (in->kind == VNC_POINTER) s->pointerClient = in->buttons ? cl : NULL;
@@ -237,19 +240,19 @@ static rfbBool wants_password(rfbScreenInfoPtr s)
     return TRUE;
 }
 
-/* A turn of the library's; then hooks run. */
+/* Takes what is marked, and a turn of the library's; then hooks run. */
 static void serve(rfbScreenInfoPtr s)
 {
     vnc_server *server = s->compat->server;
     vnc_visit visit;
     vnc_input in;
     int32_t code;
-    if (s->compat->isStale) { s->compat->isStale = FALSE; take(s, 0, 0, s->width, s->height); }
+    take_marks(s);
     close_some(s);
     code = vnc_server_process_events(server, 0);
     if (code < 0) rfbErr("a turn ended early: code %d\n", (int)code);
     while (vnc_server_comings_and_goings(server, &visit, 1) > 0) {
-        rfbClientPtr cl = client_of(s, visit.viewer);
+        rfbClientPtr cl = client_of(s->clientHead, visit.viewer);
         if (visit.kind == VNC_CAME) come(s, visit.viewer);
         else if (cl) cl->isGone = TRUE;
     }
@@ -264,7 +267,7 @@ static rfbBool turn(rfbScreenInfoPtr s, int ms)
     int most;
     lock(s);
     c->depth++, c->waiting++;
-    most = !c->server ? -1 : c->isEnding ? 0 : c->isStale ? RETRY : vnc_server_longest_wait(c->server);
+    most = !c->server ? -1 : c->isEnding ? 0 : smaller(vnc_server_longest_wait(c->server), c->marks ? s->deferUpdateTime : LONGEST);
     if (most >= 0 && (ms < 0 || most < ms)) ms = most;
     if (c->server) ready.fd = vnc_server_fd(c->server);
     unlock(s);
@@ -279,7 +282,7 @@ static rfbBool turn(rfbScreenInfoPtr s, int ms)
     return ready.fd >= 0 && (ms == 0 || ready.revents) ? TRUE : FALSE;
 }
 
-static int ms_of(rfbScreenInfoPtr s, long usec) { return usec < 0 ? s->deferUpdateTime : usec < 1000000000 ? (int)((usec + 999) / 1000) : 1000000; }
+static int ms_of(rfbScreenInfoPtr s, long usec) { return usec < 0 ? s->deferUpdateTime : usec < 1000L * LONGEST ? (int)((usec + 999) / 1000) : LONGEST; }
 rfbBool rfbProcessEvents(rfbScreenInfoPtr s, long usec) { return turn(s, ms_of(s, usec)); }
 
 rfbBool rfbIsActive(rfbScreenInfoPtr s)
@@ -341,15 +344,14 @@ void rfbInitServer(rfbScreenInfoPtr s)
     char address[INET_ADDRSTRLEN] = "", name[256] = "";
     int32_t code = VNC_CANNOT_LISTEN;
     if (c->server) return;
-    if (s->desktopName) strncpy(name, s->desktopName, sizeof name - 1);
+    strncpy(name, s->desktopName ? s->desktopName : "", sizeof name - 1);
     inet_ntop(AF_INET, &s->listenInterface, address, sizeof address);
     if (!wants_password(s) && s->port > 0 && s->port < 65536)
         code = vnc_server_new(address, (uint16_t)s->port, (uint32_t)s->width, (uint32_t)s->height, name, MOST_VIEWERS, &c->server);
     if (code == 0) code = vnc_waker_new(c->server, &c->waker);
     if (code == 0) code = vnc_waker_wake(c->waker); /* which says whether it is one */
     s->socketState = code == 0 ? RFB_SOCKET_READY : RFB_SOCKET_SHUTDOWN;
-    if (code == 0) rfbLog("Listening for viewers on TCP port %d\n", s->port);
-    else rfbErr("nobody is served on port %d: code %d\n", s->port, (int)code);
+    if (code < 0) rfbErr("nobody is served on port %d: code %d\n", s->port, (int)code);
     settle(s);
 }
 
@@ -362,7 +364,8 @@ void rfbNewFramebuffer(rfbScreenInfoPtr s, char *frameBuffer, int width, int hei
     if (code == 0 && !set_format(s, width, height, bitsPerSample, samplesPerPixel, bytesPerPixel)) code = VNC_BAD_FORMAT;
     if (code < 0) { rfbErr("rfbNewFramebuffer: the server ends: code %d\n", (int)code); c->isEnding = TRUE; } /* as the old one may be gone */
     s->frameBuffer = code < 0 ? NULL : frameBuffer;
-    take(s, 0, 0, s->width, s->height);
+    c->marks = 0;
+    mark(s, 0, 0, s->width, s->height);
     wake(s);
     unlock(s);
 }

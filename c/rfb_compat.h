@@ -2,8 +2,8 @@
  * with this in place of <rfb/rfb.h>. Written from the names and their meaning. Neither this nor the C behind it is proved.
  * cc program.c rfb_compat.c rfb_compat_draw.c $(pkg-config --cflags --libs vnc_server) -lpthread
  *
- * As there    The program draws in frameBuffer, in its own format, and then marks what it changed. What stands there as it is marked is
- *             sent, where it differs from what was there. Hooks run in the loop.
+ * As there    The program draws in frameBuffer, in its own format, and marks what it changed. What stands there as the next turn begins,
+ *             deferUpdateTime milliseconds later at most, is sent where it differs from what was there. Hooks run in the loop.
  * Refused     A screen that wants a password is never served: see rfbInitServer. A client that is put on hold is closed.
  * Not here    What docs/C_LIBRARY.md lists. A field that is not read says so; what is missing doesn't compile.
  * Threads     Each call takes the screen's lock, which is recursive. The loop has it but while it waits, and so do hooks: a hook must
@@ -97,7 +97,7 @@ typedef struct _rfbScreenInfo {
     int port;                       /* 1 to 65535 */
     in_addr_t listenInterface;      /* all of the machine's, unless it is set before rfbInitServer */
     enum rfbSocketState socketState;
-    int deferUpdateTime;            /* milliseconds that rfbProcessEvents waits below 0; updates are not put off */
+    int deferUpdateTime;            /* in milliseconds, 5 at first */
     rfbBool alwaysShared;           /* not read: all share, whatever a viewer asks */
     struct _rfbClientRec *clientHead, *pointerClient;
     char *frameBuffer;              /* the program's */
