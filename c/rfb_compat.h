@@ -165,7 +165,8 @@ void rfbSendServerCutText(rfbScreenInfoPtr s, char *text, int len); /* at most 6
 void rfbCloseClient(rfbClientPtr cl); /* in the next turn */
 void rfbDefaultPtrAddEvent(int buttonMask, int x, int y, rfbClientPtr cl);
 
-/* Regions: the places of any of their rectangles. Where memory is refused the first two give NULL, or, as sraRgnOr, abort the program. */
+/* Regions: the places of any of their rectangles. Where memory is refused the first gives NULL, the second NULL or a region with no
+ * rectangle, and the last says so by rfbErr and changes nothing. */
 sraRegion *sraRgnCreate(void);
 sraRegion *sraRgnCreateRect(int x1, int y1, int x2, int y2);
 void sraRgnDestroy(sraRegion *r);

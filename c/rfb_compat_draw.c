@@ -165,7 +165,7 @@ void sraRgnOr(sraRegion *dst, const sraRegion *src)
 {
     const size_t count = src->count;
     sraRect *more = (sraRect *)realloc(dst->at, (dst->count + count + 1) * sizeof *more);
-    if (!more) abort();
+    if (!more) { rfbErr("sraRgnOr: no memory\n"); return; }
     dst->at = more;
     if (count) memcpy(more + dst->count, src->at, count * sizeof *more);
     dst->count += count;

@@ -104,14 +104,15 @@ static int sees(rfbScreenInfoPtr s, viewer *v)
     return says(v->fd, "\x03\x01\0\0\0\0\0\x28\0\x1e", 10);
 }
 
-static int opens(rfbScreenInfoPtr s, viewer *v)
+static int opens(rfbScreenInfoPtr s, viewer *v, int in_background)
 {
     char room[64];
     memset(v, 0, sizeof *v);
     memset(v->seen, 0xff, sizeof v->seen);
     v->fd = connects(s->port);
     if (v->fd < 0 || says(v->fd, "RFB 003.008\n\x01\x01\x02\0\0\x02\0\0\0\x01\0\0\0\0\x03\0\0\0\0\0\0\x28\0\x1e", 36)) return -1;
-    return reads(s->compat ? s : NULL, v->fd, room, 12 + 2 + 4 + 24) || reads(s, v->fd, room + 42, (size_t)room[41]);
+    s = in_background ? NULL : s;
+    return reads(s, v->fd, room, 12 + 2 + 4 + 24) || reads(s, v->fd, room + 42, (size_t)room[41]);
 }
 
 /* Whether the viewer's picture becomes frameBuffer, of `bytes` a pixel with 8 or 5 bits a sample, red lowest. */
@@ -188,7 +189,7 @@ static int later(void)
     rfbScreenInfoPtr s = screen(4);
     viewer v;
     rfbInitServer(s);
-    IS(opens(s, &v), 0);
+    IS(opens(s, &v, 0), 0);
     IS(shows(s, &v, 4, 0), 0);
     s->authPasswdData = said;
     rfbProcessEvents(s, 0);
@@ -211,7 +212,7 @@ static int pictures(int bytes)
     if (!r || !q || !second) exit(3);
     sraRgnOr(r, q);
     rfbInitServer(s);
-    IS(opens(s, &v), 0);
+    IS(opens(s, &v, 0), 0);
     IS(shows(s, &v, bytes, 0), 0);
     rfbFillRect(s, -3, -3, 9, 7, 0x1234567);
     rfbDrawLine(s, 39, 2, 5, 29, 0x7654321);
@@ -249,14 +250,15 @@ static int clients(void)
     rfbScreenInfoPtr s = screen(4);
     viewer v, w;
     char byte;
+    int k;
     keys = points = gone = 0;
     rfbInitServer(s);
-    IS(opens(s, &v), 0);
+    IS(opens(s, &v, 0), 0);
     IS(says(v.fd, "\x04\x01\0\0\0\0\0\x61\x05\x01\0\x03\0\x04\x06\0\0\0\0\0\0\x02hi\x05\0\0\x03\0\x04", 30), 0);
     IS(turns(s, &points, 1), 1);
     IS(turns(s, &keys, 1), 1);
     IS(s->cursorX == 3 && s->cursorY == 4, 1);
-    while (said[0] != 'h') rfbProcessEvents(s, 1000);
+    for (k = 0; k < 3000 && said[0] != 'h'; k++) rfbProcessEvents(s, 1000);
     IS(strcmp(said, "hi"), 0);
     rfbSendBell(s);
     rfbSendServerCutText(s, said, 2);
@@ -270,7 +272,7 @@ static int clients(void)
         close(w.fd);
     }
     refuses = 0;
-    IS(opens(s, &w), 0);
+    IS(opens(s, &w, 0), 0);
     rfbCloseClient(newest);
     IS(turns(s, &gone, 3), 1);
     close(w.fd);
@@ -285,23 +287,28 @@ static int clients(void)
     return 0;
 }
 
-/* The loop is in another thread. */
+/* The loop is in another thread, while this one draws. */
 static int background(void)
 {
     rfbScreenInfoPtr s = screen(2);
     viewer v;
     int k;
-    gone = 0;
     rfbInitServer(s);
     rfbRunEventLoop(s, -1, TRUE);
-    IS((v.fd = connects(s->port)) < 0, 0);
-    close(v.fd);
-    rfbProcessEvents(s, 0);
-    for (k = 0; k < 3000 && gone == 0; k++) rfbProcessEvents(s, 1000);
-    IS(gone, 1);
-    IS(rfbIsActive(s), TRUE);
+    IS(opens(s, &v, 1), 0);
+    IS(shows(s, &v, 2, 1), 0);
+    for (k = 1; k < 200; k++) {
+        rfbFillRect(s, k % W - 3, k * 7 % H - 3, k % W + k % 5, k * 7 % H + k % 7, (rfbPixel)(k * 1234567));
+        if (k % 3 == 0) rfbDoCopyRect(s, k % 9, k % 7, W - k % 5, H - k % 4, k % 11 - 5, k % 13 - 6);
+        if (k % 20 == 0) IS(shows(s, &v, 2, 1), 0);
+    }
+    rfbSendBell(s);
+    while (v.bells == 0) IS(sees(NULL, &v), 0);
+    IS(shows(s, &v, 2, 1), 0);
     rfbShutdownServer(s, TRUE);
     IS(rfbIsActive(s), FALSE);
+    IS(connects(s->port), -1);
+    close(v.fd);
     clean(s);
     return 0;
 }

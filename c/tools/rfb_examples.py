@@ -3,8 +3,8 @@
 
 SOURCE is the folder of LibVNCServer's source, and vnc_server is installed below PREFIX. Each example is compiled with its line
 `#include <rfb/rfb.h>` changed to `#include "rfb_compat.h"` and nothing else, and with LibVNCServer too, where that is installed. A viewer
-looks at each, with the same keys and pointer, and the pictures are compared place by place. A COMMAND, as valgrind's, stands before ours
-alone, and then nothing is compared. A line for each; the status is not 0 where one isn't as it should be."""
+looks at each, with the same keys and pointer, and the pictures are compared place by place. A COMMAND, valgrind's, stands before ours
+alone; then nothing is compared, and an error that it finds counts. A line for each; the status is not 0 where one isn't as it should be."""
 import os
 import re
 import shutil
@@ -217,6 +217,13 @@ RUNS = [
 ]
 
 
+# what valgrind finds of these programs themselves
+LEFT_OUT = {
+    "simple": "it never writes its framebuffer",
+    "vncev": "it prints an address although its getpeername fails, as no viewer's socket is told",
+}
+
+
 def free_port():
     with socket.socket() as it:
         it.bind(("127.0.0.1", 0))
@@ -247,11 +254,20 @@ def run(command, argument, does, last, ends):
             program.terminate()
 
 
+def found():
+    """What valgrind said of the last program."""
+    with open(f"{ROOM}/log", encoding="utf-8", errors="replace") as it:
+        errors = re.findall(r"==\d+== ((?:Invalid|Conditional|Use of|Syscall|Mismatched|Source and)[^\n]*|[^\n]*(?:definitely|possibly) lost[^\n]*)", it.read())
+    return errors[0] if errors else None
+
+
 def look(name, source, flags, argument, does, last, ends, most):
+    if COMMAND and name in LEFT_OUT:
+        return f"left out: {LEFT_OUT[name]}"
     has_real = build(name, source, flags)
     ours, wrong = run([*COMMAND, f"{ROOM}/ours/{name}"], argument, does, last, ends)
-    if wrong:
-        raise OSError(wrong)
+    if wrong or found():
+        raise OSError(wrong or found())
     said = f"{ours.width} by {ours.height}, {ours.updates} updates, {ours.copies} copies"
     if not has_real:
         return said
