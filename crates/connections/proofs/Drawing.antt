@@ -1,5 +1,5 @@
 -- What a call of the screen makes of a canvas.
-use Rattle.std.proofs.Common.{◌≡◌, Bool, true, false, List, [], ◌∷◌, ◌++◌, Option, Some, None, Result, Ok, Err, OnOk, OnErr, IfOk, refl, sym, ap, ◌∙◌, append_assoc, subst}
+use Rattle.std.proofs.Common.{◌≡◌, ℕ, Bool, true, false, List, [], ◌∷◌, ◌++◌, Option, Some, None, Result, Ok, Err, OnOk, OnErr, IfOk, refl, sym, ap, ◌∙◌, append_assoc, subst}
 use Rattle.std.specs.Prelude.{MatchOption, MatchResult, IsOkUnless, ◌&&◌, ◌||◌}
 use Rattle.std.proofs.lemmas.Bool.{and_from, or_parts, or_from}
 use Rattle.std.proofs.lemmas.List.Folds.{list_all-append, list_any-append}
@@ -10,8 +10,13 @@ use Rattle.scene.specs.declared.Event.{Event}
 use Rattle.scene.specs.declared.Answer.{Answer}
 use Rattle.scene.specs.Alone.{owner_of, Tells}
 use Rattle.scene.specs.Answers.{is_drawing}
+use Rattle.scene.specs.Calls.{event_of}
+use Rattle.scene.specs.declared.call.Drawing.{Drawing}
+use Rattle.scene.specs.declared.call.Drawing.TheVariants.{Write, Paint, MarkRect, MarkRegion, ScheduleCopyRect, ScheduleCopyRegion, DoCopyRect, DoCopyRegion, Bell, CutText, NewFramebuffer}
 use Rattle.screen.specs.State.{State, state}
-use Rattle.connections.specs.Drawing.{Surface, Draws, is_notice, has_notice}
+use Rattle.source_pixels.specs.declared.pieces.Piece.{Piece}
+use Rattle.take_pixels.specs.Paints.{paints_of}
+use Rattle.connections.specs.Drawing.{Surface, Draws, are_drawings, is_notice, has_notice}
 
 -- no bell or text is among more calls
 still-quiet : (since : Bool) (calls : List Event) (e : Event) (before after : Bool) → after ≡ (is_notice e || before) → (before ≡ false → (since ≡ false) × (has_notice calls ≡ false)) → after ≡ false
@@ -43,6 +48,49 @@ pub draws_from : {X : Type 0} (r : Result X ScreenError) (a b : Surface) (before
     → ((c : Config) (list : List Event) → before ≡ state c list → OnOk r (b.screen ≡ state c (list ++ e ∷ []))) → OnErr r (b.screen ≡ before) → b.drawn ≡ true → b.noticed ≡ (is_notice e || noticed) → Draws a b
 draws_from r a b before drawn noticed e is own steps err now quiet =
     subst (λ (x : Surface). Draws x b) is (draws_by r (record { screen = before; drawn = drawn; noticed = noticed }) b e own steps err now quiet)
+
+-- a drawing call is nobody's
+pub nobodys : (d : Drawing) → owner_of (event_of d) ≡ None
+nobodys (Write rect colours) = refl
+nobodys (Paint rect colours) = refl
+nobodys (MarkRect rect) = refl
+nobodys (MarkRegion region) = refl
+nobodys (ScheduleCopyRect rect dx dy) = refl
+nobodys (ScheduleCopyRegion region dx dy) = refl
+nobodys (DoCopyRect rect dx dy) = refl
+nobodys (DoCopyRegion region dx dy) = refl
+nobodys Bell = refl
+nobodys (CutText text) = refl
+nobodys (NewFramebuffer width height) = refl
+
+-- paints are drawing calls, and no notices
+paints-drawings : (left top : ℕ) (qs : List Piece) → are_drawings (paints_of left top qs) ≡ true
+paints-drawings left top [] = refl
+paints-drawings left top (q ∷ qs) = paints-drawings left top qs
+
+paints-quiet : (left top : ℕ) (qs : List Piece) → has_notice (paints_of left top qs) ≡ false
+paints-quiet left top [] = refl
+paints-quiet left top (q ∷ qs) = paints-quiet left top qs
+
+-- a program's own pixels are taken in
+draws-painted : (left top : ℕ) (a b : Surface) → ((c : Config) (list : List Event) → a.screen ≡ state c list → (qs : List Piece) × (b.screen ≡ state c (list ++ paints_of left top qs))) → b.drawn ≡ true → b.noticed ≡ a.noticed → Draws a b
+draws-painted left top a b paints drawn noticed c list since d =
+    let p = paints c (list ++ d.calls) d.screen in
+    let more : List Event = paints_of left top p.0 in
+    record {
+      calls = d.calls ++ more;
+      drawings = list_all-append (λ e. is_drawing (owner_of e)) d.calls more ∙ and_from _ _ d.drawings (paints-drawings left top p.0);
+      screen = p.1 ∙ ap (state c) (append_assoc list d.calls more);
+      none = λ no. let both : true ≡ false = sym drawn ∙ no in absurd cc;
+      quiet = λ fine.
+          let was = d.quiet (sym noticed ∙ fine) in
+          (was.0, list_any-append is_notice d.calls more ∙ or_from _ _ was.1 (paints-quiet left top p.0));
+    }
+
+pub draws_taken : (left top : ℕ) (a b : Surface) (before : State) (drawn noticed : Bool) → record { screen = before; drawn = drawn; noticed = noticed } ≡ a
+    → ((c : Config) (list : List Event) → before ≡ state c list → (qs : List Piece) × (b.screen ≡ state c (list ++ paints_of left top qs))) → b.drawn ≡ true → b.noticed ≡ noticed → Draws a b
+draws_taken left top a b before drawn noticed is paints now quiet =
+    subst (λ (x : Surface). Draws x b) is (draws-painted left top (record { screen = before; drawn = drawn; noticed = noticed }) b paints now quiet)
 
 -- the bytes that a call told
 pub told-bytes : {X : Type 0} (f : X → Answer) (r : Result X ScreenError) (a : Answer) → Tells f r a → IfOk r (λ x. (f x).bytes ≡ a.bytes)

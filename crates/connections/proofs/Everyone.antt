@@ -3,13 +3,11 @@ use Rattle.std.proofs.Common.{◌≡◌, ◌≢◌, ◌⊎◌, inl, inr, true≢
 use Rattle.std.specs.Prelude.{◌==◌, ◌&&◌, unwrap_or, length, slice_set}
 use Rattle.std.proofs.lemmas.List.{get_or-set_same, get_or-set_other}
 use Rattle.std.specs.Io.KnownBytes.{Appends, Consumes}
-use Rattle.std.proofs.lemmas.Bool.{and_from, or_parts, or_from}
 use Rattle.std.proofs.lemmas.Bool.Decides.{Decides-eqb}
 use Rattle.scene.specs.declared.Config.{Config}
 use Rattle.scene.specs.declared.Event.{Event}
 use Rattle.scene.specs.declared.Event.TheVariants.{Connect, Close}
-use Rattle.scene.specs.Alone.{owner_of}
-use Rattle.scene.specs.Answers.{viewer_of, answer_to, is_drawing}
+use Rattle.scene.specs.Answers.{viewer_of, answer_to}
 use Rattle.slab.specs.Slab.{Slab, get, Updates}
 use Rattle.receipts.specs.declared.Receipt.{Receipt}
 use Rattle.receipts.specs.declared.Ended.{Ended}
@@ -17,7 +15,7 @@ use Rattle.receipts.specs.declared.Ended.TheVariants.{Memory, Closed}
 use Rattle.receipts.specs.Histories.{heard_of, bytes_of}
 use Rattle.screen.specs.State.{state}
 use Rattle.connections.specs.Waiting.{waiting_bytes, IsFew}
-use Rattle.connections.specs.Drawing.{Surface, Draws, IsDrawnFrom, IsNotedAfter}
+use Rattle.connections.specs.Drawing.{Surface, Draws, IsDrawnFrom}
 use Rattle.connections.specs.Among.{is_among}
 use Rattle.connections.specs.Attending.{asks, IsSettled}
 use Rattle.connections.specs.Serving.{Carried, ViewerConnection, Moves, breaks_off, has_work, IsServed, WasServed, IsOver, IsAttended, Serving, at_key, works_at, may_cut_at, may_ask_at, is_kept, Serves, GoesOn, drawn_is_served}
@@ -151,31 +149,8 @@ goes-drawn a b draws same c began list s =
     let d = drawn-on c list a.surface b.surface s.screen draws in
     (d.calls, serves-drawn c began list a b d same s)
 
--- one call that was noted: it happened, or was refused
-call-drawn : (c : Config) (list : List Event) (e : Event) (a b : Surface) → IsNotedAfter e a b → is_drawing (owner_of e) ≡ true → b.screen ≡ state c (list ++ e ∷ []) → IsDrawnFrom c list a b
-call-drawn c list e a b noted own screen = record {
-  calls = e ∷ [];
-  drawings = and_from _ _ own refl;
-  screen = screen;
-  none = λ no. absurd (true≢false (sym noted.drawn ∙ no));
-  quiet = λ fine. let parts = or_parts _ _ (sym noted.noticed ∙ fine) in (parts.1, or_from _ _ parts.0 refl);
-}
-
-call-undrawn : (c : Config) (list : List Event) (e : Event) (a b : Surface) → IsNotedAfter e a b → b.screen ≡ state c list → IsDrawnFrom c list a b
-call-undrawn c list e a b noted screen = record {
-  calls = [];
-  drawings = refl;
-  screen = screen ∙ ap (state c) (sym (append-nil list));
-  none = λ no. absurd (true≢false (sym noted.drawn ∙ no));
-  quiet = λ fine. ((or_parts _ _ (sym noted.noticed ∙ fine)).1, refl);
-}
-
 pub drawn-serves : drawn_is_served
-drawn-serves c began list e s surface noted serves = (
-  λ own screen. serves-drawn c began list s (record s { surface = surface }) (call-drawn c list e s.surface surface noted own screen) refl serves,
-  λ same. subst (λ (l : List Event). Serves c began l (record s { surface = surface })) (append-nil list)
-      (serves-drawn c began list s (record s { surface = surface }) (call-undrawn c list e s.surface surface noted (same ∙ serves.screen)) refl serves),
-)
+drawn-serves c began list s surface drawn serves = serves-drawn c began list s (record s { surface = surface }) drawn refl serves
 
 pub goes-drawn-by : (a : Serving) (before after : Surface) (kept : Bool) (next : ℕ) (slots : List (Option ViewerConnection)) (vacant : ℕ) (agenda asking : List ℕ)
     → record { surface = before; kept = kept; next = next; slots = slots; vacant = vacant; agenda = agenda; asking = asking } ≡ a → Draws before after

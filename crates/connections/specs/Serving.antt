@@ -1,12 +1,12 @@
 -- What the connections of a screen's viewers hold, and what that is by the events of the screen.
-use Rattle.std.specs.Prelude.{◌≡◌, ◌≢◌, ◌⊎◌, ℕ, ◌≤◌, ◌<◌, Bool, true, false, not, ◌&&◌, ◌||◌, if◌then◌else◌, is_none, is_some, List, [], ◌∷◌, ◌++◌, Option, Some, None, option_map, unwrap_or, slice_index_or}
+use Rattle.std.specs.Prelude.{◌≡◌, ◌≢◌, ◌⊎◌, ℕ, ◌≤◌, ◌<◌, Bool, true, false, not, ◌&&◌, ◌||◌, if◌then◌else◌, is_none, is_some, List, [], ◌++◌, Option, Some, None, option_map, unwrap_or, slice_index_or}
 use Rattle.std.specs.Io.KnownBytes.{Appends, Consumes}
 use Rattle.scene.specs.declared.Config.{Config}
 use Rattle.scene.specs.declared.Event.{Event}
 use Rattle.scene.specs.declared.History.{History}
 use Rattle.scene.specs.declared.History.TheVariants.{Kept, NotKept}
-use Rattle.scene.specs.Alone.{some_bytes, owner_of}
-use Rattle.scene.specs.Answers.{viewer_of, is_drawing}
+use Rattle.scene.specs.Alone.{some_bytes}
+use Rattle.scene.specs.Answers.{viewer_of}
 use Rattle.receipts.specs.declared.Receipt.{Receipt}
 use Rattle.receipts.specs.declared.Ended.{Ended}
 use Rattle.receipts.specs.declared.Ended.TheVariants.{Memory}
@@ -16,7 +16,7 @@ use Rattle.messages.specs.Reading.{is_open_rest}
 use Rattle.screen.specs.State.{State, state, viewer_at}
 use Rattle.connections.specs.declared.connections.Readiness.{Readiness}
 use Rattle.connections.specs.Waiting.{Waiting, waiting_bytes, IsFew}
-use Rattle.connections.specs.Drawing.{Surface, IsNotedAfter}
+use Rattle.connections.specs.Drawing.{Surface, IsDrawnFrom}
 use Rattle.connections.specs.Among.{is_among}
 use Rattle.connections.specs.Attending.{Known, noted, asks, next_bytes, IsSettled}
 
@@ -166,8 +166,6 @@ pub record Serves (c : Config) (began : ℕ → Carried) (list : List Event) (s 
 abbrev pub GoesOn : Serving → Serving → Type 0
 GoesOn old new = (c : Config) (began : ℕ → Carried) (list : List Event) → Serves c began list old → (more : List Event) × Serves c began (list ++ more) new
 
--- Viewers that are served by a list are served, after a drawing call that was noted, by the list with the call behind it, and after one that was refused by the list as it was.
+-- Viewers that are served by a list of events are served, once their screen was drawn on, by that list with the drawing calls behind it.
 abbrev pub drawn_is_served : Type 0
-drawn_is_served = (c : Config) (began : ℕ → Carried) (list : List Event) (e : Event) (s : Serving) (surface : Surface) → IsNotedAfter e s.surface surface → Serves c began list s
-    → (is_drawing (owner_of e) ≡ true → surface.screen ≡ state c (list ++ e ∷ []) → Serves c began (list ++ e ∷ []) (record s { surface = surface }))
-    × (surface.screen ≡ s.surface.screen → Serves c began list (record s { surface = surface }))
+drawn_is_served = (c : Config) (began : ℕ → Carried) (list : List Event) (s : Serving) (surface : Surface) (drawn : IsDrawnFrom c list s.surface surface) → Serves c began list s → Serves c began (list ++ drawn.calls) (record s { surface = surface })

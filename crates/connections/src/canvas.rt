@@ -1,18 +1,22 @@
 //! The screen as an application draws on it.
 
-ghost use Rattle.std.specs.Prelude.{◌≡◌, ◌++◌, ◌∷◌, [], ◌≢◌, List, true, false, IfOk, IfSome, IsOkUnless, OnOk, OnErr};
+ghost use Rattle.std.specs.Prelude.{◌≡◌, ◌++◌, ◌∷◌, [], ◌≢◌, List, None, true, false, IfOk, IfSome, IsOkUnless, OnOk, OnErr};
 ghost use Rattle.scene.specs.declared.Config.{Config};
 ghost use Rattle.scene.specs.declared.Event.{Event};
+ghost use Rattle.scene.specs.Alone.{config_refusal};
 ghost use Rattle.scene.specs.Answers.{answer_to};
 ghost use Rattle.scene.specs.Refusals.{Refuses};
 ghost use Rattle.screen.specs.State.{state, refusal};
+ghost use Rattle.take_pixels.specs.Takes.{Takes};
 ghost use Rattle.viewer.specs.Given.{bytes_given};
 ghost use Rattle.scene.specs.Calls.{event_of};
 ghost use Rattle.connections.specs.Drawing.{Draws, is_asking_on, is_notice, IsNotedAfter};
 
 use listed::Listed;
 use screen::{Answer, Drawing, Rect, Region, Screen, ScreenError, Update};
+use std::alloc::Global;
 use std::marker::Model;
+use take_pixels::{PixelSource, take};
 
 /// A screen to draw on, and whether it was drawn on since its viewers were looked at. Each drawing call is the screen's, with the
 /// same refusals, and leaves the screen as it was where it is refused; its viewers are looked at in the next turn.
@@ -77,7 +81,7 @@ impl Canvas {
         ensures noted { IsNotedAfter (event_of drawing.now) self.old self.new }
     {
         self.has_drawn = true;
-        self.has_noticed = is_notice(drawing) || self.has_noticed;
+        self.has_noticed = is_notice(drawing) | self.has_noticed;
         self.screen.draw(drawing)
     }
 
@@ -235,6 +239,24 @@ impl Canvas {
         ensures drawn { self.new.drawn ≡ true }
     {
         self.draw(&Drawing::NewFramebuffer { width, height })
+    }
+
+    /// A program's own pixels are taken into the picture: `take_pixels::take`, which paints what differs.
+    pub fn take(
+        &mut self,
+        alloc: Global,
+        left: u32,
+        top: u32,
+        source: &PixelSource<'_>,
+    ) -> Result<usize, ScreenError>
+        ensures takes { (config : Config) (list : List Event) → config_refusal config ≡ None → self.old.screen ≡ state config list →
+            Takes source.now left top config list self.old.screen self.new.screen result }
+        ensures draws { Draws self.old self.new }
+        ensures drawn { self.new.drawn ≡ true }
+        ensures noticed { self.new.noticed ≡ self.old.noticed }
+    {
+        self.has_drawn = true;
+        take(alloc, &mut self.screen, left, top, source)
     }
 
     /// Those were looked at that are to be for what was drawn.

@@ -183,7 +183,7 @@ impl<T: Transport> Connection<T> {
     }
 
     /// Whether it said more than 64 KB of late.
-    fn says_much(&self) -> bool {
+    pub fn says_much(&self) -> bool {
         self.flow.level > LONG
     }
 

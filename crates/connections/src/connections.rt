@@ -27,8 +27,11 @@ use std::marker::Model;
 use std::mem;
 use std::time::Duration;
 
-/// In how many turns a viewer that floods is heard once, while others have something to do.
+/// In how many turns one viewer that floods is heard, while others have something to do.
 const TURNS: u32 = 8;
+
+/// The same for one that said much of late.
+const LONG_TURNS: u32 = 32;
 
 /// What a transport was found ready for. It may be out of date: a call that would wait says so.
 #[derive(Clone, Copy, Debug, PartialEq, Eq)]
@@ -347,8 +350,9 @@ impl<T: Transport> Connections<T> {
     }
 
     /// One turn. Of each connection on the agenda one piece of at most 128 bytes is read and heard, and the application is told what
-    /// it says; of those whose last read gave so many, or that said more than 64 KB of late, only the one that waited longest, and that
-    /// in one turn of eight while others have something to do. Then each is written what it was given, and cut updates, in at most four writes of at most 65,536 bytes.
+    /// it says. Of those whose last read gave so many, or that said more than 64 KB of late, only one is heard in a turn, in the order
+    /// in which they wait; and while others have something to do, eight turns after the one before it, or 32 where it said so much.
+    /// Then each is written what it was given, and cut updates, in at most four writes of at most 65,536 bytes.
     ///
     /// Whatever list of events the screen stood for, it stands for it with others behind it, and by that list each viewer is served:
     /// what was read of it is what the screen heard of it, and what was written to it is, with what waits for it, what the screen with
@@ -420,7 +424,7 @@ impl<T: Transport> Connections<T> {
         None
     }
 
-    /// Hears a piece of each on the agenda that may have one, and of those that flood of one, in one turn of eight where others have
+    /// Hears a piece of each on the agenda that may have one, and of those that flood of one, whose turn has come where others have
     /// something to do. The key of the latter.
     fn listen_in_turn<A: Application>(
         &mut self,
@@ -428,8 +432,8 @@ impl<T: Transport> Connections<T> {
     ) -> Result<Option<usize>, ScreenError>
         ensures served { GoesOn self.old self.new }
     {
-        let hears_flood = self.since_flood >= TURNS - 1 || self.all_flood();
-        let flooding = self.listen_all(hears_flood, application)?;
+        let all_flood = self.all_flood();
+        let flooding = self.listen_all(all_flood, application)?;
         self.count_turn(flooding.is_some());
         Ok(flooding)
     }
@@ -446,6 +450,15 @@ impl<T: Transport> Connections<T> {
         true
     }
 
+    /// Whether the turn has come of a viewer that floods, while others have something to do.
+    fn has_turn(&self, key: usize) -> bool {
+        let turns = match self.connections.get(key) {
+            Some(connection) if connection.says_much() => LONG_TURNS,
+            _ => TURNS,
+        };
+        self.since_flood >= turns - 1
+    }
+
     /// A turn was taken in which a viewer that floods was heard, or not.
     fn count_turn(&mut self, heard_flood: bool)
         ensures { self.new ≡ self.old }
@@ -457,10 +470,11 @@ impl<T: Transport> Connections<T> {
         };
     }
 
-    /// Hears a piece of each on the agenda that may have one; of those that flood, of the first alone, whose key is answered, or of none.
+    /// Hears a piece of each on the agenda that may have one; of those that flood, of the first alone whose turn has come, or the first of
+    /// all where all flood. The key of that one.
     fn listen_all<A: Application>(
         &mut self,
-        hears_flood: bool,
+        all_flood: bool,
         application: &mut A,
     ) -> Result<Option<usize>, ScreenError>
         ensures served { GoesOn self.old self.new }
@@ -471,7 +485,7 @@ impl<T: Transport> Connections<T> {
                 return Ok(flooding);
             };
             if self.is_flooding(key) {
-                if flooding.is_some() || !hears_flood {
+                if flooding.is_some() || !(all_flood || self.has_turn(key)) {
                     continue;
                 }
                 flooding = Some(key);

@@ -2,8 +2,8 @@
 
 ghost use Rattle.connections.specs.Serving.{drawn_is_served};
 
-/// Who draws on a canvas by `Canvas::draw`, once and on nothing else, has every viewer served as before, by the events with this call
-/// behind them where it happened, and by the events as they were where it was refused.
+/// Viewers that are served by a list of events are served, once their screen was drawn on, by that list with the drawing calls behind
+/// it. Each call of a `Canvas` says which those are.
 pub fn drawn_is_served()
     ensures { drawn_is_served }
 {}

@@ -31,6 +31,6 @@ pub use connections::{Connections, Departed, Readiness};
 pub use laws::drawn_is_served;
 pub use receipts::{Ended, Receipt};
 pub use screen::{
-    Config, Drawing, Fault, History, Input, Listed, Rect, Region, Screen, ScreenError,
+    Config, Fault, History, Input, Listed, Rect, Region, Screen, ScreenError,
 };
 pub use transport::{Both, Transport};

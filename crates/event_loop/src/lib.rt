@@ -19,7 +19,7 @@ mod poller;
 mod socket;
 
 pub use connections::{
-    Application, Canvas, Config, Drawing, Ended, Fault, History, Input, Listed, Rect, Region, Screen,
+    Application, Canvas, Config, Ended, Fault, History, Input, Listed, Rect, Region, Screen,
     ScreenError, drawn_is_served,
 };
 pub use event_loop::{EventLoop, Limits, LoopError, WhenFull};

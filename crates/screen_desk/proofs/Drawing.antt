@@ -1,7 +1,7 @@
 -- Calls that draw.
 use Rattle.std.proofs.Common.{◌≡◌, ◌≢◌, ℕ, ℤ, List, [], ◌∷◌, ◌++◌, Option, Some, None, Result, Ok, Err, refl, sym, ap, ◌∙◌, inl, inr, subst}
 use Rattle.std.proofs.lemmas.Option.{same_Some}
-use Rattle.std.specs.Prelude.{OnOk, OnErr, IsOkUnless, option_map, not, false}
+use Rattle.std.specs.Prelude.{OnOk, OnErr, MatchResult, IsOkUnless, option_map, not, false}
 use Rattle.std.specs.List.{list_any}
 use Rattle.region.specs.declared.Rect.{Rect}
 use Rattle.region.specs.RegionView.{in_range}
@@ -66,32 +66,41 @@ draws desk before s t f e result code output inputs text view is same code_is st
   }
 
 -- a drawing call that can't be refused but for memory, for the places of rectangles
-pub draws_places : (rects places : List Rect) (event : List Rect → Event) (e : Event) (old new : Standing) (code : ℤ) → e ≡ event places → ((s : State) → refusal s e ≡ None) → IsListOf rects places → region_due old rects ≡ None
-    → Draws e old new code → DrawsRegion rects event old new code
-draws_places rects places event e old new code same free list_of accepted d = record {
-  answer = subst (λ o. Answers o (λ n. n ≡ done) code) (sym accepted) (answers old.screen refl d.answer);
+pub draws_places : (rects places : List Rect) (event : List Rect → Event) (e : Event) (desk old new : Standing) (n code : ℤ) → old ≡ desk → code ≡ n → e ≡ event places → ((s : State) → refusal s e ≡ None) → IsListOf rects places → region_due old rects ≡ None
+    → Draws e old new n → DrawsRegion rects event desk new code
+draws_places rects places event e desk old new n code desk_is code_is same free list_of accepted d = rw (sym desk_is) (rw code_is (record {
+  answer = subst (λ o. Answers o (λ n. n ≡ done) n) (sym accepted) (answers old.screen refl d.answer);
   step = λ is_done. (places, (list_of, λ c list stands. subst (λ (f : Event). StandsFor c (list ++ f ∷ []) new) same (d.step c list stands is_done)));
   same = d.same;
   refused = d.refused;
-}
+}))
   where
-    answers : (o : Option State) → old.screen ≡ o → Answers (due_by o e) (λ n. n ≡ done) code → Answers None (λ n. n ≡ done) code
+    answers : (o : Option State) → old.screen ≡ o → Answers (due_by o e) (λ n. n ≡ done) n → Answers None (λ n. n ≡ done) n
     answers None is h = let two : ◌≡◌ {A = Option ℤ} (Some shut) None = ap (λ o. elim o [ None ↦ Some shut | Some s ↦ far_or_none (list_any (λ r. not (in_range r)) rects) ]) (sym is) ∙ accepted in absurd cc
-    answers (Some s) is h = subst (λ o. Answers (option_map code_of o) (λ n. n ≡ done) code) (free s) h
+    answers (Some s) is h = subst (λ o. Answers (option_map code_of o) (λ n. n ≡ done) n) (free s) h
 
 -- a refusal
-pub undrawn_places : (rects : List Rect) (event : List Rect → Event) (desk : Standing) (code : ℤ) → IsRefusal (region_due desk rects) code → DrawsRegion rects event desk desk code
-undrawn_places rects event desk code h = record {
-  answer = never (region_due desk rects) h.answer;
+pub undrawn_places : (rects : List Rect) (event : List Rect → Event) (desk old new : Standing) (n code : ℤ) → old ≡ desk → new ≡ desk → code ≡ n → IsRefusal (region_due old rects) n → DrawsRegion rects event desk new code
+undrawn_places rects event desk old new n code desk_is new_is code_is h = rw (sym desk_is) (rw (new_is ∙ sym desk_is) (rw code_is (record {
+  answer = never (region_due old rects) h.answer;
   step = λ is_done. absurd (h.refuses is_done);
   same = refl;
   refused = λ not_done. refl;
-}
+})))
   where
-    never : (o : Option ℤ) → Answers o (λ n. ⊥) code → Answers o (λ n. n ≡ done) code
-    never None (inl no) = absurd no
+    never : (o : Option ℤ) → Answers o (λ n. ⊥) n → Answers o (λ n. n ≡ done) n
+    never None (inl impossible) = absurd impossible
     never None (inr memory) = inr memory
-    never (Some refusal) same = same
+    never (Some r) same = same
+
+-- the code of what came of a call
+pub answered : (r : Result (Unit {0}) ScreenError) (code : ℤ) → code ≡ done_code r → (due : Option ScreenError) → Refuses r due → Answers (option_map code_of due) (λ n. n ≡ done) code
+answered (Ok x) code is due refuses = rw is (answer_ok {X = Unit {0}} x due (λ n. n ≡ done) done refl refuses)
+answered (Err e) code is due refuses = rw is (answer_err {X = Unit {0}} (Err e) e due (λ n. n ≡ done) refl refuses)
+
+pub told_apart : (r : Result (Unit {0}) ScreenError) (code : ℤ) → code ≡ done_code r → MatchResult r (λ x. code ≡ done) (λ e. code ≢ done)
+told_apart (Ok x) code is = is
+told_apart (Err e) code is = λ same. never_done e (sym is ∙ same)
 
 -- what is refused is refused
 pub refuses-so : {X : Type 0} (result : Result X ScreenError) (due : Option ScreenError) (e : ScreenError) → due ≡ Some e → result ≡ Err e → Refuses result due

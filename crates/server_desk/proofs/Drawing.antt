@@ -1,5 +1,6 @@
 -- Calls that draw.
-use Rattle.std.proofs.Common.{◌≡◌, ◌≢◌, ℕ, ℤ, true, List, [], ◌∷◌, ◌++◌, Option, Some, None, Result, Ok, Err, refl, sym, ap, ◌∙◌, inl, inr, subst}
+use Rattle.std.proofs.Common.{◌≡◌, ◌≢◌, ◌⊎◌, ℕ, ℤ, pos, min, ◌^◌, true, false, true≢false, List, [], ◌∷◌, ◌++◌, append-nil, Option, Some, None, Result, Ok, Err, refl, sym, ap, ◌∙◌, inl, inr, subst}
+use Rattle.std.proofs.lemmas.Bool.{and_from, or_parts, or_from}
 use Rattle.std.specs.Prelude.{OnOk, OnErr, MatchResult, option_map, not}
 use Rattle.std.specs.List.{list_any}
 use Rattle.region.specs.declared.Rect.{Rect}
@@ -15,8 +16,8 @@ use Rattle.scene.specs.Answers.{is_drawing}
 use Rattle.scene.specs.Calls.{event_of}
 use Rattle.scene.specs.Refusals.{Refuses}
 use Rattle.screen.specs.State.{State, state, refusal}
-use Rattle.connections.specs.Drawing.{Surface, IsNotedAfter}
-use Rattle.connections.specs.Serving.{Serving, drawn_is_served}
+use Rattle.connections.specs.Drawing.{Surface, IsNotedAfter, IsDrawnFrom, are_drawings, has_notice}
+use Rattle.connections.specs.Serving.{Serving, Serves, drawn_is_served}
 use Rattle.event_loop.specs.Sockets.{sockets}
 use Rattle.screen_desk.specs.Codes.{Answers, IsRefusal, code_of, done, shut}
 use Rattle.screen_desk.specs.Desk.{IsListOf, due_by, far_or_none}
@@ -50,6 +51,25 @@ was_refused : {P : Type 0} (result : Result (Unit {0}) ScreenError) (code : ℤ)
 was_refused (Ok x) code is not_done p = absurd (not_done is)
 was_refused (Err x) code is not_done p = p
 
+-- one call that was noted: it happened, or was refused
+call_drawn : (c : Config) (list : List Event) (e : Event) (a b : Surface) → IsNotedAfter e a b → is_drawing (owner_of e) ≡ true → b.screen ≡ state c (list ++ e ∷ []) → IsDrawnFrom c list a b
+call_drawn c list e a b noted own screen = record {
+  calls = e ∷ [];
+  drawings = and_from _ _ own refl;
+  screen = screen;
+  none = λ no. absurd (true≢false (sym noted.drawn ∙ no));
+  quiet = λ fine. let parts = or_parts _ _ (sym noted.noticed ∙ fine) in (parts.1, or_from _ _ parts.0 refl);
+}
+
+call_undrawn : (c : Config) (list : List Event) (e : Event) (a b : Surface) → IsNotedAfter e a b → b.screen ≡ state c list → IsDrawnFrom c list a b
+call_undrawn c list e a b noted screen = record {
+  calls = [];
+  drawings = refl;
+  screen = screen ∙ ap (state c) (sym (append-nil list));
+  none = λ no. absurd (true≢false (sym noted.drawn ∙ no));
+  quiet = λ fine. ((or_parts _ _ (sym noted.noticed ∙ fine)).1, refl);
+}
+
 pub draws : drawn_is_served → (desk : Standing) (before : Option Serving) (s : Serving) (a t : Surface) (e : Event) (result : Result (Unit {0}) ScreenError) (code : ℤ) (port : ℕ) (inputs : List (ℕ × Input)) (visits : List Visit) (text : List ℕ) (lost : ℕ)
     → record { served = before; port = port; inputs = inputs; visits = visits; text = text; lost = lost } ≡ desk → before ≡ Some s → a ≡ s.surface → is_drawing (owner_of e) ≡ true → IsCodeOf result code
     → ((due : Option ScreenError) → Refuses result due → Answers (option_map code_of due) (λ n. n ≡ done) code)
@@ -68,11 +88,15 @@ draws law desk before s a t e result code port inputs visits text lost view is s
         → Draws e (standing s) (standing later) code
     drawn step refuses err noted = record {
       answer = answers (refusal s.surface.screen e) refuses;
-      step = λ c list stands is_done. (law c (sockets c) list e s t noted stands).0 own (happened result code code_is is_done (step c list stands.screen));
+      step = λ c list stands is_done. law c (sockets c) list s t (call_drawn c list e s.surface t noted own (happened result code code_is is_done (step c list stands.screen))) stands;
       same = refl;
       refused = λ not_done.
           let as_before = was_refused result code code_is not_done err in
-          record { screen = ap Some as_before; served = λ c list stands. (law c (sockets c) list e s t noted stands).1 as_before; same = refl };
+          record {
+            screen = ap Some as_before;
+            served = λ c list stands. subst (λ (l : List Event). Serves c (sockets c) l later) (append-nil list) (law c (sockets c) list s t (call_undrawn c list e s.surface t noted (as_before ∙ stands.screen)) stands);
+            same = refl;
+          };
     }
 
 -- a drawing call that can't be refused but for memory, for the places of rectangles

@@ -1,3 +1,4 @@
 pub mod Waiting
 pub mod Drawing
 pub mod Turning
+pub mod Taking

@@ -6,13 +6,13 @@ use Rattle.scene.specs.declared.Config.{Config}
 use Rattle.scene.specs.declared.Event.{Event}
 use Rattle.scene.specs.declared.ScreenError.{ScreenError}
 use Rattle.scene.specs.declared.ScreenError.TheVariants.{OutOfMemory}
+use Rattle.scene.specs.declared.ScreenError.TheVariants as refusals
 use Rattle.scene.specs.Alone.{config_refusal}
 use Rattle.connections.specs.Serving.{Serving, Serves}
 use Rattle.event_loop.specs.Sockets.{sockets, GoesOnServing}
 use Rattle.event_loop.specs.declared.event_loop.LoopError.{LoopError}
 use Rattle.event_loop.specs.declared.event_loop.LoopError.TheVariants.{Screen}
 use Rattle.screen_desk.specs.Codes.{Answers, code_of, done, out_of_memory}
-use Rattle.screen_desk.proofs.Drawing.{never_done}
 use Rattle.server_desk.specs.declared.listening.ListenError.{ListenError}
 use Rattle.server_desk.specs.declared.listening.ListenError.TheVariants.{Refused, BadAddress, CannotListen}
 use Rattle.server_desk.specs.declared.visits.Visit.{Visit}
@@ -25,6 +25,17 @@ use Rattle.server_desk.specs.Calls.{Listens, TakesTurn}
 
 abbrev IsListenCode : ℤ → Type 0
 IsListenCode n = (n ≡ done) ⊎ ((n ≡ bad_address) ⊎ (n ≡ cannot_listen))
+
+never_done : (e : ScreenError) → code_of e ≢ done
+never_done refusals.BadSize = λ same. absurd (cc)
+never_done refusals.BadName = λ same. absurd (cc)
+never_done refusals.BadRectLimit = λ same. absurd (cc)
+never_done refusals.BadRect = λ same. absurd (cc)
+never_done refusals.BadPixelCount = λ same. absurd (cc)
+never_done refusals.TextTooLong = λ same. absurd (cc)
+never_done refusals.NoViewer = λ same. absurd (cc)
+never_done refusals.NumberInUse = λ same. absurd (cc)
+never_done refusals.OutOfMemory = λ same. absurd (cc)
 
 never-listens : (e : ListenError) → listen_code e ≢ done
 never-listens (Refused e) = never_done e

@@ -4,15 +4,21 @@ use Rattle.std.specs.declared.alloc.AllocError.{AllocError}
 use Rattle.region.specs.declared.Rect.{Rect}
 use Rattle.scene.specs.declared.Config.{Config}
 use Rattle.scene.specs.declared.Event.{Event}
+use Rattle.scene.specs.declared.ScreenError.TheVariants.{OutOfMemory}
 use Rattle.scene.specs.Alone.{config_refusal}
-use Rattle.connections.specs.Serving.{Serving, number_at}
+use Rattle.connections.specs.Serving.{Serving, Serves, number_at}
+use Rattle.event_loop.specs.Sockets.{sockets}
+use Rattle.source_pixels.specs.Source.{Source}
+use Rattle.take_pixels.specs.Takes.{IsTaken, IsPartlyTaken}
+use Rattle.take_pixels.specs.Paints.{paints_of}
 use Rattle.event_loop.specs.declared.event_loop.LoopError.{LoopError}
-use Rattle.screen_desk.specs.Codes.{Answers, code_of, done, shut}
+use Rattle.screen_desk.specs.Codes.{Answers, code_of, done, out_of_memory, shut}
 use Rattle.screen_desk.specs.Desk.{IsListOf}
 use Rattle.screen_desk.specs.Inputs.{IsFetched}
 use Rattle.screen_desk.specs.declared.told.Told.{Told}
 use Rattle.server_desk.specs.declared.visits.Visit.{Visit}
 use Rattle.server_desk.specs.Codes.{bad_address, cannot_listen, network_failed, closed_code, turn_code}
+use Rattle.server_desk.specs.Pixels.{source_due}
 use Rattle.server_desk.specs.Desk.{Standing, StandsFor, IsAsBefore, IsPutBehind, due, region_due}
 
 -- the desk listens, and serves a screen with nothing on it to no viewer yet; or it is as it was
@@ -81,6 +87,33 @@ pub record ShowsText (old new : Standing) (room_old room_new : List ℕ) (code :
 pub record Tells (number : Serving → ℤ) (old new : Standing) (code : ℤ) : Type 0 where
   pub answer : MatchOption old.served (code ≡ shut) (λ s. code ≡ number s)
   pub same : new ≡ old
+
+-- why a program's pixels are not taken in: the server is shut, or they are refused
+abbrev pub take_due : Option Serving → Option Source → Option ℤ
+take_due None source = Some shut
+take_due (Some served) source = source_due source
+
+-- they are taken in: so many places changed, what differed is painted, and by that each viewer is served
+pub record IsTakenIn (s : Source) (left top : ℕ) (c : Config) (list : List Event) (old new : Serving) (code : ℤ) : Type 0 where
+  pub places : ℕ
+  pub number : code ≡ pos (min places (2 ^ 62))
+  pub taken : IsTaken s left top c list old.surface.screen new.surface.screen places
+  pub served : Serves c (sockets c) (list ++ paints_of left top taken.pieces) new
+
+-- for want of memory only some of what differed is painted
+pub record IsTakenInPart (s : Source) (left top : ℕ) (c : Config) (list : List Event) (old new : Serving) : Type 0 where
+  pub taken : IsPartlyTaken s left top c list old.surface.screen new.surface.screen OutOfMemory
+  pub served : Serves c (sockets c) (list ++ paints_of left top taken.pieces) new
+
+-- a program's own pixels are taken into the picture, with their corner at a place of it
+abbrev pub TakesIn : ℕ → ℕ → ℤ → Option Source → Option Serving → Option Serving → Type 0
+TakesIn left top code (Some s) (Some a) (Some b) = (c : Config) (list : List Event) → config_refusal c ≡ None → Serves c (sockets c) list a → IsTakenIn s left top c list a b code ⊎ ((code ≡ out_of_memory) × IsTakenInPart s left top c list a b)
+TakesIn left top code source old new = Unit {0}
+
+pub record TakesPixels (source : Option Source) (left top : ℕ) (old new : Standing) (code : ℤ) : Type 0 where
+  pub refused : (refusal : ℤ) → take_due old.served source ≡ Some refusal → (code ≡ refusal) × (new ≡ old)
+  pub taken : take_due old.served source ≡ None → TakesIn left top code source old.served new.served
+  pub same : new ≡ record old { served = new.served }
 
 -- a call changes nothing, and answers some number, or shut
 pub record TellsSome (old new : Standing) (code : ℤ) : Type 0 where

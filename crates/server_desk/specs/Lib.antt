@@ -2,4 +2,5 @@ pub mod Codes
 pub mod Visits
 pub mod Listening
 pub mod Desk
+pub mod Pixels
 pub mod Calls

@@ -1,6 +1,6 @@
 //! The desk: the calls of a server, and what waits to be fetched.
 
-ghost use Rattle.std.specs.Prelude.{◌≡◌, ◌≤◌, ◌∷◌, [], ◌^◌, pos, map, min, None, IfOk, IfErr, OnOk, is_some, count_by};
+ghost use Rattle.std.specs.Prelude.{◌≡◌, ◌≤◌, ◌∷◌, [], ◌^◌, pos, map, min, length, None, IfOk, IfErr, OnOk, is_some, count_by};
 ghost use Rattle.scene.specs.declared.Event.{Event};
 ghost use Rattle.scene.specs.Alone.{config_refusal};
 ghost use Rattle.scene.specs.Calls.{event_of};
@@ -10,7 +10,9 @@ ghost use Rattle.screen_desk.specs.Calls.{colour_at};
 ghost use Rattle.screen_desk.specs.Desk.{rect_of, config_of, IsListOf};
 ghost use Rattle.std.specs.VecDeque.{deque_capacity};
 ghost use Rattle.server_desk.specs.Desk.{nothing_there, IsPutBehind, region_due};
-ghost use Rattle.server_desk.specs.Calls.{Listens, TakesTurn, Draws, DrawsRegion, FetchesInputs, FetchesVisits, ShowsText, Tells, TellsSome, LetsGo};
+ghost use Rattle.server_desk.specs.Calls.{Listens, TakesTurn, Draws, DrawsRegion, FetchesInputs, FetchesVisits, ShowsText, Tells, TellsSome, LetsGo, TakesPixels};
+ghost use Rattle.server_desk.specs.Pixels.{format_of, source_from};
+ghost use Rattle.source_pixels.specs.declared.formats.SourceFormat.TheVariants as format;
 
 use crate::codes::{CLOCK_FAILED, closed_code, turn_code};
 use crate::gathering::Gathering;
@@ -19,11 +21,13 @@ use crate::news::{
     MOST_INPUTS, MOST_TEXT, MOST_VISITS, fetch_inputs, fetch_visits, is_text_at,
     make_room, put_all,
 };
+use crate::pixels::{PixelLayout, source_of};
 use crate::system::{SystemClock, milliseconds_of, timeout_of};
 use crate::told::ToldBy;
 use crate::visits::Visit;
 use crate::waker::ServerWaker;
-use event_loop::{Drawing, EventLoop, Listed, Rect, Region, ScreenError, drawn_is_served};
+use event_loop::{EventLoop, Listed, Rect, Region, ScreenError, drawn_is_served};
+use screen::Drawing;
 use screen_desk::{
     Corners, OFF_SCREEN, OUT_OF_RANGE, SHUT, Told, are_far, code_of, copy_to, done_or, region_of,
 };
@@ -341,6 +345,37 @@ impl ServerDesk {
                 self.draw(&Drawing::DoCopyRegion { region, dx, dy })
             }
             Err(code) => code,
+        }
+    }
+
+    /// `Canvas::take`: a program's own pixels become the picture's (`rfbMarkRectAsModified` of `rfb.h`), from column `left` of row `top`
+    /// on, and what differs is owed to every viewer. `bytes` has so many columns and rows of pixels, `stride` bytes from one row to the
+    /// next; their format is a layout, or a table of colours, or where both are empty 32 bits `0x00RRGGBB` in little-endian order. What
+    /// lies off the screen is left out. How many places changed; where memory is refused, each place has its old colour or its new one.
+    pub fn take(
+        &mut self,
+        left: u32,
+        top: u32,
+        width: u32,
+        height: u32,
+        bytes: &[u8],
+        stride: u64,
+        layouts: &[PixelLayout],
+        table: &[u32],
+    ) -> i64
+        ensures { TakesPixels (source_from width height stride bytes.now (format_of layouts.now (length table.now) (format.Table table))) left top self.old self.new result }
+    {
+        let Some(events) = &mut self.events else {
+            return i64::from(SHUT);
+        };
+        let source = match source_of(bytes, stride, width, height, layouts, table) {
+            Ok(source) => source,
+            Err(code) => return i64::from(code),
+        };
+        drawn_is_served();
+        match events.canvas().take(self.alloc, left, top, &source) {
+            Ok(places) => places.min(1 << 62) as i64,
+            Err(e) => i64::from(code_of(e)),
         }
     }
 

@@ -1,14 +1,16 @@
 //! What differs is found, and painted.
 
-ghost use Rattle.std.specs.Prelude.{◌≡◌, ◌+◌, ◌^◌, ◌<◌, None, List, IfOk};
+ghost use Rattle.std.specs.Prelude.{◌≡◌, ◌+◌, ◌^◌, ◌<◌, ◌++◌, None, List, IfOk};
 ghost use Rattle.framebuffer.specs.Frame.{IsPicture};
 ghost use Rattle.scene.specs.declared.Config.{Config};
 ghost use Rattle.scene.specs.declared.Event.{Event};
 ghost use Rattle.scene.specs.Alone.{config_refusal};
 ghost use Rattle.screen.specs.State.{state};
+ghost use Rattle.source_pixels.specs.declared.pieces.Piece.{Piece};
 ghost use Rattle.source_pixels.specs.Source.{source_refusal};
 ghost use Rattle.source_pixels.specs.Differences.{AreDifferences};
 ghost use Rattle.take_pixels.specs.Taken.{part_from, painted, piece_rect, taken};
+ghost use Rattle.take_pixels.specs.Paints.{paints_of};
 ghost use Rattle.take_pixels.specs.Takes.{Takes};
 
 use crate::part::ScreenPart;
@@ -63,6 +65,8 @@ pub fn take(
 ) -> Result<usize, ScreenError>
     ensures takes { (config : Config) (list : List Event) → config_refusal config ≡ None → screen.old ≡ state config list →
         Takes source.now left top config list screen.old screen.new result }
+    ensures paints { (config : Config) (list : List Event) → screen.old ≡ state config list →
+        (pieces : List Piece) × (screen.new ≡ state config (list ++ paints_of left top pieces)) }
     ensures none { IfOk result (λ places. places ≡ 0 → screen.new ≡ screen.old) }
 {
     let found = differences(alloc, screen, left, top, source)?;

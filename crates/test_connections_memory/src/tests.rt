@@ -308,10 +308,10 @@ fn a_bell_leaves_a_request_open(rt: HostRuntime) {
     assert_eq!(rt; a_change_comes(rt.alloc(), true, BELL_AND_CHANGE), Ok(true));
 }
 
-/// An opening, and pointers in many pieces (7.5.5).
-fn flood(alloc: Global) -> Result<Vec<u8>, AllocError> {
+/// An opening, and so many pointers (7.5.5).
+fn flood(alloc: Global, count: u32) -> Result<Vec<u8>, AllocError> {
     let mut bytes = OPENING.to_vec(alloc)?;
-    for _ in 0..1000u32 {
+    for _ in 0..count {
         bytes.extend_from_slice(b"\x05\0\0\0\0\0")?;
     }
     Ok(bytes)
@@ -346,7 +346,7 @@ fn are_heard_in_turn<'a>(
 }
 
 fn floods_are_heard_in_turn(alloc: Global) -> Result<bool, ScreenError> {
-    let flood = flood(alloc)?;
+    let flood = flood(alloc, 1000)?;
     let mut connections = painted(alloc, History::NotKept)?;
     are_heard_in_turn(alloc, &mut connections, flood.as_slice())
 }
@@ -354,6 +354,32 @@ fn floods_are_heard_in_turn(alloc: Global) -> Result<bool, ScreenError> {
 #[test]
 fn who_floods_waits_for_its_turn(rt: HostRuntime) {
     assert_eq!(rt; floods_are_heard_in_turn(rt.alloc()), Ok(true));
+}
+
+/// A viewer that said more than 64 KB is heard in one turn of 32 where another one has something to say.
+fn is_heard_later<'a>(
+    alloc: Global,
+    connections: &mut Connections<Line<'a>>,
+    flood: &'a [u8],
+) -> Result<bool, ScreenError> {
+    let loud = admit(connections, saying(alloc, flood))?;
+    told_in_turns(connections, loud, 600)?;
+    let calm = admit(connections, saying(alloc, flood).in_pieces(20, Then::Ends))?;
+    told_in_turns(connections, calm, 1)?;
+    // two pieces of 128 bytes for the one that said much, and 64 of 20 for the other
+    let [loud, calm, ..] = told_in_turns(connections, calm, 64)?;
+    Ok((42..=43).contains(&loud) && (213..=214).contains(&calm))
+}
+
+fn much_is_heard_later(alloc: Global) -> Result<bool, ScreenError> {
+    let flood = flood(alloc, 14_000)?;
+    let mut connections = painted(alloc, History::NotKept)?;
+    is_heard_later(alloc, &mut connections, flood.as_slice())
+}
+
+#[test]
+fn who_said_much_waits_longer(rt: HostRuntime) {
+    assert_eq!(rt; much_is_heard_later(rt.alloc()), Ok(true));
 }
 
 /// Whether one that left was sent all and then left, or was sent the beginning where memory was refused.

@@ -8,15 +8,17 @@
 ghost use types.Logic.{sem};
 ghost use denote.RawPtr.{room_at};
 ghost use Rattle.vnc_server.specs.Lying.{desk_row, waker_row, holds, leaves, holds_waker, leaves_waker, holds_beside_room, leaves_beside_waker};
-ghost use Rattle.std.specs.Prelude.{◌≡◌, ◌∷◌, [], ◌^◌, pos, map, min, false, is_some, count_by};
+ghost use Rattle.std.specs.Prelude.{◌≡◌, ◌∷◌, [], ◌^◌, pos, map, min, length, false, is_some, count_by};
 ghost use Rattle.scene.specs.declared.Event.{Event};
 ghost use Rattle.screen_desk.specs.Codes as codes;
 ghost use Rattle.screen_desk.specs.Calls.{colour_at};
 ghost use Rattle.screen_desk.specs.Desk.{rect_of, config_of};
 ghost use Rattle.server_desk.specs.Desk.{nothing_there};
-ghost use Rattle.server_desk.specs.Calls.{Listens, TakesTurn, Draws, DrawsRegion, FetchesInputs, FetchesVisits, ShowsText, Tells, TellsSome, LetsGo, Wakes};
+ghost use Rattle.server_desk.specs.Calls.{Listens, TakesTurn, Draws, DrawsRegion, FetchesInputs, FetchesVisits, ShowsText, Tells, TellsSome, LetsGo, TakesPixels, Wakes};
+ghost use Rattle.server_desk.specs.Pixels.{format_of, source_from};
+ghost use Rattle.source_pixels.specs.declared.formats.SourceFormat.TheVariants as format;
 
-use server_desk::{Corners, ServerDesk, ServerWaker, Told, Visit};
+use server_desk::{Corners, PixelLayout, ServerDesk, ServerWaker, Told, Visit};
 use std::alloc::Global;
 use std::mem::size_of;
 use std::ptr;
@@ -216,6 +218,36 @@ pub unsafe extern "C" fn vnc_server_do_copy_rect(
     ensures* { sem 𝓛 (leaves at (λ after. Draws (Event.DoCopy (record { x1 = x1; y1 = y1; x2 = x2; y2 = y2 } ∷ []) dx dy) before after result)) }
 {
     ServerDesk::do_copy_rect(&mut *(at as *mut ServerDesk), x1, y1, x2, y2, dx, dy)
+}
+
+/// `ServerDesk::take`.
+#[unsafe(no_mangle)]
+pub unsafe extern "C" fn vnc_server_take(
+    at: *mut Place,
+    left: u32,
+    top: u32,
+    width: u32,
+    height: u32,
+    bytes: &[u8],
+    stride: u64,
+    layouts: &[PixelLayout],
+    table: &[u32],
+) -> i64
+    ghost before: { desk_row.Denot }
+    requires* { sem 𝓛 (holds at before) }
+    ensures* { sem 𝓛 (leaves at (λ after. TakesPixels (source_from width height stride bytes.now (format_of layouts.now (length table.now) (format.Table table))) left top before after result)) }
+{
+    ServerDesk::take(
+        &mut *(at as *mut ServerDesk),
+        left,
+        top,
+        width,
+        height,
+        bytes,
+        stride,
+        layouts,
+        table,
+    )
 }
 
 /// `ServerDesk::bell`.

@@ -1,4 +1,4 @@
-use Rattle.std.proofs.Common.{◌≡◌, List, ◌++◌, take, sym, ◌∙◌, ap, subst}
+use Rattle.std.proofs.Common.{◌≡◌, List, [], ◌++◌, take, sym, ◌∙◌, ap, subst, append-nil}
 use Rattle.std.specs.Prelude.{All}
 use Rattle.std.proofs.lemmas.List.{take_all}
 use Rattle.std.proofs.lemmas.Result.{err_from_is_err_and}
@@ -42,3 +42,12 @@ returns-clause-takes c = λ config list fine stands.
       events = all;
       picture = picture_taken c.args.source.now c.args.left c.args.top config list c.args.screen.now c.loop-piece.screen c.in_ok-found.found c.differences.ensures.accepted fine stands c.in_ok-found.ensures.differ all;
     }
+
+pub returns-in_err-found-clause-paints : goal.returns-in_err-found-clause-paints
+returns-in_err-found-clause-paints c = λ config list stands. ([], stands ∙ ap (state config) (sym (append-nil list)))
+
+pub returns-in_err-paint-clause-paints : goal.returns-in_err-paint-clause-paints
+returns-in_err-paint-clause-paints c = λ config list stands. (take c.loop-piece.piece-index c.as_slice-piece-items.result.now, c.in_err-paint.ensures.err ∙ c.loop-piece.invariant.events config list stands)
+
+pub returns-clause-paints : goal.returns-clause-paints
+returns-clause-paints c = λ config list stands. (take c.loop-piece.piece-index c.as_slice-piece-items.result.now, c.loop-piece.invariant.events config list stands)

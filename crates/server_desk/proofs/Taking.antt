@@ -1,0 +1,101 @@
+-- A program's own pixels.
+use Rattle.std.proofs.Common.{◌≡◌, ◌⊎◌, ℕ, ℤ, pos, min, ◌^◌, true, false, true≢false, List, [], ◌∷◌, ◌++◌, Option, Some, None, Result, Ok, Err, refl, sym, ap, ◌∙◌, inl, inr, subst}
+use Rattle.std.specs.Prelude.{MatchResult}
+use Rattle.messages.specs.declared.Input.{Input}
+use Rattle.scene.specs.declared.Config.{Config}
+use Rattle.scene.specs.declared.Event.{Event}
+use Rattle.scene.specs.declared.ScreenError.{ScreenError}
+use Rattle.scene.specs.declared.ScreenError.TheVariants.{OutOfMemory}
+use Rattle.scene.specs.Alone.{config_refusal}
+use Rattle.screen.specs.State.{State, state}
+use Rattle.source_pixels.specs.declared.pieces.Piece.{Piece}
+use Rattle.source_pixels.specs.Source.{Source}
+use Rattle.take_pixels.specs.Paints.{paints_of}
+use Rattle.take_pixels.specs.Takes.{Takes, IsTaken, IsPartlyTaken}
+use Rattle.connections.specs.Drawing.{Surface, IsDrawnFrom, are_drawings, has_notice}
+use Rattle.connections.specs.Serving.{Serving, Serves, drawn_is_served}
+use Rattle.event_loop.specs.Sockets.{sockets}
+use Rattle.screen_desk.specs.Codes.{code_of, out_of_memory, shut}
+use Rattle.server_desk.specs.declared.visits.Visit.{Visit}
+use Rattle.server_desk.specs.Desk.{Standing}
+use Rattle.server_desk.specs.Pixels.{source_due}
+use Rattle.server_desk.specs.Calls.{TakesPixels, TakesIn, IsTakenIn, IsTakenInPart, take_due}
+
+-- paints are drawing calls, and no notices
+paints_drawings : (left top : ℕ) (qs : List Piece) → are_drawings (paints_of left top qs) ≡ true
+paints_drawings left top [] = refl
+paints_drawings left top (q ∷ qs) = paints_drawings left top qs
+
+paints_quiet : (left top : ℕ) (qs : List Piece) → has_notice (paints_of left top qs) ≡ false
+paints_quiet left top [] = refl
+paints_quiet left top (q ∷ qs) = paints_quiet left top qs
+
+painted : (c : Config) (list : List Event) (left top : ℕ) (qs : List Piece) (a b : Surface) → b.screen ≡ state c (list ++ paints_of left top qs) → b.drawn ≡ true → b.noticed ≡ a.noticed → IsDrawnFrom c list a b
+painted c list left top qs a b screen drawn noticed = record {
+  calls = paints_of left top qs;
+  drawings = paints_drawings left top qs;
+  screen = screen;
+  none = λ no. absurd (true≢false (sym drawn ∙ no));
+  quiet = λ fine. (sym noticed ∙ fine, paints_quiet left top qs);
+}
+
+-- ---- refusals
+
+unserved : (source : Option Source) (left top : ℕ) (desk : Standing) (code : ℤ) (due : ℤ) → take_due desk.served source ≡ Some due → code ≡ due → TakesPixels source left top desk desk code
+unserved source left top desk code due is code_is = record {
+  refused = λ refusal so. (code_is ∙ same refusal (sym is ∙ so), refl);
+  taken = λ none. let two : ◌≡◌ {A = Option ℤ} (Some due) None = sym is ∙ none in absurd cc;
+  same = refl;
+}
+  where
+    same : (refusal : ℤ) → Path (Option ℤ) (Some due) (Some refusal) → due ≡ refusal
+    same refusal so = cc
+
+pub take_shut : (source : Option Source) (left top : ℕ) (desk : Standing) (code : ℤ) → desk.served ≡ None → code ≡ shut → TakesPixels source left top desk desk code
+take_shut source left top desk code none code_is = unserved source left top desk code shut (ap (λ o. take_due o source) none) code_is
+
+pub take_refused : (source : Option Source) (left top : ℕ) (desk : Standing) (s : Serving) (code refusal : ℤ) → desk.served ≡ Some s → source_due source ≡ Some refusal → code ≡ refusal → TakesPixels source left top desk desk code
+take_refused source left top desk s code refusal there due code_is = unserved source left top desk code refusal (ap (λ o. take_due o source) there ∙ due) code_is
+
+-- ---- taken
+
+abbrev IsCode : Result ℕ ScreenError → ℤ → Type 0
+IsCode r code = MatchResult r (λ places. code ≡ pos (min places (2 ^ 62))) (λ e. code ≡ code_of e)
+
+taken_in : drawn_is_served → (s : Source) (left top : ℕ) (a : Serving) (t : Surface) (r : Result ℕ ScreenError) (code : ℤ) → IsCode r code
+    → ((config : Config) (list : List Event) → config_refusal config ≡ None → a.surface.screen ≡ state config list → Takes s left top config list a.surface.screen t.screen r) → t.drawn ≡ true → t.noticed ≡ a.surface.noticed
+    → TakesIn left top code (Some s) (Some a) (Some (record a { surface = t }))
+taken_in law s left top a t (Ok places) code is takes drawn noticed = λ c list fine serves.
+    let taken = takes c list fine serves.screen in
+    inl (record {
+      places = places;
+      number = is;
+      taken = taken;
+      served = law c (sockets c) list a t (painted c list left top taken.pieces a.surface t taken.events drawn noticed) serves;
+    })
+taken_in law s left top a t (Err e) code is takes drawn noticed = λ c list fine serves.
+    let partly = takes c list fine serves.screen in
+    inr (
+      is ∙ ap code_of partly.memory,
+      record {
+        taken = subst (λ (x : ScreenError). IsPartlyTaken s left top c list a.surface.screen t.screen x) partly.memory partly;
+        served = law c (sockets c) list a t (painted c list left top partly.pieces a.surface t partly.events drawn noticed) serves;
+      },
+    )
+
+pub takes : drawn_is_served → (desk : Standing) (before : Option Serving) (s : Serving) (a t : Surface) (source : Option Source) (made : Source) (left top : ℕ) (r : Result ℕ ScreenError) (code : ℤ) (port : ℕ) (inputs : List (ℕ × Input)) (visits : List Visit) (text : List ℕ) (lost : ℕ)
+    → record { served = before; port = port; inputs = inputs; visits = visits; text = text; lost = lost } ≡ desk → before ≡ Some s → a ≡ s.surface → source_due source ≡ None → source ≡ Some made → IsCode r code
+    → ((config : Config) (list : List Event) → config_refusal config ≡ None → a.screen ≡ state config list → Takes made left top config list a.screen t.screen r) → t.drawn ≡ true → t.noticed ≡ a.noticed
+    → TakesPixels source left top desk (record { served = Some (record s { surface = t }); port = port; inputs = inputs; visits = visits; text = text; lost = lost }) code
+takes law desk before s a t source made left top r code port inputs visits text lost view is same accepted source_is code_is taking drawn noticed =
+    rw (sym view) (rw is (record {
+      refused = λ refusal due. let two : ◌≡◌ {A = Option ℤ} None (Some refusal) = sym accepted ∙ due in absurd cc;
+      taken = λ fine. subst (λ (o : Option Source). TakesIn left top code o (Some s) (Some later)) (sym source_is)
+          (taken_in law made left top s t r code code_is
+          (subst (λ (x : Surface). (config : Config) (list : List Event) → config_refusal config ≡ None → x.screen ≡ state config list → Takes made left top config list x.screen t.screen r) same taking)
+          drawn (noticed ∙ ap (λ (x : Surface). x.noticed) same));
+      same = refl;
+    }))
+  where
+    later : Serving
+    later = record s { surface = t }
