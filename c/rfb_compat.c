@@ -104,7 +104,8 @@ void rfbMarkRegionAsModified(rfbScreenInfoPtr s, sraRegionPtr r)
 /* What of a rectangle lies on the screen, and comes from there. */
 static sraRect copied(rfbScreenInfoPtr s, sraRect r, int dx, int dy)
 {
-    const sraRect none = {0, 0, 0, 0}, on = {larger(r.x1, larger(dx, 0)), larger(r.y1, larger(dy, 0)), smaller(r.x2, s->width + smaller(dx, 0)), smaller(r.y2, s->height + smaller(dy, 0))};
+    const int left = larger(r.x1, larger(dx, 0)), right = smaller(r.x2, s->width + smaller(dx, 0));
+    const sraRect none = {0, 0, 0, 0}, on = {left, larger(r.y1, larger(dy, 0)), right, smaller(r.y2, s->height + smaller(dy, 0))};
     return on.x1 < on.x2 && on.y1 < on.y2 ? on : none;
 }
 
@@ -259,16 +260,15 @@ static void serve(rfbScreenInfoPtr s)
     while (vnc_server_inputs(server, &in, 1) > 0) tell(s, &in);
 }
 
-/* One turn, which waits so many milliseconds at most, without the lock, or without end below 0: whether the server had something to do. */
+/* One turn, which waits so many milliseconds at most, without the lock: whether the server had something to do. */
 static rfbBool turn(rfbScreenInfoPtr s, int ms)
 {
     struct rfbCompat *c = s->compat;
     struct pollfd ready = {-1, POLLIN, 0};
-    int most;
     lock(s);
     c->depth++, c->waiting++;
-    most = !c->server ? -1 : c->isEnding ? 0 : smaller(vnc_server_longest_wait(c->server), c->marks ? s->deferUpdateTime : LONGEST);
-    if (most >= 0 && (ms < 0 || most < ms)) ms = most;
+    if (ms < 0) ms = LONGEST;
+    if (c->server) ms = c->isEnding ? 0 : smaller(ms, smaller(vnc_server_longest_wait(c->server), c->marks ? s->deferUpdateTime : LONGEST));
     if (c->server) ready.fd = vnc_server_fd(c->server);
     unlock(s);
     poll(&ready, 1, ms);
@@ -366,7 +366,6 @@ void rfbNewFramebuffer(rfbScreenInfoPtr s, char *frameBuffer, int width, int hei
     s->frameBuffer = code < 0 ? NULL : frameBuffer;
     c->marks = 0;
     mark(s, 0, 0, s->width, s->height);
-    wake(s);
     unlock(s);
 }
 

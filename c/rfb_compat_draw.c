@@ -30,10 +30,8 @@ void rfbDrawLine(rfbScreenInfoPtr s, int x1, int y1, int x2, int y2, rfbPixel co
 void rfbFontBBox(rfbFontDataPtr font, unsigned char c, int *x1, int *y1, int *x2, int *y2)
 {
     const int *m = font->metaData + 5 * c; /* where it begins, width, height, x, y */
-    *x1 += m[3];
-    *y1 += 1 - m[2] - m[4];
-    *x2 = *x1 + m[1] + 1;
-    *y2 = *y1 + m[2] + 1;
+    *x1 += m[3], *y1 += 1 - m[2] - m[4];
+    *x2 = *x1 + m[1] + 1, *y2 = *y1 + m[2] + 1;
 }
 
 int rfbDrawCharWithClip(rfbScreenInfoPtr s, rfbFontDataPtr font, int x, int y, unsigned char c, int x1, int y1, int x2, int y2, rfbPixel colour, rfbPixel back)
@@ -114,7 +112,8 @@ static void box_pointer(int mask, int x, int y, rfbClientPtr cl)
     if (mask & 1 && x >= box.x1 && x < box.x2 && y >= box.y1 && y < box.y1 + box.lines * box.high) choose(cl->screen, box.first + (y - box.y1) / box.high);
 }
 
-int rfbSelectBox(rfbScreenInfoPtr s, rfbFontDataPtr font, char **list, int x1, int y1, int x2, int y2, rfbPixel fore, rfbPixel back, int border, SelectionChangedHookPtr changed)
+int rfbSelectBox(rfbScreenInfoPtr s, rfbFontDataPtr font, char **list, int x1, int y1, int x2, int y2, rfbPixel fore, rfbPixel back, int border,
+                 SelectionChangedHookPtr changed)
 {
     const rfbKbdAddEventProcPtr key = s->kbdAddEvent;
     const rfbPtrAddEventProcPtr pointer = s->ptrAddEvent;
