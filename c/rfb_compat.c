@@ -227,9 +227,8 @@ static void settle(rfbScreenInfoPtr s)
         free(cl);
     }
     if (s->socketState != RFB_SOCKET_SHUTDOWN || s->clientHead) return;
-    vnc_waker_free(c->waker);
-    vnc_server_free(c->server);
-    c->waker = NULL, c->server = NULL;
+    vnc_waker_free(c->waker), c->waker = NULL;
+    vnc_server_free(c->server), c->server = NULL;
 }
 
 /* ---- turns ---- */

@@ -76,9 +76,9 @@ void rfbFreeFont(rfbFontDataPtr font) { free(font); }
 /* ---- a box to select from ---- */
 
 static struct {
+    int x1, y1, x2, y2, high, lines, count, first, at, isOver;
     rfbFontDataPtr font;
     char **list;
-    int x1, y1, x2, y2, high, lines, count, first, at, isOver;
     rfbPixel fore, back;
     SelectionChangedHookPtr changed;
 } box; /* within its border, in lines so high; which line stands first, and which is chosen, or -1 */
