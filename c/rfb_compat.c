@@ -43,7 +43,7 @@ rfbLogProc rfbLog = say, rfbErr = say;
 /* ---- what of frameBuffer is taken; the lock is held ---- */
 
 /* A turn that waits sees to what is new. */
-static void wake(rfbScreenInfoPtr s) { if (s->compat->waiting) vnc_waker_wake(s->compat->waker); }
+static void wake(rfbScreenInfoPtr s) { if (s->compat->waiting && s->compat->waker) vnc_waker_wake(s->compat->waker); }
 
 static void fill_table(const rfbColourMap *map, uint32_t *table)
 {
@@ -70,7 +70,7 @@ static void take_marks(rfbScreenInfoPtr s)
 {
     struct rfbCompat *c = s->compat;
     for (; c->marks > 0; c->marks--) {
-        const int64_t code = c->server && s->frameBuffer ? take_rect(s, c->marked[c->marks - 1]) : 0;
+        const int64_t code = c->server && !c->isEnding && s->frameBuffer ? take_rect(s, c->marked[c->marks - 1]) : 0;
         if (code == VNC_OUT_OF_MEMORY) return;
         if (code < 0) rfbErr("frameBuffer can't be taken: code %d\n", (int)code);
     }
@@ -250,7 +250,7 @@ static void serve(rfbScreenInfoPtr s)
     take_marks(s);
     close_some(s);
     code = vnc_server_process_events(server, 0);
-    if (code < 0) rfbErr("a turn ended early: code %d\n", (int)code);
+    if (code < 0) { rfbErr("a turn ended early: code %d\n", (int)code); poll(NULL, 0, 10); }
     while (vnc_server_comings_and_goings(server, &visit, 1) > 0) {
         rfbClientPtr cl = client_of(s->clientHead, visit.viewer);
         if (visit.kind == VNC_CAME) come(s, visit.viewer);
@@ -267,7 +267,7 @@ static rfbBool turn(rfbScreenInfoPtr s, int ms)
     lock(s);
     c->depth++, c->waiting++;
     if (ms < 0) ms = LONGEST;
-    if (c->server) ms = c->isEnding ? 0 : smaller(ms, smaller(vnc_server_longest_wait(c->server), c->marks ? s->deferUpdateTime : LONGEST));
+    if (c->server) ms = c->isEnding ? 0 : smaller(ms, smaller(larger(vnc_server_longest_wait(c->server), 0), c->marks ? s->deferUpdateTime : LONGEST));
     if (c->server) ready.fd = vnc_server_fd(c->server);
     unlock(s);
     poll(&ready, 1, ms);
@@ -333,8 +333,9 @@ rfbScreenInfoPtr rfbGetScreen(int *argc, char **argv, int width, int height, int
     pthread_mutex_init(&s->compat->lock, &recursive);
     s->whitePixel = 0xffffffff, s->port = 5900, s->deferUpdateTime = 5, s->listenInterface = htonl(INADDR_ANY);
     s->desktopName = "LibVNCServer", s->ptrAddEvent = rfbDefaultPtrAddEvent;
-    rfbProcessArguments(s, argc, argv);
-    return s;
+    if (rfbProcessArguments(s, argc, argv)) return s;
+    rfbScreenCleanup(s);
+    return NULL;
 }
 
 void rfbInitServer(rfbScreenInfoPtr s)
@@ -357,12 +358,13 @@ void rfbInitServer(rfbScreenInfoPtr s)
 void rfbNewFramebuffer(rfbScreenInfoPtr s, char *frameBuffer, int width, int height, int bitsPerSample, int samplesPerPixel, int bytesPerPixel)
 {
     struct rfbCompat *c = s->compat;
+    const rfbBool isResized = s->width != width || s->height != height ? TRUE : FALSE;
     int32_t code = 0;
     lock(s);
-    if (c->server && (s->width != width || s->height != height)) code = vnc_server_new_framebuffer(c->server, (uint32_t)width, (uint32_t)height);
-    if (code == 0 && !set_format(s, width, height, bitsPerSample, samplesPerPixel, bytesPerPixel)) code = VNC_BAD_FORMAT;
-    if (code < 0) { rfbErr("rfbNewFramebuffer: the server ends: code %d\n", (int)code); c->isEnding = TRUE; } /* as the old one may be gone */
-    s->frameBuffer = code < 0 ? NULL : frameBuffer;
+    if (!set_format(s, width, height, bitsPerSample, samplesPerPixel, bytesPerPixel)) code = VNC_BAD_FORMAT;
+    else if (c->server && isResized) code = vnc_server_new_framebuffer(c->server, (uint32_t)width, (uint32_t)height);
+    if (code < 0) { rfbErr("rfbNewFramebuffer: the server ends: code %d\n", (int)code); c->isEnding = TRUE; }
+    s->frameBuffer = frameBuffer;
     c->marks = 0;
     mark(s, 0, 0, s->width, s->height);
     unlock(s);
@@ -414,8 +416,7 @@ rfbBool rfbProcessArguments(rfbScreenInfoPtr s, int *argc, char **argv)
     char *password = value_of("-passwd", argc, argv), *file = value_of("-rfbauth", argc, argv);
     if (port) s->port = atoi(port);
     if (password || file) s->authPasswdData = password ? password : file; /* which is refused */
-    if (address && inet_pton(AF_INET, strcmp(address, "localhost") ? address : "127.0.0.1", &s->listenInterface) != 1) s->port = 0; /* likewise */
-    return TRUE;
+    return !address || inet_pton(AF_INET, strcmp(address, "localhost") ? address : "127.0.0.1", &s->listenInterface) == 1 ? TRUE : FALSE;
 }
 
 rfbBool rfbProcessSizeArguments(int *width, int *height, int *bpp, int *argc, char **argv)

@@ -127,14 +127,16 @@ typedef struct _rfbClientRec {
 } rfbClientRec;
 
 /* The server. 1 to 8192 columns and rows, 1 to 10 bits a sample, and pixels of 1 to 4 bytes: else rfbGetScreen gives NULL. Of arguments it
- * takes out -rfbport, -listen, -passwd and -rfbauth with their values. */
+ * takes out -rfbport, -listen, -passwd and -rfbauth with their values; NULL too where -listen's is neither an IPv4 address in digits nor
+ * localhost. */
 rfbScreenInfoPtr rfbGetScreen(int *argc, char **argv, int width, int height, int bitsPerSample, int samplesPerPixel, int bytesPerPixel);
 
 /* Listens. Where it can't, or a password is wanted, it says so by rfbErr, and nobody is served: socketState is RFB_SOCKET_SHUTDOWN,
  * rfbIsActive is FALSE, and rfbRunEventLoop returns at once. A screen that wants a password later is shut in the next turn. */
 void rfbInitServer(rfbScreenInfoPtr s);
 
-/* Another frameBuffer, also of another size. Viewers that can't be told a new size see the part of it within their own. */
+/* Another frameBuffer, also of another size. Viewers that can't be told a new size see the part of it within their own. Where it is refused,
+ * rfbErr says so, and the server ends with this turn. */
 void rfbNewFramebuffer(rfbScreenInfoPtr s, char *frameBuffer, int width, int height, int bitsPerSample, int samplesPerPixel, int bytesPerPixel);
 
 /* No viewer may come any more. It ends at once, or where disconnectClients is FALSE, once the last one has left. */
@@ -162,7 +164,7 @@ void rfbSendBell(rfbScreenInfoPtr s);
 void rfbSendServerCutText(rfbScreenInfoPtr s, char *text, int len); /* at most 65536 bytes */
 
 /* Clients. */
-void rfbCloseClient(rfbClientPtr cl); /* in the next turn */
+void rfbCloseClient(rfbClientPtr cl); /* once what waits for it is written */
 void rfbDefaultPtrAddEvent(int buttonMask, int x, int y, rfbClientPtr cl);
 
 /* Regions: the places of any of their rectangles. Where memory is refused the first gives NULL, the second NULL or a region with no

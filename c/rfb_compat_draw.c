@@ -122,8 +122,7 @@ int rfbSelectBox(rfbScreenInfoPtr s, rfbFontDataPtr font, char **list, int x1, i
     box.font = font, box.list = list, box.fore = fore, box.back = back, box.changed = changed, box.at = -1;
     box.x1 = x1 + border, box.y1 = y1 + border, box.x2 = x2 - border, box.y2 = y2 - border;
     rfbFontBBox(font, 'M', &left, &top, &right, &bottom);
-    box.high = bottom - top;
-    box.lines = (box.y2 - box.y1) / box.high;
+    box.high = bottom - top, box.lines = (box.y2 - box.y1) / box.high;
     while (box.lines > 0 && list[box.count]) box.count++;
     if (box.count == 0) return -1;
     rfbFillRect(s, x1, y1, x2, y2, fore);

@@ -165,7 +165,7 @@ static void clean(rfbScreenInfoPtr s)
 /* A screen that wants a password is not served, whenever it says so. */
 static int passwords(void)
 {
-    char program[] = "x", auth[] = "-rfbauth", file[] = "file", *args[] = {program, auth, file, NULL};
+    char program[] = "x", auth[] = "-rfbauth", file[] = "file", listen_at[] = "-listen", *args[] = {program, auth, file, NULL};
     int count = 3, k;
     for (k = 0; k < 3; k++) {
         rfbScreenInfoPtr s = screen(4);
@@ -181,6 +181,9 @@ static int passwords(void)
         clean(s);
     }
     IS(count, 1);
+    args[1] = listen_at, args[2] = file, count = 3;
+    IS(rfbGetScreen(&count, args, W, H, 8, 3, 4) != NULL, 0);
+    IS(rfbGetScreen(NULL, NULL, W, H, 8, 3, 5) != NULL, 0);
     return 0;
 }
 
