@@ -154,7 +154,7 @@ fi
 rfb_examples() { python3 "$here/tools/rfb_examples.py" "$LIBVNCSERVER_SOURCE" "$room/prefix" "$room/rfb_examples" "$@"; }
 if [ -n "${LIBVNCSERVER_SOURCE:-}" ]; then
     mkdir "$room/rfb_examples"
-    [ -f /usr/include/rfb/rfb.h ] || left+=("LibVNCServer's examples beside LibVNCServer: it is not installed")
+    pkg-config --exists libvncserver || left+=("LibVNCServer's examples beside LibVNCServer: it is not installed")
     try "LibVNCServer's examples" rfb_examples && sed 's/^/        /' "$room/log"
     have valgrind && try "LibVNCServer's examples under valgrind" rfb_examples valgrind -q --leak-check=full && sed 's/^/        /' "$room/log"
 else

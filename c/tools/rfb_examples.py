@@ -26,7 +26,7 @@ FILE *fopen(const char *name, const char *mode)
 {
     FILE *(*real)(const char *, const char *);
     *(void **)&real = dlsym(RTLD_NEXT, "fopen");
-    return real(strncmp(name, "/usr/lib/kbd/consolefonts/", 26) ? name : "%s/font", mode);
+    return real(strstr(name, "/consolefonts/") ? "%s/font" : name, mode);
 }
 FILE *fopen64(const char *name, const char *mode) { return fopen(name, mode); }
 """
@@ -63,9 +63,10 @@ def build(name, source, flags):
     ours = [f"{HERE}/rfb_compat.c", f"{HERE}/rfb_compat_draw.c", f"-I{HERE}", f"-I{ROOM}", f"{PREFIX}/lib/libvnc_server.a", "-lpthread"]
     if not compiles("-w", *flags, "-o", f"{ROOM}/ours/{name}", f"{ROOM}/source/{name}.c", *ours):
         raise OSError("does not compile")
-    if COMMAND or not os.path.exists("/usr/include/rfb/rfb.h"):
+    real = subprocess.run(["pkg-config", "--cflags", "--libs", "libvncserver"], check=False, capture_output=True, text=True)
+    if COMMAND or real.returncode != 0:
         return False
-    return compiles("-w", *flags, "-o", f"{ROOM}/real/{name}", f"{SOURCE}/examples/{source}.c", "-idirafter", ROOM, "-lvncserver")
+    return compiles("-w", *flags, "-o", f"{ROOM}/real/{name}", f"{SOURCE}/examples/{source}.c", "-idirafter", ROOM, *real.stdout.split())
 
 
 class Viewer:
