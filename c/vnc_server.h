@@ -175,6 +175,21 @@ int32_t vnc_server_bell(vnc_server *server);                                    
 int32_t vnc_server_cut_text(vnc_server *server, const uint8_t *text, size_t count);      /* rfbSendServerCutText; at most 65536 bytes */
 int32_t vnc_server_new_framebuffer(vnc_server *server, uint32_t width, uint32_t height); /* rfbNewFramebuffer; black */
 
+/* What a pixel's bytes say: each component is what the pixel's number has above its shift, as a mask of its maximum. */
+typedef struct vnc_pixel_format {
+    uint32_t bytes_per_pixel, big_endian, red_max, green_max, blue_max, red_shift, green_shift, blue_shift;
+} vnc_pixel_format;
+
+/* A program's own pixels are taken in (rfbMarkRectAsModified): the rectangle of `width` columns and `height` rows of the picture whose
+ * corner is at column `left` of row `top` becomes `bytes`, rows `stride` bytes apart; what differs is painted, in few rectangles.
+ * `format`: one (format_count 1), or NULL, 0: 32 bits, 0x00RRGGBB in little-endian order. Or `table` of 1 to 256 colours 0x00RRGGBB, one
+ * byte a pixel, and no format. What lies off the screen is left out. How many places changed; VNC_BAD_FORMAT, VNC_BAD_STRIDE or
+ * VNC_TOO_FEW_BYTES. Where memory is refused (VNC_OUT_OF_MEMORY) each place has its old colour or its new one, and another call takes
+ * the rest. */
+int64_t vnc_server_take(vnc_server *server, uint32_t left, uint32_t top, uint32_t width, uint32_t height, const uint8_t *bytes,
+                        size_t byte_count, uint64_t stride, const vnc_pixel_format *format, size_t format_count, const uint32_t *table,
+                        size_t table_count);
+
 /* What there is. */
 int32_t vnc_server_port(vnc_server *server); /* on which it listens */
 int64_t vnc_server_width(vnc_server *server);

@@ -23,6 +23,9 @@ enum vnc_code {
     VNC_CANNOT_LISTEN = -14,  /* the system doesn't let the program listen there, or has no more handles */
     VNC_NETWORK_FAILED = -15, /* the system failed to say which sockets are ready */
     VNC_CLOCK_FAILED = -16,   /* the system failed to say what time it is */
+    VNC_BAD_FORMAT = -17,     /* a component has no value above 0 or doesn't fit, bytes_per_pixel isn't 1 to 4, or a table of more than 256 */
+    VNC_BAD_STRIDE = -18,     /* a row's pixels take more bytes than the stride */
+    VNC_TOO_FEW_BYTES = -19,  /* the rows need more bytes than there are */
     VNC_SHUT = -32            /* the screen, or the server, is shut */
 };
 

@@ -5,7 +5,7 @@
 
 #define IS(call, want) do { long got = (long)(call); if (got != (long)(want)) { printf("line %d: %s gives %ld\n", __LINE__, #call, got); return 1; } } while (0)
 
-static const uint8_t opening[14] = "RFB 003.008\n\x01\x01";
+static const uint8_t opening[] = "RFB 003.008\n\x01\x01";
 
 int main(void)
 {

@@ -46,6 +46,33 @@ static int says(vnc_server *s, int fd, const void *said, size_t count, uint8_t *
     return 0;
 }
 
+/* A program's own pixels: 32 bits, 16 bits, bytes by a table, what lies off the screen, and refusals. The picture is as before then. */
+static int takes(vnc_server *s)
+{
+    static const uint8_t pixels[8] = {0x33, 0x22, 0x11, 0, 0, 0xf8, 0xff, 0}, red[8] = {0, 0, 0xff};
+    static const uint32_t table[257] = {0x010203, 0x040506};
+    vnc_pixel_format format = {2, 0, 31, 63, 31, 11, 5, 0};
+    IS(vnc_server_take(s, 0, 0, 2, 1, pixels, 8, 8, 0, 0, 0, 0), 2);
+    IS(vnc_server_colour(s, 0, 0) == 0x112233 && vnc_server_colour(s, 1, 0) == 0xfff800, 1);
+    IS(vnc_server_take(s, 0, 0, 2, 1, pixels, 8, 8, 0, 0, 0, 0), 0);
+    IS(vnc_server_take(s, 1, 0, 2, 1, pixels, 8, 8, 0, 0, 0, 0), 1);
+    IS(vnc_server_colour(s, 1, 0), 0x112233);
+    IS(vnc_server_take(s, 7, 7, 2, 1, pixels, 8, 8, 0, 0, 0, 0), 0);
+    IS(vnc_server_take(s, 0, 0, 1, 1, pixels + 4, 2, 2, &format, 1, 0, 0), 1);
+    IS(vnc_server_colour(s, 0, 0), 0xff0000);
+    IS(vnc_server_take(s, 0, 0, 2, 1, pixels + 3, 2, 2, 0, 0, table, 2), 2);
+    IS(vnc_server_colour(s, 0, 0) == 0x010203 && vnc_server_colour(s, 1, 0) == 0x010203, 1);
+    IS(vnc_server_take(s, 0, 0, 1, 1, pixels, 2, 2, &format, 1, table, 2), VNC_BAD_FORMAT);
+    IS(vnc_server_take(s, 0, 0, 1, 1, pixels, 1, 1, 0, 0, table, 257), VNC_BAD_FORMAT);
+    IS(vnc_server_take(s, 0, 0, 2, 1, pixels, 4, 3, &format, 1, 0, 0), VNC_BAD_STRIDE);
+    IS(vnc_server_take(s, 0, 0, 2, 1, pixels, 3, 4, &format, 1, 0, 0), VNC_TOO_FEW_BYTES);
+    format.green_max = 0;
+    IS(vnc_server_take(s, 0, 0, 1, 1, pixels, 2, 2, &format, 1, 0, 0), VNC_BAD_FORMAT);
+    format.green_max = 63, format.bytes_per_pixel = 5;
+    IS(vnc_server_take(s, 0, 0, 1, 1, pixels, 8, 8, &format, 1, 0, 0), VNC_BAD_FORMAT);
+    return vnc_server_take(s, 0, 0, 2, 1, red, 8, 8, 0, 0, 0, 0) != 2;
+}
+
 static void *wakes(void *waker)
 {
     struct timespec pause = {0, 100000000};
@@ -97,6 +124,7 @@ int main(void)
     IS(vnc_server_mark_region(s, &all, 1), 0);
     IS(vnc_server_schedule_copy_region(s, &far, 1, 0, 0), VNC_OUT_OF_RANGE);
     IS(vnc_server_do_copy_region(s, &far, 1, 0, 0), VNC_OUT_OF_RANGE);
+    if (takes(s)) return 1;
     IS(vnc_server_bell(s), 0);
     IS(vnc_server_cut_text(s, room, 0), 0);
 
@@ -147,6 +175,7 @@ int main(void)
     IS(vnc_waker_wake(w), VNC_SHUT);
     vnc_waker_free(w);
     IS(vnc_server_inputs(s, in, 4), VNC_SHUT);
+    IS(vnc_server_take(s, 0, 0, 0, 0, room, 0, 0, 0, 0, 0, 0), VNC_SHUT);
     IS(vnc_server_listen(s, home, 9, 0, 4, 1, name, 1, 1), 0);
     IS(vnc_server_viewer_count(s), 0);
     vnc_server_free(s);

@@ -1,4 +1,4 @@
-/* A library for LD_PRELOAD that refuses the Nth call of malloc or realloc, N as FAIL_AT says, to see what a program makes of it.
+/* A library for LD_PRELOAD that refuses the Nth call of malloc, calloc or realloc, N as FAIL_AT says, to see what a program makes of it.
  * cc -shared -fPIC -o refuse.so refuse.c -ldl */
 #define _GNU_SOURCE
 #include <dlfcn.h>
@@ -36,4 +36,17 @@ void *realloc(void *old, size_t count)
         return 0;
     }
     return real(old, count);
+}
+
+void *calloc(size_t count, size_t size)
+{
+    static void *(*real)(size_t, size_t);
+    static int looks;
+    if (!real && looks++) return 0; /* dlsym itself asks, and does without */
+    if (!real) *(void **)&real = dlsym(RTLD_NEXT, "calloc");
+    if (refuses()) {
+        errno = ENOMEM;
+        return 0;
+    }
+    return real(count, size);
 }

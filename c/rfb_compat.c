@@ -1,0 +1,429 @@
+/* rfb_compat.c: the server of rfb_compat.h, over vnc_server.h.
+ *
+ * The library has a picture of its own. A mark is kept as a rectangle, and the next turn takes what stands there then out of frameBuffer
+ * into the picture. A copy first takes what is marked, then moves frameBuffer and the picture alike, and marks where it came to: so what
+ * was drawn and not marked is put right there. Nothing is taken while nobody watches; for a viewer that comes, all is. */
+#define _POSIX_C_SOURCE 200809L
+#include "rfb_compat.h"
+#include "vnc_server.h"
+#include <poll.h>
+#include <pthread.h>
+#include <stdarg.h>
+
+enum { MOST_VIEWERS = 1000, MOST_COLUMNS = 8192, MOST_ROWS = 8192, MOST_MARKS = 32, LONGEST = 1000000 };
+
+struct rfbCompat {
+    vnc_server *server; /* none before rfbInitServer, and once it has ended */
+    vnc_waker *waker;
+    pthread_mutex_t lock;
+    pthread_t looper;   /* the thread of rfbRunEventLoop, where hasLooper */
+    rfbBool hasLooper, isEnding;
+    int depth, waiting; /* turns that run, as a hook may take one; those that wait */
+    long usec;
+    sraRect marked[MOST_MARKS];
+    int marks;
+    uint64_t last;      /* the number of the viewer that came last */
+};
+
+static void lock(rfbScreenInfoPtr s) { pthread_mutex_lock(&s->compat->lock); }
+static void unlock(rfbScreenInfoPtr s) { pthread_mutex_unlock(&s->compat->lock); }
+static int larger(int a, int b) { return a > b ? a : b; }
+static int smaller(int a, int b) { return a < b ? a : b; }
+
+static void say(const char *format, ...)
+{
+    va_list args;
+    va_start(args, format);
+    vfprintf(stderr, format, args);
+    va_end(args);
+}
+
+rfbLogProc rfbLog = say, rfbErr = say;
+
+/* ---- what of frameBuffer is taken; the lock is held ---- */
+
+/* A turn that waits sees to what is new. */
+static void wake(rfbScreenInfoPtr s) { if (s->compat->waiting && s->compat->waker) vnc_waker_wake(s->compat->waker); }
+
+static void fill_table(const rfbColourMap *map, uint32_t *table)
+{
+    for (uint32_t k = 0; k < 3 * 256 && k / 3 < map->count && map->data.bytes; k++)
+        table[k / 3] = table[k / 3] << 8 | (uint32_t)(map->is16 ? map->data.shorts[k] >> 8 : map->data.bytes[k]);
+}
+
+/* A rectangle that lies on the screen is taken: how many places changed, or a vnc_code. */
+static int64_t take_rect(rfbScreenInfoPtr s, sraRect r)
+{
+    const rfbPixelFormat *f = &s->serverFormat;
+    const vnc_pixel_format format = {f->bitsPerPixel / 8u, f->bigEndian, f->redMax, f->greenMax, f->blueMax, f->redShift, f->greenShift, f->blueShift};
+    const size_t bytes = f->bitsPerPixel / 8u, stride = (size_t)s->paddedWidthInBytes, width = (size_t)(r.x2 - r.x1), height = (size_t)(r.y2 - r.y1);
+    const uint8_t *first = (const uint8_t *)s->frameBuffer + (size_t)r.y1 * stride + (size_t)r.x1 * bytes;
+    uint32_t table[256] = {0};
+    if (!f->trueColour && bytes != 1) return VNC_BAD_FORMAT;
+    if (!f->trueColour) fill_table(&s->colourMap, table);
+    return vnc_server_take(s->compat->server, (uint32_t)r.x1, (uint32_t)r.y1, (uint32_t)width, (uint32_t)height, first, (height - 1) * stride + width * bytes,
+                           stride, f->trueColour ? &format : NULL, f->trueColour ? 1 : 0, table, f->trueColour ? 0 : 256);
+}
+
+/* What is marked is taken. Where memory is refused the rest stays marked. */
+static void take_marks(rfbScreenInfoPtr s)
+{
+    struct rfbCompat *c = s->compat;
+    for (; c->marks > 0; c->marks--) {
+        const int64_t code = c->server && !c->isEnding && s->frameBuffer ? take_rect(s, c->marked[c->marks - 1]) : 0;
+        if (code == VNC_OUT_OF_MEMORY) return;
+        if (code < 0) rfbErr("frameBuffer can't be taken: code %d\n", (int)code);
+    }
+}
+
+/* Marks what of a rectangle lies on the screen, its corners in any order. */
+static void mark(rfbScreenInfoPtr s, int x1, int y1, int x2, int y2)
+{
+    struct rfbCompat *c = s->compat;
+    sraRect r = {larger(smaller(x1, x2), 0), larger(smaller(y1, y2), 0), smaller(larger(x1, x2), s->width), smaller(larger(y1, y2), s->height)};
+    if (!s->clientHead || r.x1 >= r.x2 || r.y1 >= r.y2) return;
+    for (int k = 0; k < c->marks; k++) {
+        const sraRect m = c->marked[k], both = {smaller(r.x1, m.x1), smaller(r.y1, m.y1), larger(r.x2, m.x2), larger(r.y2, m.y2)};
+        if (memcmp(&both, &m, sizeof m) == 0) return;
+        if (c->marks == MOST_MARKS) r = both; /* which becomes the one around all */
+    }
+    if (c->marks == MOST_MARKS) c->marks = 0;
+    c->marked[c->marks++] = r;
+    wake(s);
+}
+
+void rfbMarkRectAsModified(rfbScreenInfoPtr s, int x1, int y1, int x2, int y2) { lock(s); mark(s, x1, y1, x2, y2); unlock(s); }
+
+void rfbMarkRegionAsModified(rfbScreenInfoPtr s, sraRegionPtr r)
+{
+    for (size_t k = 0; k < r->count; k++) rfbMarkRectAsModified(s, r->at[k].x1, r->at[k].y1, r->at[k].x2, r->at[k].y2);
+}
+
+/* ---- copies ---- */
+
+/* What of a rectangle lies on the screen, and comes from there. */
+static sraRect copied(rfbScreenInfoPtr s, sraRect r, int dx, int dy)
+{
+    const int left = larger(r.x1, larger(dx, 0)), right = smaller(r.x2, s->width + smaller(dx, 0));
+    const sraRect none = {0, 0, 0, 0}, on = {left, larger(r.y1, larger(dy, 0)), right, smaller(r.y2, s->height + smaller(dy, 0))};
+    return on.x1 < on.x2 && on.y1 < on.y2 ? on : none;
+}
+
+/* Moves frameBuffer, in such an order of rows that none is read that was written. */
+static void copy_pixels(rfbScreenInfoPtr s, const sraRect *to, size_t count, int dx, int dy)
+{
+    const ptrdiff_t bytes = s->serverFormat.bitsPerPixel / 8, pitch = s->paddedWidthInBytes;
+    char row[4 * MOST_COLUMNS];
+    for (int i = larger(dy, 0); i < s->height + smaller(dy, 0); i++) {
+        const int y = dy > 0 ? s->height - 1 - i + dy : i;
+        memcpy(row, s->frameBuffer + (y - dy) * pitch, (size_t)(s->width * bytes));
+        for (size_t k = 0; k < count; k++) {
+            const sraRect r = copied(s, to[k], dx, dy);
+            if (y >= r.y1 && y < r.y2) memcpy(s->frameBuffer + y * pitch + r.x1 * bytes, row + (r.x1 - dx) * bytes, (size_t)((r.x2 - r.x1) * bytes));
+        }
+    }
+}
+
+static void copy(rfbScreenInfoPtr s, const sraRect *to, size_t count, int dx, int dy, rfbBool isMoved)
+{
+    if (!s->frameBuffer || dx <= -s->width || dx >= s->width || dy <= -s->height || dy >= s->height) return;
+    lock(s);
+    if (!isMoved) take_marks(s);
+    if (!isMoved) copy_pixels(s, to, count, dx, dy);
+    for (size_t k = 0; k < count; k++) {
+        const sraRect r = copied(s, to[k], dx, dy);
+        if (s->clientHead && s->compat->server) vnc_server_do_copy_rect(s->compat->server, r.x1, r.y1, r.x2, r.y2, dx, dy);
+        mark(s, r.x1, r.y1, r.x2, r.y2);
+    }
+    unlock(s);
+}
+
+static void copy_one(rfbScreenInfoPtr s, sraRect to, int dx, int dy, rfbBool isMoved) { copy(s, &to, 1, dx, dy, isMoved); }
+static sraRect rect_of(int x1, int y1, int x2, int y2) { const sraRect r = {x1, y1, x2, y2}; return r; }
+void rfbDoCopyRegion(rfbScreenInfoPtr s, sraRegionPtr r, int dx, int dy) { copy(s, r->at, r->count, dx, dy, FALSE); }
+void rfbScheduleCopyRegion(rfbScreenInfoPtr s, sraRegionPtr r, int dx, int dy) { copy(s, r->at, r->count, dx, dy, TRUE); }
+void rfbDoCopyRect(rfbScreenInfoPtr s, int x1, int y1, int x2, int y2, int dx, int dy) { copy_one(s, rect_of(x1, y1, x2, y2), dx, dy, FALSE); }
+void rfbScheduleCopyRect(rfbScreenInfoPtr s, int x1, int y1, int x2, int y2, int dx, int dy) { copy_one(s, rect_of(x1, y1, x2, y2), dx, dy, TRUE); }
+
+/* A text for all, or where there is none, a bell. */
+static void send_all(rfbScreenInfoPtr s, const char *text, size_t length)
+{
+    int32_t code = 0;
+    lock(s);
+    if (s->compat->server) code = text ? vnc_server_cut_text(s->compat->server, (const uint8_t *)text, length) : vnc_server_bell(s->compat->server);
+    if (code < 0) rfbErr("a text or a bell is not sent: code %d\n", (int)code);
+    wake(s);
+    unlock(s);
+}
+
+void rfbSendBell(rfbScreenInfoPtr s) { send_all(s, NULL, 0); }
+void rfbSendServerCutText(rfbScreenInfoPtr s, char *text, int len) { if (text && len >= 0) send_all(s, text, (size_t)len); }
+
+/* ---- clients; the lock is held ---- */
+
+void rfbCloseClient(rfbClientPtr cl) { lock(cl->screen); cl->isClosing = TRUE; wake(cl->screen); unlock(cl->screen); }
+static rfbClientPtr client_of(rfbClientPtr cl, uint64_t number) { while (cl && cl->number != number) cl = cl->next; return cl; }
+
+/* Whether a viewer was let go. Where that is refused, nobody is served any more. */
+static rfbBool let_go(rfbScreenInfoPtr s, uint64_t number)
+{
+    int32_t code = vnc_server_close_viewer(s->compat->server, number);
+    if (code < 0 && code != VNC_NO_VIEWER) s->compat->isEnding = TRUE;
+    return code == 0 ? TRUE : FALSE;
+}
+
+/* A viewer came: the program is asked, and frameBuffer is taken, also what was never marked. */
+static void come(rfbScreenInfoPtr s, uint64_t number)
+{
+    static char unknown[] = "unknown";
+    rfbClientPtr cl = s->socketState == RFB_SOCKET_READY ? (rfbClientPtr)calloc(1, sizeof *cl) : NULL;
+    while (++s->compat->last < number) let_go(s, s->compat->last); /* whose coming was lost */
+    if (!cl) { let_go(s, number); return; }
+    cl->screen = s, cl->number = number, cl->sock = -1, cl->host = unknown, cl->next = s->clientHead;
+    s->clientHead = cl;
+    if (s->newClientHook && s->newClientHook(cl) != RFB_CLIENT_ACCEPT) cl->isClosing = TRUE;
+    if (cl->isClosing) return;
+    mark(s, 0, 0, s->width, s->height);
+    take_marks(s);
+}
+
+/* Lets go those that are to be closed, and viewers that no client is of, as their coming was lost. */
+static void close_some(rfbScreenInfoPtr s)
+{
+    int32_t known = 0;
+    for (rfbClientPtr cl = s->clientHead; cl; cl = cl->next) {
+        if (!cl->isGone) known++;
+        if (cl->isClosing && !cl->isLetGo) let_go(s, cl->number);
+        cl->isLetGo = cl->isClosing;
+    }
+    while (vnc_server_viewer_count(s->compat->server) > known && let_go(s, s->compat->last + 1)) s->compat->last++;
+}
+
+/* An input goes to the program's hook. While a client holds a button down, the pointer is its alone. */
+static void tell(rfbScreenInfoPtr s, const vnc_input *in)
+{
+    rfbClientPtr cl = client_of(s->clientHead, in->viewer);
+    char *text;
+    if (!cl || cl->isClosing || cl->viewOnly || (in->kind == VNC_POINTER && s->pointerClient && s->pointerClient != cl)) return;
+    if (in->kind == VNC_POINTER) s->pointerClient = in->buttons ? cl : NULL;
+    if (in->kind == VNC_POINTER && s->ptrAddEvent) s->ptrAddEvent((int)in->buttons, (int)in->x, (int)in->y, cl);
+    if (in->kind == VNC_KEY && s->kbdAddEvent) s->kbdAddEvent(in->down ? TRUE : FALSE, in->key, cl);
+    if (in->kind != VNC_TEXT || !s->setXCutText || !(text = (char *)calloc((size_t)in->length + 1, 1))) return;
+    vnc_server_text(s->compat->server, (uint8_t *)text, (size_t)in->length);
+    s->setXCutText(text, (int)in->length, cl);
+    free(text);
+}
+
+/* Parts with those that are gone, and ends the server where it is to end. */
+static void settle(rfbScreenInfoPtr s)
+{
+    struct rfbCompat *c = s->compat;
+    if (c->isEnding) s->socketState = RFB_SOCKET_SHUTDOWN;
+    for (rfbClientPtr *at = &s->clientHead, cl; (cl = *at);) {
+        if (!cl->isGone && !c->isEnding) { at = &cl->next; continue; }
+        *at = cl->next;
+        if (s->pointerClient == cl) s->pointerClient = NULL;
+        if (cl->clientGoneHook) cl->clientGoneHook(cl);
+        free(cl);
+    }
+    if (s->socketState != RFB_SOCKET_SHUTDOWN || s->clientHead) return;
+    vnc_waker_free(c->waker), c->waker = NULL;
+    vnc_server_free(c->server), c->server = NULL;
+}
+
+/* ---- turns ---- */
+
+static rfbBool wants_password(rfbScreenInfoPtr s)
+{
+    if (!s->authPasswdData && !s->passwordCheck) return FALSE;
+    rfbErr("there are no passwords here: a screen that wants one is not served\n");
+    return TRUE;
+}
+
+/* Takes what is marked, and a turn of the library's; then hooks run. */
+static void serve(rfbScreenInfoPtr s)
+{
+    vnc_server *server = s->compat->server;
+    vnc_visit visit;
+    vnc_input in;
+    int32_t code;
+    take_marks(s);
+    close_some(s);
+    code = vnc_server_process_events(server, 0);
+    if (code < 0) { rfbErr("a turn ended early: code %d\n", (int)code); poll(NULL, 0, 10); }
+    while (vnc_server_comings_and_goings(server, &visit, 1) > 0) {
+        rfbClientPtr cl = client_of(s->clientHead, visit.viewer);
+        if (visit.kind == VNC_CAME) come(s, visit.viewer);
+        else if (cl) cl->isGone = TRUE;
+    }
+    while (vnc_server_inputs(server, &in, 1) > 0) tell(s, &in);
+}
+
+/* One turn, which waits so many milliseconds at most, without the lock: whether the server had something to do. */
+static rfbBool turn(rfbScreenInfoPtr s, int ms)
+{
+    struct rfbCompat *c = s->compat;
+    struct pollfd ready = {-1, POLLIN, 0};
+    lock(s);
+    c->depth++, c->waiting++;
+    if (ms < 0) ms = LONGEST;
+    if (c->server) ms = c->isEnding ? 0 : smaller(ms, smaller(larger(vnc_server_longest_wait(c->server), 0), c->marks ? s->deferUpdateTime : LONGEST));
+    if (c->server) ready.fd = vnc_server_fd(c->server);
+    unlock(s);
+    poll(&ready, 1, ms);
+    lock(s);
+    c->waiting--;
+    if (c->server && wants_password(s)) c->isEnding = TRUE;
+    if (c->server && !c->isEnding) serve(s);
+    if (c->depth == 1) settle(s);
+    c->depth--;
+    unlock(s);
+    return ready.fd >= 0 && (ms == 0 || ready.revents) ? TRUE : FALSE;
+}
+
+static int ms_of(rfbScreenInfoPtr s, long usec) { return usec < 0 ? s->deferUpdateTime : usec < 1000L * LONGEST ? (int)((usec + 999) / 1000) : LONGEST; }
+rfbBool rfbProcessEvents(rfbScreenInfoPtr s, long usec) { return turn(s, ms_of(s, usec)); }
+
+rfbBool rfbIsActive(rfbScreenInfoPtr s)
+{
+    rfbBool active;
+    lock(s);
+    active = s->socketState != RFB_SOCKET_SHUTDOWN || s->clientHead ? TRUE : FALSE;
+    unlock(s);
+    return active;
+}
+
+static void *loop(void *at)
+{
+    rfbScreenInfoPtr s = (rfbScreenInfoPtr)at;
+    while (rfbIsActive(s)) turn(s, s->compat->usec < 0 ? -1 : ms_of(s, s->compat->usec));
+    return NULL;
+}
+
+void rfbRunEventLoop(rfbScreenInfoPtr s, long usec, rfbBool runInBackground)
+{
+    s->compat->usec = usec;
+    if (!runInBackground) loop(s);
+    else if (pthread_create(&s->compat->looper, NULL, loop, s) == 0) s->compat->hasLooper = TRUE;
+    else rfbErr("rfbRunEventLoop: no thread\n");
+}
+
+/* ---- beginning and end ---- */
+
+static rfbBool set_format(rfbScreenInfoPtr s, int width, int height, int bits, int samples, int bytes)
+{
+    const uint16_t max = (uint16_t)((1 << (bits & 15)) - 1);
+    const rfbPixelFormat sampled = {(uint8_t)(8 * bytes), (uint8_t)(bits * samples), 0, 1, max, max, max, 0, (uint8_t)bits, (uint8_t)(2 * bits)};
+    const rfbPixelFormat of_a_byte = {8, 8, 0, 1, 7, 7, 3, 0, 3, 6};
+    if (width < 1 || height < 1 || width > MOST_COLUMNS || height > MOST_ROWS || bits < 1 || bits > 10 || bytes < 1 || bytes > 4) return FALSE;
+    s->width = width, s->height = height, s->depth = bits * samples, s->bitsPerPixel = 8 * bytes;
+    s->paddedWidthInBytes = width * bytes, s->sizeInBytes = width * bytes * height;
+    s->serverFormat = bytes == 1 ? of_a_byte : sampled;
+    return TRUE;
+}
+
+rfbScreenInfoPtr rfbGetScreen(int *argc, char **argv, int width, int height, int bitsPerSample, int samplesPerPixel, int bytesPerPixel)
+{
+    pthread_mutexattr_t recursive;
+    rfbScreenInfoPtr s = (rfbScreenInfoPtr)calloc(1, sizeof *s + sizeof *s->compat);
+    if (!s || !set_format(s, width, height, bitsPerSample, samplesPerPixel, bytesPerPixel)) { free(s); return NULL; }
+    s->compat = (struct rfbCompat *)(s + 1);
+    pthread_mutexattr_init(&recursive);
+    pthread_mutexattr_settype(&recursive, PTHREAD_MUTEX_RECURSIVE);
+    pthread_mutex_init(&s->compat->lock, &recursive);
+    s->whitePixel = 0xffffffff, s->port = 5900, s->deferUpdateTime = 5, s->listenInterface = htonl(INADDR_ANY);
+    s->desktopName = "LibVNCServer", s->ptrAddEvent = rfbDefaultPtrAddEvent;
+    if (rfbProcessArguments(s, argc, argv)) return s;
+    rfbScreenCleanup(s);
+    return NULL;
+}
+
+void rfbInitServer(rfbScreenInfoPtr s)
+{
+    struct rfbCompat *c = s->compat;
+    char address[INET_ADDRSTRLEN] = "", name[256] = "";
+    int32_t code = VNC_CANNOT_LISTEN;
+    if (c->server) return;
+    strncpy(name, s->desktopName ? s->desktopName : "", sizeof name - 1);
+    inet_ntop(AF_INET, &s->listenInterface, address, sizeof address);
+    if (!wants_password(s) && s->port > 0 && s->port < 65536)
+        code = vnc_server_new(address, (uint16_t)s->port, (uint32_t)s->width, (uint32_t)s->height, name, MOST_VIEWERS, &c->server);
+    if (code == 0) code = vnc_waker_new(c->server, &c->waker);
+    if (code == 0) code = vnc_waker_wake(c->waker); /* which says whether it is one */
+    s->socketState = code == 0 ? RFB_SOCKET_READY : RFB_SOCKET_SHUTDOWN;
+    if (code < 0) rfbErr("nobody is served on port %d: code %d\n", s->port, (int)code);
+    settle(s);
+}
+
+void rfbNewFramebuffer(rfbScreenInfoPtr s, char *frameBuffer, int width, int height, int bitsPerSample, int samplesPerPixel, int bytesPerPixel)
+{
+    struct rfbCompat *c = s->compat;
+    const rfbBool isResized = s->width != width || s->height != height ? TRUE : FALSE;
+    int32_t code = 0;
+    lock(s);
+    if (!set_format(s, width, height, bitsPerSample, samplesPerPixel, bytesPerPixel)) code = VNC_BAD_FORMAT;
+    else if (c->server && isResized) code = vnc_server_new_framebuffer(c->server, (uint32_t)width, (uint32_t)height);
+    if (code < 0) { rfbErr("rfbNewFramebuffer: the server ends: code %d\n", (int)code); c->isEnding = TRUE; }
+    s->frameBuffer = frameBuffer;
+    c->marks = 0;
+    mark(s, 0, 0, s->width, s->height);
+    unlock(s);
+}
+
+void rfbShutdownServer(rfbScreenInfoPtr s, rfbBool disconnectClients)
+{
+    struct rfbCompat *c = s->compat;
+    rfbBool joins = disconnectClients && c->hasLooper && !pthread_equal(c->looper, pthread_self()) ? TRUE : FALSE;
+    lock(s);
+    s->socketState = RFB_SOCKET_SHUTDOWN;
+    if (disconnectClients) c->isEnding = TRUE;
+    wake(s);
+    unlock(s);
+    if (joins) { pthread_join(c->looper, NULL); c->hasLooper = FALSE; }
+    lock(s);
+    if (c->depth == 0) settle(s);
+    unlock(s);
+}
+
+void rfbScreenCleanup(rfbScreenInfoPtr s)
+{
+    rfbShutdownServer(s, TRUE);
+    if (s->cursor && s->cursor->cleanup) rfbFreeCursor(s->cursor);
+    pthread_mutex_destroy(&s->compat->lock);
+    free(s);
+}
+
+/* ---- arguments ---- */
+
+/* The value behind an argument, both of which are taken out of the list; "" where it is the last, NULL where there is no such. */
+static char *value_of(const char *name, int *argc, char **argv)
+{
+    static char none[] = "";
+    for (int at = 1; argc && at < *argc; at++) {
+        const int count = at + 1 < *argc ? 2 : 1;
+        char *value = count == 2 ? argv[at + 1] : none;
+        if (strcmp(argv[at], name)) continue;
+        memmove(argv + at, argv + at + count, (size_t)(*argc - at - count + 1) * sizeof *argv);
+        *argc -= count;
+        return value;
+    }
+    return NULL;
+}
+
+rfbBool rfbProcessArguments(rfbScreenInfoPtr s, int *argc, char **argv)
+{
+    char *port = value_of("-rfbport", argc, argv), *address = value_of("-listen", argc, argv);
+    char *password = value_of("-passwd", argc, argv), *file = value_of("-rfbauth", argc, argv);
+    if (port) s->port = atoi(port);
+    if (password || file) s->authPasswdData = password ? password : file; /* which is refused */
+    return !address || inet_pton(AF_INET, strcmp(address, "localhost") ? address : "127.0.0.1", &s->listenInterface) == 1 ? TRUE : FALSE;
+}
+
+rfbBool rfbProcessSizeArguments(int *width, int *height, int *bpp, int *argc, char **argv)
+{
+    char *columns = value_of("-width", argc, argv), *rows = value_of("-height", argc, argv), *bits = value_of("-bpp", argc, argv);
+    if (columns) *width = atoi(columns);
+    if (rows) *height = atoi(rows);
+    if (bits) *bpp = atoi(bits);
+    return TRUE;
+}

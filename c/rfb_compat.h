@@ -1,0 +1,208 @@
+/* rfb_compat.h: names of LibVNCServer's rfb.h over vnc_server.h, so that a program written for LibVNCServer runs on the proved server
+ * with this in place of <rfb/rfb.h>. Written from the names and their meaning. Neither this nor the C behind it is proved.
+ * cc program.c rfb_compat.c rfb_compat_draw.c $(pkg-config --cflags --libs vnc_server) -lpthread
+ *
+ * As there    The program draws in frameBuffer, in its own format, and marks what it changed. What stands there as the next turn begins,
+ *             deferUpdateTime milliseconds later at most, is sent where it differs from what was there. Hooks run in the loop.
+ * Refused     A screen that wants a password is never served: see rfbInitServer. A client that is put on hold is closed.
+ * Not here    What docs/C_LIBRARY.md lists. A field that is not read says so; what is missing doesn't compile.
+ * Threads     Each call takes the screen's lock, which is recursive. The loop has it but while it waits, and so do hooks: a hook must
+ *             not wait for another thread that calls. One thread takes the turns. A rfbClientPtr lasts until its clientGoneHook has
+ *             returned. frameBuffer is read with no lock of the program's.
+ * Machines    Those with pthreads whose lowest byte comes first.
+ */
+#ifndef RFB_COMPAT_H
+#define RFB_COMPAT_H
+
+#include <arpa/inet.h>
+#include <netinet/in.h>
+#include <stdint.h>
+#include <stdio.h>
+#include <stdlib.h>
+#include <string.h>
+#include <sys/socket.h>
+#include <sys/time.h>
+#include <sys/types.h>
+#include <unistd.h>
+
+#ifdef __cplusplus
+extern "C" {
+#endif
+
+/* What programs ask of LibVNCServer's configuration. */
+#ifndef LIBVNCSERVER_ALLOW24BPP
+#define LIBVNCSERVER_ALLOW24BPP 1
+#endif
+#ifndef LIBVNCSERVER_HAVE_LIBPTHREAD
+#define LIBVNCSERVER_HAVE_LIBPTHREAD 1
+#endif
+#ifndef LIBVNCSERVER_HAVE_GETTIMEOFDAY
+#define LIBVNCSERVER_HAVE_GETTIMEOFDAY 1
+#endif
+#ifndef TRUE
+#define TRUE (-1)
+#define FALSE 0
+#endif
+
+typedef int8_t rfbBool;
+typedef uint32_t rfbKeySym;
+typedef uint32_t rfbPixel;
+typedef int rfbSocket;
+typedef struct _rfbScreenInfo *rfbScreenInfoPtr;
+typedef struct _rfbClientRec *rfbClientPtr;
+
+enum rfbNewClientAction { RFB_CLIENT_ACCEPT, RFB_CLIENT_ON_HOLD, RFB_CLIENT_REFUSE };
+enum rfbSocketState { RFB_SOCKET_INIT, RFB_SOCKET_READY, RFB_SOCKET_SHUTDOWN };
+
+typedef void (*rfbKbdAddEventProcPtr)(rfbBool down, rfbKeySym key, rfbClientPtr cl);
+typedef void (*rfbPtrAddEventProcPtr)(int buttonMask, int x, int y, rfbClientPtr cl);
+typedef void (*rfbSetXCutTextProcPtr)(char *text, int len, rfbClientPtr cl);
+typedef enum rfbNewClientAction (*rfbNewClientHookPtr)(rfbClientPtr cl);
+typedef void (*ClientGoneHookPtr)(rfbClientPtr cl);
+typedef rfbBool (*rfbPasswordCheckProcPtr)(rfbClientPtr cl, const char *response, int len);
+typedef void (*SelectionChangedHookPtr)(int index);
+typedef void (*rfbLogProc)(const char *format, ...);
+
+typedef struct {
+    uint8_t bitsPerPixel, depth, bigEndian, trueColour;
+    uint16_t redMax, greenMax, blueMax;
+    uint8_t redShift, greenShift, blueShift;
+} rfbPixelFormat;
+
+typedef struct {
+    uint32_t count;
+    rfbBool is16;
+    union {
+        uint8_t *bytes;
+        uint16_t *shorts;
+    } data; /* three for each colour; the program's, and never freed here */
+} rfbColourMap;
+
+typedef struct rfbCursor {
+    rfbBool cleanup, cleanupSource, cleanupMask, cleanupRichSource;
+    unsigned char *source, *mask;
+    unsigned short width, height, xhot, yhot;
+    unsigned short foreRed, foreGreen, foreBlue, backRed, backGreen, backBlue;
+    unsigned char *richSource;
+} rfbCursor, *rfbCursorPtr;
+
+typedef struct _rfbScreenInfo {
+    int width, height, paddedWidthInBytes; /* columns, rows, and bytes from one row of frameBuffer to the next */
+    int depth, bitsPerPixel, sizeInBytes;
+    rfbPixel blackPixel, whitePixel;
+    void *screenData;               /* the program's */
+    rfbPixelFormat serverFormat;    /* of frameBuffer; viewers never see it */
+    rfbColourMap colourMap;         /* of pixels of one byte, where serverFormat.trueColour is FALSE */
+    const char *desktopName;        /* its first 255 bytes, as rfbInitServer finds it */
+    int port;                       /* 1 to 65535 */
+    in_addr_t listenInterface;      /* all of the machine's, unless it is set before rfbInitServer */
+    enum rfbSocketState socketState;
+    int deferUpdateTime;            /* in milliseconds, 5 at first */
+    rfbBool alwaysShared;           /* not read: all share, whatever a viewer asks */
+    struct _rfbClientRec *clientHead, *pointerClient;
+    char *frameBuffer;              /* the program's */
+    rfbKbdAddEventProcPtr kbdAddEvent;
+    rfbPtrAddEventProcPtr ptrAddEvent;
+    rfbSetXCutTextProcPtr setXCutText;
+    rfbNewClientHookPtr newClientHook;
+    void *authPasswdData;           /* where this or passwordCheck is set, the screen is not served */
+    rfbPasswordCheckProcPtr passwordCheck;
+    int cursorX, cursorY;
+    rfbCursorPtr cursor;            /* kept and freed, not shown */
+    char *httpDir;                  /* not read */
+    rfbBool httpEnableProxyConnect; /* not read */
+    struct rfbCompat *compat;       /* not the program's */
+} rfbScreenInfo;
+
+typedef struct _rfbClientRec {
+    rfbScreenInfoPtr screen;
+    void *clientData; /* the program's, for clientGoneHook to free */
+    ClientGoneHookPtr clientGoneHook;
+    rfbSocket sock;   /* -1: the server has the socket */
+    char *host;       /* "unknown" */
+    rfbBool viewOnly; /* its inputs go to no hook */
+    struct _rfbClientRec *next;
+    uint64_t number;           /* the server's number of it */
+    rfbBool isClosing, isLetGo, isGone; /* not the program's */
+} rfbClientRec;
+
+/* The server. 1 to 8192 columns and rows, 1 to 10 bits a sample, and pixels of 1 to 4 bytes: else rfbGetScreen gives NULL. Of arguments it
+ * takes out -rfbport, -listen, -passwd and -rfbauth with their values; NULL too where -listen's is neither an IPv4 address in digits nor
+ * localhost. */
+rfbScreenInfoPtr rfbGetScreen(int *argc, char **argv, int width, int height, int bitsPerSample, int samplesPerPixel, int bytesPerPixel);
+
+/* Listens. Where it can't, or a password is wanted, it says so by rfbErr, and nobody is served: socketState is RFB_SOCKET_SHUTDOWN,
+ * rfbIsActive is FALSE, and rfbRunEventLoop returns at once. A screen that wants a password later is shut in the next turn. */
+void rfbInitServer(rfbScreenInfoPtr s);
+
+/* Another frameBuffer, also of another size. Viewers that can't be told a new size see the part of it within their own. Where it is refused,
+ * rfbErr says so, and the server ends with this turn. */
+void rfbNewFramebuffer(rfbScreenInfoPtr s, char *frameBuffer, int width, int height, int bitsPerSample, int samplesPerPixel, int bytesPerPixel);
+
+/* No viewer may come any more. It ends at once, or where disconnectClients is FALSE, once the last one has left. */
+void rfbShutdownServer(rfbScreenInfoPtr s, rfbBool disconnectClients);
+void rfbScreenCleanup(rfbScreenInfoPtr s); /* not from a hook */
+rfbBool rfbIsActive(rfbScreenInfoPtr s);
+
+/* A turn, which waits so many microseconds at most, below 0 deferUpdateTime. TRUE where the server had something to do. */
+rfbBool rfbProcessEvents(rfbScreenInfoPtr s, long usec);
+void rfbRunEventLoop(rfbScreenInfoPtr s, long usec, rfbBool runInBackground); /* it waits without end where usec is below 0 */
+rfbBool rfbProcessArguments(rfbScreenInfoPtr s, int *argc, char **argv);
+rfbBool rfbProcessSizeArguments(int *width, int *height, int *bpp, int *argc, char **argv);
+
+/* What changed, and what is said to all. rfbDo.. also moves frameBuffer; before rfbSchedule.. the program has moved it. A copy takes the
+ * places from (dx, dy) to the left and above; what would come from off the screen is left out. */
+typedef struct { int x1, y1, x2, y2; } sraRect;
+typedef struct sraRegion { sraRect *at; size_t count; } sraRegion, *sraRegionPtr;
+void rfbMarkRectAsModified(rfbScreenInfoPtr s, int x1, int y1, int x2, int y2);
+void rfbMarkRegionAsModified(rfbScreenInfoPtr s, sraRegionPtr region);
+void rfbDoCopyRect(rfbScreenInfoPtr s, int x1, int y1, int x2, int y2, int dx, int dy);
+void rfbDoCopyRegion(rfbScreenInfoPtr s, sraRegionPtr region, int dx, int dy);
+void rfbScheduleCopyRect(rfbScreenInfoPtr s, int x1, int y1, int x2, int y2, int dx, int dy);
+void rfbScheduleCopyRegion(rfbScreenInfoPtr s, sraRegionPtr region, int dx, int dy);
+void rfbSendBell(rfbScreenInfoPtr s);
+void rfbSendServerCutText(rfbScreenInfoPtr s, char *text, int len); /* at most 65536 bytes */
+
+/* Clients. */
+void rfbCloseClient(rfbClientPtr cl); /* once what waits for it is written */
+void rfbDefaultPtrAddEvent(int buttonMask, int x, int y, rfbClientPtr cl);
+
+/* Regions: the places of any of their rectangles. Where memory is refused the first gives NULL, the second NULL or a region with no
+ * rectangle, and the last says so by rfbErr and changes nothing. */
+sraRegion *sraRgnCreate(void);
+sraRegion *sraRgnCreateRect(int x1, int y1, int x2, int y2);
+void sraRgnDestroy(sraRegion *r);
+void sraRgnOr(sraRegion *dst, const sraRegion *src);
+
+/* Drawing in frameBuffer; what lies off it is left out. Fill, pixel and line mark what they draw; characters don't. */
+typedef struct rfbFontData {
+    unsigned char *data;
+    int *metaData; /* of each of 256 characters: where it begins, its width, its height, and its x and y */
+} rfbFontData, *rfbFontDataPtr;
+void rfbFillRect(rfbScreenInfoPtr s, int x1, int y1, int x2, int y2, rfbPixel colour);
+void rfbDrawPixel(rfbScreenInfoPtr s, int x, int y, rfbPixel colour);
+void rfbDrawLine(rfbScreenInfoPtr s, int x1, int y1, int x2, int y2, rfbPixel colour);
+void rfbDrawString(rfbScreenInfoPtr s, rfbFontDataPtr font, int x, int y, const char *text, rfbPixel colour);
+int rfbDrawCharWithClip(rfbScreenInfoPtr s, rfbFontDataPtr font, int x, int y, unsigned char c, int x1, int y1, int x2, int y2,
+                        rfbPixel colour, rfbPixel back); /* its width */
+void rfbDrawStringWithClip(rfbScreenInfoPtr s, rfbFontDataPtr font, int x, int y, const char *text, int x1, int y1, int x2, int y2,
+                           rfbPixel colour, rfbPixel back);
+void rfbFontBBox(rfbFontDataPtr font, unsigned char c, int *x1, int *y1, int *x2, int *y2); /* of a character drawn at (x1, y1) */
+rfbFontDataPtr rfbLoadConsoleFont(char *filename); /* 256 characters of 8 by 16; NULL where there is none */
+void rfbFreeFont(rfbFontDataPtr font);
+
+/* A box to select from, by the arrows or the first button; Return takes, Escape leaves. It takes turns until then. -1 where none is. */
+int rfbSelectBox(rfbScreenInfoPtr s, rfbFontDataPtr font, char **list, int x1, int y1, int x2, int y2, rfbPixel fore, rfbPixel back,
+                 int border, SelectionChangedHookPtr changed);
+rfbCursorPtr rfbMakeXCursor(int width, int height, char *source, char *mask); /* NULL where memory is refused */
+void rfbFreeCursor(rfbCursorPtr c);
+
+/* Both write to stderr, unless the program sets another. */
+extern rfbLogProc rfbLog, rfbErr;
+void rfbLogEnable(int enabled);
+
+#ifdef __cplusplus
+}
+#endif
+
+#endif

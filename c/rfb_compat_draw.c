@@ -1,0 +1,179 @@
+/* rfb_compat_draw.c: drawing in frameBuffer, fonts, a box to select from, cursors and regions of rfb_compat.h. */
+#include "rfb_compat.h"
+
+static void put(rfbScreenInfoPtr s, int x, int y, rfbPixel colour)
+{
+    const size_t bytes = s->serverFormat.bitsPerPixel / 8u;
+    if (x < 0 || y < 0 || x >= s->width || y >= s->height) return;
+    memcpy(s->frameBuffer + (size_t)y * (size_t)s->paddedWidthInBytes + (size_t)x * bytes, &colour, bytes); /* the lowest bytes come first */
+}
+
+void rfbFillRect(rfbScreenInfoPtr s, int x1, int y1, int x2, int y2, rfbPixel colour)
+{
+    for (int y = y1 < 0 ? 0 : y1; y < y2 && y < s->height; y++)
+        for (int x = x1 < 0 ? 0 : x1; x < x2 && x < s->width; x++) put(s, x, y, colour);
+    rfbMarkRectAsModified(s, x1, y1, x2, y2);
+}
+
+void rfbDrawPixel(rfbScreenInfoPtr s, int x, int y, rfbPixel colour) { rfbFillRect(s, x, y, x + 1, y + 1, colour); }
+
+void rfbDrawLine(rfbScreenInfoPtr s, int x1, int y1, int x2, int y2, rfbPixel colour)
+{
+    const int wide = abs(x2 - x1), high = abs(y2 - y1), n = wide > high ? wide : high;
+    put(s, x1, y1, colour);
+    for (int i = 1; i <= n; i++) put(s, x1 + (int)((long)(x2 - x1) * i / n), y1 + (int)((long)(y2 - y1) * i / n), colour);
+    rfbMarkRectAsModified(s, x1 < x2 ? x1 : x2, y1 < y2 ? y1 : y2, (x1 > x2 ? x1 : x2) + 1, (y1 > y2 ? y1 : y2) + 1);
+}
+
+/* ---- fonts: a character's rows are whole bytes, the leftmost place in a byte's highest bit; it stands on the row y ---- */
+
+void rfbFontBBox(rfbFontDataPtr font, unsigned char c, int *x1, int *y1, int *x2, int *y2)
+{
+    const int *m = font->metaData + 5 * c; /* where it begins, width, height, x, y */
+    *x1 += m[3], *y1 += 1 - m[2] - m[4];
+    *x2 = *x1 + m[1] + 1, *y2 = *y1 + m[2] + 1;
+}
+
+int rfbDrawCharWithClip(rfbScreenInfoPtr s, rfbFontDataPtr font, int x, int y, unsigned char c, int x1, int y1, int x2, int y2, rfbPixel colour, rfbPixel back)
+{
+    const int *m = font->metaData + 5 * c;
+    int right, bottom;
+    rfbFontBBox(font, c, &x, &y, &right, &bottom);
+    for (int i = 0; i < m[1] * m[2]; i++) {
+        const int column = i % m[1], row = i / m[1], isLit = font->data[m[0] + row * ((m[1] + 7) / 8) + column / 8] & 0x80 >> column % 8;
+        const int isIn = x + column >= x1 && x + column < x2 && y + row >= y1 && y + row < y2;
+        if (isIn && (isLit || colour != back)) put(s, x + column, y + row, isLit ? colour : back);
+    }
+    return m[1];
+}
+
+void rfbDrawStringWithClip(rfbScreenInfoPtr s, rfbFontDataPtr font, int x, int y, const char *text, int x1, int y1, int x2, int y2, rfbPixel colour, rfbPixel back)
+{
+    for (; *text; text++) x += rfbDrawCharWithClip(s, font, x, y, (unsigned char)*text, x1, y1, x2, y2, colour, back);
+}
+
+void rfbDrawString(rfbScreenInfoPtr s, rfbFontDataPtr font, int x, int y, const char *text, rfbPixel colour)
+{
+    rfbDrawStringWithClip(s, font, x, y, text, 0, 0, s->width, s->height, colour, colour);
+}
+
+struct console { rfbFontData font; int metaData[256 * 5]; unsigned char data[4096]; };
+
+rfbFontDataPtr rfbLoadConsoleFont(char *filename)
+{
+    struct console *f = (struct console *)calloc(1, sizeof *f);
+    FILE *file = fopen(filename, "rb");
+    const int isRead = f && file && fread(f->data, 1, sizeof f->data, file) == sizeof f->data;
+    if (file) fclose(file);
+    if (!isRead) { free(f); return NULL; }
+    for (int c = 0; c < 256; c++) f->metaData[5 * c] = 16 * c, f->metaData[5 * c + 1] = 8, f->metaData[5 * c + 2] = 16;
+    f->font.data = f->data, f->font.metaData = f->metaData;
+    return &f->font;
+}
+
+void rfbFreeFont(rfbFontDataPtr font) { free(font); }
+
+/* ---- a box to select from ---- */
+
+static struct {
+    int x1, y1, x2, y2, high, lines, count, first, at, isOver;
+    rfbFontDataPtr font;
+    char **list;
+    rfbPixel fore, back;
+    SelectionChangedHookPtr changed;
+} box; /* within its border, in lines so high; which line stands first, and which is chosen, or -1 */
+
+static void choose(rfbScreenInfoPtr s, int at)
+{
+    if (at < 0 || at >= box.count || at == box.at) return;
+    box.at = at;
+    if (at < box.first) box.first = at;
+    if (at >= box.first + box.lines) box.first = at - box.lines + 1;
+    rfbFillRect(s, box.x1, box.y1, box.x2, box.y2, box.back);
+    for (int i = box.first, y = box.y1; i < box.first + box.lines && i < box.count; i++, y += box.high) {
+        const rfbPixel fore = i == at ? box.back : box.fore, back = i == at ? box.fore : box.back;
+        rfbFillRect(s, box.x1, y, box.x2, y + box.high, back);
+        rfbDrawStringWithClip(s, box.font, box.x1, y + box.high - 1, box.list[i], box.x1, box.y1, box.x2, box.y2, fore, back);
+    }
+    rfbMarkRectAsModified(s, box.x1, box.y1, box.x2, box.y2);
+    if (box.changed) box.changed(at);
+}
+
+static void box_key(rfbBool down, rfbKeySym key, rfbClientPtr cl)
+{
+    if (down && key == 0xff52) choose(cl->screen, box.at - 1);
+    if (down && key == 0xff54) choose(cl->screen, box.at + 1);
+    if (down && key == 0xff1b) box.at = -1;
+    if (down && (key == 0xff0d || key == 0xff1b)) box.isOver = 1;
+}
+
+static void box_pointer(int mask, int x, int y, rfbClientPtr cl)
+{
+    if (mask & 1 && x >= box.x1 && x < box.x2 && y >= box.y1 && y < box.y1 + box.lines * box.high) choose(cl->screen, box.first + (y - box.y1) / box.high);
+}
+
+int rfbSelectBox(rfbScreenInfoPtr s, rfbFontDataPtr font, char **list, int x1, int y1, int x2, int y2, rfbPixel fore, rfbPixel back, int border,
+                 SelectionChangedHookPtr changed)
+{
+    const rfbKbdAddEventProcPtr key = s->kbdAddEvent;
+    const rfbPtrAddEventProcPtr pointer = s->ptrAddEvent;
+    int left = 0, top = 0, right, bottom;
+    memset(&box, 0, sizeof box);
+    box.font = font, box.list = list, box.fore = fore, box.back = back, box.changed = changed, box.at = -1;
+    box.x1 = x1 + border, box.y1 = y1 + border, box.x2 = x2 - border, box.y2 = y2 - border;
+    rfbFontBBox(font, 'M', &left, &top, &right, &bottom);
+    box.high = bottom - top, box.lines = (box.y2 - box.y1) / box.high;
+    while (box.lines > 0 && list[box.count]) box.count++;
+    if (box.count == 0) return -1;
+    rfbFillRect(s, x1, y1, x2, y2, fore);
+    choose(s, 0);
+    s->kbdAddEvent = box_key;
+    s->ptrAddEvent = box_pointer;
+    while (!box.isOver && rfbIsActive(s)) rfbProcessEvents(s, 20000);
+    s->kbdAddEvent = key;
+    s->ptrAddEvent = pointer;
+    return box.isOver ? box.at : -1;
+}
+
+/* ---- cursors: no viewer is sent one, so that of what they look like nothing is kept ---- */
+
+rfbCursorPtr rfbMakeXCursor(int width, int height, char *source, char *mask)
+{
+    rfbCursorPtr c = (rfbCursorPtr)calloc(1, sizeof *c);
+    (void)source, (void)mask;
+    if (c) c->cleanup = TRUE, c->width = (unsigned short)width, c->height = (unsigned short)height;
+    return c;
+}
+
+void rfbFreeCursor(rfbCursorPtr c) { if (c && c->cleanupRichSource) free(c->richSource); if (c && c->cleanup) free(c); }
+
+void rfbDefaultPtrAddEvent(int buttonMask, int x, int y, rfbClientPtr cl)
+{
+    (void)buttonMask;
+    cl->screen->cursorX = x, cl->screen->cursorY = y;
+}
+
+/* ---- regions ---- */
+
+sraRegion *sraRgnCreate(void) { return (sraRegion *)calloc(1, sizeof(sraRegion)); }
+
+void sraRgnDestroy(sraRegion *r) { if (r) free(r->at); free(r); }
+
+void sraRgnOr(sraRegion *dst, const sraRegion *src)
+{
+    const size_t count = src->count;
+    sraRect *more = (sraRect *)realloc(dst->at, (dst->count + count + 1) * sizeof *more);
+    if (!more) { rfbErr("sraRgnOr: no memory\n"); return; }
+    dst->at = more;
+    if (count) memcpy(more + dst->count, src->at, count * sizeof *more);
+    dst->count += count;
+}
+
+sraRegion *sraRgnCreateRect(int x1, int y1, int x2, int y2)
+{
+    sraRect one = {x1, y1, x2, y2};
+    const sraRegion src = {&one, 1};
+    sraRegion *r = sraRgnCreate();
+    if (r) sraRgnOr(r, &src);
+    return r;
+}
