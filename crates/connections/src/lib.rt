@@ -30,7 +30,5 @@ pub use canvas::Canvas;
 pub use connections::{Connections, Departed, Readiness};
 pub use laws::drawn_is_served;
 pub use receipts::{Ended, Receipt};
-pub use screen::{
-    Config, Fault, History, Input, Listed, Rect, Region, Screen, ScreenError,
-};
+pub use screen::{Config, Fault, History, Input, Listed, Rect, Region, Screen, ScreenError};
 pub use transport::{Both, Transport};

@@ -18,8 +18,7 @@ use crate::codes::{CLOCK_FAILED, closed_code, places_code, turn_code};
 use crate::gathering::Gathering;
 use crate::listening::{Listening, listen_on};
 use crate::news::{
-    MOST_INPUTS, MOST_TEXT, MOST_VISITS, fetch_inputs, fetch_visits, is_text_at,
-    make_room, put_all,
+    MOST_INPUTS, MOST_TEXT, MOST_VISITS, fetch_inputs, fetch_visits, is_text_at, make_room, put_all,
 };
 use crate::pixels::{PixelLayout, source_of};
 use crate::system::{SystemClock, milliseconds_of, timeout_of};
