@@ -142,7 +142,7 @@ def clause_of(text, names, kinds, after):
         if kind == "written":
             text = text.replace(f"{name}.old", at("a", number) + ".now").replace(f"{name}.new", at("ws", number))
         else:
-            text = re.sub(rf"(?<![\w.]){name}(?![\w]|\s=)", at("a", number), text)
+            text = re.sub(rf"(?<![\w.]){name}(\.entry)?(?![\w]|\s=)", at("a", number), text)
     return re.sub(r"\bbefore\b", "s", re.sub(r"\bafter\b", after, re.sub(r"\bresult\b", "r", text)))
 
 

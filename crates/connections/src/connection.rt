@@ -251,11 +251,11 @@ impl<T: Transport> Connection<T> {
     }
 
     /// It ends so, unless it ended before.
-    pub fn close(&mut self, ended: Ended)
-        ensures { (self.new ≡ self.old) ⊎ ((self.old.ended ≡ None) × (self.new ≡ record self.old { ended = Some ended })) }
+    pub fn close(&mut self, reason: Ended)
+        ensures { (self.new ≡ self.old) ⊎ ((self.old.ended ≡ None) × (self.new ≡ record self.old { ended = Some reason })) }
     {
         if self.ended.is_none() {
-            self.ended = Some(ended);
+            self.ended = Some(reason);
         }
     }
 

@@ -11,15 +11,15 @@ use Rattle.screen.specs.State.{State, state}
 use Rattle.source_pixels.specs.declared.pieces.Piece.{Piece}
 use Rattle.source_pixels.specs.Source.{Source}
 use Rattle.take_pixels.specs.Paints.{paints_of}
-use Rattle.take_pixels.specs.Takes.{Takes, IsTaken, IsPartlyTaken}
+use Rattle.take_pixels.specs.Takes.{Takes}
 use Rattle.connections.specs.Drawing.{Surface, IsDrawnFrom, are_drawings, has_notice}
 use Rattle.connections.specs.Serving.{Serving, Serves, drawn_is_served}
 use Rattle.event_loop.specs.Sockets.{sockets}
-use Rattle.screen_desk.specs.Codes.{code_of, out_of_memory, shut}
+use Rattle.screen_desk.specs.Codes.{code_of}
 use Rattle.server_desk.specs.declared.visits.Visit.{Visit}
 use Rattle.server_desk.specs.Desk.{Standing}
 use Rattle.server_desk.specs.Pixels.{source_due}
-use Rattle.server_desk.specs.Calls.{TakesPixels, TakesIn, IsTakenIn, IsTakenInPart, take_due}
+use Rattle.server_desk.specs.Calls.{TakesPixels, TakesIn}
 
 -- paints are drawing calls, and no notices
 paints_drawings : (left top : ℕ) (qs : List Piece) → are_drawings (paints_of left top qs) ≡ true
@@ -38,26 +38,6 @@ painted c list left top qs a b screen drawn noticed = record {
   none = λ no. absurd (true≢false (sym drawn ∙ no));
   quiet = λ fine. (sym noticed ∙ fine, paints_quiet left top qs);
 }
-
--- ---- refusals
-
-unserved : (source : Option Source) (left top : ℕ) (desk : Standing) (code : ℤ) (due : ℤ) → take_due desk.served source ≡ Some due → code ≡ due → TakesPixels source left top desk desk code
-unserved source left top desk code due is code_is = record {
-  refused = λ refusal so. (code_is ∙ same refusal (sym is ∙ so), refl);
-  taken = λ none. let two : ◌≡◌ {A = Option ℤ} (Some due) None = sym is ∙ none in absurd cc;
-  same = refl;
-}
-  where
-    same : (refusal : ℤ) → Path (Option ℤ) (Some due) (Some refusal) → due ≡ refusal
-    same refusal so = cc
-
-pub take_shut : (source : Option Source) (left top : ℕ) (desk : Standing) (code : ℤ) → desk.served ≡ None → code ≡ shut → TakesPixels source left top desk desk code
-take_shut source left top desk code none code_is = unserved source left top desk code shut (ap (λ o. take_due o source) none) code_is
-
-pub take_refused : (source : Option Source) (left top : ℕ) (desk : Standing) (s : Serving) (code refusal : ℤ) → desk.served ≡ Some s → source_due source ≡ Some refusal → code ≡ refusal → TakesPixels source left top desk desk code
-take_refused source left top desk s code refusal there due code_is = unserved source left top desk code refusal (ap (λ o. take_due o source) there ∙ due) code_is
-
--- ---- taken
 
 abbrev IsCode : Result ℕ ScreenError → ℤ → Type 0
 IsCode r code = MatchResult r (λ places. code ≡ pos (min places (2 ^ 62))) (λ e. code ≡ code_of e)
