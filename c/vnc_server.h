@@ -47,6 +47,7 @@ enum vnc_reason {
     VNC_READ_FAILED = 3,   /* its socket failed as it was read */
     VNC_WRITE_FAILED = 4,  /* its socket failed as it was written to */
     VNC_NO_MEMORY = 5,     /* memory was refused for it */
+    VNC_REFUSED = 6,       /* the program let it go: vnc_server_close_viewer */
     VNC_TOOK_TOO_LONG = 7  /* its opening was not over within 10 seconds */
 };
 
@@ -122,8 +123,9 @@ int32_t vnc_server_text(vnc_server *server, uint8_t *room, size_t count); /* the
 /* Who came and went next goes to `room`, and waits no more: how many, 0 where none wait. (newClientHook, clientGoneHook.) */
 int64_t vnc_server_comings_and_goings(vnc_server *server, vnc_visit *room, size_t count);
 
-/* A viewer is let go (rfbCloseClient): 0. It is heard no more, and its connection is closed in a later turn, once what waits for it is
- * written. VNC_NO_VIEWER where none has the number. */
+/* A viewer is let go (rfbCloseClient): 0. It is heard no more and written nothing more, and its connection is closed in the next turn.
+ * VNC_NO_VIEWER where none has the number. One that came in a turn is heard from the next one on: who is let go before that was sent
+ * nothing and told nothing (RFB_CLIENT_REFUSE). */
 int32_t vnc_server_close_viewer(vnc_server *server, uint64_t viewer);
 
 /* How many inputs, comings and goings were lost since vnc_server_listen. */
