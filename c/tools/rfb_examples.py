@@ -222,6 +222,9 @@ RUNS = [
 LEFT_OUT = {
     "simple": "it never writes its framebuffer",
     "vncev": "it prints an address although its getpeername fails, as no viewer's socket is told",
+    "pnmshow P5": "it leaves the end of its framebuffer unwritten where it pads its rows",
+    "pnmshow P4": "it writes up to 7 bytes behind its framebuffer",
+    "example_background": "it is ended while its thread runs, whose memory is then held still",
 }
 
 
@@ -263,8 +266,9 @@ def found():
 
 
 def look(name, source, flags, argument, does, last, ends, most):
-    if COMMAND and name in LEFT_OUT:
-        return f"left out: {LEFT_OUT[name]}"
+    shown = f"{name} {argument}" if argument else name
+    if COMMAND and shown in LEFT_OUT:
+        return f"left out: {LEFT_OUT[shown]}"
     has_real = build(name, source, flags)
     ours, wrong = run([*COMMAND, f"{ROOM}/ours/{name}"], argument, does, last, ends)
     if wrong or found():
