@@ -145,3 +145,10 @@ resized_logged w h view uses [] m = refl
 resized_logged w h view uses (Mark region ∷ entries) m = resized_logged w h view uses entries (after_entry uses (Mark region) m)
 resized_logged w h view true (Copy region dx dy ∷ entries) m = resized_logged w h view true entries (after_entry true (Copy region dx dy) m)
 resized_logged w h view false (Copy region dx dy ∷ entries) m = resized_logged w h view false entries (after_entry false (Copy region dx dy) m)
+
+-- drawing has no say in what is asked for
+pub asked_logged : (uses : Bool) (entries : List LogEntry) (m : Marks) → has_asked (logged uses entries m) ≡ has_asked m
+asked_logged uses [] m = refl
+asked_logged uses (Mark region ∷ entries) m = asked_logged uses entries (after_entry uses (Mark region) m)
+asked_logged true (Copy region dx dy ∷ entries) m = asked_logged true entries (after_entry true (Copy region dx dy) m)
+asked_logged false (Copy region dx dy ∷ entries) m = asked_logged false entries (after_entry false (Copy region dx dy) m)

@@ -313,6 +313,10 @@ impl Marks {
     pub fn pending_after(&self, entries: &[LogEntry]) -> bool
         ensures { (uses_copyrect : Bool) → result ≡ pending (logged uses_copyrect entries.now self.now) }
     {
+        // for a viewer that asks for nothing, the log isn't looked at
+        if !self.has_asked() {
+            return false;
+        }
         self.pending() || self.some_draws_asked(entries)
     }
 
