@@ -13,8 +13,9 @@ ghost use Rattle.connections.specs.Turns.{IsWithin, got_bytes};
 
 use crate::backlog::{Backlog, Written};
 use crate::connections::Readiness;
-use crate::recording::{Recording, all_of};
+use crate::recording::{Recording, no_bytes};
 use crate::transport::Transport;
+use kept_list::KeptList;
 use receipts::{Ended, Receipt};
 use screen::{Fault, Update};
 use std::alloc::{AllocError, Global};
@@ -64,7 +65,7 @@ pub(crate) struct Connection<T: Transport> {
     ended: Option<Ended>,
     // how many pieces were heard, what they were, where that is kept, and how many updates were cut
     pieces: u64,
-    heard: Option<Vec<u8>>,
+    heard: KeptList<u8>,
     cuts: u64,
     readiness: Readiness,
     // its last read gave as many bytes as there was room for
@@ -119,7 +120,7 @@ impl<T: Transport> Connection<T> {
             backlog: Backlog::new(alloc),
             ended: None,
             pieces: 0,
-            heard: is_kept.then(|| Vec::new(alloc)),
+            heard: no_bytes(alloc, is_kept),
             cuts: 0,
             readiness: Readiness {
                 may_read: true,
@@ -316,10 +317,7 @@ impl<T: Transport> Connection<T> {
     pub fn make_room(&mut self, piece: &[u8]) -> Result<(), AllocError>
         ensures { self.new ≡ self.old }
     {
-        match &mut self.heard {
-            Some(heard) => heard.reserve(piece.len()),
-            None => Ok(()),
-        }
+        self.heard.reserve(piece.len())
     }
 
     /// A piece was heard, so an update may be there to be cut, and a request may be unanswered. It is kept, in room that was made.
@@ -329,8 +327,8 @@ impl<T: Transport> Connection<T> {
         self.pieces = self.pieces.saturating_add(1);
         self.may_cut = true;
         self.may_ask = true;
-        if let Some(heard) = &mut self.heard {
-            let _kept = heard.extend_from_slice(piece);
+        if self.heard.reserve(piece.len()).is_ok() {
+            self.heard.append(piece);
         }
     }
 
@@ -368,7 +366,7 @@ impl<T: Transport> Connection<T> {
     }
 
     /// What is left of it where it ended so: its transport, and the receipt of what it was.
-    pub fn into_parts(self, alloc: Global, ended: Ended) -> (T, Receipt)
+    pub fn into_parts(self, ended: Ended) -> (T, Receipt)
         ensures carried { (record { unread = T.unread result.0; written = T.written result.0; sent = self.carried.sent }) ≡ self.carried }
         ensures viewer { result.1.viewer ≡ self.number }
         ensures ended { result.1.ended ≡ ended }
@@ -387,7 +385,7 @@ impl<T: Transport> Connection<T> {
             viewer: number,
             pieces,
             cuts,
-            heard: all_of(alloc, heard),
+            heard: heard.into_listed(),
             sent,
             ended,
         };

@@ -392,7 +392,7 @@ impl<T: Transport> Connections<T> {
         self.agenda.remove(key);
         self.asking.remove(key);
         let connection = self.connections.try_remove(key)?;
-        let (transport, receipt) = connection.into_parts(self.alloc, ended);
+        let (transport, receipt) = connection.into_parts(ended);
         Some(Departed { transport, receipt })
     }
 

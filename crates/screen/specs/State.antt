@@ -27,8 +27,8 @@ with_history s kept_events = record { config = s.config; picture = s.picture; vi
 abbrev pub scene_of : State → SceneState
 scene_of s = record { config = s.config; picture = s.picture; viewers = s.viewers }
 
--- the events that are kept, if any are
-abbrev pub history_by : History → List Event → Option (List Event)
+-- what is kept of a list, as the events, or a viewer's bytes
+abbrev pub history_by : {X : Type 0} → History → List X → Option (List X)
 history_by Kept es = Some es
 history_by NotKept es = None
 

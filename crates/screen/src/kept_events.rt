@@ -1,11 +1,12 @@
 //! The events that a screen keeps, in order, where it keeps any.
 
 ghost use Rattle.std.specs.Prelude.{◌≡◌, ◌≤◌, true, ◌∷◌, ◌++◌, [], List, IfOk, OnOk, is_some, option_map};
-ghost use Rattle.screen.specs.Kept.{HasRoom, items_of};
+ghost use Rattle.kept_list.specs.Kept.{HasRoom};
 ghost use Rattle.screen.specs.State.{history_by};
 ghost use Rattle.scene.specs.Calls.{event_of};
 ghost use Rattle.scene.specs.History.{has_happened};
 
+use kept_list::KeptList;
 use listed::Listed;
 use scene::{Answer, Drawing, Event, History};
 use std::alloc::{AllocError, Global};
@@ -14,69 +15,67 @@ use std::alloc::{AllocError, Global};
 /// which therefore find room whenever they come.
 #[derive(Drop)]
 pub struct KeptEvents {
-    alloc: Global,
-    events: Option<Vec<Event>>,
+    events: KeptList<Event>,
     // how many viewers connected and weren't closed
     open: usize,
+}
+
+/// A list of nothing yet, which is kept where the history is. This takes no memory.
+pub fn list_for<T>(alloc: Global, history: History) -> KeptList<T>
+    ensures { result.items ≡ history_by history [] }
+{
+    match history {
+        History::Kept => KeptList::new(alloc),
+        History::NotKept => KeptList::none(alloc),
+    }
 }
 
 impl KeptEvents {
     /// None yet.
     pub fn new(alloc: Global, history: History) -> KeptEvents
-        ensures { items_of result.events ≡ history_by history [] }
+        ensures { result.events.items ≡ history_by history [] }
     {
-        let events = match history {
-            History::Kept => Some(Vec::new(alloc)),
-            History::NotKept => None,
-        };
         KeptEvents {
-            alloc,
-            events,
+            events: list_for(alloc, history),
             open: 0,
         }
     }
 
     /// The events, if they are kept.
     pub fn as_slice(&self) -> Option<&[Event]>
-        ensures { option_map (λ events. events.now) result ≡ items_of self.now.events }
+        ensures { option_map (λ events. events.now) result ≡ self.now.events.items }
     {
-        match &self.events {
-            Some(events) => Some(events.as_slice()),
-            None => None,
-        }
+        self.events.as_slice()
     }
 
     /// Whether they are kept.
     pub fn is_kept(&self) -> bool
-        ensures { result ≡ is_some (items_of self.now.events) }
+        ensures { result ≡ is_some self.now.events.items }
     {
-        self.events.is_some()
+        self.events.is_kept()
     }
 
     /// Makes room for so many more, at least one, where they are kept.
     fn reserve(&mut self, count: usize) -> Result<(), AllocError>
         requires { 1 ≤ count }
-        ensures same { items_of self.new.events ≡ items_of self.old.events }
-        ensures room { OnOk result (HasRoom self.new.events) }
+        ensures same { self.new.events.items ≡ self.old.events.items }
+        ensures room { OnOk result (HasRoom 1 self.new.events) }
     {
-        match &mut self.events {
-            Some(events) => events.reserve(count),
-            None => Ok(()),
-        }
+        self.events.reserve(count)
     }
 
     /// Makes room for one more, where they are kept, besides that for the closings.
     pub fn make_room(&mut self) -> Result<(), AllocError>
-        ensures same { items_of self.new.events ≡ items_of self.old.events }
-        ensures room { OnOk result (HasRoom self.new.events) }
+        ensures same { self.new.events.items ≡ self.old.events.items }
+        ensures room { OnOk result (HasRoom 1 self.new.events) }
     {
         self.reserve(self.open.saturating_add(1))
     }
 
     /// Makes room for an event: for a connecting with its closing, for a closing in what was made when its viewer connected.
     pub fn make_room_for(&mut self, event: &Event) -> Result<(), AllocError>
-        ensures same { items_of self.new.events ≡ items_of self.old.events }
-        ensures room { OnOk result (HasRoom self.new.events) }
+        ensures same { self.new.events.items ≡ self.old.events.items }
+        ensures room { OnOk result (HasRoom 1 self.new.events) }
     {
         match event {
             Event::Connect { .. } => self.reserve(self.open.saturating_add(2)),
@@ -96,32 +95,19 @@ impl KeptEvents {
 
     /// Keeps one more, in the room that was made; it is dropped where none are kept.
     pub fn push(&mut self, event: Event)
-        requires room { HasRoom self.old.events }
-        ensures { items_of self.new.events ≡ option_map (λ events. events ++ event ∷ []) (items_of self.old.events) }
+        requires room { HasRoom 1 self.old.events }
+        ensures { self.new.events.items ≡ option_map (λ events. events ++ event ∷ []) self.old.events.items }
     {
         self.open = self.open_after(&event);
-        if let Some(events) = &mut self.events {
-            events.push_reserved(event);
-        }
-    }
-
-    /// A copy of what an event holds, for keeping; nothing where none are kept.
-    pub fn copied<T: Copy>(&self, items: &[T]) -> Result<Listed<T>, AllocError>
-        ensures { is_some (items_of self.now.events) ≡ true → IfOk result (λ copy. copy ≡ items.now) }
-    {
-        if self.is_kept() {
-            Listed::from_slice(self.alloc, items)
-        } else {
-            Ok(Listed::new(self.alloc))
-        }
+        self.events.push(event);
     }
 
     /// The event that a drawing call is, where events are kept; else any, which is dropped.
     pub fn event_of(&self, drawing: &Drawing<'_>) -> Result<Event, AllocError>
-        ensures { is_some (items_of self.now.events) ≡ true → IfOk result (λ event. event ≡ event_of drawing.now) }
+        ensures { is_some self.now.events.items ≡ true → IfOk result (λ event. event ≡ event_of drawing.now) }
     {
         if self.is_kept() {
-            drawing.to_event(self.alloc)
+            drawing.to_event(self.events.allocator())
         } else {
             Ok(Event::Bell)
         }
@@ -129,33 +115,33 @@ impl KeptEvents {
 
     /// A copy of an event, for keeping; without its lists where none are kept.
     pub fn copied_event(&self, event: &Event) -> Result<Event, AllocError>
-        ensures { is_some (items_of self.now.events) ≡ true → IfOk result (λ copy. copy ≡ event.now) }
+        ensures { is_some self.now.events.items ≡ true → IfOk result (λ copy. copy ≡ event.now) }
     {
         Ok(match event {
             Event::Write { rect, colours } => Event::Write {
                 rect: *rect,
-                colours: self.copied(colours.as_slice())?,
+                colours: self.events.copy_of(colours.as_slice())?,
             },
             Event::Paint { rect, colours } => Event::Paint {
                 rect: *rect,
-                colours: self.copied(colours.as_slice())?,
+                colours: self.events.copy_of(colours.as_slice())?,
             },
             Event::Mark { rects } => Event::Mark {
-                rects: self.copied(rects.as_slice())?,
+                rects: self.events.copy_of(rects.as_slice())?,
             },
             Event::ScheduleCopy { rects, dx, dy } => Event::ScheduleCopy {
-                rects: self.copied(rects.as_slice())?,
+                rects: self.events.copy_of(rects.as_slice())?,
                 dx: *dx,
                 dy: *dy,
             },
             Event::DoCopy { rects, dx, dy } => Event::DoCopy {
-                rects: self.copied(rects.as_slice())?,
+                rects: self.events.copy_of(rects.as_slice())?,
                 dx: *dx,
                 dy: *dy,
             },
             Event::Bell => Event::Bell,
             Event::CutText { text } => Event::CutText {
-                text: self.copied(text.as_slice())?,
+                text: self.events.copy_of(text.as_slice())?,
             },
             Event::Resize { width, height } => Event::Resize {
                 width: *width,
@@ -164,7 +150,7 @@ impl KeptEvents {
             Event::Connect { viewer } => Event::Connect { viewer: *viewer },
             Event::Hear { viewer, piece } => Event::Hear {
                 viewer: *viewer,
-                piece: self.copied(piece.as_slice())?,
+                piece: self.events.copy_of(piece.as_slice())?,
             },
             Event::Cut { viewer } => Event::Cut { viewer: *viewer },
             Event::Close { viewer } => Event::Close { viewer: *viewer },

@@ -18,6 +18,7 @@ mod kept_events;
 mod runs;
 mod screen;
 
+pub use kept_events::list_for;
 pub use listed::Listed;
 pub use messages::{Fault, Input};
 pub use region::{Rect, Region, RegionError};

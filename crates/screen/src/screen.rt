@@ -38,11 +38,10 @@ pub struct Screen {
 
 impl Model for Screen {
     ghost use Rattle.screen.specs.State.{State, with_history};
-    ghost use Rattle.screen.specs.Kept.{items_of};
 
     ghost Value = { State };
 
-    ghost view = { λ a. with_history a.scene (items_of a.events.events) };
+    ghost view = { λ a. with_history a.scene a.events.events.items };
 }
 
 impl Screen {

@@ -1,10 +1,19 @@
 -- What contracts see of a viewer's two ends, and of the application's brush.
-use Rattle.std.specs.Prelude.{ℕ, ◌+◌, ◌-◌, ◌^◌, min, List, [], ◌∷◌, ◌++◌, Option, option_map}
+use Rattle.std.specs.Prelude.{◌≡◌, ℕ, ◌+◌, ◌-◌, ◌^◌, min, length, List, [], ◌∷◌, ◌++◌, Option, Some, None, option_map, unwrap_or}
 use Rattle.messages.specs.declared.Input.{Input}
 use Rattle.messages.specs.Server.{server_version}
 use Rattle.scene.specs.declared.Event.{Event}
 use Rattle.scene.specs.declared.History.{History}
-use Rattle.update_sender.specs.Recorded.{first_of}
+use Rattle.screen.specs.State.{history_by}
+
+-- all of what may not be kept; nothing where it isn't
+abbrev pub all_of : {X : Type 0} → Option (List X) → List X
+all_of items = unwrap_or items []
+
+-- it has so many, where it is kept
+abbrev pub Counts : {X : Type 0} → ℕ → Option (List X) → Type 0
+Counts n None = Unit {0}
+Counts n (Some items) = n ≡ length items
 
 -- what was heard of a viewer: how many pieces, and their bytes where the history is kept; and its inputs that wait for a queue
 pub record Listening : Type 0 where
@@ -28,8 +37,8 @@ pub record Greeting : Type 0 where
 -- one that has just connected
 abbrev pub greeted : ℕ → History → Greeting
 greeted v history = record {
-  listener = record { viewer = v; pieces = 0; heard = first_of history; waiting = [] };
-  speaker = record { viewer = v; cuts = 0; sent = first_of history };
+  listener = record { viewer = v; pieces = 0; heard = history_by history []; waiting = [] };
+  speaker = record { viewer = v; cuts = 0; sent = history_by history [] };
   version = server_version;
 }
 

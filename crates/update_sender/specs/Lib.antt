@@ -1,7 +1,6 @@
 pub mod Numbers
 pub mod Standing
 pub mod Ends
-pub mod Recorded
 pub mod Inputs
 pub mod Reasons
 pub mod Serving

@@ -9,7 +9,7 @@ use Rattle.receipts.specs.declared.Ended.{Ended}
 use Rattle.receipts.specs.declared.Ended.TheVariants.{EndOfInput, Fault, ReadFailed, WriteFailed, Memory, Gate, Closed, Stopped}
 use Rattle.update_sender.specs.declared.opening.Opened.{Opened}
 use Rattle.update_sender.specs.declared.opening.Opened.TheVariants.{Ready, Over}
-use Rattle.update_sender.specs.Recorded.{all_of}
+use Rattle.update_sender.specs.Ends.{all_of}
 use Rattle.update_sender.specs.Ends.{Listening, Speaking, Greeting, listened, without_waiting, has_cut, has_sent}
 
 -- Reading. The readers' and the writers' bytes are known, or nothing is said of them.

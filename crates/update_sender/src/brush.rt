@@ -8,13 +8,14 @@ ghost use Rattle.scene.specs.Alone.{pixels_refusal, size_refusal, text_refusal};
 ghost use Rattle.scene.specs.Refusals.{Refuses};
 ghost use Rattle.scene.specs.Calls.{call_refusal, event_of};
 ghost use Rattle.update_sender.specs.Ends.{drew};
-ghost use Rattle.update_sender.specs.Recorded.{HasRoom, first_of, items_of};
+ghost use Rattle.kept_list.specs.Kept.{HasRoom};
+ghost use Rattle.screen.specs.State.{history_by};
 
-use crate::recorded::Recorded;
 use crate::shared::Shared;
+use kept_list::KeptList;
 use listed::Listed;
 use region::{Rect, Region};
-use screen::{Drawing, Event, History, ScreenError};
+use screen::{Drawing, Event, History, ScreenError, list_for};
 use std::alloc::{AllocError, Global};
 use std::marker::Model;
 use std::sync::Wait;
@@ -23,25 +24,25 @@ use std::sync::ledger::{Ledger, Share};
 /// Draws on a shared screen. Contracts see the list of its accepted calls, where the history is kept.
 #[derive(Drop)]
 pub struct Brush<L: Ledger> {
-    pub(crate) drawn: Recorded<Event>,
+    pub(crate) drawn: KeptList<Event>,
     pub(crate) share: Share<L>,
 }
 
 impl<L: Ledger> Model for Brush<L> {
     ghost use Rattle.std.specs.Prelude.{◌≡◌, ◌<◌, List, Option};
     ghost use Rattle.scene.specs.declared.Event.{Event};
-    ghost use Rattle.update_sender.specs.Recorded.{items_of, Counts};
+    ghost use Rattle.update_sender.specs.Ends.{Counts};
 
     ghost Value = { Option (List Event) };
 
-    ghost view = { λ a. items_of a.drawn.items };
+    ghost view = { λ a. a.drawn.items };
 
-    ghost invariant = { λ a. (a.share.parts ≡ L.parts) × (0 < a.share.parts) × Counts a.share.amount (items_of a.drawn.items) };
+    ghost invariant = { λ a. (a.share.parts ≡ L.parts) × (0 < a.share.parts) × Counts a.share.amount a.drawn.items };
 }
 
 /// The event that a call is, where the calls are kept; else any, which is dropped.
-fn event_in(drawn: &Recorded<Event>, drawing: &Drawing<'_>) -> Result<Event, AllocError>
-    ensures { is_some (items_of drawn.now.items) ≡ true → IfOk result (λ event. event ≡ event_of drawing.now) }
+fn event_in(drawn: &KeptList<Event>, drawing: &Drawing<'_>) -> Result<Event, AllocError>
+    ensures { is_some drawn.now.items ≡ true → IfOk result (λ event. event ≡ event_of drawing.now) }
 {
     if drawn.is_kept() {
         drawing.to_event(drawn.allocator())
@@ -51,13 +52,13 @@ fn event_in(drawn: &Recorded<Event>, drawing: &Drawing<'_>) -> Result<Event, All
 }
 
 /// The same, and room for it.
-fn event_for(drawn: &mut Recorded<Event>, drawing: &Drawing<'_>) -> Result<Event, AllocError>
-    ensures event { is_some (items_of drawn.old.items) ≡ true → IfOk result (λ event. event ≡ event_of drawing.now) }
-    ensures room { OnOk result (HasRoom 1 drawn.new.items) }
-    ensures same { items_of drawn.new.items ≡ items_of drawn.old.items }
+fn event_for(drawn: &mut KeptList<Event>, drawing: &Drawing<'_>) -> Result<Event, AllocError>
+    ensures event { is_some drawn.old.items ≡ true → IfOk result (λ event. event ≡ event_of drawing.now) }
+    ensures room { OnOk result (HasRoom 1 drawn.new) }
+    ensures same { drawn.new.items ≡ drawn.old.items }
 {
     let event = event_in(drawn, drawing)?;
-    drawn.make_room(1)?;
+    drawn.reserve(1)?;
     Ok(event)
 }
 
@@ -67,10 +68,10 @@ impl<L: Ledger> Brush<L> {
         requires parts { share.parts ≡ L.parts }
         requires some { 0 < L.parts }
         requires none { share.amount ≡ 0 }
-        ensures { result ≡ first_of history }
+        ensures { result ≡ history_by history [] }
     {
         Brush {
-            drawn: Recorded::new(alloc, history),
+            drawn: list_for(alloc, history),
             share,
         }
     }

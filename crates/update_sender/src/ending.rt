@@ -6,7 +6,7 @@ ghost use Rattle.scene.specs.History.{drawings, connects};
 ghost use Rattle.update_sender.specs.Numbers.{rises};
 ghost use Rattle.update_sender.specs.Finishing.{Finishes, Judges, JudgesDrawn};
 ghost use Rattle.update_sender.specs.Ends.{Listening};
-ghost use Rattle.update_sender.specs.Recorded.{all_of};
+ghost use Rattle.update_sender.specs.Ends.{all_of};
 
 use crate::brush::Brush;
 use crate::ends::Listener;

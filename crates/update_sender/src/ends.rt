@@ -4,12 +4,11 @@ ghost use Rattle.std.specs.Prelude.{◌≡◌, ◌≤◌};
 ghost use Rattle.scene.specs.declared.History.{History};
 ghost use Rattle.messages.specs.Server.{server_version};
 ghost use Rattle.update_sender.specs.Ends.{greeted, listened, has_cut, without_waiting};
-ghost use Rattle.update_sender.specs.Recorded.{HasRoom};
 
-use crate::recorded::Recorded;
+use kept_list::KeptList;
 use listed::Listed;
 use messages::Input;
-use screen::History;
+use screen::{History, list_for};
 use std::alloc::Global;
 use std::marker::Model;
 use std::mem;
@@ -20,18 +19,17 @@ pub struct Listener {
     alloc: Global,
     pub(crate) viewer: u64,
     pub(crate) pieces: u64,
-    pub(crate) heard: Recorded<u8>,
+    pub(crate) heard: KeptList<u8>,
     // inputs that came with the opening, and wait for a queue
     pub(crate) waiting: Listed<Input>,
 }
 
 impl Model for Listener {
     ghost use Rattle.update_sender.specs.Ends.{Listening};
-    ghost use Rattle.update_sender.specs.Recorded.{items_of};
 
     ghost Value = { Listening };
 
-    ghost view = { λ a. record { viewer = a.viewer; pieces = a.pieces; heard = items_of a.heard.items; waiting = a.waiting } };
+    ghost view = { λ a. record { viewer = a.viewer; pieces = a.pieces; heard = a.heard.items; waiting = a.waiting } };
 }
 
 impl Listener {
@@ -57,16 +55,15 @@ impl Listener {
 pub struct Speaker {
     pub(crate) viewer: u64,
     pub(crate) cuts: u64,
-    pub(crate) sent: Recorded<u8>,
+    pub(crate) sent: KeptList<u8>,
 }
 
 impl Model for Speaker {
     ghost use Rattle.update_sender.specs.Ends.{Speaking};
-    ghost use Rattle.update_sender.specs.Recorded.{items_of};
 
     ghost Value = { Speaking };
 
-    ghost view = { λ a. record { viewer = a.viewer; cuts = a.cuts; sent = items_of a.sent.items } };
+    ghost view = { λ a. record { viewer = a.viewer; cuts = a.cuts; sent = a.sent.items } };
 }
 
 impl Speaker {
@@ -122,13 +119,13 @@ impl Line {
             alloc,
             viewer,
             pieces: 0,
-            heard: Recorded::new(alloc, history),
+            heard: list_for(alloc, history),
             waiting: Listed::new(alloc),
         };
         let speaker = Speaker {
             viewer,
             cuts: 0,
-            sent: Recorded::new(alloc, history),
+            sent: list_for(alloc, history),
         };
         Line {
             listener,

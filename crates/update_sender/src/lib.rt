@@ -22,7 +22,6 @@ mod hearing;
 mod opening;
 mod reader;
 mod reasons;
-mod recorded;
 mod sender;
 mod shared;
 mod turn;

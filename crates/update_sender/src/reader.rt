@@ -3,7 +3,7 @@
 ghost use Rattle.std.specs.Prelude.{◌≡◌, ◌≤◌, ◌+◌, List, ℕ, [], ◌∷◌, ◌++◌, IsOk, MatchOption, MatchResult};
 ghost use Rattle.messages.specs.declared.Input.{Input};
 ghost use Rattle.receipts.specs.declared.Ended.TheVariants as ended;
-ghost use Rattle.update_sender.specs.Recorded.{all_of};
+ghost use Rattle.update_sender.specs.Ends.{all_of};
 ghost use Rattle.update_sender.specs.Ends.{Listening, counted};
 ghost use Rattle.update_sender.specs.Inputs.{Puts};
 ghost use Rattle.update_sender.specs.Serving.{Hears, ReadingEnds};

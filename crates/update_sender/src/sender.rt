@@ -1,7 +1,7 @@
 //! A viewer's sender: updates are cut, encoded and written in pieces, until there is nothing more to come.
 
 ghost use Rattle.std.specs.Prelude.{◌≡◌, ◌≢◌, [], List, ℕ, OnErr, IfOk, IfErr, MatchResult};
-ghost use Rattle.update_sender.specs.Recorded.{all_of};
+ghost use Rattle.update_sender.specs.Ends.{all_of};
 ghost use Rattle.update_sender.specs.Ends.{Speaking, has_cut};
 ghost use Rattle.update_sender.specs.Serving.{CutsAndSends, CuttingEnds, SendsNoMore, SendsUpdate};
 

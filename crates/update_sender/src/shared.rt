@@ -5,14 +5,15 @@ ghost use Rattle.std.specs.Prelude.{◌≡◌, ◌≢◌, ◌<◌, ◌⊎◌, []
 ghost use Rattle.scene.specs.declared.ScreenError.TheVariants as refusals;
 ghost use Rattle.scene.specs.Alone.{config_refusal};
 ghost use Rattle.update_sender.specs.Ends.{greeted, listened, has_cut};
-ghost use Rattle.update_sender.specs.Recorded.{HasRoom, first_of};
+ghost use Rattle.kept_list.specs.Kept.{HasRoom};
+ghost use Rattle.screen.specs.State.{history_by};
 ghost use Rattle.update_sender.specs.Standing.{HasBytes};
 
 use crate::brush::Brush;
 use crate::desk::Desk;
 use crate::ends::{Line, Listener, Speaker};
-use crate::recorded::Recorded;
 use crate::turn::Turn;
+use kept_list::KeptList;
 use screen::{Answer, Config, Screen, ScreenError, Update};
 use std::alloc::{AllocError, Global};
 use std::marker::Model;
@@ -64,7 +65,7 @@ impl<L: Ledger> Shared<L> {
         requires some { 0 < L.parts }
         ensures refused { MatchOption (config_refusal config) (IsOkUnless result refusals.OutOfMemory) (λ e. result ≡ Err e) }
         ensures shared { IfOk result (λ made. made.0 ≡ config) }
-        ensures brush { IfOk result (λ made. made.1 ≡ first_of config.history) }
+        ensures brush { IfOk result (λ made. made.1 ≡ history_by config.history []) }
     {
         let copy = config.try_clone(alloc);
         let screen = Screen::new(alloc, config)?;
@@ -131,7 +132,7 @@ impl<L: Ledger> Shared<L> {
         ensures err { OnErr result (listener.new ≡ listener.old) }
         ensures refused { IfErr result (λ e. (e ≡ refusals.NoViewer) ⊎ (e ≡ refusals.OutOfMemory)) }
     {
-        listener.heard.make_room(piece.len())?;
+        listener.heard.reserve(piece.len())?;
         let heard = self.hear_in_hold(rt, listener.viewer, &listener.heard, piece)?;
         if heard.has_turn {
             self.moved.notify_all();
@@ -146,10 +147,10 @@ impl<L: Ledger> Shared<L> {
         &self,
         rt: &R,
         viewer: u64,
-        _kept: &Recorded<u8>,
+        _kept: &KeptList<u8>,
         piece: &[u8],
     ) -> Result<Heard, ScreenError>
-        requires room { HasRoom (length piece.now) _kept.now.items }
+        requires room { HasRoom (length piece.now) _kept.now }
         ensures refused { IfErr result (λ e. (e ≡ refusals.NoViewer) ⊎ (e ≡ refusals.OutOfMemory)) }
     {
         let mut desk = self.desk.lock(rt);

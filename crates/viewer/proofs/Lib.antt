@@ -1,4 +1,4 @@
-mod LeftLemmas
+mod RemainingLemmas
 mod RunLemmas
 mod HearingLemmas
 mod SentLemmas

@@ -6,7 +6,7 @@ pub mod Sending
 pub mod StoredColours
 pub mod Updates
 pub mod Given
-pub mod Standings
-pub mod Left
-pub mod UpdatesLeft
+pub mod ViewerStates
+pub mod Remaining
+pub mod RemainingUpdates
 pub mod Told

@@ -5,25 +5,25 @@ use Rattle.encode_raw.specs.Raw.{copyrect}
 use Rattle.messages.specs.declared.Encoding.{Encoding}
 use Rattle.messages.specs.Server.{update_head}
 use Rattle.viewer.specs.declared.notices.Notice.{Notice}
-use Rattle.viewer.specs.declared.parts.Moved.{Moved}
+use Rattle.viewer.specs.declared.parts.CopyRect.{CopyRect}
 use Rattle.viewer.specs.declared.parts.Coloured.{Coloured}
 use Rattle.viewer.specs.declared.parts.Rectangles.{Rectangles}
 use Rattle.viewer.specs.declared.parts.Part.{Part}
 use Rattle.viewer.specs.declared.parts.Part.TheVariants.{Nothing, NewSize, Places}
 use Rattle.viewer.specs.Sending.{encoded, map_bytes, notice_bytes, size_bytes}
 
-abbrev pub moved_bytes : Moved → List ℕ
-moved_bytes m = copyrect m.area m.src_x m.src_y
+abbrev pub copy_rect_bytes : CopyRect → List ℕ
+copy_rect_bytes m = copyrect m.area m.src_x m.src_y
 
 abbrev pub coloured_bytes : Encoding → PixelFormat → Coloured → List ℕ
 coloured_bytes e f c = encoded e f c.area c.colours
 
 -- 7.6.1: the copies, then the pixels
-abbrev pub kept_bytes : Encoding → PixelFormat → List Moved → List Coloured → List ℕ
-kept_bytes e f moves rectangles = update_head (length moves + length rectangles) ++ flat_map moved_bytes moves ++ flat_map (coloured_bytes e f) rectangles
+abbrev pub kept_bytes : Encoding → PixelFormat → List CopyRect → List Coloured → List ℕ
+kept_bytes e f copy_rects rectangles = update_head (length copy_rects + length rectangles) ++ flat_map copy_rect_bytes copy_rects ++ flat_map (coloured_bytes e f) rectangles
 
 abbrev pub rectangles_bytes : Rectangles → List ℕ
-rectangles_bytes r = kept_bytes r.encoding r.format r.moves.items r.coloured.items
+rectangles_bytes r = kept_bytes r.encoding r.format r.copy_rects.items r.coloured.items
 
 -- 7.6.1, 7.8.2: what an update says of the screen: nothing, a new size, or rectangles
 abbrev pub part_bytes : Part → List ℕ

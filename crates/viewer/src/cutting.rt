@@ -9,18 +9,18 @@ ghost use Rattle.messages.specs.declared.Encoding.{Encoding};
 ghost use Rattle.viewer.specs.Areas.{area_of};
 ghost use Rattle.framebuffer.specs.Picture.{colours_of};
 ghost use Rattle.viewer.specs.Sending.{copy_bytes, pixel_rectangle, bytes_of, with_update, sending_open, sending_kept};
-ghost use Rattle.viewer.specs.Standings.{viewer_in};
+ghost use Rattle.viewer.specs.ViewerStates.{viewer_in};
 ghost use Rattle.framebuffer.specs.Blocks.{block_rect, FitsIn};
-ghost use Rattle.viewer.specs.Updates.{moved_bytes, coloured_bytes, rectangles_bytes};
+ghost use Rattle.viewer.specs.Updates.{copy_rect_bytes, coloured_bytes, rectangles_bytes};
 ghost use Rattle.viewer.specs.Given.{planned_bytes, planned_viewer, prepared_bytes, after_prepared, IsSomething};
 
 use crate::colours::Colours;
 use crate::hearing::tells_size;
-use crate::parts::{Coloured, Moved, Part, Rectangles};
+use crate::parts::{Coloured, CopyRect, Part, Rectangles};
 use crate::sizes::Size;
-use crate::standing::{Planned, Standing, put_marks};
 use crate::translation::Translation;
 use crate::update::Update;
+use crate::viewer_state::{Planned, ViewerState, put_marks};
 use copy_schedule::{Cut, Marks, PreparedCut};
 use framebuffer::{Block, Framebuffer, block_within};
 use messages::Encoding;
@@ -42,14 +42,14 @@ fn area_of(rect: Rect) -> Area
 }
 
 /// A copy, with its source.
-fn moved_of(rect: Rect, offset: (i32, i32)) -> Moved
+fn copy_rect_of(rect: Rect, offset: (i32, i32)) -> CopyRect
     requires inside { IsOnScreen longest_side longest_side rect }
     requires source { IsOnScreen longest_side longest_side (source_rect offset rect) }
     ensures area { result.area ≡ area_of rect }
     ensures src_x { result.src_x ≡ nat_abs (rect.x1 -ℤ offset.0) }
     ensures src_y { result.src_y ≡ nat_abs (rect.y1 -ℤ offset.1) }
 {
-    Moved {
+    CopyRect {
         area: area_of(rect),
         src_x: (rect.x1 - offset.0) as u16,
         src_y: (rect.y1 - offset.1) as u16,
@@ -57,17 +57,21 @@ fn moved_of(rect: Rect, offset: (i32, i32)) -> Moved
 }
 
 /// The copies, with their sources.
-fn moves_of(alloc: Global, rects: &[Rect], offset: (i32, i32)) -> Result<Vec<Moved>, AllocError>
+fn copy_rects_of(
+    alloc: Global,
+    rects: &[Rect],
+    offset: (i32, i32),
+) -> Result<Vec<CopyRect>, AllocError>
     requires inside { All (IsOnScreen longest_side longest_side) rects.now }
     requires sources { All (λ r. IsOnScreen longest_side longest_side (source_rect offset r)) rects.now }
-    ensures bytes { IfOk result (λ moves. flat_map moved_bytes moves.items ≡ flat_map (copy_bytes offset) rects.now) }
-    ensures count { IfOk result (λ moves. length moves.items ≡ length rects.now) }
+    ensures bytes { IfOk result (λ copy_rects. flat_map copy_rect_bytes copy_rects.items ≡ flat_map (copy_bytes offset) rects.now) }
+    ensures count { IfOk result (λ copy_rects. length copy_rects.items ≡ length rects.now) }
 {
-    let mut moves = Vec::with_capacity(alloc, rects.len())?;
+    let mut copy_rects = Vec::with_capacity(alloc, rects.len())?;
     for rect in rects {
-        moves.push(moved_of(*rect, offset))?;
+        copy_rects.push(copy_rect_of(*rect, offset))?;
     }
-    Ok(moves)
+    Ok(copy_rects)
 }
 
 /// A block of the screen, with its colours.
@@ -130,12 +134,12 @@ fn rectangles_of(
         bytes_of picture.old.width picture.old.height picture.old.colours encoding format cut.now.copies cut.now.offset
         cut.now.pixels) }
 {
-    let moves = moves_of(alloc, cut.copies.as_slice(), cut.offset)?;
+    let copy_rects = copy_rects_of(alloc, cut.copies.as_slice(), cut.offset)?;
     let coloured = coloured_rectangles(alloc, picture, cut.pixels.as_slice())?;
     Ok(Rectangles {
         encoding,
         format,
-        moves,
+        copy_rects,
         coloured,
     })
 }
@@ -145,36 +149,36 @@ fn plan_places(
     alloc: Global,
     picture: &mut Framebuffer,
     limit: u32,
-    standing: &Standing,
+    state: &ViewerState,
 ) -> Result<Planned, AllocError>
     requires limit { limit ≤ 1000 }
-    requires width { standing.now.marks.width ≡ picture.old.width }
-    requires height { standing.now.marks.height ≡ picture.old.height }
+    requires width { state.now.marks.width ≡ picture.old.width }
+    requires height { state.now.marks.height ≡ picture.old.height }
     ensures same { picture.new ≡ picture.old }
-    ensures bytes { IfOk result (λ planned. planned_bytes (viewer_in standing.now) planned ≡
-        (with_update picture.old.width picture.old.height picture.old.colours (viewer_in standing.now)
-        (cut_of limit standing.now.marks)).0) }
-    ensures viewer { IfOk result (λ planned. planned_viewer (viewer_in standing.now) planned ≡
-        (with_update picture.old.width picture.old.height picture.old.colours (viewer_in standing.now)
-        (cut_of limit standing.now.marks)).1) }
-    ensures told { IfOk result (λ planned. planned.told ≡ standing.now.told) }
+    ensures bytes { IfOk result (λ planned. planned_bytes (viewer_in state.now) planned ≡
+        (with_update picture.old.width picture.old.height picture.old.colours (viewer_in state.now)
+        (cut_of limit state.now.marks)).0) }
+    ensures viewer { IfOk result (λ planned. planned_viewer (viewer_in state.now) planned ≡
+        (with_update picture.old.width picture.old.height picture.old.colours (viewer_in state.now)
+        (cut_of limit state.now.marks)).1) }
+    ensures told { IfOk result (λ planned. planned.told ≡ state.now.told) }
     ensures none { IfOk result (λ planned. planned.part ≡ Part.Nothing → planned.marks ≡ None) }
     ensures some { IfOk result (λ planned. IsSomething planned.part) }
-    ensures width { IfOk result (λ planned. IfSome planned.marks (λ m. m.width ≡ standing.now.marks.width)) }
-    ensures height { IfOk result (λ planned. IfSome planned.marks (λ m. m.height ≡ standing.now.marks.height)) }
+    ensures width { IfOk result (λ planned. IfSome planned.marks (λ m. m.width ≡ state.now.marks.width)) }
+    ensures height { IfOk result (λ planned. IfSome planned.marks (λ m. m.height ≡ state.now.marks.height)) }
 {
-    let Some(PreparedCut { cut, marks }) = standing.marks.prepare_cut(limit)? else {
+    let Some(PreparedCut { cut, marks }) = state.marks.prepare_cut(limit)? else {
         return Ok(Planned {
             part: Part::Nothing,
-            told: standing.told,
+            told: state.told,
             marks: None,
         });
     };
-    let format = standing.format.share()?;
-    let rectangles = rectangles_of(alloc, picture, standing.encoding, format, &cut)?;
+    let format = state.format.share()?;
+    let rectangles = rectangles_of(alloc, picture, state.encoding, format, &cut)?;
     Ok(Planned {
         part: Part::Places(rectangles),
-        told: standing.told,
+        told: state.told,
         marks: Some(marks.into_marks()),
     })
 }
@@ -204,26 +208,26 @@ fn plan(
     alloc: Global,
     picture: &mut Framebuffer,
     limit: u32,
-    standing: &Standing,
+    state: &ViewerState,
 ) -> Result<Planned, AllocError>
     requires limit { limit ≤ 1000 }
-    requires width { standing.now.marks.width ≡ picture.old.width }
-    requires height { standing.now.marks.height ≡ picture.old.height }
+    requires width { state.now.marks.width ≡ picture.old.width }
+    requires height { state.now.marks.height ≡ picture.old.height }
     ensures same { picture.new ≡ picture.old }
-    ensures bytes { IfOk result (λ planned. planned_bytes (viewer_in standing.now) planned ≡
-        (sending_open picture.old.width picture.old.height limit picture.old.colours (viewer_in standing.now)).0) }
-    ensures viewer { IfOk result (λ planned. planned_viewer (viewer_in standing.now) planned ≡
-        (sending_open picture.old.width picture.old.height limit picture.old.colours (viewer_in standing.now)).1) }
-    ensures told { IfOk result (λ planned. planned.part ≡ Part.Nothing → planned.told ≡ standing.now.told) }
+    ensures bytes { IfOk result (λ planned. planned_bytes (viewer_in state.now) planned ≡
+        (sending_open picture.old.width picture.old.height limit picture.old.colours (viewer_in state.now)).0) }
+    ensures viewer { IfOk result (λ planned. planned_viewer (viewer_in state.now) planned ≡
+        (sending_open picture.old.width picture.old.height limit picture.old.colours (viewer_in state.now)).1) }
+    ensures told { IfOk result (λ planned. planned.part ≡ Part.Nothing → planned.told ≡ state.now.told) }
     ensures none { IfOk result (λ planned. planned.part ≡ Part.Nothing → planned.marks ≡ None) }
     ensures some { IfOk result (λ planned. IsSomething planned.part) }
-    ensures width { IfOk result (λ planned. IfSome planned.marks (λ m. m.width ≡ standing.now.marks.width)) }
-    ensures height { IfOk result (λ planned. IfSome planned.marks (λ m. m.height ≡ standing.now.marks.height)) }
+    ensures width { IfOk result (λ planned. IfSome planned.marks (λ m. m.width ≡ state.now.marks.width)) }
+    ensures height { IfOk result (λ planned. IfSome planned.marks (λ m. m.height ≡ state.now.marks.height)) }
 {
-    if tells_size(standing) {
+    if tells_size(state) {
         plan_size(alloc, picture)
     } else {
-        plan_places(alloc, picture, limit, standing)
+        plan_places(alloc, picture, limit, state)
     }
 }
 
@@ -257,31 +261,31 @@ pub fn prepare_in(
     alloc: Global,
     picture: &mut Framebuffer,
     limit: u32,
-    standing: &Standing,
+    state: &ViewerState,
 ) -> Result<Option<PreparedUpdate>, AllocError>
     requires limit { limit ≤ 1000 }
-    requires width { standing.now.marks.width ≡ picture.old.width }
-    requires height { standing.now.marks.height ≡ picture.old.height }
+    requires width { state.now.marks.width ≡ picture.old.width }
+    requires height { state.now.marks.height ≡ picture.old.height }
     ensures same { picture.new ≡ picture.old }
     ensures bytes { IfOk result (λ prepared. prepared_bytes prepared ≡
-        (sending_kept picture.old.width picture.old.height limit picture.old.colours (viewer_in standing.now)).0) }
-    ensures viewer { IfOk result (λ prepared. after_prepared (viewer_in standing.now) prepared ≡
-        (sending_kept picture.old.width picture.old.height limit picture.old.colours (viewer_in standing.now)).1) }
+        (sending_kept picture.old.width picture.old.height limit picture.old.colours (viewer_in state.now)).0) }
+    ensures viewer { IfOk result (λ prepared. after_prepared (viewer_in state.now) prepared ≡
+        (sending_kept picture.old.width picture.old.height limit picture.old.colours (viewer_in state.now)).1) }
     ensures some { IfOk result (λ prepared. IfSome prepared (λ p. p.update ≢ [])) }
-    ensures width { IfOk result (λ prepared. (after_prepared (viewer_in standing.now) prepared).marks.width ≡
-        standing.now.marks.width) }
-    ensures height { IfOk result (λ prepared. (after_prepared (viewer_in standing.now) prepared).marks.height ≡
-        standing.now.marks.height) }
+    ensures width { IfOk result (λ prepared. (after_prepared (viewer_in state.now) prepared).marks.width ≡
+        state.now.marks.width) }
+    ensures height { IfOk result (λ prepared. (after_prepared (viewer_in state.now) prepared).marks.height ≡
+        state.now.marks.height) }
 {
-    if !standing.ear.is_open() {
+    if !state.ear.is_open() {
         return Ok(None);
     }
-    let Planned { part, told, marks } = plan(alloc, picture, limit, standing)?;
-    if part.is_nothing() && standing.notices.is_empty() && !standing.map_owed {
+    let Planned { part, told, marks } = plan(alloc, picture, limit, state)?;
+    if part.is_nothing() && state.notices.is_empty() && !state.map_owed {
         return Ok(None);
     }
-    let notices = standing.notices.share(alloc)?;
-    let map_owed = standing.map_owed;
+    let notices = state.notices.share(alloc)?;
+    let map_owed = state.map_owed;
     let update = Update::new(alloc, map_owed, notices, part);
     Ok(Some(PreparedUpdate {
         update,
@@ -291,18 +295,18 @@ pub fn prepare_in(
 }
 
 /// Cuts what is prepared for a viewer.
-pub fn commit_in(standing: &mut Standing, prepared: PreparedUpdate) -> Update
+pub fn commit_in(state: &mut ViewerState, prepared: PreparedUpdate) -> Update
     ensures update { result ≡ prepared_bytes (Some prepared) }
-    ensures viewer { viewer_in standing.new ≡ after_prepared (viewer_in standing.old) (Some prepared) }
+    ensures viewer { viewer_in state.new ≡ after_prepared (viewer_in state.old) (Some prepared) }
 {
     let PreparedUpdate {
         update,
         told,
         marks,
     } = prepared;
-    standing.map_owed = false;
-    standing.told = told;
-    standing.notices.clear();
-    put_marks(standing, marks);
+    state.map_owed = false;
+    state.told = told;
+    state.notices.clear();
+    put_marks(state, marks);
     update
 }

@@ -11,14 +11,14 @@ ghost use Rattle.viewer.specs.Hearing.{input_of, after_items, heard_reply};
 ghost use Rattle.viewer.specs.Viewer.{KeptViewer, none_wait, after_item, new_viewer, kept_viewer};
 ghost use Rattle.viewer.specs.Sending.{is_size_owed, tells_size};
 ghost use Rattle.copy_schedule.specs.Log.{logged, IsCutEntry};
-ghost use Rattle.viewer.specs.Standings.{viewer_in, viewer_by};
+ghost use Rattle.viewer.specs.ViewerStates.{viewer_in, viewer_by};
 ghost use Rattle.viewer.specs.Told.{viewer_told, told_unless};
 ghost use Rattle.viewer.specs.Given.{marks_put};
 
 use crate::notices::Notices;
 use crate::sizes::{Size, clipped, view_by};
-use crate::standing::{Draft, Standing, put_format, put_marks};
 use crate::translation::Translation;
+use crate::viewer_state::{Draft, ViewerState, put_format, put_marks};
 use crate::{HeardPiece, Reply};
 use copy_schedule::{LogEntry, Marks, joined_log};
 use listed::Listed;
@@ -28,115 +28,115 @@ use region::Rect;
 use std::alloc::{AllocError, Global};
 
 /// The size of a viewer's screen.
-pub(crate) fn screen_of(standing: &Standing) -> Size
-    ensures { result ≡ record { width = standing.now.marks.width; height = standing.now.marks.height } }
+pub(crate) fn screen_of(state: &ViewerState) -> Size
+    ensures { result ≡ record { width = state.now.marks.width; height = state.now.marks.height } }
 {
     Size {
-        width: standing.marks.width() as u16,
-        height: standing.marks.height() as u16,
+        width: state.marks.width() as u16,
+        height: state.marks.height() as u16,
     }
 }
 
 /// Whether a viewer that lists DesktopSize has another size than the screen (RFC 6143, 7.8.2).
-fn is_size_owed(standing: &Standing) -> bool
-    ensures { result ≡ is_size_owed standing.now.marks.width standing.now.marks.height (viewer_in standing.now) }
+fn is_size_owed(state: &ViewerState) -> bool
+    ensures { result ≡ is_size_owed state.now.marks.width state.now.marks.height (viewer_in state.now) }
 {
-    let screen = screen_of(standing);
-    let size = standing.told.unwrap_or(screen);
-    standing.takes_sizes && !(size.width == screen.width && size.height == screen.height)
+    let screen = screen_of(state);
+    let size = state.told.unwrap_or(screen);
+    state.takes_sizes && !(size.width == screen.width && size.height == screen.height)
 }
 
 /// Whether an update would tell a viewer the size.
-pub(crate) fn tells_size(standing: &Standing) -> bool
-    ensures { result ≡ tells_size standing.now.marks.width standing.now.marks.height (viewer_in standing.now) }
+pub(crate) fn tells_size(state: &ViewerState) -> bool
+    ensures { result ≡ tells_size state.now.marks.width state.now.marks.height (viewer_in state.now) }
 {
-    standing.marks.has_asked() && is_size_owed(standing)
+    state.marks.has_asked() && is_size_owed(state)
 }
 
 /// Whether a viewer would be given something now, that is told of the drawing of a log first.
-pub fn is_pending(standing: &Standing, log: &[LogEntry]) -> bool
-    ensures { result ≡ (is_open_rest standing.now.ear && (standing.now.map_owed || (not (none_wait standing.now.notices) ||
-        (tells_size standing.now.marks.width standing.now.marks.height (viewer_in standing.now) ||
-        pending (logged standing.now.uses_copyrect log.now standing.now.marks))))) }
+pub fn is_pending(state: &ViewerState, log: &[LogEntry]) -> bool
+    ensures { result ≡ (is_open_rest state.now.ear && (state.now.map_owed || (not (none_wait state.now.notices) ||
+        (tells_size state.now.marks.width state.now.marks.height (viewer_in state.now) ||
+        pending (logged state.now.uses_copyrect log.now state.now.marks))))) }
 {
-    standing.ear.is_open()
-        && (standing.map_owed
-            || !standing.notices.is_empty()
-            || tells_size(standing)
-            || standing.marks.pending_after(log))
+    state.ear.is_open()
+        && (state.map_owed
+            || !state.notices.is_empty()
+            || tells_size(state)
+            || state.marks.pending_after(log))
 }
 
 /// A viewer's marks once they know the drawing of a log, whose entries are joined first where there are several; None where the log
 /// has none.
 fn marks_after(
     alloc: Global,
-    standing: &Standing,
+    state: &ViewerState,
     log: &[LogEntry],
 ) -> Result<Option<Marks>, AllocError>
-    requires cut { All (IsCutEntry standing.now.marks.width standing.now.marks.height) log.now }
-    ensures { IfOk result (λ marks. marks_put standing.now.marks marks ≡
-        logged standing.now.uses_copyrect log.now standing.now.marks) }
+    requires cut { All (IsCutEntry state.now.marks.width state.now.marks.height) log.now }
+    ensures { IfOk result (λ marks. marks_put state.now.marks marks ≡
+        logged state.now.uses_copyrect log.now state.now.marks) }
 {
     if log.is_empty() {
         return Ok(None);
     }
     if log.len() == 1 {
-        let prepared = standing.marks.prepare_log(log, standing.uses_copyrect)?;
+        let prepared = state.marks.prepare_log(log, state.uses_copyrect)?;
         return Ok(Some(prepared.into_marks()));
     }
-    let joined = joined_log(alloc, log, standing.uses_copyrect)?;
-    let prepared = standing.marks.prepare_log(&joined, standing.uses_copyrect)?;
+    let joined = joined_log(alloc, log, state.uses_copyrect)?;
+    let prepared = state.marks.prepare_log(&joined, state.uses_copyrect)?;
     Ok(Some(prepared.into_marks()))
 }
 
 /// A viewer's draft, which knows the drawing of a log, before its messages change it.
-fn draft_of(alloc: Global, standing: &Standing, log: &[LogEntry]) -> Result<Draft, AllocError>
-    requires cut { All (IsCutEntry standing.now.marks.width standing.now.marks.height) log.now }
-    ensures { IfOk result (λ draft. viewer_by standing.now draft ≡ viewer_told log.now (viewer_in standing.now)) }
+fn draft_of(alloc: Global, state: &ViewerState, log: &[LogEntry]) -> Result<Draft, AllocError>
+    requires cut { All (IsCutEntry state.now.marks.width state.now.marks.height) log.now }
+    ensures { IfOk result (λ draft. viewer_by state.now draft ≡ viewer_told log.now (viewer_in state.now)) }
 {
     Ok(Draft {
         format: None,
-        map_owed: standing.map_owed,
-        encoding: standing.encoding,
-        uses_copyrect: standing.uses_copyrect,
-        takes_sizes: standing.takes_sizes,
-        told: standing.told,
-        marks: marks_after(alloc, standing, log)?,
+        map_owed: state.map_owed,
+        encoding: state.encoding,
+        uses_copyrect: state.uses_copyrect,
+        takes_sizes: state.takes_sizes,
+        told: state.told,
+        marks: marks_after(alloc, state, log)?,
     })
 }
 
 /// The marks that are changed already, or else a copy of the viewer's.
-fn marks_to_change(standing: &Standing, marks: Option<Marks>) -> Result<Marks, AllocError>
-    ensures { IfOk result (λ copy. copy ≡ marks_put standing.now.marks marks) }
+fn marks_to_change(state: &ViewerState, marks: Option<Marks>) -> Result<Marks, AllocError>
+    ensures { IfOk result (λ copy. copy ≡ marks_put state.now.marks marks) }
 {
     match marks {
         Some(marks) => Ok(marks),
-        None => standing.marks.try_clone(),
+        None => state.marks.try_clone(),
     }
 }
 
 /// The viewer's SetEncodings (RFC 6143, 7.5.2): its places that await a copy are owed where CopyRect isn't listed.
 fn take_encodings(
     draft: &mut Draft,
-    standing: &Standing,
+    state: &ViewerState,
     preferred: Encoding,
     copyrect: bool,
     resize: bool,
 ) -> Result<(), AllocError>
-    ensures { OnOk result (viewer_by standing.now draft.new ≡
-        record (viewer_by standing.now draft.old) {
+    ensures { OnOk result (viewer_by state.now draft.new ≡
+        record (viewer_by state.now draft.old) {
           encoding = preferred;
           uses_copyrect = copyrect;
           takes_sizes = resize;
-          marks = if copyrect then marks_put standing.now.marks draft.old.marks else
-              without_copyrect (marks_put standing.now.marks draft.old.marks);
+          marks = if copyrect then marks_put state.now.marks draft.old.marks else
+              without_copyrect (marks_put state.now.marks draft.old.marks);
         }) }
 {
     draft.encoding = preferred;
     draft.uses_copyrect = copyrect;
     draft.takes_sizes = resize;
     if !copyrect {
-        let mut marks = marks_to_change(standing, draft.marks.take())?;
+        let mut marks = marks_to_change(state, draft.marks.take())?;
         marks.no_copyrect()?;
         draft.marks = Some(marks);
     }
@@ -146,16 +146,16 @@ fn take_encodings(
 /// The viewer's FramebufferUpdateRequest (RFC 6143, 7.5.3).
 fn take_request(
     draft: &mut Draft,
-    standing: &Standing,
+    state: &ViewerState,
     rect: Rect,
     incremental: bool,
 ) -> Result<(), AllocError>
-    ensures { OnOk result (viewer_by standing.now draft.new ≡
-        record (viewer_by standing.now draft.old) {
-          marks = requested (in_rect rect) incremental (marks_put standing.now.marks draft.old.marks);
+    ensures { OnOk result (viewer_by state.now draft.new ≡
+        record (viewer_by state.now draft.old) {
+          marks = requested (in_rect rect) incremental (marks_put state.now.marks draft.old.marks);
         }) }
 {
-    let mut marks = marks_to_change(standing, draft.marks.take())?;
+    let mut marks = marks_to_change(state, draft.marks.take())?;
     marks.request(rect, incremental)?;
     draft.marks = Some(marks);
     Ok(())
@@ -166,11 +166,11 @@ fn take_request(
 fn take_item(
     alloc: Global,
     draft: &mut Draft,
-    standing: &Standing,
+    state: &ViewerState,
     item: &Item,
 ) -> Result<(), AllocError>
-    ensures { OnOk result (viewer_by standing.now draft.new ≡
-        after_item standing.now.marks.width standing.now.marks.height item.now (viewer_by standing.now draft.old)) }
+    ensures { OnOk result (viewer_by state.now draft.new ≡
+        after_item state.now.marks.width state.now.marks.height item.now (viewer_by state.now draft.old)) }
 {
     match item {
         Item::Format(format) => {
@@ -182,13 +182,13 @@ fn take_item(
             preferred,
             copyrect,
             resize,
-        } => take_encodings(draft, standing, *preferred, *copyrect, *resize),
+        } => take_encodings(draft, state, *preferred, *copyrect, *resize),
         Item::Request { incremental, area } => {
-            let view = view_by(screen_of(standing), draft.told);
-            take_request(draft, standing, clipped(view, *area), *incremental)
+            let view = view_by(screen_of(state), draft.told);
+            take_request(draft, state, clipped(view, *area), *incremental)
         }
         Item::Init { .. } => {
-            draft.told = Some(screen_of(standing));
+            draft.told = Some(screen_of(state));
             Ok(())
         }
         _ => Ok(()),
@@ -199,30 +199,30 @@ fn take_item(
 /// where they aren't new already.
 fn draft_after(
     alloc: Global,
-    standing: &Standing,
+    state: &ViewerState,
     log: &[LogEntry],
     items: &[Item],
 ) -> Result<Draft, AllocError>
-    requires cut { All (IsCutEntry standing.now.marks.width standing.now.marks.height) log.now }
-    ensures { IfOk result (λ draft. viewer_by standing.now draft ≡
-        after_items standing.now.marks.width standing.now.marks.height items.now (viewer_told log.now (viewer_in standing.now))) }
+    requires cut { All (IsCutEntry state.now.marks.width state.now.marks.height) log.now }
+    ensures { IfOk result (λ draft. viewer_by state.now draft ≡
+        after_items state.now.marks.width state.now.marks.height items.now (viewer_told log.now (viewer_in state.now))) }
 {
-    let mut draft = draft_of(alloc, standing, log)?;
+    let mut draft = draft_of(alloc, state, log)?;
     for item in items {
-        take_item(alloc, &mut draft, standing, item)?;
+        take_item(alloc, &mut draft, state, item)?;
     }
     Ok(draft)
 }
 
 /// A viewer that has just connected.
-pub fn new_standing(alloc: Global, width: u32, height: u32) -> Result<Standing, AllocError>
+pub fn new_state(alloc: Global, width: u32, height: u32) -> Result<ViewerState, AllocError>
     requires some_columns { 1 ≤ width }
     requires columns { width ≤ longest_side }
     requires some_rows { 1 ≤ height }
     requires rows { height ≤ longest_side }
-    ensures { IfOk result (λ standing. viewer_in standing ≡ kept_viewer (new_viewer width height)) }
+    ensures { IfOk result (λ state. viewer_in state ≡ kept_viewer (new_viewer width height)) }
 {
-    Ok(Standing {
+    Ok(ViewerState {
         ear: Ear::new(alloc),
         format: Translation::new(alloc, &PixelFormat::server())?,
         map_owed: false,
@@ -251,16 +251,16 @@ fn inputs_of(mut items: Vec<Item>, mut inputs: Vec<Input>) -> Vec<Input>
 }
 
 /// A viewer is as the draft says from now on. This takes no memory.
-fn put_draft(standing: &mut Standing, draft: Draft)
-    ensures { viewer_in standing.new ≡ viewer_by standing.old draft }
+fn put_draft(state: &mut ViewerState, draft: Draft)
+    ensures { viewer_in state.new ≡ viewer_by state.old draft }
 {
-    put_format(standing, draft.format);
-    standing.map_owed = draft.map_owed;
-    standing.encoding = draft.encoding;
-    standing.uses_copyrect = draft.uses_copyrect;
-    standing.takes_sizes = draft.takes_sizes;
-    standing.told = draft.told;
-    put_marks(standing, draft.marks);
+    put_format(state, draft.format);
+    state.map_owed = draft.map_owed;
+    state.encoding = draft.encoding;
+    state.uses_copyrect = draft.uses_copyrect;
+    state.takes_sizes = draft.takes_sizes;
+    state.told = draft.told;
+    put_marks(state, draft.marks);
 }
 
 fn is_input(item: &Item) -> bool
@@ -284,17 +284,17 @@ fn only_request(items: &[Item]) -> Option<(bool, Area)>
 
 /// The viewer's FramebufferUpdateRequest (RFC 6143, 7.5.3), taken where its marks stand. After an `AllocError` it is as it was.
 fn take_request_in_place(
-    standing: &mut Standing,
+    state: &mut ViewerState,
     incremental: bool,
     area: Area,
 ) -> Result<(), AllocError>
-    ensures ok { OnOk result (viewer_in standing.new ≡
-        after_item standing.old.marks.width standing.old.marks.height (Item.Request incremental area) (viewer_in standing.old)) }
-    ensures ear { standing.new.ear ≡ standing.old.ear }
-    ensures err { OnErr result (standing.new ≡ standing.old) }
+    ensures ok { OnOk result (viewer_in state.new ≡
+        after_item state.old.marks.width state.old.marks.height (Item.Request incremental area) (viewer_in state.old)) }
+    ensures ear { state.new.ear ≡ state.old.ear }
+    ensures err { OnErr result (state.new ≡ state.old) }
 {
-    let view = view_by(screen_of(standing), standing.told);
-    standing.marks.request(clipped(view, area), incremental)
+    let view = view_by(screen_of(state), state.told);
+    state.marks.request(clipped(view, area), incremental)
 }
 
 /// Whether items are inputs alone, which change nothing of a viewer.
@@ -314,15 +314,15 @@ fn are_inputs(items: &[Item]) -> bool
 /// time, needs no copy of the marks.
 fn take_items(
     alloc: Global,
-    standing: &mut Standing,
+    state: &mut ViewerState,
     log: &[LogEntry],
     items: &[Item],
 ) -> Result<bool, AllocError>
-    requires cut { All (IsCutEntry standing.old.marks.width standing.old.marks.height) log.now }
-    ensures ok { IfOk result (λ knows_log. told_unless knows_log log.now (viewer_in standing.new) ≡
-        after_items standing.old.marks.width standing.old.marks.height items.now (viewer_told log.now (viewer_in standing.old))) }
-    ensures ear { standing.new.ear ≡ standing.old.ear }
-    ensures err { OnErr result (standing.new ≡ standing.old) }
+    requires cut { All (IsCutEntry state.old.marks.width state.old.marks.height) log.now }
+    ensures ok { IfOk result (λ knows_log. told_unless knows_log log.now (viewer_in state.new) ≡
+        after_items state.old.marks.width state.old.marks.height items.now (viewer_told log.now (viewer_in state.old))) }
+    ensures ear { state.new.ear ≡ state.old.ear }
+    ensures err { OnErr result (state.new ≡ state.old) }
 {
     if are_inputs(items) {
         return Ok(false);
@@ -330,11 +330,11 @@ fn take_items(
     if log.is_empty()
         && let Some((incremental, area)) = only_request(items)
     {
-        take_request_in_place(standing, incremental, area)?;
+        take_request_in_place(state, incremental, area)?;
         return Ok(true);
     }
-    let draft = draft_after(alloc, standing, log, items)?;
-    put_draft(standing, draft);
+    let draft = draft_after(alloc, state, log, items)?;
+    put_draft(state, draft);
     Ok(true)
 }
 
@@ -342,34 +342,34 @@ fn take_items(
 /// viewer changes.
 pub fn hear_in(
     alloc: Global,
-    standing: &mut Standing,
+    state: &mut ViewerState,
     log: &[LogEntry],
     name: &[u8],
     piece: &[u8],
 ) -> Result<HeardPiece, AllocError>
-    requires cut { All (IsCutEntry standing.old.marks.width standing.old.marks.height) log.now }
+    requires cut { All (IsCutEntry state.old.marks.width state.old.marks.height) log.now }
     requires name { length name.now ≤ u32.MAX }
-    ensures reply { (before : List ℕ) → standing.old.ear ≡ rest before →
-        IfOk result (λ heard. heard.reply ≡ heard_reply standing.old.marks.width standing.old.marks.height name.now before piece.now) }
-    ensures viewer { (before : List ℕ) → standing.old.ear ≡ rest before →
-        IfOk result (λ heard. told_unless heard.knows_log log.now (viewer_in standing.new) ≡
-        after_items standing.old.marks.width standing.old.marks.height (new_items before piece.now)
-        (record (viewer_told log.now (viewer_in standing.old)) { heard = rest (before ++ piece.now) })) }
-    ensures width { standing.new.marks.width ≡ standing.old.marks.width }
-    ensures height { standing.new.marks.height ≡ standing.old.marks.height }
-    ensures err { OnErr result (standing.new ≡ standing.old) }
+    ensures reply { (before : List ℕ) → state.old.ear ≡ rest before →
+        IfOk result (λ heard. heard.reply ≡ heard_reply state.old.marks.width state.old.marks.height name.now before piece.now) }
+    ensures viewer { (before : List ℕ) → state.old.ear ≡ rest before →
+        IfOk result (λ heard. told_unless heard.knows_log log.now (viewer_in state.new) ≡
+        after_items state.old.marks.width state.old.marks.height (new_items before piece.now)
+        (record (viewer_told log.now (viewer_in state.old)) { heard = rest (before ++ piece.now) })) }
+    ensures width { state.new.marks.width ≡ state.old.marks.width }
+    ensures height { state.new.marks.height ≡ state.old.marks.height }
+    ensures err { OnErr result (state.new ≡ state.old) }
 {
-    let Prepared { heard, change } = standing.ear.prepare(piece)?;
+    let Prepared { heard, change } = state.ear.prepare(piece)?;
     let items = heard.items.into_vec();
     let desktop = Desktop {
-        width: standing.marks.width() as u16,
-        height: standing.marks.height() as u16,
+        width: state.marks.width() as u16,
+        height: state.marks.height() as u16,
         name,
     };
-    let bytes = greetings(alloc, &desktop, standing.ear.phase(), &items)?;
+    let bytes = greetings(alloc, &desktop, state.ear.phase(), &items)?;
     let room = Vec::with_capacity(alloc, items.len())?;
-    let knows_log = take_items(alloc, standing, log, &items)?;
-    standing.ear.commit(change);
+    let knows_log = take_items(alloc, state, log, &items)?;
+    state.ear.commit(change);
     let reply = Reply {
         bytes: Listed::from_vec(bytes),
         inputs: Listed::from_vec(inputs_of(items, room)),

@@ -1,23 +1,23 @@
 //! One viewer of a screen: what is kept of its bytes, what it asked for, what it is owed, the notices that wait for it, and
 //! what it is sent.
 //!
-//! `standing` is what is kept of a viewer, `hearing` what its messages do to it, `cutting` and `update` one update, `notices`
+//! `viewer_state` is what is kept of a viewer, `hearing` what its messages do to it, `cutting` and `update` one update, `notices`
 //! what goes before the rectangles of an update. `colours` are those of one rectangle, and `translation` is the viewer's format with
-//! what makes pixels of them. `left` is what of an update is still to be encoded, and `stream` gives an update in pieces.
+//! what makes pixels of them. `remaining` is what of an update is still to be encoded, and `stream` gives an update in pieces.
 #![tactic(auto)]
 
 mod colours;
 mod cutting;
 mod hearing;
-mod left;
 mod notices;
 mod parts;
+mod remaining;
 mod sizes;
-mod standing;
 mod stream;
 mod translation;
 mod update;
 mod viewer;
+mod viewer_state;
 
 pub use copy_schedule::{LogEntry, Prepared};
 pub use cutting::PreparedUpdate;

@@ -1,4 +1,4 @@
-//! What an update is made of: rectangles that the viewer moves, and rectangles of colours.
+//! What an update is made of: rectangles that the viewer copy_rects, and rectangles of colours.
 
 ghost use Rattle.std.specs.Prelude.{◌≡◌, ◌↔◌, IsTrue, ◌≤◌, ◌<◌, ◌+◌, ◌*◌, ◌^◌, length};
 
@@ -8,9 +8,9 @@ use crate::translation::Translation;
 use messages::Encoding;
 use pixel_translate::Area;
 
-/// A rectangle whose pixels the viewer moves from a source of the same size.
+/// A rectangle whose pixels the viewer copy_rects from a source of the same size.
 #[derive(Drop)]
-pub struct Moved {
+pub struct CopyRect {
     pub area: Area,
     pub src_x: u16,
     pub src_y: u16,
@@ -33,9 +33,9 @@ pub struct Coloured {
 pub struct Rectangles {
     pub encoding: Encoding,
     pub format: Translation,
-    pub moves: Vec<Moved>,
+    pub copy_rects: Vec<CopyRect>,
     pub coloured: Vec<Coloured>,
-    ghost few: { length moves.items + length coloured.items < 2 ^ 16 },
+    ghost few: { length copy_rects.items + length coloured.items < 2 ^ 16 },
 }
 
 /// What an update says of the screen: nothing, its new size (RFC 6143, 7.8.2), or some rectangles of it.

@@ -2,7 +2,7 @@
 
 ghost use Rattle.std.specs.Prelude.{◌≡◌, ◌≢◌, ◌+◌, ◌≤◌, ◌<◌, ◌++◌, ◌↔◌, [], IsTrue, OnOk, OnErr, length};
 
-use crate::left::UpdateLeft;
+use crate::remaining::RemainingUpdate;
 use std::alloc::{AllocError, Global};
 use std::marker::Model;
 
@@ -15,7 +15,7 @@ pub const PIECE: usize = 8192;
 /// a row of tiles in Hextile, a rectangle in RRE, the colour map, or a notice.
 #[derive(Drop)]
 pub struct Stream {
-    left: UpdateLeft,
+    remaining: RemainingUpdate,
     made: Vec<u8>,
     given: usize,
 }
@@ -25,20 +25,20 @@ impl Model for Stream {
 
     ghost Value = { List ℕ };
 
-    ghost view = { λ a. drop a.given a.made.items ++ a.left };
+    ghost view = { λ a. drop a.given a.made.items ++ a.remaining };
 
     ghost invariant = { λ a. a.given ≤ length a.made.items };
 }
 
 /// Makes the next part of what is left. Where memory is refused, nothing is made and all of it is left.
-fn make_part(made: &mut Vec<u8>, left: &mut UpdateLeft) -> Result<(), AllocError>
-    ensures bytes { OnOk result (made.new.items ++ left.new ≡ left.old) }
-    ensures more { OnOk result (left.old ≢ [] → 0 < length made.new.items) }
+fn make_part(made: &mut Vec<u8>, remaining: &mut RemainingUpdate) -> Result<(), AllocError>
+    ensures bytes { OnOk result (made.new.items ++ remaining.new ≡ remaining.old) }
+    ensures more { OnOk result (remaining.old ≢ [] → 0 < length made.new.items) }
     ensures none { OnErr result (made.new.items ≡ []) }
-    ensures same { OnErr result (left.new ≡ left.old) }
+    ensures same { OnErr result (remaining.new ≡ remaining.old) }
 {
     made.clear();
-    let done = left.put_part(made);
+    let done = remaining.put_part(made);
     if done.is_err() {
         made.clear();
     }
@@ -47,11 +47,11 @@ fn make_part(made: &mut Vec<u8>, left: &mut UpdateLeft) -> Result<(), AllocError
 
 impl Stream {
     /// All of an update.
-    pub(crate) fn new(alloc: Global, left: UpdateLeft) -> Stream
-        ensures { result ≡ left }
+    pub(crate) fn new(alloc: Global, remaining: RemainingUpdate) -> Stream
+        ensures { result ≡ remaining }
     {
         Stream {
-            left,
+            remaining,
             made: Vec::new(alloc),
             given: 0,
         }
@@ -61,7 +61,7 @@ impl Stream {
     pub fn is_ended(&self) -> bool
         ensures { IsTrue result ↔ (self.now ≡ []) }
     {
-        self.given == self.made.len() && self.left.is_ended()
+        self.given == self.made.len() && self.remaining.is_ended()
     }
 
     /// Appends the next piece of the update, of at most 8,192 bytes; nothing where all of it was given. The pieces one after
@@ -74,11 +74,11 @@ impl Stream {
         ensures kept { OnErr result (self.new ≡ self.old) }
     {
         if self.given >= self.made.len() {
-            if self.left.put_run(out)? {
+            if self.remaining.put_run(out)? {
                 return Ok(());
             }
             self.given = 0;
-            make_part(&mut self.made, &mut self.left)?;
+            make_part(&mut self.made, &mut self.remaining)?;
         }
         let end = self.made.len().min(self.given.saturating_add(PIECE));
         out.extend_from_slice(&self.made[self.given..end])?;

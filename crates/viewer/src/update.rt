@@ -4,11 +4,11 @@ ghost use Rattle.std.specs.Prelude.{◌≡◌, ◌+◌, ◌<◌, ◌++◌, All, 
 ghost use Rattle.messages.specs.Server.{update_head};
 ghost use Rattle.viewer.specs.Short.{IsShort};
 ghost use Rattle.viewer.specs.Sending.{map_bytes, size_bytes};
-ghost use Rattle.viewer.specs.Updates.{moved_bytes, rectangles_bytes, part_bytes, all_bytes};
+ghost use Rattle.viewer.specs.Updates.{copy_rect_bytes, rectangles_bytes, part_bytes, all_bytes};
 
-use crate::left::{Reached, UpdateLeft, is_nothing_left, put_next};
 use crate::notices::{Notice, put_notices};
-use crate::parts::{Coloured, Moved, Part, Rectangles};
+use crate::parts::{Coloured, CopyRect, Part, Rectangles};
+use crate::remaining::{Reached, RemainingUpdate, is_nothing_left, put_next};
 use crate::sizes::Size;
 use crate::stream::Stream;
 use encode_raw::{encode_copy, rect_header};
@@ -41,11 +41,11 @@ impl Model for Update {
 }
 
 /// Appends copies.
-fn put_moves(out: &mut Vec<u8>, moves: &[Moved]) -> Result<(), AllocError>
-    ensures { OnOk result (out.new.items ≡ out.old.items ++ flat_map moved_bytes moves.now) }
+fn put_copy_rects(out: &mut Vec<u8>, copy_rects: &[CopyRect]) -> Result<(), AllocError>
+    ensures { OnOk result (out.new.items ≡ out.old.items ++ flat_map copy_rect_bytes copy_rects.now) }
 {
-    for moved in moves {
-        encode_copy(out, moved.area, moved.src_x, moved.src_y)?;
+    for copy_rect in copy_rects {
+        encode_copy(out, copy_rect.area, copy_rect.src_x, copy_rect.src_y)?;
     }
     Ok(())
 }
@@ -63,12 +63,12 @@ fn size_of(rectangles: &[Coloured]) -> usize {
 /// Appends the head of a FramebufferUpdate, and its copies.
 pub fn put_opening(out: &mut Vec<u8>, rectangles: &Rectangles) -> Result<(), AllocError>
     ensures { OnOk result (out.new.items ≡
-        out.old.items ++ (update_head (length rectangles.now.moves.items + length rectangles.now.coloured.items) ++
-        flat_map moved_bytes rectangles.now.moves.items)) }
+        out.old.items ++ (update_head (length rectangles.now.copy_rects.items + length rectangles.now.coloured.items) ++
+        flat_map copy_rect_bytes rectangles.now.copy_rects.items)) }
 {
-    let count = rectangles.moves.len() + rectangles.coloured.len();
+    let count = rectangles.copy_rects.len() + rectangles.coloured.len();
     put_update_head(out, count as u16)?;
-    put_moves(out, &rectangles.moves)
+    put_copy_rects(out, &rectangles.copy_rects)
 }
 
 /// Appends a FramebufferUpdate, one part after the other. The room for all of it in Raw is made at once.
@@ -80,7 +80,9 @@ fn put_rectangles(
     ensures { OnOk result (out.new.items ≡ out.old.items ++ rectangles_bytes rectangles.now) }
 {
     if rectangles.encoding == Encoding::Raw {
-        out.reserve(size_of(&rectangles.coloured).saturating_add(4 + 16 * rectangles.moves.len()))?;
+        out.reserve(size_of(&rectangles.coloured).saturating_add(
+            4 + 16 * rectangles.copy_rects.len(),
+        ))?;
     }
     let mut reached = Reached::Nothing;
     'parts: while !is_nothing_left(rectangles, reached) {
@@ -156,7 +158,7 @@ impl Update {
     pub fn into_stream(self) -> Stream
         ensures { result ≡ self }
     {
-        let left = UpdateLeft::new(self.alloc, self.map_owed, self.notices, self.part);
-        Stream::new(self.alloc, left)
+        let remaining = RemainingUpdate::new(self.alloc, self.map_owed, self.notices, self.part);
+        Stream::new(self.alloc, remaining)
     }
 }

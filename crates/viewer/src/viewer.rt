@@ -15,11 +15,11 @@ ghost use Rattle.region.specs.Places.{longest_side};
 
 use crate::HeardPiece;
 use crate::cutting::{PreparedUpdate, commit_in, prepare_in};
-use crate::hearing::{hear_in, is_pending, new_standing};
+use crate::hearing::{hear_in, is_pending, new_state};
 use crate::notices::Notice;
 use crate::sizes::{Size, view_by, whole};
-use crate::standing::Standing;
 use crate::update::Update;
+use crate::viewer_state::ViewerState;
 use copy_schedule::{LogEntry, Prepared, joined_log};
 use framebuffer::Framebuffer;
 use messages::Fault;
@@ -31,7 +31,7 @@ use std::marker::Model;
 #[derive(Drop)]
 pub struct Viewer {
     alloc: Global,
-    standing: Standing,
+    state: ViewerState,
 }
 
 impl Model for Viewer {
@@ -39,9 +39,9 @@ impl Model for Viewer {
 
     ghost Value = { KeptViewer };
 
-    ghost use Rattle.viewer.specs.Standings.{viewer_in};
+    ghost use Rattle.viewer.specs.ViewerStates.{viewer_in};
 
-    ghost view = { λ a. viewer_in a.standing };
+    ghost view = { λ a. viewer_in a.state };
 }
 
 impl Viewer {
@@ -54,8 +54,8 @@ impl Viewer {
         requires rows { height ≤ longest_side }
         ensures { IfOk result (λ viewer. viewer ≡ kept_viewer (new_viewer width height)) }
     {
-        let standing = new_standing(alloc, width, height)?;
-        Ok(Viewer { alloc, standing })
+        let state = new_state(alloc, width, height)?;
+        Ok(Viewer { alloc, state })
     }
 
     /// The viewer is told of the drawing that stands in a log, the first entry's first, and then a piece of its bytes is heard
@@ -80,7 +80,7 @@ impl Viewer {
         ensures height { self.new.marks.height ≡ self.old.marks.height }
         ensures err { OnErr result (self.new ≡ self.old) }
     {
-        hear_in(self.alloc, &mut self.standing, log, name, piece)
+        hear_in(self.alloc, &mut self.state, log, name, piece)
     }
 
     /// Whether an update would have something to send (`FB_UPDATE_PENDING` of `rfb.h`, the colour map, the notices, and a size), if it
@@ -89,7 +89,7 @@ impl Viewer {
         ensures { result ≡ (is_open_rest self.now.heard && (self.now.map_owed || (not (none_wait self.now.notices) ||
             (tells_size self.now.marks.width self.now.marks.height self.now || pending (viewer_told log.now self.now).marks)))) }
     {
-        is_pending(&self.standing, log)
+        is_pending(&self.state, log)
     }
 
     /// Whether it asked for places since an update of places, or of a size, was cut for it: a FramebufferUpdateRequest (RFC 6143,
@@ -97,14 +97,14 @@ impl Viewer {
     pub fn is_asking(&self) -> bool
         ensures { result ≡ is_asking self.now }
     {
-        self.standing.marks.has_asked()
+        self.state.marks.has_asked()
     }
 
     /// Why the viewer is heard no further, if a fault was met.
     pub fn fault(&self) -> Option<Fault>
         ensures { result ≡ fault_in_rest self.now.heard }
     {
-        self.standing.ear.fault()
+        self.state.ear.fault()
     }
 
     /// Cuts an update of the picture for the viewer, with at most so many copies and so many rectangles of colours; None where
@@ -152,7 +152,7 @@ impl Viewer {
         ensures width { IfOk result (λ prepared. (after_prepared self.now prepared).marks.width ≡ self.now.marks.width) }
         ensures height { IfOk result (λ prepared. (after_prepared self.now prepared).marks.height ≡ self.now.marks.height) }
     {
-        prepare_in(self.alloc, picture, limit, &self.standing)
+        prepare_in(self.alloc, picture, limit, &self.state)
     }
 
     /// Cuts the update that was prepared. This takes no memory.
@@ -160,21 +160,21 @@ impl Viewer {
         ensures update { result ≡ prepared_bytes (Some prepared) }
         ensures viewer { self.new ≡ after_prepared self.old (Some prepared) }
     {
-        commit_in(&mut self.standing, prepared)
+        commit_in(&mut self.state, prepared)
     }
 
     /// Whether the viewer had its ServerInit (RFC 6143, 7.3.2) and met no fault.
     pub fn is_open(&self) -> bool
         ensures { result ≡ is_open_rest self.now.heard }
     {
-        self.standing.ear.is_open()
+        self.state.ear.is_open()
     }
 
     /// Whether the viewer would keep a notice now.
     pub fn keeps_notices(&self) -> bool
         ensures { result ≡ keeps_notices self.now }
     {
-        self.standing.ear.is_open() && self.standing.notices.has_room()
+        self.state.ear.is_open() && self.state.notices.has_room()
     }
 
     /// The viewer keeps a notice for its next update, where it is open and fewer than 64 wait. This takes no memory.
@@ -182,8 +182,8 @@ impl Viewer {
         requires { IsShort notice }
         ensures { self.new ≡ noticed notice (is_open_rest self.old.heard) self.old }
     {
-        if self.standing.ear.is_open() {
-            self.standing.notices.keep(notice);
+        if self.state.ear.is_open() {
+            self.state.notices.keep(notice);
         }
     }
 
@@ -194,14 +194,14 @@ impl Viewer {
             logged self.now.uses_copyrect joined.items m ≡ logged self.now.uses_copyrect log.now m) }
         ensures cut { IfOk result (λ joined. (w h : ℕ) → All (IsCutEntry w h) log.now → All (IsCutEntry w h) joined.items) }
     {
-        joined_log(self.alloc, log, self.standing.uses_copyrect)
+        joined_log(self.alloc, log, self.state.uses_copyrect)
     }
 
     /// Whether the viewer uses CopyRect (RFC 6143, 7.7.2).
     pub fn uses_copyrect(&self) -> bool
         ensures { result ≡ self.now.uses_copyrect }
     {
-        self.standing.uses_copyrect
+        self.state.uses_copyrect
     }
 
     /// The marks as they are once the drawing is known that stands in a log, the first entry's first; `commit` puts them in
@@ -211,8 +211,8 @@ impl Viewer {
         requires cut { All (IsCutEntry self.now.marks.width self.now.marks.height) entries.now }
         ensures { IfOk result (λ prepared. prepared ≡ logged self.now.uses_copyrect entries.now self.now.marks) }
     {
-        let standing = &self.standing;
-        standing.marks.prepare_log(entries, standing.uses_copyrect)
+        let state = &self.state;
+        state.marks.prepare_log(entries, state.uses_copyrect)
     }
 
     /// The marks as they are once the screen has another size, 1 to 8192 columns and rows: every place is owed, and of the places
@@ -223,8 +223,8 @@ impl Viewer {
         requires rows { height ≤ longest_side }
         ensures { IfOk result (λ prepared. prepared ≡ (viewer_resized width height self.now).marks) }
     {
-        let view = view_by(Size { width, height }, self.standing.told);
-        self.standing
+        let view = view_by(Size { width, height }, self.state.told);
+        self.state
             .marks
             .prepare_resize(u32::from(width), u32::from(height), whole(view))
     }
@@ -233,6 +233,6 @@ impl Viewer {
     pub fn commit(&mut self, prepared: Prepared)
         ensures { self.new ≡ record self.old { marks = prepared } }
     {
-        self.standing.marks.commit(prepared);
+        self.state.marks.commit(prepared);
     }
 }

@@ -16,9 +16,9 @@ use Rattle.messages.specs.Reading.{is_open_rest}
 use Rattle.viewer.specs.Viewer.{KeptViewer, none_wait}
 use Rattle.viewer.specs.Sending.{is_size_owed, tells_size}
 use Rattle.viewer_list.specs.declared.lagging.Lagging.{Lagging}
-use Rattle.viewer_list.specs.declared.lagging.Shared.{Shared}
+use Rattle.viewer_list.specs.declared.lagging.CatchUp.{CatchUp}
 use Rattle.viewer.specs.Told.{viewer_told, told_unless}
-use Rattle.viewer_list.specs.Lagging.{waiting, caught_up, up_to_date, moved_where_known, brought_up, within_end, IsCurrent, Fits, IsShared, IsFor, IsMark, IsJoined}
+use Rattle.viewer_list.specs.Lagging.{waiting, caught_up, up_to_date, moved_where_known, brought_up, within_end, IsCurrent, Fits, IsCatchUp, IsFor, IsMark, IsJoined}
 use Rattle.viewer_list.specs.Viewers.{drawn, is_pending}
 
 -- what drawing leaves of marks
@@ -248,12 +248,12 @@ drawn_fits log e l fits cut = record {
 
 -- What is shared.
 
-pub shared_is_cut : (log : List LogEntry) (l : Lagging) (s : Shared) → Fits log l → IsShared log s → IsFor l s → All (IsCutEntry l.viewer.marks.width l.viewer.marks.height) s.entries.items
+pub shared_is_cut : (log : List LogEntry) (l : Lagging) (s : CatchUp) → Fits log l → IsCatchUp log s → IsFor l s → All (IsCutEntry l.viewer.marks.width l.viewer.marks.height) s.entries.items
 shared_is_cut log l s fits shared own =
     shared.cut l.viewer.marks.width l.viewer.marks.height (subst (λ (n : ℕ). All (IsCutEntry l.viewer.marks.width l.viewer.marks.height) (drop n log)) (sym own.taken) fits.cut)
 
 -- a viewer that takes it lacks nothing
-pub shared_taken : (log : List LogEntry) (l now : Lagging) (s : Shared) → IsShared log s → IsFor l s → now ≡ record { viewer = viewer_told s.entries.items l.viewer; taken = length log } → now ≡ up_to_date log l
+pub shared_taken : (log : List LogEntry) (l now : Lagging) (s : CatchUp) → IsCatchUp log s → IsFor l s → now ≡ record { viewer = viewer_told s.entries.items l.viewer; taken = length log } → now ≡ up_to_date log l
 shared_taken log l now s shared own is =
     is ∙ ap (λ (m : Marks). record { viewer = record l.viewer { marks = m }; taken = length log })
     (ap (λ (u : Bool). logged u s.entries.items l.viewer.marks) (sym own.uses_copyrect)

@@ -11,7 +11,7 @@ use Rattle.viewer.specs.Viewer.{KeptViewer, viewer_resized}
 use Rattle.viewer.specs.declared.notices.Notice.{Notice}
 use Rattle.viewer_list.specs.Viewers.{viewer_noticed}
 use Rattle.viewer_list.specs.declared.lagging.Lagging.{Lagging}
-use Rattle.viewer_list.specs.declared.lagging.Shared.{Shared}
+use Rattle.viewer_list.specs.declared.lagging.CatchUp.{CatchUp}
 
 -- the entries that a viewer's marks lack: the log's, but for the first ones, which they have taken
 abbrev pub waiting : List LogEntry → Lagging → List LogEntry
@@ -73,12 +73,12 @@ pub record AllFit (log : List LogEntry) (joined : ℕ) (pairs : List (ℕ × Lag
   pub each : All (Fits log) (values_of pairs)
 
 -- entries that make of a viewer's marks what the log's from a position on make of them, where it uses CopyRect alike
-pub record IsShared (log : List LogEntry) (s : Shared) : Type 0 where
+pub record IsCatchUp (log : List LogEntry) (s : CatchUp) : Type 0 where
   pub same : (m : Marks) → logged s.uses_copyrect s.entries.items m ≡ logged s.uses_copyrect (drop s.taken log) m
   pub cut : (w h : ℕ) → All (IsCutEntry w h) (drop s.taken log) → All (IsCutEntry w h) s.entries.items
 
 -- it is such a viewer
-pub record IsFor (l : Lagging) (s : Shared) : Type 0 where
+pub record IsFor (l : Lagging) (s : CatchUp) : Type 0 where
   pub taken : s.taken ≡ l.taken
   pub uses_copyrect : s.uses_copyrect ≡ l.viewer.uses_copyrect
 

@@ -11,7 +11,7 @@ ghost use Rattle.copy_schedule.specs.Log.{IsCutEntry};
 ghost use Rattle.viewer.specs.Viewer.{is_asking};
 ghost use Rattle.viewer.specs.Told.{viewer_told};
 ghost use Rattle.viewer_list.specs.Viewers.{is_pending};
-ghost use Rattle.viewer_list.specs.Lagging.{waiting, caught_up, up_to_date, moved_where_known, IsCurrent, Fits, IsShared, IsFor};
+ghost use Rattle.viewer_list.specs.Lagging.{waiting, caught_up, up_to_date, moved_where_known, IsCurrent, Fits, IsCatchUp, IsFor};
 
 use framebuffer::Framebuffer;
 use std::alloc::{AllocError, Global};
@@ -41,17 +41,17 @@ pub fn lags(log: &[LogEntry], lagging: &Lagging) -> bool
 
 /// What a viewer lacks of a log, in fewer entries: the same for each that has the same position and uses CopyRect as it does.
 #[derive(Drop)]
-pub struct Shared {
+pub struct CatchUp {
     taken: usize,
     uses_copyrect: bool,
     entries: Vec<LogEntry>,
 }
 
 /// What nobody lacks.
-pub fn nothing_shared(alloc: Global, log: &[LogEntry]) -> Shared
-    ensures { IsShared log.now result }
+pub fn nothing_shared(alloc: Global, log: &[LogEntry]) -> CatchUp
+    ensures { IsCatchUp log.now result }
 {
-    Shared {
+    CatchUp {
         taken: log.len(),
         uses_copyrect: false,
         entries: Vec::new(alloc),
@@ -59,26 +59,26 @@ pub fn nothing_shared(alloc: Global, log: &[LogEntry]) -> Shared
 }
 
 /// What a viewer lacks.
-fn shared_for(log: &[LogEntry], lagging: &Lagging) -> Result<Shared, AllocError>
+fn shared_for(log: &[LogEntry], lagging: &Lagging) -> Result<CatchUp, AllocError>
     requires { Fits log.now lagging.now }
-    ensures shared { IfOk result (IsShared log.now) }
+    ensures shared { IfOk result (IsCatchUp log.now) }
     ensures own { IfOk result (IsFor lagging.now) }
 {
-    Ok(Shared {
+    Ok(CatchUp {
         taken: lagging.taken,
         uses_copyrect: lagging.viewer.uses_copyrect(),
         entries: lagging.viewer.joined_log(lacked(log, lagging))?,
     })
 }
 
-fn is_for(shared: &Shared, lagging: &Lagging) -> bool
+fn is_for(shared: &CatchUp, lagging: &Lagging) -> bool
     ensures { result ≡ true → IsFor lagging.now shared.now }
 {
     shared.taken == lagging.taken && shared.uses_copyrect == lagging.viewer.uses_copyrect()
 }
 
 /// The viewer's marks take the entries, and lack nothing then. After an `AllocError` they are as they were.
-fn take(log: &[LogEntry], shared: &Shared, lagging: &mut Lagging) -> Result<(), AllocError>
+fn take(log: &[LogEntry], shared: &CatchUp, lagging: &mut Lagging) -> Result<(), AllocError>
     requires cut { All (IsCutEntry lagging.old.viewer.marks.width lagging.old.viewer.marks.height) shared.now.entries.items }
     ensures ok { OnOk result (lagging.new ≡
         record { viewer = viewer_told shared.now.entries.items lagging.old.viewer; taken = length log.now }) }
@@ -91,10 +91,10 @@ fn take(log: &[LogEntry], shared: &Shared, lagging: &mut Lagging) -> Result<(), 
 }
 
 /// What is shared is what a viewer lacks from now on. After an `AllocError` it is what it was.
-fn share(log: &[LogEntry], shared: &mut Shared, lagging: &Lagging) -> Result<(), AllocError>
+fn share(log: &[LogEntry], shared: &mut CatchUp, lagging: &Lagging) -> Result<(), AllocError>
     requires fits { Fits log.now lagging.now }
-    requires shared { IsShared log.now shared.old }
-    ensures shared { IsShared log.now shared.new }
+    requires shared { IsCatchUp log.now shared.old }
+    ensures shared { IsCatchUp log.now shared.new }
     ensures own { OnOk result (IsFor lagging.now shared.new) }
 {
     if is_for(shared, lagging) {
@@ -108,14 +108,14 @@ fn share(log: &[LogEntry], shared: &mut Shared, lagging: &Lagging) -> Result<(),
 /// lack it still.
 pub fn catch_up_sharing(
     log: &[LogEntry],
-    shared: &mut Shared,
+    shared: &mut CatchUp,
     lagging: &mut Lagging,
 ) -> Result<(), AllocError>
     requires fits { Fits log.now lagging.old }
-    requires shared { IsShared log.now shared.old }
+    requires shared { IsCatchUp log.now shared.old }
     ensures ok { OnOk result (lagging.new ≡ up_to_date log.now lagging.old) }
     ensures err { OnErr result (lagging.new ≡ lagging.old) }
-    ensures shared { IsShared log.now shared.new }
+    ensures shared { IsCatchUp log.now shared.new }
 {
     if lags(log, lagging) {
         share(log, shared, lagging)?;

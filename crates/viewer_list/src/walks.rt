@@ -3,10 +3,10 @@
 ghost use Rattle.std.specs.Prelude.{◌≡◌, ◌≤◌, max, All, false, OnOk, OnErr};
 ghost use Rattle.std.specs.Map.{values_of};
 ghost use Rattle.client_list.specs.Connected.{changed};
-ghost use Rattle.viewer_list.specs.Lagging.{brought_up, within_end, seen, IsCurrent, Fits, IsShared};
+ghost use Rattle.viewer_list.specs.Lagging.{brought_up, within_end, seen, IsCurrent, Fits, IsCatchUp};
 ghost use Rattle.viewer_list.specs.Lagging.{position_within, last_position};
 
-use crate::lagging::{Lagging, Shared, catch_up_sharing, lags, nothing_shared};
+use crate::lagging::{CatchUp, Lagging, catch_up_sharing, lags, nothing_shared};
 use client_list::Clients;
 use std::alloc::{AllocError, Global};
 use viewer::LogEntry;
@@ -15,14 +15,14 @@ use viewer::LogEntry;
 fn bring_up(
     log: &[LogEntry],
     least: usize,
-    shared: &mut Shared,
+    shared: &mut CatchUp,
     lagging: &mut Lagging,
 ) -> Result<(), AllocError>
     requires fits { Fits log.now lagging.old }
-    requires shared { IsShared log.now shared.old }
+    requires shared { IsCatchUp log.now shared.old }
     ensures ok { OnOk result (lagging.new ≡ brought_up log.now least lagging.old) }
     ensures err { OnErr result (lagging.new ≡ lagging.old) }
-    ensures shared { IsShared log.now shared.new }
+    ensures shared { IsCatchUp log.now shared.new }
 {
     if lagging.taken < least {
         return Ok(());

@@ -9,15 +9,15 @@ use Rattle.viewer.specs.Sending.{map_bytes, notice_bytes}
 use Rattle.viewer.specs.Updates.{part_bytes}
 use Rattle.viewer.proofs.SentLemmas.{some_map, some_behind, some_rest}
 use Rattle.viewer.proofs.cutting.prepare_in.Goals as goal
-use Rattle.viewer.proofs.cutting.prepare_in.Goals.{else-is_nothing-via-then-is_nothing+then-is_empty+else-not-standing, else-is_nothing-via-then-is_nothing+else-is_empty, else-is_nothing-via-else-is_nothing}
+use Rattle.viewer.proofs.cutting.prepare_in.Goals.{else-is_nothing-via-then-is_nothing+then-is_empty+else-not-state, else-is_nothing-via-then-is_nothing+else-is_empty, else-is_nothing-via-else-is_nothing}
 
 pub returns-clause-some : goal.returns-clause-some
 returns-clause-some c = λ e.
     let notices = c.in_ok-notices.notices.items in
     let rest = part_bytes c.in_ok-part.field-0.part in
-    let owed = c.args.standing.now.map_owed in
+    let owed = c.args.state.now.map_owed in
     elim c.else-is_nothing.branch [
-      | else-is_nothing-via-then-is_nothing+then-is_empty+else-not-standing w ↦ some_map owed notices rest w.if-not-standing.false (sym c.new-update.ensures ∙ e)
+      | else-is_nothing-via-then-is_nothing+then-is_empty+else-not-state w ↦ some_map owed notices rest w.if-not-state.false (sym c.new-update.ensures ∙ e)
       | else-is_nothing-via-then-is_nothing+else-is_empty w ↦ some_behind owed notices rest (λ none. never (sym w.if-is_empty.ensures) (sym c.in_ok-notices.ensures.items ∙ none)) (sym c.new-update.ensures ∙ e)
       | else-is_nothing-via-else-is_nothing w ↦ some_rest (map_bytes owed ++ flat_map notice_bytes notices) rest (some_of c.in_ok-part.field-0.part c.in_ok-part.ensures.some (λ none. let is = w.if-is_nothing.ensures.1 none in cc)) (sym c.new-update.ensures ∙ e)
     ]

@@ -4,37 +4,37 @@ use Rattle.messages.specs.Reading.{Rest, rest, new_items}
 use Rattle.viewer.specs.Viewer.{KeptViewer}
 use Rattle.std.specs.List.{filter_map}
 use Rattle.viewer.specs.Hearing.{input_of, after_items}
-use Rattle.viewer.specs.Standings.{viewer_in}
+use Rattle.viewer.specs.ViewerStates.{viewer_in}
 use Rattle.viewer.specs.Told.{viewer_told}
 use Rattle.viewer.proofs.HearingLemmas.{items-size, logged-size, items-heard, told-heard, told-size, reply-so}
 use Rattle.viewer.proofs.hearing.hear_in.Goals as goal
 
 pub returns-clause-viewer : goal.returns-clause-viewer
 returns-clause-viewer c = λ before h.
-    let v : KeptViewer = viewer_told c.args.log.now (viewer_in c.args.standing.now) in
+    let v : KeptViewer = viewer_told c.args.log.now (viewer_in c.args.state.now) in
     let items : List Item = c.deref-2.result.now in
     let heard_items : items ≡ new_items before c.args.piece.now = c.deref-2.ensures.value ∙ c.into_vec-items.ensures ∙ c.in_ok-heard.ensures.items before h in
-    let ear : c.take_items.new.standing.ear ≡ c.args.standing.now.ear = c.take_items.ensures.ear in
+    let ear : c.take_items.new.state.ear ≡ c.args.state.now.ear = c.take_items.ensures.ear in
     let becomes : c.commit.new.self ≡ rest (before ++ c.args.piece.now) = rw ear at c.commit.ensures ∙ c.in_ok-heard.ensures.rest before h in
-    told-heard c.in_ok-knows_log.knows_log c.args.log.now (viewer_in c.take_items.new.standing) c.commit.new.self
+    told-heard c.in_ok-knows_log.knows_log c.args.log.now (viewer_in c.take_items.new.state) c.commit.new.self
     ∙ ap (λ (x : KeptViewer). record x { heard = c.commit.new.self }) (c.in_ok-knows_log.ensures.ok)
-    ∙ sym (items-heard c.args.standing.now.marks.width c.args.standing.now.marks.height items v c.commit.new.self)
-    ∙ ap (λ (r : Rest). after_items c.args.standing.now.marks.width c.args.standing.now.marks.height items (record v { heard = r })) becomes
-    ∙ ap (λ (is : List Item). after_items c.args.standing.now.marks.width c.args.standing.now.marks.height is (record v { heard = rest (before ++ c.args.piece.now) })) heard_items
+    ∙ sym (items-heard c.args.state.now.marks.width c.args.state.now.marks.height items v c.commit.new.self)
+    ∙ ap (λ (r : Rest). after_items c.args.state.now.marks.width c.args.state.now.marks.height items (record v { heard = r })) becomes
+    ∙ ap (λ (is : List Item). after_items c.args.state.now.marks.width c.args.state.now.marks.height is (record v { heard = rest (before ++ c.args.piece.now) })) heard_items
 
 pub returns-clause-width : goal.returns-clause-width
 returns-clause-width c =
-    let v : KeptViewer = viewer_told c.args.log.now (viewer_in c.args.standing.now) in
-    sym (told-size c.in_ok-knows_log.knows_log c.args.log.now (viewer_in c.take_items.new.standing)).0
+    let v : KeptViewer = viewer_told c.args.log.now (viewer_in c.args.state.now) in
+    sym (told-size c.in_ok-knows_log.knows_log c.args.log.now (viewer_in c.take_items.new.state)).0
     ∙ ap (λ (x : KeptViewer). x.marks.width) (c.in_ok-knows_log.ensures.ok)
-    ∙ (items-size {B = Rest} c.args.standing.now.marks.width c.args.standing.now.marks.height c.deref-2.result.now v).0 ∙ (logged-size c.args.standing.now.uses_copyrect c.args.log.now c.args.standing.now.marks).0
+    ∙ (items-size {B = Rest} c.args.state.now.marks.width c.args.state.now.marks.height c.deref-2.result.now v).0 ∙ (logged-size c.args.state.now.uses_copyrect c.args.log.now c.args.state.now.marks).0
 
 pub returns-clause-height : goal.returns-clause-height
 returns-clause-height c =
-    let v : KeptViewer = viewer_told c.args.log.now (viewer_in c.args.standing.now) in
-    sym (told-size c.in_ok-knows_log.knows_log c.args.log.now (viewer_in c.take_items.new.standing)).1
+    let v : KeptViewer = viewer_told c.args.log.now (viewer_in c.args.state.now) in
+    sym (told-size c.in_ok-knows_log.knows_log c.args.log.now (viewer_in c.take_items.new.state)).1
     ∙ ap (λ (x : KeptViewer). x.marks.height) (c.in_ok-knows_log.ensures.ok)
-    ∙ (items-size {B = Rest} c.args.standing.now.marks.width c.args.standing.now.marks.height c.deref-2.result.now v).1 ∙ (logged-size c.args.standing.now.uses_copyrect c.args.log.now c.args.standing.now.marks).1
+    ∙ (items-size {B = Rest} c.args.state.now.marks.width c.args.state.now.marks.height c.deref-2.result.now v).1 ∙ (logged-size c.args.state.now.uses_copyrect c.args.log.now c.args.state.now.marks).1
 
 pub returns-clause-reply : goal.returns-clause-reply
 returns-clause-reply c = λ before h.

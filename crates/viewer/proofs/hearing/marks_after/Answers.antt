@@ -5,6 +5,6 @@ use Rattle.viewer.proofs.hearing.marks_after.Goals as goal
 
 pub prepare_log-requires-2 : goal.prepare_log-requires-2
 prepare_log-requires-2 c = record {
-  cut = subst (All (IsCutEntry c.args.standing.now.marks.width c.args.standing.now.marks.height)) (sym c.deref.ensures.value)
-      (c.in_ok-joined.ensures.cut c.args.standing.now.marks.width c.args.standing.now.marks.height c.requires.cut);
+  cut = subst (All (IsCutEntry c.args.state.now.marks.width c.args.state.now.marks.height)) (sym c.deref.ensures.value)
+      (c.in_ok-joined.ensures.cut c.args.state.now.marks.width c.args.state.now.marks.height c.requires.cut);
 }

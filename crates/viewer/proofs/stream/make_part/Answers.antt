@@ -1,5 +1,5 @@
 use Rattle.std.proofs.Common.{arith}
-use Rattle.viewer.proofs.LeftLemmas.{on_ok}
+use Rattle.viewer.proofs.RemainingLemmas.{on_ok}
 use Rattle.viewer.proofs.stream.make_part.Goals as goal
 
 pub returns-else-is_err-clause-more : goal.returns-else-is_err-clause-more

@@ -1,6 +1,6 @@
 use Rattle.std.proofs.Common.{◌≡◌, [], ℕ, List, length, ap, arith}
 use Rattle.std.proofs.lemmas.List.{length-append}
-use Rattle.viewer.specs.Left.{left_of}
+use Rattle.viewer.specs.Remaining.{left_of}
 use Rattle.viewer.proofs.update.put_rectangles.Goals as goal
 
 pub parts-smaller : goal.parts-smaller

@@ -1,5 +1,5 @@
 use Rattle.std.proofs.Common.{◌≡◌, ◌++◌, length}
-use Rattle.viewer.specs.Left.{left_of, IsWithin}
+use Rattle.viewer.specs.Remaining.{left_of, IsWithin}
 use Rattle.viewer.specs.Updates.{rectangles_bytes}
 use Rattle.viewer.proofs.update.put_rectangles.Given as goal
 

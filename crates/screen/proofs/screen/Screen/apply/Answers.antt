@@ -6,7 +6,6 @@ use Rattle.scene.specs.declared.Answer.{Answer}
 use Rattle.scene.specs.Refusals.{refusal}
 use Rattle.scene.specs.Answers.{answer_to}
 use Rattle.scene.specs.History.{has_happened}
-use Rattle.screen.specs.Kept.{items_of}
 use Rattle.screen.proofs.GoesOn.{goes_on, stays, scene-is, refused-unhappened, check-failed, check-passed, answers-memory}
 use Rattle.screen.proofs.screen.Screen.apply.Goals as goal
 
@@ -17,7 +16,7 @@ on-ok (Err e) f h = tt
 pub returns-then-is_err-clause-step : goal.returns-then-is_err-clause-step
 returns-then-is_err-clause-step c = λ config list h.
     let event = c.args.event.now in
-    let was = items_of c.self.inside.events.events in
+    let was = c.self.inside.events.events.items in
     let is = c.self.view_is ∙ h in
     let scene = scene-is c.self.inside.scene was config list is in
     let found : is_none (refusal c.self.inside.scene event) ≡ false = check-failed c.check.result (refusal c.self.inside.scene event) c.check.ensures (sym (c.if-is_err.ensures).value) in
@@ -30,7 +29,7 @@ returns-then-is_err-clause-step c = λ config list h.
 pub returns-in_err-make_room_for-clause-answer : goal.returns-in_err-make_room_for-clause-answer
 returns-in_err-make_room_for-clause-answer c = λ config list h.
     let event = c.args.event.now in
-    let scene = scene-is c.self.inside.scene (items_of c.self.inside.events.events) config list (c.self.view_is ∙ h) in
+    let scene = scene-is c.self.inside.scene c.self.inside.events.events.items config list (c.self.view_is ∙ h) in
     answers-memory _ c.from_residual-in_err-make_room_for.result (λ answer. answer ≡ answer_to config list event) (answer_to config list event).refused
     (c.refusals_are_due.ensures config list event ∙ sym (ap (λ s. refusal s event) scene) ∙ check-passed c.check.result (refusal c.self.inside.scene event) c.check.ensures (sym (c.if-is_err.ensures).value))
     c.from_residual-in_err-make_room_for.ensures.1
@@ -38,10 +37,10 @@ returns-in_err-make_room_for-clause-answer c = λ config list h.
 pub returns-then-not-has_happened-clause-step : goal.returns-then-not-has_happened-clause-step
 returns-then-not-has_happened-clause-step c = λ config list h.
     let event = c.args.event.now in
-    let was = items_of c.self.inside.events.events in
+    let was = c.self.inside.events.events.items in
     let is = c.self.view_is ∙ h in
     let scene = scene-is c.self.inside.scene was config list is in
-    stays config list event c.self.inside.scene c.apply-2.new.self was (items_of c.make_room_for.new.self.events) is
+    stays config list event c.self.inside.scene c.apply-2.new.self was c.make_room_for.new.self.events.items is
     (c.in_ok-answer.ensures.step config list scene)
     (ap (has_happened event) (sym (c.in_ok-answer.ensures.answer config list scene)) ∙ sym c.has_happened.ensures ∙ c.if-not-has_happened.true)
     c.in_ok-make_room_for.ensures.same
@@ -49,10 +48,10 @@ returns-then-not-has_happened-clause-step c = λ config list h.
 pub returns-clause-step : goal.returns-clause-step
 returns-clause-step c = λ config list h.
     let event = c.args.event.now in
-    let was = items_of c.self.inside.events.events in
+    let was = c.self.inside.events.events.items in
     let is = c.self.view_is ∙ h in
     let scene = scene-is c.self.inside.scene was config list is in
-    goes_on config list event c.in_ok-copy.copy c.self.inside.scene c.apply-2.new.self was (items_of c.push.new.self.events) is
+    goes_on config list event c.in_ok-copy.copy c.self.inside.scene c.apply-2.new.self was c.push.new.self.events.items is
     (c.in_ok-answer.ensures.step config list scene)
     (ap (has_happened event) (sym (c.in_ok-answer.ensures.answer config list scene)) ∙ sym c.has_happened.ensures ∙ c.if-not-has_happened.false)
     (c.push.ensures ∙ ap (option_map (λ (es : List Event). es ++ c.in_ok-copy.copy ∷ [])) c.in_ok-make_room_for.ensures.same)

@@ -6,7 +6,6 @@ use Rattle.scene.specs.declared.Answer.{Answer}
 use Rattle.scene.specs.Alone.{nothing_to_say}
 use Rattle.scene.specs.Refusals.{refusal}
 use Rattle.scene.specs.Answers.{answer_to}
-use Rattle.screen.specs.Kept.{items_of}
 use Rattle.screen.proofs.GoesOn.{goes_on, scene-is, tells-error, tells-memory}
 use Rattle.screen.proofs.screen.Screen.close.Goals as goal
 
@@ -14,10 +13,10 @@ pub returns-clause-step : goal.returns-clause-step
 returns-clause-step c = λ config list h.
     let event = Close c.args.number in
     let copy = Close c.args.number in
-    let was = items_of c.self.inside.events.events in
+    let was = c.self.inside.events.events.items in
     let is = c.self.view_is ∙ h in
     let scene = scene-is c.self.inside.scene was config list is in
-    goes_on config list event copy c.self.inside.scene c.close.new.self was (items_of c.push.new.self.events) is
+    goes_on config list event copy c.self.inside.scene c.close.new.self was c.push.new.self.events.items is
     (c.in_ok-close.ensures.step config list scene)
     (ap (λ (a : Answer). is_none a.refused) (sym (c.in_ok-close.ensures.answer config list scene)))
     (c.push.ensures ∙ ap (option_map (λ (es : List Event). es ++ copy ∷ [])) c.in_ok-make_room_for.ensures.same)
@@ -25,12 +24,12 @@ returns-clause-step c = λ config list h.
 
 pub returns-in_err-check_live-clause-answer : goal.returns-in_err-check_live-clause-answer
 returns-in_err-check_live-clause-answer c = λ config list h.
-    let scene = scene-is c.self.inside.scene (items_of c.self.inside.events.events) config list (c.self.view_is ∙ h) in
+    let scene = scene-is c.self.inside.scene c.self.inside.events.events.items config list (c.self.view_is ∙ h) in
     tells-error (λ _. nothing_to_say) c.from_residual.result (answer_to config list (Close c.args.number)) c.in_err-check_live.field-0.0
     (c.refusals_are_due.ensures config list (Close c.args.number) ∙ sym (ap (λ s. refusal s (Close c.args.number)) scene) ∙ c.in_err-check_live.ensures) c.from_residual.ensures.1
 
 pub returns-in_err-make_room_for-clause-answer : goal.returns-in_err-make_room_for-clause-answer
 returns-in_err-make_room_for-clause-answer c = λ config list h.
-    let scene = scene-is c.self.inside.scene (items_of c.self.inside.events.events) config list (c.self.view_is ∙ h) in
+    let scene = scene-is c.self.inside.scene c.self.inside.events.events.items config list (c.self.view_is ∙ h) in
     tells-memory (λ _. nothing_to_say) c.from_residual-in_err-make_room_for.result (answer_to config list (Close c.args.number))
     (c.refusals_are_due.ensures config list (Close c.args.number) ∙ sym (ap (λ s. refusal s (Close c.args.number)) scene) ∙ c.in_ok-check_live.ensures) c.from_residual-in_err-make_room_for.ensures.1

@@ -7,7 +7,6 @@ use Rattle.scene.specs.Alone.{gives}
 use Rattle.scene.specs.Refusals.{refusal}
 use Rattle.scene.specs.Answers.{answer_to}
 use Rattle.viewer.specs.Given.{bytes_given}
-use Rattle.screen.specs.Kept.{items_of}
 use Rattle.screen.proofs.GoesOn.{goes_on, stays, scene-is, cut-nothing, cut-something, tells-error, tells-memory}
 use Rattle.screen.proofs.screen.Screen.cut.Goals as goal
 
@@ -17,10 +16,10 @@ given update = gives (bytes_given update)
 pub returns-in_default-clause-step : goal.returns-in_default-clause-step
 returns-in_default-clause-step c = λ config list h.
     let event = Cut c.args.number in
-    let was = items_of c.self.inside.events.events in
+    let was = c.self.inside.events.events.items in
     let is = c.self.view_is ∙ h in
     let scene = scene-is c.self.inside.scene was config list is in
-    stays config list event c.self.inside.scene c.cut.new.self was (items_of c.make_room.new.self.events) is
+    stays config list event c.self.inside.scene c.cut.new.self was c.make_room.new.self.events.items is
     (c.in_ok-update.ensures.step config list scene)
     (cut-nothing given c.in_ok-update.field-0 c.args.number (answer_to config list event) (c.in_ok-update.ensures.answer config list scene) (ap given c.in_default.is))
     c.in_ok-make_room.ensures.same
@@ -28,11 +27,11 @@ returns-in_default-clause-step c = λ config list h.
 pub returns-clause-step : goal.returns-clause-step
 returns-clause-step c = λ config list h.
     let event = Cut c.args.number in
-    let was = items_of c.self.inside.events.events in
+    let was = c.self.inside.events.events.items in
     let is = c.self.view_is ∙ h in
     let scene = scene-is c.self.inside.scene was config list is in
     let some : c.in-Some.update ≢ [] = subst (λ (o : Option (List ℕ)). IfSome o (λ u. u ≢ [])) c.in-Some.is c.in_ok-update.ensures.some in
-    goes_on config list event event c.self.inside.scene c.cut.new.self was (items_of c.push.new.self.events) is
+    goes_on config list event event c.self.inside.scene c.cut.new.self was c.push.new.self.events.items is
     (c.in_ok-update.ensures.step config list scene)
     (cut-something given c.in_ok-update.field-0 c.args.number (answer_to config list event) c.in-Some.update (c.in_ok-update.ensures.answer config list scene) (ap given c.in-Some.is) some)
     (c.push.ensures ∙ ap (option_map (λ (es : List Event). es ++ event ∷ [])) c.in_ok-make_room.ensures.same)
@@ -40,12 +39,12 @@ returns-clause-step c = λ config list h.
 
 pub returns-in_err-check_live-clause-answer : goal.returns-in_err-check_live-clause-answer
 returns-in_err-check_live-clause-answer c = λ config list h.
-    let scene = scene-is c.self.inside.scene (items_of c.self.inside.events.events) config list (c.self.view_is ∙ h) in
+    let scene = scene-is c.self.inside.scene c.self.inside.events.events.items config list (c.self.view_is ∙ h) in
     tells-error given c.from_residual.result (answer_to config list (Cut c.args.number)) c.in_err-check_live.field-0.0
     (c.refusals_are_due.ensures config list (Cut c.args.number) ∙ sym (ap (λ s. refusal s (Cut c.args.number)) scene) ∙ c.in_err-check_live.ensures) c.from_residual.ensures.1
 
 pub returns-in_err-make_room-clause-answer : goal.returns-in_err-make_room-clause-answer
 returns-in_err-make_room-clause-answer c = λ config list h.
-    let scene = scene-is c.self.inside.scene (items_of c.self.inside.events.events) config list (c.self.view_is ∙ h) in
+    let scene = scene-is c.self.inside.scene c.self.inside.events.events.items config list (c.self.view_is ∙ h) in
     tells-memory given c.from_residual-in_err-make_room.result (answer_to config list (Cut c.args.number))
     (c.refusals_are_due.ensures config list (Cut c.args.number) ∙ sym (ap (λ s. refusal s (Cut c.args.number)) scene) ∙ c.in_ok-check_live.ensures) c.from_residual-in_err-make_room.ensures.1

@@ -8,5 +8,5 @@ returns-else-self-len c =
     let here = c.self.inside in
     let test = Decides-eqb here.given c.len.result in (
       λ e. absurd (c.if-self-len.false (test.0 e)),
-      λ none. absurd (c.if-self-len.false (omega (arith, c.self.invariant, here.made.ok.0, c.len.ensures, length-drop here.given here.made.items, length-append (drop here.given here.made.items) here.left, ap (λ (l : List ℕ). length l) (c.self.view_is ∙ none)))),
+      λ none. absurd (c.if-self-len.false (omega (arith, c.self.invariant, here.made.ok.0, c.len.ensures, length-drop here.given here.made.items, length-append (drop here.given here.made.items) here.remaining, ap (λ (l : List ℕ). length l) (c.self.view_is ∙ none)))),
     )

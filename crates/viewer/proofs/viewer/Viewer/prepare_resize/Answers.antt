@@ -1,14 +1,14 @@
 use Rattle.std.proofs.Common.{◌≡◌, ◌∙◌, ap}
 use Rattle.region.specs.Region.{in_rect, on_screen}
 use Rattle.viewer.specs.declared.sizes.Size.{Size}
-use Rattle.viewer.specs.Standings.{viewer_in}
+use Rattle.viewer.specs.ViewerStates.{viewer_in}
 use Rattle.viewer.specs.Viewer.{in_view}
 use Rattle.viewer.proofs.SentLemmas.{same_resized}
 use Rattle.viewer.proofs.viewer.Viewer.prepare_resize.Goals as goal
 
 pub returns : goal.returns
 returns c =
-    let view : in_rect c.whole.result ≡ in_view c.args.width c.args.height (viewer_in c.self.inside.standing) =
+    let view : in_rect c.whole.result ≡ in_view c.args.width c.args.height (viewer_in c.self.inside.state) =
     c.whole.ensures ∙ ap (λ (s : Size). on_screen s.width s.height) c.view_by-view.ensures in
-    rw (← c.self.view_is) (same_resized c.prepare_resize.result c.from.result c.args.width c.from-2.result c.args.height (in_rect c.whole.result) (in_view c.args.width c.args.height (viewer_in c.self.inside.standing)) c.self.inside.standing.marks
+    rw (← c.self.view_is) (same_resized c.prepare_resize.result c.from.result c.args.width c.from-2.result c.args.height (in_rect c.whole.result) (in_view c.args.width c.args.height (viewer_in c.self.inside.state)) c.self.inside.state.marks
     c.from.ensures c.from-2.ensures view c.prepare_resize.ensures)

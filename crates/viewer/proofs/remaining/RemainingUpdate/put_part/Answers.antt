@@ -1,9 +1,9 @@
 use Rattle.std.proofs.Common.{◌≤◌, ℕ, List, [], ◌++◌, length, ◌∙◌, ap, refl, sym, arith, append-nil}
-use Rattle.viewer.specs.declared.left.PartLeft.TheVariants.{Nothing}
-use Rattle.viewer.specs.UpdatesLeft.{part_left, update_left}
-use Rattle.viewer.proofs.LeftLemmas.{all_told, on_ok}
+use Rattle.viewer.specs.declared.remaining.RemainingPart.TheVariants.{Nothing}
+use Rattle.viewer.specs.RemainingUpdates.{remaining_part, remaining_update}
+use Rattle.viewer.proofs.RemainingLemmas.{all_told, on_ok}
 use Rattle.viewer.proofs.SentLemmas.{some_more}
-use Rattle.viewer.proofs.left.UpdateLeft.put_part.Goals as goal
+use Rattle.viewer.proofs.remaining.RemainingUpdate.put_part.Goals as goal
 
 pub returns-then-self-clause-more : goal.returns-then-self-clause-more
 returns-then-self-clause-more c = λ some. some_more c.args.out.now.items c.put_colour_map.new.out.items c.in_ok-put_colour_map.ensures.ok
@@ -12,14 +12,14 @@ pub returns-in_ok-put_size-in-NewSize-clause-bytes : goal.returns-in_ok-put_size
 returns-in_ok-put_size-in-NewSize-clause-bytes c =
     let here = c.self.inside in
     let over : length here.notices.items ≤ here.told = omega (arith, here.notices.ok.0, c.len.ensures, c.if-self-len.false) in
-    let rest = all_told here.map_owed here.notices.items here.told (part_left here.part) c.args.self.now c.if-self.false over c.self.view_is in
-    let none = all_told here.map_owed here.notices.items here.told [] (update_left here.map_owed here.notices.items here.told Nothing) c.if-self.false over refl in
+    let rest = all_told here.map_owed here.notices.items here.told (remaining_part here.part) c.args.self.now c.if-self.false over c.self.view_is in
+    let none = all_told here.map_owed here.notices.items here.told [] (remaining_update here.map_owed here.notices.items here.told Nothing) c.if-self.false over refl in
     ap (λ (l : List ℕ). c.put_size.new.out.items ++ l) (sym none) ∙ append-nil c.put_size.new.out.items ∙ c.in_ok-put_size-in-NewSize.ensures
-    ∙ ap (λ (l : List ℕ). c.args.out.now.items ++ l) (sym (ap part_left c.in-NewSize.is) ∙ rest)
+    ∙ ap (λ (l : List ℕ). c.args.out.now.items ++ l) (sym (ap remaining_part c.in-NewSize.is) ∙ rest)
 
 pub returns-in-Places-clause-more : goal.returns-in-Places-clause-more
 returns-in-Places-clause-more c =
     let here = c.self.inside in
     let over : length here.notices.items ≤ here.told = omega (arith, here.notices.ok.0, c.len.ensures, c.if-self-len.false) in
-    let rest = all_told here.map_owed here.notices.items here.told (part_left here.part) c.args.self.now c.if-self.false over c.self.view_is in
-    on_ok c.put_part.result _ _ c.put_part.ensures.more (λ f some. f (λ none. some (sym rest ∙ ap part_left c.in-Places.is ∙ none)))
+    let rest = all_told here.map_owed here.notices.items here.told (remaining_part here.part) c.args.self.now c.if-self.false over c.self.view_is in
+    on_ok c.put_part.result _ _ c.put_part.ensures.more (λ f some. f (λ none. some (sym rest ∙ ap remaining_part c.in-Places.is ∙ none)))

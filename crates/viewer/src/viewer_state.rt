@@ -12,7 +12,7 @@ use messages::{Ear, Encoding};
 
 /// What is kept of a viewer: of its bytes, what it asked for, its marks, and the notices that wait for it.
 #[derive(Drop)]
-pub struct Standing {
+pub struct ViewerState {
     pub ear: Ear,
     pub format: Translation,
     /// The colour map that its format needs has not been sent yet (RFC 6143, 7.6.2).
@@ -49,19 +49,19 @@ pub struct Draft {
 }
 
 /// The viewer's format is this one from now on, if there is one.
-pub fn put_format(standing: &mut Standing, format: Option<Translation>)
-    ensures { standing.new ≡ record standing.old { format = unwrap_or format standing.old.format } }
+pub fn put_format(state: &mut ViewerState, format: Option<Translation>)
+    ensures { state.new ≡ record state.old { format = unwrap_or format state.old.format } }
 {
     if let Some(format) = format {
-        standing.format = format;
+        state.format = format;
     }
 }
 
 /// The viewer's marks are these from now on, if there are any.
-pub fn put_marks(standing: &mut Standing, marks: Option<Marks>)
-    ensures { standing.new ≡ record standing.old { marks = marks_put standing.old.marks marks } }
+pub fn put_marks(state: &mut ViewerState, marks: Option<Marks>)
+    ensures { state.new ≡ record state.old { marks = marks_put state.old.marks marks } }
 {
     if let Some(marks) = marks {
-        standing.marks = marks;
+        state.marks = marks;
     }
 }

@@ -2,8 +2,8 @@ use Rattle.std.proofs.Common.{arith}
 use Rattle.pixel_translate.specs.Pixel.{colour_bytes}
 use Rattle.std.specs.List.{flat_map}
 use Rattle.viewer.proofs.RunLemmas.{run_on}
-use Rattle.viewer.proofs.LeftLemmas.{some_pixels, few_added, longer}
-use Rattle.viewer.proofs.left.go_on_in_raw.Goals as goal
+use Rattle.viewer.proofs.RemainingLemmas.{some_pixels, few_added, longer}
+use Rattle.viewer.proofs.remaining.go_on_in_raw.Goals as goal
 
 pub returns-then-goes_on-clause-bytes : goal.returns-then-goes_on-clause-bytes
 returns-then-goes_on-clause-bytes c =

@@ -2,7 +2,7 @@ use Rattle.std.proofs.Common.{◌+◌, ◌*◌, ℕ, List, ◌++◌, length, map
 use Rattle.pixel_translate.specs.Pixel.{pixel}
 use Rattle.encode_hextile.specs.Pieces.{hextile_from, no_data}
 use Rattle.viewer.proofs.RunLemmas.{lines_inside, lines_long}
-use Rattle.viewer.proofs.left.go_on_in_hextile.Goals as goal
+use Rattle.viewer.proofs.remaining.go_on_in_hextile.Goals as goal
 
 pub part-requires-clause-inside : goal.part-requires-clause-inside
 part-requires-clause-inside c =
@@ -27,11 +27,11 @@ invariant_of-rows c =
 pub returns-clause-bytes : goal.returns-clause-bytes
 returns-clause-bytes c =
     let r = c.args.rectangle.now in
-    let on = c.in_ok-left.ensures.goes_on c.from-height.result r.colours c.args.row (record {
+    let on = c.in_ok-remaining.ensures.goes_on c.from-height.result r.colours c.args.row (record {
       inside = omega (arith, c.requires, c.from-height.ensures);
       high = omega (arith, c.min-lines.ensures);
       places = c.deref.ensures.value ∙ c.in_ok-values.ensures;
     }) in
-    let over = no_data c.args.table.now c.columns_of-width.result c.from-height.result (map (pixel c.args.table.now) r.colours) c.in_ok-left.left (c.args.row + 1) c.if-row-height.false in
+    let over = no_data c.args.table.now c.columns_of-width.result c.from-height.result (map (pixel c.args.table.now) r.colours) c.in_ok-remaining.remaining (c.args.row + 1) c.if-row-height.false in
     ap (λ (l : List ℕ). c.encode_row_of_tiles.new.out.items ++ l) (sym over) ∙ on
     ∙ ap₂ (λ (w h : ℕ). c.args.out.now.items ++ hextile_from c.args.table.now w h (map (pixel c.args.table.now) r.colours) c.args.carried c.args.row) c.columns_of-width.ensures.columns c.from-height.ensures

@@ -4,9 +4,9 @@ ghost use Rattle.std.specs.Prelude.{◌≡◌, ◌≢◌, ◌+◌, ◌*◌, ◌^
 ghost use Rattle.std.specs.Prelude.{OnErr, length};
 ghost use Rattle.viewer.specs.Short.{IsShort};
 ghost use Rattle.viewer.specs.Updates.{coloured_bytes, rectangles_bytes, all_bytes};
-ghost use Rattle.viewer.specs.declared.left.Begun.TheVariants as begun;
-ghost use Rattle.viewer.specs.declared.left.Reached.TheVariants as so_far;
-ghost use Rattle.viewer.specs.Left.{rest_of, reached_after, left_of, IsBegun, IsWithin};
+ghost use Rattle.viewer.specs.declared.remaining.Begun.TheVariants as begun;
+ghost use Rattle.viewer.specs.declared.remaining.Reached.TheVariants as so_far;
+ghost use Rattle.viewer.specs.Remaining.{rest_of, reached_after, left_of, IsBegun, IsWithin};
 
 use crate::notices::{Notice, put_notice};
 use crate::parts::{Coloured, Part, Rectangles};
@@ -41,15 +41,15 @@ pub enum Reached {
 
 /// The rectangles of an update, of which some are encoded. Contracts see it as the bytes of the others.
 #[derive(Drop)]
-pub struct RectanglesLeft {
+pub struct RemainingRectangles {
     alloc: Global,
     rectangles: Rectangles,
     reached: Reached,
 }
 
-impl Model for RectanglesLeft {
+impl Model for RemainingRectangles {
     ghost use Rattle.std.specs.Prelude.{ℕ, List};
-    ghost use Rattle.viewer.specs.Left.{left_of, IsWithin};
+    ghost use Rattle.viewer.specs.Remaining.{left_of, IsWithin};
 
     ghost Value = { List ℕ };
 
@@ -146,9 +146,9 @@ fn go_on_in_hextile(
         width,
         height: lines,
     };
-    let left = encode_row_of_tiles(out, &rows, table, carried)?;
+    let remaining = encode_row_of_tiles(out, &rows, table, carried)?;
     if 16 * (row + 1) < height {
-        Ok(Some(Begun::Tiles(row + 1, left)))
+        Ok(Some(Begun::Tiles(row + 1, remaining)))
     } else {
         Ok(None)
     }
@@ -256,12 +256,12 @@ fn put_run(
     Ok(reached_after(next, begun))
 }
 
-impl RectanglesLeft {
+impl RemainingRectangles {
     /// All of an update's rectangles.
-    pub fn new(alloc: Global, rectangles: Rectangles) -> RectanglesLeft
+    pub fn new(alloc: Global, rectangles: Rectangles) -> RemainingRectangles
         ensures { result ≡ rectangles_bytes rectangles }
     {
-        RectanglesLeft {
+        RemainingRectangles {
             alloc,
             rectangles,
             reached: Reached::Nothing,
@@ -305,47 +305,49 @@ impl RectanglesLeft {
 
 /// What is left of what an update says of the screen: nothing, its new size, or some of its rectangles.
 #[derive(Drop)]
-pub enum PartLeft {
+pub enum RemainingPart {
     Nothing,
     NewSize(Size),
-    Places(RectanglesLeft),
+    Places(RemainingRectangles),
 }
 
 /// An update, of which some is encoded: the colour map where it is owed, its notices, and then a size or its rectangles. Contracts
 /// see it as the bytes of the rest.
 #[derive(Drop)]
-pub struct UpdateLeft {
+pub struct RemainingUpdate {
     /// The colour map is to be encoded yet.
     map_owed: bool,
     notices: Vec<Notice>,
     told: usize,
-    part: PartLeft,
+    part: RemainingPart,
 }
 
-impl Model for UpdateLeft {
+impl Model for RemainingUpdate {
     ghost use Rattle.std.specs.Prelude.{ℕ, List, All};
     ghost use Rattle.viewer.specs.Short.{IsShort};
-    ghost use Rattle.viewer.specs.UpdatesLeft.{update_left};
+    ghost use Rattle.viewer.specs.RemainingUpdates.{remaining_update};
 
     ghost Value = { List ℕ };
 
-    ghost view = { λ a. update_left a.map_owed a.notices.items a.told a.part };
+    ghost view = { λ a. remaining_update a.map_owed a.notices.items a.told a.part };
 
     ghost invariant = { λ a. All IsShort a.notices.items };
 }
 
-impl UpdateLeft {
+impl RemainingUpdate {
     /// All of an update of the colour map where it is owed, of notices, and of what is said of the screen.
-    pub fn new(alloc: Global, map_owed: bool, notices: Vec<Notice>, part: Part) -> UpdateLeft
+    pub fn new(alloc: Global, map_owed: bool, notices: Vec<Notice>, part: Part) -> RemainingUpdate
         requires { All IsShort notices.items }
         ensures { result ≡ all_bytes map_owed notices.items part }
     {
         let part = match part {
-            Part::Nothing => PartLeft::Nothing,
-            Part::NewSize(size) => PartLeft::NewSize(size),
-            Part::Places(rectangles) => PartLeft::Places(RectanglesLeft::new(alloc, rectangles)),
+            Part::Nothing => RemainingPart::Nothing,
+            Part::NewSize(size) => RemainingPart::NewSize(size),
+            Part::Places(rectangles) => RemainingPart::Places(RemainingRectangles::new(
+                alloc, rectangles,
+            )),
         };
-        UpdateLeft {
+        RemainingUpdate {
             map_owed,
             notices,
             told: 0,
@@ -361,9 +363,9 @@ impl UpdateLeft {
             return false;
         }
         match &self.part {
-            PartLeft::Nothing => true,
-            PartLeft::NewSize(_) => false,
-            PartLeft::Places(rectangles) => rectangles.is_ended(),
+            RemainingPart::Nothing => true,
+            RemainingPart::NewSize(_) => false,
+            RemainingPart::Places(rectangles) => rectangles.is_ended(),
         }
     }
 
@@ -384,13 +386,13 @@ impl UpdateLeft {
             return Ok(());
         }
         match &mut self.part {
-            PartLeft::Nothing => Ok(()),
-            PartLeft::NewSize(size) => {
+            RemainingPart::Nothing => Ok(()),
+            RemainingPart::NewSize(size) => {
                 put_size(out, *size)?;
-                self.part = PartLeft::Nothing;
+                self.part = RemainingPart::Nothing;
                 Ok(())
             }
-            PartLeft::Places(rectangles) => rectangles.put_part(out),
+            RemainingPart::Places(rectangles) => rectangles.put_part(out),
         }
     }
 
@@ -405,9 +407,8 @@ impl UpdateLeft {
         ensures kept { OnErr result (self.new ≡ self.old) }
     {
         match &mut self.part {
-            PartLeft::Places(rectangles) if !self.map_owed && self.told >= self.notices.len() => {
-                rectangles.put_run(out)
-            }
+            RemainingPart::Places(rectangles)
+                if !self.map_owed && self.told >= self.notices.len() => { rectangles.put_run(out) }
             _ => Ok(false),
         }
     }

@@ -3,14 +3,14 @@ use Rattle.std.specs.Prelude.{ℕ, ◌+◌, ◌*◌, ◌<◌, List, [], ◌∷�
 use Rattle.pixel_translate.specs.declared.PixelFormat.{PixelFormat}
 use Rattle.pixel_translate.specs.Pixel.{pixel, colour_bytes}
 use Rattle.messages.specs.declared.Encoding.{Encoding}
-use Rattle.viewer.specs.declared.parts.Moved.{Moved}
+use Rattle.viewer.specs.declared.parts.CopyRect.{CopyRect}
 use Rattle.viewer.specs.declared.parts.Coloured.{Coloured}
 use Rattle.viewer.specs.declared.parts.Rectangles.{Rectangles}
 use Rattle.encode_hextile.specs.Pieces.{hextile_from}
-use Rattle.viewer.specs.declared.left.Begun.{Begun}
-use Rattle.viewer.specs.declared.left.Begun.TheVariants.{Colours, Tiles}
-use Rattle.viewer.specs.declared.left.Reached.{Reached}
-use Rattle.viewer.specs.declared.left.Reached.TheVariants.{Nothing, Before, Within}
+use Rattle.viewer.specs.declared.remaining.Begun.{Begun}
+use Rattle.viewer.specs.declared.remaining.Begun.TheVariants.{Colours, Tiles}
+use Rattle.viewer.specs.declared.remaining.Reached.{Reached}
+use Rattle.viewer.specs.declared.remaining.Reached.TheVariants.{Nothing, Before, Within}
 use Rattle.viewer.specs.Updates.{coloured_bytes, kept_bytes}
 
 -- what is left of a rectangle: in Raw the pixels behind so many, in Hextile the rows of tiles behind so many, or nothing
@@ -29,13 +29,13 @@ abbrev pub rest_within : Encoding → PixelFormat → Begun → List Coloured �
 rest_within e f begun [] = []
 rest_within e f begun (c ∷ cs) = rest_of f c (Some begun) ++ flat_map (coloured_bytes e f) cs
 
-abbrev pub rectangles_left : Encoding → PixelFormat → List Moved → List Coloured → Reached → List ℕ
-rectangles_left e f moves rectangles Nothing = kept_bytes e f moves rectangles
-rectangles_left e f moves rectangles (Before next) = flat_map (coloured_bytes e f) (drop next rectangles)
-rectangles_left e f moves rectangles (Within next begun) = rest_within e f begun (drop next rectangles)
+abbrev pub remaining_rectangles : Encoding → PixelFormat → List CopyRect → List Coloured → Reached → List ℕ
+remaining_rectangles e f copy_rects rectangles Nothing = kept_bytes e f copy_rects rectangles
+remaining_rectangles e f copy_rects rectangles (Before next) = flat_map (coloured_bytes e f) (drop next rectangles)
+remaining_rectangles e f copy_rects rectangles (Within next begun) = rest_within e f begun (drop next rectangles)
 
 abbrev pub left_of : Rectangles → Reached → List ℕ
-left_of r reached = rectangles_left r.encoding r.format r.moves.items r.coloured.items reached
+left_of r reached = remaining_rectangles r.encoding r.format r.copy_rects.items r.coloured.items reached
 
 -- there is a first rectangle, of which something is left
 abbrev pub GoesOn : Begun → List Coloured → Type 0

@@ -14,17 +14,17 @@ use Rattle.pixel_translate.specs.Pixel.{bit_count, pixel, colour_bytes, bits_of}
 use Rattle.pixel_translate.specs.Bounds.{pixel_length}
 use Rattle.messages.specs.declared.Encoding.{Encoding}
 use Rattle.messages.specs.declared.Encoding.TheVariants as encoding
-use Rattle.viewer.specs.declared.parts.Moved.{Moved}
+use Rattle.viewer.specs.declared.parts.CopyRect.{CopyRect}
 use Rattle.viewer.specs.declared.parts.Coloured.{Coloured}
 use Rattle.encode_hextile.specs.Pieces.{some_data}
-use Rattle.viewer.specs.declared.left.Begun.{Begun}
-use Rattle.viewer.specs.declared.left.Begun.TheVariants.{Colours, Tiles}
-use Rattle.viewer.specs.declared.left.Reached.{Reached}
-use Rattle.viewer.specs.declared.left.Reached.TheVariants.{Nothing, Before, Within}
+use Rattle.viewer.specs.declared.remaining.Begun.{Begun}
+use Rattle.viewer.specs.declared.remaining.Begun.TheVariants.{Colours, Tiles}
+use Rattle.viewer.specs.declared.remaining.Reached.{Reached}
+use Rattle.viewer.specs.declared.remaining.Reached.TheVariants.{Nothing, Before, Within}
 use Rattle.viewer.specs.declared.notices.Notice.{Notice}
 use Rattle.viewer.specs.Sending.{encoded, map_bytes, notice_bytes}
 use Rattle.viewer.specs.Updates.{coloured_bytes}
-use Rattle.viewer.specs.Left.{rest_of, rest_within, rectangles_left, reached_after, IsBegun, GoesOn, IsWithin}
+use Rattle.viewer.specs.Remaining.{rest_of, rest_within, remaining_rectangles, reached_after, IsBegun, GoesOn, IsWithin}
 
 some_byte : (b : BitsPerPixel) → 1 ≤ bit_count b / 8
 some_byte Eight = omega arith
@@ -94,17 +94,17 @@ IsOver cs Nothing = ⊥
 IsOver cs (Before next) = length cs ≤ next
 IsOver cs (Within next begun) = ⊥
 
-pub is_over : (e : Encoding) (f : PixelFormat) (moves : List Moved) (cs : List Coloured) (reached : Reached) → IsWithin cs reached → rectangles_left e f moves cs reached ≡ [] → IsOver cs reached
-is_over e f moves cs Nothing within none = cc
-is_over e f moves cs (Before next) within none = omega (arith, none_left e f (drop next cs) none, length-drop next cs)
-is_over e f moves cs (Within next begun) within none = some_within e f begun (drop next cs) within none
+pub is_over : (e : Encoding) (f : PixelFormat) (copy_rects : List CopyRect) (cs : List Coloured) (reached : Reached) → IsWithin cs reached → remaining_rectangles e f copy_rects cs reached ≡ [] → IsOver cs reached
+is_over e f copy_rects cs Nothing within none = cc
+is_over e f copy_rects cs (Before next) within none = omega (arith, none_left e f (drop next cs) none, length-drop next cs)
+is_over e f copy_rects cs (Within next begun) within none = some_within e f begun (drop next cs) within none
 
 le_test : (a b : ℕ) → a ≤ b → leb a b ≡ true
 le_test a b h = grind (arith, nat_tests)
 
 -- the test whether one number is at most another, where this says that nothing is left
-pub test_over : (left : List ℕ) (a b : ℕ) → (a ≤ b → left ≡ []) → (left ≡ [] → a ≤ b) → IsTrue (leb a b) ↔ (left ≡ [])
-test_over left a b over none = (λ e. over (leb-true a b e), λ e. le_test a b (none e))
+pub test_over : (remaining : List ℕ) (a b : ℕ) → (a ≤ b → remaining ≡ []) → (remaining ≡ [] → a ≤ b) → IsTrue (leb a b) ↔ (remaining ≡ [])
+test_over remaining a b over none = (λ e. over (leb-true a b e), λ e. le_test a b (none e))
 
 -- where no colour map is owed and all notices are told, the rest is left
 pub all_told : (owed : Bool) (notices : List Notice) (told : ℕ) (rest now : List ℕ) → owed ≡ false → length notices ≤ told → (map_bytes owed ++ flat_map notice_bytes (drop told notices)) ++ rest ≡ now → rest ≡ now
@@ -116,37 +116,37 @@ on_ok (Ok x) P Q p f = f p
 on_ok (Err e) P Q p f = tt
 
 -- a piece of what is made is given
-pub piece_given : (made left old new : List ℕ) (given end : ℕ) → given ≤ end → new ≡ old ++ take (end - given) (drop given made) → new ++ (drop end made ++ left) ≡ old ++ (drop given made ++ left)
-piece_given made left old new given end ordered e =
+pub piece_given : (made remaining old new : List ℕ) (given end : ℕ) → given ≤ end → new ≡ old ++ take (end - given) (drop given made) → new ++ (drop end made ++ remaining) ≡ old ++ (drop given made ++ remaining)
+piece_given made remaining old new given end ordered e =
     let piece = take (end - given) (drop given made) in
     let behind : drop (end - given) (drop given made) ≡ drop end made = drop-drop (end - given) given made ∙ ap (λ n. drop n made) (let same : given + (end - given) ≡ end = omega arith in same) in
-    ap (λ (l : List ℕ). l ++ (drop end made ++ left)) e ∙ append_assoc old piece (drop end made ++ left)
-    ∙ ap (λ (l : List ℕ). old ++ l) (sym (append_assoc piece (drop end made) left) ∙ ap (λ (l : List ℕ). (piece ++ l) ++ left) (sym behind) ∙ ap (λ (l : List ℕ). l ++ left) (take-append-drop (end - given) (drop given made)))
+    ap (λ (l : List ℕ). l ++ (drop end made ++ remaining)) e ∙ append_assoc old piece (drop end made ++ remaining)
+    ∙ ap (λ (l : List ℕ). old ++ l) (sym (append_assoc piece (drop end made) remaining) ∙ ap (λ (l : List ℕ). (piece ++ l) ++ remaining) (sym behind) ∙ ap (λ (l : List ℕ). l ++ remaining) (take-append-drop (end - given) (drop given made)))
 
 along : (old new a b rest : List ℕ) → new ++ a ≡ old ++ b → new ++ (a ++ rest) ≡ old ++ (b ++ rest)
 along old new a b rest e = sym (append_assoc new a rest) ∙ ap (λ (l : List ℕ). l ++ rest) e ∙ append_assoc old b rest
 
-within_from : (e : Encoding) (f : PixelFormat) (moves : List Moved) (begun : Begun) (after : Option Begun) (cs : List Coloured) (next : ℕ) (d : Coloured) (ds : List Coloured) (old new : List ℕ)
-    → drop next cs ≡ d ∷ ds → drop (next + 1) cs ≡ ds → new ++ rest_of f d after ≡ old ++ rest_of f d (Some begun) → new ++ rectangles_left e f moves cs (reached_after next after) ≡ old ++ rest_within e f begun (d ∷ ds)
-within_from e f moves begun None cs next d ds old new at behind on =
+within_from : (e : Encoding) (f : PixelFormat) (copy_rects : List CopyRect) (begun : Begun) (after : Option Begun) (cs : List Coloured) (next : ℕ) (d : Coloured) (ds : List Coloured) (old new : List ℕ)
+    → drop next cs ≡ d ∷ ds → drop (next + 1) cs ≡ ds → new ++ rest_of f d after ≡ old ++ rest_of f d (Some begun) → new ++ remaining_rectangles e f copy_rects cs (reached_after next after) ≡ old ++ rest_within e f begun (d ∷ ds)
+within_from e f copy_rects begun None cs next d ds old new at behind on =
     ap (λ (t : List Coloured). new ++ flat_map (coloured_bytes e f) t) behind ∙ along old new [] (rest_of f d (Some begun)) (flat_map (coloured_bytes e f) ds) on
-within_from e f moves begun (Some b) cs next d ds old new at behind on =
+within_from e f copy_rects begun (Some b) cs next d ds old new at behind on =
     ap (λ (t : List Coloured). new ++ rest_within e f b t) at ∙ along old new (rest_of f d (Some b)) (rest_of f d (Some begun)) (flat_map (coloured_bytes e f) ds) on
 
-within_at : (e : Encoding) (f : PixelFormat) (moves : List Moved) (begun : Begun) (after : Option Begun) (cs : List Coloured) (next : ℕ) (c : Coloured) (old new : List ℕ) (t : List Coloured)
+within_at : (e : Encoding) (f : PixelFormat) (copy_rects : List CopyRect) (begun : Begun) (after : Option Begun) (cs : List Coloured) (next : ℕ) (c : Coloured) (old new : List ℕ) (t : List Coloured)
     → drop next cs ≡ t → GoesOn begun t → c ≡ get_or cs next c → new ++ rest_of f c after ≡ old ++ rest_of f c (Some begun)
-    → new ++ rectangles_left e f moves cs (reached_after next after) ≡ old ++ rest_within e f begun t
-within_at e f moves begun after cs next c old new [] at goes is on = absurd goes
-within_at e f moves begun after cs next c old new (d ∷ ds) at goes is on =
+    → new ++ remaining_rectangles e f copy_rects cs (reached_after next after) ≡ old ++ rest_within e f begun t
+within_at e f copy_rects begun after cs next c old new [] at goes is on = absurd goes
+within_at e f copy_rects begun after cs next c old new (d ∷ ds) at goes is on =
     let first : c ≡ d = is ∙ ap (λ (k : ℕ). get_or cs k c) (let q : next ≡ next + 0 = omega arith in q) ∙ sym (get_or-drop next cs 0 c) ∙ ap (λ (l : List Coloured). get_or l 0 c) at in
-    within_from e f moves begun after cs next d ds old new at (sym (drop-drop 1 next cs) ∙ ap (drop 1) at)
+    within_from e f copy_rects begun after cs next d ds old new at (sym (drop-drop 1 next cs) ∙ ap (drop 1) at)
     (subst (λ (x : Coloured). new ++ rest_of f x after ≡ old ++ rest_of f x (Some begun)) first on)
 
 -- one part more of a rectangle is encoded
-pub within_on : (e : Encoding) (f : PixelFormat) (moves : List Moved) (begun : Begun) (after : Option Begun) (cs : List Coloured) (next : ℕ) (c : Coloured) (old new : List ℕ) (now soon : Reached)
+pub within_on : (e : Encoding) (f : PixelFormat) (copy_rects : List CopyRect) (begun : Begun) (after : Option Begun) (cs : List Coloured) (next : ℕ) (c : Coloured) (old new : List ℕ) (now soon : Reached)
     → now ≡ Within next begun → soon ≡ reached_after next after → IsWithin cs now → c ≡ get_or cs next c → new ++ rest_of f c after ≡ old ++ rest_of f c (Some begun)
-    → new ++ rectangles_left e f moves cs soon ≡ old ++ rectangles_left e f moves cs now
-within_on e f moves begun after cs next c old new now soon here there within is on =
-    ap (λ (r : Reached). new ++ rectangles_left e f moves cs r) there
-    ∙ within_at e f moves begun after cs next c old new (drop next cs) refl (subst (λ (r : Reached). IsWithin cs r) here within) is on
-    ∙ ap (λ (r : Reached). old ++ rectangles_left e f moves cs r) (sym here)
+    → new ++ remaining_rectangles e f copy_rects cs soon ≡ old ++ remaining_rectangles e f copy_rects cs now
+within_on e f copy_rects begun after cs next c old new now soon here there within is on =
+    ap (λ (r : Reached). new ++ remaining_rectangles e f copy_rects cs r) there
+    ∙ within_at e f copy_rects begun after cs next c old new (drop next cs) refl (subst (λ (r : Reached). IsWithin cs r) here within) is on
+    ∙ ap (λ (r : Reached). old ++ remaining_rectangles e f copy_rects cs r) (sym here)

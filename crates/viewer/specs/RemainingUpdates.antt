@@ -1,0 +1,16 @@
+-- What is left of an update while it is encoded part by part.
+use Rattle.std.specs.Prelude.{ℕ, Bool, List, [], ◌++◌, drop, flat_map}
+use Rattle.viewer.specs.declared.notices.Notice.{Notice}
+use Rattle.viewer.specs.declared.remaining.RemainingPart.{RemainingPart}
+use Rattle.viewer.specs.declared.remaining.RemainingPart.TheVariants as remaining
+use Rattle.viewer.specs.Sending.{map_bytes, notice_bytes, size_bytes}
+
+-- what is left of a size or of rectangles
+abbrev pub remaining_part : RemainingPart → List ℕ
+remaining_part remaining.Nothing = []
+remaining_part (remaining.NewSize size) = size_bytes size.width size.height
+remaining_part (remaining.Places bytes) = bytes
+
+-- the colour map is left where it is owed and not told yet
+abbrev pub remaining_update : Bool → List Notice → ℕ → RemainingPart → List ℕ
+remaining_update map_owed notices told part = (map_bytes map_owed ++ flat_map notice_bytes (drop told notices)) ++ remaining_part part
