@@ -73,7 +73,6 @@ pub struct Departed<T> {
 /// A screen with its viewers' connections.
 #[derive(Drop)]
 pub struct Connections<T: Transport> {
-    alloc: Global,
     canvas: Canvas,
     connections: Slab<Connection<T>>,
     // whether what moves is kept
@@ -112,7 +111,6 @@ impl<T: Transport> Connections<T> {
         let is_kept = is_kept(config.history);
         let screen = Screen::new(alloc, config)?;
         Ok(Connections {
-            alloc,
             is_kept,
             canvas: Canvas::new(screen),
             connections: Slab::new(alloc),

@@ -4,7 +4,7 @@ ghost use Rattle.std.specs.Prelude.{◌≡◌, All, IfOk, length};
 ghost use Rattle.serving.specs.Serving.{AreNumbered, AreSeated};
 
 use crate::connection::serve_connection;
-use crate::doors::{Doors, Slot};
+use crate::open_connections::{OpenConnections, Slot};
 use crate::serving::ServeError;
 use input_queue::{InputHub, InputSeat};
 use receipts::Receipt;
@@ -38,7 +38,7 @@ fn accept<L: Ledger, R: Wait>(
     rt: &R,
     listener: &TcpListener,
     shared: &Shared<L>,
-    doors: &Doors,
+    connections: &OpenConnections,
     number: u64,
 ) -> Result<Caller, ServeError>
     ensures { IfOk result (λ caller. caller.line.listener.viewer ≡ number) }
@@ -46,7 +46,7 @@ fn accept<L: Ledger, R: Wait>(
     let Ok((stream, _address)) = listener.accept() else {
         return Err(ServeError::Network);
     };
-    let slot = doors.admit(rt, &stream)?;
+    let slot = connections.admit(rt, &stream)?;
     let line = shared.connect(rt, number)?;
     Ok(Caller { line, stream, slot })
 }
@@ -56,7 +56,7 @@ fn serve_caller<L: Ledger + Send + Sync, R: Threads + Wait + Clock + Sync>(
     rt: &R,
     shared: &Shared<L>,
     hub: &InputHub,
-    doors: &Doors,
+    connections: &OpenConnections,
     seat: InputSeat,
     caller: Caller,
 ) -> Receipt
@@ -66,7 +66,7 @@ fn serve_caller<L: Ledger + Send + Sync, R: Threads + Wait + Clock + Sync>(
 {
     let Caller { line, stream, slot } = caller;
     let receipt = serve_connection(rt, shared, line, stream, hub, seat);
-    doors.leave(rt, slot);
+    connections.leave(rt, slot);
     receipt
 }
 
@@ -79,7 +79,7 @@ pub(crate) fn accept_all<L: Ledger + Send + Sync, R: Threads + Wait + Clock + Sy
     listener: &TcpListener,
     shared: &Shared<L>,
     hub: &InputHub,
-    doors: &Doors,
+    connections: &OpenConnections,
     seats: Vec<InputSeat>,
 ) -> Result<Vec<Receipt>, ServeError>
     requires queue { All (λ s. s.queue ≡ hub.now.queue) seats.items }
@@ -94,9 +94,9 @@ pub(crate) fn accept_all<L: Ledger + Send + Sync, R: Threads + Wait + Clock + Sy
             requires seated { AreSeated (length seats.items) seats.items }
             ensures { IfOk result (λ receipts. AreNumbered (length seats.items) receipts.items) }
         {
-            let served = serve_each(rt, alloc, listener, shared, hub, doors, seats, scope);
+            let served = serve_each(rt, alloc, listener, shared, hub, connections, seats, scope);
             if served.is_err() {
-                end_all(rt, shared, doors);
+                end_all(rt, shared, connections);
             }
             served
         },
@@ -110,7 +110,7 @@ fn serve_each<'s, E, L: Ledger + Send + Sync + 's, R: Threads + Wait + Clock + S
     listener: &TcpListener,
     shared: &'s Shared<L>,
     hub: &'s InputHub,
-    doors: &'s Doors,
+    connections: &'s OpenConnections,
     mut seats: Vec<InputSeat>,
     scope: &Scope<'s, E>,
 ) -> Result<Vec<Receipt>, ServeError>
@@ -122,14 +122,14 @@ fn serve_each<'s, E, L: Ledger + Send + Sync + 's, R: Threads + Wait + Clock + S
     let mut number = 0u64;
     while let Some(seat) = seats.pop() {
         number = number.saturating_add(1);
-        let caller = accept(rt, listener, shared, doors, number)?;
+        let caller = accept(rt, listener, shared, connections, number)?;
         let thread = scope.spawn_with(
             ReceiptOf(number),
             move || -> Receipt
                 requires queue { seat.queue ≡ hub.now.queue }
                 requires viewer { seat.viewer ≡ caller.line.listener.viewer }
                 ensures { result.viewer ≡ caller.line.listener.viewer }
-            { serve_caller(rt, shared, hub, doors, seat, caller) },
+            { serve_caller(rt, shared, hub, connections, seat, caller) },
         );
         match thread {
             Ok(thread) => threads.push(thread)?,
@@ -140,7 +140,11 @@ fn serve_each<'s, E, L: Ledger + Send + Sync + 's, R: Threads + Wait + Clock + S
 }
 
 /// Stops all senders, and shuts all connections.
-pub(crate) fn end_all<L: Ledger, R: Wait>(rt: &R, shared: &Shared<L>, doors: &Doors) {
+pub(crate) fn end_all<L: Ledger, R: Wait>(
+    rt: &R,
+    shared: &Shared<L>,
+    connections: &OpenConnections,
+) {
     shared.stop(rt);
-    doors.shut_all(rt);
+    connections.shut_all(rt);
 }

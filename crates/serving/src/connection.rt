@@ -2,7 +2,7 @@
 
 ghost use Rattle.std.specs.Prelude.{◌≡◌};
 
-use crate::doors::shut;
+use crate::open_connections::shut;
 use input_queue::{InputHub, InputSeat};
 use receipts::Receipt;
 use screen::ScreenError;

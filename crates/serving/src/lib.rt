@@ -15,7 +15,7 @@
 mod accepting;
 mod application;
 mod connection;
-mod doors;
+mod open_connections;
 mod serving;
 
 pub use application::Application;

@@ -5,7 +5,7 @@ ghost use Rattle.serving.specs.Serving.{AreNumbered, AreSeated};
 
 use crate::accepting::{accept_all, end_all};
 use crate::application::{Application, run_application};
-use crate::doors::Doors;
+use crate::open_connections::OpenConnections;
 use input_queue::{InputHub, InputSeat, Taker};
 use receipts::Receipt;
 use screen::ScreenError;
@@ -77,9 +77,9 @@ fn seating_for(alloc: Global, viewers: u64) -> Result<Seating, AllocError>
 }
 
 /// A thread that waits for a connection is given one.
-fn knock<R: Net>(rt: &R, listener: &TcpListener) {
+fn wake_accept<R: Net>(rt: &R, listener: &TcpListener) {
     if let Ok(address) = listener.local_addr() {
-        let _knocked = rt.connect(address);
+        let _woken = rt.connect(address);
     }
 }
 
@@ -103,7 +103,7 @@ fn serve_seats<'s, E, L, A, R>(
     shared: &'s Shared<L>,
     brush: &mut Brush<L>,
     hub: &'s InputHub,
-    doors: &'s Doors,
+    connections: &'s OpenConnections,
     seats: Vec<InputSeat>,
     mut taker: Taker,
     application: &mut A,
@@ -125,7 +125,7 @@ where
             requires seated { AreSeated (length seats.items) seats.items }
             ensures { IfOk result (λ receipts. AreNumbered (length seats.items) receipts.items) }
         {
-            let receipts = accept_all(rt, alloc, listener, shared, hub, doors, seats);
+            let receipts = accept_all(rt, alloc, listener, shared, hub, connections, seats);
             hub.close();
             receipts
         },
@@ -135,8 +135,8 @@ where
     };
     let drawn = run_application(rt, shared, brush, hub, &mut taker, application);
     if drawn.is_err() {
-        end_all(rt, shared, doors);
-        knock(rt, listener);
+        end_all(rt, shared, connections);
+        wake_accept(rt, listener);
     }
     let receipts = accepting.join(rt);
     drawn?;
@@ -162,8 +162,8 @@ where
     ensures { IfOk result (λ receipts. AreNumbered viewers receipts.items) }
 {
     let Seating { hub, taker, seats } = seating_for(alloc, viewers)?;
-    let doors = Doors::new(alloc);
-    let (hub, doors) = (&hub, &doors);
+    let connections = OpenConnections::new(alloc);
+    let (hub, connections) = (&hub, &connections);
     thread::scope(
         thread::scope_env(),
         rt,
@@ -180,7 +180,7 @@ where
                 shared,
                 brush,
                 hub,
-                doors,
+                connections,
                 seats,
                 taker,
                 application,

@@ -15,7 +15,7 @@ use Rattle.scene.specs.Answers.{entry_of, viewer_of, after_arrival, live_from}
 use Rattle.scene.specs.History.{connects}
 use Rattle.screen.specs.State.{State, state, viewer_at}
 use Rattle.update_sender.specs.Numbers.{rises, newest, is_next}
-use Rattle.update_sender.specs.Standing.{Stands}
+use Rattle.update_sender.specs.Locked.{Stands}
 
 abbrev has : ℕ → List ℕ → Bool
 has n vs = list_any (λ v. v == n) vs

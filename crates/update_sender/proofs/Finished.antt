@@ -12,7 +12,7 @@ use Rattle.receipts.specs.declared.Receipt.{Receipt}
 use Rattle.receipts.specs.declared.Report.{Report}
 use Rattle.receipts.specs.declared.FinishError.{FinishError}
 use Rattle.update_sender.specs.Finishing.{Judges, JudgesDrawn}
-use Rattle.update_sender.specs.Standing.{Stands}
+use Rattle.update_sender.specs.Locked.{Stands}
 
 abbrev unless_none : List Event → Option (List Event) → List Event
 unless_none other None = other

@@ -12,7 +12,7 @@ use Rattle.scene.specs.Answers.{answer_to, is_drawing}
 use Rattle.scene.specs.History.{has_happened, accepted_after, accepted, drawings, connects}
 use Rattle.screen.specs.State.{State, state, kept_is_enough}
 use Rattle.update_sender.specs.Numbers.{rises, newest, is_next}
-use Rattle.update_sender.specs.Standing.{Stands}
+use Rattle.update_sender.specs.Locked.{Stands}
 use Rattle.scene.specs.Calls.{event_of}
 use Rattle.scene.specs.declared.call.Drawing.{Drawing}
 use Rattle.scene.specs.declared.call.Drawing.TheVariants as calls

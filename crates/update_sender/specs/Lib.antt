@@ -1,5 +1,5 @@
 pub mod Numbers
-pub mod Standing
+pub mod Locked
 pub mod Ends
 pub mod Inputs
 pub mod Reasons

@@ -88,12 +88,12 @@ impl<L: Ledger> Brush<L> {
         ensures err { OnErr result (self.new ≡ self.old) }
     {
         let Ok(event) = event_for(&mut self.drawn, drawing) else {
-            return Err(shared.desk.lock(rt).refusal_of(drawing));
+            return Err(shared.screen.lock(rt).refusal_of(drawing));
         };
-        shared.desk.lock(rt).draw(&mut self.share, drawing)?;
+        shared.screen.lock(rt).draw(&mut self.share, drawing)?;
         self.drawn.push(event);
         if drawing.may_be_sent() {
-            shared.moved.notify_all();
+            shared.wake.notify_all();
         }
         Ok(())
     }

@@ -77,11 +77,11 @@ fn judge_kept<L: Ledger>(
     let Shared {
         alloc,
         config,
-        desk,
+        screen: locked,
         ..
     } = shared;
     let Brush { drawn, mut share } = brush;
-    let (screen, mut drawings) = desk.into_inner().parts();
+    let (screen, mut drawings) = locked.into_inner().parts();
     drawings.audit(&mut share);
     match (screen.history(), drawn.as_slice()) {
         (Some(history), Some(drawn)) => judge(alloc, &config, history, drawn, &receipts),

@@ -14,11 +14,11 @@
 #![tactic(auto)]
 
 mod brush;
-mod desk;
 mod ending;
 mod ends;
 mod gate;
 mod hearing;
+mod locked_screen;
 mod opening;
 mod reader;
 mod reasons;

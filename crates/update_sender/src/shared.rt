@@ -7,11 +7,11 @@ ghost use Rattle.scene.specs.Alone.{config_refusal};
 ghost use Rattle.update_sender.specs.Ends.{greeted, listened, has_cut};
 ghost use Rattle.kept_list.specs.Kept.{HasRoom};
 ghost use Rattle.screen.specs.State.{history_by};
-ghost use Rattle.update_sender.specs.Standing.{HasBytes};
+ghost use Rattle.update_sender.specs.Locked.{HasBytes};
 
 use crate::brush::Brush;
-use crate::desk::Desk;
 use crate::ends::{Line, Listener, Speaker};
+use crate::locked_screen::LockedScreen;
 use crate::turn::Turn;
 use kept_list::KeptList;
 use screen::{Answer, Config, Screen, ScreenError, Update};
@@ -25,9 +25,9 @@ use std::sync::{Condvar, Mutex, Wait};
 pub struct Shared<L: Ledger> {
     pub(crate) alloc: Global,
     pub(crate) config: Config,
-    pub(crate) desk: Mutex<Desk<L>>,
+    pub(crate) screen: Mutex<LockedScreen<L>>,
     // a waiting sender may go on
-    pub(crate) moved: Condvar,
+    pub(crate) wake: Condvar,
 }
 
 impl<L: Ledger> Model for Shared<L> {
@@ -75,8 +75,8 @@ impl<L: Ledger> Shared<L> {
         let shared = Shared {
             alloc,
             config,
-            desk: Mutex::new(Desk::new(screen, book)),
-            moved: Condvar::new(),
+            screen: Mutex::new(LockedScreen::new(screen, book)),
+            wake: Condvar::new(),
         };
         Ok((shared, brush))
     }
@@ -86,7 +86,7 @@ impl<L: Ledger> Shared<L> {
         ensures line { IfOk result (λ line. line ≡ greeted number self.now.history) }
         ensures refused { IfErr result (λ e. (e ≡ refusals.NumberInUse) ⊎ (e ≡ refusals.OutOfMemory)) }
     {
-        let version = self.desk.lock(rt).connect(number)?;
+        let version = self.screen.lock(rt).connect(number)?;
         Ok(Line::new(self.alloc, number, self.config.history, version))
     }
 
@@ -95,15 +95,15 @@ impl<L: Ledger> Shared<L> {
     pub fn close<R: Wait>(&self, rt: &R, number: u64) -> Result<(), ScreenError>
         ensures refused { IfErr result (λ e. (e ≡ refusals.NoViewer) ⊎ (e ≡ refusals.OutOfMemory)) }
     {
-        self.desk.lock(rt).close(number)?;
-        self.moved.notify_all();
+        self.screen.lock(rt).close(number)?;
+        self.wake.notify_all();
         Ok(())
     }
 
     /// Every later `cut_wait` gives None.
     pub fn stop<R: Wait>(&self, rt: &R) {
-        self.desk.lock(rt).stop();
-        self.moved.notify_all();
+        self.screen.lock(rt).stop();
+        self.wake.notify_all();
     }
 
     /// A piece of a viewer's bytes is heard. Refused as `NoViewer` where the viewer is gone.
@@ -135,7 +135,7 @@ impl<L: Ledger> Shared<L> {
         listener.heard.reserve(piece.len())?;
         let heard = self.hear_in_hold(rt, listener.viewer, &listener.heard, piece)?;
         if heard.has_turn {
-            self.moved.notify_all();
+            self.wake.notify_all();
         }
         listener.heard.append(piece);
         listener.pieces = listener.pieces.saturating_add(1);
@@ -153,12 +153,12 @@ impl<L: Ledger> Shared<L> {
         requires room { HasRoom (length piece.now) _kept.now }
         ensures refused { IfErr result (λ e. (e ≡ refusals.NoViewer) ⊎ (e ≡ refusals.OutOfMemory)) }
     {
-        let mut desk = self.desk.lock(rt);
-        let answer = desk.hear(viewer, piece)?;
+        let mut locked = self.screen.lock(rt);
+        let answer = locked.hear(viewer, piece)?;
         Ok(Heard {
             answer,
-            is_open: desk.is_open(viewer),
-            has_turn: desk.has_turn(viewer),
+            is_open: locked.is_open(viewer),
+            has_turn: locked.has_turn(viewer),
         })
     }
 
@@ -166,12 +166,12 @@ impl<L: Ledger> Shared<L> {
     pub(crate) fn wait_turn<R: Wait>(&self, rt: &R, viewer: u64) -> Result<Turn, AllocError>
         ensures { IfOk result HasBytes }
     {
-        let mut desk = self.desk.lock(rt);
+        let mut locked = self.screen.lock(rt);
         for _ in rt.forever() {
-            if let Some(turn) = desk.take_turn(viewer)? {
+            if let Some(turn) = locked.take_turn(viewer)? {
                 return Ok(turn);
             }
-            desk = self.moved.wait(rt, desk);
+            locked = self.wake.wait(rt, locked);
         }
         unreachable!()
     }

@@ -3,7 +3,7 @@
 ghost use Rattle.std.specs.Prelude.{◌≡◌, ◌≢◌, [], IfOk, IfErr};
 ghost use Rattle.update_sender.specs.Reasons.{sent_in};
 ghost use Rattle.update_sender.specs.Serving.{CuttingEnds};
-ghost use Rattle.update_sender.specs.Standing.{HasBytes};
+ghost use Rattle.update_sender.specs.Locked.{HasBytes};
 
 use receipts::Ended;
 use screen::{Fault, Update};

@@ -11,11 +11,11 @@ use Rattle.input_queue.proofs.hub.InputSeat.TheSendSync.{the_send as seat_send}
 use Rattle.update_sender.proofs.shared.Shared.TheSendSync as shares
 use Rattle.serving.proofs.SeatLemmas.{taken_is, left_are, more_are}
 use Rattle.serving.proofs.accepting.Caller.TheSendSync.{the_send as caller_send}
-use Rattle.serving.proofs.doors.Doors.TheSendSync.{the_sync as doors_sync}
+use Rattle.serving.proofs.open_connections.OpenConnections.TheSendSync.{the_sync as connections_sync}
 use Rattle.serving.proofs.accepting.serve_each.Goals as goal
 
 pub spawn_with-thread-requires-send-F : goal.spawn_with-thread-requires-send-F
-spawn_with-thread-requires-send-F g c κs within = param_send 2 _ (arg_send _ Exit.no _ (closure_send _ (_ ∷ _ ∷ _ ∷ _ ∷ _ ∷ _ ∷ []) (shr_send _ _ _ (param_sync 2 _ c.type_bounds.sync-R), (shr_send _ _ _ (shares.the_sync (param 1 g.row.L) g.L.Ledger), (shr_send _ _ _ hub_sync, (shr_send _ _ _ doors_sync, (seat_send, (caller_send, tt))))))))
+spawn_with-thread-requires-send-F g c κs within = param_send 2 _ (arg_send _ Exit.no _ (closure_send _ (_ ∷ _ ∷ _ ∷ _ ∷ _ ∷ _ ∷ []) (shr_send _ _ _ (param_sync 2 _ c.type_bounds.sync-R), (shr_send _ _ _ (shares.the_sync (param 1 g.row.L) g.L.Ledger), (shr_send _ _ _ hub_sync, (shr_send _ _ _ connections_sync, (seat_send, (caller_send, tt))))))))
 
 pub spawn_with-thread-requires-clause-runs : goal.spawn_with-thread-requires-clause-runs
 spawn_with-thread-requires-clause-runs g c κs within =

@@ -9,8 +9,8 @@ use Rattle.std.proofs.net.tcp.TcpListener.TheSendSync.{the_sync as listener_sync
 use Rattle.std.proofs.alloc.Global.TheSendSync as globals
 use Rattle.std.below.std_heap.proofs.GlobalAllocator.TheSendSync as frees
 use Rattle.std.proofs.vec.Vec.TheSendSync as vectors
-use Rattle.serving.proofs.doors.Doors.TheSendSync.{the_sync as doors_sync}
+use Rattle.serving.proofs.open_connections.OpenConnections.TheSendSync.{the_sync as connections_sync}
 use Rattle.serving.proofs.serving.serve_seats.Goals as goal
 
 pub spawn_with-accepting-requires-send-F : goal.spawn_with-accepting-requires-send-F
-spawn_with-accepting-requires-send-F g c κs within = param_send 2 _ (arg_send _ Exit.no _ (closure_send _ (_ ∷ _ ∷ _ ∷ _ ∷ _ ∷ _ ∷ _ ∷ []) (shr_send _ _ _ (param_sync 3 _ c.type_bounds.sync-R), (globals.the_send, (shr_send _ _ _ listener_sync, (shr_send _ _ _ (shares.the_sync (param 1 g.row.L) g.L.Ledger), (shr_send _ _ _ hub_sync, (shr_send _ _ _ doors_sync, (vectors.the_send _ _ _ seat_send globals.the_send frees.the_frees, tt)))))))))
+spawn_with-accepting-requires-send-F g c κs within = param_send 2 _ (arg_send _ Exit.no _ (closure_send _ (_ ∷ _ ∷ _ ∷ _ ∷ _ ∷ _ ∷ _ ∷ []) (shr_send _ _ _ (param_sync 3 _ c.type_bounds.sync-R), (globals.the_send, (shr_send _ _ _ listener_sync, (shr_send _ _ _ (shares.the_sync (param 1 g.row.L) g.L.Ledger), (shr_send _ _ _ hub_sync, (shr_send _ _ _ connections_sync, (vectors.the_send _ _ _ seat_send globals.the_send frees.the_frees, tt)))))))))

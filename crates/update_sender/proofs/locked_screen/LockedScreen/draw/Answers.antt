@@ -2,7 +2,7 @@ use Rattle.std.proofs.Common.{[], ◌∷◌, ◌++◌}
 use Rattle.scene.specs.Alone.{nothing_to_say}
 use Rattle.scene.specs.Calls.{event_of}
 use Rattle.update_sender.proofs.Stepped.{drawn}
-use Rattle.update_sender.proofs.desk.Desk.draw.Goals as goal
+use Rattle.update_sender.proofs.locked_screen.LockedScreen.draw.Goals as goal
 
 pub invariant_of-self-2 : goal.invariant_of-self-2
 invariant_of-self-2 g c =

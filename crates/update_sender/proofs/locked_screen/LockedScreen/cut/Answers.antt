@@ -6,9 +6,9 @@ use Rattle.scene.specs.Alone.{gives}
 use Rattle.scene.specs.Answers.{answer_to}
 use Rattle.viewer.specs.Given.{bytes_given}
 use Rattle.screen.specs.State.{State}
-use Rattle.update_sender.specs.Standing.{Locked, Stands}
+use Rattle.update_sender.specs.Locked.{Locked, Stands}
 use Rattle.update_sender.proofs.Stepped.{quiet, cut-something, cut-idle}
-use Rattle.update_sender.proofs.desk.Desk.cut.Goals as goal
+use Rattle.update_sender.proofs.locked_screen.LockedScreen.cut.Goals as goal
 
 abbrev held : State → Option ℕ → Bool → ℕ → Locked
 held s n b d = record { screen = s; newest = n; stopped = b; drawn = d }

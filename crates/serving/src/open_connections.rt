@@ -20,7 +20,7 @@ struct Streams {
 
 /// Lets connections in, until all are shut.
 #[derive(Drop)]
-pub(crate) struct Doors {
+pub(crate) struct OpenConnections {
     streams: Mutex<Streams>,
 }
 
@@ -70,10 +70,10 @@ impl Streams {
     }
 }
 
-impl Doors {
+impl OpenConnections {
     /// No connection was let in yet.
-    pub fn new(alloc: Global) -> Doors {
-        Doors {
+    pub fn new(alloc: Global) -> OpenConnections {
+        OpenConnections {
             streams: Mutex::new(Streams {
                 streams: Slab::new(alloc),
                 are_shut: false,

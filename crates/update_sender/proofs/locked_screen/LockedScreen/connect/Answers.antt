@@ -6,7 +6,7 @@ use Rattle.update_sender.proofs.Stepped.{joined}
 use Rattle.update_sender.specs.Numbers.{is_next}
 use Rattle.scene.specs.declared.ScreenError.TheVariants as refusals
 use Rattle.update_sender.proofs.Absent.{next-refused}
-use Rattle.update_sender.proofs.desk.Desk.connect.Goals as goal
+use Rattle.update_sender.proofs.locked_screen.LockedScreen.connect.Goals as goal
 
 pub invariant_of-self-2 : goal.invariant_of-self-2
 invariant_of-self-2 g c =

@@ -14,7 +14,7 @@ ghost use Rattle.scene.specs.Refusals.{absence, Refuses};
 ghost use Rattle.screen.specs.State.{state, viewer_at, refusal};
 ghost use Rattle.scene.specs.Calls.{call_refusal, event_of};
 ghost use Rattle.update_sender.specs.Numbers.{is_next};
-ghost use Rattle.update_sender.specs.Standing.{Draws, Joins, Stands, StepsAlone, Takes, TellsTurn, HasBytes, ending, is_open_now};
+ghost use Rattle.update_sender.specs.Locked.{Draws, Joins, Stands, StepsAlone, Takes, TellsTurn, HasBytes, ending, is_open_now};
 
 use crate::turn::Turn;
 use listed::Listed;
@@ -25,7 +25,7 @@ use std::sync::ledger::{Book, Ledger, Share};
 
 /// What lies behind the lock.
 #[derive(Drop)]
-pub struct Desk<L: Ledger> {
+pub struct LockedScreen<L: Ledger> {
     screen: Screen,
     // the greatest number that connected
     newest: Option<u64>,
@@ -34,10 +34,10 @@ pub struct Desk<L: Ledger> {
     drawings: Book<L>,
 }
 
-impl<L: Ledger> Model for Desk<L> {
+impl<L: Ledger> Model for LockedScreen<L> {
     ghost use Rattle.std.specs.Prelude.{List};
     ghost use Rattle.scene.specs.declared.Event.{Event};
-    ghost use Rattle.update_sender.specs.Standing.{Locked, Stands};
+    ghost use Rattle.update_sender.specs.Locked.{Locked, Stands};
 
     ghost Value = { Locked };
 
@@ -56,14 +56,14 @@ fn is_next(greatest: Option<u64>, number: u64) -> bool
     }
 }
 
-impl<L: Ledger> Desk<L> {
+impl<L: Ledger> LockedScreen<L> {
     /// A screen on which nothing has happened yet.
-    pub fn new(screen: Screen, drawings: Book<L>) -> Desk<L>
+    pub fn new(screen: Screen, drawings: Book<L>) -> LockedScreen<L>
         requires screen { screen ≡ state screen.config [] }
         requires drawings { drawings.total ≡ 0 }
         ensures { result.screen ≡ screen }
     {
-        Desk {
+        LockedScreen {
             screen,
             newest: None,
             stopped: false,

@@ -1,7 +1,7 @@
 use Rattle.std.proofs.Common.{[], ◌∷◌, ◌++◌, refl}
 use Rattle.scene.specs.declared.Event.TheVariants.{Hear}
 use Rattle.update_sender.proofs.Stepped.{quiet, answered}
-use Rattle.update_sender.proofs.desk.Desk.hear.Goals as goal
+use Rattle.update_sender.proofs.locked_screen.LockedScreen.hear.Goals as goal
 
 pub invariant_of-self-2 : goal.invariant_of-self-2
 invariant_of-self-2 g c =

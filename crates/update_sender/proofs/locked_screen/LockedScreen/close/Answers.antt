@@ -2,7 +2,7 @@ use Rattle.std.proofs.Common.{[], ◌∷◌, ◌++◌, refl}
 use Rattle.scene.specs.declared.Event.TheVariants.{Close}
 use Rattle.scene.specs.Alone.{nothing_to_say}
 use Rattle.update_sender.proofs.Stepped.{quiet, answered}
-use Rattle.update_sender.proofs.desk.Desk.close.Goals as goal
+use Rattle.update_sender.proofs.locked_screen.LockedScreen.close.Goals as goal
 
 pub invariant_of-self-2 : goal.invariant_of-self-2
 invariant_of-self-2 g c =
