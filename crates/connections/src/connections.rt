@@ -71,7 +71,6 @@ pub struct Departed<T> {
 }
 
 /// A screen with its viewers' connections.
-#[derive(Drop)]
 pub struct Connections<T: Transport> {
     canvas: Canvas,
     connections: Slab<Connection<T>>,
@@ -91,6 +90,25 @@ pub struct Connections<T: Transport> {
     // what is read, and what is written
     room: [u8; PIECE],
     buffer: Vec<u8>,
+}
+
+// Written out, so that who holds one proves one call here, and not the drop of each field.
+impl<T: Transport> Drop for Connections<T> {
+    fn drop(self) {
+        let Connections {
+            canvas: _canvas,
+            connections: _connections,
+            is_kept: _is_kept,
+            next: _next,
+            agenda: _agenda,
+            asking: _asking,
+            later: _later,
+            since_flood: _since_flood,
+            time: _time,
+            room: _room,
+            buffer: _buffer,
+        } = self;
+    }
 }
 
 impl<T: Transport> Model for Connections<T> {

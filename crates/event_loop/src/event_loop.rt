@@ -99,7 +99,6 @@ impl Limits {
 }
 
 /// A screen with its viewers' sockets.
-#[derive(Drop)]
 pub struct EventLoop {
     poller: Poller,
     listener: TcpListener,
@@ -119,6 +118,26 @@ pub struct EventLoop {
     // when the application's time comes, once it was told that it has
     has_ticked: bool,
     next_tick: Option<Instant>,
+}
+
+// Written out, so that who holds one proves one call here, and not the drop of each field.
+impl Drop for EventLoop {
+    fn drop(self) {
+        let EventLoop {
+            poller: _poller,
+            listener: _listener,
+            limits: _limits,
+            connections: _connections,
+            newcomers: _newcomers,
+            began: _began,
+            came: _came,
+            may_accept: _may_accept,
+            retry: _retry,
+            is_woken: _is_woken,
+            has_ticked: _has_ticked,
+            next_tick: _next_tick,
+        } = self;
+    }
 }
 
 impl Model for EventLoop {

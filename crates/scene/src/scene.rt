@@ -32,12 +32,23 @@ use viewer::{LogEntry, PreparedUpdate, Update};
 use viewer_list::ViewerList;
 
 /// One framebuffer, drawn in by the application, and its viewers.
-#[derive(Drop)]
 pub struct Scene {
     alloc: Global,
     config: Config,
     picture: Framebuffer,
     viewers: ViewerList,
+}
+
+// Written out, so that who holds one proves one call here, and not the drop of each field.
+impl Drop for Scene {
+    fn drop(self) {
+        let Scene {
+            alloc: _alloc,
+            config: _config,
+            picture: _picture,
+            viewers: _viewers,
+        } = self;
+    }
 }
 
 impl Model for Scene {

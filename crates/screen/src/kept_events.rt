@@ -13,11 +13,20 @@ use std::alloc::{AllocError, Global};
 
 /// The events that were accepted, if they are kept, and room for further ones: also for the closings of the viewers that connected,
 /// which therefore find room whenever they come.
-#[derive(Drop)]
 pub struct KeptEvents {
     events: KeptList<Event>,
     // how many viewers connected and weren't closed
     open: usize,
+}
+
+// Written out, so that who holds one proves one call here, and not the drop of each field.
+impl Drop for KeptEvents {
+    fn drop(self) {
+        let KeptEvents {
+            events: _events,
+            open: _open,
+        } = self;
+    }
 }
 
 /// A list of nothing yet, which is kept where the history is. This takes no memory.

@@ -30,10 +30,19 @@ use std::marker::Model;
 use viewer::Update;
 
 /// A screen with its viewers: one framebuffer, drawn in by the application.
-#[derive(Drop)]
 pub struct Screen {
     scene: Scene,
     events: KeptEvents,
+}
+
+// Written out, so that who holds one proves one call here, and not the drop of each field.
+impl Drop for Screen {
+    fn drop(self) {
+        let Screen {
+            scene: _scene,
+            events: _events,
+        } = self;
+    }
 }
 
 impl Model for Screen {

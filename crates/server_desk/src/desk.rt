@@ -41,7 +41,6 @@ use std::os::fd::AsRawFd;
 ///
 /// At most 4,096 inputs wait, 4 MB of texts, and 1,024 comings and goings. What comes when there is no more room, or memory for it is
 /// refused, is lost, and counted: `lost`.
-#[derive(Drop)]
 pub struct ServerDesk {
     alloc: Global,
     events: Option<EventLoop>,
@@ -52,6 +51,22 @@ pub struct ServerDesk {
     // how many bytes of texts may come before they are too many
     text_room: usize,
     lost: u64,
+}
+
+// Written out, so that who holds one proves one call here, and not the drop of each field.
+impl Drop for ServerDesk {
+    fn drop(self) {
+        let ServerDesk {
+            alloc: _alloc,
+            events: _events,
+            port: _port,
+            inputs: _inputs,
+            visits: _visits,
+            text: _text,
+            text_room: _text_room,
+            lost: _lost,
+        } = self;
+    }
 }
 
 impl Model for ServerDesk {

@@ -13,11 +13,21 @@ pub const PIECE: usize = 8192;
 ///
 /// Pixels in Raw are appended as they are made. Of other parts no more is made at once, in a vector that the stream keeps, than
 /// a row of tiles in Hextile, a rectangle in RRE, the colour map, or a notice.
-#[derive(Drop)]
 pub struct Stream {
     remaining: RemainingUpdate,
     made: Vec<u8>,
     given: usize,
+}
+
+// Written out, so that who holds one proves one call here, and not the drop of each field.
+impl Drop for Stream {
+    fn drop(self) {
+        let Stream {
+            remaining: _remaining,
+            made: _made,
+            given: _given,
+        } = self;
+    }
 }
 
 impl Model for Stream {

@@ -20,12 +20,23 @@ use std::marker::Model;
 /// What one viewer is sent in one step: the colour map where it is owed, the notices that waited, and then one FramebufferUpdate
 /// (RFC 6143, 7.6.1), which tells a new size that it is owed, or else places that it asked for and that are not clean. Contracts see
 /// it as its bytes.
-#[derive(Drop)]
 pub struct Update {
     alloc: Global,
     map_owed: bool,
     notices: Vec<Notice>,
     part: Part,
+}
+
+// Written out, so that who holds one proves one call here, and not the drop of each field.
+impl Drop for Update {
+    fn drop(self) {
+        let Update {
+            alloc: _alloc,
+            map_owed: _map_owed,
+            notices: _notices,
+            part: _part,
+        } = self;
+    }
 }
 
 impl Model for Update {
@@ -158,7 +169,13 @@ impl Update {
     pub fn into_stream(self) -> Stream
         ensures { result ≡ self }
     {
-        let remaining = RemainingUpdate::new(self.alloc, self.map_owed, self.notices, self.part);
-        Stream::new(self.alloc, remaining)
+        let Update {
+            alloc,
+            map_owed,
+            notices,
+            part,
+        } = self;
+        let remaining = RemainingUpdate::new(alloc, map_owed, notices, part);
+        Stream::new(alloc, remaining)
     }
 }
