@@ -110,7 +110,7 @@ def under_load(command, size, viewers, args, seconds=1):
         all0, _, stolen0 = cpu_times()
         words = [LOAD, args[0], "--port", port, "--pid", server.pid, "--seconds", seconds, *args[1:]]
         words = [str(word) for word in words]
-        done = subprocess.run(words, stdout=subprocess.PIPE, stderr=subprocess.DEVNULL, timeout=300)
+        done = subprocess.run(words, stdout=subprocess.PIPE, stderr=subprocess.DEVNULL, timeout=60 + 10 * seconds)
         all1, _, stolen1 = cpu_times()
         result = json.loads(done.stdout.decode().strip().splitlines()[-1])
         result["stolen"] = (stolen1 - stolen0) / max(1, all1 - all0)
