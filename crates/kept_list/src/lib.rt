@@ -72,6 +72,17 @@ impl<T> KeptList<T> {
         }
     }
 
+    /// A copy of what an element holds, as a list of bytes; nothing where the list isn't kept.
+    pub fn copy_of<U: Copy>(&self, parts: &[U]) -> Result<Listed<U>, AllocError>
+        ensures { is_some self.now.items ≡ true → IfOk result (λ copy. copy ≡ parts.now) }
+    {
+        if self.is_kept() {
+            Listed::from_slice(self.alloc, parts)
+        } else {
+            Ok(Listed::new(self.alloc))
+        }
+    }
+
     /// All of it; nothing where it isn't kept. This takes no memory.
     pub fn into_listed(self) -> Listed<T>
         ensures { result ≡ unwrap_or self.items [] }
@@ -118,17 +129,6 @@ impl<T: Copy> KeptList<T> {
     {
         if let Some(items) = &mut self.items {
             append_reserved(items, more);
-        }
-    }
-
-    /// A copy of elements that it may take in; none where the list isn't kept.
-    pub fn copy_of(&self, elements: &[T]) -> Result<Listed<T>, AllocError>
-        ensures { is_some self.now.items ≡ true → IfOk result (λ copy. copy ≡ elements.now) }
-    {
-        if self.is_kept() {
-            Listed::from_slice(self.alloc, elements)
-        } else {
-            Ok(Listed::new(self.alloc))
         }
     }
 }

@@ -111,6 +111,13 @@ impl KeptEvents {
         self.events.push(event);
     }
 
+    /// A copy of what an event holds, for keeping; nothing where none are kept.
+    pub fn copied<T: Copy>(&self, items: &[T]) -> Result<Listed<T>, AllocError>
+        ensures { is_some self.now.events.items ≡ true → IfOk result (λ copy. copy ≡ items.now) }
+    {
+        self.events.copy_of(items)
+    }
+
     /// The event that a drawing call is, where events are kept; else any, which is dropped.
     pub fn event_of(&self, drawing: &Drawing<'_>) -> Result<Event, AllocError>
         ensures { is_some self.now.events.items ≡ true → IfOk result (λ event. event ≡ event_of drawing.now) }
