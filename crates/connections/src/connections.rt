@@ -72,6 +72,7 @@ pub struct Departed<T> {
 
 /// A screen with its viewers' connections.
 pub struct Connections<T: Transport> {
+    alloc: Global,
     canvas: Canvas,
     connections: Slab<Connection<T>>,
     // whether what moves is kept
@@ -96,6 +97,7 @@ pub struct Connections<T: Transport> {
 impl<T: Transport> Drop for Connections<T> {
     fn drop(self) {
         let Connections {
+            alloc: _alloc,
             canvas: _canvas,
             connections: _connections,
             is_kept: _is_kept,
@@ -129,6 +131,7 @@ impl<T: Transport> Connections<T> {
         let is_kept = is_kept(config.history);
         let screen = Screen::new(alloc, config)?;
         Ok(Connections {
+            alloc,
             is_kept,
             canvas: Canvas::new(screen),
             connections: Slab::new(alloc),

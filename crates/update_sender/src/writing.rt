@@ -54,7 +54,7 @@ impl Speaker {
             (self.new ≡ has_sent added self.old) × Writes result added bytes.now }
         ensures ended { IfErr result (λ e. (e ≡ ended.Memory) ⊎ (e ≡ ended.WriteFailed)) }
     {
-        self.sent.make_room(bytes.len())?;
+        self.sent.reserve(bytes.len())?;
         let done = put_on(writer, bytes);
         self.sent.append(&bytes[..done]);
         all_written(done, bytes.len())
