@@ -29,7 +29,7 @@ use std::marker::Model;
 
 /// One viewer's marks: the places of the screen that are owed to it, those that await a copy and by which offset, and those
 /// that it asked for. All other places are clean.
-#[derive(Debug, Drop)]
+#[derive(Debug)]
 pub struct Marks {
     alloc: Global,
     width: u32,
@@ -38,6 +38,21 @@ pub struct Marks {
     offset_x: i32,
     offset_y: i32,
     asked: Region,
+}
+
+// Written out, so that who holds one proves one call here, and not the drop of each field.
+impl Drop for Marks {
+    fn drop(self) {
+        let Marks {
+            alloc: _alloc,
+            width: _width,
+            height: _height,
+            sets: _sets,
+            offset_x: _offset_x,
+            offset_y: _offset_y,
+            asked: _asked,
+        } = self;
+    }
 }
 
 impl Model for Marks {

@@ -24,13 +24,25 @@ use std::marker::Model;
 /// It keeps the allocator that it was made with. A row is shared with the snapshots that were taken of it, until it is drawn
 /// over. Where new rows took the place of others, these are kept, at most one for each of the picture's rows: as soon as no
 /// snapshot holds them, later ones are written in their memory. What they hold is no part of the picture.
-#[derive(Drop)]
 pub struct Framebuffer {
     alloc: Global,
     width: u32,
     height: u32,
     rows: Vec<Row>,
     retired: Vec<Row>,
+}
+
+// Written out, so that who holds one proves one call here, and not the drop of each field.
+impl Drop for Framebuffer {
+    fn drop(self) {
+        let Framebuffer {
+            alloc: _alloc,
+            width: _width,
+            height: _height,
+            rows: _rows,
+            retired: _retired,
+        } = self;
+    }
 }
 
 impl Model for Framebuffer {
@@ -45,12 +57,23 @@ impl Model for Framebuffer {
 }
 
 /// The colours of a block of a picture as they were when it was taken, row by row. What is drawn later doesn't change them.
-#[derive(Drop)]
 pub struct Snapshot {
     alloc: Global,
     rows: Vec<Row>,
     left: usize,
     columns: usize,
+}
+
+// Written out, so that who holds one proves one call here, and not the drop of each field.
+impl Drop for Snapshot {
+    fn drop(self) {
+        let Snapshot {
+            alloc: _alloc,
+            rows: _rows,
+            left: _left,
+            columns: _columns,
+        } = self;
+    }
 }
 
 impl Model for Snapshot {
