@@ -53,7 +53,7 @@ enum vnc_reason {
 
 /* A viewer came, or went. What doesn't belong to its kind is 0. */
 typedef struct vnc_visit {
-    uint64_t viewer; /* counted from 1, as they come; no number comes again */
+    uint64_t viewer; /* counted from 1, as they come; no number comes again before the next vnc_server_listen */
     uint32_t kind;   /* a vnc_visit_kind */
     uint32_t reason; /* of one that went: a vnc_reason */
     int32_t fault;   /* of one at fault: a vnc_fault */

@@ -10,7 +10,7 @@ enum vnc_code {
     VNC_BAD_SIZE = -1,        /* columns or rows are not 1 to 8192, or there are more than 2^24 places */
     VNC_BAD_NAME = -2,        /* a name of more than 255 bytes */
     VNC_BAD_RECT_LIMIT = -3,  /* not 1 to 1000 */
-    VNC_BAD_RECT = -4,        /* not on the screen, or corners in the wrong order */
+    VNC_BAD_RECT = -4,        /* corners of colours (paint, write_pixels) in the wrong order, or off the screen */
     VNC_BAD_PIXEL_COUNT = -5, /* not as many colours as places */
     VNC_TEXT_TOO_LONG = -6,   /* more than 65536 bytes */
     VNC_NO_VIEWER = -7,       /* no live viewer has the number */
