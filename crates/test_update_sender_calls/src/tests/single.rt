@@ -141,7 +141,42 @@ fn senders_end(rt: HostRuntime) -> Result<(), Fail> {
     Ok(())
 }
 
-/// Whether each drawing call is accepted, also one of no place, and one with too few colours is refused.
+/// Rectangles of no place: at the left border, further in, and at the last corner.
+static NOTHING: [Rect; 3] = [
+    Rect {
+        x1: 0,
+        y1: 0,
+        x2: 0,
+        y2: 3,
+    },
+    Rect {
+        x1: 2,
+        y1: 1,
+        x2: 2,
+        y2: 1,
+    },
+    Rect {
+        x1: 4,
+        y1: 3,
+        x2: 4,
+        y2: 3,
+    },
+];
+
+/// Each of them is accepted.
+fn draws_nothing<L: Ledger, R: Wait>(
+    rt: &R,
+    shared: &Shared<L>,
+    brush: &mut Brush<L>,
+) -> Result<(), ScreenError> {
+    for rect in &NOTHING {
+        brush.write_pixels(shared, rt, *rect, &[])?;
+        brush.paint(shared, rt, *rect, &[])?;
+    }
+    Ok(())
+}
+
+/// Whether each drawing call is accepted, also those of no place, and one with too few colours is refused.
 fn draws_all<L: Ledger, R: Wait>(
     rt: &R,
     alloc: Global,
@@ -154,9 +189,8 @@ fn draws_all<L: Ledger, R: Wait>(
         x2: 4,
         y2: 3,
     };
-    let nothing = Rect { x2: 0, ..all };
     draw_each(rt, alloc, shared, brush)?;
-    brush.paint(shared, rt, nothing, &[])?;
+    draws_nothing(rt, shared, brush)?;
     Ok(matches!(
         brush.paint(shared, rt, all, &[10]),
         Err(ScreenError::BadPixelCount)
