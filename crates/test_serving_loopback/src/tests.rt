@@ -301,10 +301,12 @@ fn no_client_waits_for_another(rt: HostRuntime) -> Result<(), Fail> {
     Ok(())
 }
 
-/// A client that says nothing, and one with a text, at which the application does not go on (7.5.6).
+/// A client that says nothing and waits until its connection is shut, and one with a text, at which the application does not go on
+/// (7.5.6).
 static REFUSED: [Client; 2] = [
+    // it reads the version, if that was written before, and no byte more
     Client {
-        steps: &[],
+        steps: &[(b"", 13), (b"", 1)],
         ended: &[],
         last: b"",
     },
