@@ -1,11 +1,13 @@
 -- What is printed of how viewers ended, and of the judgement of a run.
-use Rattle.std.specs.Prelude.{ℕ, List, ◌++◌, codes, Result, Ok, Err}
+use Rattle.std.specs.Prelude.{◌≡◌, ℕ, List, ◌++◌, codes, Option, Result, Ok, Err}
+use Rattle.std.specs.Io.KnownBytes.{Appends}
 use Rattle.std.specs.Fmt.{decimal}
 use Rattle.receipts.specs.declared.Ended.{Ended}
 use Rattle.receipts.specs.declared.Ended.TheVariants as ended
 use Rattle.receipts.specs.declared.FinishError.{FinishError}
 use Rattle.receipts.specs.declared.FinishError.TheVariants as fault
 use Rattle.receipts.specs.declared.Receipt.{Receipt}
+use Rattle.receipts.specs.declared.Report.{Report}
 
 abbrev pub end_name : Ended → List ℕ
 end_name ended.EndOfInput = codes "EndOfInput"
@@ -42,3 +44,7 @@ judgement_line (Err e) = wrong_line e
 abbrev pub judgement_status : {X : Type 0} → Result X FinishError → ℕ
 judgement_status (Ok report) = 0
 judgement_status (Err e) = 4
+
+-- the last line that was printed is a judgement's, and so is the status
+abbrev pub Judged : Option (List ℕ) → Option (List ℕ) → ℕ → Type 0
+Judged before after status = (lines : List ℕ) × (judgement : Result Report FinishError) × Appends before after (lines ++ judgement_line judgement) × (status ≡ judgement_status judgement)

@@ -1,10 +1,10 @@
 //! What is printed of how viewers ended, and of the judgement of a run.
 
 ghost use Rattle.std.specs.Prelude.{◌≡◌, ◌⊎◌, ◌++◌, List, ℕ, flat_map, IfOk, OnOk};
-ghost use Rattle.std.specs.Io.KnownBytes.{Appends};
+ghost use Rattle.std.specs.Io.KnownBytes.{Appends, Keeps};
 ghost use Rattle.demo_app.specs.Endings.{end_line, end_name, judgement_line, judgement_status, wrong_line, wrong_name};
 
-use play_script::trouble::{Trouble, print};
+use play_script::trouble::{Trouble, flush, print, report};
 use receipts::{Ended, FinishError, Receipt, Report};
 use std::alloc::{AllocError, Global};
 use std::io::Write;
@@ -96,5 +96,15 @@ pub(crate) fn print_judgement<W: Write>(
             print(writer, &wrong_line(alloc, error)?)?;
             Ok(4)
         }
+    }
+}
+
+/// The status of a run, once what it printed is written out.
+pub(crate) fn written_out<W: Write>(writer: &mut W, status: u8) -> u8
+    ensures { ((result ≡ status) × Keeps (W.contents writer.old) (W.contents writer.new)) ⊎ ((result ≡ 3) ⊎ (result ≡ 5)) }
+{
+    match flush(writer) {
+        Ok(()) => status,
+        Err(trouble) => report(writer, trouble),
     }
 }

@@ -1,20 +1,21 @@
 //! `serve --one-thread`: the same screen, served by an event loop.
 
-ghost use Rattle.std.specs.Prelude.{◌≡◌, ◌⊎◌, ◌++◌, ◌∷◌, [], List, None, IfOk, OnOk, option_map};
+ghost use Rattle.std.specs.Prelude.{◌≡◌, ◌⊎◌, ◌++◌, ◌∷◌, [], List, None, true, IfOk, OnOk, option_map};
 ghost use Rattle.std.specs.Option.{option_to_list};
 ghost use Rattle.scene.specs.declared.Config.{Config};
 ghost use Rattle.scene.specs.declared.Event.{Event};
 ghost use Rattle.screen.specs.State.{state};
 ghost use Rattle.demo_app.specs.Application.{event_for, kept_in, stroke_event};
+ghost use Rattle.demo_app.specs.Endings.{Judged};
 ghost use Rattle.scene.specs.Alone.{config_refusal};
 ghost use Rattle.connections.specs.Drawing.{Draws};
 
-use crate::endings::{print_ends, print_judgement};
+use crate::endings::{print_ends, print_judgement, written_out};
 use crate::serve::{Easel, ServeOptions, Stroke, WHITE, config_of, print_refusal};
 use event_loop::{Application, Canvas, EventLoop, Limits, LoopError, WhenFull};
 use messages::Input;
 use mio::net::TcpListener;
-use play_script::trouble::{Trouble, flush, report};
+use play_script::trouble::{Trouble, report};
 use receipts::{FinishError, Receipt, Report, check};
 use screen::{Config, Event, Listed, ScreenError};
 use std::alloc::{AllocError, Global};
@@ -144,7 +145,9 @@ fn serve<W: Write, R: Net + Clock>(
     options: &ServeOptions,
     writer: &mut W,
 ) -> Result<u8, Trouble>
-    ensures { IfOk result (λ status. (status ≡ 0) ⊎ (status ≡ 1) ⊎ (status ≡ 4)) }
+    ensures status { IfOk result (λ status. (status ≡ 0) ⊎ (status ≡ 1) ⊎ (status ≡ 4)) }
+    ensures judged { options.now.check ≡ true →
+        IfOk result (λ status. (status ≡ 1) ⊎ Judged (W.contents writer.old) (W.contents writer.new) status) }
 {
     let config = config_of(alloc, options)?;
     let mut served = match EventLoop::new(
@@ -188,11 +191,12 @@ pub fn serve_in_one_thread<W: Write, R: Net + Clock>(
     options: &ServeOptions,
     writer: &mut W,
 ) -> u8
-    ensures { (result ≡ 0) ⊎ (result ≡ 1) ⊎ (result ≡ 3) ⊎ (result ≡ 4) ⊎ (result ≡ 5) }
+    ensures status { (result ≡ 0) ⊎ (result ≡ 1) ⊎ (result ≡ 3) ⊎ (result ≡ 4) ⊎ (result ≡ 5) }
+    ensures judged { options.now.check ≡ true → ((result ≡ 0) ⊎ (result ≡ 4)) →
+        Judged (W.contents writer.old) (W.contents writer.new) result }
 {
-    let served = serve(rt, alloc, listener, options, writer);
-    match served.and_then(|status| flush(writer).map(|()| status)) {
-        Ok(status) => status,
+    match serve(rt, alloc, listener, options, writer) {
+        Ok(status) => written_out(writer, status),
         Err(trouble) => report(writer, trouble),
     }
 }

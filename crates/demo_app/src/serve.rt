@@ -1,14 +1,15 @@
 //! `serve`: a screen over TCP, on which viewers paint places, ring bells and copy texts.
 
-ghost use Rattle.std.specs.Prelude.{◌≡◌, ◌<◌, ◌⊎◌, take, IfOk, OnOk, MatchOption, option_map};
+ghost use Rattle.std.specs.Prelude.{◌≡◌, ◌<◌, ◌⊎◌, true, take, IfOk, OnOk, MatchOption, option_map};
 ghost use Rattle.update_sender.specs.Ends.{drew};
 ghost use Rattle.demo_app.specs.Application.{event_for, painted, stroke_event};
 ghost use Rattle.demo_app.specs.Screens.{config_by};
+ghost use Rattle.demo_app.specs.Endings.{Judged};
 
-use crate::endings::{print_ends, print_judgement};
+use crate::endings::{print_ends, print_judgement, written_out};
 use messages::Input;
 use play_script::refusal_text;
-use play_script::trouble::{Trouble, flush, print, report};
+use play_script::trouble::{Trouble, print, report};
 use receipts::Receipt;
 use screen::{Config, History, Listed, Rect, ScreenError};
 use serving::{Application, ServeError, Told, serve_viewers};
@@ -148,7 +149,8 @@ pub(crate) fn print_verdict<L: Ledger, W: Write>(
     brush: Brush<L>,
     receipts: Vec<Receipt>,
 ) -> Result<u8, Trouble>
-    ensures { IfOk result (λ status. (status ≡ 0) ⊎ (status ≡ 4)) }
+    ensures either { IfOk result (λ status. (status ≡ 0) ⊎ (status ≡ 4)) }
+    ensures judged { IfOk result (Judged (W.contents writer.old) (W.contents writer.new)) }
 {
     print_judgement(alloc, writer, finish(shared, brush, receipts))
 }
@@ -198,7 +200,9 @@ fn serve<L: Ledger + Send + Sync, W: Write, R: Threads + Wait + Clock + Net + Sy
     requires name { blank.name ≡ L.name }
     requires parts { blank.parts ≡ L.parts }
     requires some { 0 < L.parts }
-    ensures { IfOk result (λ status. (status ≡ 0) ⊎ (status ≡ 1) ⊎ (status ≡ 4)) }
+    ensures status { IfOk result (λ status. (status ≡ 0) ⊎ (status ≡ 1) ⊎ (status ≡ 4)) }
+    ensures judged { options.now.check ≡ true →
+        IfOk result (λ status. (status ≡ 1) ⊎ Judged (W.contents writer.old) (W.contents writer.new) status) }
 {
     let made = Shared::<L>::new(alloc, blank, config_of(alloc, options)?);
     let (shared, mut brush) = match made {
@@ -234,11 +238,12 @@ fn serve_and_flush<L: Ledger + Send + Sync, W: Write, R: Threads + Wait + Clock 
     requires name { blank.name ≡ L.name }
     requires parts { blank.parts ≡ L.parts }
     requires some { 0 < L.parts }
-    ensures { (result ≡ 0) ⊎ (result ≡ 1) ⊎ (result ≡ 3) ⊎ (result ≡ 4) ⊎ (result ≡ 5) }
+    ensures status { (result ≡ 0) ⊎ (result ≡ 1) ⊎ (result ≡ 3) ⊎ (result ≡ 4) ⊎ (result ≡ 5) }
+    ensures judged { options.now.check ≡ true → ((result ≡ 0) ⊎ (result ≡ 4)) →
+        Judged (W.contents writer.old) (W.contents writer.new) result }
 {
-    let served = serve::<L, W, R>(rt, alloc, blank, listener, options, writer);
-    match served.and_then(|status| flush(writer).map(|()| status)) {
-        Ok(status) => status,
+    match serve::<L, W, R>(rt, alloc, blank, listener, options, writer) {
+        Ok(status) => written_out(writer, status),
         Err(trouble) => report(writer, trouble),
     }
 }
@@ -256,7 +261,9 @@ pub fn serve_on<W: Write, R: Threads + Wait + Clock + Net + Sync>(
     options: &ServeOptions,
     writer: &mut W,
 ) -> u8
-    ensures { (result ≡ 0) ⊎ (result ≡ 1) ⊎ (result ≡ 3) ⊎ (result ≡ 4) ⊎ (result ≡ 5) }
+    ensures status { (result ≡ 0) ⊎ (result ≡ 1) ⊎ (result ≡ 3) ⊎ (result ≡ 4) ⊎ (result ≡ 5) }
+    ensures judged { options.now.check ≡ true → ((result ≡ 0) ⊎ (result ≡ 4)) →
+        Judged (W.contents writer.old) (W.contents writer.new) result }
 {
     serve_and_flush::<Brand, W, R>(rt, alloc, Blank::new(1), listener, options, writer)
 }

@@ -1,4 +1,5 @@
 use Rattle.std.proofs.Common.{◌≡◌, ◌⊎◌, ℕ, Result, Ok, Err, IfOk, inl, inr}
+use Rattle.demo_app.proofs.JudgedLemmas.{judged_here, judged_last}
 use Rattle.demo_app.proofs.one_thread.serve.Goals as goal
 
 -- a judgement's status is one of serving
@@ -7,5 +8,10 @@ widened (Ok s) (inl h) = inl h
 widened (Ok s) (inr h) = inr (inr h)
 widened (Err e) h = tt
 
-pub returns-then-options : goal.returns-then-options
-returns-then-options g c = widened c.print_judgement.result c.print_judgement.ensures.either
+pub returns-then-options-clause-status : goal.returns-then-options-clause-status
+returns-then-options-clause-status g c = widened c.print_judgement.result c.print_judgement.ensures.either
+
+pub returns-then-options-clause-judged : goal.returns-then-options-clause-judged
+returns-then-options-clause-judged g c check =
+    judged_last (g.W.Write.contents c.args.writer.now) (g.W.Write.contents c.print_ends.new.writer) (g.W.Write.contents c.print_judgement.new.writer) _ c.print_judgement.result c.in_ok-print_ends.ensures
+    (judged_here (g.W.Write.contents c.print_ends.new.writer) (g.W.Write.contents c.print_judgement.new.writer) c.print_judgement.result c.judge.result c.print_judgement.ensures.printed c.print_judgement.ensures.status)
