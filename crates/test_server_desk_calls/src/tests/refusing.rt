@@ -153,33 +153,3 @@ fn what_is_refused_changes_nothing(rt: HostRuntime) -> Result<(), Fail> {
     assert_eq!(rt; desk.lost(), 0);
     Ok(())
 }
-
-// Off the picture there is no colour.
-#[test]
-fn there_is_no_colour_off_the_picture(rt: HostRuntime) {
-    let mut desk = listening(rt.alloc(), 2, 1);
-    assert_eq!(rt; desk.paint(1, 0, 2, 1, &[0xff_ffff]), 0);
-    assert_eq!(rt; desk.colour(1, 0), 0xff_ffff);
-    assert_eq!(rt; desk.colour(2, 0), -12);
-    assert_eq!(rt; desk.colour(0, 1), -12);
-    assert_eq!(rt; desk.colour(u32::MAX, u32::MAX), -12);
-}
-
-// Coordinates of a region up to 2^20 are taken, and marks and copies of rectangles that lie off the picture, in whole or in part.
-#[test]
-fn what_lies_off_the_picture_is_left_out(rt: HostRuntime) {
-    let mut desk = listening(rt.alloc(), 2, 1);
-    let widest = Corners {
-        x1: -0x10_0000,
-        y1: -0x10_0000,
-        x2: 0x10_0000,
-        y2: 0x10_0000,
-    };
-    assert_eq!(rt; desk.mark_region(&[widest]), 0);
-    assert_eq!(rt; desk.mark_region(&[]), 0);
-    assert_eq!(rt; desk.mark_rect(-5, -5, 5, 5), 0);
-    assert_eq!(rt; desk.mark_rect(7, 7, 9, 9), 0);
-    assert_eq!(rt; desk.paint(0, 0, 2, 1, &[3, 4]), 0);
-    assert_eq!(rt; desk.do_copy_rect(-5, -5, 5, 5, 1, 0), 0);
-    assert_eq!(rt; (desk.colour(0, 0), desk.colour(1, 0)), (3, 3));
-}

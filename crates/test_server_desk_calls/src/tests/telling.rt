@@ -62,24 +62,6 @@ fn inputs_are_fetched_in_order(rt: HostRuntime) -> Result<(), Fail> {
     Ok(())
 }
 
-// As many are fetched as there is room for, and a text is the last of a call's; the others wait, and the rest of the room stays.
-#[test]
-fn inputs_are_fetched_up_to_a_text(rt: HostRuntime) -> Result<(), Fail> {
-    let mut desk = listening(rt.alloc(), 2, 1);
-    let mut viewer = opened(&rt, &mut desk)?;
-    assert!(rt; has_said(&mut desk, &mut viewer, INPUTS));
-    let mut room = [NOTHING_TOLD; 4];
-    assert_eq!(rt; desk.inputs(&mut []), 0);
-    assert_eq!(rt; desk.inputs(&mut room[..1]), 1);
-    assert_eq!(rt; room, [KEY_DOWN, NOTHING_TOLD, NOTHING_TOLD, NOTHING_TOLD]);
-    assert_eq!(rt; desk.inputs(&mut room), 2);
-    assert_eq!(rt; room, [POINTER, TEXT, NOTHING_TOLD, NOTHING_TOLD]);
-    assert_eq!(rt; desk.inputs(&mut room), 1);
-    assert_eq!(rt; room, [KEY_UP, TEXT, NOTHING_TOLD, NOTHING_TOLD]);
-    assert_eq!(rt; desk.inputs(&mut room), 0);
-    Ok(())
-}
-
 // A text's first bytes are had, as many as there is room for, until another text is fetched; the rest of the room stays.
 #[test]
 fn a_text_is_had_until_the_next_one(rt: HostRuntime) -> Result<(), Fail> {
@@ -147,22 +129,5 @@ fn a_long_text_is_shortened(rt: HostRuntime) -> Result<(), Fail> {
     assert_eq!(rt; desk.text(&mut room), 262_144);
     assert!(rt; are_letters_a(&room));
     assert!(rt; is_heard(&mut desk, &mut viewer));
-    Ok(())
-}
-
-// Two viewers' inputs come with their numbers, in the order in which they were heard.
-#[test]
-fn inputs_have_their_viewers_numbers(rt: HostRuntime) -> Result<(), Fail> {
-    let mut desk = listening(rt.alloc(), 2, 1);
-    let mut first = opened(&rt, &mut desk)?;
-    let mut second = opened(&rt, &mut desk)?;
-    assert!(rt; has_said(&mut desk, &mut second, b"\x04\x01\0\0\0\0\xff\x0d"));
-    assert!(rt; has_said(&mut desk, &mut first, b"\x04\x01\0\0\0\0\xff\x0d"));
-    let of_second = Told {
-        viewer: 2,
-        ..KEY_DOWN
-    };
-    assert_eq!(rt; next_input(&mut desk), of_second);
-    assert_eq!(rt; next_input(&mut desk), KEY_DOWN);
     Ok(())
 }

@@ -25,27 +25,6 @@ fn a_viewer_leaves(rt: HostRuntime) -> Result<(), Fail> {
     Ok(())
 }
 
-// Comings and goings are fetched in order, as many as there is room for; the others wait, and the rest of the room stays.
-#[test]
-fn visits_are_fetched_as_there_is_room(rt: HostRuntime) -> Result<(), Fail> {
-    let mut desk = listening(rt.alloc(), 2, 1);
-    let first = opened(&rt, &mut desk)?;
-    let mut second = opened(&rt, &mut desk)?;
-    drop(first);
-    assert_eq!(rt; next_visit(&mut desk), came(1));
-    assert!(rt; is_heard(&mut desk, &mut second));
-    let third = opened(&rt, &mut desk)?;
-    drop(third);
-    let mut room = [NO_VISIT; 2];
-    assert_eq!(rt; desk.comings_and_goings(&mut []), 0);
-    assert_eq!(rt; desk.comings_and_goings(&mut room), 2);
-    assert_eq!(rt; room, [came(2), went(1, 1)]);
-    assert_eq!(rt; desk.comings_and_goings(&mut room), 1);
-    assert_eq!(rt; room, [came(3), went(1, 1)]);
-    assert_eq!(rt; next_visit(&mut desk), went(3, 1));
-    Ok(())
-}
-
 // What viewers say in which there is a fault, and its number.
 static FAULTS: [(&[u8], i32); 7] = [
     // no version (7.1.1)

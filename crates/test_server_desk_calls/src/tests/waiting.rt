@@ -1,7 +1,7 @@
 // How long turns wait, what ends a wait, and what a program with a loop of its own waits for.
 
 use crate::tests::viewers::{
-    CHANGES, came, connected, is_heard, listening, next_visit, opened, reads, says, watching,
+    CHANGES, came, connected, is_heard, listening, next_visit, reads, says, watching,
 };
 use mio::unix::SourceFd;
 use mio::{Events, Interest, Poll, Token};
@@ -150,22 +150,5 @@ fn the_handle_is_ready_where_a_viewer_comes(rt: HostRuntime) -> Result<(), Fail>
     assert!(rt; is_ready(&mut poll, &mut events, 1_000)?);
     assert_eq!(rt; desk.process_events(0), 0);
     assert_eq!(rt; next_visit(&mut desk), came(1));
-    Ok(())
-}
-
-// Two desks have nothing in common: each has its own viewers, picture and port.
-#[test]
-fn two_desks_serve_side_by_side(rt: HostRuntime) -> Result<(), Fail> {
-    let mut one = listening(rt.alloc(), 2, 1);
-    let mut other = listening(rt.alloc(), 3, 2);
-    let _viewer = opened(&rt, &mut one)?;
-    assert_eq!(rt; one.paint(0, 0, 1, 1, &[7]), 0);
-    assert!(rt; one.port() != other.port());
-    assert!(rt; one.handle() != other.handle());
-    assert_eq!(rt; (one.viewer_count(), other.viewer_count()), (1, 0));
-    assert_eq!(rt; (one.colour(0, 0), other.colour(0, 0)), (7, 0));
-    assert_eq!(rt; one.close(), 0);
-    assert_eq!(rt; other.process_events(0), 0);
-    assert_eq!(rt; other.width(), 3);
     Ok(())
 }
