@@ -4,12 +4,16 @@ use Rattle.std.specs.Io.KnownBytes.{Appends}
 use Rattle.std.proofs.KnownBytes.{Appends-trans}
 use Rattle.receipts.specs.declared.FinishError.{FinishError}
 use Rattle.receipts.specs.declared.Report.{Report}
-use Rattle.demo_app.specs.Endings.{Judged, judgement_line, judgement_status}
+use Rattle.demo_app.specs.Endings.{Judged, Tells, judgement_line, judgement_status}
 
 -- a judgement that was printed
 pub judged_here : {E : Type 0} (a b : Option (List ℕ)) (r : Result ℕ E) (j : Result Report FinishError) → OnOk r (Appends a b (judgement_line j)) → IfOk r (λ s. s ≡ judgement_status j) → IfOk r (Judged a b)
 judged_here a b (Ok s) j printed e = ([], j, printed, e)
 judged_here a b (Err e) j printed is = tt
+
+pub told_here : {E : Type 0} (IsSuch : Result Report FinishError → Type 0) (a b : Option (List ℕ)) (r : Result ℕ E) (j : Result Report FinishError) → IsSuch j → OnOk r (Appends a b (judgement_line j)) → IfOk r (λ s. s ≡ judgement_status j) → IfOk r (Tells IsSuch a b)
+told_here IsSuch a b (Ok s) j such printed e = (j, such, printed, e)
+told_here IsSuch a b (Err e) j such printed is = tt
 
 judged_behind : (a b c : Option (List ℕ)) (lines : List ℕ) (s : ℕ) → Appends a b lines → Judged b c s → Judged a c s
 judged_behind a b c lines s first j =

@@ -48,3 +48,7 @@ judgement_status (Err e) = 4
 -- the last line that was printed is a judgement's, and so is the status
 abbrev pub Judged : Option (List ℕ) → Option (List ℕ) → ℕ → Type 0
 Judged before after status = (lines : List ℕ) × (judgement : Result Report FinishError) × Appends before after (lines ++ judgement_line judgement) × (status ≡ judgement_status judgement)
+
+-- such a judgement is all that was printed, and the status is its
+abbrev pub Tells : (Result Report FinishError → Type 0) → Option (List ℕ) → Option (List ℕ) → ℕ → Type 0
+Tells IsSuch before after status = (judgement : Result Report FinishError) × IsSuch judgement × Appends before after (judgement_line judgement) × (status ≡ judgement_status judgement)

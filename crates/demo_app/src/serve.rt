@@ -4,7 +4,8 @@ ghost use Rattle.std.specs.Prelude.{◌≡◌, ◌<◌, ◌⊎◌, true, take, I
 ghost use Rattle.update_sender.specs.Ends.{drew};
 ghost use Rattle.demo_app.specs.Application.{event_for, painted, stroke_event};
 ghost use Rattle.demo_app.specs.Screens.{config_by};
-ghost use Rattle.demo_app.specs.Endings.{Judged};
+ghost use Rattle.demo_app.specs.Endings.{Judged, Tells};
+ghost use Rattle.update_sender.specs.Finishing.{Finishes};
 
 use crate::endings::{print_ends, print_judgement, written_out};
 use messages::Input;
@@ -151,6 +152,7 @@ pub(crate) fn print_verdict<L: Ledger, W: Write>(
 ) -> Result<u8, Trouble>
     ensures either { IfOk result (λ status. (status ≡ 0) ⊎ (status ≡ 4)) }
     ensures judged { IfOk result (Judged (W.contents writer.old) (W.contents writer.new)) }
+    ensures finished { IfOk result (Tells (Finishes shared brush receipts.items) (W.contents writer.old) (W.contents writer.new)) }
 {
     print_judgement(alloc, writer, finish(shared, brush, receipts))
 }

@@ -57,7 +57,7 @@ fn red_lowest(bytes: BytesPerPixel, big_endian: bool) -> SourceFormat<'static> {
     })
 }
 
-/// How many places change where one row of two pixels is taken in at column 1 of row 1, and whether they then have these colours.
+/// How many places change where one row of two pixels is taken in at the place (1, 1), and whether they then have these colours.
 fn takes(
     alloc: Global,
     bytes: &[u8],
