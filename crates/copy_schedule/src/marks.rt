@@ -107,25 +107,24 @@ impl Prepared {
 
 impl Marks {
     /// At connecting every place is owed, and none is asked for. The width and the height are in places, at most 8192 each.
-    /// `AllocError` where memory for a rectangle is refused.
-    pub fn new(alloc: Global, width: u32, height: u32) -> Result<Marks, AllocError>
+    /// This takes no memory.
+    pub fn new(alloc: Global, width: u32, height: u32) -> Marks
         requires columns { width ≤ longest_side }
         requires rows { height ≤ longest_side }
-        ensures { IfOk result (λ marks. marks ≡ new_marks width height) }
+        ensures { result ≡ new_marks width height }
     {
-        let owed = screen_places(alloc, width, height)?;
-        Ok(Marks {
+        Marks {
             alloc,
             width,
             height,
             sets: MarkSets {
-                owed,
+                owed: screen_places(alloc, width, height),
                 copied: Region::new(alloc),
             },
             offset_x: 0,
             offset_y: 0,
             asked: Region::new(alloc),
-        })
+        }
     }
 
     /// Equal marks. `AllocError` where memory is refused.
@@ -205,9 +204,9 @@ impl Marks {
         ensures { IfOk result (λ prepared. prepared ≡ resized width height (in_rect view) self.now) }
     {
         let alloc = self.alloc;
-        let seen = part_of(alloc, view, (0, 0), width, height)?;
+        let seen = part_of(alloc, view, (0, 0), width, height);
         let asked = self.asked.intersection(&seen)?;
-        let all = screen_places(alloc, width, height)?;
+        let all = screen_places(alloc, width, height);
         Ok(Prepared {
             marks: Marks {
                 alloc,
@@ -284,14 +283,14 @@ impl Marks {
         ensures err { OnErr result (self.new ≡ self.old) }
     {
         let (width, height) = (self.width, self.height);
-        let part = part_of(self.alloc, rect, (0, 0), width, height)?;
+        let part = part_of(self.alloc, rect, (0, 0), width, height);
         let asked = self.asked.union(&part)?;
         if incremental {
             self.asked = asked;
             return Ok(());
         }
         let offset = (self.offset_x, self.offset_y);
-        let awaiting = part_of(self.alloc, rect, offset, width, height)?;
+        let awaiting = part_of(self.alloc, rect, offset, width, height);
         let sets = forgetting(&self.sets, &part, &awaiting)?;
         self.sets = sets;
         self.asked = asked;

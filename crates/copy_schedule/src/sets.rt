@@ -39,10 +39,10 @@ pub fn moved_by(alloc: Global, region: &Region, offset: (i32, i32)) -> Result<Re
 }
 
 /// The places of a screen.
-pub fn screen_places(alloc: Global, width: u32, height: u32) -> Result<Region, AllocError>
+pub fn screen_places(alloc: Global, width: u32, height: u32) -> Region
     requires width { width ≤ longest_side }
     requires height { height ≤ longest_side }
-    ensures { IfOk result (λ all. (x y : ℤ) → covers all.list x y ≡ on_screen width height x y) }
+    ensures { (x y : ℤ) → covers result.list x y ≡ on_screen width height x y }
 {
     let screen = Rect {
         x1: 0,
@@ -50,8 +50,7 @@ pub fn screen_places(alloc: Global, width: u32, height: u32) -> Result<Region, A
         x2: width as i32,
         y2: height as i32,
     };
-    let all = Region::from_rect_in_range(alloc, screen)?;
-    Ok(all)
+    Region::from_rect_in_range(alloc, screen)
 }
 
 /// The rectangle of a window of a screen.
@@ -71,21 +70,14 @@ fn window_rect(window: Window) -> Rect
 }
 
 /// The places of a screen whose places (dx, dy) before them are in a rectangle.
-pub fn part_of(
-    alloc: Global,
-    rect: Rect,
-    offset: (i32, i32),
-    width: u32,
-    height: u32,
-) -> Result<Region, AllocError>
+pub fn part_of(alloc: Global, rect: Rect, offset: (i32, i32), width: u32, height: u32) -> Region
     requires width { width ≤ longest_side }
     requires height { height ≤ longest_side }
-    ensures { IfOk result (λ part. (x y : ℤ) →
-        covers part.list x y ≡ (in_rect rect (x -ℤ offset.0) (y -ℤ offset.1) && on_screen width height x y)) }
+    ensures { (x y : ℤ) →
+        covers result.list x y ≡ (in_rect rect (x -ℤ offset.0) (y -ℤ offset.1) && on_screen width height x y) }
 {
     let window = window_of(rect, offset.0, offset.1, width, height);
-    let part = Region::from_rect_in_range(alloc, window_rect(window))?;
-    Ok(part)
+    Region::from_rect_in_range(alloc, window_rect(window))
 }
 
 /// Whether the numbers from `low` to before `high` are from 0 to before `end`.
@@ -142,7 +134,7 @@ pub fn part_on_screen(
     requires height { height ≤ longest_side }
     ensures { IfOk result (λ part. (x y : ℤ) → covers part.list x y ≡ (covers region.now.list x y && on_screen width height x y)) }
 {
-    let screen = screen_places(alloc, width, height)?;
+    let screen = screen_places(alloc, width, height);
     let part = region.intersection(&screen)?;
     Ok(part)
 }

@@ -1,10 +1,13 @@
 -- Whether bands have one rectangle, as a reader finds it.
-use Rattle.std.proofs.Common.{◌≡◌, ◌≢◌, List, [], ◌∷◌, ◌++◌, map, refl, sym, ◌∙◌, ap, Option, Some, None, true, false}
+use Rattle.std.proofs.Common.{◌≡◌, ◌≢◌, List, [], ◌∷◌, ◌++◌, map, refl, sym, ◌∙◌, ap, subst, Option, Some, None, true, false}
 use Rattle.std.specs.Prelude.{slice_get, is_some}
 use Rattle.std.specs.Option.{option_map}
 use Rattle.std.proofs.lemmas.Option.{same_Some}
 use Rattle.region.specs.RegionView.{only}
-use Rattle.region.specs.Rects.{rect_of, rects_in}
+use Rattle.region.specs.Rects.{rect_of, rects_in, band_of}
+use Rattle.region.specs.Forms.{HasPlaces}
+use Rattle.region.specs.declared.Rect.{Rect}
+use Rattle.region_rows.specs.Rows.{IsRow}
 use Rattle.region.proofs.ListLemmas.{first_there, none_there}
 use Rattle.region_bands.specs.declared.Interval.{Interval}
 use Rattle.region_bands.specs.declared.Rows.{Rows}
@@ -115,3 +118,24 @@ one_read r next after rows i h advance last ended = go r.bands refl
         let row : b.row ≡ i ∷ [] = ap first_row (sym e) ∙ sym (ap (λ q. q.left) h.begun) ∙ there.1 ∙ ap (λ l. i ∷ l) alone in
         let same : rows_of b ≡ rows = same_Some (rows_of b) rows (ap (λ l. option_map rows_of (slice_get l 0)) (sym e) ∙ h.first_rows) in
         ap (λ l. only (rects_in l)) e ∙ ap (λ r. only (map (rect_of (rows_of b)) r ++ [])) row ∙ ap (λ q. Some (rect_of q i)) same
+
+-- the only rectangle of bands, which are its band
+pub record IsOnly (r : Rect) (bands : List Band) : Type 0 where
+  pub is : band_of r ∷ [] ≡ bands
+  pub has_places : HasPlaces r
+
+pub only_is : (bands : List Band) (r : Rect) → AreBands bands → only (rects_in bands) ≡ Some r → IsOnly r bands
+only_is [] r h e = absurd (let no : None ≡ Some r = e in cc)
+only_is (b ∷ c ∷ rest) r h e = absurd (let no : None ≡ Some r = sym (two_bands b c rest h.0.columns (columns c rest h.2)) ∙ e in cc)
+only_is (b ∷ []) r h e = go b.row refl
+  where
+    go : (row : List Interval) → b.row ≡ row → IsOnly r (b ∷ [])
+    go [] none = absurd (h.columns none)
+    go (i ∷ j ∷ row) more = absurd (let no : None ≡ Some r = sym (two_columns b [] i j row more) ∙ e in cc)
+    go (i ∷ []) one = record {
+      is = ap (λ q. band_of q ∷ []) (sym same) ∙ ap (λ l. let c : Band = record { top = b.top; bottom = b.bottom; row = l } in c ∷ []) (sym one);
+      has_places = subst HasPlaces same (record { columns = subst IsRow one h.row; rows = h.some });
+    }
+      where
+        same : rect_of (rows_of b) i ≡ r
+        same = same_Some (rect_of (rows_of b) i) r (ap (λ l. only (map (rect_of (rows_of b)) l ++ [])) (sym one) ∙ e)

@@ -6,6 +6,7 @@ use Rattle.std.specs.Option.{option_map}
 use Rattle.std.specs.List.{AllByRecursion}
 use Rattle.std.proofs.lemmas.List.Folds.{list_any-append}
 use Rattle.std.proofs.lemmas.Option.{same_Some}
+use Rattle.region.specs.declared.Rect.{Rect}
 use Rattle.region.specs.RegionView.{coordinate, in_range, moved_rect, leaves_range}
 use Rattle.region_bands.specs.declared.Interval.{Interval}
 use Rattle.region_bands.specs.declared.Rows.{Rows}
@@ -106,6 +107,20 @@ none_of true b e = absurd (cc)
 both_of : (a b : Bool) → (a && b) ≡ true → (a ≡ true) × (b ≡ true)
 both_of true b e = (refl, e)
 both_of false b e = absurd (cc)
+
+-- a rectangle that stays in the range has ends that are numbers of 32 bits there
+pub record FitMoved (dx dy : ℤ) (r : Rect) : Type 0 where
+  pub left : FitsSigned w32 (r.x1 +ℤ dx)
+  pub top : FitsSigned w32 (r.y1 +ℤ dy)
+  pub right : FitsSigned w32 (r.x2 +ℤ dx)
+  pub bottom : FitsSigned w32 (r.y2 +ℤ dy)
+
+pub moved_fits : (dx dy : ℤ) (r : Rect) → in_range (moved_rect dx dy r) ≡ true → FitMoved dx dy r
+moved_fits dx dy r e =
+    let parts = both_of (coordinate (r.x1 +ℤ dx) && coordinate (r.y1 +ℤ dy)) (coordinate (r.x2 +ℤ dx) && coordinate (r.y2 +ℤ dy)) e in
+    let low = both_of (coordinate (r.x1 +ℤ dx)) (coordinate (r.y1 +ℤ dy)) parts.0 in
+    let high = both_of (coordinate (r.x2 +ℤ dx)) (coordinate (r.y2 +ℤ dy)) parts.1 in
+    record { left = fits (r.x1 +ℤ dx) low.0; top = fits (r.y1 +ℤ dy) low.1; right = fits (r.x2 +ℤ dx) high.0; bottom = fits (r.y2 +ℤ dy) high.1 }
 
 so_true : (a : Bool) → not a ≡ false → a ≡ true
 so_true true e = refl

@@ -1,5 +1,5 @@
 -- Room for the bands of the places of two regions.
-use Rattle.std.proofs.Common.{◌≡◌, ◌+◌, ◌*◌, ◌/◌, ◌≤◌, ℕ, List, sym, ◌∙◌, ap, arith}
+use Rattle.std.proofs.Common.{◌≡◌, ◌*◌, ◌/◌, ◌≤◌, ℕ, List, sym, ◌∙◌, ap, arith}
 use Rattle.std.specs.Prelude.{ℤ, ◌||◌, IsTrue, ◌↔◌}
 use Rattle.std.proofs.Math.Dec.{leb}
 use Rattle.std.proofs.lemmas.Bool.{le-leb, leb-true}
@@ -30,8 +30,8 @@ kept_both a b bands v w e f h = record { are_bands = h.are_bands; has = λ x y. 
 pub has_room : (a b : List Band) (v w : RegionView) → rects_in a ≡ v.list → rects_in b ≡ w.list → ((bands : List Band) → IsKept Either a b bands → 2 * nodes_in bands ≤ v.room) → IsRoomFor v w
 has_room a b v w e f few = λ bands both. few bands (both_kept a b bands v.list w.list e f both)
 
-pub kept_fit : (a b : List Band) (v w : RegionView) (spare : ℕ) → rects_in a ≡ v.list → rects_in b ≡ w.list → IsRoomFor v w → v.room ≤ spare → (bands : List Band) → IsKept Either a b bands → nodes_in bands + nodes_in bands ≤ spare
-kept_fit a b v w spare e f h within bands kept = let few : 2 * nodes_in bands ≤ v.room = h bands (kept_both a b bands v.list w.list e f kept) in omega (arith, few, within)
+pub kept_in_room : (a b : List Band) (v w : RegionView) → rects_in a ≡ v.list → rects_in b ≡ w.list → IsRoomFor v w → (bands : List Band) → IsKept Either a b bands → 2 * nodes_in bands ≤ v.room
+kept_in_room a b v w e f h bands kept = h bands (kept_both a b bands v.list w.list e f kept)
 
 -- by how many nodes they take, since there are such bands
 pub whether_room : (a b : List Band) (v w : RegionView) (nodes : ℕ) → AreBands a → AreBands b → rects_in a ≡ v.list → rects_in b ≡ w.list → ((bands : List Band) → IsKept Either a b bands → nodes ≡ nodes_in bands) → IsTrue (leb nodes (v.room / 2)) ↔ IsRoomFor v w

@@ -1,6 +1,6 @@
 //! Whether rectangles are in the range of coordinates, and whether bands leave it where they are moved.
 
-ghost use Rattle.std.specs.Prelude.{◌≡◌, ℤ, ◌+ℤ◌, ◌&&◌, not, map};
+ghost use Rattle.std.specs.Prelude.{◌≡◌, ℤ, ◌+ℤ◌, ◌&&◌, not, true, map};
 ghost use Rattle.std.specs.List.{list_any};
 ghost use Rattle.region.specs.RegionView.{coordinate, in_range, moved_rect, leaves_range};
 ghost use Rattle.region_bands.specs.Bands.{first_row};
@@ -70,6 +70,19 @@ fn leaves_range(rows: Rows, columns: Interval, by: Offset) -> bool
     ensures { result ≡ not (in_range (moved_rect by.dx by.dy (rect_of rows columns))) }
 {
     !sides_stay(rows, columns, by)
+}
+
+// A rectangle, moved by an offset that leads it nowhere out of the range.
+pub(crate) fn moved(rect: Rect, dx: i32, dy: i32) -> Rect
+    requires { in_range (moved_rect dx dy rect) ≡ true }
+    ensures { result ≡ moved_rect dx dy rect }
+{
+    Rect {
+        x1: rect.x1 + dx,
+        y1: rect.y1 + dy,
+        x2: rect.x2 + dx,
+        y2: rect.y2 + dy,
+    }
 }
 
 // Whether a rectangle of what is left of the reader's first band, which has these rows, leaves the range.

@@ -2,7 +2,8 @@
 
 ghost use Rattle.std.specs.Prelude.{◌≡◌, ◌<◌, ◌↔◌, IsTrue, length};
 
-use region_bands::{BandList, Reader};
+use crate::form::Form;
+use region_bands::Reader;
 
 /// Whether the first reader has fewer bands to read than the second. Both are read as far as it takes to know.
 pub(crate) fn has_fewer(first: &mut Reader, second: &mut Reader) -> bool
@@ -43,9 +44,9 @@ fn has_few(first: &mut Reader, second: &mut Reader) -> bool {
     true
 }
 
-/// Whether neither list has few bands beside the other, so that what is kept of both is made sooner anew than in the place of
-/// one. Which lists these are is in no clause: it costs time alone.
-pub(crate) fn are_alike(first: &BandList, second: &BandList) -> bool {
+/// Whether neither region has few bands beside the other, so that what is kept of both is made sooner anew than in the place of
+/// one. Which regions these are is in no clause: it costs time alone.
+pub(crate) fn are_alike(first: &Form, second: &Form) -> bool {
     !has_few(&mut first.reader(), &mut second.reader())
         && !has_few(&mut second.reader(), &mut first.reader())
 }

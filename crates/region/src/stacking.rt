@@ -19,7 +19,7 @@ pub(crate) fn has_places(rect: Rect) -> bool
     rect.x1 < rect.x2 && rect.y1 < rect.y2
 }
 
-fn rows_of(rect: Rect) -> Rows
+pub(crate) fn rows_of(rect: Rect) -> Rows
     ensures { result ≡ rows_in rect }
 {
     Rows {
@@ -28,7 +28,7 @@ fn rows_of(rect: Rect) -> Rows
     }
 }
 
-fn columns_of(rect: Rect) -> Interval
+pub(crate) fn columns_of(rect: Rect) -> Interval
     ensures { result ≡ columns_in rect }
 {
     Interval {

@@ -1,3 +1,4 @@
 pub mod Bands
+pub mod Read
 pub mod Held
 pub mod EachLemmas

@@ -2,7 +2,8 @@
 //! Contracts see them as plain lists: the bands above the gap and below it, from the top, and a row of intervals that is being
 //! made for the next band.
 //!
-//! `linked` has the changes of one list of spans of which the calls are made.
+//! `linked` has the changes of one list of spans of which the calls are made. `reader` reads bands where they stand, or the band
+//! of a rectangle that stands nowhere.
 #![tactic(auto)]
 
 ghost use Rattle.std.specs.Prelude.{◌≡◌, ◌≢◌, ◌<◌, ◌≤◌, ◌+◌, ◌++◌, ◌∷◌, ◌↔◌, [], List, IsTrue, IfOk, OnOk, true, false, slice_get};
@@ -12,10 +13,12 @@ ghost use Rattle.std.specs.List.{last_or};
 ghost use Rattle.region_bands.specs.Bands.{Band, nothing, rows_of, row_of, band_with, first_row, nodes_in, reading};
 
 mod linked;
+mod reader;
 
 use linked::{
     first_under, free, insert_span, last_before, new_list, same_intervals, set_span, take_span,
 };
+pub use reader::Reader;
 use span_arena::{ListId, Span, SpanId, Spans};
 use std::alloc::{AllocError, Global};
 use std::marker::Model;
@@ -427,8 +430,22 @@ impl BandList {
     pub fn reader_below(&self) -> Reader<'_>
         ensures { result ≡ reading self.now.below }
     {
+        Reader::of_spans(self.spans_below())
+    }
+
+    /// Reads all bands from the top, with their intervals.
+    pub fn reader(&self) -> Reader<'_>
+        ensures { result ≡ reading (self.now.above ++ self.now.below) }
+    {
+        Reader::of_spans(self.all_spans())
+    }
+
+    // The bands below the gap, where they stand.
+    fn spans_below(&self) -> SpanReader<'_>
+        ensures { result ≡ reading self.now.below }
+    {
         let left = first_under(&self.spans, self.gap);
-        Reader {
+        SpanReader {
             spans: &self.spans,
             lists: self.lists,
             gap: self.gap,
@@ -436,11 +453,11 @@ impl BandList {
         }
     }
 
-    /// Reads all bands from the top, with their intervals.
-    pub fn reader(&self) -> Reader<'_>
+    // All bands, where they stand.
+    fn all_spans(&self) -> SpanReader<'_>
         ensures { result ≡ reading (self.now.above ++ self.now.below) }
     {
-        let mut reader = Reader {
+        let mut reader = SpanReader {
             spans: &self.spans,
             lists: self.lists,
             gap: None,
@@ -454,9 +471,9 @@ impl BandList {
     }
 }
 
-/// Reads the bands of a list that isn't changed.
+/// Reads the bands of a list that isn't changed, where they stand in its spans.
 #[derive(Drop)]
-pub struct Reader<'a> {
+pub(crate) struct SpanReader<'a> {
     spans: &'a Spans,
     // Whose bands are read, which only contracts ask.
     lists: Option<Lists>,
@@ -464,7 +481,7 @@ pub struct Reader<'a> {
     left: Option<SpanId>,
 }
 
-impl<'a> Model for Reader<'a> {
+impl<'a> Model for SpanReader<'a> {
     ghost use Rattle.region_bands.specs.Bands.{Reading, reading_of};
 
     ghost Value = { Reading };
@@ -476,7 +493,7 @@ impl<'a> Model for Reader<'a> {
     ghost invariant = { λ r. IsHeld r.spans.now r.lists r.gap r.left };
 }
 
-impl<'a> Reader<'a> {
+impl<'a> SpanReader<'a> {
     /// The rows of the first band that is still to read; `None` where there is none.
     pub fn first_rows(&self) -> Option<Rows>
         ensures { result ≡ option_map rows_of (slice_get self.now.bands 0) }
@@ -499,10 +516,10 @@ impl<'a> Reader<'a> {
     }
 
     /// A second reader, at the same place.
-    pub fn again(&self) -> Reader<'a>
+    pub fn again(&self) -> SpanReader<'a>
         ensures { result ≡ self.now }
     {
-        Reader {
+        SpanReader {
             spans: self.spans,
             lists: self.lists,
             gap: self.gap,

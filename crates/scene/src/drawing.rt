@@ -37,9 +37,9 @@ pub fn region_of(alloc: Global, rects: &[Rect]) -> Result<Region, AllocError>
 }
 
 /// The region of a rectangle of a screen.
-pub fn region_of_rect(alloc: Global, rect: Rect) -> Result<Region, AllocError>
+pub fn region_of_rect(alloc: Global, rect: Rect) -> Region
     requires { in_range rect ≡ true }
-    ensures { IfOk result (λ region. covers region.list ≡ in_rect rect) }
+    ensures { covers result.list ≡ in_rect rect }
 {
     Region::from_rect_in_range(alloc, rect)
 }
@@ -125,7 +125,7 @@ fn cut_to_screen(
         x2: width as i32,
         y2: height as i32,
     };
-    let screen = region_of_rect(alloc, screen)?;
+    let screen = region_of_rect(alloc, screen);
     region.intersection(&screen)
 }
 

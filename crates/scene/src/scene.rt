@@ -270,7 +270,7 @@ impl Scene {
             self.picture.write(block, colours)?;
             return Ok(());
         }
-        let region = region_of_rect(self.alloc, rect)?;
+        let region = region_of_rect(self.alloc, rect);
         self.viewers.prepare()?;
         self.picture.write(block, colours)?;
         self.viewers.commit(LogEntry::Mark(region));

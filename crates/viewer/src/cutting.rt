@@ -184,23 +184,21 @@ fn plan_places(
 }
 
 /// A viewer is told the size of its screen: it shows nothing, so every place is owed, and it asks anew.
-fn plan_size(alloc: Global, picture: &Framebuffer) -> Result<Planned, AllocError>
-    ensures part { IfOk result (λ planned. planned.part ≡
-        Part.NewSize (record { width = picture.now.width; height = picture.now.height })) }
-    ensures told { IfOk result (λ planned. planned.told ≡
-        Some (record { width = picture.now.width; height = picture.now.height })) }
-    ensures marks { IfOk result (λ planned. planned.marks ≡ Some (new_marks picture.now.width picture.now.height)) }
+fn plan_size(alloc: Global, picture: &Framebuffer) -> Planned
+    ensures part { result.part ≡ Part.NewSize (record { width = picture.now.width; height = picture.now.height }) }
+    ensures told { result.told ≡ Some (record { width = picture.now.width; height = picture.now.height }) }
+    ensures marks { result.marks ≡ Some (new_marks picture.now.width picture.now.height) }
 {
     let size = Size {
         width: picture.width() as u16,
         height: picture.height() as u16,
     };
-    let marks = Marks::new(alloc, picture.width(), picture.height())?;
-    Ok(Planned {
+    let marks = Marks::new(alloc, picture.width(), picture.height());
+    Planned {
         part: Part::NewSize(size),
         told: Some(size),
         marks: Some(marks),
-    })
+    }
 }
 
 /// What a viewer is sent of the screen next: a size that it is owed, where it asks, or else places.
@@ -225,7 +223,7 @@ fn plan(
     ensures height { IfOk result (λ planned. IfSome planned.marks (λ m. m.height ≡ state.now.marks.height)) }
 {
     if tells_size(state) {
-        plan_size(alloc, picture)
+        Ok(plan_size(alloc, picture))
     } else {
         plan_places(alloc, picture, limit, state)
     }

@@ -230,7 +230,7 @@ pub fn new_state(alloc: Global, width: u32, height: u32) -> Result<ViewerState, 
         uses_copyrect: false,
         takes_sizes: false,
         told: None,
-        marks: Marks::new(alloc, width, height)?,
+        marks: Marks::new(alloc, width, height),
         notices: Notices::new(alloc)?,
     })
 }

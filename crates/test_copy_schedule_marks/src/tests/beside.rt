@@ -163,7 +163,7 @@ fn first_difference(both: &mut Both, alloc: Global, count: u32) -> Result<Option
 #[test]
 fn two_thousand_steps_are_those_of_the_plain_marks(rt: HostRuntime) -> Result<(), Fail> {
     let mut both = Both {
-        marks: Marks::new(rt.alloc(), 9, 7)?,
+        marks: Marks::new(rt.alloc(), 9, 7),
         plain: PlainMarks::new(),
     };
     let difference = first_difference(&mut both, rt.alloc(), 2000)?;

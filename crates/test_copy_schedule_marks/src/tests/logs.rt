@@ -47,7 +47,7 @@ fn marks_all(marks: &Marks, alloc: Global, log: &[LogEntry]) -> Result<bool, All
 // The first mark has 65 rectangles, and the second the 64 between them.
 #[test]
 fn a_mark_of_many_rectangles_is_joined(rt: HostRuntime) -> Result<(), Fail> {
-    let mut marks = Marks::new(rt.alloc(), 130, 2)?;
+    let mut marks = Marks::new(rt.alloc(), 130, 2);
     show_all(&mut marks)?;
     assert!(rt; marks.modified().is_empty());
     let log = [

@@ -176,10 +176,7 @@ struct Example {
 
 fn first_wrong_of(alloc: Global, example: &Example) -> Result<Option<usize>, AllocError> {
     let (width, height) = (u32::from(example.size.0), u32::from(example.size.1));
-    let mut marks = match Marks::new(alloc, width, height) {
-        Ok(marks) => marks,
-        Err(_) => Marks::new(alloc, width, height)?,
-    };
+    let mut marks = Marks::new(alloc, width, height);
     first_wrong(&mut marks, alloc, example.steps)
 }
 

@@ -1,4 +1,3 @@
-use Rattle.std.proofs.Common.{sym}
 use Rattle.region_bands.proofs.SeenLemmas.{seen}
 use Rattle.region_bands.proofs.CallLemmas.{cloned_shows}
 use Rattle.region_bands.proofs.BandList.try_clone.Goals as goal

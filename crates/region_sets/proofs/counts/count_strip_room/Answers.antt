@@ -1,14 +1,23 @@
-use Rattle.std.proofs.Common.{◌≡◌, Bool, true, false, cond, ◌&&◌, List, [], length, refl, sym, ◌∙◌, ap, arith}
+use Rattle.std.proofs.Common.{◌≡◌, Bool, true, false, cond, ◌&&◌, List, [], length, refl, sym, ◌∙◌, ap, subst, arith}
 use Rattle.std.specs.Prelude.{ℤ}
 use Rattle.region_bands.specs.declared.Interval.{Interval}
 use Rattle.region_bands.specs.Bands.{Reading}
-use Rattle.region_rows.specs.Rows.{row_has, keeps_place, IsKept as IsRowKept}
+use Rattle.region_rows.specs.Rows.{IsRow, row_has, keeps_place, IsKept as IsRowKept}
 use Rattle.region_sets.specs.RoomLemmas.{holds_nothing}
 use Rattle.region_sets.proofs.counts.count_strip_room.Goals as goal
 
 part_has : (t : Bool) (a : List Interval) (x : ℤ) → row_has (cond t a []) x ≡ (t && row_has a x)
 part_has true a x = refl
 part_has false a x = refl
+
+row_if : (t : Bool) (row : List Interval) → IsRow row → IsRow (cond t row [])
+row_if true row h = h
+row_if false row h = tt
+
+pub count_row-requires-clause-second_row : goal.count_row-requires-clause-second_row
+count_row-requires-clause-second_row c =
+    subst IsRow (sym (ap (λ (u : Reading). u.left) c.enter_strip-2.ensures ∙ ap (λ (u : Reading). cond c.args.in_second u.left []) c.again-counted_second.ensures))
+    (row_if c.args.in_second c.args.second.now.left c.requires.second_row)
 
 pub returns-then-keeps_nothing-clause-room : goal.returns-then-keeps_nothing-clause-room
 returns-then-keeps_nothing-clause-room c =

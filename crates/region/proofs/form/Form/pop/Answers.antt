@@ -1,0 +1,34 @@
+use Rattle.std.proofs.Common.{ℕ, List, ◌++◌, ◌∙◌, ap, refl, sym}
+use Rattle.region_bands.specs.Bands.{Band}
+use Rattle.region.specs.RegionView.{RegionView}
+use Rattle.region.specs.Rects.{rects_in}
+use Rattle.region.specs.Forms.{bands_in, view_of}
+use Rattle.region.proofs.form.Form.pop.Goals as goal
+use Rattle.region.proofs.CallLemmas.{boxed_none}
+use Rattle.region.proofs.PopLemmas.{is_first, is_without}
+use Rattle.region.proofs.FormLemmas.{linked_with_room, not_found}
+
+abbrev view_with : ℕ → List Band → RegionView
+view_with room bands = record { list = rects_in bands; room = room }
+
+pub returns-in-Linked-clause-none : goal.returns-in-Linked-clause-none
+returns-in-Linked-clause-none c =
+    boxed_none (c.in-Linked.own.bands.above ++ c.in-Linked.own.bands.below) c.pop.result c.rect_of_bounds.result _ (linked_with_room c.args.self.now c.in-Linked.own c.in-Linked.is c.requires).bands
+    (ap (λ f. rects_in (bands_in f)) (sym c.in-Linked.is)) c.pop.ensures.none c.rect_of_bounds.ensures
+
+pub returns-in-Linked-clause-unchanged : goal.returns-in-Linked-clause-unchanged
+returns-in-Linked-clause-unchanged c = λ none.
+    let found = not_found c.pop.result c.rect_of_bounds.result c.rect_of_bounds.ensures none in
+    let was = c.pop.ensures.none.0 found in
+    let is = c.pop.ensures.unchanged found in
+    ap (view_with c.in-Linked.own.room) is ∙ ap (view_with c.in-Linked.own.room) (sym was) ∙ ap view_of (sym c.in-Linked.is)
+
+pub returns-in-Linked-clause-first : goal.returns-in-Linked-clause-first
+returns-in-Linked-clause-first c =
+    is_first c.args.reverse_x c.args.reverse_y (c.in-Linked.own.bands.above ++ c.in-Linked.own.bands.below) _ c.pop.result c.rect_of_bounds.result (linked_with_room c.args.self.now c.in-Linked.own c.in-Linked.is c.requires).bands
+    (ap (λ f. rects_in (bands_in f)) (sym c.in-Linked.is)) c.pop.ensures.popped c.rect_of_bounds.ensures
+
+pub returns-in-Linked-clause-places : goal.returns-in-Linked-clause-places
+returns-in-Linked-clause-places c =
+    is_without (c.in-Linked.own.bands.above ++ c.in-Linked.own.bands.below) (c.pop.new.bands.above ++ c.pop.new.bands.below) _ _ c.pop.result c.rect_of_bounds.result
+    (ap (λ f. rects_in (bands_in f)) (sym c.in-Linked.is)) refl c.pop.ensures.has c.rect_of_bounds.ensures
