@@ -1,5 +1,5 @@
 -- Each kind of step keeps the rule of the queue.
-use Rattle.std.proofs.Common.{◌≡◌, ◌≢◌, ◌⊎◌, inl, inr, ⊎_elim, ℕ, zero, suc, ◌+◌, ◌<◌, ◌≤◌, ◌==◌, Bool, true, false, true≢false, List, [], ◌∷◌, ◌++◌, map, length, set, sym, refl, ap, ◌∙◌, subst, append_assoc, ne_eqb, arith}
+use Rattle.std.proofs.Common.{◌≡◌, ◌≢◌, ◌⊎◌, inl, inr, ⊎_elim, ℕ, zero, suc, ◌+◌, ◌==◌, true, false, true≢false, List, [], ◌∷◌, ◌++◌, length, set, sym, refl, ap, ◌∙◌, subst, append_assoc, ne_eqb, arith}
 use Rattle.std.specs.Prelude.{if◌then◌else◌, Result, Ok, Err, MatchResult, All}
 use Rattle.std.proofs.lemmas.List.Elements.{All-same, All-push}
 use Rattle.std.proofs.lemmas.List.{map-append, append-nil, length-set, length-append}
@@ -7,14 +7,14 @@ use Rattle.std.proofs.lemmas.Bool.Decides.{eqb_tells}
 use mathlib.Core.Option.{some, none, some-injective, some-ne-none}
 use lib.ListN.{get_elem?}
 use Rattle.crossbeam_queue.specs.Fifo.{Pushes, Pops, Forks, Merges, Learns}
-use Rattle.crossbeam_queue.proofs.Lists.{at_set, set_else, at_longer, at_last, at_snoc}
+use Rattle.crossbeam_queue.proofs.Lists.{at_set, set_else, at_longer}
 use Rattle.input_queue.specs.declared.Told.{Told}
 use Rattle.input_queue.specs.declared.rule.Note.{Note}
 use Rattle.input_queue.specs.declared.rule.View.{View}
 use Rattle.input_queue.specs.Views.{spent, newcomer, hub, taker, seat, joined}
-use Rattle.input_queue.specs.Rule.{those_of, Interleaves, noted_of, known_or, accepted_by, EachNote, AreApart, weigh, noted_items, seats_in, Keeps, AreHeads, Runs, Holds, Reached, Closed}
+use Rattle.input_queue.specs.Rule.{those_of, noted_of, known_or, accepted_by, EachNote, seats_in, Keeps, AreHeads, Runs, Holds, Reached, Closed}
 use Rattle.input_queue.specs.Ends.{QueuedBeside}
-use Rattle.input_queue.proofs.Places.{weigh_set, weigh_snoc, weigh_none, none_weigh, here, those_append, of_seat, of_other, each_note}
+use Rattle.input_queue.proofs.Places.{weigh_set, weigh_snoc, here, those_append, of_seat, each_note}
 
 pub begins : Holds [] (newcomer ∷ [])
 begins = inl (refl, refl)

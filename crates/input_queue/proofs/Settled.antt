@@ -1,8 +1,8 @@
 -- Where all seats that were made are given back and the queue is empty, each viewer's inputs are what its seat accepted.
-use Rattle.std.proofs.Common.{◌≡◌, ◌≢◌, ◌⊎◌, inl, inr, ⊎_elim, ℕ, zero, suc, ◌+◌, ◌<◌, ◌≤◌, ◌==◌, Bool, true, false, cond, true≢false, List, [], ◌∷◌, ◌++◌, map, length, sym, refl, ap, ◌∙◌, subst, eq-eqb, ne_eqb, arith}
+use Rattle.std.proofs.Common.{◌≡◌, ◌≢◌, ⊎_elim, ℕ, ◌+◌, ◌≤◌, ◌==◌, Bool, true, false, cond, true≢false, List, [], ◌∷◌, ◌++◌, map, length, sym, refl, ap, ◌∙◌, subst, eq-eqb, ne_eqb, arith}
 use Rattle.std.specs.Prelude.{if◌then◌else◌, nat_eq, All, sum_by}
 use Rattle.std.proofs.lemmas.List.Sums.{sum_by-cons}
-use Rattle.std.specs.List.{AllByRecursion, IsDistinct, filter}
+use Rattle.std.specs.List.{AllByRecursion, IsDistinct}
 use Rattle.std.proofs.lemmas.Bool.{eqb-false}
 use Rattle.std.proofs.lemmas.Bool.Decides.{eqb_tells}
 use Rattle.std.proofs.lemmas.List.{append-nil, length-map}
@@ -15,7 +15,7 @@ use Rattle.input_queue.specs.declared.Told.{Told}
 use Rattle.input_queue.specs.declared.rule.Note.{Note}
 use Rattle.input_queue.specs.declared.rule.View.{View}
 use Rattle.input_queue.specs.Views.{spent, seat, taker, joined}
-use Rattle.input_queue.specs.Rule.{those_of, noted_of, known_or, accepted_by, EachNote, AreApart, weigh, noted_items, seats_in, Keeps, Reached, Closed}
+use Rattle.input_queue.specs.Rule.{those_of, noted_of, known_or, EachNote, AreApart, noted_items, seats_in, Keeps, Reached, Closed}
 use Rattle.input_queue.specs.Ends.{Putting, of_viewer, ViewersApart, note_of}
 use Rattle.input_queue.proofs.Places.{weigh_none, none_weigh, of_other}
 

@@ -19,7 +19,7 @@ use Rattle.std.proofs.alloc.Global.TheSendSync as globals
 use Rattle.std.specs.contracts.impls.GlobalAllocator.TheImpl as allocates
 use Rattle.std.below.std_heap.proofs.GlobalAllocator.TheSendSync as frees
 use Rattle.std.proofs.timed.Parker.TheSendSync as parkers
-use Rattle.std.proofs.sync.atomic.AtomicBool.TheSendSync as flags
+use Rattle.input_queue.proofs.closing.Closing.TheSendSync as closings
 use Rattle.input_queue.specs.contracts.Told as told
 use Rattle.input_queue.proofs.Told.TheSendSync as tells
 use Rattle.input_queue.specs.contracts.rule.View as view
@@ -39,7 +39,7 @@ hub_sync =
       (
         queues.the_field_sync (option.the_row told.the_row) (doing.the_row told.the_row view.the_row) (turns.the_row rule.the_row) global.the_row
             (ruled.ghosts told.the_row view.the_row rule.the_row kept.ghosts ruled.no_dict) allocates.ghosts item globals.the_send globals.the_sync frees.the_frees,
-        (pass_sync (option.the_row told.the_row) (doing.the_row told.the_row view.the_row) item, (plain_sync _ _ _ _ _, (parkers.the_field_sync, (flags.the_field_sync, tt)))),
+        (pass_sync (option.the_row told.the_row) (doing.the_row told.the_row view.the_row) item, (plain_sync _ _ _ _ _, (parkers.the_field_sync, (closings.the_field_sync, tt)))),
       ),
     )))
 

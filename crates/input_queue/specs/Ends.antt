@@ -1,5 +1,5 @@
 -- What contracts see of a queue's ends.
-use Rattle.std.specs.Prelude.{◌≡◌, ℕ, ◌==◌, nat_eq, List, [], ◌++◌, length, map}
+use Rattle.std.specs.Prelude.{◌≡◌, ℕ, ◌==◌, nat_eq, List, ◌++◌, map}
 use Rattle.std.specs.List.{IsDistinct, filter}
 use Rattle.atomic_table.specs.Seated.{TableId}
 use Rattle.input_queue.specs.declared.Told.{Told}

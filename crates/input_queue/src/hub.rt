@@ -8,14 +8,14 @@ ghost use Rattle.crossbeam_queue.specs.Fifo.{Held};
 ghost use Rattle.input_queue.specs.Views.{hub, taker, joined};
 ghost use Rattle.input_queue.specs.Rule.{Reached, Closed};
 
+use crate::closing::Closing;
 use crate::rule::{Puts, Queue, SeatBack, SeatMade, TakerBack, TakerMade, Takes, Ticket, Whole};
-use crate::{Full, Left, QueueError, Told};
+use crate::{AtEnd, Full, Left, QueueError, Told};
 use listed::Listed;
 use messages::Input;
 use std::alloc::{AllocError, Global};
 use std::marker::Model;
 use std::sync::Wait;
-use std::sync::atomic::{AtomicBool, Ordering};
 use std::thread::Parker;
 
 /// A queue of inputs, which threads share: a seat for each viewer puts, and one taker takes. Contracts
@@ -28,7 +28,7 @@ pub struct InputHub {
     seats: u64,
     // the taker sleeps on it
     arrival: Parker,
-    is_closed: AtomicBool,
+    closing: Closing,
 }
 
 impl Model for InputHub {
@@ -111,7 +111,7 @@ impl InputHub {
             pass,
             seats: 0,
             arrival: Parker::new(),
-            is_closed: AtomicBool::new(false),
+            closing: Closing::new(),
         };
         Ok((hub, Taker { pass: taking }))
     }
@@ -163,20 +163,19 @@ impl InputHub {
         self.queue.pop_as::<Takes, R>(rt, &mut taker.pass)
     }
 
-    /// Takes the input in front, and sleeps until there is one. None once the hub is closed, where the queue
-    /// was empty at some moment after that, as tests show.
-    pub fn take_wait<R: Wait>(&self, rt: &R, taker: &mut Taker) -> Option<Told>
+    /// Takes the input in front, and sleeps until there is one or the hub is closed. A closed hub gives what it
+    /// still holds, and then tells `AtEnd`, as often as it is asked.
+    pub fn take_wait<R: Wait>(&self, rt: &R, taker: &mut Taker) -> Result<Told, AtEnd>
         requires { taker.old.queue ≡ self.now.queue }
-        ensures { MatchOption result ((taker.new ≡ taker.old) ×
-            AllTaken taker.old.taken) (λ told. taker.new ≡ record taker.old { taken = taker.old.taken ++ told ∷ [] }) }
+        ensures { MatchResult result (λ told. taker.new ≡ record taker.old { taken = taker.old.taken ++ told ∷ [] })
+            (λ _. (taker.new ≡ taker.old) × AllTaken taker.old.taken) }
     {
         for _ in rt.forever() {
-            let is_closed = self.is_closed.load(Ordering::SeqCst);
-            if let Some(told) = self.take(rt, taker) {
-                return Some(told);
+            if let Some(seen) = self.closing.seen() {
+                return seen.then_take(rt, self, taker);
             }
-            if is_closed {
-                return None;
+            if let Some(told) = self.take(rt, taker) {
+                return Ok(told);
             }
             self.arrival.park(rt);
         }
@@ -185,7 +184,7 @@ impl InputHub {
 
     /// No input is put any more: the taker waits for none. To be called once every seat has put its last.
     pub fn close(&self) {
-        self.is_closed.store(true, Ordering::SeqCst);
+        self.closing.close();
         self.arrival.unpark();
     }
 

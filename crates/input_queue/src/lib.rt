@@ -2,9 +2,11 @@
 //! What was taken, followed by what the queue holds, is an interleaving of what the seats accepted, each in its order.
 #![tactic(auto)]
 
+mod closing;
 mod hub;
 mod rule;
 
+pub use closing::AtEnd;
 pub use hub::{InputHub, InputSeat, Taker};
 use listed::Listed;
 use messages::Input;

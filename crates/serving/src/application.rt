@@ -32,10 +32,10 @@ pub(crate) fn run_application<L: Ledger, A: Application<L>, R: Wait>(
     requires { taker.old.queue ≡ hub.now.queue }
 {
     for _ in rt.forever() {
-        match hub.take_wait(rt, taker) {
-            Some(told) => application.told(rt, shared, brush, &told)?,
-            None => return Ok(()),
-        }
+        let Ok(told) = hub.take_wait(rt, taker) else {
+            return Ok(());
+        };
+        application.told(rt, shared, brush, &told)?;
     }
     unreachable!()
 }

@@ -110,7 +110,7 @@ fn take_next<R: Wait>(rt: &R, hub: &InputHub, taker: &mut Taker, waits: bool) ->
     ensures { taker.new.queue ≡ taker.old.queue }
 {
     if waits {
-        hub.take_wait(rt, taker)
+        hub.take_wait(rt, taker).ok()
     } else {
         hub.take(rt, taker)
     }

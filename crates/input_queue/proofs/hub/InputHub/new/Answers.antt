@@ -1,5 +1,5 @@
-use Rattle.std.proofs.Common.{rules, ap}
-use Rattle.input_queue.proofs.Moves.{begins, opens}
+use Rattle.std.proofs.Common.{ap}
+use Rattle.input_queue.proofs.Moves.{opens}
 use Rattle.input_queue.proofs.hub.InputHub.new.Goals as goal
 
 pub another-taking-requires-clause-rule : goal.another-taking-requires-clause-rule

@@ -1,4 +1,4 @@
-use Rattle.std.proofs.Common.{rules, ap, refl, ◌∙◌}
+use Rattle.std.proofs.Common.{ap, refl, ◌∙◌}
 use Rattle.input_queue.proofs.Moves.{puts, learns_held, seat_kept}
 use Rattle.input_queue.proofs.hub.InputHub.put.Goals as goal
 

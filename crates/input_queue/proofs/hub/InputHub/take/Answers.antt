@@ -1,4 +1,4 @@
-use Rattle.std.proofs.Common.{rules, ap}
+use Rattle.std.proofs.Common.{ap}
 use Rattle.input_queue.proofs.Moves.{takes, learns_reached}
 use Rattle.input_queue.proofs.hub.InputHub.take.Goals as goal
 

@@ -1,0 +1,56 @@
+//! Whether a hub is closed, and how its taker's end is told. A taker that looked at the queue before the flag would lose an
+//! input that was put in between; so only `SeenClosed::then_take` makes an `AtEnd`, and only a look at the flag a `SeenClosed`.
+ghost use Rattle.std.specs.Prelude.{◌≡◌, [], ◌++◌, ◌∷◌, MatchResult};
+ghost use Rattle.input_queue.specs.Ends.{AllTaken};
+
+use crate::{InputHub, Taker, Told};
+use std::sync::Wait;
+use std::sync::atomic::{AtomicBool, Ordering};
+
+/// Whether a hub is closed. Once it is, it stays so.
+#[derive(Drop)]
+pub(crate) struct Closing {
+    is_closed: AtomicBool,
+}
+
+/// The hub was seen closed.
+#[derive(Debug, Drop)]
+pub(crate) struct SeenClosed(());
+
+/// The hub was closed, and then seen empty. Nothing more comes.
+#[derive(Debug, Drop)]
+pub struct AtEnd(SeenClosed);
+
+impl Closing {
+    pub(crate) fn new() -> Closing {
+        Closing {
+            is_closed: AtomicBool::new(false),
+        }
+    }
+
+    pub(crate) fn close(&self) {
+        self.is_closed.store(true, Ordering::SeqCst);
+    }
+
+    pub(crate) fn seen(&self) -> Option<SeenClosed> {
+        self.is_closed
+            .load(Ordering::SeqCst)
+            .then_some(SeenClosed(()))
+    }
+}
+
+impl SeenClosed {
+    /// Takes the input in front, of a hub that was seen closed.
+    pub(crate) fn then_take<R: Wait>(
+        self,
+        rt: &R,
+        hub: &InputHub,
+        taker: &mut Taker,
+    ) -> Result<Told, AtEnd>
+        requires { taker.old.queue ≡ hub.now.queue }
+        ensures { MatchResult result (λ told. taker.new ≡ record taker.old { taken = taker.old.taken ++ told ∷ [] })
+            (λ _. (taker.new ≡ taker.old) × AllTaken taker.old.taken) }
+    {
+        hub.take(rt, taker).ok_or(AtEnd(self))
+    }
+}
