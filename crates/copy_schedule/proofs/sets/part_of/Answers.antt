@@ -15,5 +15,5 @@ returns c = λ x y.
     let y1 : FitsSigned w32 c.args.rect.y1 = search rules in
     let x2 : FitsSigned w32 c.args.rect.x2 = search rules in
     let y2 : FitsSigned w32 c.args.rect.y2 = search rules in
-    c.in_ok-part.ensures x y ∙ ap (λ (r : Rect). in_rect r x y) c.window_rect.ensures ∙ part_places c.args.width c.args.height c.window_of-window.result c.args.rect c.args.offset.0 c.args.offset.1 c.window_of-window.ensures.columns c.window_of-window.ensures.rows
+    c.from_rect_in_range.ensures x y ∙ ap (λ (r : Rect). in_rect r x y) c.window_rect.ensures ∙ part_places c.args.width c.args.height c.window_of-window.result c.args.rect c.args.offset.0 c.args.offset.1 c.window_of-window.ensures.columns c.window_of-window.ensures.rows
     (λ i j column row. simp to_z-of_z at (c.window_of-window.ensures.places i j column row)) x y

@@ -38,12 +38,12 @@ returns c =
     let w = c.args.width in
     let h = c.args.height in
     let view = c.args.view in
-    let seen : (x y : ℤ) → covers c.in_ok-seen.seen.list x y ≡ (in_rect view x y && on_screen w h x y) = λ x y. c.in_ok-seen.ensures x y ∙ unmoved view w h x y in
+    let seen : (x y : ℤ) → covers c.part_of-seen.result.list x y ≡ (in_rect view x y && on_screen w h x y) = λ x y. c.part_of-seen.ensures x y ∙ unmoved view w h x y in
     let asked : (x y : ℤ) → on_screen w h x y ≡ true → covers c.in_ok-asked.asked.list x y ≡ (covers f.asked.list x y && in_rect view x y) = λ x y on.
     c.in_ok-asked.ensures x y ∙ ap (λ b. covers f.asked.list x y && b) (seen x y) ∙ on-it (covers f.asked.list x y) (in_rect view x y) (on_screen w h x y) on in
     let was : (x y : ℤ) → asked_at c.args.self.now x y ≡ covers f.asked.list x y = λ x y.
     sym (ap (λ (n : Marks). asked_at n x y) c.self.view_is) ∙ value_at false f.width f.height (covers f.asked.list) (outside f.width f.height f.asked.list c.self.invariant.asked_on) x y in
-    ap {B = Marks} (λ marks. record { width = w; height = h; marks = marks; offset = (pos 0, pos 0); asked = by_place w h (covers c.in_ok-asked.asked.list) }) (all_owed w h c.in_ok-all.all c.new.result c.in_ok-all.ensures)
+    ap {B = Marks} (λ marks. record { width = w; height = h; marks = marks; offset = (pos 0, pos 0); asked = by_place w h (covers c.in_ok-asked.asked.list) }) (all_owed w h c.screen_places-all.result c.new.result c.screen_places-all.ensures)
     ∙ ap {B = Marks} (λ asked. record { width = w; height = h; marks = replicate (w * h) Owed; offset = (pos 0, pos 0); asked = asked })
     (same_by_place w h (covers c.in_ok-asked.asked.list) (λ x y. asked_at c.args.self.now x y && in_rect view x y) (λ x y on. asked x y on ∙ ap (λ b. b && in_rect view x y) (sym (was x y))))
 
@@ -55,14 +55,14 @@ pub invariant_of-result : goal.invariant_of-result
 invariant_of-result c =
     let w = c.args.width in
     let h = c.args.height in
-    let lies : LiesOn w h c.in_ok-seen.seen.list = lies_on_part w h c.in_ok-seen.seen.list (λ x y. in_rect c.args.view (x -ℤ pos 0) (y -ℤ pos 0)) c.in_ok-seen.ensures in
+    let lies : LiesOn w h c.part_of-seen.result.list = lies_on_part w h c.part_of-seen.result.list (λ x y. in_rect c.args.view (x -ℤ pos 0) (y -ℤ pos 0)) c.part_of-seen.ensures in
     record {
       columns = c.requires.columns;
       rows = c.requires.rows;
       sets = record {
-        owed_on = λ x y e. sym (c.in_ok-all.ensures x y) ∙ e;
+        owed_on = λ x y e. sym (c.screen_places-all.ensures x y) ∙ e;
         copied_on = nothing_lies w h c.new.result.list c.new.ensures;
-        apart = λ x y. ap (λ (l : List Rect). covers c.in_ok-all.all.list x y && covers l x y) c.new.ensures ∙ none-of (covers c.in_ok-all.all.list x y);
+        apart = λ x y. ap (λ (l : List Rect). covers c.screen_places-all.result.list x y && covers l x y) c.new.ensures ∙ none-of (covers c.screen_places-all.result.list x y);
       };
-      asked_on = λ x y e. lies x y (second (covers c.self.inside.asked.list x y) (covers c.in_ok-seen.seen.list x y) (sym (c.in_ok-asked.ensures x y) ∙ e));
+      asked_on = λ x y e. lies x y (second (covers c.self.inside.asked.list x y) (covers c.part_of-seen.result.list x y) (sym (c.in_ok-asked.ensures x y) ∙ e));
     }
