@@ -1,6 +1,6 @@
 //! What a viewer's messages do to it, and what it is answered.
 
-ghost use Rattle.std.specs.Prelude.{◌≡◌, ◌&&◌, ◌||◌, ℕ, List, All, OnErr, IfSome, ◌++◌, ◌∷◌, ◌<◌, ◌≤◌, ◌^◌, [], length, not, if◌then◌else◌};
+ghost use Rattle.std.specs.Prelude.{◌≡◌, ◌&&◌, ◌||◌, ℕ, List, All, OnErr, IfSome, ◌++◌, ◌<◌, ◌≤◌, ◌^◌, [], length, not, if◌then◌else◌};
 ghost use Rattle.std.specs.Prelude.{vec_len, vec_capacity, IfOk, OnOk, IsTrue};
 ghost use Rattle.std.specs.List.{filter_map};
 ghost use Rattle.messages.specs.Reading.{rest, new_items, is_open_rest};
@@ -263,21 +263,33 @@ fn put_draft(state: &mut ViewerState, draft: Draft)
     put_marks(state, draft.marks);
 }
 
-fn is_input(item: &Item) -> bool
-    ensures { IsTrue result → (w h : ℕ) (v : KeptViewer) → after_item w h item.now v ≡ v }
+/// Items without the inputs at their front, which change nothing of a viewer.
+fn without_inputs(items: &[Item]) -> &[Item]
+    ensures { (w h : ℕ) (v : KeptViewer) → after_items w h result.now v ≡ after_items w h items.now v }
 {
-    match item {
-        Item::Input(_) => true,
-        _ => false,
+    let mut left = items;
+    while let [Item::Input(_), others @ ..] = left {
+        left = others;
     }
+    left
 }
 
-/// The request that is all of what was heard, if it is.
-fn only_request(items: &[Item]) -> Option<(bool, Area)>
-    ensures { IfSome result (λ r. items.now ≡ Item.Request r.0 r.1 ∷ []) }
+/// Whether items are inputs alone.
+fn are_inputs(items: &[Item]) -> bool
+    ensures { IsTrue result → (w h : ℕ) (v : KeptViewer) → after_items w h items.now v ≡ v }
 {
-    match items {
-        [Item::Request { incremental, area }] => Some((*incremental, *area)),
+    without_inputs(items).is_empty()
+}
+
+/// The request that is all of what was heard besides inputs, if it is.
+fn only_request(items: &[Item]) -> Option<(bool, Area)>
+    ensures { IfSome result (λ r. (w h : ℕ) (v : KeptViewer) →
+        after_items w h items.now v ≡ after_item w h (Item.Request r.0 r.1) v) }
+{
+    match without_inputs(items) {
+        [Item::Request { incremental, area }, others @ ..] if are_inputs(others) => {
+            Some((*incremental, *area))
+        }
         _ => None,
     }
 }
@@ -297,21 +309,9 @@ fn take_request_in_place(
     state.marks.request(clipped(view, area), incremental)
 }
 
-/// Whether items are inputs alone, which change nothing of a viewer.
-fn are_inputs(items: &[Item]) -> bool
-    ensures { IsTrue result → (w h : ℕ) (v : KeptViewer) → after_items w h items.now v ≡ v }
-{
-    for item in items {
-        if !is_input(item) {
-            return false;
-        }
-    }
-    true
-}
-
 /// What was heard is taken by a viewer, once its marks know the drawing of a log. After an `AllocError` it is as it was. Inputs
-/// alone change no marks, so these needn't know it: whether they do. A request alone, which is what most viewers say most of the
-/// time, needs no copy of the marks.
+/// alone change no marks, so these needn't know it: whether they do. One request, alone or among inputs, which is what most viewers
+/// say most of the time, needs no copy of the marks.
 fn take_items(
     alloc: Global,
     state: &mut ViewerState,
