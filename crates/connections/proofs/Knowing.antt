@@ -12,7 +12,7 @@ use Rattle.screen.specs.State.{state}
 use Rattle.connections.specs.Drawing.{Surface, IsDrawnFrom, is_asking_on}
 use Rattle.connections.specs.Attending.{Known, asks, is_owed, next_bytes, IsSettled}
 use Rattle.connections.specs.Turns.{Knows}
-use Rattle.connections.proofs.Seen.{seen, seen-other, next-seen, asks-drawings, owed-drawings, asks-cut, cut-nothing, quiet-next, asks-held}
+use Rattle.connections.proofs.Seen.{seen, seen-other, next-seen, asks-drawings, owed-drawings, asks-cut, owed-cut, cut-nothing, quiet-next, asks-held}
 
 -- ---- whether there is nothing to send
 
@@ -98,13 +98,13 @@ neither : (x y : Bool) → (x && y) ≡ false → (P : Type 0) → (x ≡ false 
 neither false y h P left right = left refl
 neither true y h P left right = right h
 
--- an update is cut
+-- an update is cut: where it leaves no request, there is nothing to send
 pub knows-cut : held_as_alone → (c : Config) (before list : List Event) (v : ℕ) (since a b : Surface) (known after : Known) → b.drawn ≡ a.drawn → b.noticed ≡ a.noticed → b.screen ≡ state c (list ++ Cut v ∷ [])
-    → after.may_cut ≡ true → after.may_ask ≡ (known.may_ask && is_asking_on b.screen v) → Knows c before list v since a known → Knows c before (list ++ Cut v ∷ []) v since b after
-knows-cut held c before list v since a b known after drawn noticed screen cut ask k = record {
-  answered = λ h. neither known.may_ask (is_asking_on b.screen v) (sym ask ∙ h) (asks (viewer_of c v (list ++ Cut v ∷ [])) ≡ false)
-      (λ none. asks-cut c v list (k.answered none))
-      (λ none. sym (asks-held held c v (list ++ Cut v ∷ [])) ∙ ap (λ s. is_asking_on s v) (sym screen) ∙ none);
-  settled = λ h. absurd (true≢false (sym cut ∙ h));
-  others = λ u apart h. settled-other c list a b v u (Cut v) apart refl drawn noticed (k.others u apart h);
-}
+    → after.may_cut ≡ is_asking_on b.screen v → after.may_ask ≡ (known.may_ask && is_asking_on b.screen v) → Knows c before list v since a known → Knows c before (list ++ Cut v ∷ []) v since b after
+knows-cut held c before list v since a b known after drawn noticed screen cut ask k =
+    let unasked : is_asking_on b.screen v ≡ false → asks (viewer_of c v (list ++ Cut v ∷ [])) ≡ false = λ none. sym (asks-held held c v (list ++ Cut v ∷ [])) ∙ ap (λ s. is_asking_on s v) (sym screen) ∙ none in
+    let mute = owed-cut c v list in record {
+      answered = λ h. neither known.may_ask (is_asking_on b.screen v) (sym ask ∙ h) (asks (viewer_of c v (list ++ Cut v ∷ [])) ≡ false) (λ none. asks-cut c v list (k.answered none)) unasked;
+      settled = λ h. record { sent = λ fine. quiet-next c v (list ++ Cut v ∷ []) (unasked (sym cut ∙ h)) mute; quiet = λ fine. mute };
+      others = λ u apart h. settled-other c list a b v u (Cut v) apart refl drawn noticed (k.others u apart h);
+    }

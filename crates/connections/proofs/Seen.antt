@@ -264,6 +264,22 @@ sent-nothing w h picture v true false None none =
 sent-nothing w h picture v true false (Some s) none = absurd (none-but _ (some-update w h picture v s v.map_owed v.notices) none)
 sent-nothing w h picture v false tells o none = (refl, refl)
 
+owed-sent : (w h : ℕ) (picture : List ℕ) (v : Viewer (List ℕ)) (b tells : Bool) (o : Option Sent) → is_open_viewer v ≡ b → is_owed (Some (sent_by w h picture v b tells o).1) ≡ false
+owed-sent w h picture v true true o is = ap (λ (x : Bool). x && false) is
+owed-sent w h picture v true false None is = ap (λ (x : Bool). x && false) is
+owed-sent w h picture v true false (Some s) is = ap (λ (x : Bool). x && false) is
+owed-sent w h picture v false tells o is = ap (λ (x : Bool). x && (v.map_owed || not (none_wait v.notices))) is
+
+owed-cut-by : (c : Config) (n : ℕ) (s : One) (o : Option (Viewer (List ℕ))) → s.viewer ≡ o → is_owed (own_step c (Cut n) s o).0.viewer ≡ false
+owed-cut-by c n s None is = ap is_owed is
+owed-cut-by c n s (Some v) is = owed-sent c.width c.height s.picture.colours v (is_open_viewer v) (tells_size c.width c.height v) (cut_of c.rects_per_update v.marks) refl
+
+-- after a cut nothing waits that needs no request
+pub owed-cut : (c : Config) (v : ℕ) (es : List Event) → is_owed (viewer_of c v (es ++ Cut v ∷ [])) ≡ false
+owed-cut c v es =
+    let s = seen c v es in
+    ap (λ (o : One). is_owed o.viewer) (seen-own c v es (Cut v) (mine v (Cut v) refl)) ∙ owed-cut-by (at_size s.picture c) v s s.viewer refl
+
 cut-nothing-by : (c : Config) (n : ℕ) (s : One) (o : Option (Viewer (List ℕ))) → s.viewer ≡ o → (own_step c (Cut n) s o).1.bytes ≡ [] → ((own_step c (Cut n) s o).0 ≡ s) × (is_owed o ≡ false)
 cut-nothing-by c n s None is h = (refl, refl)
 cut-nothing-by c n s (Some v) is h =

@@ -278,11 +278,12 @@ pub turn-cut : held_as_alone → (a b : Surface) (e f : ViewerConnection) (m : �
     → ((c : Config) (list : List Event) → a.screen ≡ state c list → b.screen ≡ state c (list ++ Cut m ∷ []))
     → ((c : Config) (list : List Event) → a.screen ≡ state c list → bytes ≡ (answer_to c list (Cut m)).bytes)
     → f ≡ record e { waiting = f.waiting; known = f.known } → waiting_bytes f.waiting ≡ waiting_bytes e.waiting ++ bytes → (IsFew e.waiting → IsFew f.waiting)
-    → b.drawn ≡ a.drawn → b.noticed ≡ a.noticed → f.known.may_cut ≡ true → f.known.may_ask ≡ (e.known.may_ask && is_asking_on b.screen m) → TakesTurn a e b f
+    → b.drawn ≡ a.drawn → b.noticed ≡ a.noticed → f.known.may_cut ≡ is_asking_on b.screen m → f.known.may_ask ≡ (e.known.may_ask && is_asking_on b.screen m) → TakesTurn a e b f
 turn-cut held a b e f m bytes its steps answers same waits few drawn noticed cut ask =
     cut-turn a b e f m bytes its steps answers same waits few
     (λ c before list since stands k.
-    knows-cut held c before list e.number since a b e.known f.known drawn noticed (subst (λ (n : ℕ). b.screen ≡ state c (list ++ Cut n ∷ [])) its (steps c list stands)) cut
+    knows-cut held c before list e.number since a b e.known f.known drawn noticed (subst (λ (n : ℕ). b.screen ≡ state c (list ++ Cut n ∷ [])) its (steps c list stands))
+    (cut ∙ ap (λ n. is_asking_on b.screen n) its)
     (ask ∙ ap (λ n. e.known.may_ask && is_asking_on b.screen n) its) k)
 
 -- there is none to be cut

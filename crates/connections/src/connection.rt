@@ -71,7 +71,7 @@ pub(crate) struct Connection<T: Transport> {
     // its last read gave as many bytes as there was room for
     was_full: bool,
     flow: Flow,
-    // an update may be there to be cut: none was found where it was looked for last, but it was heard since, or looked at after drawing
+    // an update may be there to be cut: it was heard, or looked at after drawing, since none was found, or one was cut that left no request
     may_cut: bool,
     // it was heard since an update was cut for it, or has a request that none answered
     may_ask: bool,
@@ -162,6 +162,13 @@ impl<T: Transport> Connection<T> {
         ensures { result ≡ self.now.known.may_ask }
     {
         self.may_ask
+    }
+
+    /// Whether an update may be there to be cut for it.
+    pub fn may_cut(&self) -> bool
+        ensures { result ≡ self.now.known.may_cut }
+    {
+        self.may_cut
     }
 
     /// An update may be there to be cut for it, or there is none.
@@ -332,17 +339,18 @@ impl<T: Transport> Connection<T> {
         }
     }
 
-    /// An update that was cut is given, where nothing waits, and which left a request unanswered or none. Another one may be there.
+    /// An update that was cut is given, where nothing waits, and which left a request unanswered or none. Only where it left one
+    /// another update may be there.
     pub fn start(&mut self, update: Update, is_asking: bool)
         requires none { waiting_bytes self.old.waiting ≡ [] }
         requires some { update ≢ [] }
         ensures same { self.new ≡ record self.old { waiting = self.new.waiting; known = self.new.known } }
-        ensures known { self.new.known ≡ record self.old.known { may_cut = true; may_ask = self.old.known.may_ask && is_asking } }
+        ensures known { self.new.known ≡ record self.old.known { may_cut = is_asking; may_ask = self.old.known.may_ask && is_asking } }
         ensures bytes { waiting_bytes self.new.waiting ≡ update }
         ensures few { IsFew self.new.waiting }
     {
         self.cuts = self.cuts.saturating_add(1);
-        self.may_cut = true;
+        self.may_cut = is_asking;
         self.may_ask = self.may_ask && is_asking;
         self.backlog.start(update);
     }

@@ -104,7 +104,7 @@ pub(crate) fn send<T: Transport>(
     }
 }
 
-/// Whether a write may take something, where an update is cut if nothing waits.
+/// Whether a write may take something, where an update is cut if nothing waits and one may be there.
 fn prepare<T: Transport>(canvas: &mut Canvas, connection: &mut Connection<T>) -> bool
     ensures turn { TakesTurn canvas.old connection.old canvas.new connection.new }
     ensures asks { connection.new.known.may_ask ≡ true → connection.old.known.may_ask ≡ true }
@@ -116,6 +116,9 @@ fn prepare<T: Transport>(canvas: &mut Canvas, connection: &mut Connection<T>) ->
     }
     if !connection.is_idle() {
         return true;
+    }
+    if !connection.may_cut() {
+        return false;
     }
     cut(canvas, connection)
 }

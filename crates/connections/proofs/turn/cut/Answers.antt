@@ -12,7 +12,7 @@ pub returns-in-Ok-Some-clause-turn : goal.returns-in-Ok-Some-clause-turn
 returns-in-Ok-Some-clause-turn g c =
     turn-cut c.held_as_alone.ensures c.args.canvas.now c.cut.new.self c.args.connection.now c.start.new.self c.number-viewer.result c.in-Ok-Some.update c.number-viewer.ensures c.in-Ok-Some.ensures.step
     (λ config list h. ap bytes_given (sym c.in-Ok-Some.field-0-is) ∙ c.in-Ok-Some.ensures.answer config list h) c.start.ensures.same (c.start.ensures.bytes ∙ ap (λ l. l ++ c.in-Ok-Some.update) (sym c.requires)) (λ few. c.start.ensures.few)
-    (ap (λ (x : Surface). x.drawn) c.cut.ensures.same) (ap (λ (x : Surface). x.noticed) c.cut.ensures.same) (ap (λ (k : Known). k.may_cut) c.start.ensures.known)
+    (ap (λ (x : Surface). x.drawn) c.cut.ensures.same) (ap (λ (x : Surface). x.noticed) c.cut.ensures.same) (ap (λ (k : Known). k.may_cut) c.start.ensures.known ∙ c.is_asking.ensures)
     (ap (λ (k : Known). k.may_ask) c.start.ensures.known ∙ ap (λ b. c.args.connection.now.known.may_ask && b) c.is_asking.ensures)
 
 pub returns-in-Ok-None-clause-turn : goal.returns-in-Ok-None-clause-turn
