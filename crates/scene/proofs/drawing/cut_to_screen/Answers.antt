@@ -14,6 +14,6 @@ returns c =
     let screen : ℤ → ℤ → Rect = λ a b. record { x1 = pos 0; y1 = pos 0; x2 = a; y2 = b } in
     IfOk-weaker c.intersection.result _ _
     (λ cut is. cut-region c.args.width c.args.height here (covers cut.list)
-    (λ x y. is x y ∙ ap (λ (set : ℤ → ℤ → Bool). here x y && set x y) c.in_ok-screen.ensures
+    (λ x y. is x y ∙ ap (λ (set : ℤ → ℤ → Bool). here x y && set x y) c.region_of_rect-screen.ensures
     ∙ ap (λ a. here x y && in_rect (screen a (to_z w32 c.args.height)) x y) wide ∙ ap (λ b. here x y && in_rect (screen (pos c.args.width) b) x y) high))
     c.intersection.ensures

@@ -19,10 +19,10 @@ use Rattle.scene.proofs.scene.Scene.paint.Goals.{then-is_empty-via-then-is_empty
 pub invariant_of-self-2 : goal.invariant_of-self-2
 invariant_of-self-2 c =
     let here = c.self.inside in
-    let made = told-all _ (entry.Mark c.in_ok-region.region) here.viewers.pairs _ _ c.commit.ensures refl c.prepare.ensures.same in
+    let made = told-all _ (entry.Mark c.region_of_rect-region.result) here.viewers.pairs _ _ c.commit.ensures refl c.prepare.ensures.same in
     let k = at_size here.picture here.config in
     still-consistent here.config here.picture c.write-2.new.self _ _ c.in_ok-write-2.ensures.ok
-    (record { accepted = c.self.invariant.accepted; sized = rw made (sized-told k (entry.Mark c.in_ok-region.region) here.viewers.pairs c.self.invariant.sized) })
+    (record { accepted = c.self.invariant.accepted; sized = rw made (sized-told k (entry.Mark c.region_of_rect-region.result) here.viewers.pairs c.self.invariant.sized) })
 
 pub invariant_of-self-then-is_empty : goal.invariant_of-self-then-is_empty
 invariant_of-self-then-is_empty c = still-consistent c.self.inside.config c.self.inside.picture c.write.new.self _ _ c.in_ok-write.ensures.ok c.self.invariant
@@ -30,12 +30,12 @@ invariant_of-self-then-is_empty c = still-consistent c.self.inside.config c.self
 pub returns-clause-step : goal.returns-clause-step
 returns-clause-step c = λ config list h.
     let here = c.self.inside in
-    let made = told-all _ (entry.Mark c.in_ok-region.region) here.viewers.pairs _ _ c.commit.ensures refl c.prepare.ensures.same in
+    let made = told-all _ (entry.Mark c.region_of_rect-region.result) here.viewers.pairs _ _ c.commit.ensures refl c.prepare.ensures.same in
     let after : List (ℕ × KeptViewer) → SceneState = λ pairs. record { config = here.config; picture = c.write-2.new.self; viewers = pairs } in
     ap after made
-    ∙ state-drawn config here.config here.picture c.write-2.new.self here.viewers.pairs (drawn (entry.Mark c.in_ok-region.region)) (Paint c.args.rect c.args.colours.now) list refl c.in_ok-block.ensures.refusal
+    ∙ state-drawn config here.config here.picture c.write-2.new.self here.viewers.pairs (drawn (entry.Mark c.region_of_rect-region.result)) (Paint c.args.rect c.args.colours.now) list refl c.in_ok-block.ensures.refusal
     (written-on here.picture c.write-2.new.self c.args.rect (block_rect c.in_ok-block.block) c.args.colours.now c.in_ok-write-2.ensures.ok (sym c.in_ok-block.ensures.is))
-    (λ s. ap (λ set. viewer_marked set s) c.in_ok-region.ensures) (c.self.view_is ∙ h)
+    (λ s. ap (λ set. viewer_marked set s) c.region_of_rect-region.ensures) (c.self.view_is ∙ h)
 
 pub returns-then-is_empty-clause-step : goal.returns-then-is_empty-clause-step
 returns-then-is_empty-clause-step c = λ config list h.
