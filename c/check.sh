@@ -141,6 +141,11 @@ for source in "$here"/examples/*.c "$here/tools/rfb_edges.c"; do
     try "$name: runs with the shared object" run "$name" "$room/$name-so"
 done
 
+# ---- the program in the README
+sed -n '/^```c$/,/^```$/p' "$here/../README.md" | grep -v '^```' >"$room/readme.c"
+# shellcheck disable=SC2046,SC2086
+try "the README's program compiles as its command line says" $CC -std=c99 $strict $(pkg-config --cflags vnc_server) -o "$room/readme" "$room/readme.c" $(pkg-config --libs vnc_server)
+
 # ---- callers in other languages
 try "sketch.py: runs" looked_at "640 by 480, [1-4] colours, sketch" python3 "$here/examples/sketch.py" PORT 5
 if have rustc; then

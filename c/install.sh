@@ -1,7 +1,8 @@
 #!/bin/sh
 # install.sh PREFIX [LIBRARY ..]: puts vnc_screen and vnc_server, or those that are named, below PREFIX: of each the archive, a shared
-# object that exports vnc_* alone, its header and its .pc file. The archives that `rt lib` makes in crates/vnc_screen and
-# crates/vnc_server are wanted. KIT is the toolchain's folder, whose C functions that call the C library's go in too.
+# object that exports vnc_* alone, its header and its .pc file. An archive that isn't made yet is proved and made first, by `rt lib` in
+# crates/vnc_screen or crates/vnc_server: from nothing that takes an hour or more. KIT is the toolchain's folder, whose C functions that
+# call the C library's go in too.
 # install.sh --uninstall PREFIX: takes all of it away again.
 set -eu
 here=$(cd "$(dirname "$0")" && pwd)
@@ -24,7 +25,8 @@ mkdir -p "$prefix/lib/pkgconfig" "$prefix/include"
 printf '{ global: vnc_*; local: *; };\n' > "$room/map"
 for name; do
     made=$here/../crates/$name/out/lib$name.a
-    [ -f "$made" ] || { echo "install.sh: run 'rt lib' in crates/$name first" >&2; exit 1; }
+    [ -f "$made" ] || (echo "install.sh: proving and making $name" && cd "$here/../crates/$name" && rt lib) >&2
+    [ -f "$made" ] || { echo "install.sh: 'rt lib' made no crates/$name/out/lib$name.a" >&2; exit 1; }
     # malloc, realloc and free; and what a server asks the system besides
     case $name in
     vnc_server) support="$kit/c/liblibc_c.a $kit/c/libos_c.a" ;;
