@@ -38,8 +38,8 @@ returns-clause-bytes c =
     let h = c.args.picture.now.height in
     let picture = c.args.picture.now.colours in
     let cut = is_sent c.args.limit c.args.state.now.marks c.in-Some.field-0.cut c.in-Some.field-0.marks
-        (ap (option_map (λ (q : PreparedCut). q.cut)) (sym c.in-Some.is) ∙ c.in_ok-cut.ensures.sent)
-        (subst (λ (o : Option PreparedCut). IfSome o (λ q. q.marks ≡ marks_after c.args.limit c.args.state.now.marks)) c.in-Some.is c.in_ok-cut.ensures.after) in
+    (ap (option_map (λ (q : PreparedCut). q.cut)) (sym c.in-Some.is) ∙ c.in_ok-cut.ensures.sent)
+    (subst (λ (o : Option PreparedCut). IfSome o (λ q. q.marks ≡ marks_after c.args.limit c.args.state.now.marks)) c.in-Some.is c.in_ok-cut.ensures.after) in
     ap (λ l. front_bytes v ++ l) c.in_ok-rectangles.ensures.bytes
     ∙ ap (λ f. front_bytes v ++ bytes_of w h picture v.encoding f c.in-Some.field-0.cut.copies c.in-Some.field-0.cut.offset c.in-Some.field-0.cut.pixels) c.in_ok-format.ensures
     ∙ ap (λ (q : Cut). front_bytes v ++ bytes_of w h picture v.encoding v.format q.copies q.offset q.pixels) (sym cut.cut_is)
@@ -49,8 +49,8 @@ pub returns-clause-viewer : goal.returns-clause-viewer
 returns-clause-viewer c =
     let v = viewer_in c.args.state.now in
     let cut = is_sent c.args.limit c.args.state.now.marks c.in-Some.field-0.cut c.in-Some.field-0.marks
-        (ap (option_map (λ (q : PreparedCut). q.cut)) (sym c.in-Some.is) ∙ c.in_ok-cut.ensures.sent)
-        (subst (λ (o : Option PreparedCut). IfSome o (λ q. q.marks ≡ marks_after c.args.limit c.args.state.now.marks)) c.in-Some.is c.in_ok-cut.ensures.after) in
+    (ap (option_map (λ (q : PreparedCut). q.cut)) (sym c.in-Some.is) ∙ c.in_ok-cut.ensures.sent)
+    (subst (λ (o : Option PreparedCut). IfSome o (λ q. q.marks ≡ marks_after c.args.limit c.args.state.now.marks)) c.in-Some.is c.in_ok-cut.ensures.after) in
     ap (λ m. let u : KeptViewer = record v { map_owed = false; notices = []; marks = m } in u) (c.into_marks.ensures ∙ sym cut.after_is)
     ∙ ap (λ o. (with_update c.args.picture.now.width c.args.picture.now.height c.args.picture.now.colours v o).1) (sym cut.is)
 
