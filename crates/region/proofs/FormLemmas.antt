@@ -1,7 +1,8 @@
 -- The bands of a region's form, and its places.
-use Rattle.std.proofs.Common.{◌≡◌, ◌≤◌, ◌*◌, Bool, true, false, ◌&&◌, List, [], ◌∷◌, refl, sym, ◌∙◌, ap, subst, arith, Option, Some, None}
+use Rattle.std.proofs.Common.{◌≡◌, ◌≤◌, ◌*◌, Bool, true, false, ◌&&◌, List, [], ◌∷◌, ◌++◌, refl, sym, ◌∙◌, ap, subst, arith, Option, Some, None}
 use Rattle.std.specs.Prelude.{ℤ, ◌||◌, ◌+ℤ◌, not, int_le, int_lt, IsTrue, ◌↔◌}
 use Rattle.std.specs.Option.{option_map}
+use Rattle.std.specs.Global.{Box}
 use Rattle.std.proofs.lemmas.Int.{ints}
 use Rattle.region.specs.declared.Rect.{Rect}
 use Rattle.region.specs.declared.form.Form.{Form}
@@ -25,8 +26,15 @@ pub form_bands : (form : Form) → IsForm form → AreBands (bands_in form)
 form_bands (Plain rect) h = plain_are_bands rect h
 form_bands (Linked own) h = h.bands
 
-pub linked_with_room : (form : Form) (own : LinkedBands) → form ≡ Linked own → IsForm form → AreBandsWithRoom own.bands own.room
-linked_with_room form own e h = subst IsForm e h
+module _ (form : Form) (own : Box LinkedBands) (e : form ≡ Linked own) (now : LinkedBands) (is : now ≡ own.value) where
+  pub linked_bands : now.bands.above ++ now.bands.below ≡ bands_in form
+  linked_bands = ap (λ (u : LinkedBands). u.bands.above ++ u.bands.below) is ∙ ap bands_in (sym e)
+
+  pub linked_room : now.room ≡ room_in form
+  linked_room = ap (λ (u : LinkedBands). u.room) is ∙ ap room_in (sym e)
+
+  pub linked_with_room : IsForm form → AreBandsWithRoom now.bands now.room
+  linked_with_room h = subst (λ (u : LinkedBands). AreBandsWithRoom u.bands u.room) (sym is) (subst IsForm e h)
 
 or_none : (b : Bool) → (b || false) ≡ b
 or_none true = refl

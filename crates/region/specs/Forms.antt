@@ -35,15 +35,15 @@ plain_bands (Some r) = band_of r ∷ []
 
 abbrev pub bands_in : Form → List Band
 bands_in (Plain rect) = plain_bands rect
-bands_in (Linked own) = own.bands.above ++ own.bands.below
+bands_in (Linked own) = own.value.bands.above ++ own.value.bands.below
 
 abbrev pub room_in : Form → ℕ
 room_in (Plain rect) = 0
-room_in (Linked own) = own.room
+room_in (Linked own) = own.value.room
 
 abbrev pub IsForm : Form → Type 0
 IsForm (Plain rect) = IsPlain rect
-IsForm (Linked own) = AreBandsWithRoom own.bands own.room
+IsForm (Linked own) = AreBandsWithRoom own.value.bands own.value.room
 
 abbrev pub view_of : Form → RegionView
 view_of form = record { list = rects_in (bands_in form); room = room_in form }

@@ -32,7 +32,7 @@ pub(crate) struct LinkedBands {
 #[derive(Drop)]
 pub(crate) enum Form {
     Plain(Option<Rect>),
-    Linked(LinkedBands),
+    Linked(Box<LinkedBands>),
 }
 
 /// The rectangles of two regions that have no linked spans.
@@ -78,19 +78,43 @@ impl LinkedBands {
         Ok(())
     }
 
-    // The same bands, with no room.
-    fn try_clone(&self, alloc: Global) -> Result<LinkedBands, AllocError>
-        requires { AreBandsWithRoom self.now.bands self.now.room }
-        ensures bands { IfOk result (λ copy. copy.bands.above ++ copy.bands.below ≡ self.now.bands.above ++ self.now.bands.below) }
-        ensures form { IfOk result (λ copy. AreBandsWithRoom copy.bands copy.room) }
+    // The same, in the room that was made for it.
+    fn keep_in_room(&mut self, other: &mut Reader, keep: Keep)
+        requires first { AreBandsWithRoom self.old.bands self.old.room }
+        requires second { AreBands other.old.bands }
+        requires second_left { other.old.left ≡ first_row other.old.bands }
+        requires room { (bands : List Band) → IsKept keep (self.old.bands.above ++ self.old.bands.below) other.old.bands bands →
+            2 * nodes_in bands ≤ self.old.room }
+        ensures kept { IsKept keep (self.old.bands.above ++ self.old.bands.below) other.old.bands
+            (self.new.bands.above ++ self.new.bands.below) }
+        ensures form { AreBandsWithRoom self.new.bands self.new.room }
     {
-        let bands = if self.bands.is_sparse() {
-            packed(alloc, &self.bands)?
-        } else {
-            self.bands.try_clone()?
-        };
-        Ok(LinkedBands { bands, room: 0 })
+        put_kept(&mut self.bands, other, keep);
+        self.room = 0;
     }
+
+    // The same bands.
+    fn clone_bands(&self, alloc: Global) -> Result<BandList, AllocError>
+        requires { AreBandsWithRoom self.now.bands self.now.room }
+        ensures bands { IfOk result (λ copy. copy.above ++ copy.below ≡ self.now.bands.above ++ self.now.bands.below) }
+        ensures row { IfOk result (λ copy. copy.row ≡ []) }
+    {
+        if self.bands.is_sparse() {
+            packed(alloc, &self.bands)
+        } else {
+            self.bands.try_clone()
+        }
+    }
+}
+
+// Bands with room for a result.
+fn linked(alloc: Global, bands: BandList, room: usize) -> Result<Form, AllocError>
+    requires { AreBandsWithRoom bands room }
+    ensures bands { IfOk result (λ form. bands_in form ≡ bands.above ++ bands.below) }
+    ensures room { IfOk result (λ form. room_in form ≡ room) }
+    ensures form { IfOk result IsForm }
+{
+    Ok(Form::Linked(Box::new(alloc, LinkedBands { bands, room })?))
 }
 
 impl Form {
@@ -107,15 +131,15 @@ impl Form {
     }
 
     /// The places of bands: in place where they are one rectangle.
-    pub fn of_bands(bands: BandList) -> Form
+    pub fn of_bands(alloc: Global, bands: BandList) -> Result<Form, AllocError>
         requires bands { AreBands (bands.above ++ bands.below) }
         requires row { bands.row ≡ [] }
-        ensures bands { bands_in result ≡ bands.above ++ bands.below }
-        ensures form { IsForm result }
+        ensures bands { IfOk result (λ form. bands_in form ≡ bands.above ++ bands.below) }
+        ensures form { IfOk result IsForm }
     {
         match only_rect(&mut bands.reader()) {
-            Some(rect) => Form::Plain(Some(rect)),
-            None => Form::Linked(LinkedBands { bands, room: 0 }),
+            Some(rect) => Ok(Form::Plain(Some(rect))),
+            None => linked(alloc, bands, 0),
         }
     }
 
@@ -127,7 +151,7 @@ impl Form {
     {
         match self {
             Form::Plain(rect) => Ok(Form::Plain(*rect)),
-            Form::Linked(own) => Ok(Form::Linked(own.try_clone(alloc)?)),
+            Form::Linked(own) => linked(alloc, own.clone_bands(alloc)?, 0),
         }
     }
 
@@ -164,7 +188,7 @@ impl Form {
             Form::Plain(rect) => {
                 let mut bands = bands_of_plain(alloc, *rect)?;
                 bands.reserve(room)?;
-                *self = Form::Linked(LinkedBands { bands, room });
+                *self = linked(alloc, bands, room)?;
             }
             Form::Linked(own) => {
                 own.bands.reserve(room)?;
@@ -186,10 +210,7 @@ impl Form {
         match self {
             // no room was made: nothing is kept
             Form::Plain(rect) => *rect = None,
-            Form::Linked(own) => {
-                put_kept(&mut own.bands, other, keep);
-                own.room = 0;
-            }
+            Form::Linked(own) => own.keep_in_room(other, keep),
         }
     }
 
@@ -211,7 +232,7 @@ impl Form {
             Form::Plain(rect) => {
                 let mut bands = bands_of_plain(alloc, *rect)?;
                 keep_where_they_stand(&mut bands, other, keep)?;
-                *self = Form::of_bands(bands);
+                *self = Form::of_bands(alloc, bands)?;
                 Ok(())
             }
             Form::Linked(own) => own.keep(other, keep),

@@ -17,6 +17,6 @@ returns-in_ok-or-in_default t c = λ x y.
 
 pub returns-in-Some : goal.returns-in-Some
 returns-in-Some t c = λ x y.
-    ap (λ l. covers l x y) c.of_bands.ensures
+    ap (λ l. covers l x y) c.in_ok-stack-in_default.ensures
     ∙ covers_has (c.in-Some.bands.above ++ c.in-Some.bands.below) x y
     ∙ (found_bands c.args.rects.now c.in_ok-bands-in_default.field-0 c.in-Some.bands c.in_ok-bands-in_default.ensures c.in-Some.is).places x y

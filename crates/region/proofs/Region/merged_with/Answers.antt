@@ -17,8 +17,8 @@ returns c =
     let made = c.merge_bands.new.bands.above in
     let all = made ++ c.merge_bands.new.bands.below in
     let is : all ≡ made = ap (λ (u : Bands). made ++ u.below) c.in_ok-merge_bands.ensures.same ∙ append-nil made in
-    kept_covers c.args.keep first second all c.args.self.now.list c.args.other.now.list c.of_bands.result.list
+    kept_covers c.args.keep first second all c.args.self.now.list c.args.other.now.list c.in_ok-merged.merged.list
     (subst (IsKept c.args.keep first second) (sym is)
     (subst (λ (r : Reading). IsKept c.args.keep first r.bands made) c.reader-second.ensures
     (subst (λ (r : Reading). IsKept c.args.keep r.bands c.reader-second.result.bands made) c.reader-first.ensures c.in_ok-merge_bands.ensures.kept)))
-    (sym (ap (λ v. v.list) c.self.view_is)) (sym (ap (λ v. v.list) c.other.view_is)) c.of_bands.ensures
+    (sym (ap (λ v. v.list) c.self.view_is)) (sym (ap (λ v. v.list) c.other.view_is)) c.in_ok-merged.ensures

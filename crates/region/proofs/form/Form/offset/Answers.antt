@@ -7,12 +7,11 @@ use Rattle.region.specs.declared.form.Form.TheVariants.{Plain}
 use Rattle.region.specs.Region.{in_rect, covers}
 use Rattle.region.specs.RegionView.{moved_rect, leaves_range}
 use Rattle.region.specs.Rects.{rects_in}
-use Rattle.region.specs.Forms.{bands_in}
 use Rattle.region_sets.specs.Sets.{has}
 use Rattle.region.proofs.form.Form.offset.Goals as goal
 use Rattle.region.proofs.RangeLemmas.{bands_movable}
 use Rattle.region.proofs.BandRectLemmas.{covers_has}
-use Rattle.region.proofs.FormLemmas.{plain_covers, form_plain, plain_stays, moved_has, linked_with_room}
+use Rattle.region.proofs.FormLemmas.{plain_covers, form_plain, plain_stays, moved_has, linked_with_room, linked_bands}
 
 pub moved-requires : goal.moved-requires
 moved-requires c =
@@ -24,8 +23,8 @@ pub offset-requires-clause-movable : goal.offset-requires-clause-movable
 offset-requires-clause-movable c =
     let x : FitsSigned w32 c.args.dx = c.ranges.dx in
     let y : FitsSigned w32 c.args.dy = c.ranges.dy in
-    simp to_z-of_z (bands_movable c.args.dx c.args.dy (c.in-Linked.own.bands.above ++ c.in-Linked.own.bands.below) (linked_with_room c.args.self.now c.in-Linked.own c.in-Linked.is c.requires.form).bands
-    (ap (λ f. leaves_range c.args.dx c.args.dy (rects_in (bands_in f))) (sym c.in-Linked.is) ∙ c.requires.stays))
+    simp to_z-of_z (bands_movable c.args.dx c.args.dy (c.deref_mut.result.now.bands.above ++ c.deref_mut.result.now.bands.below) (linked_with_room c.args.self.now c.in-Linked.own c.in-Linked.is c.deref_mut.result.now c.deref_mut.ensures.value c.requires.form).bands
+    (ap (λ l. leaves_range c.args.dx c.args.dy (rects_in l)) (linked_bands c.args.self.now c.in-Linked.own c.in-Linked.is c.deref_mut.result.now c.deref_mut.ensures.value) ∙ c.requires.stays))
 
 pub returns-in-Plain-Some-clause-places : goal.returns-in-Plain-Some-clause-places
 returns-in-Plain-Some-clause-places c = λ x y.
@@ -48,5 +47,5 @@ returns-in-Linked-clause-places c = λ x y.
     ∙ ap (λ d. has c.offset.new.bands.above (x +ℤ d) (y +ℤ c.args.dy)) (sym (to_z-of_z w32 c.args.dx fits_x))
     ∙ ap (λ d. has c.offset.new.bands.above (x +ℤ to_z w32 (of_z w32 c.args.dx)) (y +ℤ d)) (sym (to_z-of_z w32 c.args.dy fits_y))
     ∙ c.offset.ensures.has x y
-    ∙ sym (covers_has (c.in-Linked.own.bands.above ++ c.in-Linked.own.bands.below) x y)
-    ∙ ap (λ f. covers (rects_in (bands_in f)) x y) (sym c.in-Linked.is)
+    ∙ sym (covers_has (c.deref_mut.result.now.bands.above ++ c.deref_mut.result.now.bands.below) x y)
+    ∙ ap (λ l. covers (rects_in l) x y) (linked_bands c.args.self.now c.in-Linked.own c.in-Linked.is c.deref_mut.result.now c.deref_mut.ensures.value)
