@@ -150,3 +150,20 @@ within_on e f copy_rects begun after cs next c old new now soon here there withi
     ap (λ (r : Reached). new ++ remaining_rectangles e f copy_rects cs r) there
     ∙ within_at e f copy_rects begun after cs next c old new (drop next cs) refl (subst (λ (r : Reached). IsWithin cs r) here within) is on
     ∙ ap (λ (r : Reached). old ++ remaining_rectangles e f copy_rects cs r) (sym here)
+
+begun_at : (e : Encoding) (f : PixelFormat) (begun : Begun) (cs : List Coloured) (next : ℕ) (c : Coloured) (old new : List ℕ) (t : List Coloured)
+    → drop next cs ≡ t → next < length cs → c ≡ get_or cs next c → new ++ rest_of f c (Some begun) ≡ old ++ coloured_bytes e f c
+    → new ++ rest_within e f begun t ≡ old ++ flat_map (coloured_bytes e f) t
+begun_at e f begun cs next c old new [] at below is on = absurd (omega (arith, below, length-drop next cs, ap (λ (l : List Coloured). length l) at))
+begun_at e f begun cs next c old new (d ∷ ds) at below is on =
+    let first : c ≡ d = is ∙ ap (λ (k : ℕ). get_or cs k c) (let q : next ≡ next + 0 = omega arith in q) ∙ sym (get_or-drop next cs 0 c) ∙ ap (λ (l : List Coloured). get_or l 0 c) at in
+    along old new (rest_of f d (Some begun)) (coloured_bytes e f d) (flat_map (coloured_bytes e f) ds)
+    (subst (λ (x : Coloured). new ++ rest_of f x (Some begun) ≡ old ++ coloured_bytes e f x) first on)
+
+-- a rectangle in Raw is begun
+pub begun_on : (e : Encoding) (f : PixelFormat) (copy_rects : List CopyRect) (begun : Begun) (cs : List Coloured) (next : ℕ) (c : Coloured) (old new : List ℕ) (now : Reached)
+    → e ≡ encoding.Raw → now ≡ Before next → next < length cs → c ≡ get_or cs next c → new ++ rest_of f c (Some begun) ≡ old ++ coloured_bytes encoding.Raw f c
+    → new ++ rest_within e f begun (drop next cs) ≡ old ++ remaining_rectangles e f copy_rects cs now
+begun_on e f copy_rects begun cs next c old new now raw here below is on =
+    begun_at e f begun cs next c old new (drop next cs) refl below is (on ∙ ap (λ (x : Encoding). old ++ coloured_bytes x f c) (sym raw))
+    ∙ ap (λ (r : Reached). old ++ remaining_rectangles e f copy_rects cs r) (sym here)

@@ -2,6 +2,7 @@
 
 ghost use Rattle.std.specs.Prelude.{◌≡◌, ◌≢◌, ◌+◌, ◌*◌, ◌^◌, ◌<◌, ◌≤◌, ◌++◌, ◌↔◌, [], All, IsTrue, true, false, IfOk, IfSome, OnOk};
 ghost use Rattle.std.specs.Prelude.{OnErr, length};
+ghost use Rattle.pixel_translate.specs.declared.PixelFormat.{PixelFormat};
 ghost use Rattle.viewer.specs.Short.{IsShort};
 ghost use Rattle.viewer.specs.Updates.{coloured_bytes, rectangles_bytes, all_bytes};
 ghost use Rattle.viewer.specs.declared.remaining.Begun.TheVariants as begun;
@@ -11,7 +12,7 @@ ghost use Rattle.viewer.specs.Remaining.{rest_of, reached_after, left_of, IsBegu
 use crate::notices::{Notice, put_notice};
 use crate::parts::{Coloured, Part, Rectangles};
 use crate::sizes::Size;
-use crate::update::{put_opening, put_size};
+use crate::update::{put_head, put_opening, put_size};
 use encode_hextile::{Carried, Rows, encode_row_of_tiles};
 use encode_raw::{put_raw_pixels, rect_header};
 use messages::{Encoding, put_colour_map};
@@ -58,6 +59,18 @@ impl Model for RemainingRectangles {
     ghost invariant = { λ a. IsWithin a.rectangles.coloured.items a.reached };
 }
 
+/// Begins a rectangle in Raw, by its head of 12 bytes: how far it is encoded then. Where memory is refused, nothing is appended.
+fn begin_in_raw(out: &mut Vec<u8>, rectangle: &Coloured) -> Result<Begun, AllocError>
+    ensures bytes { IfOk result (λ begun. (f : PixelFormat) → out.new.items ++ rest_of f rectangle.now (Some begun) ≡
+        out.old.items ++ coloured_bytes Encoding.Raw f rectangle.now) }
+    ensures bound { OnOk result (length out.new.items ≡ length out.old.items + 12) }
+    ensures within { IfOk result (λ begun. IsBegun begun rectangle.now) }
+    ensures err { OnErr result (out.new.items ≡ out.old.items) }
+{
+    rect_header(out, rectangle.area, 0)?;
+    Ok(Begun::Colours(0))
+}
+
 /// Begins a rectangle: in Raw and Hextile its head, else all of it. How far it is encoded, where not all of it is.
 fn begin_rectangle(
     out: &mut Vec<u8>,
@@ -72,8 +85,8 @@ fn begin_rectangle(
 {
     match encoding {
         Encoding::Raw => {
-            rect_header(out, rectangle.area, 0)?;
-            Ok(Some(Begun::Colours(0)))
+            let begun = begin_in_raw(out, rectangle)?;
+            Ok(Some(begun))
         }
         Encoding::Rre => {
             rectangle.colours.put_rre(out, rectangle.area, table)?;
@@ -256,6 +269,41 @@ fn put_run(
     Ok(reached_after(next, begun))
 }
 
+/// Appends the next part of rectangles, behind what is reached, where it has at most 8,192 bytes for certain: the head where there are
+/// no copies, and of a rectangle in Raw its head, or some of its pixels. What is reached then; None where another part comes next. Then,
+/// and where memory is refused, nothing is appended.
+fn put_short(
+    out: &mut Vec<u8>,
+    rectangles: &Rectangles,
+    reached: Reached,
+) -> Result<Option<Reached>, AllocError>
+    requires { IsWithin rectangles.now.coloured.items reached }
+    ensures bytes { IfOk result (λ next. IfSome next (λ r. out.new.items ++ left_of rectangles.now r ≡
+        out.old.items ++ left_of rectangles.now reached)) }
+    ensures more { IfOk result (λ next. IfSome next (λ _. length out.old.items < length out.new.items)) }
+    ensures bound { OnOk result (length out.new.items ≤ length out.old.items + 8192) }
+    ensures within { IfOk result (λ next. IfSome next (IsWithin rectangles.now.coloured.items)) }
+    ensures other { result ≡ Ok None → out.new.items ≡ out.old.items }
+    ensures err { OnErr result (out.new.items ≡ out.old.items) }
+{
+    match reached {
+        Reached::Nothing if rectangles.copy_rects.is_empty() => {
+            put_head(out, rectangles)?;
+            Ok(Some(Reached::Before(0)))
+        }
+        Reached::Before(next)
+            if next < rectangles.coloured.len() && rectangles.encoding == Encoding::Raw => {
+            let begun = begin_in_raw(out, &rectangles.coloured[next])?;
+            Ok(Some(Reached::Within(next, begun)))
+        }
+        Reached::Within(next, Begun::Colours(done)) => {
+            let reached = put_run(out, rectangles, next, done)?;
+            Ok(Some(reached))
+        }
+        _ => Ok(None),
+    }
+}
+
 impl RemainingRectangles {
     /// All of an update's rectangles.
     pub fn new(alloc: Global, rectangles: Rectangles) -> RemainingRectangles
@@ -285,8 +333,8 @@ impl RemainingRectangles {
         Ok(())
     }
 
-    /// Appends the next part where it is some of the pixels of a rectangle in Raw, which are at most 8,192 bytes. Whether it is.
-    pub fn put_run(&mut self, out: &mut Vec<u8>) -> Result<bool, AllocError>
+    /// Appends the next part where it has at most 8,192 bytes for certain. Whether it has.
+    pub fn put_short(&mut self, out: &mut Vec<u8>) -> Result<bool, AllocError>
         ensures bytes { OnOk result (out.new.items ++ self.new ≡ out.old.items ++ self.old) }
         ensures more { result ≡ Ok true → length out.old.items < length out.new.items }
         ensures bound { OnOk result (length out.new.items ≤ length out.old.items + 8192) }
@@ -295,10 +343,10 @@ impl RemainingRectangles {
         ensures err { OnErr result (out.new.items ≡ out.old.items) }
         ensures kept { OnErr result (self.new ≡ self.old) }
     {
-        let Reached::Within(next, Begun::Colours(done)) = self.reached else {
+        let Some(reached) = put_short(out, &self.rectangles, self.reached)? else {
             return Ok(false);
         };
-        self.reached = put_run(out, &self.rectangles, next, done)?;
+        self.reached = reached;
         Ok(true)
     }
 }
@@ -396,8 +444,8 @@ impl RemainingUpdate {
         }
     }
 
-    /// Appends the next part where it is some of the pixels of a rectangle in Raw, which are at most 8,192 bytes. Whether it is.
-    pub fn put_run(&mut self, out: &mut Vec<u8>) -> Result<bool, AllocError>
+    /// Appends the next part where it has at most 8,192 bytes for certain. Whether it has.
+    pub fn put_short(&mut self, out: &mut Vec<u8>) -> Result<bool, AllocError>
         ensures bytes { OnOk result (out.new.items ++ self.new ≡ out.old.items ++ self.old) }
         ensures more { result ≡ Ok true → length out.old.items < length out.new.items }
         ensures bound { OnOk result (length out.new.items ≤ length out.old.items + 8192) }
@@ -408,7 +456,9 @@ impl RemainingUpdate {
     {
         match &mut self.part {
             RemainingPart::Places(rectangles)
-                if !self.map_owed && self.told >= self.notices.len() => { rectangles.put_run(out) }
+                if !self.map_owed && self.told >= self.notices.len() => {
+                rectangles.put_short(out)
+            }
             _ => Ok(false),
         }
     }

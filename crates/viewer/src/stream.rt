@@ -11,8 +11,8 @@ pub const PIECE: usize = 8192;
 
 /// An update on its way to a viewer, piece by piece. Contracts see it as the bytes that are still to come.
 ///
-/// Pixels in Raw are appended as they are made. Of other parts no more is made at once, in a vector that the stream keeps, than
-/// a row of tiles in Hextile, a rectangle in RRE, the colour map, or a notice.
+/// Pixels in Raw are appended as they are made, and short heads. Of other parts no more is made at once, in a vector that the stream
+/// keeps, than a row of tiles in Hextile, a rectangle in RRE, the copies, the colour map, or a notice.
 pub struct Stream {
     remaining: RemainingUpdate,
     made: Vec<u8>,
@@ -84,7 +84,7 @@ impl Stream {
         ensures kept { OnErr result (self.new ≡ self.old) }
     {
         if self.given >= self.made.len() {
-            if self.remaining.put_run(out)? {
+            if self.remaining.put_short(out)? {
                 return Ok(());
             }
             self.given = 0;

@@ -1,6 +1,6 @@
 //! What one sending step sends: taken out of the picture, and encoded without it.
 
-ghost use Rattle.std.specs.Prelude.{◌≡◌, ◌+◌, ◌<◌, ◌++◌, All, flat_map, length, IfOk, OnOk};
+ghost use Rattle.std.specs.Prelude.{◌≡◌, ◌+◌, ◌<◌, ◌++◌, All, flat_map, length, IfOk, OnOk, OnErr};
 ghost use Rattle.messages.specs.Server.{update_head};
 ghost use Rattle.viewer.specs.Short.{IsShort};
 ghost use Rattle.viewer.specs.Sending.{map_bytes, size_bytes};
@@ -71,14 +71,23 @@ fn size_of(rectangles: &[Coloured]) -> usize {
     size
 }
 
+/// Appends the head of a FramebufferUpdate: 4 bytes. Where memory is refused, nothing is appended.
+pub fn put_head(out: &mut Vec<u8>, rectangles: &Rectangles) -> Result<(), AllocError>
+    ensures ok { OnOk result (out.new.items ≡
+        out.old.items ++ update_head (length rectangles.now.copy_rects.items + length rectangles.now.coloured.items)) }
+    ensures err { OnErr result (out.new.items ≡ out.old.items) }
+{
+    let count = rectangles.copy_rects.len() + rectangles.coloured.len();
+    put_update_head(out, count as u16)
+}
+
 /// Appends the head of a FramebufferUpdate, and its copies.
 pub fn put_opening(out: &mut Vec<u8>, rectangles: &Rectangles) -> Result<(), AllocError>
     ensures { OnOk result (out.new.items ≡
         out.old.items ++ (update_head (length rectangles.now.copy_rects.items + length rectangles.now.coloured.items) ++
         flat_map copy_rect_bytes rectangles.now.copy_rects.items)) }
 {
-    let count = rectangles.copy_rects.len() + rectangles.coloured.len();
-    put_update_head(out, count as u16)?;
+    put_head(out, rectangles)?;
     put_copy_rects(out, &rectangles.copy_rects)
 }
 
