@@ -1,7 +1,9 @@
+mod calls;
 mod codes;
 mod keeping;
 mod refusing;
 mod seeing;
+mod steps;
 mod telling;
 mod viewers;
 mod visiting;

@@ -1,4 +1,5 @@
 mod closing;
 mod drawing;
+mod runs;
 mod single;
 mod waking;

@@ -1,28 +1,40 @@
 // Calls that are refused: the code, and that nothing changed.
 
-use crate::tests::viewers::{
-    ALL, CHANGES, NO_VISIT, NOTHING_TOLD, is_heard, is_sent_no_more, listening, reads, says,
-    watching,
+use crate::tests::calls::Call;
+use crate::tests::calls::Call::{
+    CloseViewer, DoCopyRegion, Height, Inputs, Lost, MarkRegion, Paint, Resize, ScheduleCopyRegion,
+    Take, ViewerCount, Visits, Width, Write,
 };
-use server_desk::{Corners, PixelLayout, ServerDesk};
-use std::alloc::{AllocError, Global};
+use crate::tests::steps::Step::{AllAnswer, Answers, CutsLetters, First};
+use crate::tests::steps::{Example, LISTENS, first_wrong_of};
+use crate::tests::viewers::Act::{IsHeard, IsSentNoMore, Opens, Reads, Says, SeesAll};
+use crate::tests::viewers::{ALL, CHANGES};
+use server_desk::{Corners, PixelLayout};
 use std::test::Fail;
 
-// Places that are not on a picture of 2 by 1, corners in the wrong order, and too few colours or too many.
-fn painting_codes(desk: &mut ServerDesk) -> [i32; 10] {
-    [
-        desk.paint(0, 0, 3, 1, &[1, 2, 3]),
-        desk.paint(-1, 0, 1, 1, &[1, 2]),
-        desk.paint(0, 0, 1, 2, &[1, 2]),
-        desk.paint(0, -1, 1, 1, &[1, 2]),
-        desk.paint(2, 0, 1, 1, &[1]),
-        desk.paint(0, 0, 2, 1, &[1]),
-        desk.paint(0, 0, 2, 1, &[1, 2, 3]),
-        desk.write_pixels(2, 0, 3, 1, &[1]),
-        desk.write_pixels(0, 0, i32::MAX, i32::MAX, &[1]),
-        desk.write_pixels(0, 0, 2, 1, &[]),
-    ]
+#[test]
+fn what_is_refused_changes_nothing(rt: HostRuntime) -> Result<(), Fail> {
+    assert_eq!(rt; first_wrong_of(&rt, &EXAMPLES)?, None);
+    Ok(())
 }
+
+// Places that are not on a picture of 2 by 1, and corners in the wrong order.
+const OFF_SCREEN: &[Call] = &[
+    Paint((0, 0, 3, 1), &[1, 2, 3]),
+    Paint((-1, 0, 1, 1), &[1, 2]),
+    Paint((0, 0, 1, 2), &[1, 2]),
+    Paint((0, -1, 1, 1), &[1, 2]),
+    Paint((2, 0, 1, 1), &[1]),
+    Write((2, 0, 3, 1), &[1]),
+    Write((0, 0, i32::MAX, i32::MAX), &[1]),
+];
+
+// Too few colours or too many.
+const MISCOUNTED: &[Call] = &[
+    Paint((0, 0, 2, 1), &[1]),
+    Paint((0, 0, 2, 1), &[1, 2, 3]),
+    Write((0, 0, 2, 1), &[]),
+];
 
 const NEAR: Corners = Corners {
     x1: 0,
@@ -43,27 +55,23 @@ const BELOW: Corners = Corners {
 };
 
 // Regions with a coordinate that is not from -2^20 to 2^20.
-fn region_codes(desk: &mut ServerDesk) -> [i32; 4] {
-    [
-        desk.mark_region(&[NEAR, LEFT]),
-        desk.mark_region(&[BELOW, NEAR]),
-        desk.schedule_copy_region(&[LEFT], 1, 0),
-        desk.do_copy_region(&[NEAR, BELOW], 1, 0),
-    ]
-}
+const FAR: &[Call] = &[
+    MarkRegion(&[NEAR, LEFT]),
+    MarkRegion(&[BELOW, NEAR]),
+    ScheduleCopyRegion(&[LEFT], (1, 0)),
+    DoCopyRegion(&[NEAR, BELOW], (1, 0)),
+];
 
-// Sizes that no picture has, and viewers that there are not where 1 is the only one.
-fn other_codes(desk: &mut ServerDesk) -> [i32; 7] {
-    [
-        desk.new_framebuffer(0, 1),
-        desk.new_framebuffer(1, 0),
-        desk.new_framebuffer(8193, 1),
-        desk.new_framebuffer(8192, 2049),
-        desk.close_viewer(0),
-        desk.close_viewer(2),
-        desk.close_viewer(u64::MAX),
-    ]
-}
+// Sizes that no picture has.
+const BAD_SIZES: &[Call] = &[
+    Resize(0, 1),
+    Resize(1, 0),
+    Resize(8193, 1),
+    Resize(8192, 2049),
+];
+
+// Viewers that there are not where 1 is the only one.
+const NOBODY: &[Call] = &[CloseViewer(0), CloseViewer(2), CloseViewer(u64::MAX)];
 
 const LAYOUT: PixelLayout = PixelLayout {
     bytes_per_pixel: 2,
@@ -76,80 +84,68 @@ const LAYOUT: PixelLayout = PixelLayout {
     blue_shift: 0,
 };
 
-// A component with no value above 0, one that doesn't fit, pixels of no byte and of five, a layout beside a table, a table of 257
-// colours, rows that overlap, and fewer bytes than the rows take.
-fn taking_codes(desk: &mut ServerDesk) -> [i64; 8] {
-    let no_green = PixelLayout {
-        green_max: 0,
-        ..LAYOUT
-    };
-    let too_far = PixelLayout {
-        red_shift: 12,
-        ..LAYOUT
-    };
-    let of_no_byte = PixelLayout {
-        bytes_per_pixel: 0,
-        ..LAYOUT
-    };
-    let of_five_bytes = PixelLayout {
-        bytes_per_pixel: 5,
-        ..LAYOUT
-    };
-    [
-        desk.take(0, 0, 1, 1, &[7; 8], 8, &[no_green], &[]),
-        desk.take(0, 0, 1, 1, &[7; 8], 8, &[too_far], &[]),
-        desk.take(0, 0, 1, 1, &[7; 8], 8, &[of_no_byte], &[]),
-        desk.take(0, 0, 1, 1, &[7; 8], 8, &[of_five_bytes], &[]),
-        desk.take(0, 0, 1, 1, &[0; 8], 8, &[LAYOUT], &[7]),
-        desk.take(0, 0, 1, 1, &[0; 8], 8, &[], &[7; 257]),
-        desk.take(0, 0, 2, 1, &[7; 8], 7, &[], &[]),
-        desk.take(0, 0, 2, 1, &[7; 7], 8, &[], &[]),
-    ]
-}
+const NO_GREEN: PixelLayout = PixelLayout {
+    green_max: 0,
+    ..LAYOUT
+};
 
-// What a text of 65,537 bytes is answered.
-fn long_text_code(alloc: Global, desk: &mut ServerDesk) -> Result<i32, AllocError> {
-    let text = vec![in alloc; 0x61; 65_537]?;
-    Ok(desk.cut_text(&text))
-}
+const TOO_FAR: PixelLayout = PixelLayout {
+    red_shift: 12,
+    ..LAYOUT
+};
 
-// Each is refused by its code. The viewer that asks for what changed is sent nothing, and the picture is as it was, for one that
-// asks for all of it; the viewer is still there, and nobody came or went.
-#[test]
-fn what_is_refused_changes_nothing(rt: HostRuntime) -> Result<(), Fail> {
-    let mut desk = listening(rt.alloc(), 2, 1);
-    assert_eq!(rt; desk.paint(0, 0, 2, 1, &[0x01_0203, 0x04_0506]), 0);
-    let mut viewer = watching(&rt, &mut desk)?;
-    assert_eq!(rt; desk.comings_and_goings(&mut [NO_VISIT; 2]), 1);
-    assert!(rt; says(&mut desk, &mut viewer, CHANGES));
-    assert_eq!(rt;
-        painting_codes(&mut desk),
-        [-4, -4, -4, -4, -4, -5, -5, -4, -4, -5]
-    );
-    assert_eq!(rt; region_codes(&mut desk), [-10; 4]);
-    assert_eq!(rt; other_codes(&mut desk), [-1, -1, -1, -1, -7, -7, -7]);
-    assert_eq!(rt;
-        taking_codes(&mut desk),
-        [-17, -17, -17, -17, -17, -17, -18, -19]
-    );
-    assert_eq!(rt; long_text_code(rt.alloc(), &mut desk)?, -6);
-    assert!(rt; is_heard(&mut desk, &mut viewer));
-    assert!(rt; is_sent_no_more(&mut desk, &mut viewer));
-    assert!(rt; says(&mut desk, &mut viewer, ALL));
-    assert!(rt;
-        reads(
-            &mut desk,
-            &mut viewer,
-            b"\0\0\0\x01\0\0\0\0\0\x02\0\x01\0\0\0\0\x03\x02\x01\0\x06\x05\x04\0"
-        )
-    );
-    assert!(rt; is_sent_no_more(&mut desk, &mut viewer));
-    assert_eq!(rt;
-        (desk.width(), desk.height(), desk.viewer_count()),
-        (2, 1, 1)
-    );
-    assert_eq!(rt; desk.comings_and_goings(&mut [NO_VISIT; 2]), 0);
-    assert_eq!(rt; desk.inputs(&mut [NOTHING_TOLD; 2]), 0);
-    assert_eq!(rt; desk.lost(), 0);
-    Ok(())
-}
+const OF_NO_BYTE: PixelLayout = PixelLayout {
+    bytes_per_pixel: 0,
+    ..LAYOUT
+};
+
+const OF_FIVE_BYTES: PixelLayout = PixelLayout {
+    bytes_per_pixel: 5,
+    ..LAYOUT
+};
+
+// A component with no value above 0, one that doesn't fit, pixels of no byte and of five, a layout beside a table, and a table of
+// 257 colours.
+const BAD_FORMATS: &[Call] = &[
+    Take(1, &[7; 8], 8, &[NO_GREEN], &[]),
+    Take(1, &[7; 8], 8, &[TOO_FAR], &[]),
+    Take(1, &[7; 8], 8, &[OF_NO_BYTE], &[]),
+    Take(1, &[7; 8], 8, &[OF_FIVE_BYTES], &[]),
+    Take(1, &[0; 8], 8, &[LAYOUT], &[7]),
+    Take(1, &[0; 8], 8, &[], &[7; 257]),
+];
+
+// The viewer that asks for what changed is sent nothing, and the picture is as it was, for one that asks for all of it; the viewer
+// is still there, and nobody came or went.
+static EXAMPLES: [Example; 1] = [(
+    "each is refused by its code",
+    &[
+        LISTENS,
+        Answers(Paint((0, 0, 2, 1), &[0x01_0203, 0x04_0506]), 0),
+        First(Opens),
+        First(SeesAll),
+        Answers(Visits, 1),
+        First(Says(CHANGES)),
+        AllAnswer(OFF_SCREEN, -4),
+        AllAnswer(MISCOUNTED, -5),
+        AllAnswer(FAR, -10),
+        AllAnswer(BAD_SIZES, -1),
+        AllAnswer(NOBODY, -7),
+        AllAnswer(BAD_FORMATS, -17),
+        // rows that overlap, and fewer bytes than the rows take
+        Answers(Take(2, &[7; 8], 7, &[], &[]), -18),
+        Answers(Take(2, &[7; 7], 8, &[], &[]), -19),
+        CutsLetters(65_537, -6),
+        First(IsHeard),
+        First(IsSentNoMore),
+        First(Says(ALL)),
+        First(Reads(b"\0\0\0\x01\0\0\0\0\0\x02\0\x01\0\0\0\0\x03\x02\x01\0\x06\x05\x04\0")),
+        First(IsSentNoMore),
+        Answers(Width, 2),
+        Answers(Height, 1),
+        Answers(ViewerCount, 1),
+        Answers(Visits, 0),
+        Answers(Inputs, 0),
+        Answers(Lost, 0),
+    ],
+)];

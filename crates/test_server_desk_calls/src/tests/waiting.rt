@@ -1,54 +1,97 @@
 // How long turns wait, what ends a wait, and what a program with a loop of its own waits for.
 
-use crate::tests::viewers::{
-    CHANGES, came, connected, is_heard, listening, next_visit, reads, says, watching,
+use crate::tests::calls::Call::{Bell, Close, LongestWait, Lost, Paint, Turn, ViewerCount};
+use crate::tests::steps::Step::{
+    Answers, ClosesWaker, Comes, ComesTo, First, HandleWaits, NewWaker, TurnTakes, Wakes,
 };
+use crate::tests::steps::{Example, LISTENS, Stage, Step, first_wrong, first_wrong_of};
+use crate::tests::viewers::Act::{Connects, IsHeard, Opens, Reads, Says, SeesAll};
+use crate::tests::viewers::{CHANGES, acts};
 use mio::unix::SourceFd;
 use mio::{Events, Interest, Poll, Token};
 use server_desk::{ServerDesk, ServerWaker};
+use std::net::TcpStream;
 use std::sync::atomic::{AtomicBool, Ordering};
 use std::test::Fail;
 use std::thread::Threads;
 use std::time::{Duration, Instant};
 use std::{io, thread};
 
-// What `longest_wait` says where a turn would wait without end.
-const NO_END: i32 = i32::MAX;
-
-// Takes turns that don't wait, 1,000 at most, until a turn would wait without end. Whether it would.
-fn comes_to_rest(desk: &mut ServerDesk) -> bool {
-    for _ in 0..1_000 {
-        if desk.longest_wait() == NO_END {
-            return true;
-        }
-        let _code = desk.process_events(0);
-    }
-    false
-}
-
-// Where nothing is left to do, a turn would wait without end; once something is drawn that a viewer waits for, it wouldn't wait
-// at all.
 #[test]
-fn the_longest_wait_is_told(rt: HostRuntime) -> Result<(), Fail> {
-    let mut desk = listening(rt.alloc(), 2, 1);
-    assert!(rt; comes_to_rest(&mut desk));
-    let mut viewer = watching(&rt, &mut desk)?;
-    assert!(rt; says(&mut desk, &mut viewer, CHANGES));
-    assert!(rt; is_heard(&mut desk, &mut viewer));
-    assert_eq!(rt; desk.paint(0, 0, 1, 1, &[8]), 0);
-    assert_eq!(rt; desk.longest_wait(), 0);
-    assert!(rt;
-        reads(
-            &mut desk,
-            &mut viewer,
-            b"\0\0\0\x01\0\0\0\0\0\x01\0\x01\0\0\0\0\x08\0\0\0"
-        )
-    );
-    assert_eq!(rt; desk.bell(), 0);
-    assert_eq!(rt; desk.longest_wait(), 0);
-    assert!(rt; reads(&mut desk, &mut viewer, b"\x02"));
+fn waits_end_as_they_are_to(rt: HostRuntime) -> Result<(), Fail> {
+    assert_eq!(rt; first_wrong_of(&rt, &EXAMPLES)?, None);
     Ok(())
 }
+
+// What `longest_wait` says where a turn would wait without end.
+const NO_END: i64 = 0x7fff_ffff;
+
+// Nothing is left to do.
+const COMES_TO_REST: Step = ComesTo(LongestWait, NO_END);
+
+static EXAMPLES: [Example; 5] = [
+    (
+        "where nothing is left to do, a turn would wait without end; once a viewer waits for what is drawn, not at all",
+        &[
+            LISTENS,
+            COMES_TO_REST,
+            First(Opens),
+            First(SeesAll),
+            First(Says(CHANGES)),
+            First(IsHeard),
+            Answers(Paint((0, 0, 1, 1), &[8]), 0),
+            Answers(LongestWait, 0),
+            First(Reads(b"\0\0\0\x01\0\0\0\0\0\x01\0\x01\0\0\0\0\x08\0\0\0")),
+            Answers(Bell, 0),
+            Answers(LongestWait, 0),
+            First(Reads(b"\x02")),
+        ],
+    ),
+    (
+        "a turn waits for as many milliseconds as it is told where nothing comes",
+        &[LISTENS, COMES_TO_REST, TurnTakes(30)],
+    ),
+    (
+        "a wake before the turn ends its wait too, and the desk is as it was",
+        &[
+            LISTENS,
+            COMES_TO_REST,
+            NewWaker,
+            Wakes(&[0]),
+            Answers(Turn(-1), 0),
+            Answers(ViewerCount, 0),
+            Answers(Lost, 0),
+            Answers(LongestWait, NO_END),
+        ],
+    ),
+    (
+        "a waker that was closed is shut, so is one of a shut desk, and one that outlives its desk wakes nobody",
+        &[
+            LISTENS,
+            NewWaker,
+            ClosesWaker,
+            Wakes(&[-32]),
+            ClosesWaker,
+            NewWaker,
+            Wakes(&[0]),
+            Answers(Close, 0),
+            Wakes(&[0, -15]),
+            NewWaker,
+            Wakes(&[-32]),
+            Answers(Turn(0), -32),
+        ],
+    ),
+    (
+        "a program's own loop finds the handle ready once a viewer comes; a turn that doesn't wait sees to it",
+        &[
+            LISTENS,
+            COMES_TO_REST,
+            HandleWaits,
+            Answers(Turn(0), 0),
+            Comes(1),
+        ],
+    ),
+];
 
 // Another thread says that it has begun, and wakes. What that answers.
 fn begins_and_wakes(has_begun: &AtomicBool, waker: &mut ServerWaker) -> i32 {
@@ -75,52 +118,33 @@ fn is_woken<R: Threads + Sync>(rt: &R, desk: &mut ServerDesk, waker: &mut Server
 
 // Another thread ends the wait of a turn that has no end, once for each time that it wakes, and nothing else does.
 #[test]
-fn another_thread_ends_a_wait(rt: HostRuntime) {
-    let mut desk = listening(rt.alloc(), 2, 1);
-    assert!(rt; comes_to_rest(&mut desk));
-    let mut waker = desk.waker();
-    assert!(rt; is_woken(&rt, &mut desk, &mut waker));
-    assert!(rt; is_woken(&rt, &mut desk, &mut waker));
-}
-
-// A turn waits for as many milliseconds as it is told where nothing comes.
-#[test]
-fn a_turn_waits_as_long_as_it_is_told(rt: HostRuntime) -> Result<(), Fail> {
-    let mut desk = listening(rt.alloc(), 2, 1);
-    assert!(rt; comes_to_rest(&mut desk));
-    let start = Instant::now(&rt)?;
-    assert_eq!(rt; desk.process_events(30), 0);
-    assert!(rt; start.elapsed(&rt)? >= Duration::from_millis(30));
+fn another_thread_ends_a_wait(rt: HostRuntime) -> Result<(), Fail> {
+    let mut stage = Stage::new(rt.alloc());
+    let wrong = first_wrong(&rt, &mut stage, &[LISTENS, COMES_TO_REST, NewWaker])?;
+    assert_eq!(rt; wrong, None);
+    assert!(rt; is_woken(&rt, &mut stage.desk, &mut stage.waker));
+    assert!(rt; is_woken(&rt, &mut stage.desk, &mut stage.waker));
     Ok(())
 }
 
-// A wake before the turn ends its wait too, and the desk is as it was.
-#[test]
-fn a_wake_ends_the_next_wait(rt: HostRuntime) {
-    let mut desk = listening(rt.alloc(), 2, 1);
-    assert!(rt; comes_to_rest(&mut desk));
-    let mut waker = desk.waker();
-    assert_eq!(rt; waker.wake(), 0);
-    assert_eq!(rt; desk.process_events(-1), 0);
-    assert_eq!(rt; (desk.viewer_count(), desk.lost()), (0, 0));
-    assert_eq!(rt; desk.longest_wait(), NO_END);
+pub fn turn_takes(rt: &HostRuntime, desk: &mut ServerDesk, milliseconds: u8) -> Result<bool, Fail> {
+    let start = Instant::now(rt)?;
+    let code = desk.process_events(i32::from(milliseconds));
+    let least = Duration::from_millis(u64::from(milliseconds));
+    Ok(code == 0 && start.elapsed(rt)? >= least)
 }
 
-// A waker that was closed is shut; so is one of a shut desk. One that outlives its desk wakes nobody.
-#[test]
-fn a_waker_is_closed(rt: HostRuntime) {
-    let mut desk = listening(rt.alloc(), 2, 1);
-    let mut waker = desk.waker();
-    assert_eq!(rt; waker.close(), 0);
-    assert_eq!(rt; waker.wake(), -32);
-    assert_eq!(rt; waker.close(), 0);
-    let mut second = desk.waker();
-    assert_eq!(rt; second.wake(), 0);
-    assert_eq!(rt; desk.close(), 0);
-    let code = second.wake();
-    assert!(rt; code == 0 || code == -15, "{code}");
-    assert_eq!(rt; desk.waker().wake(), -32);
-    assert_eq!(rt; desk.process_events(0), -32);
+pub fn is_left_alone(desk: &mut ServerDesk, most: i32) -> bool {
+    for _ in 0..100 {
+        let wait = desk.longest_wait();
+        if wait < 0 || wait > most || desk.process_events(wait) != 0 {
+            return false;
+        }
+        if desk.viewer_count() == 0 {
+            return true;
+        }
+    }
+    false
 }
 
 // Whether something is ready, after so many waits at most.
@@ -134,21 +158,16 @@ fn is_ready(poll: &mut Poll, events: &mut Events, waits: u32) -> io::Result<bool
     Ok(false)
 }
 
-// A program's own loop finds the desk's handle ready once a viewer comes, and not before; a turn that doesn't wait sees to it.
-#[test]
-fn the_handle_is_ready_where_a_viewer_comes(rt: HostRuntime) -> Result<(), Fail> {
-    let mut desk = listening(rt.alloc(), 2, 1);
-    assert!(rt; comes_to_rest(&mut desk));
+pub fn handle_waits(
+    rt: &HostRuntime,
+    desk: &mut ServerDesk,
+    seat: &mut Option<TcpStream>,
+) -> Result<bool, Fail> {
     let handle = desk.handle();
-    assert_eq!(rt; desk.handle(), handle);
-    let mut poll = Poll::new(&rt)?;
+    let mut poll = Poll::new(rt)?;
     let mut events = Events::with_capacity(rt.alloc(), 4)?;
     poll.registry()
         .register(&mut SourceFd(&handle), Token(7), Interest::READABLE)?;
-    assert!(rt; !is_ready(&mut poll, &mut events, 2)?);
-    let _viewer = connected(&rt, &mut desk)?;
-    assert!(rt; is_ready(&mut poll, &mut events, 1_000)?);
-    assert_eq!(rt; desk.process_events(0), 0);
-    assert_eq!(rt; next_visit(&mut desk), came(1));
-    Ok(())
+    let waits = desk.handle() == handle && !is_ready(&mut poll, &mut events, 2)?;
+    Ok(waits && acts(rt, desk, seat, Connects)? && is_ready(&mut poll, &mut events, 1_000)?)
 }

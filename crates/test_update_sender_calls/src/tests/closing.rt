@@ -1,30 +1,24 @@
 //! A viewer is closed, or all is stopped, while its sender waits or writes.
-//!
-//! A function that owns a shared screen lends it to others: each place where it may end on its way would be one more to prove.
-
-ghost use Rattle.std.specs.Prelude.{◌≡◌, ◌<◌};
 
 use input_queue::InputHub;
 use receipts::Receipt;
-use screen::{History, ScreenError};
+use screen::ScreenError;
 use std::alloc::Global;
-use std::marker::Brand;
 use std::sync::Wait;
-use std::sync::ledger::{Blank, Ledger};
-use std::test::*;
+use std::sync::ledger::Ledger;
 use std::thread;
 use std::thread::Threads;
 use test_threads::{
-    Ends, GREETED, Guard, Hold, Joined, OPENING, OPENING_AND_REQUEST, Sink, Source, Verdict, WHOLE,
-    Watch, comes_to_one, fresh, in_one_piece, join_over, take_turns, taking, whole,
+    Ends, GREETED, Guard, Hold, Joined, OPENING, OPENING_AND_REQUEST, Sink, Source, WHOLE, Watch,
+    in_one_piece, join_over, take_turns, taking, whole,
 };
 use update_sender::{
-    Ended, Listener, ReadHalf, Sent, Shared, WriteHalf, receipt, serve_reader, serve_sender,
+    Ended, Listener, ReadHalf, Shared, WriteHalf, receipt, serve_reader, serve_sender,
 };
 
 /// Who ends the viewer.
-#[derive(Clone, Copy, Debug)]
-enum Way {
+#[derive(Clone, Copy)]
+pub enum Way {
     /// Its reader, which is at its end.
     Reader,
     Close,
@@ -32,37 +26,14 @@ enum Way {
 }
 
 /// How a viewer is ended, and what it comes to.
-#[derive(Clone, Copy, Debug)]
-struct Ending {
-    way: Way,
-    // while its sender writes, or else while it waits
-    writes: bool,
-    read: Ended,
-    ended: Ended,
-}
-
-/// What a way comes to: why the reader ends, and why the sender.
-fn ending_by(way: Way, writes: bool) -> Ending {
-    let (read, ended) = match way {
-        Way::Reader => (Ended::EndOfInput, Ended::Closed),
-        Way::Close => (Ended::Closed, Ended::Closed),
-        Way::Stop => (Ended::EndOfInput, Ended::Stopped),
-    };
-    Ending {
-        way,
-        writes,
-        read,
-        ended,
-    }
-}
-
-/// Waits until the sender is in its first write; or gives it some turns, since nobody sees that it waits.
-fn await_sender(watch: &Watch, writes: bool) {
-    if writes {
-        watch.has_met();
-    } else {
-        take_turns();
-    }
+#[derive(Clone, Copy)]
+pub struct Ending {
+    pub way: Way,
+    /// While its sender writes, or else while it waits.
+    pub writes: bool,
+    /// Why its reader ends, and why its sender.
+    pub read: Ended,
+    pub ended: Ended,
 }
 
 /// Reads until the end, for an application that takes no inputs.
@@ -96,7 +67,8 @@ fn end_by<L: Ledger, R: Wait>(rt: &R, shared: &Shared<L>, way: Way) -> &'static 
     }
 }
 
-/// The reader's thread, which ends the viewer while its sender waits or writes.
+/// The reader's thread. It ends the viewer once the sender is in its first write; or gives the sender some turns before, since nobody
+/// sees that it waits.
 fn end<L: Ledger, R: Wait>(
     rt: &R,
     alloc: Global,
@@ -105,7 +77,11 @@ fn end<L: Ledger, R: Wait>(
     ending: Ending,
     listener: Listener,
 ) -> Option<ReadHalf> {
-    await_sender(watch, ending.writes);
+    if ending.writes {
+        watch.has_met();
+    } else {
+        take_turns();
+    }
     let given = end_by(rt, shared, ending.way);
     let read = read_all(rt, alloc, shared, listener, in_one_piece(given));
     watch.meet();
@@ -171,7 +147,7 @@ fn is_sent(alloc: Global, ending: Ending, receipt: &Receipt) -> Result<bool, Scr
 }
 
 /// Its receipt, where all is so.
-fn left_of<L: Ledger + Send + Sync, R: Threads + Wait + Sync>(
+pub fn ended_receipt<L: Ledger + Send + Sync, R: Threads + Wait + Sync>(
     rt: &R,
     alloc: Global,
     shared: &Shared<L>,
@@ -181,53 +157,4 @@ fn left_of<L: Ledger + Send + Sync, R: Threads + Wait + Sync>(
         Some(receipt) => Ok(is_sent(alloc, ending, &receipt)?.then_some(receipt)),
         None => Ok(None),
     }
-}
-
-fn ending_of<L: Ledger + Send + Sync, R: Threads + Wait + Sync>(
-    rt: &R,
-    alloc: Global,
-    blank: Blank,
-    ending: Ending,
-) -> Result<bool, ScreenError>
-    requires name { blank.name ≡ L.name }
-    requires parts { blank.parts ≡ L.parts }
-    requires some { 0 < L.parts }
-{
-    // the connection, the opening, the update where there is one, and the close
-    let events = if ending.writes { 4 } else { 3 };
-    let verdict = Verdict::Accepted(events, events, &[Sent::Whole]);
-    let (shared, brush) = fresh::<L>(alloc, blank, History::Kept)?;
-    let left = left_of(rt, alloc, &shared, ending);
-    comes_to_one(alloc, shared, brush, left, verdict)
-}
-
-/// Whether an ending comes to what it says.
-fn comes_out<R: Threads + Wait + Sync>(
-    rt: &R,
-    alloc: Global,
-    ending: Ending,
-) -> Result<bool, ScreenError> {
-    ending_of::<Brand, R>(rt, alloc, Blank::new(1), ending)
-}
-
-#[test]
-fn a_viewer_is_ended_while_its_sender_waits(rt: HostRuntime) -> Result<(), Fail> {
-    for way in [Way::Reader, Way::Close, Way::Stop] {
-        assert!(rt;
-            comes_out(&rt, rt.alloc(), ending_by(way, false))?,
-            "{way:?}"
-        );
-    }
-    Ok(())
-}
-
-#[test]
-fn a_viewer_is_ended_while_its_sender_writes(rt: HostRuntime) -> Result<(), Fail> {
-    for way in [Way::Reader, Way::Close, Way::Stop] {
-        assert!(rt;
-            comes_out(&rt, rt.alloc(), ending_by(way, true))?,
-            "{way:?}"
-        );
-    }
-    Ok(())
 }

@@ -1,38 +1,112 @@
-//! One viewer, before or while the application draws: what it is sent, its receipt, and that `finish` accepts it. `long` has an
-//! update that is written in parts.
-//!
-//! A function that owns a shared screen lends it to others: each place where it may end on its way would be one more to prove.
+//! One viewer, before or while the application draws: what it is sent, and its receipt.
 
-ghost use Rattle.std.specs.Prelude.{◌≡◌, ◌<◌};
+ghost use Rattle.std.specs.Prelude.{◌<◌};
 
 use receipts::Receipt;
 use region::{Rect, Region};
-use screen::{History, ScreenError};
+use screen::ScreenError;
 use std::alloc::{AllocError, Global};
-use std::marker::Brand;
 use std::sync::Wait;
-use std::sync::ledger::{Blank, Ledger};
-use std::test::*;
+use std::sync::ledger::Ledger;
 use std::thread;
 use std::thread::Threads;
 use test_threads::{
-    Ends, Guard, Hold, Joined, OPENING, Served, Sink, Verdict, Viewer, WHOLE, Watch, comes_to_one,
-    draw_each, fresh, in_one_piece, join_over, join_viewer, region_of, serve, stop_after, taking,
-    whole,
+    Ends, Guard, Hold, Joined, OPENING, OPENING_AND_REQUEST, Served, Sink, UPDATED, Viewer, Watch,
+    draw_each, failing, in_one_piece, join_over, region_of, serve, stop_after, taking, whole,
 };
-use update_sender::{
-    Brush, Ended, Listener, OpenGate, Sent, Shared, WriteHalf, receipt, serve_sender,
-};
+use update_sender::{Brush, Ended, Listener, OpenGate, Shared, WriteHalf, receipt, serve_sender};
 
-mod long;
+/// What is drawn before a viewer opens.
+#[derive(Clone, Copy)]
+pub enum Picture {
+    /// Each drawing call is made once, and at last the screen of 4 by 3 is in the colour 00000a.
+    Each,
+    /// A screen of 200 by 100 is painted in the colours 0, 1, 2 and so on, row by row. Its update has more than 64 KB, and is encoded
+    /// and written in parts.
+    Long,
+}
 
-/// The receipt of a viewer that was sent the whole screen in the colour 00000a, and that was stopped.
-fn receipt_of(alloc: Global, served: Served) -> Result<Option<Receipt>, AllocError> {
-    let whole = whole(alloc, 10)?;
-    if served.written != whole || served.left.ended() != Ended::Stopped {
-        return Ok(None);
+/// How many places the long one has.
+const PLACES: u32 = 20_000;
+
+/// The opening, and a request of the whole screen (RFC 6143, 7.1 to 7.3, 7.5.3).
+const SAID: &[u8] = b"RFB 003.008\n\x01\x01\x03\0\0\0\0\0\0\xc8\0\x64";
+
+/// What its viewer is sent before the pixels: the opening's answers, and the head of an update of the whole screen in Raw (7.1 to
+/// 7.3, 7.6.1, 7.7.1).
+const HEAD: &[u8] =
+    b"RFB 003.008\n\x01\x01\0\0\0\0\0\xc8\0\x64\x20\x18\0\x01\0\xff\0\xff\0\xff\x10\x08\0\0\0\0\0\0\0\x04long\
+    \0\0\0\x01\0\0\0\0\0\xc8\0\x64\0\0\0\0";
+
+/// How many bytes its update has: its head, and four for each place.
+const LONG_UPDATED: u64 = 80_016;
+
+/// The whole screen is painted.
+fn paint_all<L: Ledger, R: Wait>(
+    rt: &R,
+    alloc: Global,
+    shared: &Shared<L>,
+    brush: &mut Brush<L>,
+) -> Result<(), ScreenError> {
+    let all = Rect {
+        x1: 0,
+        y1: 0,
+        x2: 200,
+        y2: 100,
+    };
+    let mut colours = Vec::new(alloc);
+    for colour in 0..PLACES {
+        colours.push(colour)?;
     }
-    Ok(Some(served.left.receipt()))
+    brush.paint(shared, rt, all, &colours)
+}
+
+/// What the viewer is to be sent: each pixel in the server's format, the lowest byte first.
+fn long_in_all(alloc: Global) -> Result<Vec<u8>, AllocError> {
+    let mut bytes = HEAD.to_vec(alloc)?;
+    for colour in 0..PLACES {
+        bytes.extend_from_slice(&colour.to_le_bytes())?;
+    }
+    Ok(bytes)
+}
+
+/// The picture is drawn.
+fn draw_before<L: Ledger, R: Wait>(
+    rt: &R,
+    alloc: Global,
+    shared: &Shared<L>,
+    brush: &mut Brush<L>,
+    picture: Picture,
+) -> Result<(), ScreenError> {
+    match picture {
+        Picture::Each => draw_each(rt, alloc, shared, brush),
+        Picture::Long => paint_all(rt, alloc, shared, brush),
+    }
+}
+
+/// Whether a viewer was sent all that it is to be sent of it, and its gate was told the update's length.
+fn is_sent(
+    alloc: Global,
+    picture: Picture,
+    written: &[u8],
+    watch: &Watch,
+) -> Result<bool, AllocError> {
+    let (all, updated) = match picture {
+        Picture::Each => (whole(alloc, 10)?, UPDATED),
+        Picture::Long => (long_in_all(alloc)?, LONG_UPDATED),
+    };
+    Ok(written == all.as_slice() && watch.wrote(1) == updated && watch.updates(1) == 1)
+}
+
+/// The receipt of a viewer that was, and that was stopped.
+fn receipt_of(
+    alloc: Global,
+    picture: Picture,
+    served: Served,
+    watch: &Watch,
+) -> Result<Option<Receipt>, AllocError> {
+    let is_whole = is_sent(alloc, picture, &served.written, watch)?;
+    Ok((is_whole && served.left.ended() == Ended::Stopped).then(|| served.left.receipt()))
 }
 
 /// A viewer's thread, until it was sent its update.
@@ -50,48 +124,29 @@ fn serve_until_sent<L: Ledger + Send + Sync, R: Threads + Wait + Sync>(
     served
 }
 
-/// A viewer that opens once all is drawn is sent it. The receipt of one that was, and that was stopped.
-fn sent_after<L: Ledger + Send + Sync, R: Threads + Wait + Sync>(
+/// The receipt of a viewer that opens once the picture is drawn, and asks for it.
+pub fn receipt_after<L: Ledger + Send + Sync, R: Threads + Wait + Sync>(
     rt: &R,
     alloc: Global,
     shared: &Shared<L>,
     brush: &mut Brush<L>,
+    picture: Picture,
 ) -> Result<Option<Receipt>, ScreenError> {
-    draw_each(rt, alloc, shared, brush)?;
+    draw_before(rt, alloc, shared, brush, picture)?;
     let watch = Watch::new();
+    let hold = Hold::Nowhere;
     let guard = Guard {
         watch: &watch,
-        hold: Hold::Nowhere,
+        hold,
     };
-    let viewer = join_viewer(rt, alloc, shared, &watch, 1, 24, WHOLE, Hold::Nowhere)?;
-    let served = serve_until_sent(rt, shared, &guard, viewer);
-    Ok(receipt_of(alloc, served)?)
-}
-
-fn drawn_before<L: Ledger + Send + Sync, R: Threads + Wait + Sync>(
-    rt: &R,
-    alloc: Global,
-    blank: Blank,
-) -> Result<bool, ScreenError>
-    requires name { blank.name ≡ L.name }
-    requires parts { blank.parts ≡ L.parts }
-    requires some { 0 < L.parts }
-{
-    let (shared, mut brush) = fresh::<L>(alloc, blank, History::Kept)?;
-    let sent = sent_after(rt, alloc, &shared, &mut brush);
-    comes_to_one(
-        alloc,
-        shared,
-        brush,
-        sent,
-        Verdict::Accepted(14, 14, &[Sent::Whole]),
-    )
-}
-
-#[test]
-fn what_was_drawn_before_is_sent(rt: HostRuntime) -> Result<(), Fail> {
-    assert!(rt; drawn_before::<Brand, HostRuntime>(&rt, rt.alloc(), Blank::new(1))?);
-    Ok(())
+    let mut sink = taking(alloc, 1, usize::MAX, hold, &watch);
+    let said = match picture {
+        Picture::Each => OPENING_AND_REQUEST,
+        Picture::Long => SAID,
+    };
+    let joined = join_over(rt, shared, 1, &mut failing(said), &mut sink)?;
+    let served = serve_until_sent(rt, shared, &guard, Viewer { joined, sink });
+    Ok(receipt_of(alloc, picture, served, &watch)?)
 }
 
 /// A sequence of numbers: each is the one before times 6364136223846793005 plus 1442695040888963407, of 64 bits.
@@ -113,43 +168,29 @@ impl Numbers {
     }
 }
 
-/// The arguments of a drawing call.
+/// The arguments of a drawing call: the places from a column to the right border, in one row, an offset, and a colour.
 #[derive(Clone, Copy)]
 struct Arguments {
-    // the places from this column to the right border, in one row
-    x: u8,
-    y: u8,
-    // the offset and 2, each
-    dx: u8,
-    dy: u8,
-    colour: u8,
+    rect: Rect,
+    dx: i32,
+    dy: i32,
+    colour: u32,
 }
 
 /// The arguments that the next numbers give.
 fn next_arguments(numbers: &mut Numbers) -> Arguments {
+    let (x, y) = (i32::from(numbers.rest(4)), i32::from(numbers.rest(3)));
     Arguments {
-        x: numbers.rest(4),
-        y: numbers.rest(3),
-        dx: numbers.rest(5),
-        dy: numbers.rest(5),
-        colour: numbers.rest(251),
+        rect: Rect {
+            x1: x,
+            y1: y,
+            x2: 4,
+            y2: y + 1,
+        },
+        dx: i32::from(numbers.rest(5)) - 2,
+        dy: i32::from(numbers.rest(5)) - 2,
+        colour: u32::from(numbers.rest(251)),
     }
-}
-
-/// Where a drawing call draws.
-fn place_of(given: Arguments) -> Rect {
-    let (x, y) = (i32::from(given.x), i32::from(given.y));
-    Rect {
-        x1: x,
-        y1: y,
-        x2: 4,
-        y2: y + 1,
-    }
-}
-
-/// By how much it copies.
-fn offset_of(given: Arguments) -> (i32, i32) {
-    (i32::from(given.dx) - 2, i32::from(given.dy) - 2)
 }
 
 /// The drawing call of colours, of the kinds 0 and 1.
@@ -160,13 +201,11 @@ fn draw_colours<L: Ledger, R: Wait>(
     kind: u8,
     given: Arguments,
 ) -> Result<(), ScreenError> {
-    let colours = [u32::from(given.colour); 4];
-    let columns = usize::from(4u8.saturating_sub(given.x));
-    let colours = colours.get(..columns).unwrap_or_default();
-    let rect = place_of(given);
+    let colours = [given.colour; 4];
+    let colours = colours.get(given.rect.x1 as usize..).unwrap_or_default();
     match kind {
-        0 => brush.write_pixels(shared, rt, rect, colours),
-        _ => brush.paint(shared, rt, rect, colours),
+        0 => brush.write_pixels(shared, rt, given.rect, colours),
+        _ => brush.paint(shared, rt, given.rect, colours),
     }
 }
 
@@ -178,8 +217,8 @@ fn draw_rect<L: Ledger, R: Wait>(
     kind: u8,
     given: Arguments,
 ) -> Result<(), ScreenError> {
-    let Rect { x1, y1, x2, y2 } = place_of(given);
-    let (dx, dy) = offset_of(given);
+    let Rect { x1, y1, x2, y2 } = given.rect;
+    let (dx, dy) = (given.dx, given.dy);
     match kind {
         2 => brush.mark_rect(shared, rt, x1, y1, x2, y2),
         4 => brush.schedule_copy_rect(shared, rt, x1, y1, x2, y2, dx, dy),
@@ -198,7 +237,7 @@ fn draw_region<L: Ledger, R: Wait>(
     given: Arguments,
     region: &Region,
 ) -> Result<(), ScreenError> {
-    let (dx, dy) = offset_of(given);
+    let (dx, dy) = (given.dx, given.dy);
     match kind {
         3 => brush.mark_region(shared, rt, region),
         5 => brush.schedule_copy_region(shared, rt, region, dx, dy),
@@ -218,7 +257,7 @@ fn draw<L: Ledger, R: Wait>(
     match kind {
         0 | 1 => draw_colours(rt, shared, brush, kind, given),
         3 | 5 | 7 => {
-            let region = region_of(alloc, place_of(given))?;
+            let region = region_of(alloc, given.rect)?;
             draw_region(rt, shared, brush, kind, given, &region)
         }
         _ => draw_rect(rt, shared, brush, kind, given),
@@ -227,9 +266,9 @@ fn draw<L: Ledger, R: Wait>(
 
 /// SetEncodings with CopyRect and Raw or with Raw alone, and a request of what changes in the whole screen (RFC 6143, 7.5.2,
 /// 7.5.3).
-static WITH_COPYRECT: [u8; 22] = *b"\x02\0\0\x02\0\0\0\x01\0\0\0\0\x03\x01\0\0\0\0\0\x04\0\x03";
+const WITH_COPYRECT: &[u8] = b"\x02\0\0\x02\0\0\0\x01\0\0\0\0\x03\x01\0\0\0\0\0\x04\0\x03";
 
-static WITHOUT: [u8; 18] = *b"\x02\0\0\x01\0\0\0\0\x03\x01\0\0\0\0\0\x04\0\x03";
+const WITHOUT: &[u8] = b"\x02\0\0\x01\0\0\0\0\x03\x01\0\0\0\0\0\x04\0\x03";
 
 /// Ten drawing calls.
 fn draw_ten<L: Ledger, R: Wait>(
@@ -259,9 +298,9 @@ fn draw_many<L: Ledger, R: Wait>(
     for turn in 0..30u8 {
         draw_ten(rt, alloc, shared, brush, &mut numbers)?;
         let piece = if turn % 2 == 0 {
-            WITH_COPYRECT.as_slice()
+            WITH_COPYRECT
         } else {
-            WITHOUT.as_slice()
+            WITHOUT
         };
         shared.hear(rt, listener, piece)?;
     }
@@ -308,7 +347,7 @@ fn send_while_drawing<L: Ledger + Send + Sync, R: Threads + Wait + Sync>(
 }
 
 /// The same, from its connection on.
-fn sent_meanwhile<L: Ledger + Send + Sync, R: Threads + Wait + Sync>(
+pub fn receipt_meanwhile<L: Ledger + Send + Sync, R: Threads + Wait + Sync>(
     rt: &R,
     alloc: Global,
     shared: &Shared<L>,
@@ -320,31 +359,4 @@ fn sent_meanwhile<L: Ledger + Send + Sync, R: Threads + Wait + Sync>(
         Joined::Open(ends) => Ok(send_while_drawing(rt, alloc, shared, brush, ends, sink)),
         Joined::Over(_) => Ok(None),
     }
-}
-
-fn drawn_meanwhile<L: Ledger + Send + Sync, R: Threads + Wait + Sync>(
-    rt: &R,
-    alloc: Global,
-    blank: Blank,
-) -> Result<bool, ScreenError>
-    requires name { blank.name ≡ L.name }
-    requires parts { blank.parts ≡ L.parts }
-    requires some { 0 < L.parts }
-{
-    let (shared, mut brush) = fresh::<L>(alloc, blank, History::Kept)?;
-    let sent = sent_meanwhile(rt, alloc, &shared, &mut brush);
-    comes_to_one(
-        alloc,
-        shared,
-        brush,
-        sent,
-        Verdict::Accepted(332, 1_000, &[Sent::Whole]),
-    )
-}
-
-// 300 drawing calls, 30 pieces, the opening's piece and the connection; and as many cuts as there were.
-#[test]
-fn what_is_drawn_meanwhile_is_sent(rt: HostRuntime) -> Result<(), Fail> {
-    assert!(rt; drawn_meanwhile::<Brand, HostRuntime>(&rt, rt.alloc(), Blank::new(1))?);
-    Ok(())
 }

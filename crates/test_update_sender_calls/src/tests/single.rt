@@ -1,4 +1,5 @@
-//! What no clause says: that calls succeed and do what their names say.
+//! What no clause says: that calls succeed and do what their names say. Worked examples: scripts of calls of one shared screen, each
+//! with what is to be seen of it.
 //!
 //! A function that owns a viewer's ends lends them to others: each place where it may end on its way would be one more to prove.
 
@@ -9,241 +10,293 @@ use std::marker::Brand;
 use std::sync::Wait;
 use std::sync::ledger::{Blank, Ledger};
 use std::test::*;
-use test_threads::{Ends, ask, draw_each, fresh, is_update, opened};
+use test_threads::{Ends, draw_each, fresh, is_update, opened};
 use update_sender::{Brush, History, Listener, Rect, ScreenError, Shared, Speaker};
 
-/// Whether a viewer connects by this number.
-fn connects<L: Ledger, R: Wait>(rt: &R, shared: &Shared<L>, number: u64) -> bool {
-    shared.connect(rt, number).is_ok()
+/// What a viewer that says something comes to.
+#[derive(Clone, Copy)]
+enum Heard {
+    Taken,
+    Fault,
+    NoViewer,
 }
 
-/// Whether none connects by this number, which is in use.
-fn is_in_use<L: Ledger, R: Wait>(rt: &R, shared: &Shared<L>, number: u64) -> bool {
-    matches!(shared.connect(rt, number), Err(ScreenError::NumberInUse))
+/// A call of a shared screen, or what is to be seen of it.
+#[derive(Clone, Copy)]
+enum Step {
+    /// A viewer connects by this number, or it is in use.
+    Connects(u64),
+    IsInUse(u64),
+    /// The viewer of this number is closed, or there is none.
+    Closes(u64),
+    IsClosed(u64),
+    /// A viewer connects and goes through its opening. The steps behind are its own, until another one opens.
+    Opens(u64),
+    Says(&'static [u8], Heard),
+    /// Its next update is this.
+    IsSent(&'static [u8]),
+    /// It is sent nothing any more.
+    IsSilent,
+    /// All is stopped.
+    Stops,
+    /// Each drawing call is made once, and at last the whole screen is in the colour 00000a.
+    DrawsEach,
+    /// These places, none, are written and painted.
+    DrawsNothing(Rect),
+    /// These places are painted in too few colours, which is refused.
+    PaintsTooFew(Rect, &'static [u32]),
 }
 
-/// Whether a number connects once, and only above all others.
-fn numbers_rise_on<L: Ledger, R: Wait>(rt: &R, shared: &Shared<L>) -> Result<bool, ScreenError> {
-    let two = connects(rt, shared, 2);
-    let below = is_in_use(rt, shared, 1);
-    shared.close(rt, 2)?;
-    let again = is_in_use(rt, shared, 2);
-    Ok(two && below && again && connects(rt, shared, 3))
+use Step::{
+    Closes, Connects, DrawsEach, DrawsNothing, IsClosed, IsInUse, IsSent, IsSilent, Opens,
+    PaintsTooFew, Says, Stops,
+};
+
+/// The viewer that opened last.
+#[derive(Drop)]
+struct Seat {
+    listener: Option<Listener>,
+    speaker: Option<Speaker>,
 }
 
-fn numbers_of<L: Ledger, R: Wait>(rt: &R, alloc: Global, blank: Blank) -> Result<bool, ScreenError>
-    requires name { blank.name ≡ L.name }
-    requires parts { blank.parts ≡ L.parts }
-    requires some { 0 < L.parts }
-{
-    let (shared, _brush) = fresh::<L>(alloc, blank, History::NotKept)?;
-    numbers_rise_on(rt, &shared)
+/// Whether a call comes to what a step says.
+fn calls<L: Ledger, R: Wait>(rt: &R, shared: &Shared<L>, step: Step) -> bool {
+    match step {
+        Connects(number) => shared.connect(rt, number).is_ok(),
+        IsInUse(number) => matches!(shared.connect(rt, number), Err(ScreenError::NumberInUse)),
+        Closes(number) => shared.close(rt, number).is_ok(),
+        IsClosed(number) => matches!(shared.close(rt, number), Err(ScreenError::NoViewer)),
+        _ => {
+            shared.stop(rt);
+            true
+        }
+    }
 }
 
-#[test]
-fn numbers_rise(rt: HostRuntime) -> Result<(), Fail> {
-    assert!(rt; numbers_of::<Brand, HostRuntime>(&rt, rt.alloc(), Blank::new(1))?);
-    Ok(())
-}
-
-/// Whether a viewer is sent nothing any more.
-fn is_silent<L: Ledger, R: Wait>(
-    rt: &R,
-    shared: &Shared<L>,
-    speaker: &mut Speaker,
-) -> Result<bool, ScreenError> {
-    Ok(shared.cut_wait(rt, speaker)?.is_none())
-}
-
-/// Whether a viewer that is closed is neither heard nor closed again.
-fn is_gone<L: Ledger, R: Wait>(rt: &R, shared: &Shared<L>, listener: &mut Listener) -> bool {
-    let heard = shared.hear(rt, listener, &[0]);
-    matches!(heard, Err(ScreenError::NoViewer))
-        && matches!(shared.close(rt, 1), Err(ScreenError::NoViewer))
-}
-
-/// Whether a viewer that is closed is sent nothing, and neither heard nor closed again.
-fn closed_ends<L: Ledger, R: Wait>(
+fn opens<L: Ledger, R: Wait>(
     rt: &R,
     alloc: Global,
     shared: &Shared<L>,
-) -> Result<bool, ScreenError> {
-    let Ends {
-        mut listener,
-        mut speaker,
-    } = opened(rt, alloc, shared, 1)?;
-    shared.close(rt, 1)?;
-    Ok(is_silent(rt, shared, &mut speaker)? && is_gone(rt, shared, &mut listener))
+    number: u64,
+    seat: &mut Seat,
+) -> Result<(), ScreenError> {
+    let Ends { listener, speaker } = opened(rt, alloc, shared, number)?;
+    seat.listener = Some(listener);
+    seat.speaker = Some(speaker);
+    Ok(())
 }
 
-/// Whether what a viewer says is a fault.
-fn is_fault<L: Ledger, R: Wait>(
+fn says<L: Ledger, R: Wait>(
     rt: &R,
     shared: &Shared<L>,
     listener: &mut Listener,
     piece: &[u8],
-) -> Result<bool, ScreenError> {
-    Ok(shared.hear(rt, listener, piece)?.closed.is_some())
+    wanted: Heard,
+) -> bool {
+    match shared.hear(rt, listener, piece) {
+        Ok(heard) if heard.closed.is_some() => matches!(wanted, Heard::Fault),
+        Ok(_) => matches!(wanted, Heard::Taken),
+        Err(ScreenError::NoViewer) => matches!(wanted, Heard::NoViewer),
+        Err(_) => false,
+    }
 }
 
-/// Whether a viewer that said what no message begins with is sent nothing.
-fn faulty_ends<L: Ledger, R: Wait>(
+/// Whether what a viewer is sent next is this, or nothing any more.
+fn is_sent<L: Ledger, R: Wait>(
+    rt: &R,
+    shared: &Shared<L>,
+    speaker: &mut Speaker,
+    wanted: Option<&[u8]>,
+) -> bool {
+    let cut = shared.cut_wait(rt, speaker);
+    match wanted {
+        Some(bytes) => is_update(cut, bytes),
+        None => matches!(cut, Ok(None)),
+    }
+}
+
+fn draws<L: Ledger, R: Wait>(rt: &R, shared: &Shared<L>, brush: &mut Brush<L>, step: Step) -> bool {
+    match step {
+        DrawsNothing(rect) => {
+            brush.write_pixels(shared, rt, rect, &[]).is_ok()
+                && brush.paint(shared, rt, rect, &[]).is_ok()
+        }
+        PaintsTooFew(rect, colours) => matches!(
+            brush.paint(shared, rt, rect, colours),
+            Err(ScreenError::BadPixelCount)
+        ),
+        _ => false,
+    }
+}
+
+/// Whether a step comes to what it says.
+fn holds<L: Ledger, R: Wait>(
     rt: &R,
     alloc: Global,
     shared: &Shared<L>,
+    brush: &mut Brush<L>,
+    seat: &mut Seat,
+    step: Step,
 ) -> Result<bool, ScreenError> {
-    let Ends {
-        mut listener,
-        mut speaker,
-    } = opened(rt, alloc, shared, 2)?;
-    Ok(is_fault(rt, shared, &mut listener, &[255])? && is_silent(rt, shared, &mut speaker)?)
+    match step {
+        Connects(_) | IsInUse(_) | Closes(_) | IsClosed(_) | Stops => Ok(calls(rt, shared, step)),
+        Opens(number) => {
+            opens(rt, alloc, shared, number, seat)?;
+            Ok(true)
+        }
+        DrawsEach => {
+            draw_each(rt, alloc, shared, brush)?;
+            Ok(true)
+        }
+        DrawsNothing(_) | PaintsTooFew(_, _) => Ok(draws(rt, shared, brush, step)),
+        Says(piece, wanted) => match &mut seat.listener {
+            Some(listener) => Ok(says(rt, shared, listener, piece, wanted)),
+            None => Ok(false),
+        },
+        IsSent(bytes) => match &mut seat.speaker {
+            Some(speaker) => Ok(is_sent(rt, shared, speaker, Some(bytes))),
+            None => Ok(false),
+        },
+        IsSilent => match &mut seat.speaker {
+            Some(speaker) => Ok(is_sent(rt, shared, speaker, None)),
+            None => Ok(false),
+        },
+    }
 }
 
-/// Whether a viewer that awaits the screen is sent nothing once all is stopped.
-fn stopped_ends<L: Ledger, R: Wait>(
+/// The number of the first step that doesn't hold.
+fn first_wrong<L: Ledger, R: Wait>(
     rt: &R,
     alloc: Global,
     shared: &Shared<L>,
-) -> Result<bool, ScreenError> {
-    let Ends {
-        mut listener,
-        mut speaker,
-    } = opened(rt, alloc, shared, 3)?;
-    ask(rt, shared, &mut listener, 0)?;
-    shared.stop(rt);
-    is_silent(rt, shared, &mut speaker)
+    brush: &mut Brush<L>,
+    steps: &[Step],
+) -> Result<Option<usize>, ScreenError> {
+    let mut seat = Seat {
+        listener: None,
+        speaker: None,
+    };
+    for (number, step) in steps.iter().enumerate() {
+        if !holds(rt, alloc, shared, brush, &mut seat, *step)? {
+            return Ok(Some(number));
+        }
+    }
+    Ok(None)
 }
 
-fn all_end<L: Ledger, R: Wait>(
+fn first_wrong_of<L: Ledger, R: Wait>(
     rt: &R,
     alloc: Global,
-    shared: &Shared<L>,
-) -> Result<bool, ScreenError> {
-    Ok(
-        closed_ends(rt, alloc, shared)?
-            && faulty_ends(rt, alloc, shared)?
-            && stopped_ends(rt, alloc, shared)?,
-    )
-}
-
-fn ends_of<L: Ledger, R: Wait>(rt: &R, alloc: Global, blank: Blank) -> Result<bool, ScreenError>
+    blank: Blank,
+    example: &Example,
+) -> Result<Option<usize>, ScreenError>
     requires name { blank.name ≡ L.name }
     requires parts { blank.parts ≡ L.parts }
     requires some { 0 < L.parts }
 {
-    let (shared, _brush) = fresh::<L>(alloc, blank, History::NotKept)?;
-    all_end(rt, alloc, &shared)
+    let (shared, mut brush) = fresh::<L>(alloc, blank, example.history)?;
+    first_wrong(rt, alloc, &shared, &mut brush, example.steps)
+}
+
+/// A script on a new screen of 4 by 3.
+struct Example {
+    name: &'static str,
+    history: History,
+    steps: &'static [Step],
 }
 
 #[test]
-fn senders_end(rt: HostRuntime) -> Result<(), Fail> {
-    assert!(rt; ends_of::<Brand, HostRuntime>(&rt, rt.alloc(), Blank::new(1))?);
-    Ok(())
-}
-
-/// Rectangles of no place: at the left border, further in, and at the last corner.
-static NOTHING: [Rect; 3] = [
-    Rect {
-        x1: 0,
-        y1: 0,
-        x2: 0,
-        y2: 3,
-    },
-    Rect {
-        x1: 2,
-        y1: 1,
-        x2: 2,
-        y2: 1,
-    },
-    Rect {
-        x1: 4,
-        y1: 3,
-        x2: 4,
-        y2: 3,
-    },
-];
-
-/// Each of them is accepted.
-fn draws_nothing<L: Ledger, R: Wait>(
-    rt: &R,
-    shared: &Shared<L>,
-    brush: &mut Brush<L>,
-) -> Result<(), ScreenError> {
-    for rect in &NOTHING {
-        brush.write_pixels(shared, rt, *rect, &[])?;
-        brush.paint(shared, rt, *rect, &[])?;
+fn calls_do_what_their_names_say(rt: HostRuntime) -> Result<(), Fail> {
+    for example in &EXAMPLES {
+        let wrong = first_wrong_of::<Brand, HostRuntime>(&rt, rt.alloc(), Blank::new(1), example)?;
+        assert!(rt; wrong.is_none(), "{}: step {wrong:?}", example.name);
     }
     Ok(())
 }
 
-/// Whether each drawing call is accepted, also those of no place, and one with too few colours is refused.
-fn draws_all<L: Ledger, R: Wait>(
-    rt: &R,
-    alloc: Global,
-    shared: &Shared<L>,
-    brush: &mut Brush<L>,
-) -> Result<bool, ScreenError> {
-    let all = Rect {
-        x1: 0,
-        y1: 0,
-        x2: 4,
-        y2: 3,
-    };
-    draw_each(rt, alloc, shared, brush)?;
-    draws_nothing(rt, shared, brush)?;
-    Ok(matches!(
-        brush.paint(shared, rt, all, &[10]),
-        Err(ScreenError::BadPixelCount)
-    ))
-}
+/// A request of the whole screen (RFC 6143, 7.5.3).
+const REQUEST: &[u8] = b"\x03\0\0\0\0\0\0\x04\0\x03";
 
 /// The whole screen in Raw, all of it in the colour 00000a (7.6.1, 7.7.1).
-static WHOLE: [u8; 64] = [
+const WHOLE: &[u8] = &[
     0, 0, 0, 1, 0, 0, 0, 0, 0, 4, 0, 3, 0, 0, 0, 0, 10, 0, 0, 0, 10, 0, 0, 0, 10, 0, 0, 0, 10, 0,
     0, 0, 10, 0, 0, 0, 10, 0, 0, 0, 10, 0, 0, 0, 10, 0, 0, 0, 10, 0, 0, 0, 10, 0, 0, 0, 10, 0, 0,
     0, 10, 0, 0, 0,
 ];
 
-/// Whether a viewer that opens and asks for the screen is sent all of it in that colour.
-fn is_shown<L: Ledger, R: Wait>(
-    rt: &R,
-    alloc: Global,
-    shared: &Shared<L>,
-) -> Result<bool, ScreenError> {
-    let Ends {
-        mut listener,
-        mut speaker,
-    } = opened(rt, alloc, shared, 1)?;
-    ask(rt, shared, &mut listener, 0)?;
-    let cut = shared.cut_wait(rt, &mut speaker);
-    Ok(is_update(cut, WHOLE.as_slice()))
-}
+const ALL: Rect = Rect {
+    x1: 0,
+    y1: 0,
+    x2: 4,
+    y2: 3,
+};
 
-fn whole_of<L: Ledger, R: Wait>(
-    rt: &R,
-    alloc: Global,
-    blank: Blank,
-    history: History,
-) -> Result<bool, ScreenError>
-    requires name { blank.name ≡ L.name }
-    requires parts { blank.parts ≡ L.parts }
-    requires some { 0 < L.parts }
-{
-    let (shared, mut brush) = fresh::<L>(alloc, blank, history)?;
-    let drawn = draws_all(rt, alloc, &shared, &mut brush)?;
-    Ok(drawn && is_shown(rt, alloc, &shared)?)
-}
+/// Rectangles of no place: at the left border, further in, and at the last corner.
+const AT_BORDER: Rect = Rect {
+    x1: 0,
+    y1: 0,
+    x2: 0,
+    y2: 3,
+};
 
-#[test]
-fn all_calls_draw(rt: HostRuntime) -> Result<(), Fail> {
-    let alloc = rt.alloc();
-    assert!(rt; whole_of::<Brand, HostRuntime>(&rt, alloc, Blank::new(1), History::Kept)?);
-    Ok(())
-}
+const INSIDE: Rect = Rect {
+    x1: 2,
+    y1: 1,
+    x2: 2,
+    y2: 1,
+};
 
-#[test]
-fn all_calls_draw_without_a_history(rt: HostRuntime) -> Result<(), Fail> {
-    let alloc = rt.alloc();
-    assert!(rt; whole_of::<Brand, HostRuntime>(&rt, alloc, Blank::new(1), History::NotKept)?);
-    Ok(())
-}
+const AT_CORNER: Rect = Rect {
+    x1: 4,
+    y1: 3,
+    x2: 4,
+    y2: 3,
+};
+
+/// Each drawing call, also those of no place, and one with too few colours; and a viewer that opens and asks then.
+const DRAWN: &[Step] = &[
+    DrawsEach,
+    DrawsNothing(AT_BORDER),
+    DrawsNothing(INSIDE),
+    DrawsNothing(AT_CORNER),
+    PaintsTooFew(ALL, &[10]),
+    Opens(1),
+    Says(REQUEST, Heard::Taken),
+    IsSent(WHOLE),
+];
+
+static EXAMPLES: [Example; 4] = [
+    Example {
+        name: "a number connects once, and only above all others",
+        history: History::NotKept,
+        steps: &[Connects(2), IsInUse(1), Closes(2), IsInUse(2), Connects(3)],
+    },
+    Example {
+        name: "a viewer that is closed, or at fault, or waits when all is stopped, is sent nothing any more",
+        history: History::NotKept,
+        steps: &[
+            Opens(1),
+            Closes(1),
+            IsSilent,
+            Says(&[0], Heard::NoViewer),
+            IsClosed(1),
+            Opens(2),
+            Says(&[255], Heard::Fault),
+            IsSilent,
+            Opens(3),
+            Says(REQUEST, Heard::Taken),
+            Stops,
+            IsSilent,
+        ],
+    },
+    Example {
+        name: "a viewer is sent what all calls drew",
+        history: History::Kept,
+        steps: DRAWN,
+    },
+    Example {
+        name: "the same without a history",
+        history: History::NotKept,
+        steps: DRAWN,
+    },
+];

@@ -78,50 +78,17 @@ fn paints<L: Ledger, R: Wait>(
     painted && woken
 }
 
-fn wakes_one<L: Ledger + Send + Sync, R: Threads + Wait + Sync>(
-    rt: &R,
-    alloc: Global,
-    shared: &Shared<L>,
-    brush: &mut Brush<L>,
-) -> Result<bool, ScreenError> {
-    let speaker = waiting(rt, alloc, shared, 1)?;
-    let cuts = AtomicU64::new(0);
-    let cut = &cuts;
-    let (sent, painted) = thread::join(
-        rt,
-        move || is_sent(rt, shared, speaker, cut),
-        move || paints(rt, shared, brush, cut, 1),
-    );
-    Ok(sent && painted)
-}
-
-fn one_woken<L: Ledger + Send + Sync, R: Threads + Wait + Sync>(
-    rt: &R,
-    alloc: Global,
-    blank: Blank,
-) -> Result<bool, ScreenError>
-    requires name { blank.name ≡ L.name }
-    requires parts { blank.parts ≡ L.parts }
-    requires some { 0 < L.parts }
-{
-    let (shared, mut brush) = fresh::<L>(alloc, blank, History::Kept)?;
-    wakes_one(rt, alloc, &shared, &mut brush)
-}
-
-#[test]
-fn a_waiting_sender_is_woken(rt: HostRuntime) -> Result<(), Fail> {
-    assert!(rt; one_woken::<Brand, HostRuntime>(&rt, rt.alloc(), Blank::new(1))?);
-    Ok(())
-}
-
-/// The two senders, in a thread each.
-fn both_sent<L: Ledger + Send + Sync, R: Threads + Wait + Sync>(
+/// Whether each sender is sent that place: one, or two in a thread each.
+fn are_sent<L: Ledger + Send + Sync, R: Threads + Wait + Sync>(
     rt: &R,
     shared: &Shared<L>,
     one: Speaker,
-    two: Speaker,
+    two: Option<Speaker>,
     cut: &AtomicU64,
 ) -> bool {
+    let Some(two) = two else {
+        return is_sent(rt, shared, one, cut);
+    };
     let (first, second) = thread::join(
         rt,
         move || is_sent(rt, shared, one, cut),
@@ -130,39 +97,64 @@ fn both_sent<L: Ledger + Send + Sync, R: Threads + Wait + Sync>(
     first && second
 }
 
-fn wakes_two<L: Ledger + Send + Sync, R: Threads + Wait + Sync>(
+/// A second sender, if there is to be one.
+fn second_waiting<L: Ledger, R: Wait>(
+    rt: &R,
+    alloc: Global,
+    shared: &Shared<L>,
+    senders: u64,
+) -> Result<Option<Speaker>, ScreenError> {
+    if senders == 1 {
+        return Ok(None);
+    }
+    Ok(Some(waiting(rt, alloc, shared, 2)?))
+}
+
+fn wakes<L: Ledger + Send + Sync, R: Threads + Wait + Sync>(
     rt: &R,
     alloc: Global,
     shared: &Shared<L>,
     brush: &mut Brush<L>,
+    senders: u64,
 ) -> Result<bool, ScreenError> {
     let one = waiting(rt, alloc, shared, 1)?;
-    let two = waiting(rt, alloc, shared, 2)?;
+    let two = second_waiting(rt, alloc, shared, senders)?;
     let cuts = AtomicU64::new(0);
     let cut = &cuts;
     let (sent, painted) = thread::join(
         rt,
-        move || both_sent(rt, shared, one, two, cut),
-        move || paints(rt, shared, brush, cut, 2),
+        move || are_sent(rt, shared, one, two, cut),
+        move || paints(rt, shared, brush, cut, senders),
     );
     Ok(sent && painted)
 }
 
-fn two_woken<L: Ledger + Send + Sync, R: Threads + Wait + Sync>(
+fn are_woken<L: Ledger + Send + Sync, R: Threads + Wait + Sync>(
     rt: &R,
     alloc: Global,
     blank: Blank,
+    history: History,
+    senders: u64,
 ) -> Result<bool, ScreenError>
     requires name { blank.name ≡ L.name }
     requires parts { blank.parts ≡ L.parts }
     requires some { 0 < L.parts }
 {
-    let (shared, mut brush) = fresh::<L>(alloc, blank, History::NotKept)?;
-    wakes_two(rt, alloc, &shared, &mut brush)
+    let (shared, mut brush) = fresh::<L>(alloc, blank, history)?;
+    wakes(rt, alloc, &shared, &mut brush, senders)
 }
 
 #[test]
-fn two_waiting_senders_are_woken(rt: HostRuntime) -> Result<(), Fail> {
-    assert!(rt; two_woken::<Brand, HostRuntime>(&rt, rt.alloc(), Blank::new(1))?);
+fn one_and_two_waiting_senders_are_woken(rt: HostRuntime) -> Result<(), Fail> {
+    for (senders, history) in [(1, History::Kept), (2, History::NotKept)] {
+        let woken = are_woken::<Brand, HostRuntime>(
+            &rt,
+            rt.alloc(),
+            Blank::new(1),
+            history,
+            senders,
+        )?;
+        assert!(rt; woken, "{senders} senders");
+    }
     Ok(())
 }

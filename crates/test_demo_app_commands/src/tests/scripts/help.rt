@@ -1,26 +1,10 @@
 // The script in the program's help, which is played.
 
 use super::expect;
+use crate::tests::lines::words;
 use demo_app::line_of;
-use std::alloc::{AllocError, Global};
+use std::alloc::Global;
 use std::test::Fail;
-
-fn words(alloc: Global, texts: &[&str]) -> Result<Vec<String>, AllocError> {
-    let mut words = Vec::new(alloc);
-    for text in texts {
-        words.push(String::from_str(alloc, text)?)?;
-    }
-    Ok(words)
-}
-
-// What is printed of a command line that chooses nothing.
-fn text_of(alloc: Global, texts: &[&str]) -> Result<String, Fail> {
-    let line = words(alloc, texts)?;
-    match line_of(alloc, &line) {
-        Ok(_) => Err(Fail::from("a command was chosen")),
-        Err(error) => Ok(format!(in alloc; "{error}")?),
-    }
-}
 
 // The script in the help.
 fn script_in(help: &str) -> Result<&str, Fail> {
@@ -49,8 +33,11 @@ static ANSWERS: &str = "ok\nconnect 1 524642203030332e3030380a\n\
 #[test]
 fn the_script_of_the_help(rt: HostRuntime) -> Result<(), Fail> {
     let alloc = rt.alloc();
-    let text = text_of(alloc, &["vncdemo", "play", "--help"])?;
-    let script = lines_in(alloc, &text)?;
+    let words = words(alloc, &["vncdemo", "play", "--help"])?;
+    let Err(help) = line_of(alloc, &words) else {
+        return Err(Fail::new("a command was chosen"));
+    };
+    let script = lines_in(alloc, &format!(in alloc; "{help}")?)?;
     expect(&rt, alloc, &mut script.as_bytes(), ANSWERS, 0);
     Ok(())
 }

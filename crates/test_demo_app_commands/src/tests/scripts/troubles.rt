@@ -20,44 +20,43 @@ static ANSWERS: &str = "ok\nok\nconnect 1 524642203030332e3030380a\n\
         cut 1 0000000100010000000300010000000100000000\n\
         cut 2 00000001000100000003000100000000010000000200000003000000\n";
 
-// Gives a byte a read, comments without an end, and then fails or ends.
+// Gives a byte a read, comments without an end, and then fails.
 #[derive(Drop)]
 struct Dripping {
     left: usize,
-    fails: bool,
     reads: usize,
 }
 
 impl Read for Dripping {
     fn read(&mut self, buf: &mut [u8]) -> io::Result<usize> {
         self.reads = self.reads.saturating_add(1);
-        if self.left == 0 && self.fails {
+        if self.left == 0 {
             return Err(io::Error::from(io::ErrorKind::BrokenPipe));
         }
         match buf.first_mut() {
-            Some(place) if self.left > 0 => {
+            Some(place) => {
                 *place = b'#';
                 self.left -= 1;
                 Ok(1)
             }
-            _ => Ok(0),
+            None => Ok(0),
         }
     }
 }
 
-fn drip(left: usize, fails: bool) -> Dripping {
-    Dripping {
-        left,
-        fails,
-        reads: 0,
-    }
+fn drip(left: usize) -> Dripping {
+    Dripping { left, reads: 0 }
 }
 
+// It fails after some bytes; or the script is too long by a byte, and no more of it is read.
 #[test]
-fn a_reader_that_fails(rt: HostRuntime) {
+fn a_reader_that_fails_or_goes_on(rt: HostRuntime) {
     for left in [0, 1, 100] {
-        expect(&rt, rt.alloc(), &mut drip(left, true), "read fault\n", 5);
+        expect(&rt, rt.alloc(), &mut drip(left), "read fault\n", 5);
     }
+    let mut reader = drip((1 << 24) + 1);
+    expect(&rt, rt.alloc(), &mut reader, "too long\n", 5);
+    assert_eq!(rt; reader.reads, (1 << 24) + 1);
 }
 
 // Scripts whose last line lacks its line feed, ends with it, and is empty.
@@ -68,31 +67,21 @@ static LAST_LINES: [(&str, &str); 3] = [
 ];
 
 #[test]
-fn last_lines(rt: HostRuntime) {
+fn last_lines_and_the_longest_script(rt: HostRuntime) -> Result<(), Fail> {
     for (script, printed) in &LAST_LINES {
         expect(&rt, rt.alloc(), &mut script.as_bytes(), printed, 0);
     }
-}
-
-#[test]
-fn the_longest_script(rt: HostRuntime) -> Result<(), Fail> {
     let script = vec![in rt.alloc(); b'#'; 1 << 24]?;
     expect(&rt, rt.alloc(), &mut script.as_slice(), "", 0);
     Ok(())
 }
 
-#[test]
-fn a_script_that_is_too_long(rt: HostRuntime) {
-    let mut reader = drip((1 << 24) + 1, true);
-    expect(&rt, rt.alloc(), &mut reader, "too long\n", 5);
-    assert_eq!(rt; reader.reads, (1 << 24) + 1);
-}
-
-// Takes so many bytes, at most three a call, and then fails.
+// Takes so many bytes, at most three a call, and then fails. It may be that it can't be flushed.
 #[derive(Drop)]
 struct Room {
     taken: Vec<u8>,
     room: usize,
+    flushes: bool,
 }
 
 impl Write for Room {
@@ -107,54 +96,34 @@ impl Write for Room {
     }
 
     fn flush(&mut self) -> io::Result<()> {
-        Ok(())
-    }
-}
-
-// Whether a script ends with the last byte that a writer takes, and with status 5.
-fn ends_at(alloc: Global, room: usize) -> bool {
-    let mut writer = Room {
-        taken: Vec::new(alloc),
-        room,
-    };
-    let status = play(alloc, &mut SCRIPT.as_bytes(), &mut writer);
-    status == 5 && ANSWERS.as_bytes().get(..room) == Some(writer.taken.as_slice())
-}
-
-#[test]
-fn a_writer_that_fails(rt: HostRuntime) {
-    for room in 0..ANSWERS.len() {
-        assert!(rt; ends_at(rt.alloc(), room), "at {room}");
-    }
-}
-
-// Keeps what it is given, and can't be flushed.
-#[derive(Drop)]
-struct Stuck {
-    taken: Vec<u8>,
-}
-
-impl Write for Stuck {
-    fn write(&mut self, buf: &[u8]) -> io::Result<usize> {
-        self.taken.extend_from_slice(buf)?;
-        Ok(buf.len())
-    }
-
-    fn flush(&mut self) -> io::Result<()> {
+        if self.flushes {
+            return Ok(());
+        }
         Err(io::Error::from(io::ErrorKind::BrokenPipe))
     }
 }
 
-#[test]
-fn a_writer_that_is_not_flushed(rt: HostRuntime) {
-    let alloc = rt.alloc();
-    let mut reader = b"# nothing".as_slice();
-    let mut writer = Stuck {
+// Whether a script ends with status 5, and these bytes were taken until then.
+fn ends_at(alloc: Global, script: &[u8], room: usize, flushes: bool, wanted: &[u8]) -> bool {
+    let mut writer = Room {
         taken: Vec::new(alloc),
+        room,
+        flushes,
     };
-    let status = play(alloc, &mut reader, &mut writer);
-    assert_eq!(rt; status, 5);
-    assert!(rt; writer.taken.is_empty());
+    let mut reader = script;
+    play(alloc, &mut reader, &mut writer) == 5 && writer.taken.as_slice() == wanted
+}
+
+#[test]
+fn a_writer_that_fails_or_is_not_flushed(rt: HostRuntime) {
+    for room in 0..ANSWERS.len() {
+        let wanted = ANSWERS.as_bytes().get(..room).unwrap_or_default();
+        assert!(rt;
+            ends_at(rt.alloc(), SCRIPT.as_bytes(), room, true, wanted),
+            "at {room}"
+        );
+    }
+    assert!(rt; ends_at(rt.alloc(), b"# nothing", 100, false, b""));
 }
 
 // Through a buffer, as the program writes: a script that ends early has flushed all its answers.

@@ -209,14 +209,6 @@ fn comes_out<R: Threads + Wait + Clock + Net<Listener = TcpListener, Stream = Tc
     Ok(talked? && ended == run.status && out.as_slice() == run.printed)
 }
 
-#[test]
-fn viewers_are_served(rt: HostRuntime) -> Result<(), Fail> {
-    for run in &RUNS {
-        assert!(rt; comes_out(&rt, rt.alloc(), run)?, "{run:?}");
-    }
-    Ok(())
-}
-
 // The same of one thread that serves all.
 fn comes_out_of_one_thread<
     R: Threads + Wait + Clock + Net<Listener = TcpListener, Stream = TcpStream> + Sync,
@@ -235,9 +227,13 @@ fn comes_out_of_one_thread<
 }
 
 #[test]
-fn viewers_are_served_in_one_thread(rt: HostRuntime) -> Result<(), Fail> {
+fn viewers_are_served_by_threads_and_by_one(rt: HostRuntime) -> Result<(), Fail> {
     for run in &RUNS {
-        assert!(rt; comes_out_of_one_thread(&rt, rt.alloc(), run)?, "{run:?}");
+        assert!(rt; comes_out(&rt, rt.alloc(), run)?, "{run:?}");
+        assert!(rt;
+            comes_out_of_one_thread(&rt, rt.alloc(), run)?,
+            "in one thread: {run:?}"
+        );
     }
     Ok(())
 }
