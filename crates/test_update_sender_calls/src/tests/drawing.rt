@@ -202,7 +202,8 @@ fn draw_colours<L: Ledger, R: Wait>(
     given: Arguments,
 ) -> Result<(), ScreenError> {
     let colours = [given.colour; 4];
-    let colours = colours.get(given.rect.x1 as usize..).unwrap_or_default();
+    let first = usize::try_from(given.rect.x1).unwrap_or(0);
+    let colours = colours.get(first..).unwrap_or_default();
     match kind {
         0 => brush.write_pixels(shared, rt, given.rect, colours),
         _ => brush.paint(shared, rt, given.rect, colours),
