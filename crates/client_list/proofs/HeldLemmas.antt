@@ -11,7 +11,7 @@ use Rattle.slab.specs.Slab.{Slab, get, slab_len, with_value as with_slot, Update
 use Rattle.slab.proofs.SlabLemmas.{ContainsKey-within}
 use Rattle.client_list.specs.declared.links.Node.{Node}
 use Rattle.client_list.specs.Connected.{Connected, index_of, with_value, set_value_at}
-use Rattle.client_list.specs.Links.{Entry, along, node_of, positions_in, pairs_in, listed, linked, IsChain, IsHeld, IsByNumber, NextChanged}
+use Rattle.client_list.specs.Links.{Entry, along, node_of, positions_in, pairs_in, listed, linked, IsChain, IsHeld, IsByNumber, IsRecent, NextChanged}
 use Rattle.client_list.specs.DistinctLemmas.{distinct_push}
 use Rattle.client_list.proofs.ChainLemmas.{listed-held}
 use Rattle.client_list.proofs.ChangeLemmas.{set_entry, positions-set_entry, pairs-set_entry, numbers-set_entry, length-set_entry, chain-set, chain-kept, chain-has, chain-elsewhere, chain-end, chain-join, beside_next, end_there, end_has}
@@ -59,6 +59,9 @@ module _ {T : Type 0} where
 
     pub set_by_number : {S : Type 0} (by_number : HashMap ℕ ℕ S) → IsByNumber by_number value → IsByNumber by_number (linked (with_slot nodes key (record node { value = w })) first)
     set_by_number by_number finds = subst (IsByNumber by_number) (sym set_view) (by_number-set by_number value finds (index_of value.positions position) w)
+
+    pub set_recent : (recent : Option ℕ) → IsRecent recent value → IsRecent recent (linked (with_slot nodes key (record node { value = w })) first)
+    set_recent recent there = subst (IsRecent recent) (sym set_view) (there)
 
   -- the same nodes are the same list
   pub same_held : (old new : Slab (Node T)) (first last : Option ℕ) → IsHeld old first last → SameValues old new → slab_len new ≡ slab_len old → IsHeld new first last

@@ -8,8 +8,8 @@ use Rattle.slab.proofs.SlabLemmas.{Contains-cons}
 use Rattle.std.specs.Map.{keys_of, lookup}
 use Rattle.std.proofs.lemmas.Bool.{eq-eqb, ne_eqb, cases_eq}
 use Rattle.std.proofs.lemmas.Option.{slice_get-map, slice_get_past}
-use Rattle.client_list.specs.Connected.{Connected, index_of, index_of_number, value_of, value_at, pair_at, IsPositionOf}
-use Rattle.client_list.specs.IndexLemmas.{index_read}
+use Rattle.client_list.specs.Connected.{Connected, index_of, index_of_number, value_of, value_at, number_at, pair_at, IsPosition, IsPositionOf, IsListed}
+use Rattle.client_list.specs.IndexLemmas.{index_read, index_at}
 use Rattle.client_list.specs.DistinctLemmas.{apart_from_first}
 
 module _ {T : Type 0} where
@@ -25,6 +25,16 @@ module _ {T : Type 0} where
   -- a number that no viewer has
   pub number_past : (c : Connected T) (number : ℕ) → length c.pairs ≤ index_of_number c number → value_of c number ≡ None
   number_past c number past = lookup-index c.pairs number ∙ ap (option_map (λ pair. pair.1)) (slice_get_past c.pairs (index_of_number c number) past)
+
+  -- the position of a viewer with a number is the number's
+  pub position_numbered : (c : Connected T) (position number : ℕ) → IsListed c → IsPosition c position → number_at c position ≡ Some number → IsPositionOf c number position
+  position_numbered c position number listed there has =
+      let i : ℕ = index_of c.positions position in
+      (there, sym (index_at (keys_of c.pairs) i number listed.numbers (slice_get-map (λ (pair : ℕ × T). pair.0) c.pairs i ∙ has)), has)
+
+  -- and stands among the positions where the number stands
+  pub position_read : (c : Connected T) (position number : ℕ) → IsPositionOf c number position → Some position ≡ slice_get c.positions (index_of_number c number)
+  position_read c position number found = sym (index_read c.positions position found.0) ∙ ap (slice_get c.positions) found.1
 
   -- the value at a number's position is the number's
   pub value_found : (c : Connected T) (position number : ℕ) → IsPositionOf c number position → value_at c position ≡ value_of c number

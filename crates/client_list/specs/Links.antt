@@ -1,12 +1,12 @@
 -- How the links of a list lie in its slab.
-use Rattle.std.specs.Prelude.{◌≡◌, ℕ, zero, suc, nat_eq, List, [], ◌∷◌, map, length, Option, Some, None, MatchOption, slice_get}
+use Rattle.std.specs.Prelude.{◌≡◌, ℕ, zero, suc, nat_eq, List, [], ◌∷◌, map, length, Option, Some, None, MatchOption, IfSome, slice_get}
 use Rattle.std.specs.HashMap.{HashMap}
 use Rattle.std.specs.HashMap as hash
 use Rattle.std.specs.List.{IsDistinct}
 use Rattle.std.specs.Map.{keys_of}
 use Rattle.std.specs.Option.{option_map_or}
 use Rattle.slab.specs.Slab.{Slab, get, slab_len, Updates}
-use Rattle.client_list.specs.Connected.{Connected, index_of_number}
+use Rattle.client_list.specs.Connected.{Connected, index_of_number, IsPosition}
 use Rattle.client_list.specs.declared.links.Node.{Node}
 
 -- a position with its pair of number and value
@@ -64,6 +64,10 @@ module _ {T : Type 0} where
   -- what the map has at each number is the position at which the list has it, and `None` where the list hasn't it
   abbrev pub IsByNumber : {S : Type 0} → HashMap ℕ ℕ S → Connected T → Type 0
   IsByNumber by_number c = (number : ℕ) → hash.get nat_eq by_number number ≡ slice_get c.positions (index_of_number c number)
+
+  -- the position that was lent last, if it is kept, is a viewer's
+  abbrev pub IsRecent : Option ℕ → Connected T → Type 0
+  IsRecent recent c = IfSome recent (IsPosition c)
 
   -- the next link of the node at a position is another, or the first link where there is no position, and nothing else changed
   abbrev pub NextChanged : Slab (Node T) → Slab (Node T) → Option ℕ → Option ℕ → Option ℕ → Option ℕ → Type 0

@@ -68,6 +68,8 @@ pub struct Clients<T> {
     first: Option<Position>,
     last: Option<Position>,
     by_number: HashMap<u64, Position>,
+    // where the viewer is that was lent last for writing, unless one came or left since: who is asked for again is found there
+    recent: Option<Position>,
 }
 
 impl<T> Model for Clients<T> {
@@ -77,11 +79,12 @@ impl<T> Model for Clients<T> {
 
     ghost coded = { connected_code T.code };
 
-    ghost use Rattle.client_list.specs.Links.{linked, IsHeld, IsByNumber};
+    ghost use Rattle.client_list.specs.Links.{linked, IsHeld, IsByNumber, IsRecent};
 
     ghost view = { λ a. linked a.nodes a.first };
 
-    ghost invariant = { λ a. IsHeld a.nodes a.first a.last × IsByNumber a.by_number (linked a.nodes a.first) };
+    ghost invariant = { λ a. IsHeld a.nodes a.first a.last × IsByNumber a.by_number (linked a.nodes a.first)
+        × IsRecent a.recent (linked a.nodes a.first) };
 }
 
 impl<T> Clients<T> {
@@ -97,6 +100,7 @@ impl<T> Clients<T> {
             first: None,
             last: None,
             by_number: HashMap::new(alloc),
+            recent: None,
         }
     }
 
@@ -176,8 +180,36 @@ impl<T> Clients<T> {
         Ok(numbers)
     }
 
-    /// The position of the viewer with a number, found in one look-up; `None` where no viewer has it.
+    /// The position of the viewer with a number, found in one look-up, or in none where it was lent last; `None` where no viewer
+    /// has the number.
     pub fn position_of(&self, number: u64) -> Option<Position>
+        ensures position { result ≡ slice_get self.now.positions (index_of_number self.now number) }
+        ensures found { MatchOption result (value_of self.now number ≡ None) (IsPositionOf self.now number) }
+        ensures listed { IsListed self.now }
+    {
+        match self.recent_of(number) {
+            Some(position) => Some(position),
+            None => self.looked_up(number),
+        }
+    }
+
+    /// The position of the viewer that was lent last, where it has the number.
+    fn recent_of(&self, number: u64) -> Option<Position>
+        ensures found { IfSome result (IsPositionOf self.now number) }
+        ensures listed { IsListed self.now }
+    {
+        let Some(position) = self.recent else {
+            return None;
+        };
+        if self.number_at(position) == number {
+            Some(position)
+        } else {
+            None
+        }
+    }
+
+    /// The position of the viewer with a number, by the map.
+    fn looked_up(&self, number: u64) -> Option<Position>
         ensures position { result ≡ slice_get self.now.positions (index_of_number self.now number) }
         ensures found { MatchOption result (value_of self.now number ≡ None) (IsPositionOf self.now number) }
         ensures listed { IsListed self.now }
@@ -202,7 +234,10 @@ impl<T> Clients<T> {
         ensures value { option_copied_mut result ≡ value_of self.old number }
     {
         match self.position_of(number) {
-            Some(position) => Some(self.at_mut(position)),
+            Some(position) => {
+                self.recent = Some(position);
+                Some(self.at_mut(position))
+            }
             None => None,
         }
     }
@@ -216,6 +251,7 @@ impl<T> Clients<T> {
         ensures others { OnOk result (self.new.pairs ≡ filter (λ pair. not (pair.0 == number)) self.old.pairs) }
         ensures err { OnErr result (self.new ≡ self.old) }
     {
+        self.recent = None;
         let Some(position) = self.by_number.remove(&number) else {
             return Err(NoViewer);
         };
@@ -238,6 +274,7 @@ impl<T: Drop> Clients<T> {
         if self.position_of(number).is_some() {
             return Err(ConnectError::NumberInUse);
         }
+        self.recent = None;
         self.by_number.reserve(1)?;
         let position = add(&mut self.nodes, number, value, self.last)?;
         set_next(&mut self.nodes, &mut self.first, self.last, Some(position));

@@ -30,6 +30,7 @@ invariant_of-self-2 g c =
     let found : IsPositionOf c.args.self.now c.args.number c.in-Some.position = found_by_number c.self.inside.by_number c.args.self.now (subst (IsByNumber c.self.inside.by_number) c.self.view_is c.self.invariant.1) c.args.number (Some c.in-Some.position) (is_listed c.self.inside.nodes c.self.inside.first c.self.inside.last c.args.self.now (shows c.self.inside.nodes c.self.inside.first c.self.inside.last c.args.self.now c.self.invariant.0 c.self.view_is)) c.in-Some.ensures.value in (
       taken_held c.self.inside.nodes c.remove-node.new.self c.self.inside.first c.self.inside.last c.args.self.now (shows c.self.inside.nodes c.self.inside.first c.self.inside.last c.args.self.now c.self.invariant.0 c.self.view_is) c.args.number c.in-Some.position c.position.inside.key c.position.view_is found c.remove-node.result c.remove-node.ensures.value c.remove-node.ensures.updates c.set_next.new.nodes c.set_next.new.first c.set_next.ensures.changed c.set_previous.new.nodes c.set_previous.new.last c.set_previous.ensures.changed c.remove-node.ensures.len c.set_next.ensures.len c.set_previous.ensures.len,
       taken_by_number c.self.inside.nodes c.remove-node.new.self c.self.inside.first c.self.inside.last c.args.self.now (shows c.self.inside.nodes c.self.inside.first c.self.inside.last c.args.self.now c.self.invariant.0 c.self.view_is) c.args.number c.in-Some.position c.position.inside.key c.position.view_is found c.remove-node.result c.remove-node.ensures.value c.remove-node.ensures.updates c.set_next.new.nodes c.set_next.new.first c.set_next.ensures.changed c.set_previous.new.nodes c.set_previous.new.last c.set_previous.ensures.changed c.remove-node.ensures.len c.set_next.ensures.len c.set_previous.ensures.len c.self.inside.by_number c.remove.new.self (subst (IsByNumber c.self.inside.by_number) c.self.view_is c.self.invariant.1) c.remove.ensures.updates,
+      tt,
     )
 
 pub returns-clause-value : goal.returns-clause-value
