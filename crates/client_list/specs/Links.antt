@@ -65,7 +65,7 @@ module _ {T : Type 0} where
   abbrev pub IsByNumber : {S : Type 0} → HashMap ℕ ℕ S → Connected T → Type 0
   IsByNumber by_number c = (number : ℕ) → hash.get nat_eq by_number number ≡ slice_get c.positions (index_of_number c number)
 
-  -- the position that was lent last, if it is kept, is a viewer's
+  -- the position that was found last, if it is kept, is a viewer's
   abbrev pub IsRecent : Option ℕ → Connected T → Type 0
   IsRecent recent c = IfSome recent (IsPosition c)
 

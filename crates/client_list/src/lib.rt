@@ -7,7 +7,7 @@
 #![tactic(auto)]
 
 ghost use Rattle.std.specs.Prelude.{◌≡◌, ◌+◌, ◌++◌, ◌∷◌, ◌↔◌, [], ℕ, None, Some, IsTrue, IfSome, IfOk, MatchOption, MatchResult};
-ghost use Rattle.std.specs.Prelude.{IsOkUnless, OnOk, OnErr, length, slice_get, option_copied, ◌==◌, not};
+ghost use Rattle.std.specs.Prelude.{IsOkUnless, OnOk, OnErr, length, slice_get, option_copied, is_some, ◌==◌, not};
 ghost use Rattle.std.specs.Map.{keys_of};
 ghost use Rattle.std.specs.Option.{option_copied_mut};
 ghost use Rattle.std.specs.Borrow.{sem};
@@ -68,7 +68,7 @@ pub struct Clients<T> {
     first: Option<Position>,
     last: Option<Position>,
     by_number: HashMap<u64, Position>,
-    // where the viewer is that was lent last for writing, unless one came or left since: who is asked for again is found there
+    // where the viewer is that was found last, unless one came or left since: who is asked for again is found there
     recent: Option<Position>,
 }
 
@@ -180,7 +180,7 @@ impl<T> Clients<T> {
         Ok(numbers)
     }
 
-    /// The position of the viewer with a number, found in one look-up, or in none where it was lent last; `None` where no viewer
+    /// The position of the viewer with a number, found in one look-up, or in none where it was found last; `None` where no viewer
     /// has the number.
     pub fn position_of(&self, number: u64) -> Option<Position>
         ensures position { result ≡ slice_get self.now.positions (index_of_number self.now number) }
@@ -193,7 +193,19 @@ impl<T> Clients<T> {
         }
     }
 
-    /// The position of the viewer that was lent last, where it has the number.
+    /// Whether a viewer has the number. Calls for it that follow need no further look-up.
+    pub fn find(&mut self, number: u64) -> bool
+        ensures found { result ≡ is_some (value_of self.old number) }
+        ensures same { self.new ≡ self.old }
+    {
+        let Some(position) = self.position_of(number) else {
+            return false;
+        };
+        self.recent = Some(position);
+        true
+    }
+
+    /// The position of the viewer that was found last, where it has the number.
     fn recent_of(&self, number: u64) -> Option<Position>
         ensures found { IfSome result (IsPositionOf self.now number) }
         ensures listed { IsListed self.now }

@@ -3,16 +3,16 @@ use Rattle.std.proofs.Common.{◌≡◌, ℕ, Bool, true, false, List, [], ◌�
 use Rattle.std.specs.Prelude.{MatchOption, MatchResult, IsOkUnless, ◌&&◌, ◌||◌}
 use Rattle.std.proofs.lemmas.Bool.{and_from, or_parts, or_from}
 use Rattle.std.proofs.lemmas.List.Folds.{list_all-append, list_any-append}
-use Rattle.scene.specs.declared.Config.{Config}
-use Rattle.scene.specs.declared.ScreenError.{ScreenError}
-use Rattle.scene.specs.declared.ScreenError.TheVariants.{OutOfMemory}
-use Rattle.scene.specs.declared.Event.{Event}
-use Rattle.scene.specs.declared.Answer.{Answer}
-use Rattle.scene.specs.Alone.{owner_of, Tells}
-use Rattle.scene.specs.Answers.{is_drawing}
-use Rattle.scene.specs.Calls.{event_of}
-use Rattle.scene.specs.declared.call.Drawing.{Drawing}
-use Rattle.scene.specs.declared.call.Drawing.TheVariants.{Write, Paint, MarkRect, MarkRegion, ScheduleCopyRect, ScheduleCopyRegion, DoCopyRect, DoCopyRegion, Bell, CutText, NewFramebuffer}
+use Rattle.screen.specs.declared.Config.{Config}
+use Rattle.screen.specs.declared.ScreenError.{ScreenError}
+use Rattle.screen.specs.declared.ScreenError.TheVariants.{OutOfMemory}
+use Rattle.screen.specs.declared.Event.{Event}
+use Rattle.screen.specs.declared.Answer.{Answer}
+use Rattle.screen.specs.Alone.{owner_of, Tells}
+use Rattle.screen.specs.Answers.{is_drawing}
+use Rattle.screen.specs.Calls.{event_of}
+use Rattle.screen.specs.declared.Drawing.{Drawing}
+use Rattle.screen.specs.declared.Drawing.TheVariants.{Write, Paint, MarkRect, MarkRegion, ScheduleCopyRect, ScheduleCopyRegion, DoCopyRect, DoCopyRegion, Bell, CutText, NewFramebuffer}
 use Rattle.screen.specs.State.{State, state}
 use Rattle.source_pixels.specs.declared.pieces.Piece.{Piece}
 use Rattle.take_pixels.specs.Paints.{paints_of}

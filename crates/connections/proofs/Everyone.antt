@@ -4,10 +4,10 @@ use Rattle.std.specs.Prelude.{◌==◌, ◌&&◌, unwrap_or, length, slice_set}
 use Rattle.std.proofs.lemmas.List.{get_or-set_same, get_or-set_other}
 use Rattle.std.specs.Io.KnownBytes.{Appends, Consumes}
 use Rattle.std.proofs.lemmas.Bool.Decides.{Decides-eqb}
-use Rattle.scene.specs.declared.Config.{Config}
-use Rattle.scene.specs.declared.Event.{Event}
-use Rattle.scene.specs.declared.Event.TheVariants.{Connect, Close}
-use Rattle.scene.specs.Answers.{viewer_of, answer_to}
+use Rattle.screen.specs.declared.Config.{Config}
+use Rattle.screen.specs.declared.Event.{Event}
+use Rattle.screen.specs.declared.Event.TheVariants.{Connect, Close}
+use Rattle.screen.specs.Answers.{viewer_of, answer_to}
 use Rattle.slab.specs.Slab.{Slab, get, Updates}
 use Rattle.receipts.specs.declared.Receipt.{Receipt}
 use Rattle.receipts.specs.declared.Ended.{Ended}

@@ -6,13 +6,13 @@ use Rattle.std.proofs.lemmas.List.Elements.{filter-append, filter_map-append}
 use Rattle.std.proofs.lemmas.Grind.{flat_map-append}
 use Rattle.std.proofs.lemmas.Bool.{and_parts}
 use Rattle.std.proofs.lemmas.Bool.Decides.{Decides-eqb}
-use Rattle.scene.specs.declared.Config.{Config}
-use Rattle.scene.specs.declared.ScreenError.{ScreenError}
-use Rattle.scene.specs.declared.Answer.{Answer}
-use Rattle.scene.specs.declared.Event.{Event}
-use Rattle.scene.specs.declared.Event.TheVariants.{Write, Paint, Mark, ScheduleCopy, DoCopy, Bell, CutText, Resize, Connect, Hear, Cut, Close}
-use Rattle.scene.specs.Alone.{One, at_size, step, draw_step, after, answers_from, alone, owner_of, drawing_refusal, empty_screen}
-use Rattle.scene.specs.Answers.{own, is_owner, is_drawing, last_of, answer_to}
+use Rattle.screen.specs.declared.Config.{Config}
+use Rattle.screen.specs.declared.ScreenError.{ScreenError}
+use Rattle.screen.specs.declared.Answer.{Answer}
+use Rattle.screen.specs.declared.Event.{Event}
+use Rattle.screen.specs.declared.Event.TheVariants.{Write, Paint, Mark, ScheduleCopy, DoCopy, Bell, CutText, Resize, Connect, Hear, Cut, Close}
+use Rattle.screen.specs.Alone.{One, at_size, step, draw_step, after, answers_from, alone, owner_of, drawing_refusal, empty_screen}
+use Rattle.screen.specs.Answers.{own, is_owner, is_drawing, last_of, answer_to}
 use Rattle.receipts.specs.Histories.{piece_of, heard_of, bytes_of}
 use Rattle.connections.specs.Drawing.{are_drawings}
 use Rattle.connections.specs.Turns.{are_of}

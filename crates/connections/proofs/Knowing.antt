@@ -2,12 +2,12 @@
 use Rattle.std.proofs.Common.{◌≡◌, ℕ, Bool, true, false, List, [], ◌∷◌, ◌++◌, Some, refl, sym, ap, ◌∙◌, append-nil, true≢false}
 use Rattle.std.specs.Prelude.{◌==◌, ◌&&◌}
 use Rattle.std.proofs.lemmas.Bool.Decides.{Decides-eqb}
-use Rattle.scene.specs.declared.Config.{Config}
-use Rattle.scene.specs.declared.Event.{Event}
-use Rattle.scene.specs.declared.Event.TheVariants.{Hear, Cut}
-use Rattle.scene.specs.Alone.{One, step, owner_of}
-use Rattle.scene.specs.Answers.{is_owner, viewer_of}
-use Rattle.scene.specs.Refusals.{held_as_alone}
+use Rattle.screen.specs.declared.Config.{Config}
+use Rattle.screen.specs.declared.Event.{Event}
+use Rattle.screen.specs.declared.Event.TheVariants.{Hear, Cut}
+use Rattle.screen.specs.Alone.{One, step, owner_of}
+use Rattle.screen.specs.Answers.{is_owner, viewer_of}
+use Rattle.screen.specs.Refusals.{held_as_alone}
 use Rattle.screen.specs.State.{state}
 use Rattle.connections.specs.Drawing.{Surface, IsDrawnFrom, is_asking_on}
 use Rattle.connections.specs.Attending.{Known, asks, is_owed, next_bytes, IsSettled}

@@ -3,9 +3,9 @@ use Rattle.std.proofs.Common.{◌≡◌, ◌≢◌, ◌⊎◌, inl, inr, ℕ, Bo
 use Rattle.std.specs.Prelude.{◌==◌, ◌&&◌, ◌||◌, not, is_some, is_none, length}
 use Rattle.std.proofs.lemmas.Bool.{or_parts}
 use Rattle.std.proofs.lemmas.Bool.Decides.{Decides-eqb}
-use Rattle.scene.specs.declared.Config.{Config}
-use Rattle.scene.specs.declared.Event.{Event}
-use Rattle.scene.specs.Alone.{some_bytes}
+use Rattle.screen.specs.declared.Config.{Config}
+use Rattle.screen.specs.declared.Event.{Event}
+use Rattle.screen.specs.Alone.{some_bytes}
 use Rattle.receipts.specs.declared.Ended.{Ended}
 use Rattle.connections.specs.Among.{is_among}
 use Rattle.connections.specs.Waiting.{waiting_bytes}

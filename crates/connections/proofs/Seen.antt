@@ -6,21 +6,21 @@ use Rattle.std.proofs.lemmas.Bool.{and_parts, or_parts}
 use Rattle.std.proofs.lemmas.Bool.Decides.{Decides-eqb}
 use Rattle.region.specs.Region.{on_screen}
 use Rattle.region.specs.Places.{cut_destination}
-use Rattle.framebuffer.specs.Picture.{places_in}
+use Rattle.screen.specs.Picture.{places_in}
 use Rattle.copy_schedule.specs.Marks.{Marks, Sent, has_asked, asked_at, copied_by, resized, pending, cut_of, copies_of, pixels_of, after_sending}
 use Rattle.copy_schedule.specs.LogLemmas.{unasked_is_not_pending}
-use Rattle.messages.specs.Server.{colour_map}
+use Rattle.screen.specs.Server.{colour_map}
 use Rattle.viewer.specs.declared.notices.Notice.{Notice}
 use Rattle.viewer.specs.declared.notices.Notice.TheVariants as notice
 use Rattle.viewer.specs.Viewer.{Viewer, is_asking, is_open_viewer, none_wait, kept_viewer, does_nothing, in_view}
 use Rattle.viewer.specs.Sending.{map_bytes, notice_bytes, front_bytes, size_bytes, update_bytes, is_size_owed, tells_size, with_size, with_update, sending_open, sending}
-use Rattle.scene.specs.declared.Config.{Config}
-use Rattle.scene.specs.declared.ScreenError.{ScreenError}
-use Rattle.scene.specs.declared.Event.{Event}
-use Rattle.scene.specs.declared.Event.TheVariants.{Write, Paint, Mark, ScheduleCopy, DoCopy, Bell, CutText, Resize, Connect, Hear, Cut, Close}
-use Rattle.scene.specs.Alone.{One, at_size, step, own_step, draw_step, after, owner_of, shown_drawing, drawing_refusal, empty_screen, some_bytes}
-use Rattle.scene.specs.Answers.{own, is_owner, viewer_of}
-use Rattle.scene.specs.Refusals.{held_as_alone}
+use Rattle.screen.specs.declared.Config.{Config}
+use Rattle.screen.specs.declared.ScreenError.{ScreenError}
+use Rattle.screen.specs.declared.Event.{Event}
+use Rattle.screen.specs.declared.Event.TheVariants.{Write, Paint, Mark, ScheduleCopy, DoCopy, Bell, CutText, Resize, Connect, Hear, Cut, Close}
+use Rattle.screen.specs.Alone.{One, at_size, step, own_step, draw_step, after, owner_of, shown_drawing, drawing_refusal, empty_screen, some_bytes}
+use Rattle.screen.specs.Answers.{own, is_owner, viewer_of}
+use Rattle.screen.specs.Refusals.{held_as_alone}
 use Rattle.screen.specs.State.{state}
 use Rattle.connections.specs.Drawing.{are_drawings, is_notice, has_notice, is_asking_on}
 use Rattle.connections.specs.Attending.{asks, is_owed, next_bytes}

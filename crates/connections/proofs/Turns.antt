@@ -5,12 +5,12 @@ use Rattle.std.proofs.KnownBytes.{Appends-nil, Appends-trans, Consumes-nil, Cons
 use Rattle.std.proofs.lemmas.Bool.{and_from}
 use Rattle.std.proofs.lemmas.Bool.Decides.{Decides-eqb}
 use Rattle.std.proofs.lemmas.List.Folds.{list_all-append}
-use Rattle.scene.specs.declared.Config.{Config}
-use Rattle.scene.specs.declared.Event.{Event}
-use Rattle.scene.specs.declared.Event.TheVariants.{Hear, Cut}
-use Rattle.scene.specs.Alone.{owner_of}
-use Rattle.scene.specs.Answers.{is_owner, answer_to}
-use Rattle.scene.specs.Refusals.{held_as_alone}
+use Rattle.screen.specs.declared.Config.{Config}
+use Rattle.screen.specs.declared.Event.{Event}
+use Rattle.screen.specs.declared.Event.TheVariants.{Hear, Cut}
+use Rattle.screen.specs.Alone.{owner_of}
+use Rattle.screen.specs.Answers.{is_owner, answer_to}
+use Rattle.screen.specs.Refusals.{held_as_alone}
 use Rattle.receipts.specs.declared.Ended.{Ended}
 use Rattle.receipts.specs.declared.Ended.TheVariants.{Memory, Closed}
 use Rattle.receipts.specs.Histories.{heard_of, bytes_of}

@@ -1,9 +1,9 @@
 -- What is known of a connection, and what its viewer would be sent, by the events of the screen.
 use Rattle.std.specs.Prelude.{◌≡◌, ℕ, Bool, false, not, ◌&&◌, ◌||◌, List, [], Option, Some, None}
-use Rattle.scene.specs.declared.Config.{Config}
-use Rattle.scene.specs.declared.Event.{Event}
-use Rattle.scene.specs.declared.Event.TheVariants.{Cut}
-use Rattle.scene.specs.Answers.{viewer_of, answer_to}
+use Rattle.screen.specs.declared.Config.{Config}
+use Rattle.screen.specs.declared.Event.{Event}
+use Rattle.screen.specs.declared.Event.TheVariants.{Cut}
+use Rattle.screen.specs.Answers.{viewer_of, answer_to}
 use Rattle.viewer.specs.Viewer.{Viewer, is_asking, is_open_viewer, none_wait}
 use Rattle.connections.specs.declared.connections.Readiness.{Readiness}
 use Rattle.connections.specs.Drawing.{Surface}

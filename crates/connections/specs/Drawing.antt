@@ -1,11 +1,11 @@
 -- What an application does to a screen.
 use Rattle.std.specs.Prelude.{◌≡◌, ℕ, Bool, true, false, List, [], ◌++◌, ◌||◌, None, Some}
 use Rattle.std.specs.List.{list_all, list_any}
-use Rattle.scene.specs.declared.Config.{Config}
-use Rattle.scene.specs.declared.Event.{Event}
-use Rattle.scene.specs.declared.Event.TheVariants.{Bell, CutText}
-use Rattle.scene.specs.Alone.{owner_of}
-use Rattle.scene.specs.Answers.{is_drawing}
+use Rattle.screen.specs.declared.Config.{Config}
+use Rattle.screen.specs.declared.Event.{Event}
+use Rattle.screen.specs.declared.Event.TheVariants.{Bell, CutText}
+use Rattle.screen.specs.Alone.{owner_of}
+use Rattle.screen.specs.Answers.{is_drawing}
 use Rattle.viewer.specs.Viewer.{is_asking}
 use Rattle.screen.specs.State.{State, state, viewer_at}
 

@@ -1,18 +1,18 @@
 -- What the connections of a screen's viewers hold, and what that is by the events of the screen.
 use Rattle.std.specs.Prelude.{◌≡◌, ◌≢◌, ◌⊎◌, ℕ, ◌≤◌, ◌<◌, Bool, true, false, not, ◌&&◌, ◌||◌, if◌then◌else◌, is_none, is_some, List, [], ◌++◌, Option, Some, None, option_map, unwrap_or, slice_index_or}
 use Rattle.std.specs.Io.KnownBytes.{Appends, Consumes}
-use Rattle.scene.specs.declared.Config.{Config}
-use Rattle.scene.specs.declared.Event.{Event}
-use Rattle.scene.specs.declared.History.{History}
-use Rattle.scene.specs.declared.History.TheVariants.{Kept, NotKept}
-use Rattle.scene.specs.Alone.{some_bytes}
-use Rattle.scene.specs.Answers.{viewer_of}
+use Rattle.screen.specs.declared.Config.{Config}
+use Rattle.screen.specs.declared.Event.{Event}
+use Rattle.screen.specs.declared.History.{History}
+use Rattle.screen.specs.declared.History.TheVariants.{Kept, NotKept}
+use Rattle.screen.specs.Alone.{some_bytes}
+use Rattle.screen.specs.Answers.{viewer_of}
 use Rattle.receipts.specs.declared.Receipt.{Receipt}
 use Rattle.receipts.specs.declared.Ended.{Ended}
 use Rattle.receipts.specs.declared.Ended.TheVariants.{Memory}
 use Rattle.receipts.specs.Checking.{may_break_off}
 use Rattle.receipts.specs.Histories.{bytes_of, heard_of}
-use Rattle.messages.specs.Reading.{is_open_rest}
+use Rattle.screen.specs.Reading.{is_open_rest}
 use Rattle.screen.specs.State.{State, state, viewer_at}
 use Rattle.connections.specs.declared.connections.Readiness.{Readiness}
 use Rattle.connections.specs.Waiting.{Waiting, waiting_bytes, IsFew}

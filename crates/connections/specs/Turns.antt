@@ -1,10 +1,10 @@
 -- One viewer's connection and the screen, in the course of a turn.
 use Rattle.std.specs.Prelude.{◌≡◌, ℕ, Bool, true, false, List, [], ◌++◌, ◌≤◌, length, take, None}
 use Rattle.std.specs.List.{list_all}
-use Rattle.scene.specs.declared.Config.{Config}
-use Rattle.scene.specs.declared.Event.{Event}
-use Rattle.scene.specs.Alone.{owner_of}
-use Rattle.scene.specs.Answers.{is_owner, viewer_of}
+use Rattle.screen.specs.declared.Config.{Config}
+use Rattle.screen.specs.declared.Event.{Event}
+use Rattle.screen.specs.Alone.{owner_of}
+use Rattle.screen.specs.Answers.{is_owner, viewer_of}
 use Rattle.screen.specs.State.{state}
 use Rattle.connections.specs.declared.connection.Got.{Got}
 use Rattle.connections.specs.declared.connection.Got.TheVariants.{Piece}

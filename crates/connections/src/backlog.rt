@@ -1,7 +1,7 @@
 //! What a viewer was given, and what of it is not written yet.
 
 ghost use Rattle.std.specs.Prelude.{◌≡◌, ◌≢◌, ◌≤◌, ◌++◌, [], List, ℕ, not, OnOk, OnErr, length, take};
-ghost use Rattle.scene.specs.Alone.{some_bytes};
+ghost use Rattle.screen.specs.Alone.{some_bytes};
 ghost use Rattle.connections.specs.Waiting.{waiting_bytes, IsFew};
 ghost use Rattle.connections.specs.Serving.{Moves};
 ghost use Rattle.connections.specs.Bounds.{AreWrittenAtMost};

@@ -1,15 +1,15 @@
 //! The screen as an application draws on it.
 
 ghost use Rattle.std.specs.Prelude.{◌≡◌, ◌++◌, ◌∷◌, [], ◌≢◌, List, None, true, false, IfOk, IfSome, IsOkUnless, OnOk, OnErr};
-ghost use Rattle.scene.specs.declared.Config.{Config};
-ghost use Rattle.scene.specs.declared.Event.{Event};
-ghost use Rattle.scene.specs.Alone.{config_refusal};
-ghost use Rattle.scene.specs.Answers.{answer_to};
-ghost use Rattle.scene.specs.Refusals.{Refuses};
+ghost use Rattle.screen.specs.declared.Config.{Config};
+ghost use Rattle.screen.specs.declared.Event.{Event};
+ghost use Rattle.screen.specs.Alone.{config_refusal};
+ghost use Rattle.screen.specs.Answers.{answer_to};
+ghost use Rattle.screen.specs.Refusals.{Refuses};
 ghost use Rattle.screen.specs.State.{state, refusal};
 ghost use Rattle.take_pixels.specs.Takes.{Takes};
 ghost use Rattle.viewer.specs.Given.{bytes_given};
-ghost use Rattle.scene.specs.Calls.{event_of};
+ghost use Rattle.screen.specs.Calls.{event_of};
 ghost use Rattle.connections.specs.Drawing.{Draws, is_asking_on, is_notice, IsNotedAfter};
 
 use listed::Listed;

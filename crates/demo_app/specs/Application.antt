@@ -4,8 +4,8 @@ use Rattle.std.specs.Global.{Vec}
 use Rattle.region.specs.declared.Rect.{Rect}
 use Rattle.messages.specs.declared.Input.{Input}
 use Rattle.messages.specs.declared.Input.TheVariants as input
-use Rattle.scene.specs.declared.Event.{Event}
-use Rattle.scene.specs.declared.Event.TheVariants as event
+use Rattle.screen.specs.declared.Event.{Event}
+use Rattle.screen.specs.declared.Event.TheVariants as event
 use Rattle.demo_app.specs.declared.serve.Stroke.{Stroke}
 use Rattle.demo_app.specs.declared.serve.Stroke.TheVariants.{Place, Bell, Text}
 

@@ -1,8 +1,8 @@
 -- Which screen options tell.
 use Rattle.std.specs.Prelude.{Bool, true, false}
-use Rattle.scene.specs.declared.Config.{Config}
-use Rattle.scene.specs.declared.History.{History}
-use Rattle.scene.specs.declared.History.TheVariants.{Kept, NotKept}
+use Rattle.screen.specs.declared.Config.{Config}
+use Rattle.screen.specs.declared.History.{History}
+use Rattle.screen.specs.declared.History.TheVariants.{Kept, NotKept}
 use Rattle.demo_app.specs.declared.serve.ServeOptions.{ServeOptions}
 
 -- the history is kept where the run is judged

@@ -2,12 +2,12 @@
 
 ghost use Rattle.std.specs.Prelude.{◌≡◌, ◌⊎◌, ◌++◌, ◌∷◌, [], List, None, true, IfOk, OnOk, option_map};
 ghost use Rattle.std.specs.Option.{option_to_list};
-ghost use Rattle.scene.specs.declared.Config.{Config};
-ghost use Rattle.scene.specs.declared.Event.{Event};
+ghost use Rattle.screen.specs.declared.Config.{Config};
+ghost use Rattle.screen.specs.declared.Event.{Event};
 ghost use Rattle.screen.specs.State.{state};
 ghost use Rattle.demo_app.specs.Application.{event_for, kept_in, stroke_event};
 ghost use Rattle.demo_app.specs.Endings.{Judged};
-ghost use Rattle.scene.specs.Alone.{config_refusal};
+ghost use Rattle.screen.specs.Alone.{config_refusal};
 ghost use Rattle.connections.specs.Drawing.{Draws};
 
 use crate::endings::{print_ends, print_judgement, written_out};

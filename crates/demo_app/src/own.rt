@@ -2,7 +2,7 @@
 //! whether it shows what was drawn.
 
 ghost use Rattle.std.specs.Prelude.{◌≡◌, ◌-◌, ◌<◌, ◌⊎◌, true, None, IfOk};
-ghost use Rattle.scene.specs.Alone.{config_refusal};
+ghost use Rattle.screen.specs.Alone.{config_refusal};
 
 use crate::serve::{print_verdict, trouble_of};
 use crate::watching::{COLUMNS, shut_all, watch};

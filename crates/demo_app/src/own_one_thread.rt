@@ -1,7 +1,7 @@
 //! `self --one-thread`: the same viewers and the same drawing, served by an event loop.
 
 ghost use Rattle.std.specs.Prelude.{◌≡◌, ◌⊎◌, None, IfOk};
-ghost use Rattle.scene.specs.Alone.{config_refusal};
+ghost use Rattle.screen.specs.Alone.{config_refusal};
 ghost use Rattle.connections.specs.Drawing.{Draws};
 
 use crate::endings::print_judgement;

@@ -1,14 +1,14 @@
 -- Steps of a loop, one after the other.
 use Rattle.std.proofs.Common.{◌≡◌, ℕ, List, [], ◌∷◌, ◌++◌, Option, None, Some, Result, Err, sym, ap, append_assoc, append-nil, subst, inr}
 use Rattle.std.specs.Prelude.{MatchOption, IsOkUnless}
-use Rattle.scene.specs.declared.ScreenError.{ScreenError}
-use Rattle.scene.specs.declared.ScreenError.TheVariants.{OutOfMemory}
+use Rattle.screen.specs.declared.ScreenError.{ScreenError}
+use Rattle.screen.specs.declared.ScreenError.TheVariants.{OutOfMemory}
 use Rattle.event_loop.specs.declared.event_loop.LoopError.{LoopError}
 use Rattle.event_loop.specs.declared.event_loop.LoopError.TheVariants.{Screen}
 use Rattle.event_loop.specs.Opening.{IsOpenedOr}
-use Rattle.scene.specs.declared.Config.{Config}
-use Rattle.scene.specs.declared.Event.{Event}
-use Rattle.scene.specs.declared.Event.TheVariants.{Connect}
+use Rattle.screen.specs.declared.Config.{Config}
+use Rattle.screen.specs.declared.Event.{Event}
+use Rattle.screen.specs.declared.Event.TheVariants.{Connect}
 use Rattle.connections.specs.Recording.{none_yet}
 use Rattle.connections.specs.Serving.{Carried, Serving, Serves, GoesOn}
 use Rattle.event_loop.specs.Sockets.{sockets, GoesOnServing}

@@ -1,6 +1,6 @@
 -- What may keep a loop from being made, where its configuration is within its limits.
 use Rattle.std.specs.Prelude.{◌≡◌, Result, IfErr, ◌⊎◌}
-use Rattle.scene.specs.declared.ScreenError.TheVariants.{OutOfMemory}
+use Rattle.screen.specs.declared.ScreenError.TheVariants.{OutOfMemory}
 use Rattle.event_loop.specs.declared.event_loop.LoopError.{LoopError}
 use Rattle.event_loop.specs.declared.event_loop.LoopError.TheVariants.{Network, Screen}
 

@@ -1,7 +1,7 @@
 -- What sockets carry.
 use Rattle.std.specs.Prelude.{ℕ, List, ◌++◌, None}
-use Rattle.scene.specs.declared.Config.{Config}
-use Rattle.scene.specs.declared.Event.{Event}
+use Rattle.screen.specs.declared.Config.{Config}
+use Rattle.screen.specs.declared.Event.{Event}
 use Rattle.connections.specs.Recording.{none_yet}
 use Rattle.connections.specs.Serving.{Carried, Serving, is_kept, Serves}
 

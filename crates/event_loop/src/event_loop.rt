@@ -3,8 +3,8 @@
 ghost use Rattle.std.specs.Prelude.{◌≡◌, ◌≢◌, ℕ, [], None, Some, Ok, Err, false, IfOk, OnOk, MatchOption, is_some, count_by};
 ghost use Rattle.std.specs.Borrow.{sem};
 ghost use Rattle.std.specs.Duration.{as_nanos};
-ghost use Rattle.scene.specs.declared.Config.{Config};
-ghost use Rattle.scene.specs.Alone.{config_refusal};
+ghost use Rattle.screen.specs.declared.Config.{Config};
+ghost use Rattle.screen.specs.Alone.{config_refusal};
 ghost use Rattle.connections.specs.Serving.{Serves, number_at};
 ghost use Rattle.event_loop.specs.declared.event_loop.WhenFull.TheVariants as when_full;
 ghost use Rattle.event_loop.specs.Lending.{lends_canvas};

@@ -8,11 +8,11 @@ use Rattle.std.proofs.lemmas.Bool.Decides.{nat_tests}
 use Rattle.std.proofs.lemmas.Str.Parse.{digit_from_value, WeighsDigits, IsNumeralModel, IsDigitsTest, numerals_by_weight}
 use Rattle.std.proofs.lemmas.Fmt.{digits_decimal, digits_value-decimal, decimal_nonempty}
 use Rattle.play_script.specs.Words.{value_in, group, hex_bytes, viewer_number}
-use Rattle.scene.specs.declared.Config.{Config}
-use Rattle.scene.specs.declared.Event.{Event}
-use Rattle.scene.specs.declared.ScreenError.{ScreenError}
-use Rattle.scene.specs.Alone.{config_refusal}
-use Rattle.scene.specs.Answers.{answer_to, answers, answers_after}
+use Rattle.screen.specs.declared.Config.{Config}
+use Rattle.screen.specs.declared.Event.{Event}
+use Rattle.screen.specs.declared.ScreenError.{ScreenError}
+use Rattle.screen.specs.Alone.{config_refusal}
+use Rattle.screen.specs.Answers.{answer_to, answers, answers_after}
 use Rattle.play_script.specs.declared.lines.Line.{Line}
 use Rattle.play_script.specs.declared.lines.Line.TheVariants.{Start, Do}
 use Rattle.play_script.specs.Texts.{hex, hex_word, hex_digit, ok, text_of}

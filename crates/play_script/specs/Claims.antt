@@ -2,11 +2,11 @@
 use Rattle.std.specs.Prelude.{◌≡◌, ℕ, ◌<◌, ◌^◌, List, [], ◌∷◌, ◌++◌, map, Some, None}
 use Rattle.std.specs.List.{AllByRecursion}
 use Rattle.std.specs.Fmt.{decimal}
-use Rattle.scene.specs.declared.Config.{Config}
-use Rattle.scene.specs.declared.Event.{Event}
-use Rattle.scene.specs.declared.Answer.{Answer}
-use Rattle.scene.specs.Alone.{config_refusal}
-use Rattle.scene.specs.Answers.{answers}
+use Rattle.screen.specs.declared.Config.{Config}
+use Rattle.screen.specs.declared.Event.{Event}
+use Rattle.screen.specs.declared.Answer.{Answer}
+use Rattle.screen.specs.Alone.{config_refusal}
+use Rattle.screen.specs.Answers.{answers}
 use Rattle.play_script.specs.declared.lines.Line.TheVariants.{Start, Do}
 use Rattle.play_script.specs.Words.{viewer_number, hex_bytes}
 use Rattle.play_script.specs.Texts.{hex_word, ok, text_of}

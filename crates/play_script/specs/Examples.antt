@@ -3,8 +3,8 @@ use Rattle.std.specs.Prelude.{◌≡◌, [], ◌∷◌, ◌++◌, codes, replica
 use Rattle.std.specs.Fmt.{digits}
 use Rattle.messages.specs.declared.Input.TheVariants as input
 use Rattle.messages.specs.declared.Fault.TheVariants as fault
-use Rattle.scene.specs.declared.History.TheVariants.{NotKept}
-use Rattle.scene.specs.declared.Event.TheVariants.{Paint, Mark, DoCopy, Bell, CutText, Resize, Connect, Hear}
+use Rattle.screen.specs.declared.History.TheVariants.{NotKept}
+use Rattle.screen.specs.declared.Event.TheVariants.{Paint, Mark, DoCopy, Bell, CutText, Resize, Connect, Hear}
 use Rattle.play_script.specs.declared.lines.Line.TheVariants.{Skipped, Start, Do, Bad}
 use Rattle.play_script.specs.Words.{lines_of, words_of, number, viewer_number, hex_bytes, hex_colours}
 use Rattle.play_script.specs.Lines.{line_of, config_of, places_of, pixels_of, corners_of, move_of, size_in, hear_of}

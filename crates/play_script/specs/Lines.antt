@@ -1,9 +1,9 @@
 -- What a script's line says.
 use Rattle.std.specs.Prelude.{ℕ, ◌+◌, ◌*◌, ◌^◌, nat_le, Bool, ◌&&◌, ◌||◌, ◌==◌, if◌then◌else◌, List, [], ◌∷◌, length, get_or, codes, bytes_eq, replicate, pos, Option, Some, None, option_and_then, option_map}
-use Rattle.scene.specs.declared.Config.{Config}
-use Rattle.scene.specs.declared.History.TheVariants.{NotKept}
-use Rattle.scene.specs.declared.Event.{Event}
-use Rattle.scene.specs.declared.Event.TheVariants as event
+use Rattle.screen.specs.declared.Config.{Config}
+use Rattle.screen.specs.declared.History.TheVariants.{NotKept}
+use Rattle.screen.specs.declared.Event.{Event}
+use Rattle.screen.specs.declared.Event.TheVariants as event
 use Rattle.play_script.specs.declared.lines.Line.{Line}
 use Rattle.play_script.specs.declared.lines.Line.TheVariants as line
 use Rattle.region.specs.declared.Rect.{Rect}

@@ -6,11 +6,11 @@ use Rattle.messages.specs.declared.Fault.{Fault}
 use Rattle.messages.specs.declared.Fault.TheVariants as fault
 use Rattle.messages.specs.declared.Input.{Input}
 use Rattle.messages.specs.declared.Input.TheVariants as input
-use Rattle.scene.specs.declared.ScreenError.{ScreenError}
-use Rattle.scene.specs.declared.ScreenError.TheVariants as refusals
-use Rattle.scene.specs.declared.Event.{Event}
-use Rattle.scene.specs.declared.Event.TheVariants.{Connect, Hear, Cut}
-use Rattle.scene.specs.declared.Answer.{Answer}
+use Rattle.screen.specs.declared.ScreenError.{ScreenError}
+use Rattle.screen.specs.declared.ScreenError.TheVariants as refusals
+use Rattle.screen.specs.declared.Event.{Event}
+use Rattle.screen.specs.declared.Event.TheVariants.{Connect, Hear, Cut}
+use Rattle.screen.specs.declared.Answer.{Answer}
 
 -- a digit, in lower case
 abbrev pub hex_digit : ℕ → ℕ

@@ -1,10 +1,10 @@
 -- What a script prints, and with which status it ends.
 use Rattle.std.specs.Prelude.{ℕ, ◌+◌, List, [], ◌∷◌, ◌++◌, map, Option, Some, None}
-use Rattle.scene.specs.declared.Config.{Config}
-use Rattle.scene.specs.declared.ScreenError.{ScreenError}
-use Rattle.scene.specs.declared.Event.{Event}
-use Rattle.scene.specs.Alone.{config_refusal}
-use Rattle.scene.specs.Answers.{answer_to}
+use Rattle.screen.specs.declared.Config.{Config}
+use Rattle.screen.specs.declared.ScreenError.{ScreenError}
+use Rattle.screen.specs.declared.Event.{Event}
+use Rattle.screen.specs.Alone.{config_refusal}
+use Rattle.screen.specs.Answers.{answer_to}
 use Rattle.play_script.specs.declared.lines.Line.{Line}
 use Rattle.play_script.specs.declared.lines.Line.TheVariants.{Skipped, Start, Do, Bad}
 use Rattle.play_script.specs.Words.{lines_of}

@@ -1,5 +1,5 @@
 ghost use Rattle.std.specs.Prelude.{◌≡◌, ◌+◌, ◌∷◌, [], ◌≤◌, ◌^◌, length, IfOk, option_map, ◌<◌, ◌==◌, if◌then◌else◌};
-ghost use Rattle.scene.specs.declared.Config.{Config};
+ghost use Rattle.screen.specs.declared.Config.{Config};
 ghost use Rattle.play_script.specs.Words.{words_of};
 ghost use Rattle.play_script.specs.Lines.{is_skipped, verb_of, name_of, limit_of, config_of, places_by, places_of, spread};
 ghost use Rattle.play_script.specs.Lines.{only_viewer, started_by, done_by, pixels_of, paint_of, write_of, corners_of, mark_of};

@@ -234,6 +234,19 @@ impl Scene {
         }
     }
 
+    /// The same. The call for that viewer that follows needs no further look-up.
+    pub fn find(&mut self, number: u64) -> Result<(), ScreenError>
+        ensures found { MatchResult result (λ _. absence (viewer_at self.old number) ≡ None) (λ e. absence (viewer_at self.old number) ≡
+            Some e) }
+        ensures same { self.new ≡ self.old }
+    {
+        if self.viewers.find(number) {
+            Ok(())
+        } else {
+            Err(ScreenError::NoViewer)
+        }
+    }
+
     /// Nothing, or why an event would be refused now, but for want of memory.
     pub fn check(&self, event: &Event) -> Result<(), ScreenError>
         ensures { MatchResult result (λ _. refusal self.now event.now ≡ None) (λ e. refusal self.now event.now ≡ Some e) }

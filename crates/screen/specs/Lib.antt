@@ -1,1 +1,12 @@
 pub mod State
+pub use Rattle.scene.specs.Alone
+pub use Rattle.scene.specs.Answers
+pub use Rattle.scene.specs.Calls
+pub use Rattle.scene.specs.History
+pub use Rattle.scene.specs.Refusals
+pub use Rattle.viewer.specs.Viewer
+pub use Rattle.viewer.specs.Given
+pub use Rattle.messages.specs.Reading
+pub use Rattle.messages.specs.Server
+pub use Rattle.framebuffer.specs.Frame
+pub use Rattle.framebuffer.specs.Picture

@@ -393,7 +393,7 @@ impl Screen {
         ensures err { OnErr result (self.new ≡ self.old) }
     {
         refusals_are_due();
-        self.scene.check_live(number)?;
+        self.scene.find(number)?;
         let event = Event::Close { viewer: number };
         self.events.make_room_for(&event)?;
         self.scene.close(number)?;
@@ -414,7 +414,7 @@ impl Screen {
         ensures err { OnErr result (self.new ≡ self.old) }
     {
         refusals_are_due();
-        self.scene.check_live(number)?;
+        self.scene.find(number)?;
         let copy = self.events.copied(piece)?;
         self.events.make_room()?;
         let answer = self.scene.hear(number, piece)?;
@@ -447,7 +447,7 @@ impl Screen {
         ensures err { OnErr result (self.new ≡ self.old) }
     {
         refusals_are_due();
-        self.scene.check_live(number)?;
+        self.scene.find(number)?;
         self.events.make_room()?;
         let Some(update) = self.scene.cut(number)? else {
             return Ok(None);

@@ -5,12 +5,12 @@ use Rattle.std.specs.Prelude.{OnOk, OnErr, MatchResult, IsOkUnless, option_map, 
 use Rattle.std.specs.List.{list_any}
 use Rattle.region.specs.declared.Rect.{Rect}
 use Rattle.region.specs.RegionView.{in_range}
-use Rattle.messages.specs.declared.Input.{Input}
-use Rattle.scene.specs.declared.Config.{Config}
-use Rattle.scene.specs.declared.Event.{Event}
-use Rattle.scene.specs.declared.ScreenError.{ScreenError}
-use Rattle.scene.specs.declared.ScreenError.TheVariants as refusals
-use Rattle.scene.specs.Refusals.{Refuses}
+use Rattle.screen.specs.declared.Input.{Input}
+use Rattle.screen.specs.declared.Config.{Config}
+use Rattle.screen.specs.declared.Event.{Event}
+use Rattle.screen.specs.declared.ScreenError.{ScreenError}
+use Rattle.screen.specs.declared.ScreenError.TheVariants as refusals
+use Rattle.screen.specs.Refusals.{Refuses}
 use Rattle.screen.specs.State.{State, state, refusal}
 use Rattle.screen_desk.specs.Codes.{Answers, IsRefusal, code_of, done, done_code, shut}
 use Rattle.screen_desk.specs.Desk.{Standing, StandsFor, IsListOf, due_by, far_or_none, region_due}

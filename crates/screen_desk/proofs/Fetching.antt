@@ -1,8 +1,8 @@
 -- Inputs as they are fetched, one by one.
 use Rattle.std.proofs.Common.{◌≡◌, ◌≢◌, ℕ, zero, suc, ◌+◌, ◌<◌, ◌≤◌, List, [], ◌∷◌, ◌++◌, map, length, drop, Bool, false, refl, sym, ap, ◌∙◌, arith, slice_set, add-one, append_assoc, length-append}
 use Rattle.std.proofs.lemmas.List.{length-map, map-append, append-nil}
-use Rattle.messages.specs.declared.Input.{Input}
-use Rattle.messages.specs.declared.Input.TheVariants.{Key, Pointer, Text}
+use Rattle.screen.specs.declared.Input.{Input}
+use Rattle.screen.specs.declared.Input.TheVariants.{Key, Pointer, Text}
 use Rattle.screen_desk.specs.declared.told.Told.{Told}
 use Rattle.screen_desk.specs.Inputs.{told_as, is_text, last_text, fetched, IsFetched}
 

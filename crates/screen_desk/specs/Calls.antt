@@ -2,11 +2,11 @@
 use Rattle.std.specs.Prelude.{◌≡◌, ◌≢◌, ◌⊎◌, ℕ, ◌+◌, ◌*◌, ◌^◌, nat_lt, min, ℤ, pos, ◌<ℤ◌, ◌≤ℤ◌, ◌&&◌, if◌then◌else◌, List, [], ◌∷◌, ◌++◌, length, drop, take, slice_index, Option, Some, None, option_map, MatchOption}
 use Rattle.std.specs.Map.{keys_of}
 use Rattle.region.specs.declared.Rect.{Rect}
-use Rattle.scene.specs.declared.Config.{Config}
-use Rattle.scene.specs.declared.Event.{Event}
-use Rattle.scene.specs.declared.Event.TheVariants.{Connect, Hear, Cut, Close}
-use Rattle.scene.specs.Alone.{config_refusal, something_to_send, some_bytes}
-use Rattle.scene.specs.Answers.{answer_to}
+use Rattle.screen.specs.declared.Config.{Config}
+use Rattle.screen.specs.declared.Event.{Event}
+use Rattle.screen.specs.declared.Event.TheVariants.{Connect, Hear, Cut, Close}
+use Rattle.screen.specs.Alone.{config_refusal, something_to_send, some_bytes}
+use Rattle.screen.specs.Answers.{answer_to}
 use Rattle.viewer.specs.Viewer.{KeptViewer}
 use Rattle.screen.specs.State.{State, state, viewer_at}
 use Rattle.screen_desk.specs.Codes.{Answers, code_of, done, fault_code, no_viewer, off_screen, one_or_zero, out_of_memory, shut, truth_code}

@@ -1,9 +1,9 @@
 -- The numbers that calls answer: 0 and more where they are done, below 0 where they are refused.
 use Rattle.std.specs.Prelude.{◌≡◌, ◌≢◌, ◌⊎◌, ℕ, ◌+◌, ℤ, pos, neg_ℤ, Bool, if◌then◌else◌, Option, Some, None, Result, Ok, Err}
-use Rattle.messages.specs.declared.Fault.{Fault}
-use Rattle.messages.specs.declared.Fault.TheVariants as fault
-use Rattle.scene.specs.declared.ScreenError.{ScreenError}
-use Rattle.scene.specs.declared.ScreenError.TheVariants as refusals
+use Rattle.screen.specs.declared.Fault.{Fault}
+use Rattle.screen.specs.declared.Fault.TheVariants as fault
+use Rattle.screen.specs.declared.ScreenError.{ScreenError}
+use Rattle.screen.specs.declared.ScreenError.TheVariants as refusals
 
 abbrev pub minus : ℕ → ℤ
 minus n = neg_ℤ (pos n)

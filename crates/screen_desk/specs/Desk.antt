@@ -5,11 +5,11 @@ use Rattle.region.specs.declared.Rect.{Rect}
 use Rattle.region.specs.Region.{covers, IsCanonical}
 use Rattle.region.specs.RegionView.{in_range}
 use Rattle.screen_desk.specs.declared.corners.Corners.{Corners}
-use Rattle.messages.specs.declared.Input.{Input}
-use Rattle.scene.specs.declared.Config.{Config}
-use Rattle.scene.specs.declared.History.TheVariants.{NotKept}
-use Rattle.scene.specs.declared.Event.{Event}
-use Rattle.scene.specs.declared.Event.TheVariants.{Cut}
+use Rattle.screen.specs.declared.Input.{Input}
+use Rattle.screen.specs.declared.Config.{Config}
+use Rattle.screen.specs.declared.History.TheVariants.{NotKept}
+use Rattle.screen.specs.declared.Event.{Event}
+use Rattle.screen.specs.declared.Event.TheVariants.{Cut}
 use Rattle.screen.specs.State.{State, state, refusal, viewer_at}
 use Rattle.screen_desk.specs.Codes.{code_of, no_viewer, out_of_range, output_waits, shut}
 

@@ -1,7 +1,7 @@
 -- What viewers told, as a program in C is given it.
 use Rattle.std.specs.Prelude.{◌≡◌, drop, ℕ, zero, suc, Bool, true, false, if◌then◌else◌, List, [], ◌∷◌, ◌++◌, map, take, length, flat_map}
-use Rattle.messages.specs.declared.Input.{Input}
-use Rattle.messages.specs.declared.Input.TheVariants.{Key, Pointer, Text}
+use Rattle.screen.specs.declared.Input.{Input}
+use Rattle.screen.specs.declared.Input.TheVariants.{Key, Pointer, Text}
 use Rattle.screen_desk.specs.declared.told.Told.{Told}
 
 -- each with the number of the viewer that told it

@@ -1,8 +1,8 @@
 //! The numbers that calls answer.
 
 ghost use Rattle.std.specs.Prelude.{◌≡◌, ◌≢◌, pos, Option, option_map, MatchResult};
-ghost use Rattle.scene.specs.declared.ScreenError.{ScreenError};
-ghost use Rattle.scene.specs.Refusals.{Refuses};
+ghost use Rattle.screen.specs.declared.ScreenError.{ScreenError};
+ghost use Rattle.screen.specs.Refusals.{Refuses};
 ghost use Rattle.screen_desk.specs.Codes as code;
 ghost use Rattle.screen_desk.specs.Codes.{Answers};
 

@@ -2,16 +2,16 @@
 
 ghost use Rattle.std.specs.Prelude.{◌≡◌, ◌≢◌, ◌≤◌, ◌<◌, ◌^◌, ◌-◌, ◌+◌, ◌++◌, ◌∷◌, [], ℕ, List, pos, map, length, min, take, drop, Some, None, MatchOption, IfSome};
 ghost use Rattle.std.specs.Map.{keys_of};
-ghost use Rattle.messages.specs.Reading.{fault_in_rest, is_open_rest};
+ghost use Rattle.screen.specs.Reading.{fault_in_rest, is_open_rest};
 ghost use Rattle.viewer.specs.Viewer.{is_asking};
-ghost use Rattle.scene.specs.declared.Event.{Event};
-ghost use Rattle.scene.specs.declared.History.TheVariants.{NotKept};
+ghost use Rattle.screen.specs.declared.Event.{Event};
+ghost use Rattle.screen.specs.declared.History.TheVariants.{NotKept};
 ghost use Rattle.std.specs.Prelude.{ℤ, IfOk, IfErr, OnOk, OnErr, IsOkUnless, MatchResult, is_some, not, false};
-ghost use Rattle.scene.specs.declared.Config.{Config};
-ghost use Rattle.scene.specs.Alone.{config_refusal, some_bytes};
-ghost use Rattle.scene.specs.Answers.{answer_to};
-ghost use Rattle.scene.specs.Calls.{event_of};
-ghost use Rattle.scene.specs.Refusals.{Refuses};
+ghost use Rattle.screen.specs.declared.Config.{Config};
+ghost use Rattle.screen.specs.Alone.{config_refusal, some_bytes};
+ghost use Rattle.screen.specs.Answers.{answer_to};
+ghost use Rattle.screen.specs.Calls.{event_of};
+ghost use Rattle.screen.specs.Refusals.{Refuses};
 ghost use Rattle.screen.specs.State.{state, refusal, viewer_at};
 ghost use Rattle.screen_desk.specs.Codes as code;
 ghost use Rattle.screen_desk.specs.Codes.{IsRefusal};

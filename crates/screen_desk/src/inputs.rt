@@ -21,7 +21,7 @@ pub(crate) struct ToldAtOnce {
 
 impl Model for ToldAtOnce {
     ghost use Rattle.std.specs.Prelude.{ℕ, List, reverse};
-    ghost use Rattle.messages.specs.declared.Input.{Input};
+    ghost use Rattle.screen.specs.declared.Input.{Input};
     ghost use Rattle.screen_desk.specs.Inputs.{told_by};
 
     ghost Value = { List (ℕ × Input) };

@@ -5,16 +5,16 @@ use Rattle.std.specs.Prelude.{OnOk, OnErr, MatchResult, option_map, not}
 use Rattle.std.specs.List.{list_any}
 use Rattle.region.specs.declared.Rect.{Rect}
 use Rattle.region.specs.RegionView.{in_range}
-use Rattle.messages.specs.declared.Input.{Input}
-use Rattle.scene.specs.declared.Config.{Config}
-use Rattle.scene.specs.declared.Event.{Event}
-use Rattle.scene.specs.declared.ScreenError.{ScreenError}
-use Rattle.scene.specs.declared.call.Drawing.{Drawing}
-use Rattle.scene.specs.declared.call.Drawing.TheVariants.{Write, Paint, MarkRect, MarkRegion, ScheduleCopyRect, ScheduleCopyRegion, DoCopyRect, DoCopyRegion, Bell, CutText, NewFramebuffer}
-use Rattle.scene.specs.Alone.{owner_of}
-use Rattle.scene.specs.Answers.{is_drawing}
-use Rattle.scene.specs.Calls.{event_of}
-use Rattle.scene.specs.Refusals.{Refuses}
+use Rattle.screen.specs.declared.Input.{Input}
+use Rattle.screen.specs.declared.Config.{Config}
+use Rattle.screen.specs.declared.Event.{Event}
+use Rattle.screen.specs.declared.ScreenError.{ScreenError}
+use Rattle.screen.specs.declared.Drawing.{Drawing}
+use Rattle.screen.specs.declared.Drawing.TheVariants.{Write, Paint, MarkRect, MarkRegion, ScheduleCopyRect, ScheduleCopyRegion, DoCopyRect, DoCopyRegion, Bell, CutText, NewFramebuffer}
+use Rattle.screen.specs.Alone.{owner_of}
+use Rattle.screen.specs.Answers.{is_drawing}
+use Rattle.screen.specs.Calls.{event_of}
+use Rattle.screen.specs.Refusals.{Refuses}
 use Rattle.screen.specs.State.{State, state, refusal}
 use Rattle.connections.specs.Drawing.{Surface, IsNotedAfter, IsDrawnFrom, are_drawings, has_notice}
 use Rattle.connections.specs.Serving.{Serving, Serves, drawn_is_served}

@@ -1,12 +1,12 @@
 -- A program's own pixels.
 use Rattle.std.proofs.Common.{◌≡◌, ◌⊎◌, ℕ, ℤ, pos, min, ◌^◌, true, false, true≢false, List, [], ◌∷◌, ◌++◌, Option, Some, None, Result, Ok, Err, refl, sym, ap, ◌∙◌, inl, inr, subst}
 use Rattle.std.specs.Prelude.{MatchResult}
-use Rattle.messages.specs.declared.Input.{Input}
-use Rattle.scene.specs.declared.Config.{Config}
-use Rattle.scene.specs.declared.Event.{Event}
-use Rattle.scene.specs.declared.ScreenError.{ScreenError}
-use Rattle.scene.specs.declared.ScreenError.TheVariants.{OutOfMemory}
-use Rattle.scene.specs.Alone.{config_refusal}
+use Rattle.screen.specs.declared.Input.{Input}
+use Rattle.screen.specs.declared.Config.{Config}
+use Rattle.screen.specs.declared.Event.{Event}
+use Rattle.screen.specs.declared.ScreenError.{ScreenError}
+use Rattle.screen.specs.declared.ScreenError.TheVariants.{OutOfMemory}
+use Rattle.screen.specs.Alone.{config_refusal}
 use Rattle.screen.specs.State.{State, state}
 use Rattle.source_pixels.specs.declared.pieces.Piece.{Piece}
 use Rattle.source_pixels.specs.Source.{Source}

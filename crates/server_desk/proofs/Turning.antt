@@ -1,13 +1,13 @@
 -- Turns, and what begins them.
 use Rattle.std.proofs.Common.{◌≡◌, ◌≢◌, ◌≤◌, ◌-◌, ℕ, zero, suc, ℤ, List, [], ◌∷◌, ◌++◌, length, take, Option, Some, None, Result, Ok, Err, refl, sym, ap, ◌∙◌, inl, inr, subst, append-nil, arith}
 use Rattle.std.specs.Prelude.{MatchOption, IfErr, option_map, ◌⊎◌}
-use Rattle.messages.specs.declared.Input.{Input}
-use Rattle.scene.specs.declared.Config.{Config}
-use Rattle.scene.specs.declared.Event.{Event}
-use Rattle.scene.specs.declared.ScreenError.{ScreenError}
-use Rattle.scene.specs.declared.ScreenError.TheVariants.{OutOfMemory}
-use Rattle.scene.specs.declared.ScreenError.TheVariants as refusals
-use Rattle.scene.specs.Alone.{config_refusal}
+use Rattle.screen.specs.declared.Input.{Input}
+use Rattle.screen.specs.declared.Config.{Config}
+use Rattle.screen.specs.declared.Event.{Event}
+use Rattle.screen.specs.declared.ScreenError.{ScreenError}
+use Rattle.screen.specs.declared.ScreenError.TheVariants.{OutOfMemory}
+use Rattle.screen.specs.declared.ScreenError.TheVariants as refusals
+use Rattle.screen.specs.Alone.{config_refusal}
 use Rattle.connections.specs.Serving.{Serving, Serves}
 use Rattle.event_loop.specs.Sockets.{sockets, GoesOnServing}
 use Rattle.event_loop.specs.declared.event_loop.LoopError.{LoopError}

@@ -3,9 +3,9 @@ use Rattle.std.specs.Prelude.{◌≡◌, ◌≢◌, ℕ, ◌-◌, ℤ, List, [],
 use Rattle.std.specs.List.{list_any}
 use Rattle.region.specs.declared.Rect.{Rect}
 use Rattle.region.specs.RegionView.{in_range}
-use Rattle.messages.specs.declared.Input.{Input}
-use Rattle.scene.specs.declared.Config.{Config}
-use Rattle.scene.specs.declared.Event.{Event}
+use Rattle.screen.specs.declared.Input.{Input}
+use Rattle.screen.specs.declared.Config.{Config}
+use Rattle.screen.specs.declared.Event.{Event}
 use Rattle.screen.specs.State.{State}
 use Rattle.connections.specs.Serving.{Serving, Serves}
 use Rattle.event_loop.specs.Sockets.{sockets}

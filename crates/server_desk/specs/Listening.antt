@@ -1,7 +1,7 @@
 -- Why a screen is not served.
 use Rattle.std.specs.Prelude.{◌≡◌, ℤ, Option, Result, Err, MatchOption, IfErr}
-use Rattle.scene.specs.declared.ScreenError.{ScreenError}
-use Rattle.scene.specs.declared.ScreenError.TheVariants.{OutOfMemory}
+use Rattle.screen.specs.declared.ScreenError.{ScreenError}
+use Rattle.screen.specs.declared.ScreenError.TheVariants.{OutOfMemory}
 use Rattle.screen_desk.specs.Codes.{code_of}
 use Rattle.server_desk.specs.Codes.{bad_address, cannot_listen}
 use Rattle.server_desk.specs.declared.listening.ListenError.{ListenError}

@@ -1,9 +1,9 @@
 //! The desk: the calls of a server, and what waits to be fetched.
 
 ghost use Rattle.std.specs.Prelude.{◌≡◌, ◌≤◌, ◌∷◌, [], ◌^◌, pos, map, min, length, None, IfOk, IfErr, OnOk, is_some, count_by};
-ghost use Rattle.scene.specs.declared.Event.{Event};
-ghost use Rattle.scene.specs.Alone.{config_refusal};
-ghost use Rattle.scene.specs.Calls.{event_of};
+ghost use Rattle.screen.specs.declared.Event.{Event};
+ghost use Rattle.screen.specs.Alone.{config_refusal};
+ghost use Rattle.screen.specs.Calls.{event_of};
 ghost use Rattle.screen_desk.specs.Codes as codes;
 ghost use Rattle.screen_desk.specs.Codes.{IsRefusal};
 ghost use Rattle.screen_desk.specs.Calls.{colour_at};

@@ -3,7 +3,7 @@
 ghost use Rattle.std.specs.Prelude.{◌≡◌, [], IfOk, IfErr};
 ghost use Rattle.connections.specs.Serving.{Serves};
 ghost use Rattle.event_loop.specs.Sockets.{sockets};
-ghost use Rattle.scene.specs.Alone.{config_refusal};
+ghost use Rattle.screen.specs.Alone.{config_refusal};
 ghost use Rattle.screen_desk.specs.Desk.{config_of};
 ghost use Rattle.server_desk.specs.Listening.{IsOfSystem, IsRefusedBy, listen_code};
 

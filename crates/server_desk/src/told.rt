@@ -15,7 +15,7 @@ pub(crate) struct ToldBy {
 
 impl Model for ToldBy {
     ghost use Rattle.std.specs.Prelude.{ℕ};
-    ghost use Rattle.messages.specs.declared.Input.{Input};
+    ghost use Rattle.screen.specs.declared.Input.{Input};
 
     ghost Value = { ℕ × Input };
 

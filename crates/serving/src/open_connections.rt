@@ -2,7 +2,7 @@
 
 ghost use Rattle.std.specs.Prelude.{◌≡◌, true, false, IsOkUnless};
 ghost use Rattle.serving.specs.declared.serving.ServeError.TheVariants as error;
-ghost use Rattle.scene.specs.declared.ScreenError.TheVariants as refusal;
+ghost use Rattle.screen.specs.declared.ScreenError.TheVariants as refusal;
 
 use crate::serving::ServeError;
 use screen::ScreenError;

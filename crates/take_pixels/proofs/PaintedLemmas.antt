@@ -9,8 +9,8 @@ use Rattle.std.proofs.lemmas.List.{get_or-take, get_or-drop, length-take, length
 use Rattle.std.proofs.lemmas.List.FromFn.{length-map-range_with_len, get_or-map-range_with_len}
 use Rattle.region.specs.Region.{in_rect, on_screen}
 use Rattle.region.specs.PlaceLemmas.{row_below, on_screen-number, at_place-number, by_place-numbers, value_on}
-use Rattle.framebuffer.specs.Frame.{Frame, IsPicture}
-use Rattle.framebuffer.specs.Picture.{written, colour_at, colour_in}
+use Rattle.screen.specs.Frame.{Frame, IsPicture}
+use Rattle.screen.specs.Picture.{written, colour_at, colour_in}
 use Rattle.source_pixels.specs.declared.pieces.Piece.{Piece}
 use Rattle.source_pixels.specs.declared.pieces.Differences.{Differences}
 use Rattle.source_pixels.specs.Parts.{Part}

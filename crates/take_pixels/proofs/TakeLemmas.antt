@@ -3,12 +3,12 @@ use Rattle.std.proofs.Common.{◌≡◌, ℕ, List, ◌++◌, Option, None, Resu
 use Rattle.std.specs.Prelude.{All, MatchOption, ◌⊎◌}
 use Rattle.std.proofs.lemmas.List.{get_or-take, length-take}
 use Rattle.region.specs.declared.Rect.{Rect}
-use Rattle.framebuffer.specs.Frame.{Frame, IsPicture}
-use Rattle.scene.specs.declared.Config.{Config}
-use Rattle.scene.specs.declared.ScreenError.{ScreenError}
-use Rattle.scene.specs.declared.ScreenError.TheVariants.{OutOfMemory}
-use Rattle.scene.specs.declared.Event.{Event}
-use Rattle.scene.specs.Alone.{config_refusal, pixels_refusal}
+use Rattle.screen.specs.Frame.{Frame, IsPicture}
+use Rattle.screen.specs.declared.Config.{Config}
+use Rattle.screen.specs.declared.ScreenError.{ScreenError}
+use Rattle.screen.specs.declared.ScreenError.TheVariants.{OutOfMemory}
+use Rattle.screen.specs.declared.Event.{Event}
+use Rattle.screen.specs.Alone.{config_refusal, pixels_refusal}
 use Rattle.screen.specs.State.{State, state}
 use Rattle.source_pixels.specs.declared.pieces.Piece.{Piece}
 use Rattle.source_pixels.specs.declared.pieces.Differences.{Differences}

@@ -1,6 +1,6 @@
 -- Worked values, which compute.
 use Rattle.std.specs.Prelude.{◌≡◌, ℕ, List, [], ◌∷◌, refl}
-use Rattle.framebuffer.specs.Frame.{Frame}
+use Rattle.screen.specs.Frame.{Frame}
 use Rattle.source_pixels.specs.declared.pieces.Piece.{Piece}
 use Rattle.source_pixels.specs.declared.formats.SourceFormat.TheVariants as kind
 use Rattle.source_pixels.specs.Source.{Source}

@@ -1,8 +1,8 @@
 -- Rectangles of a source as the events that paint them.
 use Rattle.std.specs.Prelude.{ℕ, List, map}
 use Rattle.source_pixels.specs.declared.pieces.Piece.{Piece}
-use Rattle.scene.specs.declared.Event.{Event}
-use Rattle.scene.specs.declared.Event.TheVariants.{Paint}
+use Rattle.screen.specs.declared.Event.{Event}
+use Rattle.screen.specs.declared.Event.TheVariants.{Paint}
 use Rattle.take_pixels.specs.Taken.{piece_rect}
 
 abbrev pub paint_of : ℕ → ℕ → Piece → Event

@@ -1,10 +1,10 @@
 //! What differs is found, and painted.
 
 ghost use Rattle.std.specs.Prelude.{◌≡◌, ◌+◌, ◌^◌, ◌<◌, ◌++◌, None, List, IfOk};
-ghost use Rattle.framebuffer.specs.Frame.{IsPicture};
-ghost use Rattle.scene.specs.declared.Config.{Config};
-ghost use Rattle.scene.specs.declared.Event.{Event};
-ghost use Rattle.scene.specs.Alone.{config_refusal};
+ghost use Rattle.screen.specs.Frame.{IsPicture};
+ghost use Rattle.screen.specs.declared.Config.{Config};
+ghost use Rattle.screen.specs.declared.Event.{Event};
+ghost use Rattle.screen.specs.Alone.{config_refusal};
 ghost use Rattle.screen.specs.State.{state};
 ghost use Rattle.source_pixels.specs.declared.pieces.Piece.{Piece};
 ghost use Rattle.source_pixels.specs.Source.{source_refusal};

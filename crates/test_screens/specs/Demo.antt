@@ -2,10 +2,10 @@
 use Rattle.std.specs.Prelude.{ℕ, pos, List, ◌∷◌, [], ◌++◌, codes}
 use Rattle.pixel_translate.specs.Pixel.{be16}
 use Rattle.region.specs.declared.Rect.{Rect}
-use Rattle.scene.specs.declared.Config.{Config}
-use Rattle.scene.specs.declared.History.{History}
-use Rattle.scene.specs.declared.Event.{Event}
-use Rattle.scene.specs.declared.Event.TheVariants.{Paint, Connect, Hear, Cut}
+use Rattle.screen.specs.declared.Config.{Config}
+use Rattle.screen.specs.declared.History.{History}
+use Rattle.screen.specs.declared.Event.{Event}
+use Rattle.screen.specs.declared.Event.TheVariants.{Paint, Connect, Hear, Cut}
 
 -- a screen named demo: its width and height, how many rectangles an update has at most, whether events are kept
 abbrev pub demo_config : ℕ × ℕ → ℕ → History → Config

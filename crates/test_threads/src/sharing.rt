@@ -1,7 +1,7 @@
 //! A screen of 4 columns and 3 rows that threads share.
 
 ghost use Rattle.std.specs.Prelude.{◌≡◌, ◌<◌, None, IfOk};
-ghost use Rattle.scene.specs.Alone.{config_refusal};
+ghost use Rattle.screen.specs.Alone.{config_refusal};
 
 use listed::Listed;
 use screen::{Config, History, ScreenError};

@@ -5,14 +5,14 @@ use Rattle.std.specs.List.{list_any, filter_map, cons_option}
 use Rattle.std.specs.Map.{lookup}
 use Rattle.messages.specs.Reading.{Rest}
 use Rattle.viewer.specs.Viewer.{Viewer, KeptViewer, kept_viewer}
-use Rattle.scene.specs.declared.Config.{Config}
-use Rattle.scene.specs.declared.ScreenError.{ScreenError}
-use Rattle.scene.specs.declared.ScreenError.TheVariants as refusals
-use Rattle.scene.specs.Refusals.{presence, Refuses}
-use Rattle.scene.specs.declared.Event.{Event}
-use Rattle.scene.specs.declared.Event.TheVariants.{Write, Paint, Mark, ScheduleCopy, DoCopy, Bell, CutText, Resize, Connect, Hear, Cut, Close}
-use Rattle.scene.specs.Answers.{entry_of, viewer_of, after_arrival, live_from}
-use Rattle.scene.specs.History.{connects}
+use Rattle.screen.specs.declared.Config.{Config}
+use Rattle.screen.specs.declared.ScreenError.{ScreenError}
+use Rattle.screen.specs.declared.ScreenError.TheVariants as refusals
+use Rattle.screen.specs.Refusals.{presence, Refuses}
+use Rattle.screen.specs.declared.Event.{Event}
+use Rattle.screen.specs.declared.Event.TheVariants.{Write, Paint, Mark, ScheduleCopy, DoCopy, Bell, CutText, Resize, Connect, Hear, Cut, Close}
+use Rattle.screen.specs.Answers.{entry_of, viewer_of, after_arrival, live_from}
+use Rattle.screen.specs.History.{connects}
 use Rattle.screen.specs.State.{State, state, viewer_at}
 use Rattle.update_sender.specs.Numbers.{rises, newest, is_next}
 use Rattle.update_sender.specs.Locked.{Stands}

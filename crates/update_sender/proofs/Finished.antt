@@ -1,10 +1,10 @@
 -- The history that a screen keeps is the one that it stands for.
 use Rattle.std.proofs.Common.{◌≡◌, ℕ, List, Option, Some, None, sym, ap, ◌∙◌, subst}
-use Rattle.scene.specs.declared.Config.{Config}
-use Rattle.scene.specs.declared.Event.{Event}
-use Rattle.scene.specs.declared.History.{History}
-use Rattle.scene.specs.declared.History.TheVariants.{Kept, NotKept}
-use Rattle.scene.specs.History.{accepted}
+use Rattle.screen.specs.declared.Config.{Config}
+use Rattle.screen.specs.declared.Event.{Event}
+use Rattle.screen.specs.declared.History.{History}
+use Rattle.screen.specs.declared.History.TheVariants.{Kept, NotKept}
+use Rattle.screen.specs.History.{accepted}
 use Rattle.screen.specs.State.{State, state, history_by}
 use Rattle.std.specs.Prelude.{Result}
 use Rattle.std.proofs.Common.{inl}

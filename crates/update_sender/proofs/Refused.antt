@@ -2,11 +2,11 @@
 use Rattle.std.specs.Prelude.{Result, Ok, Err, IsErrAnd, MatchOption}
 use Rattle.std.proofs.lemmas.Result.{err_from_is_err_and}
 use Rattle.std.proofs.Common.{◌≡◌, Option, Some, None, sym, ap, ◌∙◌, subst}
-use Rattle.scene.specs.declared.ScreenError.{ScreenError}
-use Rattle.scene.specs.declared.ScreenError.TheVariants as refusals
-use Rattle.scene.specs.declared.Answer.{Answer}
-use Rattle.scene.specs.Alone.{Tells}
-use Rattle.scene.specs.Refusals.{Refuses}
+use Rattle.screen.specs.declared.ScreenError.{ScreenError}
+use Rattle.screen.specs.declared.ScreenError.TheVariants as refusals
+use Rattle.screen.specs.declared.Answer.{Answer}
+use Rattle.screen.specs.Alone.{Tells}
+use Rattle.screen.specs.Refusals.{Refuses}
 
 -- an error that is handed on
 pub same-error : {X : Type 0} (r : Result X ScreenError) (e : ScreenError) → IsErrAnd r (λ y. y ≡ e) → r ≡ Err e

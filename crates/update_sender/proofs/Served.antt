@@ -10,9 +10,9 @@ use Rattle.std.specs.Io.KnownBytes.{Appends, Consumes, ReadConsumes}
 use Rattle.std.proofs.KnownBytes.{Appends-trans, Appends-nil, Consumes-trans, Consumes-nil, Consumes-kept}
 use Rattle.std.specs.List.{concat}
 use Rattle.messages.specs.declared.Fault.{Fault as Met}
-use Rattle.scene.specs.declared.Answer.{Answer}
-use Rattle.scene.specs.declared.ScreenError.{ScreenError}
-use Rattle.scene.specs.declared.ScreenError.TheVariants.{NoViewer, OutOfMemory}
+use Rattle.screen.specs.declared.Answer.{Answer}
+use Rattle.screen.specs.declared.ScreenError.{ScreenError}
+use Rattle.screen.specs.declared.ScreenError.TheVariants.{NoViewer, OutOfMemory}
 use Rattle.receipts.specs.declared.Ended.{Ended}
 use Rattle.receipts.specs.declared.Ended.TheVariants.{EndOfInput, Fault, ReadFailed, WriteFailed, Memory, Gate, Closed, Stopped}
 use Rattle.update_sender.specs.Ends.{Listening, Speaking, counted, listened, without_waiting, has_sent, has_cut}

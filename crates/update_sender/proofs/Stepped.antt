@@ -2,20 +2,20 @@
 use Rattle.std.proofs.Common.{◌≡◌, ℕ, suc, Bool, true, false, List, [], ◌∷◌, ◌++◌, length, Option, Some, None, Result, Ok, Err, sym, refl, ap, ◌∙◌, subst, arith, lt-ltb}
 use Rattle.std.specs.Prelude.{◌≢◌, ◌&&◌, ◌+◌, nat_lt, is_none, if◌then◌else◌, IfSome, MatchOption}
 use Rattle.std.proofs.lemmas.List.{append-nil, append_assoc, length_push}
-use Rattle.scene.specs.declared.Config.{Config}
-use Rattle.scene.specs.declared.ScreenError.{ScreenError}
-use Rattle.scene.specs.declared.Answer.{Answer}
-use Rattle.scene.specs.declared.Event.{Event}
-use Rattle.scene.specs.declared.Event.TheVariants.{Write, Paint, Mark, ScheduleCopy, DoCopy, Bell, CutText, Resize, Connect, Hear, Cut, Close}
-use Rattle.scene.specs.Alone.{Tells, owner_of, some_bytes, gives}
-use Rattle.scene.specs.Answers.{answer_to, is_drawing}
-use Rattle.scene.specs.History.{has_happened, accepted_after, accepted, drawings, connects}
+use Rattle.screen.specs.declared.Config.{Config}
+use Rattle.screen.specs.declared.ScreenError.{ScreenError}
+use Rattle.screen.specs.declared.Answer.{Answer}
+use Rattle.screen.specs.declared.Event.{Event}
+use Rattle.screen.specs.declared.Event.TheVariants.{Write, Paint, Mark, ScheduleCopy, DoCopy, Bell, CutText, Resize, Connect, Hear, Cut, Close}
+use Rattle.screen.specs.Alone.{Tells, owner_of, some_bytes, gives}
+use Rattle.screen.specs.Answers.{answer_to, is_drawing}
+use Rattle.screen.specs.History.{has_happened, accepted_after, accepted, drawings, connects}
 use Rattle.screen.specs.State.{State, state, kept_is_enough}
 use Rattle.update_sender.specs.Numbers.{rises, newest, is_next}
 use Rattle.update_sender.specs.Locked.{Stands}
-use Rattle.scene.specs.Calls.{event_of}
-use Rattle.scene.specs.declared.call.Drawing.{Drawing}
-use Rattle.scene.specs.declared.call.Drawing.TheVariants as calls
+use Rattle.screen.specs.Calls.{event_of}
+use Rattle.screen.specs.declared.Drawing.{Drawing}
+use Rattle.screen.specs.declared.Drawing.TheVariants as calls
 
 -- ---- what happened
 

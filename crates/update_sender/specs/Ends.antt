@@ -2,8 +2,8 @@
 use Rattle.std.specs.Prelude.{◌≡◌, ℕ, ◌+◌, ◌-◌, ◌^◌, min, length, List, [], ◌∷◌, ◌++◌, Option, Some, None, option_map, unwrap_or}
 use Rattle.messages.specs.declared.Input.{Input}
 use Rattle.messages.specs.Server.{server_version}
-use Rattle.scene.specs.declared.Event.{Event}
-use Rattle.scene.specs.declared.History.{History}
+use Rattle.screen.specs.declared.Event.{Event}
+use Rattle.screen.specs.declared.History.{History}
 use Rattle.screen.specs.State.{history_by}
 
 -- all of what may not be kept; nothing where it isn't

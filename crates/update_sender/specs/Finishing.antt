@@ -1,10 +1,10 @@
 -- What a run shows once its threads have ended.
 use Rattle.std.specs.Prelude.{◌≡◌, ◌<◌, ℕ, true, List, length, Option, Some, None, Result, Err, IfOk, IfErr, ◌⊎◌}
-use Rattle.scene.specs.declared.Config.{Config}
-use Rattle.scene.specs.declared.History.{History}
-use Rattle.scene.specs.declared.History.TheVariants.{Kept, NotKept}
-use Rattle.scene.specs.declared.Event.{Event}
-use Rattle.scene.specs.History.{drawings, connects}
+use Rattle.screen.specs.declared.Config.{Config}
+use Rattle.screen.specs.declared.History.{History}
+use Rattle.screen.specs.declared.History.TheVariants.{Kept, NotKept}
+use Rattle.screen.specs.declared.Event.{Event}
+use Rattle.screen.specs.History.{drawings, connects}
 use Rattle.receipts.specs.declared.Receipt.{Receipt}
 use Rattle.receipts.specs.declared.Report.{Report}
 use Rattle.receipts.specs.declared.FinishError.{FinishError}

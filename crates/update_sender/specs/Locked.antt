@@ -2,11 +2,11 @@
 use Rattle.std.specs.Prelude.{◌≡◌, ◌≢◌, ℕ, suc, Bool, true, false, List, [], ◌∷◌, ◌++◌, length, Option, Some, None}
 use Rattle.messages.specs.Reading.{fault_in_rest, is_open_rest}
 use Rattle.viewer.specs.Viewer.{KeptViewer}
-use Rattle.scene.specs.declared.Answer.{Answer}
-use Rattle.scene.specs.declared.Event.{Event}
-use Rattle.scene.specs.declared.Event.TheVariants.{Cut}
-use Rattle.scene.specs.Alone.{gives}
-use Rattle.scene.specs.History.{accepted, drawings, connects}
+use Rattle.screen.specs.declared.Answer.{Answer}
+use Rattle.screen.specs.declared.Event.{Event}
+use Rattle.screen.specs.declared.Event.TheVariants.{Cut}
+use Rattle.screen.specs.Alone.{gives}
+use Rattle.screen.specs.History.{accepted, drawings, connects}
 use Rattle.screen.specs.State.{State, state, viewer_at}
 use Rattle.update_sender.specs.declared.turn.Turn.{Turn}
 use Rattle.update_sender.specs.declared.turn.Turn.TheVariants.{Send, Stopped, Closed, Faulty}

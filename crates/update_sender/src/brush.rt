@@ -2,11 +2,11 @@
 //! the screen is held.
 
 ghost use Rattle.std.specs.Prelude.{◌≡◌, ◌<◌, ◌∷◌, [], ℕ, true, OnOk, OnErr, IfOk, IsOkUnless, is_some};
-ghost use Rattle.scene.specs.declared.Event.{Event};
-ghost use Rattle.scene.specs.declared.ScreenError.TheVariants as refusals;
-ghost use Rattle.scene.specs.Alone.{pixels_refusal, size_refusal, text_refusal};
-ghost use Rattle.scene.specs.Refusals.{Refuses};
-ghost use Rattle.scene.specs.Calls.{call_refusal, event_of};
+ghost use Rattle.screen.specs.declared.Event.{Event};
+ghost use Rattle.screen.specs.declared.ScreenError.TheVariants as refusals;
+ghost use Rattle.screen.specs.Alone.{pixels_refusal, size_refusal, text_refusal};
+ghost use Rattle.screen.specs.Refusals.{Refuses};
+ghost use Rattle.screen.specs.Calls.{call_refusal, event_of};
 ghost use Rattle.update_sender.specs.Ends.{drew};
 ghost use Rattle.kept_list.specs.Kept.{HasRoom};
 ghost use Rattle.screen.specs.State.{history_by};
@@ -30,7 +30,7 @@ pub struct Brush<L: Ledger> {
 
 impl<L: Ledger> Model for Brush<L> {
     ghost use Rattle.std.specs.Prelude.{◌≡◌, ◌<◌, List, Option};
-    ghost use Rattle.scene.specs.declared.Event.{Event};
+    ghost use Rattle.screen.specs.declared.Event.{Event};
     ghost use Rattle.update_sender.specs.Ends.{Counts};
 
     ghost Value = { Option (List Event) };

@@ -1,8 +1,8 @@
 //! What a run shows once its threads have ended: a viewer's receipt of its two halves, and all receipts against the history.
 
 ghost use Rattle.std.specs.Prelude.{◌≡◌, None, Some, MatchOption, length, true};
-ghost use Rattle.scene.specs.Alone.{config_refusal};
-ghost use Rattle.scene.specs.History.{drawings, connects};
+ghost use Rattle.screen.specs.Alone.{config_refusal};
+ghost use Rattle.screen.specs.History.{drawings, connects};
 ghost use Rattle.update_sender.specs.Numbers.{rises};
 ghost use Rattle.update_sender.specs.Finishing.{Finishes, Judges, JudgesDrawn};
 ghost use Rattle.update_sender.specs.Ends.{Listening};

@@ -1,7 +1,7 @@
 //! A viewer's ends: a line once it connected, and then one that listens and one that speaks.
 
 ghost use Rattle.std.specs.Prelude.{◌≡◌, ◌≤◌};
-ghost use Rattle.scene.specs.declared.History.{History};
+ghost use Rattle.screen.specs.declared.History.{History};
 ghost use Rattle.messages.specs.Server.{server_version};
 ghost use Rattle.update_sender.specs.Ends.{greeted, listened, has_cut, without_waiting};
 

@@ -4,15 +4,15 @@
 ghost use Rattle.std.specs.Prelude.{◌≡◌, List, [], None, Some, true, OnOk, OnErr, IfOk, MatchBool, MatchOption, IsOkUnless, ◌+◌};
 ghost use Rattle.std.specs.Prelude.{◌<◌, ◌≢◌, is_some, Ok, IfSome};
 ghost use Rattle.messages.specs.Server.{server_version};
-ghost use Rattle.scene.specs.declared.Config.{Config};
-ghost use Rattle.scene.specs.declared.Event.{Event};
-ghost use Rattle.scene.specs.Alone.{something_to_send, Tells, gives};
+ghost use Rattle.screen.specs.declared.Config.{Config};
+ghost use Rattle.screen.specs.declared.Event.{Event};
+ghost use Rattle.screen.specs.Alone.{something_to_send, Tells, gives};
 ghost use Rattle.viewer.specs.Given.{bytes_given};
-ghost use Rattle.scene.specs.Answers.{answer_to};
-ghost use Rattle.scene.specs.declared.ScreenError.TheVariants as refusals;
-ghost use Rattle.scene.specs.Refusals.{absence, Refuses};
+ghost use Rattle.screen.specs.Answers.{answer_to};
+ghost use Rattle.screen.specs.declared.ScreenError.TheVariants as refusals;
+ghost use Rattle.screen.specs.Refusals.{absence, Refuses};
 ghost use Rattle.screen.specs.State.{state, viewer_at, refusal};
-ghost use Rattle.scene.specs.Calls.{call_refusal, event_of};
+ghost use Rattle.screen.specs.Calls.{call_refusal, event_of};
 ghost use Rattle.update_sender.specs.Numbers.{is_next};
 ghost use Rattle.update_sender.specs.Locked.{Draws, Joins, Stands, StepsAlone, Takes, TellsTurn, HasBytes, ending, is_open_now};
 
@@ -36,7 +36,7 @@ pub struct LockedScreen<L: Ledger> {
 
 impl<L: Ledger> Model for LockedScreen<L> {
     ghost use Rattle.std.specs.Prelude.{List};
-    ghost use Rattle.scene.specs.declared.Event.{Event};
+    ghost use Rattle.screen.specs.declared.Event.{Event};
     ghost use Rattle.update_sender.specs.Locked.{Locked, Stands};
 
     ghost Value = { Locked };

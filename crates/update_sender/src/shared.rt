@@ -2,8 +2,8 @@
 //! once the lock is free. A hold after which a waiting sender may go on wakes the senders.
 
 ghost use Rattle.std.specs.Prelude.{◌≡◌, ◌≢◌, ◌<◌, ◌⊎◌, [], None, OnOk, OnErr, IfOk, IfErr, MatchOption, IsOkUnless, length};
-ghost use Rattle.scene.specs.declared.ScreenError.TheVariants as refusals;
-ghost use Rattle.scene.specs.Alone.{config_refusal};
+ghost use Rattle.screen.specs.declared.ScreenError.TheVariants as refusals;
+ghost use Rattle.screen.specs.Alone.{config_refusal};
 ghost use Rattle.update_sender.specs.Ends.{greeted, listened, has_cut};
 ghost use Rattle.kept_list.specs.Kept.{HasRoom};
 ghost use Rattle.screen.specs.State.{history_by};
@@ -32,8 +32,8 @@ pub struct Shared<L: Ledger> {
 
 impl<L: Ledger> Model for Shared<L> {
     ghost use Rattle.std.specs.Prelude.{◌≡◌, None};
-    ghost use Rattle.scene.specs.declared.Config.{Config};
-    ghost use Rattle.scene.specs.Alone.{config_refusal};
+    ghost use Rattle.screen.specs.declared.Config.{Config};
+    ghost use Rattle.screen.specs.Alone.{config_refusal};
 
     ghost Value = { Config };
 

@@ -1,6 +1,6 @@
 -- The viewers one by one.
 use Rattle.std.proofs.Common.{◌≡◌, ℕ, zero, suc, ◌+◌, ◌<◌, Bool, true, false, cond, not, List, [], ◌∷◌, ◌++◌, length, take, drop, reverse, All, Option, Some, None, true≢false, refl, sym, subst, ◌∙◌, ap, arith}
-use Rattle.std.specs.Prelude.{◌==◌, ◌≤◌, max, nat_le, slice_get}
+use Rattle.std.specs.Prelude.{◌==◌, ◌≤◌, is_some, max, nat_le, slice_get}
 use Rattle.std.specs.List.{filter_map, cons_option, filter}
 use Rattle.std.specs.Map.{keys_of, values_of, lookup}
 use Rattle.std.specs.Option.{option_map}
@@ -220,6 +220,14 @@ viewer-some s log pairs room number l is there = ap (λ (t : Viewers). viewer_of
 
 pub viewer-absent : (s : Viewers) (log : List LogEntry) (pairs : List (ℕ × Lagging)) (room number : ℕ) → record { pairs = seen log pairs; room = room } ≡ s → None ≡ lookup (λ n. n == number) pairs → viewer_of s number ≡ None
 viewer-absent s log pairs room number is away = ap (λ (t : Viewers). viewer_of t number) (sym is) ∙ seen-absent log pairs number away
+
+-- a viewer has a number where the list has it
+pub viewer-found : (s : Viewers) (log : List LogEntry) (pairs : List (ℕ × Lagging)) (room number : ℕ) → record { pairs = seen log pairs; room = room } ≡ s → is_some (lookup (λ n. n == number) pairs) ≡ is_some (viewer_of s number)
+viewer-found s log pairs room number is = go (lookup (λ n. n == number) pairs) refl
+  where
+    go : (o : Option Lagging) → o ≡ lookup (λ n. n == number) pairs → is_some o ≡ is_some (viewer_of s number)
+    go None away = sym (ap is_some (viewer-absent s log pairs room number is away))
+    go (Some l) there = sym (ap is_some (viewer-some s log pairs room number l is there))
 
 -- one viewer is another
 set-same : {T : Type 0} (pairs : List (ℕ × T)) (number : ℕ) (x : T) → Some x ≡ lookup (λ n. n == number) pairs → set_value_at pairs (index_of (keys_of pairs) number) x ≡ pairs

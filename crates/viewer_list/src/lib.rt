@@ -147,6 +147,14 @@ impl ViewerList {
         }
     }
 
+    /// Whether a viewer has the number. Calls for it that follow need no further look-up.
+    pub fn find(&mut self, number: u64) -> bool
+        ensures found { result ≡ is_some (viewer_of self.old number) }
+        ensures same { self.new ≡ self.old }
+    {
+        self.viewers.find(number)
+    }
+
     /// Whether the viewer with a number had its ServerInit (RFC 6143, 7.3.2) and met no fault; None where there is none.
     pub fn is_open(&self, number: u64) -> Option<bool>
         ensures { result ≡ option_map (λ viewer. is_open_rest viewer.heard) (viewer_of self.now number) }

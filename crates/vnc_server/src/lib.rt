@@ -9,7 +9,7 @@ ghost use types.Logic.{sem};
 ghost use denote.RawPtr.{room_at};
 ghost use Rattle.vnc_server.specs.Lying.{desk_row, waker_row, holds, leaves, holds_waker, leaves_waker, holds_beside_room, leaves_beside_waker};
 ghost use Rattle.std.specs.Prelude.{◌≡◌, ◌∷◌, [], ◌^◌, pos, map, min, length, false, is_some, count_by};
-ghost use Rattle.scene.specs.declared.Event.{Event};
+ghost use Rattle.screen.specs.declared.Event.{Event};
 ghost use Rattle.screen_desk.specs.Codes as codes;
 ghost use Rattle.screen_desk.specs.Calls.{colour_at};
 ghost use Rattle.screen_desk.specs.Desk.{rect_of, config_of};

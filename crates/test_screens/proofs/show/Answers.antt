@@ -4,7 +4,7 @@ use Rattle.std.specs.Int.{w32}
 use Rattle.std.proofs.lemmas.Int.{to_z-of_z}
 use Rattle.pixel_translate.specs.Pixel.{be16}
 use Rattle.region.specs.declared.Rect.{Rect}
-use Rattle.scene.specs.declared.Event.TheVariants.{Paint, Hear, Cut}
+use Rattle.screen.specs.declared.Event.TheVariants.{Paint, Hear, Cut}
 use Rattle.screen.specs.State.{state}
 use Rattle.test_screens.specs.Demo.{opened, with_copyrect}
 use Rattle.test_screens.proofs.show.Goals as goal

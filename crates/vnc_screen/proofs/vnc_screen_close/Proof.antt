@@ -4,9 +4,9 @@ use contract.Monad.{fact}
 use denote.Steps.{heard}
 use Rattle.vnc_screen.specs.Lying.{desk_row, holds, leaves}
 use Rattle.std.specs.Prelude.{◌≡◌, ◌∷◌, [], ◌^◌, pos, map, min, length, is_some}
-use Rattle.messages.specs.Reading.{fault_in_rest, is_open_rest}
-use Rattle.viewer.specs.Viewer.{is_asking}
-use Rattle.scene.specs.declared.Event.{Event}
+use Rattle.screen.specs.Reading.{fault_in_rest, is_open_rest}
+use Rattle.screen.specs.Viewer.{is_asking}
+use Rattle.screen.specs.declared.Event.{Event}
 use Rattle.screen.specs.State.{viewer_at}
 use Rattle.screen_desk.specs.Codes as codes
 use Rattle.screen_desk.specs.Calls.{Opens, Draws, DrawsRegion, Connects, Hears, Cuts, Closes, TellsPending, Gives, Fetches, Shows, Tells, numbers_of, of_viewer, colour_at}

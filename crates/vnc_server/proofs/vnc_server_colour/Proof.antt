@@ -4,7 +4,7 @@ use contract.Monad.{fact}
 use denote.Steps.{heard}
 use Rattle.vnc_server.specs.Lying.{desk_row, holds, leaves}
 use Rattle.std.specs.Prelude.{◌≡◌, ◌∷◌, [], ◌^◌, pos, map, min, length, false, is_some, count_by}
-use Rattle.scene.specs.declared.Event.{Event}
+use Rattle.screen.specs.declared.Event.{Event}
 use Rattle.screen_desk.specs.Codes as codes
 use Rattle.screen_desk.specs.Calls.{colour_at}
 use Rattle.screen_desk.specs.Desk.{rect_of, config_of}

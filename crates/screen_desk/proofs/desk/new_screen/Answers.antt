@@ -1,5 +1,5 @@
 use Rattle.std.proofs.Common.{rules, refl, sym, ◌∙◌}
-use Rattle.scene.specs.declared.History.TheVariants.{NotKept}
+use Rattle.screen.specs.declared.History.TheVariants.{NotKept}
 use Rattle.screen_desk.proofs.Drawing.{refuses-so, refuses-memory}
 use Rattle.screen_desk.proofs.desk.new_screen.Goals as goal
 

@@ -1,5 +1,5 @@
 use Rattle.std.proofs.Common.{refl, sym, ◌∙◌}
-use Rattle.scene.specs.declared.History.TheVariants.{NotKept}
+use Rattle.screen.specs.declared.History.TheVariants.{NotKept}
 use Rattle.server_desk.proofs.Turning.{refused-so, unrefused-so}
 use Rattle.server_desk.proofs.listening.listen_on.Goals as goal
 

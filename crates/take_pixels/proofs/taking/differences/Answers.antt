@@ -1,7 +1,7 @@
 use Rattle.std.proofs.Common.{◌≡◌, ℕ, None, Result, Ok, Err}
 use Rattle.std.specs.Prelude.{IfOk}
 use Rattle.std.specs.declared.alloc.AllocError.{AllocError}
-use Rattle.framebuffer.specs.Frame.{Frame, IsPicture}
+use Rattle.screen.specs.Frame.{Frame, IsPicture}
 use Rattle.source_pixels.specs.declared.pieces.Differences.{Differences}
 use Rattle.source_pixels.specs.Source.{Source, source_refusal}
 use Rattle.source_pixels.specs.Differences.{AreDifferences}

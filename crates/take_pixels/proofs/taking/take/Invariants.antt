@@ -1,6 +1,6 @@
 use Rattle.std.proofs.Common.{◌≡◌, List, ◌++◌, take}
-use Rattle.scene.specs.declared.Config.{Config}
-use Rattle.scene.specs.declared.Event.{Event}
+use Rattle.screen.specs.declared.Config.{Config}
+use Rattle.screen.specs.declared.Event.{Event}
 use Rattle.screen.specs.State.{state}
 use Rattle.take_pixels.specs.Paints.{paints_of}
 use Rattle.take_pixels.proofs.taking.take.Given as goal

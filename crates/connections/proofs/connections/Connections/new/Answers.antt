@@ -1,6 +1,6 @@
 use Rattle.std.proofs.Common.{◌≡◌, None, ◌∙◌}
 use Rattle.std.proofs.lemmas.Result.{err_from_is_err_and}
-use Rattle.scene.specs.Alone.{config_refusal}
+use Rattle.screen.specs.Alone.{config_refusal}
 use Rattle.connections.proofs.Drawing.{accepted, refused-after, made-unrefused}
 use Rattle.connections.proofs.Everyone.{none-yet}
 use Rattle.connections.proofs.connections.Connections.new.Goals as goal

@@ -17,19 +17,19 @@ returns-clause-step c = λ config list h.
     let is = c.self.view_is ∙ h in
     let scene = scene-is c.self.inside.scene was config list is in
     goes_on config list event copy c.self.inside.scene c.close.new.self was c.push.new.self.events.items is
-    (c.in_ok-close.ensures.step config list scene)
-    (ap (λ (a : Answer). is_none a.refused) (sym (c.in_ok-close.ensures.answer config list scene)))
+    (c.in_ok-close.ensures.step config list (c.in_ok-find.ensures.same ∙ scene))
+    (ap (λ (a : Answer). is_none a.refused) (sym (c.in_ok-close.ensures.answer config list (c.in_ok-find.ensures.same ∙ scene))))
     (c.push.ensures ∙ ap (option_map (λ (es : List Event). es ++ copy ∷ [])) c.in_ok-make_room_for.ensures.same)
     (λ kept. refl)
 
-pub returns-in_err-check_live-clause-answer : goal.returns-in_err-check_live-clause-answer
-returns-in_err-check_live-clause-answer c = λ config list h.
+pub returns-in_err-find-clause-answer : goal.returns-in_err-find-clause-answer
+returns-in_err-find-clause-answer c = λ config list h.
     let scene = scene-is c.self.inside.scene c.self.inside.events.events.items config list (c.self.view_is ∙ h) in
-    tells-error (λ _. nothing_to_say) c.from_residual.result (answer_to config list (Close c.args.number)) c.in_err-check_live.field-0.0
-    (c.refusals_are_due.ensures config list (Close c.args.number) ∙ sym (ap (λ s. refusal s (Close c.args.number)) scene) ∙ c.in_err-check_live.ensures) c.from_residual.ensures.1
+    tells-error (λ _. nothing_to_say) c.from_residual.result (answer_to config list (Close c.args.number)) c.in_err-find.field-0.0
+    (c.refusals_are_due.ensures config list (Close c.args.number) ∙ sym (ap (λ s. refusal s (Close c.args.number)) scene) ∙ c.in_err-find.ensures.found) c.from_residual.ensures.1
 
 pub returns-in_err-make_room_for-clause-answer : goal.returns-in_err-make_room_for-clause-answer
 returns-in_err-make_room_for-clause-answer c = λ config list h.
     let scene = scene-is c.self.inside.scene c.self.inside.events.events.items config list (c.self.view_is ∙ h) in
     tells-memory (λ _. nothing_to_say) c.from_residual-in_err-make_room_for.result (answer_to config list (Close c.args.number))
-    (c.refusals_are_due.ensures config list (Close c.args.number) ∙ sym (ap (λ s. refusal s (Close c.args.number)) scene) ∙ c.in_ok-check_live.ensures) c.from_residual-in_err-make_room_for.ensures.1
+    (c.refusals_are_due.ensures config list (Close c.args.number) ∙ sym (ap (λ s. refusal s (Close c.args.number)) scene) ∙ c.in_ok-find.ensures.found) c.from_residual-in_err-make_room_for.ensures.1

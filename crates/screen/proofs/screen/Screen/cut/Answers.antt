@@ -20,8 +20,8 @@ returns-in_default-clause-step c = λ config list h.
     let is = c.self.view_is ∙ h in
     let scene = scene-is c.self.inside.scene was config list is in
     stays config list event c.self.inside.scene c.cut.new.self was c.make_room.new.self.events.items is
-    (c.in_ok-update.ensures.step config list scene)
-    (cut-nothing given c.in_ok-update.field-0 c.args.number (answer_to config list event) (c.in_ok-update.ensures.answer config list scene) (ap given c.in_default.is))
+    (c.in_ok-update.ensures.step config list (c.in_ok-find.ensures.same ∙ scene))
+    (cut-nothing given c.in_ok-update.field-0 c.args.number (answer_to config list event) (c.in_ok-update.ensures.answer config list (c.in_ok-find.ensures.same ∙ scene)) (ap given c.in_default.is))
     c.in_ok-make_room.ensures.same
 
 pub returns-clause-step : goal.returns-clause-step
@@ -32,19 +32,19 @@ returns-clause-step c = λ config list h.
     let scene = scene-is c.self.inside.scene was config list is in
     let some : c.in-Some.update ≢ [] = subst (λ (o : Option (List ℕ)). IfSome o (λ u. u ≢ [])) c.in-Some.is c.in_ok-update.ensures.some in
     goes_on config list event event c.self.inside.scene c.cut.new.self was c.push.new.self.events.items is
-    (c.in_ok-update.ensures.step config list scene)
-    (cut-something given c.in_ok-update.field-0 c.args.number (answer_to config list event) c.in-Some.update (c.in_ok-update.ensures.answer config list scene) (ap given c.in-Some.is) some)
+    (c.in_ok-update.ensures.step config list (c.in_ok-find.ensures.same ∙ scene))
+    (cut-something given c.in_ok-update.field-0 c.args.number (answer_to config list event) c.in-Some.update (c.in_ok-update.ensures.answer config list (c.in_ok-find.ensures.same ∙ scene)) (ap given c.in-Some.is) some)
     (c.push.ensures ∙ ap (option_map (λ (es : List Event). es ++ event ∷ [])) c.in_ok-make_room.ensures.same)
     (λ kept. refl)
 
-pub returns-in_err-check_live-clause-answer : goal.returns-in_err-check_live-clause-answer
-returns-in_err-check_live-clause-answer c = λ config list h.
+pub returns-in_err-find-clause-answer : goal.returns-in_err-find-clause-answer
+returns-in_err-find-clause-answer c = λ config list h.
     let scene = scene-is c.self.inside.scene c.self.inside.events.events.items config list (c.self.view_is ∙ h) in
-    tells-error given c.from_residual.result (answer_to config list (Cut c.args.number)) c.in_err-check_live.field-0.0
-    (c.refusals_are_due.ensures config list (Cut c.args.number) ∙ sym (ap (λ s. refusal s (Cut c.args.number)) scene) ∙ c.in_err-check_live.ensures) c.from_residual.ensures.1
+    tells-error given c.from_residual.result (answer_to config list (Cut c.args.number)) c.in_err-find.field-0.0
+    (c.refusals_are_due.ensures config list (Cut c.args.number) ∙ sym (ap (λ s. refusal s (Cut c.args.number)) scene) ∙ c.in_err-find.ensures.found) c.from_residual.ensures.1
 
 pub returns-in_err-make_room-clause-answer : goal.returns-in_err-make_room-clause-answer
 returns-in_err-make_room-clause-answer c = λ config list h.
     let scene = scene-is c.self.inside.scene c.self.inside.events.events.items config list (c.self.view_is ∙ h) in
     tells-memory given c.from_residual-in_err-make_room.result (answer_to config list (Cut c.args.number))
-    (c.refusals_are_due.ensures config list (Cut c.args.number) ∙ sym (ap (λ s. refusal s (Cut c.args.number)) scene) ∙ c.in_ok-check_live.ensures) c.from_residual-in_err-make_room.ensures.1
+    (c.refusals_are_due.ensures config list (Cut c.args.number) ∙ sym (ap (λ s. refusal s (Cut c.args.number)) scene) ∙ c.in_ok-find.ensures.found) c.from_residual-in_err-make_room.ensures.1

@@ -1,6 +1,6 @@
 use Rattle.std.proofs.Common.{[], ◌∷◌, ◌++◌, refl}
-use Rattle.scene.specs.declared.Event.TheVariants.{Close}
-use Rattle.scene.specs.Alone.{nothing_to_say}
+use Rattle.screen.specs.declared.Event.TheVariants.{Close}
+use Rattle.screen.specs.Alone.{nothing_to_say}
 use Rattle.update_sender.proofs.Stepped.{quiet, answered}
 use Rattle.update_sender.proofs.locked_screen.LockedScreen.close.Goals as goal
 

@@ -1,10 +1,10 @@
 use Rattle.std.proofs.Common.{◌≡◌, [], ◌∷◌, ◌++◌, Err, rules, ap, subst}
 use Rattle.std.specs.Prelude.{MatchBool, IsOkUnless}
-use Rattle.scene.specs.declared.Event.TheVariants.{Connect}
-use Rattle.scene.specs.Alone.{gives}
+use Rattle.screen.specs.declared.Event.TheVariants.{Connect}
+use Rattle.screen.specs.Alone.{gives}
 use Rattle.update_sender.proofs.Stepped.{joined}
 use Rattle.update_sender.specs.Numbers.{is_next}
-use Rattle.scene.specs.declared.ScreenError.TheVariants as refusals
+use Rattle.screen.specs.declared.ScreenError.TheVariants as refusals
 use Rattle.update_sender.proofs.Absent.{next-refused}
 use Rattle.update_sender.proofs.locked_screen.LockedScreen.connect.Goals as goal
 

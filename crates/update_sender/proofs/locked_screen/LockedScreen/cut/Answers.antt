@@ -1,9 +1,9 @@
 use Rattle.std.proofs.Common.{◌≡◌, ◌≢◌, ℕ, Bool, List, [], ◌∷◌, ◌++◌, Option, refl, sym, ap, ◌∙◌, subst}
 use Rattle.std.specs.Prelude.{IfSome}
-use Rattle.scene.specs.declared.Answer.{Answer}
-use Rattle.scene.specs.declared.Event.TheVariants.{Cut}
-use Rattle.scene.specs.Alone.{gives}
-use Rattle.scene.specs.Answers.{answer_to}
+use Rattle.screen.specs.declared.Answer.{Answer}
+use Rattle.screen.specs.declared.Event.TheVariants.{Cut}
+use Rattle.screen.specs.Alone.{gives}
+use Rattle.screen.specs.Answers.{answer_to}
 use Rattle.viewer.specs.Given.{bytes_given}
 use Rattle.screen.specs.State.{State}
 use Rattle.update_sender.specs.Locked.{Locked, Stands}

@@ -1,6 +1,6 @@
 use Rattle.std.proofs.Common.{[], ◌∷◌, ◌++◌}
-use Rattle.scene.specs.Alone.{nothing_to_say}
-use Rattle.scene.specs.Calls.{event_of}
+use Rattle.screen.specs.Alone.{nothing_to_say}
+use Rattle.screen.specs.Calls.{event_of}
 use Rattle.update_sender.proofs.Stepped.{drawn}
 use Rattle.update_sender.proofs.locked_screen.LockedScreen.draw.Goals as goal
 

@@ -1,5 +1,5 @@
 use Rattle.std.proofs.Common.{[], ◌∷◌, ◌++◌, refl}
-use Rattle.scene.specs.declared.Event.TheVariants.{Hear}
+use Rattle.screen.specs.declared.Event.TheVariants.{Hear}
 use Rattle.update_sender.proofs.Stepped.{quiet, answered}
 use Rattle.update_sender.proofs.locked_screen.LockedScreen.hear.Goals as goal
 
