@@ -3,8 +3,7 @@
 ghost use Rattle.std.specs.Prelude.{◌≡◌};
 
 use crate::open_connections::shut;
-use crate::serving::Server;
-use input_queue::InputSeat;
+use input_queue::{InputHub, InputSeat};
 use receipts::Receipt;
 use screen::ScreenError;
 use std::net::TcpStream;
@@ -36,24 +35,25 @@ fn close_at_last<L: Ledger, R: Wait + Clock>(rt: &R, shared: &Shared<L>, viewer:
 /// Opens a viewer, and serves it by a reader and a sender thread until both have ended. The connection is shut then.
 pub(crate) fn serve_connection<L: Ledger + Send + Sync, R: Threads + Wait + Clock + Sync>(
     rt: &R,
-    server: &Server<'_, L>,
+    shared: &Shared<L>,
     line: Line,
     stream: TcpStream,
+    hub: &InputHub,
     seat: InputSeat,
 ) -> Receipt
-    requires queue { seat.queue ≡ server.now.hub.now.queue }
+    requires queue { seat.queue ≡ hub.now.queue }
     requires viewer { seat.viewer ≡ line.listener.viewer }
     ensures { result.viewer ≡ line.listener.viewer }
 {
     // Without this an answer may wait for the next one. Where the system refuses it, all else stays.
     let _set = stream.set_nodelay(true);
     let (mut reader, mut writer) = (&stream, &stream);
-    match serve_opening(rt, server.shared, line, &mut reader, &mut writer) {
+    match serve_opening(rt, shared, line, &mut reader, &mut writer) {
         Opened::Ready(listener, speaker) => {
-            serve_open(rt, server, listener, speaker, &stream, seat)
+            serve_open(rt, shared, listener, speaker, &stream, hub, seat)
         }
         Opened::Over(receipt) => {
-            close_at_last(rt, server.shared, receipt.viewer);
+            close_at_last(rt, shared, receipt.viewer);
             shut(&stream);
             receipt
         }
@@ -71,13 +71,14 @@ impl Promise<WriteHalf> for HalfOf {
 /// The viewer's two threads. Whichever ends first ends the other one.
 fn serve_open<L: Ledger + Send + Sync, R: Threads + Wait + Clock + Sync>(
     rt: &R,
-    server: &Server<'_, L>,
+    shared: &Shared<L>,
     listener: Listener,
     speaker: Speaker,
     stream: &TcpStream,
+    hub: &InputHub,
     seat: InputSeat,
 ) -> Receipt
-    requires seat { seat.queue ≡ server.now.hub.now.queue }
+    requires seat { seat.queue ≡ hub.now.queue }
     requires own { seat.viewer ≡ listener.viewer }
     requires viewer { listener.viewer ≡ speaker.viewer }
     ensures { result.viewer ≡ speaker.viewer }
@@ -86,11 +87,11 @@ fn serve_open<L: Ledger + Send + Sync, R: Threads + Wait + Clock + Sync>(
         thread::scope_env(),
         rt,
         move |scope| -> (ReadHalf, WriteHalf)
-            requires queue { seat.queue ≡ server.now.hub.now.queue }
+            requires queue { seat.queue ≡ hub.now.queue }
             requires viewer { seat.viewer ≡ listener.viewer }
             ensures read { result.0.viewer ≡ listener.viewer }
             ensures write { result.1.viewer ≡ speaker.viewer }
-        { serve_halves(rt, server, listener, speaker, stream, seat, scope) },
+        { serve_halves(rt, shared, listener, speaker, stream, hub, seat, scope) },
     );
     receipt(Some(read), None, write).0
 }
@@ -99,19 +100,19 @@ fn serve_open<L: Ledger + Send + Sync, R: Threads + Wait + Clock + Sync>(
 /// shut, and both find it so.
 fn serve_halves<'s, E, L: Ledger + Send + Sync + 's, R: Threads + Wait + Clock + Sync + 's>(
     rt: &'s R,
-    server: &Server<'s, L>,
+    shared: &'s Shared<L>,
     listener: Listener,
     speaker: Speaker,
     stream: &'s TcpStream,
+    hub: &InputHub,
     seat: InputSeat,
     scope: &Scope<'s, E>,
 ) -> (ReadHalf, WriteHalf)
-    requires queue { seat.queue ≡ server.now.hub.now.queue }
+    requires queue { seat.queue ≡ hub.now.queue }
     requires viewer { seat.viewer ≡ listener.viewer }
     ensures read { result.0.viewer ≡ listener.viewer }
     ensures write { result.1.viewer ≡ speaker.viewer }
 {
-    let shared = server.shared;
     let sender = scope.spawn_with(
         HalfOf(speaker.viewer()),
         move || -> WriteHalf
@@ -120,12 +121,12 @@ fn serve_halves<'s, E, L: Ledger + Send + Sync + 's, R: Threads + Wait + Clock +
     );
     match sender {
         Ok(sender) => {
-            let read = read_half(rt, server, listener, stream, seat);
+            let read = read_half(rt, shared, listener, stream, hub, seat);
             (read, sender.join(rt))
         }
         Err(refused) => {
             shut(stream);
-            let read = read_half(rt, server, listener, stream, seat);
+            let read = read_half(rt, shared, listener, stream, hub, seat);
             (read, (refused.value)())
         }
     }
@@ -134,19 +135,20 @@ fn serve_halves<'s, E, L: Ledger + Send + Sync + 's, R: Threads + Wait + Clock +
 /// The reader's thread.
 fn read_half<L: Ledger, R: Wait + Clock>(
     rt: &R,
-    server: &Server<'_, L>,
+    shared: &Shared<L>,
     listener: Listener,
     stream: &TcpStream,
+    hub: &InputHub,
     seat: InputSeat,
 ) -> ReadHalf
-    requires queue { seat.queue ≡ server.now.hub.now.queue }
+    requires queue { seat.queue ≡ hub.now.queue }
     requires viewer { seat.viewer ≡ listener.viewer }
     ensures { result.viewer ≡ listener.viewer }
 {
     let mut reader = stream;
-    let half = serve_reader(rt, server.shared, listener, &mut reader, server.hub, seat);
+    let half = serve_reader(rt, shared, listener, &mut reader, hub, seat);
     shut(stream);
-    close_at_last(rt, server.shared, half.viewer);
+    close_at_last(rt, shared, half.viewer);
     half
 }
 
