@@ -48,16 +48,6 @@ impl<T: Drop> From<AllocFailed<T>> for ServeError {
     }
 }
 
-/// What the threads of a server share.
-#[derive(Drop)]
-pub(crate) struct Server<'s, L: Ledger> {
-    pub alloc: Global,
-    pub shared: &'s Shared<L>,
-    // where the viewers' inputs wait for the application
-    pub hub: &'s InputHub,
-    pub connections: &'s OpenConnections,
-}
-
 /// The inputs' queue, its taker, and a seat for each viewer, the first one's last.
 #[derive(Drop)]
 struct Seating {
@@ -108,10 +98,13 @@ impl Promise<Result<Vec<Receipt>, ServeError>> for ReceiptsOf {
 /// can be started, nothing is accepted.
 fn serve_seats<'s, E, L, A, R>(
     rt: &'s R,
-    server: &Server<'s, L>,
+    alloc: Global,
     listener: &'s TcpListener,
-    seats: Vec<InputSeat>,
+    shared: &'s Shared<L>,
     brush: &mut Brush<L>,
+    hub: &'s InputHub,
+    connections: &'s OpenConnections,
+    seats: Vec<InputSeat>,
     mut taker: Taker,
     application: &mut A,
     scope: &Scope<'s, E>,
@@ -120,17 +113,11 @@ where
     L: Ledger + Send + Sync + 's,
     A: Application<L>,
     R: Threads + Wait + Net + Clock + Sync + 's,
-    requires queue { All (λ s. s.queue ≡ server.now.hub.now.queue) seats.items }
+    requires queue { All (λ s. s.queue ≡ hub.now.queue) seats.items }
     requires seated { AreSeated (length seats.items) seats.items }
-    requires taker { taker.queue ≡ server.now.hub.now.queue }
+    requires taker { taker.queue ≡ hub.now.queue }
     ensures { IfOk result (λ receipts. AreNumbered (length seats.items) receipts.items) }
 {
-    let Server {
-        alloc,
-        shared,
-        hub,
-        connections,
-    } = *server;
     let accepting = scope.spawn_with(
         ReceiptsOf(seats.len()),
         move || -> Result<Vec<Receipt>, ServeError>
@@ -138,13 +125,7 @@ where
             requires seated { AreSeated (length seats.items) seats.items }
             ensures { IfOk result (λ receipts. AreNumbered (length seats.items) receipts.items) }
         {
-            let server = Server {
-                alloc,
-                shared,
-                hub,
-                connections,
-            };
-            let receipts = accept_all(rt, server, listener, seats);
+            let receipts = accept_all(rt, alloc, listener, shared, hub, connections, seats);
             hub.close();
             receipts
         },
@@ -154,7 +135,7 @@ where
     };
     let drawn = run_application(rt, shared, brush, hub, &mut taker, application);
     if drawn.is_err() {
-        end_all(rt, server);
+        end_all(rt, shared, connections);
         wake_accept(rt, listener);
     }
     let receipts = accepting.join(rt);
@@ -192,18 +173,15 @@ where
             requires taker { taker.queue ≡ hub.now.queue }
             ensures { IfOk result (λ receipts. AreNumbered (length seats.items) receipts.items) }
         {
-            let server = Server {
-                alloc,
-                shared,
-                hub,
-                connections,
-            };
             serve_seats(
                 rt,
-                &server,
+                alloc,
                 listener,
-                seats,
+                shared,
                 brush,
+                hub,
+                connections,
+                seats,
                 taker,
                 application,
                 scope,
