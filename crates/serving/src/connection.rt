@@ -3,6 +3,7 @@
 ghost use Rattle.std.specs.Prelude.{◌≡◌};
 
 use crate::open_connections::shut;
+use crate::serving::Server;
 use input_queue::{InputHub, InputSeat};
 use receipts::Receipt;
 use screen::ScreenError;
@@ -35,25 +36,24 @@ fn close_at_last<L: Ledger, R: Wait + Clock>(rt: &R, shared: &Shared<L>, viewer:
 /// Opens a viewer, and serves it by a reader and a sender thread until both have ended. The connection is shut then.
 pub(crate) fn serve_connection<L: Ledger + Send + Sync, R: Threads + Wait + Clock + Sync>(
     rt: &R,
-    shared: &Shared<L>,
+    server: &Server<'_, L>,
     line: Line,
     stream: TcpStream,
-    hub: &InputHub,
     seat: InputSeat,
 ) -> Receipt
-    requires queue { seat.queue ≡ hub.now.queue }
+    requires queue { seat.queue ≡ server.now.hub.now.queue }
     requires viewer { seat.viewer ≡ line.listener.viewer }
     ensures { result.viewer ≡ line.listener.viewer }
 {
     // Without this an answer may wait for the next one. Where the system refuses it, all else stays.
     let _set = stream.set_nodelay(true);
     let (mut reader, mut writer) = (&stream, &stream);
-    match serve_opening(rt, shared, line, &mut reader, &mut writer) {
+    match serve_opening(rt, server.shared, line, &mut reader, &mut writer) {
         Opened::Ready(listener, speaker) => {
-            serve_open(rt, shared, listener, speaker, &stream, hub, seat)
+            serve_open(rt, server, listener, speaker, &stream, seat)
         }
         Opened::Over(receipt) => {
-            close_at_last(rt, shared, receipt.viewer);
+            close_at_last(rt, server.shared, receipt.viewer);
             shut(&stream);
             receipt
         }
@@ -71,18 +71,18 @@ impl Promise<WriteHalf> for HalfOf {
 /// The viewer's two threads. Whichever ends first ends the other one.
 fn serve_open<L: Ledger + Send + Sync, R: Threads + Wait + Clock + Sync>(
     rt: &R,
-    shared: &Shared<L>,
+    server: &Server<'_, L>,
     listener: Listener,
     speaker: Speaker,
     stream: &TcpStream,
-    hub: &InputHub,
     seat: InputSeat,
 ) -> Receipt
-    requires seat { seat.queue ≡ hub.now.queue }
+    requires seat { seat.queue ≡ server.now.hub.now.queue }
     requires own { seat.viewer ≡ listener.viewer }
     requires viewer { listener.viewer ≡ speaker.viewer }
     ensures { result.viewer ≡ speaker.viewer }
 {
+    let (shared, hub) = (server.shared, server.hub);
     let (read, write) = thread::scope(
         thread::scope_env(),
         rt,

@@ -48,6 +48,16 @@ impl<T: Drop> From<AllocFailed<T>> for ServeError {
     }
 }
 
+/// What the threads of a server share.
+#[derive(Drop)]
+pub(crate) struct Server<'s, L: Ledger> {
+    pub alloc: Global,
+    pub shared: &'s Shared<L>,
+    // where the viewers' inputs wait for the application
+    pub hub: &'s InputHub,
+    pub connections: &'s OpenConnections,
+}
+
 /// The inputs' queue, its taker, and a seat for each viewer, the first one's last.
 #[derive(Drop)]
 struct Seating {
@@ -98,13 +108,10 @@ impl Promise<Result<Vec<Receipt>, ServeError>> for ReceiptsOf {
 /// can be started, nothing is accepted.
 fn serve_seats<'s, E, L, A, R>(
     rt: &'s R,
-    alloc: Global,
+    server: &Server<'s, L>,
     listener: &'s TcpListener,
-    shared: &'s Shared<L>,
-    brush: &mut Brush<L>,
-    hub: &'s InputHub,
-    connections: &'s OpenConnections,
     seats: Vec<InputSeat>,
+    brush: &mut Brush<L>,
     mut taker: Taker,
     application: &mut A,
     scope: &Scope<'s, E>,
@@ -113,11 +120,17 @@ where
     L: Ledger + Send + Sync + 's,
     A: Application<L>,
     R: Threads + Wait + Net + Clock + Sync + 's,
-    requires queue { All (λ s. s.queue ≡ hub.now.queue) seats.items }
+    requires queue { All (λ s. s.queue ≡ server.now.hub.now.queue) seats.items }
     requires seated { AreSeated (length seats.items) seats.items }
-    requires taker { taker.queue ≡ hub.now.queue }
+    requires taker { taker.queue ≡ server.now.hub.now.queue }
     ensures { IfOk result (λ receipts. AreNumbered (length seats.items) receipts.items) }
 {
+    let Server {
+        alloc,
+        shared,
+        hub,
+        connections,
+    } = *server;
     let accepting = scope.spawn_with(
         ReceiptsOf(seats.len()),
         move || -> Result<Vec<Receipt>, ServeError>
@@ -125,7 +138,13 @@ where
             requires seated { AreSeated (length seats.items) seats.items }
             ensures { IfOk result (λ receipts. AreNumbered (length seats.items) receipts.items) }
         {
-            let receipts = accept_all(rt, alloc, listener, shared, hub, connections, seats);
+            let server = Server {
+                alloc,
+                shared,
+                hub,
+                connections,
+            };
+            let receipts = accept_all(rt, server, listener, seats);
             hub.close();
             receipts
         },
@@ -135,7 +154,7 @@ where
     };
     let drawn = run_application(rt, shared, brush, hub, &mut taker, application);
     if drawn.is_err() {
-        end_all(rt, shared, connections);
+        end_all(rt, server);
         wake_accept(rt, listener);
     }
     let receipts = accepting.join(rt);
@@ -173,15 +192,18 @@ where
             requires taker { taker.queue ≡ hub.now.queue }
             ensures { IfOk result (λ receipts. AreNumbered (length seats.items) receipts.items) }
         {
-            serve_seats(
-                rt,
+            let server = Server {
                 alloc,
-                listener,
                 shared,
-                brush,
                 hub,
                 connections,
+            };
+            serve_seats(
+                rt,
+                &server,
+                listener,
                 seats,
+                brush,
                 taker,
                 application,
                 scope,

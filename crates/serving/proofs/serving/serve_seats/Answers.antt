@@ -13,4 +13,4 @@ use Rattle.serving.proofs.open_connections.OpenConnections.TheSendSync.{the_sync
 use Rattle.serving.proofs.serving.serve_seats.Goals as goal
 
 pub spawn_with-accepting-requires-send-F : goal.spawn_with-accepting-requires-send-F
-spawn_with-accepting-requires-send-F g c κs within = param_send 2 _ (arg_send _ Exit.no _ (closure_send _ (_ ∷ _ ∷ _ ∷ _ ∷ _ ∷ _ ∷ _ ∷ []) (shr_send _ _ _ (param_sync 3 _ c.type_bounds.sync-R), (globals.the_send, (shr_send _ _ _ listener_sync, (shr_send _ _ _ (shares.the_sync (param 1 g.row.L) g.L.Ledger), (shr_send _ _ _ hub_sync, (shr_send _ _ _ connections_sync, (vectors.the_send _ _ _ seat_send globals.the_send frees.the_frees, tt)))))))))
+spawn_with-accepting-requires-send-F g c κs within = param_send 2 _ (arg_send _ Exit.no _ (closure_send _ (_ ∷ _ ∷ _ ∷ _ ∷ _ ∷ _ ∷ _ ∷ []) (globals.the_send, (shr_send _ _ _ (shares.the_sync (param 1 g.row.L) g.L.Ledger), (shr_send _ _ _ hub_sync, (shr_send _ _ _ connections_sync, (shr_send _ _ _ (param_sync 3 _ c.type_bounds.sync-R), (shr_send _ _ _ listener_sync, (vectors.the_send _ _ _ seat_send globals.the_send frees.the_frees, tt)))))))))
