@@ -176,11 +176,11 @@ static rfbBool let_go(rfbScreenInfoPtr s, uint64_t number)
 /* A viewer came: the program is asked, and frameBuffer is taken, also what was never marked. */
 static void come(rfbScreenInfoPtr s, uint64_t number)
 {
-    static char unknown[] = "unknown";
     rfbClientPtr cl = s->socketState == RFB_SOCKET_READY ? (rfbClientPtr)calloc(1, sizeof *cl) : NULL;
     while (++s->compat->last < number) let_go(s, s->compat->last); /* whose coming was lost */
     if (!cl) { let_go(s, number); return; }
-    cl->screen = s, cl->number = number, cl->sock = -1, cl->host = unknown, cl->next = s->clientHead;
+    cl->screen = s, cl->number = number, cl->sock = -1, cl->host = cl->address, cl->next = s->clientHead;
+    if (vnc_server_viewer_address(s->compat->server, number, (uint8_t *)cl->address, sizeof cl->address - 1) < 0) strcpy(cl->address, "unknown");
     s->clientHead = cl;
     if (s->newClientHook && s->newClientHook(cl) != RFB_CLIENT_ACCEPT) cl->isClosing = TRUE;
     if (cl->isClosing) return;

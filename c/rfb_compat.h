@@ -119,11 +119,12 @@ typedef struct _rfbClientRec {
     void *clientData; /* the program's, for clientGoneHook to free */
     ClientGoneHookPtr clientGoneHook;
     rfbSocket sock;   /* -1: the server has the socket */
-    char *host;       /* "unknown" */
+    char *host;       /* its address in digits; "unknown" where the system doesn't tell */
     rfbBool viewOnly; /* its inputs go to no hook */
     struct _rfbClientRec *next;
     uint64_t number;           /* the server's number of it */
-    rfbBool isClosing, isLetGo, isGone; /* not the program's */
+    rfbBool isClosing, isLetGo, isGone; /* not the program's, nor is what follows */
+    char address[48];
 } rfbClientRec;
 
 /* The server. 1 to 8192 columns and rows, 1 to 10 bits a sample, and pixels of 1 to 4 bytes: else rfbGetScreen gives NULL. Of arguments it

@@ -34,7 +34,7 @@ extern "C" {
 #endif
 
 /* Grows with each change that a program made before it can see; vnc_server_abi() is the library's. */
-#define VNC_SERVER_ABI 1
+#define VNC_SERVER_ABI 2
 
 typedef struct vnc_server vnc_server;
 
@@ -127,6 +127,11 @@ int64_t vnc_server_comings_and_goings(vnc_server *server, vnc_visit *room, size_
  * VNC_NO_VIEWER where none has the number. One that came in a turn is heard from the next one on: who is let go before that was sent
  * nothing and told nothing (RFB_CLIENT_REFUSE). */
 int32_t vnc_server_close_viewer(vnc_server *server, uint64_t viewer);
+
+/* The address that a viewer's connection comes from, in digits as "127.0.0.1" or "::1", with no zero at its end (host of rfbClientRec), goes
+ * to `room`, as much of it as fits: how many bytes; 46 are enough. VNC_NO_VIEWER where none has the number, VNC_NETWORK_FAILED where the
+ * system doesn't tell, as when the viewer is gone already, or VNC_OUT_OF_MEMORY. */
+int32_t vnc_server_viewer_address(vnc_server *server, uint64_t viewer, uint8_t *room, size_t count);
 
 /* How many inputs, comings and goings were lost since vnc_server_listen. */
 int64_t vnc_server_lost(vnc_server *server);

@@ -21,7 +21,7 @@ enum vnc_code {
     VNC_OFF_SCREEN = -12,     /* there is no such place */
     VNC_BAD_ADDRESS = -13,    /* no IP address in digits */
     VNC_CANNOT_LISTEN = -14,  /* the system doesn't let the program listen there, or has no more handles */
-    VNC_NETWORK_FAILED = -15, /* the system failed to say which sockets are ready */
+    VNC_NETWORK_FAILED = -15, /* the system failed to say which sockets are ready, or where a viewer is */
     VNC_CLOCK_FAILED = -16,   /* the system failed to say what time it is */
     VNC_BAD_FORMAT = -17,     /* a component has no value above 0 or doesn't fit, bytes_per_pixel isn't 1 to 4, or a table of more than 256 */
     VNC_BAD_STRIDE = -18,     /* a row's pixels take more bytes than the stride */

@@ -100,6 +100,7 @@ int main(void)
     IS(vnc_server_process_events(s, 0), VNC_SHUT);
     IS(vnc_server_bell(s), VNC_SHUT);
     IS(vnc_server_port(s), VNC_SHUT);
+    IS(vnc_server_viewer_address(s, 1, room, 64), VNC_SHUT);
     IS(vnc_server_close(s), 0);
     IS(listens(s, "127.0.0.1", 0, 1), VNC_BAD_SIZE);
     IS(listens(s, "127.0.0.1", 8193, 1), VNC_BAD_SIZE);
@@ -148,6 +149,10 @@ int main(void)
     IS(vnc_server_inputs(s, in, 4), 1);
     IS(vnc_server_inputs(s, in, 4), 0);
     IS(vnc_server_viewer_count(s), 1);
+    IS(vnc_server_viewer_address(s, 1, room, 64), 9);
+    IS(memcmp(room, "127.0.0.1", 9), 0);
+    IS(vnc_server_viewer_address(s, 1, room, 3), 3);
+    IS(vnc_server_viewer_address(s, 2, room, 64), VNC_NO_VIEWER);
 
     /* one that says what no message says */
     IS(says(s, fd, "\x09", 1, room, 0), 0);

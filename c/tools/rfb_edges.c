@@ -9,7 +9,7 @@
 enum { W = 40, H = 30 };
 typedef struct { int fd; uint32_t seen[H][W]; int copies, bells; char text[16]; } viewer;
 
-static int keys, points, gone, refuses;
+static int keys, points, gone, refuses, strangers;
 static char said[16];
 static rfbClientPtr newest;
 
@@ -21,6 +21,7 @@ static void leave(rfbClientPtr cl) { gone++; free(cl->clientData); }
 static enum rfbNewClientAction come(rfbClientPtr cl)
 {
     newest = cl;
+    strangers += strcmp(cl->host, "127.0.0.1") != 0;
     cl->clientData = malloc(1);
     cl->clientGoneHook = leave;
     return refuses == 0 ? RFB_CLIENT_ACCEPT : refuses == 1 ? RFB_CLIENT_REFUSE : RFB_CLIENT_ON_HOLD;
@@ -223,8 +224,10 @@ static int pictures(int bytes)
     IS(shows(s, &v, bytes, 0), 0);
     for (dy = -4; dy <= 4; dy += 4)
         for (dx = -7; dx <= 7; dx += 7) {
-            memset(s->frameBuffer + 6 * s->paddedWidthInBytes + 12 * bytes, dx + dy, 30); /* not marked */
+            memset(s->frameBuffer + 6 * s->paddedWidthInBytes + 12 * bytes, dx + dy, 30);
+            if (dx) rfbMarkRectAsModified(s, 12, 6, 28, 7); /* else only behind the copy, with all that it came to */
             rfbDoCopyRect(s, -5, 1, 33, 50, dx, dy);
+            if (!dx) rfbMarkRectAsModified(s, 0, 0, W, H);
             IS(shows(s, &v, bytes, 0), 0);
             rfbDoCopyRegion(s, r, dx, dy);
             rfbMarkRegionAsModified(s, r);
@@ -319,6 +322,7 @@ static int background(void)
 int main(void)
 {
     if (passwords() || later() || pictures(4) || pictures(2) || clients() || background()) return 1;
+    IS(strangers, 0);
     puts("rfb_edges ok");
     return 0;
 }

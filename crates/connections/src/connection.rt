@@ -141,6 +141,14 @@ impl<T: Transport> Connection<T> {
         self.number
     }
 
+    /// Its transport.
+    pub fn transport(&self) -> &T
+        ensures unread { T.unread result.now ≡ self.now.carried.unread }
+        ensures written { T.written result.now ≡ self.now.carried.written }
+    {
+        &self.transport.transport
+    }
+
     /// Why it ended, if it did.
     pub fn ended(&self) -> Option<Ended>
         ensures { result ≡ self.now.ended }

@@ -1,7 +1,7 @@
 //! All connections of a screen's viewers.
 
 ghost use Rattle.std.specs.Prelude.{◌≡◌, ◌++◌, ◌∷◌, ◌+◌, [], List, ℕ, ◌<◌, None, Some, Err, IfOk, IfSome, IsSome, OnOk, OnErr, length, slice_index_or};
-ghost use Rattle.std.specs.Prelude.{true, false, not, ◌||◌, ◌==◌, is_some, count_by, MatchOption, IsOkUnless, option_map, ◌≢◌};
+ghost use Rattle.std.specs.Prelude.{true, false, not, ◌||◌, ◌==◌, is_some, count_by, IsSomeAnd, MatchOption, IsOkUnless, option_map, ◌≢◌};
 ghost use Rattle.std.specs.Borrow.{sem};
 ghost use Rattle.screen.specs.declared.Config.{Config};
 ghost use Rattle.screen.specs.declared.Event.{Event};
@@ -262,6 +262,14 @@ impl<T: Transport> Connections<T> {
     {
         let connection = self.connections.get(key)?;
         Some(connection.number())
+    }
+
+    /// The transport of the viewer that has the key, to be looked at.
+    pub fn transport(&self, key: usize) -> Option<&T>
+        ensures { MatchOption (at_key self.now.slots key) (result ≡ None) (λ e. IsSomeAnd result (λ transport. (T.unread transport.now ≡ e.carried.unread) × (T.written transport.now ≡ e.carried.written))) }
+    {
+        let connection = self.connections.get(key)?;
+        Some(connection.transport())
     }
 
     /// The key of the viewer with a number; None where it isn't connected.

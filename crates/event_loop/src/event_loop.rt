@@ -1,6 +1,6 @@
 //! The loop.
 
-ghost use Rattle.std.specs.Prelude.{◌≡◌, ◌≢◌, ℕ, [], None, Some, Ok, Err, false, IfOk, OnOk, MatchOption, is_some, count_by};
+ghost use Rattle.std.specs.Prelude.{◌≡◌, ◌≢◌, ℕ, [], None, Some, Ok, Err, false, IfOk, OnOk, MatchOption, is_some, IsSome, count_by};
 ghost use Rattle.std.specs.Borrow.{sem};
 ghost use Rattle.std.specs.Duration.{as_nanos};
 ghost use Rattle.screen.specs.declared.Config.{Config};
@@ -23,7 +23,7 @@ use std::alloc::{AllocError, Global};
 use std::io;
 use std::io::ErrorKind;
 use std::marker::Model;
-use std::net::Net;
+use std::net::{Net, SocketAddr};
 use std::os::fd::{AsRawFd, RawFd};
 use std::time::{Clock, Duration, Instant};
 
@@ -257,6 +257,17 @@ impl EventLoop {
         ensures { result ≡ count_by is_some self.now.slots }
     {
         self.connections.len()
+    }
+
+    /// The address and the port that a viewer's connection comes from (`host` of `rfbClientRec` in `rfb.h`), or why the system doesn't tell
+    /// them; None where the viewer isn't connected.
+    pub fn viewer_address(&self, viewer: u64) -> Option<io::Result<SocketAddr>>
+        ensures some { IsSome result → (key : ℕ) × (number_at self.now.slots key ≡ Some viewer) }
+        ensures none { result ≡ None → (key : ℕ) → number_at self.now.slots key ≢ Some viewer }
+    {
+        let key = self.connections.key_of(viewer)?;
+        let socket = self.connections.transport(key)?;
+        Some(socket.address())
     }
 
     /// What ends a wait from another thread: the application is told that it was woken. One loop has one waker.

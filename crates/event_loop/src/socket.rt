@@ -4,6 +4,7 @@ use connections::Transport;
 use mio::net::TcpStream;
 use std::io;
 use std::io::{Read, Write};
+use std::net::SocketAddr;
 
 /// A socket. What it is given and gives is the system's: no bytes of it are known.
 #[derive(Drop)]
@@ -14,6 +15,11 @@ pub struct Socket {
 impl Socket {
     pub(crate) fn new(stream: TcpStream) -> Socket {
         Socket { stream }
+    }
+
+    /// The address and the port at its other end.
+    pub(crate) fn address(&self) -> io::Result<SocketAddr> {
+        self.stream.peer_addr()
     }
 }
 

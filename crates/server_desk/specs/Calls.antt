@@ -12,7 +12,7 @@ use Rattle.source_pixels.specs.Source.{Source}
 use Rattle.take_pixels.specs.Takes.{IsTaken, IsPartlyTaken}
 use Rattle.take_pixels.specs.Paints.{paints_of}
 use Rattle.event_loop.specs.declared.event_loop.LoopError.{LoopError}
-use Rattle.screen_desk.specs.Codes.{Answers, code_of, done, out_of_memory, shut}
+use Rattle.screen_desk.specs.Codes.{Answers, code_of, done, no_viewer, out_of_memory, shut}
 use Rattle.screen_desk.specs.Desk.{IsListOf}
 use Rattle.screen_desk.specs.Inputs.{IsFetched}
 use Rattle.screen_desk.specs.declared.told.Told.{Told}
@@ -80,6 +80,17 @@ count_shown text room = min (count_fitting text room) (2 ^ 30)
 pub record ShowsText (old new : Standing) (room_old room_new : List ℕ) (code : ℤ) : Type 0 where
   pub answer : MatchOption old.served (code ≡ shut) (λ s. code ≡ pos (count_shown old.text room_old))
   pub shown : pos 0 ≤ℤ code → room_new ≡ take (count_shown old.text room_old) old.text ++ drop (count_shown old.text room_old) room_old
+  pub same : new ≡ old
+  pub refused : code <ℤ pos 0 → room_new ≡ room_old
+
+-- the connection of a viewer has some address, whose digits are put at the room's start, as many as fit; or the system doesn't tell, or memory for the digits is refused
+abbrev pub IsAddressIn : List ℕ → List ℕ → ℤ → Type 0
+IsAddressIn room_old room_new code = ((digits : List ℕ) × ((code ≡ pos (count_shown digits room_old)) × (room_new ≡ take (count_shown digits room_old) digits ++ drop (count_shown digits room_old) room_old)))
+    ⊎ ((code ≡ network_failed) ⊎ (code ≡ out_of_memory))
+
+-- a viewer's address is told, if one has the number
+pub record TellsAddress (v : ℕ) (old new : Standing) (room_old room_new : List ℕ) (code : ℤ) : Type 0 where
+  pub answer : MatchOption old.served (code ≡ shut) (λ s. ((code ≡ no_viewer) × ((key : ℕ) → number_at s.slots key ≢ Some v)) ⊎ (((key : ℕ) × (number_at s.slots key ≡ Some v)) × IsAddressIn room_old room_new code))
   pub same : new ≡ old
   pub refused : code <ℤ pos 0 → room_new ≡ room_old
 

@@ -22,6 +22,10 @@ pub record Standing : Type 0 where
   pub text : List ℕ
   pub lost : ℕ
 
+-- how many copies, and how many rectangles of pixels, an update has at most
+abbrev pub rects_per_update : ℕ
+rects_per_update = 1000
+
 abbrev pub nothing_there : Standing
 nothing_there = record { served = None; port = 0; inputs = []; visits = []; text = []; lost = 0 }
 

@@ -9,19 +9,19 @@ ghost use Rattle.screen_desk.specs.Codes.{IsRefusal};
 ghost use Rattle.screen_desk.specs.Calls.{colour_at};
 ghost use Rattle.screen_desk.specs.Desk.{rect_of, config_of, IsListOf};
 ghost use Rattle.std.specs.VecDeque.{deque_capacity};
-ghost use Rattle.server_desk.specs.Desk.{nothing_there, IsPutBehind, region_due};
-ghost use Rattle.server_desk.specs.Calls.{Listens, TakesTurn, Draws, DrawsRegion, FetchesInputs, FetchesVisits, ShowsText, Tells, TellsSome, LetsGo, TakesPixels};
+ghost use Rattle.server_desk.specs.Desk.{nothing_there, rects_per_update, IsPutBehind, region_due};
+ghost use Rattle.server_desk.specs.Calls.{Listens, TakesTurn, Draws, DrawsRegion, FetchesInputs, FetchesVisits, ShowsText, Tells, TellsAddress, TellsSome, LetsGo, TakesPixels};
 ghost use Rattle.server_desk.specs.Pixels.{format_of, source_from};
 ghost use Rattle.source_pixels.specs.declared.formats.SourceFormat.TheVariants as format;
 
-use crate::codes::{CLOCK_FAILED, closed_code, places_code, turn_code};
+use crate::codes::{CLOCK_FAILED, NETWORK_FAILED, closed_code, places_code, turn_code};
 use crate::gathering::Gathering;
 use crate::listening::{Listening, listen_on};
 use crate::news::{
     MOST_INPUTS, MOST_TEXT, MOST_VISITS, fetch_inputs, fetch_visits, is_text_at, make_room, put_all,
 };
 use crate::pixels::{PixelLayout, source_of};
-use crate::system::{SystemClock, milliseconds_of, timeout_of};
+use crate::system::{SystemClock, digits_of, milliseconds_of, timeout_of};
 use crate::told::ToldBy;
 use crate::visits::Visit;
 use crate::waker::ServerWaker;
@@ -136,7 +136,7 @@ impl ServerDesk {
         name: &[u8],
         viewers: u32,
     ) -> i32
-        ensures { Listens (config_of width height name.now 50) self.old self.new result }
+        ensures { Listens (config_of width height name.now rects_per_update) self.old self.new result }
     {
         match listen_on(self.alloc, address, port, width, height, name, viewers) {
             Ok(Listening { events, port }) => {
@@ -201,6 +201,27 @@ impl ServerDesk {
             return SHUT;
         };
         closed_code(events.close_viewer(viewer))
+    }
+
+    /// Puts the address that a viewer's connection comes from, in digits as `127.0.0.1` or `::1`, at the room's start, as much of it as fits
+    /// (`host` of `rfbClientRec` in `rfb.h`). How many bytes that are; the rest of the room stays. `NoViewer`'s code where it isn't
+    /// connected, and `NETWORK_FAILED` where the system doesn't tell.
+    pub fn viewer_address(&mut self, viewer: u64, room: &mut [u8]) -> i32
+        ensures { TellsAddress viewer self.old self.new room.old room.new result }
+    {
+        let Some(events) = &self.events else {
+            return SHUT;
+        };
+        let Some(told) = events.viewer_address(viewer) else {
+            return code_of(ScreenError::NoViewer);
+        };
+        let Ok(address) = told else {
+            return NETWORK_FAILED;
+        };
+        match digits_of(self.alloc, address.ip()) {
+            Ok(digits) => copy_to(room, digits.as_bytes()) as i32,
+            Err(_) => code_of(ScreenError::OutOfMemory),
+        }
     }
 
     /// The system's handle that is ready to be read where a turn has something to do that came over the network.

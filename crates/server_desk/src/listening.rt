@@ -5,6 +5,7 @@ ghost use Rattle.connections.specs.Serving.{Serves};
 ghost use Rattle.event_loop.specs.Sockets.{sockets};
 ghost use Rattle.screen.specs.Alone.{config_refusal};
 ghost use Rattle.screen_desk.specs.Desk.{config_of};
+ghost use Rattle.server_desk.specs.Desk.{rects_per_update};
 ghost use Rattle.server_desk.specs.Listening.{IsOfSystem, IsRefusedBy, listen_code};
 
 use crate::codes::{BAD_ADDRESS, CANNOT_LISTEN};
@@ -15,8 +16,9 @@ use screen::config_refusal;
 use screen_desk::code_of;
 use std::alloc::Global;
 
-/// How many copies, and how many rectangles of pixels, an update has at most.
-const RECTS_PER_UPDATE: u32 = 50;
+/// How many copies, and how many rectangles of pixels, an update has at most: what is drawn between two turns seldom takes more, so that
+/// a viewer sees it at once.
+const RECTS_PER_UPDATE: u32 = 1000;
 
 /// Why a screen is not served.
 #[derive(Clone, Copy, Debug, PartialEq, Eq)]
@@ -92,7 +94,7 @@ fn serve(
 
 /// A screen that keeps no events, named `name`.
 fn config_of(alloc: Global, width: u32, height: u32, name: &[u8]) -> Result<Config, ListenError>
-    ensures ok { IfOk result (λ config. config ≡ config_of width height name.now 50) }
+    ensures ok { IfOk result (λ config. config ≡ config_of width height name.now rects_per_update) }
     ensures err { IfErr result IsOfSystem }
 {
     let Ok(name) = Listed::from_slice(alloc, name) else {
@@ -117,7 +119,7 @@ fn open(
     name: &[u8],
     viewers: u32,
 ) -> Result<Listening, ListenError>
-    ensures serves { IfOk result (λ made. Serves (config_of width height name.now 50) (sockets (config_of width height name.now 50)) [] made.events) }
+    ensures serves { IfOk result (λ made. Serves (config_of width height name.now rects_per_update) (sockets (config_of width height name.now rects_per_update)) [] made.events) }
     ensures err { IfErr result IsOfSystem }
 {
     let (listener, port) = bind(address, port)?;
@@ -136,8 +138,8 @@ pub(crate) fn listen_on(
     name: &[u8],
     viewers: u32,
 ) -> Result<Listening, ListenError>
-    ensures serves { IfOk result (λ made. Serves (config_of width height name.now 50) (sockets (config_of width height name.now 50)) [] made.events) }
-    ensures refused { IsRefusedBy (config_refusal (config_of width height name.now 50)) result }
+    ensures serves { IfOk result (λ made. Serves (config_of width height name.now rects_per_update) (sockets (config_of width height name.now rects_per_update)) [] made.events) }
+    ensures refused { IsRefusedBy (config_refusal (config_of width height name.now rects_per_update)) result }
 {
     match config_refusal(width, height, name, RECTS_PER_UPDATE) {
         Some(refusal) => Err(ListenError::Refused(refusal)),

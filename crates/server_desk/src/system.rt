@@ -1,5 +1,6 @@
 //! What a server needs of the system where no `main` hands it a runtime, as in a library for another language.
 
+use std::alloc::{AllocError, Global};
 use std::io;
 use std::net::{IpAddr, Net, SocketAddr, TcpListener, TcpStream};
 use std::time::{Clock, Duration};
@@ -48,6 +49,11 @@ pub(crate) fn address_of(digits: &[u8], port: u16) -> Option<SocketAddr> {
     let digits = str::from_utf8(digits).ok()?;
     let address: IpAddr = digits.parse().ok()?;
     Some(SocketAddr::from((address, port)))
+}
+
+/// An address in digits, as `127.0.0.1` or `::1`.
+pub(crate) fn digits_of(alloc: Global, address: IpAddr) -> Result<String, AllocError> {
+    format!(in alloc; "{address}")
 }
 
 /// How long a turn may wait at most, by milliseconds: without end below 0.

@@ -13,8 +13,8 @@ ghost use Rattle.screen.specs.declared.Event.{Event};
 ghost use Rattle.screen_desk.specs.Codes as codes;
 ghost use Rattle.screen_desk.specs.Calls.{colour_at};
 ghost use Rattle.screen_desk.specs.Desk.{rect_of, config_of};
-ghost use Rattle.server_desk.specs.Desk.{nothing_there};
-ghost use Rattle.server_desk.specs.Calls.{Listens, TakesTurn, Draws, DrawsRegion, FetchesInputs, FetchesVisits, ShowsText, Tells, TellsSome, LetsGo, TakesPixels, Wakes};
+ghost use Rattle.server_desk.specs.Desk.{nothing_there, rects_per_update};
+ghost use Rattle.server_desk.specs.Calls.{Listens, TakesTurn, Draws, DrawsRegion, FetchesInputs, FetchesVisits, ShowsText, Tells, TellsAddress, TellsSome, LetsGo, TakesPixels, Wakes};
 ghost use Rattle.server_desk.specs.Pixels.{format_of, source_from};
 ghost use Rattle.source_pixels.specs.declared.formats.SourceFormat.TheVariants as format;
 
@@ -40,7 +40,7 @@ pub struct WakerPlace {
 /// The number of this interface: `VNC_SERVER_ABI` of the header.
 #[unsafe(no_mangle)]
 pub extern "C" fn vnc_server_abi() -> u32 {
-    1
+    2
 }
 
 /// How many bytes of memory C has to give for a server; their address is a multiple of 16.
@@ -71,7 +71,7 @@ pub unsafe extern "C" fn vnc_server_listen(
 ) -> i32
     ghost before: { desk_row.Denot }
     requires* { sem 𝓛 (holds at before) }
-    ensures* { sem 𝓛 (leaves at (λ after. Listens (config_of width height name.now 50) before after result)) }
+    ensures* { sem 𝓛 (leaves at (λ after. Listens (config_of width height name.now rects_per_update) before after result)) }
 {
     ServerDesk::listen(
         &mut *(at as *mut ServerDesk),
@@ -112,6 +112,20 @@ pub unsafe extern "C" fn vnc_server_close_viewer(at: *mut Place, viewer: u64) ->
     ensures* { sem 𝓛 (leaves at (λ after. LetsGo viewer before after result)) }
 {
     ServerDesk::close_viewer(&mut *(at as *mut ServerDesk), viewer)
+}
+
+/// `ServerDesk::viewer_address`.
+#[unsafe(no_mangle)]
+pub unsafe extern "C" fn vnc_server_viewer_address(
+    at: *mut Place,
+    viewer: u64,
+    room: &mut [u8],
+) -> i32
+    ghost before: { desk_row.Denot }
+    requires* { sem 𝓛 (holds at before) }
+    ensures* { sem 𝓛 (leaves at (λ after. TellsAddress viewer before after room.old room.new result)) }
+{
+    ServerDesk::viewer_address(&mut *(at as *mut ServerDesk), viewer, room)
 }
 
 /// `ServerDesk::handle`.

@@ -38,6 +38,8 @@ pub enum Call {
     /// `process_events`.
     Turn(i32),
     CloseViewer(u64),
+    /// Into a room of two bytes; what is put there isn't looked at.
+    ViewerAddress(u64),
     Handle,
     LongestWait,
     Port,
@@ -97,6 +99,7 @@ fn code(desk: &mut ServerDesk, call: Call) -> i32 {
         Call::Close => desk.close(),
         Call::Turn(milliseconds) => desk.process_events(milliseconds),
         Call::CloseViewer(viewer) => desk.close_viewer(viewer),
+        Call::ViewerAddress(viewer) => desk.viewer_address(viewer, &mut [0; 2]),
         Call::Handle => desk.handle(),
         Call::LongestWait => desk.longest_wait(),
         Call::Port => desk.port(),

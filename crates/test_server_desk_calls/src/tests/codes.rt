@@ -4,7 +4,7 @@ use crate::tests::calls::Call;
 use crate::tests::calls::Call::{
     Bell, Close, CloseViewer, Colour, CutText, DoCopy, DoCopyRegion, Handle, Height, Inputs,
     Listen, LongestWait, Lost, Mark, MarkRegion, Paint, Port, Resize, ScheduleCopy,
-    ScheduleCopyRegion, Take, Text, Turn, ViewerCount, Visits, Width, Write,
+    ScheduleCopyRegion, Take, Text, Turn, ViewerAddress, ViewerCount, Visits, Width, Write,
 };
 use crate::tests::steps::Step::{
     AllAnswer, Answers, AnswersOneOf, AnswersWithin, First, HasKeptPort, HasOtherPort, KeepsPort,
@@ -75,6 +75,7 @@ const OTHERS: &[Call] = &[
     Height,
     Turn(0),
     CloseViewer(1),
+    ViewerAddress(1),
     Handle,
     LongestWait,
     Port,

@@ -3,7 +3,7 @@
 use crate::tests::calls::Call;
 use crate::tests::calls::Call::{
     CloseViewer, DoCopyRegion, Height, Inputs, Lost, MarkRegion, Paint, Resize, ScheduleCopyRegion,
-    Take, ViewerCount, Visits, Width, Write,
+    Take, ViewerAddress, ViewerCount, Visits, Width, Write,
 };
 use crate::tests::steps::Step::{AllAnswer, Answers, CutsLetters, First};
 use crate::tests::steps::{Example, LISTENS, first_wrong_of};
@@ -71,7 +71,14 @@ const BAD_SIZES: &[Call] = &[
 ];
 
 // Viewers that there are not where 1 is the only one.
-const NOBODY: &[Call] = &[CloseViewer(0), CloseViewer(2), CloseViewer(u64::MAX)];
+const NOBODY: &[Call] = &[
+    CloseViewer(0),
+    CloseViewer(2),
+    CloseViewer(u64::MAX),
+    ViewerAddress(0),
+    ViewerAddress(2),
+    ViewerAddress(u64::MAX),
+];
 
 const LAYOUT: PixelLayout = PixelLayout {
     bytes_per_pixel: 2,

@@ -34,6 +34,8 @@ pub enum Step {
     Text(&'static [u8; 5], (usize, usize), i32, &'static [u8; 5]),
     /// It is so many letters a.
     TextIsLetters(u32),
+    /// The address of a viewer is put into a room: how many bytes of it, and the room then.
+    Address(u64, &'static [u8; 12], i32, &'static [u8; 12]),
     /// What `cut_text` answers for so many letters.
     CutsLetters(usize, i32),
     /// The port is kept in mind; it is the kept one, or another one.
@@ -180,6 +182,10 @@ fn holds_of_desk(alloc: Global, stage: &mut Stage, step: Step) -> Result<bool, A
         Step::ToldKeys(count) => told_keys(desk, count),
         Step::ToldText(length) => told_text(desk, length),
         Step::Text(before, part, count, after) => has_text(desk, before, part, count, after),
+        Step::Address(viewer, before, count, after) => {
+            let mut room = *before;
+            desk.viewer_address(viewer, &mut room) == count && room == *after
+        }
         Step::TextIsLetters(count) => text_is_letters(alloc, desk, count)?,
         Step::CutsLetters(count, code) => desk.cut_text(&letters(alloc, count)?) == code,
         Step::KeepsPort => keeps_port(stage),

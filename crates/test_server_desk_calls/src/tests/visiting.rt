@@ -1,8 +1,10 @@
 // Who came and who went, and why.
 
-use crate::tests::calls::Call::{Bell, CloseViewer, Listen, Lost, ViewerCount, Visits};
+use crate::tests::calls::Call::{
+    Bell, CloseViewer, Listen, Lost, ViewerAddress, ViewerCount, Visits,
+};
 use crate::tests::calls::NOTHING_TOLD;
-use crate::tests::steps::Step::{Answers, Comes, First, Goes, IsLeftAlone, Second, Tells};
+use crate::tests::steps::Step::{Address, Answers, Comes, First, Goes, IsLeftAlone, Second, Tells};
 use crate::tests::steps::{Example, LISTENS, first_wrong_of};
 use crate::tests::viewers::Act::{
     Connects, Ends, IsHeard, IsSentNoMore, Leaves, Opens, Reads, Says, SeesAll, Skips,
@@ -43,7 +45,20 @@ const B_DOWN: Told = Told {
     ..NOTHING_TOLD
 };
 
-static EXAMPLES: [Example; 13] = [
+static EXAMPLES: [Example; 14] = [
+    (
+        "the address of a viewer is told while it is connected, as much of it as there is room for",
+        &[
+            LISTENS,
+            First(Opens),
+            Comes(1),
+            Address(1, b"............", 9, b"127.0.0.1..."),
+            Answers(ViewerAddress(1), 2),
+            First(Leaves),
+            Goes(1, 1, 0),
+            Address(1, b"............", -7, b"............"),
+        ],
+    ),
     (
         "a viewer that closes its connection went for the reason 1, and the next one has another number",
         &[
