@@ -150,6 +150,14 @@ are_pieces s p start y bands low each k d below =
     let inside : k < length bands = (let long = length-map bands (piece_of s) in omega arith) in
     subst (IsPiece s p) (sym (piece_at s bands k d inside)) (is_piece s p start y (get_or bands k no_band) low (each k no_band inside))
 
+-- where they end
+pub pieces_above : (s : Source) (columns start y : ℕ) (bands : List Band) → All (IsBand columns start y) bands → All (λ q. q.top + q.rows ≤ y) (map (piece_of s) bands)
+pieces_above s columns start y bands each k d below =
+    let inside : k < length bands = (let long = length-map bands (piece_of s) in omega arith) in
+    let b = each k no_band inside in
+    let some = b.some_rows in let high = b.high in
+    subst (λ (q : Piece). q.top + q.rows ≤ y) (sym (piece_at s bands k d inside)) (omega arith)
+
 -- what is gathered of all rows is what differs
 pub differences_are : (s : Source) (p : Part) (bands : List Band) (places : ℕ) → AreGathered s p 0 (rows_beside s p) bands places → AreDifferences s p (record { pieces = map (piece_of s) bands; places = places })
 differences_are s p bands places h = record {
