@@ -1,6 +1,6 @@
 -- Rows of a program's pixels that are taken, some after others.
-use Rattle.std.proofs.Common.{◌≡◌, ℕ, ◌+◌, ◌-◌, ◌<◌, ◌≤◌, List, [], ◌++◌, None, map, take, sym, ◌∙◌, ap, subst, append-nil, arith}
-use Rattle.std.specs.Prelude.{All, min}
+use Rattle.std.proofs.Common.{◌≡◌, ℕ, ◌+◌, ◌-◌, ◌≤◌, List, [], ◌++◌, None, map, take, sym, ◌∙◌, ap, subst, append-nil, arith}
+use Rattle.std.specs.Prelude.{min}
 use Rattle.std.proofs.lemmas.List.{append_assoc, map-append}
 use Rattle.std.proofs.lemmas.List.Elements.{All-append}
 use Rattle.region.specs.Places.{longest_side}
@@ -14,7 +14,7 @@ use Rattle.screen.specs.State.{State, state}
 use Rattle.source_pixels.specs.declared.bands.Band.{Band}
 use Rattle.source_pixels.specs.declared.pieces.Piece.{Piece}
 use Rattle.source_pixels.specs.Source.{Source, source_refusal}
-use Rattle.source_pixels.specs.Differences.{columns_beside, rows_beside, IsPiece, AreDifferences}
+use Rattle.source_pixels.specs.Differences.{rows_beside, IsPiece, AreDifferences}
 use Rattle.source_pixels.specs.Gathering.{AreGathered, piece_of}
 use Rattle.source_pixels.specs.GatheredLemmas.{gathered_none, gathered_append, are_pieces, pieces_above, differences_are}
 use Rattle.take_pixels.specs.Taken.{part_from, painted}

@@ -1,4 +1,4 @@
-use Rattle.std.proofs.Common.{◌≡◌, ℕ, ◌+◌, ◌-◌, ◌*◌, ◌≤◌, List, [], ◌++◌, length, map, take, refl, sym, ◌∙◌, ap, subst, append-nil, arith}
+use Rattle.std.proofs.Common.{◌≡◌, ◌+◌, ◌-◌, ◌*◌, ◌≤◌, List, [], ◌++◌, length, map, take, refl, sym, ◌∙◌, ap, subst, append-nil, arith}
 use Rattle.std.specs.Prelude.{All}
 use Rattle.std.proofs.lemmas.Nat.{mul-le}
 use Rattle.std.proofs.lemmas.Result.{err_from_is_err_and}
@@ -9,7 +9,7 @@ use Rattle.source_pixels.specs.Differences.{IsPiece}
 use Rattle.source_pixels.specs.Gathering.{piece_of}
 use Rattle.source_pixels.specs.GatheredLemmas.{are_pieces}
 use Rattle.take_pixels.specs.Taken.{part_from}
-use Rattle.take_pixels.specs.Paints.{paints_of, PaintsPieces, AreFirstPainted}
+use Rattle.take_pixels.specs.Paints.{paints_of, AreFirstPainted}
 use Rattle.take_pixels.specs.Takes.{Takes}
 use Rattle.take_pixels.proofs.RowsLemmas.{no_rows, paints_append, rows_more, rows_alone, rows_partly, rows_all}
 use Rattle.take_pixels.proofs.taking.take.Goals as goal
