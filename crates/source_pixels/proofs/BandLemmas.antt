@@ -28,18 +28,15 @@ is_in b x y h =
 not_in : (b : Band) (x y : ℕ) → (IsIn b x y → ⊥) → is_in_band b x y ≡ false
 not_in b x y h = false_from_ne_true (is_in_band b x y) (λ e. h (in_band b x y e))
 
-higher : (columns y : ℕ) (b : Band) → IsBand columns y b → IsBand columns (y + 1) b
-higher columns y b h = record { some_columns = h.some_columns; wide = h.wide; some_rows = h.some_rows; high = let top = h.high in omega arith }
-
-pub no_bands : (columns : ℕ) (same : ℕ → ℕ → Type 0) → AreBands columns same 0 []
-no_bands columns same = record { each = λ k d below. absurd (omega arith); ordered = λ i j d before below. absurd (omega arith); whole = λ x r below out. absurd (omega arith) }
+higher : (columns start y : ℕ) (b : Band) → IsBand columns start y b → IsBand columns start (y + 1) b
+higher columns start y b h = record { some_columns = h.some_columns; wide = h.wide; some_rows = h.some_rows; low = h.low; high = let top = h.high in omega arith }
 
 -- a row in which the fact holds everywhere
-pub row_same : (columns : ℕ) (same : ℕ → ℕ → Type 0) (y : ℕ) (bands : List Band) → AreBands columns same y bands → ((x : ℕ) → same x y) → AreBands columns same (y + 1) bands
-row_same columns same y bands h here = record {
-  each = λ k d below. higher columns y (get_or bands k d) (h.each k d below);
+pub row_same : (columns : ℕ) (same : ℕ → ℕ → Type 0) (start y : ℕ) (bands : List Band) → AreBands columns same start y bands → ((x : ℕ) → same x y) → AreBands columns same start (y + 1) bands
+row_same columns same start y bands h here = record {
+  each = λ k d below. higher columns start y (get_or bands k d) (h.each k d below);
   ordered = h.ordered;
-  whole = λ x r below out. ⊎_elim (λ above. h.whole x r above out) (λ last. let e : r ≡ y = omega arith in subst (λ n. same x n) (sym e) (here x)) (cases_lt r y);
+  whole = λ x r low below out. ⊎_elim (λ above. h.whole x r low above out) (λ last. let e : r ≡ y = omega arith in subst (λ n. same x n) (sym e) (here x)) (cases_lt r y);
 }
 
 pushed_at : (bands : List Band) (b : Band) (k : ℕ) (d : Band) → k < length (bands ++ b ∷ []) → ((k < length bands) × (get_or (bands ++ b ∷ []) k d ≡ get_or bands k d)) ⊎ ((k ≡ length bands) × (get_or (bands ++ b ∷ []) k d ≡ b))
@@ -49,25 +46,25 @@ pushed_at bands b k d below =
     (λ last. let e : k ≡ length bands = omega arith in inr (e, ap (λ n. get_or (bands ++ b ∷ []) n d) e ∙ get_or_push bands b d (length bands) refl)) (cases_lt k (length bands))
 
 -- a row whose band comes behind the others
-pub row_pushed : (columns : ℕ) (same : ℕ → ℕ → Type 0) (y : ℕ) (bands : List Band) (b : Band) → AreBands columns same y bands → IsBand columns (y + 1) b → b.top ≡ y
-    → ((x : ℕ) → is_in_band b x y ≡ false → same x y) → AreBands columns same (y + 1) (bands ++ b ∷ [])
-row_pushed columns same y bands b h fits top here = record {
-  each = λ k d below. ⊎_elim (λ first. subst (IsBand columns (y + 1)) (sym first.1) (higher columns y (get_or bands k d) (h.each k d first.0))) (λ last. subst (IsBand columns (y + 1)) (sym last.1) fits) (pushed_at bands b k d below);
+pub row_pushed : (columns : ℕ) (same : ℕ → ℕ → Type 0) (start y : ℕ) (bands : List Band) (b : Band) → AreBands columns same start y bands → IsBand columns start (y + 1) b → b.top ≡ y
+    → ((x : ℕ) → is_in_band b x y ≡ false → same x y) → AreBands columns same start (y + 1) (bands ++ b ∷ [])
+row_pushed columns same start y bands b h fits top here = record {
+  each = λ k d below. ⊎_elim (λ first. subst (IsBand columns start (y + 1)) (sym first.1) (higher columns start y (get_or bands k d) (h.each k d first.0))) (λ last. subst (IsBand columns start (y + 1)) (sym last.1) fits) (pushed_at bands b k d below);
   ordered = all_pairs_push (λ a b. a.bottom ≤ b.top) bands b h.ordered (λ k d below. let e = (h.each k d below).high in omega arith);
-  whole = λ x r below out.
+  whole = λ x r low below out.
       let front : IsOutside bands x r = λ k d first.
       subst (λ c. is_in_band c x r ≡ false) (get_or_append_left bands (b ∷ []) d k first) (out k d (let long = length_push bands b in omega arith)) in
       let last : is_in_band b x r ≡ false = subst (λ c. is_in_band c x r ≡ false) (get_or_push bands b b (length bands) refl) (out (length bands) b (let long = length_push bands b in omega arith)) in
-      ⊎_elim (λ above. h.whole x r above front) (λ this. let e : r ≡ y = omega arith in subst (λ n. same x n) (sym e) (here x (subst (λ n. is_in_band b x n ≡ false) e last))) (cases_lt r y);
+      ⊎_elim (λ above. h.whole x r low above front) (λ this. let e : r ≡ y = omega arith in subst (λ n. same x n) (sym e) (here x (subst (λ n. is_in_band b x n ≡ false) e last))) (cases_lt r y);
 }
 
 -- a row whose band is joined with the last
-pub row_joined : (columns : ℕ) (same : ℕ → ℕ → Type 0) (y : ℕ) (bands : List Band) (b joint : Band) → AreBands columns same y bands → IsBand columns (y + 1) b → b.top ≡ y
-    → ((x : ℕ) → is_in_band b x y ≡ false → same x y) → 0 < length bands → IsJoint (get_or bands (length bands - 1) b) b joint → AreBands columns same (y + 1) (set bands (length bands - 1) joint)
-row_joined columns same y bands b joint h fits top here some joins = record {
+pub row_joined : (columns : ℕ) (same : ℕ → ℕ → Type 0) (start y : ℕ) (bands : List Band) (b joint : Band) → AreBands columns same start y bands → IsBand columns start (y + 1) b → b.top ≡ y
+    → ((x : ℕ) → is_in_band b x y ≡ false → same x y) → 0 < length bands → IsJoint (get_or bands (length bands - 1) b) b joint → AreBands columns same start (y + 1) (set bands (length bands - 1) joint)
+row_joined columns same start y bands b joint h fits top here some joins = record {
   each = λ k d below. ⊎_elim
-      (λ e. subst (IsBand columns (y + 1)) (sym (ap (λ n. get_or (set bands at joint) n d) e ∙ same_place d)) whole_joint)
-      (λ other. subst (IsBand columns (y + 1)) (sym (get_or-set_other bands at k joint d other)) (higher columns y (get_or bands k d) (h.each k d (let long = length-set bands at joint in omega arith))))
+      (λ e. subst (IsBand columns start (y + 1)) (sym (ap (λ n. get_or (set bands at joint) n d) e ∙ same_place d)) whole_joint)
+      (λ other. subst (IsBand columns start (y + 1)) (sym (get_or-set_other bands at k joint d other)) (higher columns start y (get_or bands k d) (h.each k d (let long = length-set bands at joint in omega arith))))
       (cases_eq k at);
   ordered = λ i j d before below.
       let long = length-set bands at joint in
@@ -80,7 +77,7 @@ row_joined columns same y bands b joint h fits top here some joins = record {
       let first' : (get_or bands i d).bottom ≡ (get_or bands i b).bottom = ap (λ (c : Band). c.bottom) first in omega arith))
       (λ other. subst (λ (c : Band). (get_or bands i d).bottom ≤ c.top) (sym (get_or-set_other bands at j joint d other)) (h.ordered i j d before (omega arith)))
       (cases_eq j at));
-  whole = λ x r below out.
+  whole = λ x r low below out.
       let long = length-set bands at joint in
       let joint_out : is_in_band joint x r ≡ false = subst (λ c. is_in_band c x r ≡ false) (same_place b) (out at b (omega arith)) in
       let front : IsOutside bands x r = λ k d first.
@@ -91,7 +88,7 @@ row_joined columns same y bands b joint h fits top here some joins = record {
       wider inside'))))
       (λ other. subst (λ c. is_in_band c x r ≡ false) (get_or-set_other bands at k joint d other) (out k d (omega arith)))
       (cases_eq k at) in
-      ⊎_elim (λ above. h.whole x r above front)
+      ⊎_elim (λ above. h.whole x r low above front)
       (λ this. let e : r ≡ y = omega arith in subst (λ n. same x n) (sym e) (here x (not_in b x y (λ inside. both_ways _ joint_out (is_in joint x r (subst (λ n. IsIn joint x n) (sym e) (lower inside)))))))
       (cases_lt r y);
 }
@@ -105,15 +102,16 @@ row_joined columns same y bands b joint h fits top here some joins = record {
     same_place : (d : Band) → get_or (set bands at joint) at d ≡ joint
     same_place d = get_or-set_same bands at joint d (omega arith)
 
-    band_last : IsBand columns y last
+    band_last : IsBand columns start y last
     band_last = h.each at b (omega arith)
 
-    whole_joint : IsBand columns (y + 1) joint
+    whole_joint : IsBand columns start (y + 1) joint
     whole_joint =
         let f = joins.from in let t = joins.to in let u = joins.top in let v = joins.bottom in let w = joins.below in
         let a = band_last.some_columns in let a' = band_last.wide in let a'' = band_last.some_rows in
         let c = fits.some_columns in let c' = fits.wide in let c'' = fits.some_rows in let c''' = fits.high in
-        record { some_columns = omega arith; wide = omega arith; some_rows = omega arith; high = omega arith }
+        let a''' = band_last.low in
+        record { some_columns = omega arith; wide = omega arith; some_rows = omega arith; low = omega arith; high = omega arith }
 
     wider : {x r : ℕ} → IsIn last x r → IsIn joint x r
     wider i =

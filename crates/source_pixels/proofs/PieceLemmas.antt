@@ -1,18 +1,12 @@
 -- The colours of rectangles, row by row.
-use Rattle.std.proofs.Common.{◌≡◌, ℕ, false, ◌&&◌, ◌+◌, ◌-◌, ◌*◌, ◌/◌, ◌%◌, ◌<◌, ◌≤◌, List, ◌++◌, length, map, take, drop, get_or, refl, sym, ◌∙◌, ap, subst, ⊎_elim, arith}
-use Rattle.std.specs.Prelude.{nat_le, nat_lt}
+use Rattle.std.proofs.Common.{◌≡◌, ℕ, ◌+◌, ◌-◌, ◌*◌, ◌/◌, ◌%◌, ◌<◌, ◌≤◌, List, ◌++◌, length, take, drop, get_or, sym, ◌∙◌, ap, subst, ⊎_elim, arith}
 use Rattle.std.proofs.lemmas.Bool.{cases_lt}
 use Rattle.std.proofs.lemmas.Nat.{mul-le, div-mul-add, mod-mul-add}
-use Rattle.std.proofs.lemmas.List.{length-take-le, length-append, length-drop, get_or_append_left, get_or-append_right, get_or-take, get_or-map, get_or_default, length-map}
+use Rattle.std.proofs.lemmas.List.{length-take-le, length-append, length-drop, get_or_append_left, get_or-append_right, get_or-take}
 use Rattle.std.proofs.lemmas.List.FromFn.{fill_by_all, length-map-range_with_len, get_or-map-range_with_len}
 use borrow.Rule.Slice.PartMut.{put_mid}
-use Rattle.source_pixels.specs.declared.bands.Band.{Band}
-use Rattle.source_pixels.specs.declared.pieces.Piece.{Piece}
 use Rattle.source_pixels.specs.Source.{Source, colour_at, colours_at}
-use Rattle.source_pixels.specs.Parts.{Part}
-use Rattle.source_pixels.specs.Bands.{is_in_band, IsBand}
-use Rattle.source_pixels.specs.Gathering.{AreGathered, piece_of}
-use Rattle.source_pixels.specs.Differences.{block_colours, columns_beside, rows_beside, is_in_piece, IsPiece, AreDifferences}
+use Rattle.source_pixels.specs.Differences.{block_colours}
 
 -- the colours of the first rows of a rectangle are written
 pub record AreWritten (s : Source) (left top columns rows row : ℕ) (colours : List ℕ) : Type 0 where
@@ -69,49 +63,3 @@ part_long columns rows row colours below long =
     let m = mul-le (row + 1) columns rows columns (omega arith) (omega arith) in
     let a = length-drop (row * columns) colours in
     length-take-le (row * columns + columns - row * columns) (drop (row * columns) colours) (omega arith) ∙ omega arith
-
--- ---- bands with their colours
-
-no_band : Band
-no_band = record { top = 0; bottom = 0; from = 0; to = 0; spans = 0 }
-
-piece_at : (s : Source) (bands : List Band) (k : ℕ) (d : Piece) → k < length bands → get_or (map (piece_of s) bands) k d ≡ piece_of s (get_or bands k no_band)
-piece_at s bands k d below = get_or-map (piece_of s) bands k no_band d below
-
-is_piece : (s : Source) (p : Part) (b : Band) → IsBand (columns_beside s p) (rows_beside s p) b → IsPiece s p (piece_of s b)
-is_piece s p b h =
-    let a = h.some_columns in let c = h.wide in let e = h.some_rows in let f = h.high in
-    record { some_columns = omega arith; some_rows = omega arith; wide = omega arith; high = omega arith; colours = refl }
-
-same_places : (s : Source) (b : Band) (columns y : ℕ) → IsBand columns y b → (x r : ℕ) → is_in_piece (piece_of s b) x r ≡ is_in_band b x r
-same_places s b columns y h x r =
-    let a = h.some_columns in let e = h.some_rows in
-    let right : b.from + (b.to - b.from) ≡ b.to = omega arith in
-    let bottom : b.top + (b.bottom - b.top) ≡ b.bottom = omega arith in
-    ap (λ n. nat_le b.from x && nat_lt x n && (nat_le b.top r && nat_lt r (b.top + (b.bottom - b.top)))) right
-    ∙ ap (λ n. nat_le b.from x && nat_lt x b.to && (nat_le b.top r && nat_lt r n)) bottom
-
-pub differences_are : (s : Source) (p : Part) (bands : List Band) (places : ℕ) → AreGathered s p (rows_beside s p) bands places → AreDifferences s p (record { pieces = map (piece_of s) bands; places = places })
-differences_are s p bands places h = record {
-  pieces = λ k d below. let inside : k < length bands = (let long = length-map bands (piece_of s) in omega arith) in
-      subst (IsPiece s p) (sym (piece_at s bands k d inside)) (is_piece s p (get_or bands k no_band) (h.are_bands.each k no_band inside));
-  ordered = λ i j d before below.
-      let long = length-map bands (piece_of s) in
-      let first : i < length bands = omega arith in
-      let second : j < length bands = omega arith in
-      subst (λ (a : Piece). a.top + a.rows ≤ (get_or (map (piece_of s) bands) j d).top) (sym (piece_at s bands i d first))
-      (subst (λ (b : Piece). (piece_of s (get_or bands i no_band)).top + (piece_of s (get_or bands i no_band)).rows ≤ b.top) (sym (piece_at s bands j d second))
-      (let order = h.are_bands.ordered i j no_band before second in let tall = (h.are_bands.each i no_band first).some_rows in omega arith));
-  whole = λ x y below inside out.
-      h.are_bands.whole x y below (λ k d within.
-      let long = length-map bands (piece_of s) in
-      let e : get_or bands k d ≡ get_or bands k no_band = get_or_default bands k d no_band within in
-      let q : Piece = piece_of s no_band in
-      subst (λ (b : Band). is_in_band b x y ≡ false) (sym e)
-      (sym (same_places s (get_or bands k no_band) _ _ (h.are_bands.each k no_band within) x y)
-      ∙ ap (λ (a : Piece). is_in_piece a x y) (sym (piece_at s bands k q within))
-      ∙ out k q (omega arith)))
-      inside;
-  few = let long = length-map bands (piece_of s) in let few = h.few in omega arith;
-  places = h.counted;
-}

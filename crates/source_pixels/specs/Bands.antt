@@ -5,11 +5,12 @@ use Rattle.source_pixels.specs.declared.bands.Band.{Band}
 abbrev pub is_in_band : Band → ℕ → ℕ → Bool
 is_in_band b x y = nat_le b.from x && nat_lt x b.to && (nat_le b.top y && nat_lt y b.bottom)
 
--- a band has places, in so many columns, above row y
-pub record IsBand (columns y : ℕ) (b : Band) : Type 0 where
+-- a band has places, in so many columns, in the rows from one to below row y
+pub record IsBand (columns start y : ℕ) (b : Band) : Type 0 where
   pub some_columns : b.from < b.to
   pub wide : b.to ≤ columns
   pub some_rows : b.top < b.bottom
+  pub low : start ≤ b.top
   pub high : b.bottom ≤ y
 
 -- a band that holds two others, of which the second lies directly below the first
@@ -28,8 +29,8 @@ Adds old b new = (new ≡ old ++ b ∷ []) ⊎ ((0 < length old) × (joint : Ban
 abbrev pub IsOutside : List Band → ℕ → ℕ → Type 0
 IsOutside bands x y = All (λ b. is_in_band b x y ≡ false) bands
 
--- bands of the rows above row y, from the top; where none of them is, a fact holds
-pub record AreBands (columns : ℕ) (same : ℕ → ℕ → Type 0) (y : ℕ) (bands : List Band) : Type 0 where
-  pub each : All (IsBand columns y) bands
+-- bands of the rows from one to below row y, from the top; where none of them is, a fact holds
+pub record AreBands (columns : ℕ) (same : ℕ → ℕ → Type 0) (start y : ℕ) (bands : List Band) : Type 0 where
+  pub each : All (IsBand columns start y) bands
   pub ordered : AllPairs (λ a b. a.bottom ≤ b.top) bands
-  pub whole : (x r : ℕ) → r < y → IsOutside bands x r → same x r
+  pub whole : (x r : ℕ) → start ≤ r → r < y → IsOutside bands x r → same x r

@@ -1,4 +1,4 @@
--- What is gathered of the rows above row y.
+-- What is gathered of some rows.
 use Rattle.std.specs.Prelude.{◌≡◌, ℕ, ◌-◌, ◌*◌, ◌<◌, ◌≤◌, List, length, map, slice_index, sum}
 use Rattle.std.specs.List.{range_with_len}
 use Rattle.source_pixels.specs.declared.bands.Band.{Band}
@@ -12,11 +12,13 @@ use Rattle.source_pixels.specs.Differences.{columns_beside, row_beside, row_coun
 abbrev pub IsSameAt : Source → Part → ℕ → ℕ → Type 0
 IsSameAt s p x y = x < length (row_beside s p y) → colour_at s x y ≡ slice_index (row_beside s p y) x
 
-pub record AreGathered (s : Source) (p : Part) (y : ℕ) (bands : List Band) (places : ℕ) : Type 0 where
-  pub are_bands : AreBands (columns_beside s p) (IsSameAt s p) y bands
-  pub counted : places ≡ sum (map (row_count s p) (range_with_len 0 y))
+-- each place of the rows from one to below row y that differs from the picture's is in a band, of which each lies below those
+-- before it; they are at most as many as the places that differ
+pub record AreGathered (s : Source) (p : Part) (start y : ℕ) (bands : List Band) (places : ℕ) : Type 0 where
+  pub are_bands : AreBands (columns_beside s p) (IsSameAt s p) start y bands
+  pub counted : places ≡ sum (map (row_count s p) (range_with_len start (y - start)))
   pub few : length bands ≤ places
-  pub small : places ≤ s.width * y
+  pub small : places ≤ s.width * (y - start)
 
 -- a band with its colours
 abbrev pub piece_of : Source → Band → Piece

@@ -8,3 +8,4 @@ pub mod Parts
 pub mod Differences
 pub mod Bands
 pub mod Gathering
+pub mod GatheredLemmas

@@ -8,18 +8,23 @@ use std::alloc::AllocError;
 /// Places that a join may add, besides as many as there are in the rows' own spans: a rectangle's head costs a viewer about as much.
 const SLACK: usize = 64;
 
+/// How many places rows that are joined have at most, so that the colours of a rectangle of several rows, of four bytes each, stay in
+/// a processor's cache from when they are written to when they are read.
+pub const MOST_PLACES: usize = 65_536;
+
 /// The columns from one to below another, in the rows from one to below another.
 #[derive(Clone, Copy, Debug)]
-pub(crate) struct Band {
+pub struct Band {
     pub top: usize,
     pub bottom: usize,
     pub from: usize,
     pub to: usize,
-    // how many places its rows have from their first to their last that differs
+    /// How many places its rows have from their first to their last that differs.
     pub spans: usize,
 }
 
-/// Whether a row belongs to the band above it: it lies directly below, and together they are not far larger than what differs.
+/// Whether a row belongs to the band above it: it lies directly below, and together they are not far larger than what differs, nor
+/// too large for a cache.
 fn belongs(band: Band, row: Band) -> bool
     ensures { IsTrue result → band.bottom ≡ row.top }
 {
@@ -27,7 +32,9 @@ fn belongs(band: Band, row: Band) -> bool
     let places = (joint.to.saturating_sub(joint.from)).saturating_mul(
         joint.bottom.saturating_sub(joint.top),
     );
-    band.bottom == row.top && places <= joint.spans.saturating_mul(2).saturating_add(SLACK)
+    band.bottom == row.top
+        && places <= joint.spans.saturating_mul(2).saturating_add(SLACK)
+        && places <= MOST_PLACES
 }
 
 /// Two bands as one.

@@ -9,7 +9,8 @@
 //! // source.compare_row(0, row) is None where row 0 of the picture has these colours already
 //! ```
 //!
-//! `find_differences` does so for each row of a picture that is `Beside` the pixels, and gathers what differs into rectangles.
+//! `find_differences` does so for each row of a picture that is `Beside` the pixels, and gathers what differs into rectangles;
+//! `find_bands` does so for some rows, and leaves their colours out.
 #![tactic(auto)]
 
 mod bands;
@@ -22,9 +23,10 @@ mod rows;
 mod scales;
 mod source;
 
+pub use bands::{Band, MOST_PLACES};
 pub use errors::SourceError;
 pub use formats::{BytesPerPixel, SourceFormat, TrueColour};
-pub use pieces::{Beside, Differences, Piece, find_differences};
+pub use pieces::{Beside, Differences, FoundBands, Piece, find_bands, find_differences};
 pub use pixel_translate::Component;
 pub use rows::RowDifference;
 pub use source::PixelSource;

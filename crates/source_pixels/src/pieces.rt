@@ -1,11 +1,11 @@
 //! What differs between pixels and the part of a picture beside them, as rectangles with their colours.
 
-ghost use Rattle.std.specs.Prelude.{◌≡◌, ◌+◌, ◌-◌, ◌*◌, ◌<◌, ◌≤◌, length, take, min, MatchOption, IfOk, None};
+ghost use Rattle.std.specs.Prelude.{◌≡◌, ◌+◌, ◌<◌, ◌≤◌, length, take, MatchOption, IfOk, None};
 ghost use Rattle.source_pixels.specs.Source.{colours_at, source_refusal};
 ghost use Rattle.source_pixels.specs.Rows.{AreSame, IsDifference};
 ghost use Rattle.source_pixels.specs.Parts.{Part};
 ghost use Rattle.source_pixels.specs.Gathering.{AreGathered, piece_of};
-ghost use Rattle.source_pixels.specs.Differences.{block_colours, AreDifferences, rows_beside};
+ghost use Rattle.source_pixels.specs.Differences.{AreDifferences, rows_beside};
 
 use crate::bands::{Band, add};
 use crate::rows::RowDifference;
@@ -49,6 +49,13 @@ pub struct Differences {
     pub places: usize,
 }
 
+/// What differs in some rows: bands that hold each place that differs, and how many places differ.
+#[derive(Drop)]
+pub struct FoundBands {
+    pub bands: Listed<Band>,
+    pub places: usize,
+}
+
 /// Where a row differs from the picture's, of which only the first columns are looked at.
 fn row_difference<B: Beside>(
     source: &PixelSource<'_>,
@@ -64,13 +71,6 @@ fn row_difference<B: Beside>(
 {
     let row = picture.row(y);
     source.compare_row(y, &row[..row.len().min(columns)])
-}
-
-/// What is gathered of rows.
-#[derive(Drop)]
-struct Gathered {
-    bands: Vec<Band>,
-    places: usize,
 }
 
 /// The band of a row that differs.
@@ -90,42 +90,34 @@ fn band_of(y: usize, difference: RowDifference) -> Band
     }
 }
 
-/// Gathers the rows that differ, from the top.
-fn gather<B: Beside>(
+/// What differs in the rows from `top` to below `bottom` between a program's pixels and the part of a picture beside them, as
+/// `find_differences` gathers it, without colours: `copy_band` gives those of a band. Where no place differs, no memory is taken.
+/// Refused for want of memory alone.
+pub fn find_bands<B: Beside>(
     alloc: Global,
     source: &PixelSource<'_>,
     picture: &B,
-) -> Result<Gathered, AllocError>
+    top: usize,
+    bottom: usize,
+) -> Result<FoundBands, AllocError>
+    requires order { top ≤ bottom }
+    requires beside { bottom ≤ rows_beside source.now (B.part picture.now) }
     ensures accepted { source_refusal source.now ≡ None }
-    ensures gathered { IfOk result (λ g. AreGathered source.now (B.part picture.now) (rows_beside source.now (B.part picture.now)) g.bands.items g.places) }
+    ensures found { IfOk result (λ f. AreGathered source.now (B.part picture.now) top bottom f.bands f.places) }
 {
     let columns = source.width().min(picture.columns());
-    let rows = source.height().min(picture.rows());
     let mut bands = Vec::new(alloc);
     let mut places = 0;
-    for y in 0..rows {
+    for y in top..bottom {
         if let Some(difference) = row_difference(source, picture, columns, y) {
             add(&mut bands, band_of(y, difference))?;
             places += difference.places;
         }
     }
-    Ok(Gathered { bands, places })
-}
-
-/// Writes the colours of a band of the source, row by row, over others.
-fn write_band(source: &PixelSource<'_>, band: Band, colours: &mut [u32])
-    requires wide { band.to ≤ source.now.width }
-    requires high { band.bottom ≤ source.now.height }
-    requires columns { band.from ≤ band.to }
-    requires rows { band.top ≤ band.bottom }
-    requires whole { length colours.old ≡ (band.bottom - band.top) * (band.to - band.from) }
-    ensures { colours.new ≡ block_colours source.now band.from band.top (band.to - band.from) (band.bottom - band.top) }
-{
-    let columns = band.to - band.from;
-    for row in 0..band.bottom - band.top {
-        let places = &mut colours[row * columns..row * columns + columns];
-        source.copy_colours(band.from, band.top + row, places);
-    }
+    Ok(FoundBands {
+        bands: Listed::from_vec(bands),
+        places,
+    })
 }
 
 /// A band of the source with its colours.
@@ -136,18 +128,13 @@ fn make_piece(alloc: Global, source: &PixelSource<'_>, band: Band) -> Result<Pie
     requires rows { band.top ≤ band.bottom }
     ensures { IfOk result (λ p. p ≡ piece_of source.now band) }
 {
-    let columns = band.to - band.from;
-    let rows = band.bottom - band.top;
-    let Some(count) = rows.checked_mul(columns) else {
-        return Err(AllocError);
-    };
-    let mut colours = vec![in alloc; 0u32; count]?;
-    write_band(source, band, &mut colours);
+    let mut colours = vec![in alloc; 0u32; source.band_places(band)]?;
+    source.copy_band(band, &mut colours);
     Ok(Piece {
         left: band.from,
         top: band.top,
-        columns,
-        rows,
+        columns: band.to - band.from,
+        rows: band.bottom - band.top,
         colours: Listed::from_vec(colours),
     })
 }
@@ -163,13 +150,14 @@ pub fn find_differences<B: Beside>(
     ensures accepted { source_refusal source.now ≡ None }
     ensures differ { IfOk result (λ d. AreDifferences source.now (B.part picture.now) d) }
 {
-    let gathered = gather(alloc, source, picture)?;
+    let rows = source.height().min(picture.rows());
+    let found = find_bands(alloc, source, picture, 0, rows)?;
     let mut pieces = Listed::new(alloc);
-    for band in &gathered.bands {
+    for band in found.bands.as_slice() {
         pieces.push(make_piece(alloc, source, *band)?)?;
     }
     Ok(Differences {
         pieces,
-        places: gathered.places,
+        places: found.places,
     })
 }

@@ -1,10 +1,12 @@
 //! A program's own pixels, with their layout.
 
-ghost use Rattle.std.specs.Prelude.{◌≡◌, ◌+◌, ◌*◌, ◌^◌, ◌<◌, ◌≤◌, ◌↔◌, IsTrue, length, take, drop, IsSome, IfSome, MatchOption, None};
+ghost use Rattle.std.specs.Prelude.{◌≡◌, ◌+◌, ◌-◌, ◌*◌, ◌^◌, ◌<◌, ◌≤◌, ◌↔◌, IsTrue, length, take, drop, IsSome, IfSome, MatchOption, None};
 ghost use Rattle.source_pixels.specs.Formats.{pixel_size};
 ghost use Rattle.source_pixels.specs.Source.{Source, colour_at, colours_at, source_refusal, format_refusal, bytes_needed};
 ghost use Rattle.source_pixels.specs.Rows.{AreSame, IsDifference};
+ghost use Rattle.source_pixels.specs.Gathering.{piece_of};
 
+use crate::bands::Band;
 use crate::errors::SourceError;
 use crate::formats::SourceFormat;
 use crate::pixels::{compare_pixels, pixel_size, write_pixels};
@@ -138,6 +140,32 @@ impl<'a> PixelSource<'a> {
         ensures { places.new ≡ colours_at self.now x y (length places.old) }
     {
         write_pixels(self.format, self.pixels(x, y, places.len()), places);
+    }
+
+    /// How many places a band has.
+    pub fn band_places(&self, band: Band) -> usize
+        requires wide { band.to ≤ self.now.width }
+        requires high { band.bottom ≤ self.now.height }
+        ensures { result ≡ (band.bottom - band.top) * (band.to - band.from) }
+    {
+        prove!(band.to <= self.width && band.bottom <= self.height);
+        band.bottom.saturating_sub(band.top) * band.to.saturating_sub(band.from)
+    }
+
+    /// Writes the colours `0x00RRGGBB` of a band's places, row by row, over as many others. It takes no memory.
+    pub fn copy_band(&self, band: Band, colours: &mut [u32])
+        requires wide { band.to ≤ self.now.width }
+        requires high { band.bottom ≤ self.now.height }
+        requires columns { band.from ≤ band.to }
+        requires rows { band.top ≤ band.bottom }
+        requires whole { length colours.old ≡ (band.bottom - band.top) * (band.to - band.from) }
+        ensures { colours.new ≡ (piece_of self.now band).colours }
+    {
+        let columns = band.to - band.from;
+        for row in 0..band.bottom - band.top {
+            let places = &mut colours[row * columns..row * columns + columns];
+            self.copy_colours(band.from, band.top + row, places);
+        }
     }
 
     /// The colour `0x00RRGGBB` of the place in column x of row y; None outside.

@@ -1,3 +1,4 @@
 pub mod PaintedLemmas
 pub mod EventLemmas
 pub mod TakeLemmas
+pub mod RowsLemmas

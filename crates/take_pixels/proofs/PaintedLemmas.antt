@@ -1,16 +1,19 @@
 -- Rectangles of a source that are painted on a picture.
-use Rattle.std.proofs.Common.{◌≡◌, ℕ, zero, suc, ◌+◌, ◌-◌, ◌*◌, ◌/◌, ◌%◌, ◌^◌, ◌<◌, ◌≤◌, true, false, cond, List, [], ◌∷◌, length, take, drop, get_or, slice_index, None, refl, sym, ◌∙◌, ap, ⊎_elim, inl, inr, arith}
-use Rattle.std.specs.Prelude.{◌⊎◌, All, pos, ◌-ℤ◌, nat_abs}
+use Rattle.std.proofs.Common.{◌≡◌, ℕ, zero, suc, ◌+◌, ◌-◌, ◌*◌, ◌/◌, ◌%◌, ◌^◌, ◌<◌, ◌≤◌, true, false, cond, List, [], ◌∷◌, length, map, take, drop, get_or, slice_index, None, refl, sym, ◌∙◌, ap, ⊎_elim, inl, inr, arith}
+use Rattle.std.specs.Prelude.{◌⊎◌, All, min, pos, ◌-ℤ◌, nat_abs}
 use Rattle.std.proofs.Math.Nat.{mod-eq_of_lt, mod-lt, mul_comm}
 use Rattle.std.proofs.lemmas.Int.{ints}
 use Rattle.std.proofs.lemmas.Bool.{and_parts, and_from, ltb-true, leb-true, lt-ltb, le-leb, cases_Bool, both_ways, false_from_ne_true}
 use Rattle.std.proofs.lemmas.Nat.{mul-le, mul-add-lt, div-mul-add, mod-mul-add}
 use Rattle.std.proofs.lemmas.List.{get_or-take, get_or-drop, length-take, length-drop}
-use Rattle.std.proofs.lemmas.List.FromFn.{length-map-range_with_len, get_or-map-range_with_len}
+use Rattle.std.proofs.lemmas.List.FromFn.{fill_by_all, length-map-range_with_len, get_or-map-range_with_len}
+use Rattle.std.specs.List.{range_with_len}
 use Rattle.region.specs.Region.{in_rect, on_screen}
+use Rattle.region.specs.Places.{longest_side}
 use Rattle.region.specs.PlaceLemmas.{row_below, on_screen-number, at_place-number, by_place-numbers, value_on}
 use Rattle.screen.specs.Frame.{Frame, IsPicture}
 use Rattle.screen.specs.Picture.{written, colour_at, colour_in}
+use Rattle.source_pixels.specs.declared.bands.Band.{Band}
 use Rattle.source_pixels.specs.declared.pieces.Piece.{Piece}
 use Rattle.source_pixels.specs.declared.pieces.Differences.{Differences}
 use Rattle.source_pixels.specs.Parts.{Part}
@@ -18,6 +21,8 @@ use Rattle.source_pixels.specs.Source.{Source, source_refusal}
 use Rattle.source_pixels.specs.Source as source
 use Rattle.source_pixels.specs.SourceLemmas.{colour_small}
 use Rattle.source_pixels.specs.Differences.{is_in_piece, columns_beside, rows_beside, row_beside, IsPiece, AreDifferences}
+use Rattle.source_pixels.specs.Gathering.{AreGathered}
+use Rattle.source_pixels.specs.GatheredLemmas.{gathered_beside}
 use Rattle.take_pixels.specs.Taken.{rect_at, taken, part_from, piece_rect, painted, colour_on}
 
 -- ---- places of a rectangle
@@ -257,3 +262,68 @@ pub partly : (s : Source) (p : Part) (left top : ℕ) (qs : List Piece) (f : Fra
 partly s p left top qs f x y accepted pieces wide high =
     let on = on_picture f.width f.height x y wide high in
     ⊎_elim (λ has. inr (has_wanted s f left top x y (colour_on (painted left top qs f) x y) on has)) (λ kept. inl kept.is) (painted_at s p left top qs f x y accepted pieces on)
+
+-- ---- rows below what is painted
+
+kept_below : (left top : ℕ) (qs : List Piece) (f : Frame) (x y : ℕ) → on_screen f.width f.height (pos x) (pos y) ≡ true → All (λ q. top + (q.top + q.rows) ≤ y) qs
+    → colour_on (painted left top qs f) x y ≡ colour_on f x y
+kept_below left top [] f x y on above = refl
+kept_below left top (q ∷ qs) f x y on above =
+    kept_below left top qs (paint_one f left top q) x y on (λ k d below. above (suc k) d (omega arith))
+    ∙ one_at left top q f x y on
+    ∙ ap (λ t. cond t (colour_in (piece_rect left top q) q.colours (pos x) (pos y) % 2 ^ 24) (colour_on f x y))
+    (false_from_ne_true (in_rect (piece_rect left top q) (pos x) (pos y)) (λ covered.
+    let b = (rect_inside (left + q.left) (top + q.top) q.columns q.rows x y covered).bottom_in in
+    let a = above 0 q (omega arith) in
+    omega arith))
+
+row_long : (w h n : ℕ) (l : List ℕ) → length l ≡ w * h → n < h → length (take w (drop (n * w) l)) ≡ w
+row_long w h n l long below =
+    let m = mul-le (n + 1) w h w (omega arith) (omega arith) in
+    let more : (n + 1) * w ≡ n * w + w = omega arith in
+    let e = mul_comm h w in
+    let a = length-drop (n * w) l in
+    let b = length-take w (drop (n * w) l) in
+    omega arith
+
+-- a row of a picture below what is painted is as it was
+pub row_kept : (left top : ℕ) (qs : List Piece) (f : Frame) (y : ℕ) → IsPicture f → top + y < f.height → All (λ q. q.top + q.rows ≤ y) qs
+    → (part_from (painted left top qs f) left top).row y ≡ (part_from f left top).row y
+row_kept left top qs f y picture low above =
+    ap (λ w. drop left (take w (drop (n * w) after.colours))) size.0 ∙ ap (drop left) (now ∙ sym before)
+  where
+    n : ℕ
+    n = top + y
+
+    after : Frame
+    after = painted left top qs f
+
+    size : (after.width ≡ f.width) × (after.height ≡ f.height)
+    size = painted_size left top qs f
+
+    long : length after.colours ≡ f.width * f.height
+    long = painted_long left top qs f picture.places
+
+    here : (k : ℕ) → k < f.width → get_or after.colours (n * f.width + k) 0 ≡ get_or f.colours (n * f.width + k) 0
+    here k below =
+        let wide = size.0 in let high = size.1 in
+        sym (ap (λ w. get_or after.colours (n * w + k) 0) size.0)
+        ∙ sym (colour_number after k n (on_picture after.width after.height k n (omega arith) (omega arith)))
+        ∙ kept_below left top qs f k n (on_picture f.width f.height k n below low) (λ i d inside. let a = above i d inside in omega arith)
+        ∙ colour_number f k n (on_picture f.width f.height k n below low)
+
+    now : take f.width (drop (n * f.width) after.colours) ≡ map (λ k. get_or f.colours (n * f.width + k) 0) (range_with_len 0 f.width)
+    now = fill_by_all (λ k. get_or f.colours (n * f.width + k) 0) (take f.width (drop (n * f.width) after.colours)) f.width 0 (row_long f.width f.height n after.colours long low)
+        (λ k below. get_or-take f.width (drop (n * f.width) after.colours) k 0 below ∙ get_or-drop (n * f.width) after.colours k 0 ∙ here k below)
+
+    before : take f.width (drop (n * f.width) f.colours) ≡ map (λ k. get_or f.colours (n * f.width + k) 0) (range_with_len 0 f.width)
+    before = fill_by_all (λ k. get_or f.colours (n * f.width + k) 0) (take f.width (drop (n * f.width) f.colours)) f.width 0 (row_long f.width f.height n f.colours picture.places low)
+        (λ k below. get_or-take f.width (drop (n * f.width) f.colours) k 0 below ∙ get_or-drop (n * f.width) f.colours k 0)
+
+-- what is found in rows below what is painted is what differed before
+pub found_before : (s : Source) (f : Frame) (left top : ℕ) (qs : List Piece) (start y : ℕ) (bands : List Band) (places : ℕ) → IsPicture f → start ≤ y → y ≤ rows_beside s (part_from f left top) → All (λ q. q.top + q.rows ≤ start) qs
+    → AreGathered s (part_from (painted left top qs f) left top) start y bands places → AreGathered s (part_from f left top) start y bands places
+found_before s f left top qs start y bands places picture ordered low above =
+    gathered_beside s (part_from (painted left top qs f) left top) (part_from f left top) start y bands places ordered
+    (ap (λ w. min w longest_side - left) (painted_size left top qs f).0)
+    (λ r behind before. row_kept left top qs f r picture (omega arith) (λ k d inside. let a = above k d inside in omega arith))

@@ -1,8 +1,7 @@
 -- A screen behind paints of what differs.
-use Rattle.std.proofs.Common.{◌≡◌, ℕ, List, ◌++◌, Option, None, Result, Err, take, sym, ◌∙◌, ap, subst, arith}
-use Rattle.std.specs.Prelude.{All, MatchOption, ◌⊎◌}
-use Rattle.std.proofs.lemmas.List.{get_or-take, length-take}
-use Rattle.region.specs.declared.Rect.{Rect}
+use Rattle.std.proofs.Common.{◌≡◌, ℕ, ◌<◌, List, ◌++◌, None, length, map, get_or, take, sym, ◌∙◌, ap, subst, arith}
+use Rattle.std.specs.Prelude.{All, ◌⊎◌}
+use Rattle.std.proofs.lemmas.List.{get_or-take, get_or-map, length-take, length-map}
 use Rattle.screen.specs.Frame.{Frame, IsPicture}
 use Rattle.screen.specs.declared.Config.{Config}
 use Rattle.screen.specs.declared.ScreenError.{ScreenError}
@@ -10,11 +9,14 @@ use Rattle.screen.specs.declared.ScreenError.TheVariants.{OutOfMemory}
 use Rattle.screen.specs.declared.Event.{Event}
 use Rattle.screen.specs.Alone.{config_refusal, pixels_refusal}
 use Rattle.screen.specs.State.{State, state}
+use Rattle.source_pixels.specs.declared.bands.Band.{Band}
 use Rattle.source_pixels.specs.declared.pieces.Piece.{Piece}
 use Rattle.source_pixels.specs.declared.pieces.Differences.{Differences}
 use Rattle.source_pixels.specs.Parts.{Part}
 use Rattle.source_pixels.specs.Source.{Source, source_refusal}
-use Rattle.source_pixels.specs.Differences.{AreDifferences, IsPiece}
+use Rattle.source_pixels.specs.Differences.{columns_beside, rows_beside, AreDifferences, IsPiece}
+use Rattle.source_pixels.specs.Bands.{IsBand}
+use Rattle.source_pixels.specs.Gathering.{piece_of}
 use Rattle.take_pixels.specs.Taken.{part_from, painted, taken, piece_rect, colour_on}
 use Rattle.take_pixels.specs.Paints.{paints_of}
 use Rattle.take_pixels.specs.Takes.{IsPartlyTaken}
@@ -49,26 +51,28 @@ partly_taken s left top config list old new qs error accepted stands pieces even
       (partly s (part_from old.picture left top) left top qs old.picture x y accepted pieces wide high);
 }
 
--- a piece is refused for want of memory alone
-pub memory_alone : (s : Source) (left top : ℕ) (config : Config) (list : List Event) (old now : State) (qs : List Piece) (q : Piece) (rect : Rect) (colours : List ℕ) (error : ScreenError) → old ≡ state config list
-    → All (IsPiece s (part_from old.picture left top)) qs → now ≡ state config (list ++ paints_of left top qs) → IsPiece s (part_from old.picture left top) q → rect ≡ piece_rect left top q → colours ≡ q.colours
-    → MatchOption (pixels_refusal now.picture.width now.picture.height rect colours) (error ≡ OutOfMemory) (λ e. ◌≡◌ {A = Result (Unit {0}) ScreenError} (Err error) (Err e)) → error ≡ OutOfMemory
-memory_alone s left top config list old now qs q rect colours error stands pieces events piece rect_is colours_is told =
-    subst (λ (o : Option ScreenError). MatchOption o (error ≡ OutOfMemory) (λ e. ◌≡◌ {A = Result (Unit {0}) ScreenError} (Err error) (Err e))) fine told
+-- no further piece is refused
+pub accepted_behind : (s : Source) (left top : ℕ) (config : Config) (list : List Event) (old now : State) (qs : List Piece) (q : Piece) → old ≡ state config list → All (IsPiece s (part_from old.picture left top)) qs
+    → now ≡ state config (list ++ paints_of left top qs) → IsPiece s (part_from old.picture left top) q → pixels_refusal now.picture.width now.picture.height (piece_rect left top q) q.colours ≡ None
+accepted_behind s left top config list old now qs q stands pieces events piece =
+    ap (λ n. pixels_refusal n now.picture.height (piece_rect left top q) q.colours) (ap (λ (f : Frame). f.width) here ∙ (painted_size left top qs old.picture).0)
+    ∙ ap (λ n. pixels_refusal old.picture.width n (piece_rect left top q) q.colours) (ap (λ (f : Frame). f.height) here ∙ (painted_size left top qs old.picture).1)
+    ∙ piece_accepted s old.picture left top q piece
   where
     here : now.picture ≡ painted left top qs old.picture
     here = picture_behind s left top config list old now qs stands pieces events
-
-    fine : pixels_refusal now.picture.width now.picture.height rect colours ≡ None
-    fine =
-        ap (λ n. pixels_refusal n now.picture.height rect colours) (ap (λ (f : Frame). f.width) here ∙ (painted_size left top qs old.picture).0)
-        ∙ ap (λ n. pixels_refusal old.picture.width n rect colours) (ap (λ (f : Frame). f.height) here ∙ (painted_size left top qs old.picture).1)
-        ∙ ap (λ (r : Rect). pixels_refusal old.picture.width old.picture.height r colours) rect_is
-        ∙ ap (λ (l : List ℕ). pixels_refusal old.picture.width old.picture.height (piece_rect left top q) l) colours_is
-        ∙ piece_accepted s old.picture left top q piece
 
 -- the first pieces
 pub first_pieces : (s : Source) (p : Part) (n : ℕ) (qs : List Piece) → All (IsPiece s p) qs → All (IsPiece s p) (take n qs)
 first_pieces s p n qs pieces k d below =
     let long = length-take n qs in
     subst (IsPiece s p) (sym (get_or-take n qs k d (omega arith))) (pieces k d (omega arith))
+
+-- the place of a piece's band
+pub band_placed : (s : Source) (p : Part) (bands : List Band) (k : ℕ) (b : Band) → All (IsPiece s p) (map (piece_of s) bands) → k < length bands → b ≡ get_or bands k b
+    → IsPiece s p (piece_of s b) × IsBand (columns_beside s p) 0 (rows_beside s p) b
+band_placed s p bands k b pieces below here =
+    let piece : IsPiece s p (piece_of s b) =
+    subst (IsPiece s p) (get_or-map (piece_of s) bands k b (piece_of s b) below ∙ ap (piece_of s) (sym here)) (pieces k (piece_of s b) (let long = length-map bands (piece_of s) in omega arith)) in
+    let a = piece.some_columns in let c = piece.some_rows in let d = piece.wide in let e = piece.high in
+    (piece, record { some_columns = omega arith; wide = omega arith; some_rows = omega arith; low = omega arith; high = omega arith })

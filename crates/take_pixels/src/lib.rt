@@ -12,6 +12,7 @@
 //! A program that draws through another type than `Screen` asks for the `differences`, and paints each piece in the `rect_of` it.
 #![tactic(auto)]
 
+mod painting;
 mod part;
 mod taking;
 

@@ -1,4 +1,4 @@
-//! What differs is found, and painted.
+//! What differs is found, and painted, some rows after others.
 
 ghost use Rattle.std.specs.Prelude.{◌≡◌, ◌+◌, ◌^◌, ◌<◌, ◌++◌, None, List, IfOk};
 ghost use Rattle.screen.specs.Frame.{IsPicture};
@@ -13,10 +13,11 @@ ghost use Rattle.take_pixels.specs.Taken.{part_from, painted, piece_rect, taken}
 ghost use Rattle.take_pixels.specs.Paints.{paints_of};
 ghost use Rattle.take_pixels.specs.Takes.{Takes};
 
-use crate::part::ScreenPart;
+use crate::painting::{paint_bands, rect_at};
+use crate::part::{ScreenPart, end_of_rows};
 use region::Rect;
 use screen::{Screen, ScreenError};
-use source_pixels::{Differences, Piece, PixelSource, find_differences};
+use source_pixels::{Differences, Piece, PixelSource, find_bands, find_differences};
 use std::alloc::{AllocError, Global};
 
 /// The rectangle of a piece on the screen, where its source's corner is at column `left` of row `top`.
@@ -27,12 +28,7 @@ pub fn rect_of(left: u32, top: u32, piece: &Piece) -> Rect
 {
     let x = left as usize + piece.left;
     let y = top as usize + piece.top;
-    Rect {
-        x1: x as i32,
-        y1: y as i32,
-        x2: (x + piece.columns) as i32,
-        y2: (y + piece.rows) as i32,
-    }
+    rect_at(x, y, piece.columns, piece.rows)
 }
 
 /// What differs between a program's pixels and a screen's picture, where the pixels' corner is at column `left` of row `top`: to paint
@@ -69,9 +65,15 @@ pub fn take(
         (pieces : List Piece) × (screen.new ≡ state config (list ++ paints_of left top pieces)) }
     ensures none { IfOk result (λ places. places ≡ 0 → screen.new ≡ screen.old) }
 {
-    let found = differences(alloc, screen, left, top, source)?;
-    for piece in found.pieces.as_slice() {
-        screen.paint(rect_of(left, top, piece), piece.colours.as_slice())?;
+    let mut colours = Vec::new(alloc);
+    let mut places = 0;
+    let mut y = 0;
+    'parts: while let Some(end) = end_of_rows(screen, left, top, source, y) {
+        let found = find_bands(alloc, source, &ScreenPart { screen, left, top }, y, end)?;
+        let bands = found.bands.as_slice();
+        paint_bands(screen, left, top, source, bands, &mut colours)?;
+        places += found.places;
+        y = end;
     }
-    Ok(found.places)
+    Ok(places)
 }

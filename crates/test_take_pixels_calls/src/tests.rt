@@ -2,7 +2,7 @@
 //! section 7.4.
 
 use screen::{Config, History, Listed, Rect, Screen, ScreenError};
-use std::alloc::Global;
+use std::alloc::{AllocError, Global};
 use std::test::Fail;
 use take_pixels::{
     BytesPerPixel, Component, PixelSource, SourceError, SourceFormat, TrueColour, differences,
@@ -11,9 +11,14 @@ use take_pixels::{
 
 /// A screen of 4 columns and 2 rows.
 fn small_screen(alloc: Global) -> Result<Screen, ScreenError> {
+    screen_of(alloc, 4, 2)
+}
+
+/// A screen of so many columns and rows.
+fn screen_of(alloc: Global, width: u32, height: u32) -> Result<Screen, ScreenError> {
     let config = Config {
-        width: 4,
-        height: 2,
+        width,
+        height,
         name: Listed::from_slice(alloc, b"demo")?,
         rects_per_update: 50,
         history: History::Kept,
@@ -224,5 +229,94 @@ fn pixels_are_refused(rt: HostRuntime) -> Result<(), Fail> {
     let wide = red_lowest(BytesPerPixel::Two, false);
     let refusal = PixelSource::new(b"", 0, 0, 0, wide).err();
     assert_eq!(rt; refusal, Some(SourceError::BadComponent));
+    Ok(())
+}
+
+/// How many columns and rows a screen has whose rows are taken 218 at a time.
+const COLUMNS: u32 = 300;
+
+const ROWS: u32 = 500;
+
+/// The colours of pixels of that screen: those of 280 columns and 350 rows in its midst are not black.
+fn new_colour(x: u32, y: u32) -> u32 {
+    if 10 <= x && x < 290 && 100 <= y && y < 450 {
+        256 * x + y
+    } else {
+        0
+    }
+}
+
+/// The pixels of that screen, of 32 bits.
+fn large_pixels(alloc: Global) -> Result<Vec<u8>, AllocError> {
+    let mut bytes = Vec::with_capacity(alloc, 600_000)?;
+    for y in 0..ROWS {
+        for x in 0..COLUMNS {
+            bytes.extend_from_slice(&new_colour(x, y).to_le_bytes())?;
+        }
+    }
+    Ok(bytes)
+}
+
+/// How many of them are not black.
+fn count_new() -> usize {
+    let mut places: usize = 0;
+    for y in 0..ROWS {
+        for x in 0..COLUMNS {
+            if new_colour(x, y) != 0 {
+                places = places.saturating_add(1);
+            }
+        }
+    }
+    places
+}
+
+/// How many places of a screen have neither their new colour nor, where that may be, black.
+fn count_wrong(screen: &Screen, may_be_black: bool) -> usize {
+    let mut wrong: usize = 0;
+    for y in 0..ROWS {
+        for x in 0..COLUMNS {
+            let is_black = screen.colour(x, y) == Some(0);
+            let is_new = screen.colour(x, y) == Some(new_colour(x, y));
+            if !is_new && !(may_be_black && is_black) {
+                wrong = wrong.saturating_add(1);
+            }
+        }
+    }
+    wrong
+}
+
+#[test]
+fn a_large_picture_is_taken_in_parts(rt: HostRuntime) -> Result<(), Fail> {
+    let mut screen = screen_of(rt.alloc(), COLUMNS, ROWS)?;
+    let bytes = large_pixels(rt.alloc())?;
+    let format = SourceFormat::TrueColour(TrueColour::server());
+    let source = PixelSource::new(&bytes, 1200, 300, 500, format)
+        .ok()
+        .ok_or("refused")?;
+    assert_eq!(rt; take(rt.alloc(), &mut screen, 0, 0, &source)?, count_new());
+    assert_eq!(rt; count_wrong(&screen, false), 0);
+    // rows 100 to 217, 218 to 435, and 436 to 449
+    let events = screen.history().ok_or("not kept")?;
+    assert_eq!(rt; events.len(), 3);
+    assert_eq!(rt; take(rt.alloc(), &mut screen, 0, 0, &source)?, 0);
+    Ok(())
+}
+
+// With each allocation refused in turn: rt try --test --fail-alloc 1..
+#[test]
+fn a_second_call_takes_the_rest(rt: HostRuntime) -> Result<(), Fail> {
+    let mut screen = screen_of(rt.alloc(), COLUMNS, ROWS)?;
+    let bytes = large_pixels(rt.alloc())?;
+    let format = SourceFormat::TrueColour(TrueColour::server());
+    let source = PixelSource::new(&bytes, 1200, 300, 500, format)
+        .ok()
+        .ok_or("refused")?;
+    let first = take(rt.alloc(), &mut screen, 0, 0, &source);
+    assert_eq!(rt; count_wrong(&screen, true), 0);
+    if let Err(error) = first {
+        assert_eq!(rt; error, ScreenError::OutOfMemory);
+        take(rt.alloc(), &mut screen, 0, 0, &source)?;
+    }
+    assert_eq!(rt; count_wrong(&screen, false), 0);
     Ok(())
 }

@@ -1,0 +1,13 @@
+use Rattle.std.proofs.Common.{◌≡◌, List, ◌++◌, map, take}
+use Rattle.screen.specs.declared.Config.{Config}
+use Rattle.screen.specs.declared.Event.{Event}
+use Rattle.screen.specs.State.{state}
+use Rattle.source_pixels.specs.Gathering.{piece_of}
+use Rattle.take_pixels.specs.Paints.{paints_of}
+use Rattle.take_pixels.proofs.painting.paint_bands.Given as goal
+
+abbrev pub invariant-loop-band : goal.invariant-loop-band
+invariant-loop-band l = record {
+  events : (config : Config) (list : List Event) → l.initial.screen ≡ state config list → l.screen ≡ state config (list ++ paints_of l.left l.top (take l.band-index (map (piece_of l.source) l.bands)));
+  none : l.band-index ≡ 0 → l.screen ≡ l.initial.screen;
+}
