@@ -50,7 +50,7 @@ fi
 # What a shared object exports is what its header declares, but for what the header has itself.
 same_names() {
     local name=$1
-    grep -oE "\bvnc_(${name#vnc_}|waker)_[a-z_]+\(" "$here/$name.h" | tr -d '(' | grep -vE "_(new|free)$" | sort -u >"$room/declared"
+    grep -oE "\bvnc_(${name#vnc_}|waker|update)_[a-z_]+\(" "$here/$name.h" | tr -d '(' | grep -vE "_(new|free)$" | sort -u >"$room/declared"
     nm -D --defined-only "$room/prefix/lib/lib$name.so.1" | awk '{ print $3 }' | sort >"$room/exported"
     diff "$room/declared" "$room/exported"
 }
@@ -103,6 +103,7 @@ run() { # NAME PROGRAM HOW..: each example, as it is to be run
     play) "$@" "$program" | cmp - "$here/../crates/vncdemo/stdout" ;;
     edges | server_edges | rfb_edges) [ "$("$@" "$program" 2>/dev/null)" = "$name ok" ] ;;
     serve) looked_at "640 by 480, . colours, demo" "$@" "$program" PORT 3 ;;
+    threads) looked_at "640 by 480, [23] colours, threads" "$@" "$program" PORT 3 ;;
     clock) looked_at "172 by 44, 3 colours, clock" "$@" "$program" PORT 10 ;;
     sketch) looked_at "640 by 480, [1-4] colours, sketch" "$@" "$program" PORT 5 ;;
     own_pixels) looked_at "320 by 200, 20[0-9][0-9] colours, own pixels" "$@" "$program" PORT 5 ;;

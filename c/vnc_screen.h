@@ -3,20 +3,23 @@
  *
  * The program has the sockets, the loop and the threads. A screen has a picture and any number of viewers, each by a number that the
  * program chooses, such as its socket's. The program gives the screen what it read of a viewer (vnc_screen_hear), asks for updates
- * (vnc_screen_cut), and sends each viewer what waits for it (vnc_screen_output). No call waits, locks or starts a thread.
+ * (vnc_screen_cut), and sends each viewer what waits for it (vnc_screen_output). A program with threads has updates cut into a vnc_update
+ * of its own (vnc_screen_cut_into), and fetches them while others call the screen. No call waits, locks or starts a thread.
  *
  * Ownership  A vnc_screen lies in memory of the program's, of vnc_screen_size() bytes at a multiple of 16, as malloc gives it:
  *            vnc_screen_new and vnc_screen_free see to that. From vnc_screen_init on only the library reads and writes there. Once it
  *            is shut it holds no other memory: the program may free its own, or open a screen there again. Memory that a call is given
- *            is used during that call alone, and the library hands out no pointers.
- * Threads    One call at a time for each screen, by any thread: where several threads use one, a lock of the program's stands around
- *            each call. Two screens have nothing in common.
+ *            is used during that call alone, and the library hands out no pointers. All of this is so of a vnc_update too, of
+ *            vnc_update_size() bytes: once it is fetched whole, or cleared, it holds no other memory.
+ * Threads    One call at a time for each screen, and for each update, by any thread: where several threads use one, a lock of the
+ *            program's stands around each call. Two screens have nothing in common. A call for an update may run beside one for its
+ *            screen, but for vnc_screen_cut_into, which is a call for both.
  * Results    0 or more: done. Below 0: a vnc_code, and nothing has changed. A screen that is shut answers VNC_SHUT to each call
- *            but vnc_screen_open and vnc_screen_shut.
+ *            for it but vnc_screen_open and vnc_screen_shut.
  * Held       What waits for a viewer is bounded: the server's words of the opening, some 300 bytes, and one update, which holds 4
- *            bytes for each place and is encoded as it is fetched. Inputs wait until they are fetched.
- * Undefined  A pointer to a screen that is null, freed, not initialised or moved; room or data that isn't there for its count; two
- *            calls for one screen at once; a call from a signal handler, or from the child of a fork of a program with threads.
+ *            bytes for each place and is encoded as it is fetched; so does a vnc_update. Inputs wait until they are fetched.
+ * Undefined  A pointer to a screen or an update that is null, freed, not initialised or moved; room or data that isn't there for its
+ *            count; two calls for one of them at once; a call from a signal handler, or from the child of a fork of a program with threads.
  *            Anything else is answered, by a code where it can't be done.
  */
 #ifndef VNC_SCREEN_H
@@ -30,7 +33,7 @@ extern "C" {
 #endif
 
 /* Grows with each change that a program made before it can see; vnc_screen_abi() is the library's. */
-#define VNC_SCREEN_ABI 1
+#define VNC_SCREEN_ABI 2
 
 typedef struct vnc_screen vnc_screen;
 
@@ -78,6 +81,42 @@ int32_t vnc_screen_close(vnc_screen *screen, uint64_t viewer);      /* 0; nothin
 
 /* The next bytes that wait for a viewer go to `room`, and wait no more: how many, 0 where none wait. Call it until it answers 0. */
 int32_t vnc_screen_output(vnc_screen *screen, uint64_t viewer, uint8_t *room, size_t count);
+
+/* An update apart, for programs with threads: vnc_screen_cut_into wants the lock around the screen, and vnc_update_output doesn't, which
+ * may be called while a call for the screen runs. It lies in memory of the program's, as a screen does, and is cut for any viewer of any
+ * screen. What changes later isn't in it, and it outlives its viewer and its screen. */
+typedef struct vnc_update vnc_update;
+
+/* The bytes of a vnc_update. */
+size_t vnc_update_size(void);
+
+/* Makes such memory an update that holds nothing. Do this once: what it held would not be freed. */
+void vnc_update_init(vnc_update *update);
+
+/* As vnc_screen_cut, but `update` holds the update: 1; 0 where there is nothing to send; VNC_OUTPUT_WAITS where output waits for the
+ * viewer in the screen, or `update` isn't fetched whole. */
+int32_t vnc_screen_cut_into(vnc_screen *screen, uint64_t viewer, vnc_update *update);
+
+/* Its next bytes go to `room`, encoded now, and it holds them no more: how many, 0 where none are left. Then it may be used again. */
+int32_t vnc_update_output(vnc_update *update, uint8_t *room, size_t count);
+int32_t vnc_update_clear(vnc_update *update); /* 0; what it holds is freed */
+
+/* Memory for an update: 0, or VNC_OUT_OF_MEMORY. */
+static inline int32_t vnc_update_new(vnc_update **out)
+{
+    vnc_update *update = (vnc_update *)malloc(vnc_update_size());
+    if (!update) return VNC_OUT_OF_MEMORY;
+    vnc_update_init(update);
+    *out = update;
+    return 0;
+}
+
+static inline void vnc_update_free(vnc_update *update)
+{
+    if (!update) return;
+    vnc_update_clear(update);
+    free(update);
+}
 
 /* The next inputs of all viewers go to `room`, and wait no more: how many, 0 where none wait. A text is the last of a call's: its
  * bytes are had by vnc_screen_text until vnc_screen_inputs gives another text. */

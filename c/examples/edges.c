@@ -13,6 +13,7 @@ int main(void)
     static uint8_t room[9000], text[300000];
     static uint32_t colours[64 * 48];
     vnc_screen *s = 0;
+    vnc_update *u = 0;
     vnc_input in[4];
     uint64_t numbers[3] = {0, 0, 0};
     const vnc_rect all = {0, 0, 64, 48}, far = {0, 0, 2000000, 1};
@@ -71,6 +72,36 @@ int main(void)
     for (sum = 0; (n = vnc_screen_output(s, 7, room, sizeof room)) > 0;) sum += n;
     IS(sum, 4 + 12 + 4 * 64 * 48);
 
+    IS(vnc_update_new(&u), 0);
+    IS(vnc_update_output(u, room, sizeof room), 0);
+    IS(vnc_screen_cut_into(s, 8, u), VNC_NO_VIEWER);
+    IS(vnc_screen_cut_into(s, 7, u), 0);
+    IS(vnc_screen_bell(s), 0);
+    IS(vnc_screen_cut(s, 7), 1);
+    IS(vnc_screen_bell(s), 0);
+    IS(vnc_screen_cut_into(s, 7, u), VNC_OUTPUT_WAITS);
+    IS(vnc_screen_output(s, 7, room, sizeof room), 1);
+    IS(vnc_screen_cut_into(s, 7, u), 1);
+    IS(vnc_screen_output(s, 7, room, sizeof room), 0);
+    IS(vnc_screen_bell(s), 0);
+    IS(vnc_screen_cut_into(s, 7, u), VNC_OUTPUT_WAITS);
+    IS(vnc_update_output(u, room, 0), 0);
+    IS(vnc_update_output(u, room, sizeof room), 1);
+    IS(room[0], 2); /* a bell */
+    IS(vnc_update_output(u, room, sizeof room), 0);
+    IS(vnc_screen_cut_into(s, 7, u), 1);
+    IS(vnc_update_clear(u), 0);
+    IS(vnc_update_clear(u), 0);
+    IS(vnc_update_output(u, room, sizeof room), 0);
+    IS(vnc_screen_hear(s, 7, (const uint8_t *)"\x03\x00\x00\x00\x00\x00\x00\x40\x00\x30", 10), 0);
+    IS(vnc_screen_cut_into(s, 7, u), 1);
+    IS(vnc_screen_paint(s, 0, 0, 1, 1, colours + 9, 1), 0);
+    for (sum = i = 0; (n = vnc_update_output(u, room, 16)) > 0; i += n) {
+        if (i == 16) IS(room[0] | room[1] | room[2], 0); /* black, as the first place was */
+        sum += n;
+    }
+    IS(sum, 4 + 12 + 4 * 64 * 48);
+
     IS(vnc_screen_hear(s, 7, (const uint8_t *)"\x04\x01\0\0\0\0\0\x61\x05\x05\0\x03\0\x04\x06\0\0\0\0\0\0\x03yes", 25), 0);
     IS(vnc_screen_connect(s, 9), 0);
     IS(vnc_screen_hear(s, 9, opening, 14), 0);
@@ -112,6 +143,8 @@ int main(void)
     IS(vnc_screen_bell(s), VNC_SHUT);
     IS(vnc_screen_connect(s, 1), VNC_SHUT);
     IS(vnc_screen_output(s, 7, room, 1), VNC_SHUT);
+    IS(vnc_screen_cut_into(s, 7, u), VNC_SHUT);
+    IS(vnc_update_output(u, room, 1), 0);
     IS(vnc_screen_inputs(s, in, 4), VNC_SHUT);
     IS(vnc_screen_width(s), VNC_SHUT);
     IS(vnc_screen_shut(s), 0);
@@ -121,6 +154,7 @@ int main(void)
     IS(vnc_screen_open(s, 2, 2, name, 1, 1), 0);
     IS(vnc_screen_viewer_count(s), 0);
     vnc_screen_free(s);
+    vnc_update_free(u);
     puts("edges ok");
     return 0;
 }

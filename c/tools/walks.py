@@ -1,7 +1,7 @@
 #!/usr/bin/env python3
 """Writes the proofs of the doors: walks.py CRATE-FOLDER
 
-A door is an exported function of src/lib.rt that takes a pointer to a desk, or to a waker, and hands what else it is given to one
+A door is an exported function of src/lib.rt that takes a pointer to a desk, a waker or an update, and hands what else it is given to one
 method of what lies there. Its proof lends that to the method for the call, and takes it back. It depends on the parameters' types
 alone, so it is made here, from the door's own signature: proofs/DOOR/Proof.antt. A door whose parameters are of another kind than
 those below is refused."""
@@ -12,6 +12,7 @@ import sys
 # what lies at a door's pointer: its library, module and name, and the words for its row, that it lies there, and that one is left there
 THINGS = {
     "Desk": ("screen_desk", "desk", "desk_row", "holds", "leaves"),
+    "DeskUpdate": ("screen_desk", "update", "update_row", "holds_update", "leaves_update"),
     "ServerDesk": ("server_desk", "desk", "desk_row", "holds", "leaves"),
     "ServerWaker": ("server_desk", "waker", "waker_row", "holds_waker", "leaves_waker"),
 }

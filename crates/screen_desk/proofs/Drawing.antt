@@ -1,7 +1,7 @@
 -- Calls that draw.
 use Rattle.std.proofs.Common.{◌≡◌, ◌≢◌, ℕ, ℤ, List, [], ◌∷◌, ◌++◌, Option, Some, None, Result, Ok, Err, refl, sym, ap, ◌∙◌, inl, inr, subst}
 use Rattle.std.proofs.lemmas.Option.{same_Some}
-use Rattle.std.specs.Prelude.{OnOk, OnErr, MatchResult, IsOkUnless, option_map, not, false}
+use Rattle.std.specs.Prelude.{OnOk, OnErr, MatchResult, IsOkUnless, option_map, not}
 use Rattle.std.specs.List.{list_any}
 use Rattle.region.specs.declared.Rect.{Rect}
 use Rattle.region.specs.RegionView.{in_range}

@@ -10,7 +10,7 @@ use Rattle.screen.specs.Answers.{answer_to}
 use Rattle.viewer.specs.Viewer.{KeptViewer}
 use Rattle.screen.specs.State.{State, state, viewer_at}
 use Rattle.screen_desk.specs.Codes.{Answers, code_of, done, fault_code, no_viewer, off_screen, one_or_zero, out_of_memory, shut, truth_code}
-use Rattle.screen_desk.specs.Desk.{Standing, StandsFor, IsListOf, due, region_due, cut_due, absence, put_output, without, next_piece, left_of}
+use Rattle.screen_desk.specs.Desk.{Standing, StandsFor, IsListOf, due, region_due, cut_due, cut_into_due, absence, put_output, without, next_piece, left_of}
 use Rattle.screen_desk.specs.Inputs.{told_by, IsFetched}
 use Rattle.screen_desk.specs.declared.told.Told.{Told}
 
@@ -61,6 +61,15 @@ pub record Cuts (v : ℕ) (old new : Standing) (code : ℤ) : Type 0 where
   pub same : new ≡ record old { screen = new.screen; output = new.output }
   pub refused : code <ℤ pos 0 → new ≡ old
 
+-- an update is cut for a viewer into one that held nothing, and 1 is answered; 0 where there is nothing to send, and it holds nothing; what waits in the desk stays
+pub record CutsInto (v : ℕ) (old new : Standing) (held_old held_new : List ℕ) (code : ℤ) : Type 0 where
+  pub answer : Answers (cut_into_due old v held_old) (λ n. (n ≡ pos 0) ⊎ (n ≡ pos 1)) code
+  pub step : (c : Config) (list : List Event) → StandsFor c list old → pos 0 ≤ℤ code → StandsFor c (list ++ Cut v ∷ []) new
+  pub number : (c : Config) (list : List Event) → StandsFor c list old → pos 0 ≤ℤ code → code ≡ one_or_zero (some_bytes (answer_to c list (Cut v)).bytes)
+  pub held : (c : Config) (list : List Event) → StandsFor c list old → pos 0 ≤ℤ code → held_new ≡ (answer_to c list (Cut v)).bytes
+  pub same : new ≡ record old { screen = new.screen }
+  pub refused : code <ℤ pos 0 → (new ≡ old) × (held_new ≡ held_old)
+
 -- a viewer's connection is closed, and nothing waits for it any more
 pub record Closes (v : ℕ) (old new : Standing) (code : ℤ) : Type 0 where
   pub answer : Answers (due old (Close v)) (λ n. n ≡ done) code
@@ -75,6 +84,13 @@ pub record Gives (v : ℕ) (old new : Standing) (room_old room_new : List ℕ) (
   pub given : pos 0 ≤ℤ code → (bytes left : List ℕ) × ((bytes ++ left ≡ next_piece v old.output) × (code ≡ pos (length bytes)) × (room_new ≡ bytes ++ drop (length bytes) room_old) × (new.output ≡ left_of v left old.output))
   pub some : code ≡ pos 0 → (room_old ≡ []) ⊎ (next_piece v old.output ≡ [])
   pub same : new ≡ record old { output = new.output }
+  pub refused : code <ℤ pos 0 → (new ≡ old) × (room_new ≡ room_old)
+
+-- the first bytes that an update holds are put at the room's start, and the number says how many they are: none only where there is no room, or it holds none; only memory is refused
+pub record GivesHeld (old new room_old room_new : List ℕ) (code : ℤ) : Type 0 where
+  pub answer : Answers None (λ n. pos 0 ≤ℤ n) code
+  pub given : pos 0 ≤ℤ code → (bytes : List ℕ) × ((bytes ++ new ≡ old) × (code ≡ pos (length bytes)) × (room_new ≡ bytes ++ drop (length bytes) room_old))
+  pub some : code ≡ pos 0 → (room_old ≡ []) ⊎ (old ≡ [])
   pub refused : code <ℤ pos 0 → (new ≡ old) × (room_new ≡ room_old)
 
 -- the first inputs that wait are put at the room's start, up to the first text, and the number says how many they are

@@ -1,5 +1,5 @@
 -- What a desk holds, and what its calls do.
-use Rattle.std.specs.Prelude.{◌≡◌, ℕ, suc, ℤ, Bool, ◌==◌, if◌then◌else◌, List, [], ◌∷◌, ◌++◌, flat_map, filter, Option, Some, None, option_map, not}
+use Rattle.std.specs.Prelude.{◌≡◌, ℕ, suc, ℤ, Bool, ◌==◌, if◌then◌else◌, List, [], ◌∷◌, ◌++◌, flat_map, filter, Option, Some, None, option_map, not, ◌||◌}
 use Rattle.std.specs.List.{list_any}
 use Rattle.region.specs.declared.Rect.{Rect}
 use Rattle.region.specs.Region.{covers, IsCanonical}
@@ -10,6 +10,7 @@ use Rattle.screen.specs.declared.Config.{Config}
 use Rattle.screen.specs.declared.History.TheVariants.{NotKept}
 use Rattle.screen.specs.declared.Event.{Event}
 use Rattle.screen.specs.declared.Event.TheVariants.{Cut}
+use Rattle.screen.specs.Alone.{some_bytes}
 use Rattle.screen.specs.State.{State, state, refusal, viewer_at}
 use Rattle.screen_desk.specs.Codes.{code_of, no_viewer, out_of_range, output_waits, shut}
 
@@ -54,6 +55,15 @@ waits_or_none waits = if waits then Some output_waits else None
 
 abbrev pub cut_due : Standing → ℕ → Option ℤ
 cut_due desk v = elim (due desk (Cut v)) [ None ↦ waits_or_none (has_output v desk.output) | Some refusal ↦ Some refusal ]
+
+-- what an update holds: what is left of its output, if there is some
+abbrev pub held_in : Option (ℕ × List ℕ) → List ℕ
+held_in None = []
+held_in (Some piece) = piece.1
+
+-- why no update is cut for a viewer into one that holds bytes: as its event is refused, or output waits for it, or the one isn't fetched whole
+abbrev pub cut_into_due : Standing → ℕ → List ℕ → Option ℤ
+cut_into_due desk v held = elim (due desk (Cut v)) [ None ↦ waits_or_none (has_output v desk.output || some_bytes held) | Some refusal ↦ Some refusal ]
 
 -- output with bytes for a viewer behind it, unless there are none
 abbrev pub put_output : ℕ → List ℕ → List (ℕ × List ℕ) → List (ℕ × List ℕ)

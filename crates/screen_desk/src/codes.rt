@@ -1,12 +1,13 @@
 //! The numbers that calls answer.
 
-ghost use Rattle.std.specs.Prelude.{◌≡◌, ◌≢◌, pos, Option, option_map, MatchResult};
+ghost use Rattle.std.specs.Prelude.{◌≡◌, ◌≢◌, ◌≤◌, ◌^◌, pos, Option, option_map, IfOk, MatchResult};
 ghost use Rattle.screen.specs.declared.ScreenError.{ScreenError};
 ghost use Rattle.screen.specs.Refusals.{Refuses};
 ghost use Rattle.screen_desk.specs.Codes as code;
 ghost use Rattle.screen_desk.specs.Codes.{Answers};
 
 use screen::{Fault, ScreenError};
+use std::alloc::AllocError;
 
 /// A coordinate of a region's rectangle is not from -2^20 to 2^20.
 pub const OUT_OF_RANGE: i32 = -10;
@@ -82,5 +83,16 @@ pub(crate) fn fault_or(answer: Result<Option<Fault>, ScreenError>) -> i32
     match answer {
         Ok(fault) => fault_code(fault),
         Err(e) => code_of(e),
+    }
+}
+
+/// A count of at most 2^30, or the code of a refusal.
+pub(crate) fn count_or(answer: Result<usize, AllocError>) -> i32
+    requires { IfOk answer (λ count. count ≤ 2 ^ 30) }
+    ensures { MatchResult answer (λ count. result ≡ pos count) (λ _. result ≡ code.out_of_memory) }
+{
+    match answer {
+        Ok(count) => count as i32,
+        Err(_) => code_of(ScreenError::OutOfMemory),
     }
 }

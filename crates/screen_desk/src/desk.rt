@@ -15,20 +15,21 @@ ghost use Rattle.screen.specs.Refusals.{Refuses};
 ghost use Rattle.screen.specs.State.{state, refusal, viewer_at};
 ghost use Rattle.screen_desk.specs.Codes as code;
 ghost use Rattle.screen_desk.specs.Codes.{IsRefusal};
-ghost use Rattle.screen_desk.specs.Calls.{Opens, Draws, DrawsRegion, Connects, Hears, Cuts, Closes, TellsPending, Gives, Fetches, Shows, Tells, numbers_of, of_viewer, colour_at};
+ghost use Rattle.screen_desk.specs.Calls.{Opens, Draws, DrawsRegion, Connects, Hears, Cuts, CutsInto, Closes, TellsPending, Gives, Fetches, Shows, Tells, numbers_of, of_viewer, colour_at};
 ghost use Rattle.screen_desk.specs.Desk.{nothing_there, rect_of, config_of, put_output, region_due, IsListOf};
 ghost use Rattle.screen_desk.specs.Inputs.{in_order, told_by};
 
 use crate::codes::{
-    OFF_SCREEN, OUT_OF_RANGE, OUTPUT_WAITS, SHUT, code_of, done_or, fault_or, truth_or,
+    OFF_SCREEN, OUT_OF_RANGE, OUTPUT_WAITS, SHUT, code_of, count_or, done_or, fault_or, truth_or,
 };
 use crate::corners::{Corners, are_far, region_of};
 use crate::inputs::Inputs;
 use crate::output::{Output, copy_to, drop_output, fetch_output, first_for, put_bytes};
 use crate::told::Told;
+use crate::update::DeskUpdate;
 use listed::Listed;
 use screen::{Config, Drawing, Fault, History, Rect, Region, Screen, ScreenError, config_refusal};
-use std::alloc::{AllocError, Global};
+use std::alloc::Global;
 use std::marker::Model;
 
 /// A screen, or none where the desk is shut; what its viewers are to be sent; and what they told. Each call answers `SHUT` where
@@ -85,17 +86,6 @@ fn new_screen(
         history: History::NotKept,
     };
     Screen::new(alloc, config)
-}
-
-/// A count of at most 2^30, or the code of a refusal.
-fn count_or(answer: Result<usize, AllocError>) -> i32
-    requires { IfOk answer (λ count. count ≤ 2 ^ 30) }
-    ensures { MatchResult answer (λ count. result ≡ pos count) (λ _. result ≡ code.out_of_memory) }
-{
-    match answer {
-        Ok(count) => count as i32,
-        Err(_) => code_of(ScreenError::OutOfMemory),
-    }
 }
 
 /// A viewer connects.
@@ -176,6 +166,30 @@ fn cut_update(
         return Ok(false);
     };
     output.push_reserved(Output::of_update(alloc, viewer, update));
+    Ok(true)
+}
+
+/// An update is cut for a viewer into one that holds nothing. Whether there is something to send.
+fn cut_update_into(
+    alloc: Global,
+    screen: &mut Screen,
+    viewer: u64,
+    update: &mut DeskUpdate,
+) -> Result<bool, ScreenError>
+    requires { update.old ≡ [] }
+    ensures step { (config : Config) (list : List Event) → screen.old ≡ state config list →
+        OnOk result (screen.new ≡ state config (list ++ Event.Cut viewer ∷ [])) }
+    ensures number { (config : Config) (list : List Event) → screen.old ≡ state config list →
+        IfOk result (λ some. some ≡ some_bytes (answer_to config list (Event.Cut viewer)).bytes) }
+    ensures update { (config : Config) (list : List Event) → screen.old ≡ state config list →
+        OnOk result (update.new ≡ (answer_to config list (Event.Cut viewer)).bytes) }
+    ensures refused { Refuses result (refusal screen.old (Event.Cut viewer)) }
+    ensures err { OnErr result ((screen.new ≡ screen.old) × (update.new ≡ update.old)) }
+{
+    let Some(cut) = screen.cut(viewer)? else {
+        return Ok(false);
+    };
+    update.put(Output::of_update(alloc, viewer, cut));
     Ok(true)
 }
 
@@ -406,6 +420,23 @@ impl Desk {
             return OUTPUT_WAITS;
         }
         truth_or(cut_update(self.alloc, screen, &mut self.output, viewer))
+    }
+
+    /// `Screen::cut` into `update`: 1, and it holds the update, to be encoded as it is fetched; 0 where there is nothing to send.
+    /// `OUTPUT_WAITS` where output waits here for the viewer, or `update` isn't fetched whole.
+    pub fn cut_into(&mut self, viewer: u64, update: &mut DeskUpdate) -> i32
+        ensures { CutsInto viewer self.old self.new update.old update.new result }
+    {
+        let Some(screen) = &mut self.screen else {
+            return SHUT;
+        };
+        if !screen.is_live(viewer) {
+            return code_of(ScreenError::NoViewer);
+        }
+        if first_for(&self.output, viewer).is_some() || !update.is_fetched() {
+            return OUTPUT_WAITS;
+        }
+        truth_or(cut_update_into(self.alloc, screen, viewer, update))
     }
 
     /// `Screen::close` (`rfbCloseClient` of `rfb.h`); nothing waits for the viewer any more.

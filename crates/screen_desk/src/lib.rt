@@ -18,6 +18,7 @@ mod desk;
 mod inputs;
 mod output;
 mod told;
+mod update;
 
 pub use codes::{OFF_SCREEN, OUT_OF_RANGE, OUTPUT_WAITS, SHUT, code_of, done_or, fault_code};
 pub use corners::{Corners, are_far, region_of};
@@ -25,3 +26,4 @@ pub use desk::Desk;
 pub use output::copy_to;
 pub use screen::{Fault, Input, ScreenError};
 pub use told::{Told, told_as};
+pub use update::DeskUpdate;

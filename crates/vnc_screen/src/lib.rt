@@ -7,17 +7,17 @@
 
 ghost use types.Logic.{sem};
 ghost use denote.RawPtr.{room_at};
-ghost use Rattle.vnc_screen.specs.Lying.{desk_row, holds, leaves};
+ghost use Rattle.vnc_screen.specs.Lying.{desk_row, update_row, holds, leaves, holds_update, leaves_update, holds_both, leaves_both};
 ghost use Rattle.std.specs.Prelude.{◌≡◌, ◌∷◌, [], ◌^◌, pos, map, min, length, is_some};
 ghost use Rattle.screen.specs.Reading.{fault_in_rest, is_open_rest};
 ghost use Rattle.screen.specs.Viewer.{is_asking};
 ghost use Rattle.screen.specs.declared.Event.{Event};
 ghost use Rattle.screen.specs.State.{viewer_at};
 ghost use Rattle.screen_desk.specs.Codes as codes;
-ghost use Rattle.screen_desk.specs.Calls.{Opens, Draws, DrawsRegion, Connects, Hears, Cuts, Closes, TellsPending, Gives, Fetches, Shows, Tells, numbers_of, of_viewer, colour_at};
+ghost use Rattle.screen_desk.specs.Calls.{Opens, Draws, DrawsRegion, Connects, Hears, Cuts, CutsInto, Closes, TellsPending, Gives, GivesHeld, Fetches, Shows, Tells, numbers_of, of_viewer, colour_at};
 ghost use Rattle.screen_desk.specs.Desk.{nothing_there, rect_of, config_of};
 
-use screen_desk::{Corners, Desk, Told};
+use screen_desk::{Corners, Desk, DeskUpdate, Told};
 use std::alloc::Global;
 use std::mem::size_of;
 use std::ptr;
@@ -29,10 +29,17 @@ pub struct Place {
     unseen: u8,
 }
 
+/// What C sees behind its pointer to an update: nothing.
+#[repr(C)]
+#[derive(Drop)]
+pub struct UpdatePlace {
+    unseen: u8,
+}
+
 /// The number of this interface: `VNC_SCREEN_ABI` of the header.
 #[unsafe(no_mangle)]
 pub extern "C" fn vnc_screen_abi() -> u32 {
-    1
+    2
 }
 
 /// How many bytes of memory C has to give for a screen; their address is a multiple of 16.
@@ -278,6 +285,24 @@ pub unsafe extern "C" fn vnc_screen_cut(at: *mut Place, viewer: u64) -> i32
     Desk::cut(&mut *(at as *mut Desk), viewer)
 }
 
+/// `Desk::cut_into`.
+#[unsafe(no_mangle)]
+pub unsafe extern "C" fn vnc_screen_cut_into(
+    at: *mut Place,
+    viewer: u64,
+    update: *mut UpdatePlace,
+) -> i32
+    ghost before: { desk_row.Denot × update_row.Denot }
+    requires* { sem 𝓛 (holds_both at update before.0 before.1) }
+    ensures* { sem 𝓛 (leaves_both at update (λ after held. CutsInto viewer before.0 after before.1 held result)) }
+{
+    Desk::cut_into(
+        &mut *(at as *mut Desk),
+        viewer,
+        &mut *(update as *mut DeskUpdate),
+    )
+}
+
 /// `Desk::close`.
 #[unsafe(no_mangle)]
 pub unsafe extern "C" fn vnc_screen_close(at: *mut Place, viewer: u64) -> i32
@@ -406,4 +431,39 @@ pub unsafe extern "C" fn vnc_screen_colour(at: *mut Place, x: u32, y: u32) -> i6
     ensures* { sem 𝓛 (leaves at (λ after. Tells (colour_at x y) before after result)) }
 {
     Desk::colour(&mut *(at as *mut Desk), x, y)
+}
+
+/// How many bytes of memory C has to give for an update; their address is a multiple of 16.
+#[unsafe(no_mangle)]
+pub extern "C" fn vnc_update_size() -> usize {
+    size_of::<DeskUpdate>()
+}
+
+/// Puts an update that holds nothing into C's memory.
+#[unsafe(no_mangle)]
+pub unsafe extern "C" fn vnc_update_init(at: *mut UpdatePlace)
+    requires* { sem 𝓛 (room_at update_row at) }
+    ensures* { sem 𝓛 (leaves_update at (λ held. held ≡ [])) }
+{
+    ptr::write(at as *mut DeskUpdate, DeskUpdate::new())
+}
+
+/// `DeskUpdate::output`.
+#[unsafe(no_mangle)]
+pub unsafe extern "C" fn vnc_update_output(at: *mut UpdatePlace, room: &mut [u8]) -> i32
+    ghost before: { update_row.Denot }
+    requires* { sem 𝓛 (holds_update at before) }
+    ensures* { sem 𝓛 (leaves_update at (λ after. GivesHeld before after room.old room.new result)) }
+{
+    DeskUpdate::output(&mut *(at as *mut DeskUpdate), room)
+}
+
+/// `DeskUpdate::clear`.
+#[unsafe(no_mangle)]
+pub unsafe extern "C" fn vnc_update_clear(at: *mut UpdatePlace) -> i32
+    ghost before: { update_row.Denot }
+    requires* { sem 𝓛 (holds_update at before) }
+    ensures* { sem 𝓛 (leaves_update at (λ after. (after ≡ []) × (result ≡ codes.done))) }
+{
+    DeskUpdate::clear(&mut *(at as *mut DeskUpdate))
 }
