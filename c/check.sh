@@ -176,7 +176,7 @@ refused() { # PROGRAM FIRST LAST ARGUMENT..
 }
 # shellcheck disable=SC2086
 if $CC -Wall -Wextra -Werror -shared -fPIC -o "$room/refuse.so" "$here/tools/refuse.c" -ldl; then
-    for name in play server_edges rfb_edges; do try "$name: each of its first 150 allocations is refused" refused "$name" 1 150; done
+    for name in play edges server_edges rfb_edges; do try "$name: each of its first 150 allocations is refused" refused "$name" 1 150; done
     for name in clock sketch own_pixels own_loop; do try "$name: each of its first 40 allocations is refused" refused "$name" 1 40 0 1; done
 else
     left+=("refused memory: no shared object")

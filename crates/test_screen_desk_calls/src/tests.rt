@@ -1,8 +1,10 @@
 //! Each call once, with what RFC 6143 has for it.
 
-use screen_desk::{Corners, Desk, OFF_SCREEN, OUT_OF_RANGE, OUTPUT_WAITS, SHUT, Told};
+use screen_desk::{Corners, Desk, DeskUpdate, OFF_SCREEN, OUT_OF_RANGE, OUTPUT_WAITS, SHUT, Told};
 use std::alloc::Global;
 use std::test::Fail;
+use std::thread;
+use std::thread::Threads;
 
 /// The opening of a viewer of version 3.8 that takes the security type None and shares (7.1.1, 7.1.2, 7.3.1).
 const OPENING: &[u8] = b"RFB 003.008\n\x01\x01";
@@ -46,6 +48,36 @@ fn with_viewer(alloc: Global) -> Desk {
     desk
 }
 
+/// The same where the viewer asked for all of the screen, whose first place is red.
+fn with_asking_viewer(alloc: Global) -> Desk {
+    let mut desk = with_viewer(alloc);
+    let _code = desk.paint(0, 0, 1, 1, &[0xff_0000]);
+    let _code = desk.hear(7, REQUEST);
+    desk
+}
+
+/// What that viewer is sent (7.6.1).
+const RED_AND_BLACK: &[u8; 24] =
+    b"\x00\x00\x00\x01\x00\x00\x00\x00\x00\x02\x00\x01\x00\x00\x00\x00\x00\x00\xff\x00\x00\x00\x00\x00";
+
+/// The next 24 bytes that wait for it, one by one.
+fn fetched_of_desk(desk: &mut Desk) -> [u8; 24] {
+    let mut bytes = [0x55; 24];
+    for i in 0..24 {
+        let _count = desk.output(7, &mut bytes[i..i + 1]);
+    }
+    bytes
+}
+
+/// The next 24 bytes that an update holds, one by one.
+fn fetched_of_update(update: &mut DeskUpdate) -> [u8; 24] {
+    let mut bytes = [0x55; 24];
+    for i in 0..24 {
+        let _count = update.output(&mut bytes[i..i + 1]);
+    }
+    bytes
+}
+
 #[test]
 fn a_viewer_is_answered(rt: HostRuntime) -> Result<(), Fail> {
     let mut desk = opened(rt.alloc());
@@ -86,6 +118,96 @@ fn an_update_is_fetched_in_pieces(rt: HostRuntime) -> Result<(), Fail> {
     );
     assert_eq!(rt; &third, b"\x00\x00\xff\x00\x00\x00\x00\x00");
     assert_eq!(rt; desk.cut(7), 0);
+    Ok(())
+}
+
+#[test]
+fn an_update_apart_has_the_bytes_that_the_desk_gives(rt: HostRuntime) -> Result<(), Fail> {
+    let mut desk = with_asking_viewer(rt.alloc());
+    let mut other = with_asking_viewer(rt.alloc());
+    let mut update = DeskUpdate::new();
+    assert_eq!(rt; desk.cut_into(7, &mut update), 1);
+    assert_eq!(rt; other.cut(7), 1);
+    assert_eq!(rt; &fetched_of_update(&mut update), RED_AND_BLACK);
+    assert_eq!(rt; &fetched_of_desk(&mut other), RED_AND_BLACK);
+    assert_eq!(rt; update.output(&mut [0; 4]), 0);
+    assert_eq!(rt; other.output(7, &mut [0; 4]), 0);
+    Ok(())
+}
+
+#[test]
+fn an_update_apart_stays_as_it_was_cut(rt: HostRuntime) -> Result<(), Fail> {
+    let mut desk = with_asking_viewer(rt.alloc());
+    let mut update = DeskUpdate::new();
+    assert_eq!(rt; desk.cut_into(7, &mut update), 1);
+    assert_eq!(rt; desk.output(7, &mut [0; 4]), 0);
+    assert_eq!(rt; desk.paint(0, 0, 2, 1, &[1, 2]), 0);
+    assert_eq!(rt; desk.close(7), 0);
+    assert_eq!(rt; desk.shut(), 0);
+    assert_eq!(rt; &fetched_of_update(&mut update), RED_AND_BLACK);
+    Ok(())
+}
+
+/// Paints all of a desk's screen, over and over. What the last call answers.
+fn paints_on(desk: &mut Desk) -> i32 {
+    let mut code = 1;
+    for colour in 0..100 {
+        code = desk.paint(0, 0, 2, 1, &[colour, colour]);
+    }
+    code
+}
+
+/// What one thread fetches of an update while another paints.
+fn fetched_meanwhile<R: Threads + Sync>(
+    rt: &R,
+    desk: &mut Desk,
+    update: &mut DeskUpdate,
+) -> ([u8; 24], i32) {
+    thread::join(rt, || fetched_of_update(update), || paints_on(desk))
+}
+
+#[test]
+fn an_update_apart_is_fetched_while_the_desk_is_called(rt: HostRuntime) -> Result<(), Fail> {
+    let mut desk = with_asking_viewer(rt.alloc());
+    let mut update = DeskUpdate::new();
+    assert_eq!(rt; desk.cut_into(7, &mut update), 1);
+    let (bytes, code) = fetched_meanwhile(&rt, &mut desk, &mut update);
+    assert_eq!(rt; &bytes, RED_AND_BLACK);
+    assert_eq!(rt; code, 0);
+    Ok(())
+}
+
+#[test]
+fn an_update_is_fetched_whole_before_the_next(rt: HostRuntime) -> Result<(), Fail> {
+    let mut desk = with_asking_viewer(rt.alloc());
+    let mut update = DeskUpdate::new();
+    let mut first = [0; 4];
+    assert_eq!(rt; desk.cut_into(8, &mut update), -7);
+    assert_eq!(rt; desk.cut_into(7, &mut update), 1);
+    assert_eq!(rt; update.output(&mut first), 4);
+    assert_eq!(rt; &first, b"\x00\x00\x00\x01");
+    assert_eq!(rt; desk.cut_into(7, &mut update), OUTPUT_WAITS);
+    assert_eq!(rt; update.clear(), 0);
+    assert_eq!(rt; update.output(&mut first), 0);
+    assert_eq!(rt; desk.cut_into(7, &mut update), 0);
+    assert_eq!(rt; desk.hear(7, REQUEST), 0);
+    assert_eq!(rt; desk.cut_into(7, &mut update), 1);
+    assert_eq!(rt; &fetched_of_update(&mut update), RED_AND_BLACK);
+    assert_eq!(rt; desk.cut_into(7, &mut update), 0);
+    Ok(())
+}
+
+#[test]
+fn no_update_apart_goes_before_what_waits(rt: HostRuntime) -> Result<(), Fail> {
+    let mut desk = with_asking_viewer(rt.alloc());
+    let mut update = DeskUpdate::new();
+    assert_eq!(rt; desk.cut(7), 1);
+    assert_eq!(rt; desk.cut_into(7, &mut update), OUTPUT_WAITS);
+    assert_eq!(rt; update.output(&mut [0; 4]), 0);
+    assert_eq!(rt; &fetched_of_desk(&mut desk), RED_AND_BLACK);
+    assert_eq!(rt; desk.cut_into(7, &mut update), 0);
+    assert_eq!(rt; desk.shut(), 0);
+    assert_eq!(rt; desk.cut_into(7, &mut update), SHUT);
     Ok(())
 }
 
