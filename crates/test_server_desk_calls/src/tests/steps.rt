@@ -131,6 +131,17 @@ fn has_text(
     }
 }
 
+fn has_address(
+    desk: &mut ServerDesk,
+    viewer: u64,
+    before: &[u8; 12],
+    count: i32,
+    after: &[u8; 12],
+) -> bool {
+    let mut room = *before;
+    desk.viewer_address(viewer, &mut room) == count && room == *after
+}
+
 fn text_is_letters(alloc: Global, desk: &mut ServerDesk, count: u32) -> Result<bool, AllocError> {
     let mut room = vec![in alloc; 0; count as usize]?;
     let fetched = desk.text(&mut room);
@@ -183,8 +194,7 @@ fn holds_of_desk(alloc: Global, stage: &mut Stage, step: Step) -> Result<bool, A
         Step::ToldText(length) => told_text(desk, length),
         Step::Text(before, part, count, after) => has_text(desk, before, part, count, after),
         Step::Address(viewer, before, count, after) => {
-            let mut room = *before;
-            desk.viewer_address(viewer, &mut room) == count && room == *after
+            has_address(desk, viewer, before, count, after)
         }
         Step::TextIsLetters(count) => text_is_letters(alloc, desk, count)?,
         Step::CutsLetters(count, code) => desk.cut_text(&letters(alloc, count)?) == code,
