@@ -1,9 +1,8 @@
 /* rfb_compat.c: the server of rfb_compat.h, over vnc_server.h.
  *
  * The library has a picture of its own. A mark is kept as a rectangle, and the next turn takes what stands there then out of frameBuffer
- * into the picture. A copy first takes what is marked, then moves frameBuffer and the picture alike. Where marks are left, as before
- * rfbSchedule.., which finds frameBuffer moved, or there are several rectangles, or characters were drawn, which nobody marks, it marks where
- * the copy came to, so that what differs there is taken. Nothing is taken while nobody watches; for a viewer that comes, all is. */
+ * into the picture. A copy first takes what is marked, then moves frameBuffer and the picture alike, and marks where it came to: so what
+ * was drawn and not marked is put right there. Nothing is taken while nobody watches; for a viewer that comes, all is. */
 #define _POSIX_C_SOURCE 200809L
 #include "rfb_compat.h"
 #include "vnc_server.h"
@@ -131,10 +130,10 @@ static void copy(rfbScreenInfoPtr s, const sraRect *to, size_t count, int dx, in
     lock(s);
     if (!isMoved) take_marks(s);
     if (!isMoved) copy_pixels(s, to, count, dx, dy);
-    const rfbBool isWatched = s->clientHead && s->compat->server, isStale = count > 1 || s->compat->marks > 0 || s->isWritten;
     for (size_t k = 0; k < count; k++) {
         const sraRect r = copied(s, to[k], dx, dy);
-        if ((isWatched && vnc_server_do_copy_rect(s->compat->server, r.x1, r.y1, r.x2, r.y2, dx, dy) < 0) || isStale) mark(s, r.x1, r.y1, r.x2, r.y2);
+        if (s->clientHead && s->compat->server) vnc_server_do_copy_rect(s->compat->server, r.x1, r.y1, r.x2, r.y2, dx, dy);
+        mark(s, r.x1, r.y1, r.x2, r.y2);
     }
     unlock(s);
 }

@@ -111,8 +111,7 @@ typedef struct _rfbScreenInfo {
     rfbCursorPtr cursor;            /* kept and freed, not shown */
     char *httpDir;                  /* not read */
     rfbBool httpEnableProxyConnect; /* not read */
-    rfbBool isWritten;              /* characters stand in frameBuffer, maybe not marked; not the program's, nor is what follows */
-    struct rfbCompat *compat;
+    struct rfbCompat *compat;       /* not the program's */
 } rfbScreenInfo;
 
 typedef struct _rfbClientRec {

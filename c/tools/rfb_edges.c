@@ -224,10 +224,8 @@ static int pictures(int bytes)
     IS(shows(s, &v, bytes, 0), 0);
     for (dy = -4; dy <= 4; dy += 4)
         for (dx = -7; dx <= 7; dx += 7) {
-            memset(s->frameBuffer + 6 * s->paddedWidthInBytes + 12 * bytes, dx + dy, 30);
-            if (dx) rfbMarkRectAsModified(s, 12, 6, 28, 7); /* else only behind the copy, with all that it came to */
+            memset(s->frameBuffer + 6 * s->paddedWidthInBytes + 12 * bytes, dx + dy, 30); /* not marked */
             rfbDoCopyRect(s, -5, 1, 33, 50, dx, dy);
-            if (!dx) rfbMarkRectAsModified(s, 0, 0, W, H);
             IS(shows(s, &v, bytes, 0), 0);
             rfbDoCopyRegion(s, r, dx, dy);
             rfbMarkRegionAsModified(s, r);
