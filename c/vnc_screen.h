@@ -33,7 +33,7 @@ extern "C" {
 #endif
 
 /* Grows with each change that a program made before it can see; vnc_screen_abi() is the library's. */
-#define VNC_SCREEN_ABI 2
+#define VNC_SCREEN_ABI 3
 
 typedef struct vnc_screen vnc_screen;
 
@@ -146,6 +146,11 @@ int32_t vnc_screen_is_live(vnc_screen *screen, uint64_t viewer);              /*
 int32_t vnc_screen_is_open(vnc_screen *screen, uint64_t viewer);              /* 1 where its opening is over and it met no fault, else 0 */
 int32_t vnc_screen_is_asking(vnc_screen *screen, uint64_t viewer);            /* 1 where a request of its is unanswered, else 0 */
 int32_t vnc_screen_fault(vnc_screen *screen, uint64_t viewer);                /* 0, or a vnc_fault */
+
+/* What a viewer has set by what it was heard to say goes to the first place of `room`, and the others stay: 1; 0 where `count` is 0, and
+ * VNC_NO_VIEWER where none has the number. (Of rfbClientRec its format, preferredEncoding, useCopyRect and useNewFBSize, and the shared
+ * flag of its ClientInit.) */
+int32_t vnc_screen_settings(vnc_screen *screen, uint64_t viewer, vnc_settings *room, size_t count);
 
 #ifdef __cplusplus
 }

@@ -34,7 +34,7 @@ extern "C" {
 #endif
 
 /* Grows with each change that a program made before it can see; vnc_server_abi() is the library's. */
-#define VNC_SERVER_ABI 2
+#define VNC_SERVER_ABI 3
 
 typedef struct vnc_server vnc_server;
 
@@ -132,6 +132,11 @@ int32_t vnc_server_close_viewer(vnc_server *server, uint64_t viewer);
  * to `room`, as much of it as fits: how many bytes; 46 are enough. VNC_NO_VIEWER where none has the number, VNC_NETWORK_FAILED where the
  * system doesn't tell, as when the viewer is gone already, or VNC_OUT_OF_MEMORY. */
 int32_t vnc_server_viewer_address(vnc_server *server, uint64_t viewer, uint8_t *room, size_t count);
+
+/* What a viewer has set by what it was heard to say goes to the first place of `room`, and the others stay: 1; 0 where `count` is 0, and
+ * VNC_NO_VIEWER where none has the number. It has them from its coming on, and a turn may change them. (Of rfbClientRec its format,
+ * preferredEncoding, useCopyRect and useNewFBSize, and the shared flag of its ClientInit.) */
+int32_t vnc_server_settings(vnc_server *server, uint64_t viewer, vnc_settings *room, size_t count);
 
 /* How many inputs, comings and goings were lost since vnc_server_listen. */
 int64_t vnc_server_lost(vnc_server *server);

@@ -57,4 +57,22 @@ typedef struct vnc_input {
     uint32_t shortened; /* of a text: 1 where only its first 262144 bytes are kept */
 } vnc_input;
 
+/* What a viewer has set by its messages (7.3.1, 7.5.1, 7.5.2). */
+typedef struct vnc_settings {
+    uint32_t shared;         /* 1 where its ClientInit asked that other viewers stay connected, 0 before it; they stay in any case */
+    uint32_t encoding;       /* 0 Raw, 2 RRE, 5 Hextile: the first of these in its SetEncodings, Raw where there is none */
+    uint32_t copy_rect;      /* 1 where its SetEncodings lists CopyRect (7.7.2), else 0 */
+    uint32_t desktop_size;   /* 1 where it lists DesktopSize (7.8.2), else 0 */
+    uint32_t bits_per_pixel; /* of the pixel format that it is sent (7.4), the server's until its SetPixelFormat: 8, 16 or 32 */
+    uint32_t depth;          /* of the format: how many of these bits are used, as the viewer said it */
+    uint32_t big_endian;     /* of the format: 1 where a pixel's highest byte is sent first, else 0 */
+    uint32_t true_colour;    /* of the format: 1 where a pixel is a colour; 0 where it is a place of the colour map, and all below is 0 */
+    uint32_t red_max;        /* of a colour: the greatest value of its red */
+    uint32_t green_max;      /* of a colour: the greatest value of its green */
+    uint32_t blue_max;       /* of a colour: the greatest value of its blue */
+    uint32_t red_shift;      /* of a colour: how many bits stand below its red */
+    uint32_t green_shift;    /* of a colour: how many bits stand below its green */
+    uint32_t blue_shift;     /* of a colour: how many bits stand below its blue */
+} vnc_settings;
+
 #endif

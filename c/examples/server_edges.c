@@ -84,11 +84,13 @@ static void *wakes(void *waker)
 int main(void)
 {
     static const uint8_t update[24] = {0, 0, 0, 1, 0, 0, 0, 0, 0, 2, 0, 1, 0, 0, 0, 0, 0, 0, 0xff, 0};
+    static const vnc_settings opened = {1, 0, 0, 0, 32, 24, 0, 1, 255, 255, 255, 16, 8, 0}, hextile = {1, 5, 1, 1, 32, 24, 0, 1, 255, 255, 255, 16, 8, 0};
     static uint32_t colours[4] = {0xff0000};
     vnc_server *s = (vnc_server *)malloc(vnc_server_size());
     vnc_waker *w = 0;
     vnc_input in[4];
     vnc_visit visits[4];
+    vnc_settings set[2], before;
     uint8_t room[64];
     const vnc_rect far = {0, 0, 2000000, 1}, all = {0, 0, 2, 1};
     pthread_t other;
@@ -101,6 +103,7 @@ int main(void)
     IS(vnc_server_bell(s), VNC_SHUT);
     IS(vnc_server_port(s), VNC_SHUT);
     IS(vnc_server_viewer_address(s, 1, room, 64), VNC_SHUT);
+    IS(vnc_server_settings(s, 1, 0, 0), VNC_SHUT);
     IS(vnc_server_close(s), 0);
     IS(listens(s, "127.0.0.1", 0, 1), VNC_BAD_SIZE);
     IS(listens(s, "127.0.0.1", 8193, 1), VNC_BAD_SIZE);
@@ -154,6 +157,19 @@ int main(void)
     IS(vnc_server_viewer_address(s, 1, room, 3), 3);
     IS(vnc_server_viewer_address(s, 2, room, 64), VNC_NO_VIEWER);
 
+    /* what it set: the shared flag (7.3.1), and then CopyRect, Hextile and DesktopSize (7.5.2) */
+    memset(set, 0x55, sizeof set);
+    before = set[0];
+    IS(vnc_server_settings(s, 2, set, 2), VNC_NO_VIEWER);
+    IS(memcmp(set, &before, sizeof before), 0);
+    IS(vnc_server_settings(s, 1, 0, 0), 0);
+    IS(vnc_server_settings(s, 1, set, 2), 1);
+    IS(memcmp(set, &opened, sizeof before), 0);
+    IS(memcmp(set + 1, &before, sizeof before), 0);
+    IS(says(s, fd, "\x02\0\0\x03\0\0\0\x01\0\0\0\x05\xff\xff\xff\x21", 16, room, 0), 0);
+    IS(vnc_server_settings(s, 1, set, 1), 1);
+    IS(memcmp(set, &hextile, sizeof before), 0);
+
     /* one that says what no message says */
     IS(says(s, fd, "\x09", 1, room, 0), 0);
     IS(close(fd), 0);
@@ -180,6 +196,7 @@ int main(void)
     IS(vnc_waker_wake(w), VNC_SHUT);
     vnc_waker_free(w);
     IS(vnc_server_inputs(s, in, 4), VNC_SHUT);
+    IS(vnc_server_settings(s, 1, set, 1), VNC_SHUT);
     IS(vnc_server_take(s, 0, 0, 0, 0, room, 0, 0, 0, 0, 0, 0), VNC_SHUT);
     IS(vnc_server_listen(s, home, 9, 0, 4, 1, name, 1, 1), 0);
     IS(vnc_server_viewer_count(s), 0);

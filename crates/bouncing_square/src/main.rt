@@ -23,7 +23,7 @@ const RIGHT: i32 = 288;
 const BOTTOM: i32 = 208;
 
 /// Where the square's left upper corner is, how it moves, and how many pictures are to be drawn.
-#[derive(Debug, Drop)]
+#[derive(Drop)]
 struct Square {
     x: i32,
     y: i32,
@@ -51,7 +51,7 @@ fn step(at: &mut i32, by: &mut i32, end: i32) {
 
 impl Application for Square {
     /// Who watches can't do anything.
-    fn told(&mut self, _: &mut Canvas, _: u64, _: &Input) -> Result<(), ScreenError> {
+    fn on_input(&mut self, _: &mut Canvas, _: u64, _: &Input) -> Result<(), ScreenError> {
         Ok(())
     }
 

@@ -10,7 +10,12 @@ use std::time::Duration;
 /// What draws on a canvas. Each call may draw, and draws alone; where one answers an error, so does the turn that made it.
 pub trait Application {
     /// A viewer's input came (RFC 6143, 7.3.1 and 7.5.4 to 7.5.6).
-    fn told(&mut self, canvas: &mut Canvas, viewer: u64, input: &Input) -> Result<(), ScreenError>
+    fn on_input(
+        &mut self,
+        canvas: &mut Canvas,
+        viewer: u64,
+        input: &Input,
+    ) -> Result<(), ScreenError>
         ensures draws { Draws canvas.old canvas.new };
 
     /// A viewer connected; it is served from now on.

@@ -60,7 +60,7 @@ fn append(all: &mut Vec<u8>, bytes: &[u8]) -> Result<(), AllocError>
 }
 
 /// What came of a write.
-#[derive(Clone, Copy, Debug, PartialEq, Eq)]
+#[derive(Clone, Copy)]
 pub(crate) enum Written {
     /// Bytes were taken.
     Some,

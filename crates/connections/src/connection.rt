@@ -29,7 +29,7 @@ const LONG: u64 = 65_536;
 const FORGOTTEN: u64 = 64;
 
 /// How much a viewer said of late: what it says is added, and with time it is forgotten.
-#[derive(Clone, Copy, Debug)]
+#[derive(Clone, Copy)]
 struct Flow {
     // so many bytes
     level: u64,
@@ -93,7 +93,7 @@ impl<T: Transport> Model for Connection<T> {
 }
 
 /// What came of a read.
-#[derive(Clone, Copy, Debug, PartialEq, Eq)]
+#[derive(Clone, Copy)]
 pub(crate) enum Got {
     /// So many bytes.
     Piece(usize),

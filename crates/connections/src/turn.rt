@@ -80,7 +80,7 @@ fn tell<A: Application>(
     ensures draws { Draws canvas.old canvas.new }
 {
     for input in inputs {
-        application.told(canvas, viewer, input)?;
+        application.on_input(canvas, viewer, input)?;
     }
     Ok(())
 }

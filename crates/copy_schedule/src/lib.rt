@@ -43,7 +43,7 @@ pub enum Mark {
 }
 
 /// What one update sends: a FramebufferUpdate (RFC 6143, section 7.6.1) with the copies, in this order, and then the pixels.
-#[derive(Debug, Drop)]
+#[derive(Drop)]
 pub struct Cut {
     /// Rectangles that the viewer copies from the places less the offset (CopyRect, RFC 6143, section 7.7.2), in an order in
     /// which none is drawn over a later one's source.
@@ -55,7 +55,7 @@ pub struct Cut {
 }
 
 /// One drawing call, as it stands in a log that several viewers share.
-#[derive(Debug, Drop)]
+#[derive(Drop)]
 pub enum LogEntry {
     /// The region's places are owed, as far as they are on the screen.
     Mark(Region),

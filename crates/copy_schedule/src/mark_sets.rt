@@ -13,7 +13,7 @@ use region::Region;
 use std::alloc::{AllocError, Global};
 
 /// The owed and the copied places.
-#[derive(Debug, Drop)]
+#[derive(Drop)]
 pub struct MarkSets {
     pub owed: Region,
     pub copied: Region,

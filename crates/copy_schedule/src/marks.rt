@@ -29,7 +29,6 @@ use std::marker::Model;
 
 /// One viewer's marks: the places of the screen that are owed to it, those that await a copy and by which offset, and those
 /// that it asked for. All other places are clean.
-#[derive(Debug)]
 pub struct Marks {
     alloc: Global,
     width: u32,
@@ -76,7 +75,7 @@ impl Model for Marks {
 }
 
 /// Marks that a call would leave, ready for `Marks::commit`.
-#[derive(Debug, Drop)]
+#[derive(Drop)]
 pub struct Prepared {
     marks: Marks,
 }
@@ -90,7 +89,7 @@ impl Model for Prepared {
 }
 
 /// What an update sends, and the marks that it would leave, ready for `Marks::commit`.
-#[derive(Debug, Drop)]
+#[derive(Drop)]
 pub struct PreparedCut {
     pub cut: Cut,
     pub marks: Prepared,

@@ -7,7 +7,7 @@ ghost use Rattle.region.specs.Region.{in_rect};
 use region::Rect;
 
 /// The places (x, y) of a screen with x1 <= x < x2 and y1 <= y < y2.
-#[derive(Clone, Copy, Debug)]
+#[derive(Clone, Copy)]
 pub struct Window {
     pub x1: usize,
     pub y1: usize,

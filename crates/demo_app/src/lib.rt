@@ -9,16 +9,16 @@
 mod command_line;
 mod endings;
 mod one_thread;
-mod own;
-mod own_one_thread;
+mod self_test;
+mod self_test_one_thread;
 mod serve;
 mod watching;
 
 pub use command_line::{Chosen, line_of};
 pub use one_thread::serve_in_one_thread;
-pub use own::self_on;
-pub use own_one_thread::self_in_one_thread;
 pub use pixel_translate::{BitsPerPixel, Component};
 pub use play_script::{SCRIPT_LIMIT, Steps, play_over};
+pub use self_test::self_on;
+pub use self_test_one_thread::self_in_one_thread;
 pub use serve::{ServeOptions, serve_on};
 pub use test_viewer::{Area, Fault, FaultKind, PixelFormat, Shown, Version};

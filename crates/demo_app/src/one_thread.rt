@@ -78,7 +78,12 @@ impl Showing {
 }
 
 impl Application for Showing {
-    fn told(&mut self, canvas: &mut Canvas, _viewer: u64, input: &Input) -> Result<(), ScreenError>
+    fn on_input(
+        &mut self,
+        canvas: &mut Canvas,
+        _viewer: u64,
+        input: &Input,
+    ) -> Result<(), ScreenError>
         ensures step { (config : Config) (list : List Event) → canvas.old.screen ≡ state config list →
             OnOk result (canvas.new.screen ≡
             state config (list ++ option_to_list (event_for self.old.easel.width self.old.easel.height input.now))) }

@@ -48,14 +48,14 @@ const TEXT_LIMIT: usize = 65_536;
 
 /// The application: a pointer with its first button down paints its place white, a key that goes down rings the bell, and a text
 /// is sent back.
-#[derive(Clone, Copy, Debug, Drop)]
+#[derive(Clone, Copy, Drop)]
 pub(crate) struct Easel {
     pub width: u32,
     pub height: u32,
 }
 
 /// What an input has the application draw.
-#[derive(Clone, Copy, Debug)]
+#[derive(Clone, Copy)]
 pub(crate) enum Stroke<'a> {
     /// The place of this rectangle gets white.
     Place(Rect),
@@ -114,7 +114,7 @@ impl Easel {
 }
 
 impl<L: Ledger> Application<L> for Easel {
-    fn told<R: Wait>(
+    fn on_input<R: Wait>(
         &mut self,
         rt: &R,
         shared: &Shared<L>,

@@ -28,7 +28,7 @@ const ALL: Area = Area {
 };
 
 /// A connection ended or failed, or it brought what no server says.
-#[derive(Clone, Copy, Debug, PartialEq, Eq)]
+#[derive(Clone, Copy)]
 struct Lost;
 
 impl From<io::Error> for Lost {
@@ -44,7 +44,7 @@ impl From<Fault> for Lost {
 }
 
 /// What a viewer waits for.
-#[derive(Clone, Copy, Debug, PartialEq, Eq)]
+#[derive(Clone, Copy)]
 enum Awaited {
     /// The end of the opening.
     Opening,

@@ -149,7 +149,7 @@ impl Model for EventLoop {
 }
 
 /// What was found at a wait, besides sockets of viewers.
-#[derive(Clone, Copy, Debug)]
+#[derive(Clone, Copy)]
 struct Noted {
     may_accept: bool,
     is_woken: bool,

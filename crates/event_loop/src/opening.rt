@@ -10,7 +10,7 @@ use std::collections::VecDeque;
 use std::time::{Duration, Instant};
 
 /// A viewer that connected at a time.
-#[derive(Clone, Copy, Debug)]
+#[derive(Clone, Copy)]
 struct Newcomer {
     key: usize,
     viewer: u64,

@@ -27,7 +27,7 @@ pub(crate) struct Poller {
 }
 
 /// What an event says. It may be out of date.
-#[derive(Clone, Copy, Debug)]
+#[derive(Clone, Copy)]
 pub(crate) enum Found {
     /// A connection waits.
     Listener,

@@ -25,7 +25,7 @@ pub struct Transcript {
 }
 
 /// Why a file has no list of transcripts.
-#[derive(Clone, Copy, Debug, PartialEq, Eq)]
+#[derive(Clone, Copy)]
 pub enum Malformed {
     /// The line with this number can't stand where it stands.
     Line(usize),

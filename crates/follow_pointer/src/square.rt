@@ -24,7 +24,7 @@ const MINUS: u32 = 0x2d;
 pub const WHITE: u32 = 0xff_ffff;
 
 /// A square of 2 columns and 2 rows, the screen's columns and rows, and where on it the square's left upper corner is.
-#[derive(Clone, Copy, Debug, Drop)]
+#[derive(Clone, Copy, Drop)]
 pub struct Square {
     width: u16,
     height: u16,
@@ -124,7 +124,7 @@ impl Square {
 
 impl<L: Ledger> Application<L> for Square {
     /// The square goes to where the pointer is. The key + doubles the screen, and the key - halves it.
-    fn told<R: Wait>(
+    fn on_input<R: Wait>(
         &mut self,
         rt: &R,
         shared: &Shared<L>,

@@ -14,7 +14,7 @@ use crate::blocks::{Block, block_within};
 use crate::moves::{first_source, in_copy_order, move_pieces, own_pieces, whole_rows};
 use crate::rows::{
     Row, blank_rows, colours_of, exchange_rows, gather, is_own_row, make_room, own_rows, parts,
-    put_rows, rows_with, share_rows, write_rows,
+    put_rows, rows_with, share_rows, take_back_rows, write_rows,
 };
 use region::Rect;
 use std::alloc::{AllocError, Global};
@@ -188,11 +188,27 @@ impl Framebuffer {
         if colours.is_empty() {
             return Ok(());
         }
+        if has_whole_rows {
+            self.take_back(block);
+        }
         if has_whole_rows && self.shares(block) {
             self.put_whole_rows(block, colours)
         } else {
             self.write_in_rows(block, colours)
         }
+    }
+
+    /// Those of a block's rows that no snapshot holds any more are the picture's alone again.
+    fn take_back(&mut self, block: Block)
+        requires { block.top + block.rows ≤ self.old.height }
+        ensures { self.new ≡ self.old }
+    {
+        take_back_rows(
+            self.alloc,
+            &mut self.rows,
+            block.top,
+            block.top + block.rows,
+        );
     }
 
     /// Whether a row of a block may be shared with a snapshot.

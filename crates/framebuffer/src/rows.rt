@@ -132,6 +132,29 @@ fn make_own(alloc: Global, row: &mut Row, retired: &mut Row) -> Result<(), Alloc
     }
 }
 
+/// The picture holds a row alone again, with its colours as they are, where no snapshot holds it any more. No colour is copied.
+fn take_back(alloc: Global, row: &mut Row)
+    ensures { row_colours row.new ≡ row_colours row.old }
+{
+    *row = match mem::replace(row, Row::Own(Vec::new(alloc))) {
+        Row::Own(places) => Row::Own(places),
+        Row::Shared(places) => match Arc::try_unwrap(places) {
+            Ok(places) => Row::Own(places),
+            Err(shared) => Row::Shared(shared),
+        },
+    };
+}
+
+/// The picture holds alone again those of the rows from one to below another that no snapshot holds any more. No colour is copied.
+pub fn take_back_rows(alloc: Global, rows: &mut [Row], from: usize, to: usize)
+    requires { to ≤ length rows.old }
+    ensures { map row_colours rows.new ≡ map row_colours rows.old }
+{
+    for i in from..to {
+        take_back(alloc, &mut rows[i]);
+    }
+}
+
 /// The row once more, shared with the picture; no colour is copied.
 fn share(alloc: Global, row: &mut Row) -> Result<Row, AllocError>
     ensures same { row_colours row.new ≡ row_colours row.old }

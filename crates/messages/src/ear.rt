@@ -17,7 +17,7 @@ use std::marker::Model;
 ///
 /// Contracts see it as what is kept of the bytes that it has heard. Of a list of encodings that is no more than its count,
 /// how many have come and what they gave, and of a text at most its first 262,144 bytes.
-#[derive(Debug, Drop)]
+#[derive(Drop)]
 pub struct Ear {
     phase: Phase,
     partial: Partial,
@@ -38,13 +38,13 @@ impl Model for Ear {
 }
 
 /// What an ear becomes by a piece that it was prepared for.
-#[derive(Debug, Drop)]
+#[derive(Drop)]
 pub struct Change {
     kind: Kind,
 }
 
 /// How an ear goes on.
-#[derive(Debug, Drop)]
+#[derive(Drop)]
 enum Kind {
     /// It keeps this.
     Becomes(Phase, Partial),
@@ -65,7 +65,7 @@ impl Model for Change {
 }
 
 /// What a piece would tell, and what the ear would become.
-#[derive(Debug, Drop)]
+#[derive(Drop)]
 pub struct Prepared {
     /// What the piece adds.
     pub heard: Heard,

@@ -16,7 +16,7 @@ use pixel_translate::{Area, FormatFault, PixelFormat};
 use std::alloc::Global;
 
 /// What a whole front says.
-#[derive(Debug, Drop)]
+#[derive(Drop)]
 pub enum Head {
     /// The message is whole.
     Item(Item),

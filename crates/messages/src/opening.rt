@@ -7,7 +7,7 @@ use crate::{Item, Phase, Version, put_result, put_security, put_server_init};
 use std::alloc::{AllocError, Global};
 
 /// What ServerInit tells of a desktop (RFC 6143 section 7.3.2).
-#[derive(Clone, Copy, Debug)]
+#[derive(Clone, Copy)]
 pub struct Desktop<'a> {
     /// The columns of its framebuffer.
     pub width: u16,

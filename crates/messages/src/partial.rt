@@ -17,7 +17,7 @@ use std::alloc::{AllocError, Global};
 pub const DESKTOP_SIZE: i32 = -223;
 
 /// A list of encodings whose count has come.
-#[derive(Debug, Drop)]
+#[derive(Drop)]
 pub struct Numbers {
     /// How many numbers the list has.
     pub count: u16,
@@ -34,7 +34,7 @@ pub struct Numbers {
 }
 
 /// What is kept of a message that hasn't ended, or the fault behind which nothing is read.
-#[derive(Debug, Drop)]
+#[derive(Drop)]
 pub enum Partial {
     /// Its bytes.
     Plain(ArrayVec<u8, 20>),

@@ -15,7 +15,7 @@ use std::alloc::{AllocError, Global};
 const SHORT_MESSAGE: usize = 10;
 
 /// What was read: where the conversation stands, what is kept of the message that hasn't ended, and the items.
-#[derive(Debug, Drop)]
+#[derive(Drop)]
 pub struct Reading {
     pub phase: Phase,
     pub partial: Partial,

@@ -11,7 +11,7 @@ use std::mem;
 const TEXT_LIMIT: usize = 262_144;
 
 /// A text whose length has come.
-#[derive(Debug, Drop)]
+#[derive(Drop)]
 pub struct Text {
     /// How many bytes the text has.
     pub length: u32,

@@ -23,4 +23,4 @@ pub use play::play_over;
 pub use reading::SCRIPT_LIMIT;
 pub use steps::Steps;
 pub use texts::{answer_text, bad_line_text, ok_text, refusal_text};
-pub use words::cut_line;
+pub use words::split_line;

@@ -26,7 +26,7 @@ pub enum Line {
 }
 
 // The commands.
-#[derive(Clone, Copy, Debug, PartialEq, Eq)]
+#[derive(Clone, Copy)]
 enum Verb {
     Screen,
     Write,
@@ -44,7 +44,7 @@ enum Verb {
 }
 
 // A rectangle, and how many places it has.
-#[derive(Clone, Copy, Debug, PartialEq, Eq)]
+#[derive(Clone, Copy)]
 struct Places {
     rect: Rect,
     count: u32,
@@ -58,7 +58,7 @@ struct Pixels {
 }
 
 // A rectangle that is copied to, and by how much.
-#[derive(Clone, Copy, Debug, PartialEq, Eq)]
+#[derive(Clone, Copy)]
 struct Move {
     rect: Rect,
     dx: i32,

@@ -10,7 +10,7 @@ use crate::counted::CountedReader;
 use crate::reading::read_script;
 use crate::steps::Steps;
 use crate::trouble::{Trouble, flush, print, report};
-use crate::{Line, answer_text, bad_line_text, cut_line, ok_text, parse_line, refusal_text};
+use crate::{Line, answer_text, bad_line_text, ok_text, parse_line, refusal_text, split_line};
 use screen::{Config, Event, Screen, ScreenError};
 use std::alloc::{AllocError, Global};
 use std::io::{Read, Write};
@@ -119,7 +119,7 @@ fn play_text<W: Write>(alloc: Global, script: &[u8], writer: &mut W) -> Result<u
     let mut number = 0;
     let mut rest = Some(script);
     while let Some(text) = rest {
-        let (line, more) = cut_line(text);
+        let (line, more) = split_line(text);
         number += 1;
         let said = step(alloc, &mut screen, number, line)?;
         print(writer, &said.text)?;

@@ -7,7 +7,7 @@ use std::alloc::{AllocError, AllocFailed};
 use std::io::Write;
 
 /// Why a script was not played to its end, or viewers were not served to theirs.
-#[derive(Clone, Copy, Debug, PartialEq, Eq)]
+#[derive(Clone, Copy)]
 pub enum Trouble {
     OutOfMemory,
     ReadFault,

@@ -16,7 +16,7 @@ fn place_of(text: &[u8], separator: u8) -> Option<usize>
 }
 
 // What stands before the first separator, and what stands behind it.
-fn cut_at(text: &[u8], separator: u8) -> (&[u8], Option<&[u8]>)
+fn split_at(text: &[u8], separator: u8) -> (&[u8], Option<&[u8]>)
     ensures parts { parts separator text.now ≡ result.0.now ∷ option_map_or (λ rest. parts separator rest.now) result.1 [] }
     ensures less { IfSome result.1 (λ rest. length rest.now < length text.now) }
 {
@@ -27,18 +27,18 @@ fn cut_at(text: &[u8], separator: u8) -> (&[u8], Option<&[u8]>)
 }
 
 /// The first line of a text without its line feed, and what stands behind that, if there is one.
-pub fn cut_line(text: &[u8]) -> (&[u8], Option<&[u8]>)
+pub fn split_line(text: &[u8]) -> (&[u8], Option<&[u8]>)
     ensures lines { lines_of text.now ≡ result.0.now ∷ option_map_or (λ rest. lines_of rest.now) result.1 [] }
     ensures less { IfSome result.1 (λ rest. length rest.now < length text.now) }
 {
-    cut_at(text, b'\n')
+    split_at(text, b'\n')
 }
 
 // A line's word by its number; an empty one where there are not so many.
 pub fn word(line: &[u8], index: usize) -> &[u8]
     ensures { result.now ≡ word_of (words_of line.now) index }
 {
-    let (first, rest) = cut_at(line, b' ');
+    let (first, rest) = split_at(line, b' ');
     if index == 0 {
         return first;
     }

@@ -13,7 +13,7 @@ use region_bands::{Interval, Reader, Rows};
 const LIMIT: i64 = 1 << 20;
 
 /// So many columns to the right and rows down.
-#[derive(Clone, Copy, Debug)]
+#[derive(Clone, Copy)]
 pub(crate) struct Offset {
     pub dx: i32,
     pub dy: i32,

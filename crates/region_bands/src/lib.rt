@@ -38,7 +38,7 @@ pub struct Rows {
 }
 
 // The lists of the arena that belong to no band: that of the bands, and that of the row in the making.
-#[derive(Clone, Copy, Debug)]
+#[derive(Clone, Copy)]
 struct Lists {
     bands: ListId,
     row: ListId,

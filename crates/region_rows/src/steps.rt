@@ -7,7 +7,7 @@ use crate::Keep;
 use region_bands::{BandList, Interval, Reader};
 
 /// How far both rows are the same, and whether they have the columns up to there.
-#[derive(Clone, Copy, Debug)]
+#[derive(Clone, Copy)]
 pub(crate) struct Step {
     pub edge: i32,
     pub in_first: bool,
@@ -113,7 +113,7 @@ pub(crate) fn first_after_of(
 }
 
 /// How far two pairs of rows are the same, and whether what is kept of both pairs is the same up to there.
-#[derive(Clone, Copy, Debug)]
+#[derive(Clone, Copy)]
 pub(crate) struct Common {
     pub edge: i32,
     pub agrees: bool,

@@ -8,7 +8,7 @@ use region_bands::{BandList, Reader, Rows};
 use region_rows::skip_row;
 
 /// How far down both lists are the same, and whether they have rows up to there.
-#[derive(Clone, Copy, Debug)]
+#[derive(Clone, Copy)]
 pub(crate) struct Strip {
     pub bottom: i32,
     pub in_first: bool,

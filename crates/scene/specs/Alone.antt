@@ -119,7 +119,7 @@ shown_drawing c _ open_now v = v
 -- A viewer's own events.
 
 abbrev pub answer_of : Reply → Answer
-answer_of r = record { bytes = r.bytes; inputs = r.inputs; closed = r.closed; refused = None }
+answer_of r = record { bytes = r.bytes; inputs = r.inputs; closed = r.fault; refused = None }
 
 -- 7.1 to 7.5: what a viewer is answered to a piece that comes behind its bytes so far
 abbrev pub heard_answer : Config → List ℕ → List ℕ → Answer

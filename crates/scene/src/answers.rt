@@ -42,7 +42,7 @@ pub fn with_reply(reply: Reply) -> Answer
     Answer {
         bytes: reply.bytes,
         inputs: reply.inputs,
-        closed: reply.closed,
+        closed: reply.fault,
         refused: None,
     }
 }

@@ -105,7 +105,7 @@ fn is_on_screen(width: u32, height: u32, region: &Region) -> bool
 }
 
 /// A region with the places of another that are on the screen. It is a plain copy where its box is on the screen.
-fn cut_to_screen(
+fn clip_to_screen(
     alloc: Global,
     width: u32,
     height: u32,
@@ -147,6 +147,6 @@ pub fn owe_region(
     if viewers.is_empty() {
         return Ok(());
     }
-    let cut = cut_to_screen(alloc, width, height, region)?;
+    let cut = clip_to_screen(alloc, width, height, region)?;
     owe(viewers, cut)
 }

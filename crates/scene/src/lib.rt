@@ -5,8 +5,8 @@
 ghost use Rattle.std.specs.Prelude.{◌≡◌, IfOk};
 
 mod answers;
-mod arriving;
 mod call;
+mod connecting;
 mod drawing;
 mod laws;
 mod limits;

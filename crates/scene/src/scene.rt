@@ -4,7 +4,7 @@ ghost use Rattle.std.specs.Prelude.{◌≡◌, ◌≢◌, ◌++◌, ◌∷◌, [
 ghost use Rattle.std.specs.Prelude.{IsOkUnless, IsSome, None, Some, length, take, drop, slice_index, is_some, ◌↔◌, ◌<◌, ◌≤◌, ◌+◌, ◌*◌};
 ghost use Rattle.std.specs.Map.{keys_of};
 ghost use Rattle.std.specs.Option.{option_map};
-ghost use Rattle.viewer.specs.Viewer.{is_asking};
+ghost use Rattle.viewer.specs.Viewer.{is_asking, settings_of};
 ghost use Rattle.messages.specs.Reading.{fault_in_rest, is_open_rest};
 ghost use Rattle.messages.specs.Server.{server_version};
 ghost use Rattle.scene.specs.declared.Config.{Config};
@@ -18,7 +18,7 @@ ghost use Rattle.scene.specs.Next.{IsNext};
 ghost use Rattle.scene.specs.Refusals.{viewer_at, absence, presence, refusal, Refuses};
 
 use crate::answers::{encoded, settled, with_bytes, with_nothing, with_reply};
-use crate::arriving::let_in;
+use crate::connecting::let_in;
 use crate::drawing::{moves_nothing, owe_rects, owe_region, region_of, region_of_rect, tell};
 use crate::limits::{checked, refusal_of, size_refusal, text_refusal, unless_refused};
 use crate::{Answer, Config, Drawing, Event, History, ScreenError};
@@ -28,7 +28,7 @@ use messages::Fault;
 use region::{Rect, Region};
 use std::alloc::{AllocError, Global};
 use std::marker::Model;
-use viewer::{LogEntry, PreparedUpdate, Update};
+use viewer::{LogEntry, PreparedUpdate, Settings, Update};
 use viewer_list::ViewerList;
 
 /// One framebuffer, drawn in by the application, and its viewers.
@@ -182,6 +182,17 @@ impl Scene {
     {
         match self.viewers.is_asking(number) {
             Some(is_asking) => Ok(is_asking),
+            None => Err(ScreenError::NoViewer),
+        }
+    }
+
+    /// What a viewer has set by its messages. Refused as `NoViewer` where there is none with the number.
+    pub fn settings(&self, number: u64) -> Result<Settings, ScreenError>
+        ensures { MatchOption (viewer_at self.now number) (result ≡ Err ScreenError.NoViewer) (λ viewer. result ≡
+            Ok (settings_of viewer)) }
+    {
+        match self.viewers.settings(number) {
+            Some(settings) => Ok(settings),
             None => Err(ScreenError::NoViewer),
         }
     }

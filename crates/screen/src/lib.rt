@@ -29,4 +29,4 @@ pub use scene::{
     text_refusal, viewers_are_alone,
 };
 pub use screen::Screen;
-pub use viewer::Update;
+pub use viewer::{BitsPerPixel, Component, Encoding, PixelFormat, Pixels, Settings, Update};

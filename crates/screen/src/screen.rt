@@ -5,7 +5,7 @@
 ghost use Rattle.std.specs.Prelude.{◌≡◌, ◌≢◌, ◌++◌, ◌∷◌, [], List, IfSome, IfOk, OnOk, OnErr, MatchOption, MatchResult, IsOk};
 ghost use Rattle.std.specs.Prelude.{IsOkUnless, IsSome, None, length, take, drop, slice_index, is_some, option_map, ◌↔◌, ◌<◌, ◌≤◌, ◌+◌, ◌*◌};
 ghost use Rattle.std.specs.Map.{keys_of};
-ghost use Rattle.viewer.specs.Viewer.{is_asking};
+ghost use Rattle.viewer.specs.Viewer.{is_asking, settings_of};
 ghost use Rattle.scene.specs.Calls.{call_refusal, event_of};
 ghost use Rattle.messages.specs.Reading.{fault_in_rest, is_open_rest};
 ghost use Rattle.messages.specs.Server.{server_version};
@@ -27,7 +27,7 @@ use scene::{
 };
 use std::alloc::{AllocError, Global};
 use std::marker::Model;
-use viewer::Update;
+use viewer::{Settings, Update};
 
 /// A screen with its viewers: one framebuffer, drawn in by the application.
 pub struct Screen {
@@ -162,6 +162,15 @@ impl Screen {
             Ok (is_asking viewer)) }
     {
         self.scene.is_asking(number)
+    }
+
+    /// What a viewer has set by its messages: whether it would share the screen, its pixel format, its encoding (RFC 6143, 7.3.1,
+    /// 7.5.1 and 7.5.2; `format` and the like of `rfbClientRec`). Refused as `NoViewer` where there is none with the number.
+    pub fn settings(&self, number: u64) -> Result<Settings, ScreenError>
+        ensures { MatchOption (viewer_at self.now number) (result ≡ Err ScreenError.NoViewer) (λ viewer. result ≡
+            Ok (settings_of viewer)) }
+    {
+        self.scene.settings(number)
     }
 
     /// One drawing call: one of the calls below, as a value. Refused as that call is.

@@ -1,5 +1,5 @@
 -- What the calls of a desk do: the number that each answers, and the desk before and after it.
-use Rattle.std.specs.Prelude.{◌≡◌, ◌≢◌, ◌⊎◌, ℕ, ◌+◌, ◌*◌, ◌^◌, nat_lt, min, ℤ, pos, ◌<ℤ◌, ◌≤ℤ◌, ◌&&◌, if◌then◌else◌, List, [], ◌∷◌, ◌++◌, length, drop, take, slice_index, Option, Some, None, option_map, MatchOption}
+use Rattle.std.specs.Prelude.{◌≡◌, ◌≢◌, ◌⊎◌, ℕ, ◌+◌, ◌*◌, ◌^◌, nat_lt, min, ℤ, pos, ◌<ℤ◌, ◌≤ℤ◌, ◌&&◌, if◌then◌else◌, List, [], ◌∷◌, ◌++◌, length, drop, take, slice_index, slice_set, Option, Some, None, option_map, MatchOption}
 use Rattle.std.specs.Map.{keys_of}
 use Rattle.region.specs.declared.Rect.{Rect}
 use Rattle.screen.specs.declared.Config.{Config}
@@ -7,11 +7,13 @@ use Rattle.screen.specs.declared.Event.{Event}
 use Rattle.screen.specs.declared.Event.TheVariants.{Connect, Hear, Cut, Close}
 use Rattle.screen.specs.Alone.{config_refusal, something_to_send, some_bytes}
 use Rattle.screen.specs.Answers.{answer_to}
-use Rattle.viewer.specs.Viewer.{KeptViewer}
+use Rattle.viewer.specs.Viewer.{KeptViewer, settings_of}
 use Rattle.screen.specs.State.{State, state, viewer_at}
 use Rattle.screen_desk.specs.Codes.{Answers, code_of, done, fault_code, no_viewer, off_screen, one_or_zero, out_of_memory, shut, truth_code}
 use Rattle.screen_desk.specs.Desk.{Standing, StandsFor, IsListOf, due, region_due, cut_due, cut_into_due, absence, put_output, without, next_piece, left_of}
 use Rattle.screen_desk.specs.Inputs.{told_by, IsFetched}
+use Rattle.screen_desk.specs.Settings.{settings_as}
+use Rattle.screen_desk.specs.declared.settings.ViewerSettings.{ViewerSettings}
 use Rattle.screen_desk.specs.declared.told.Told.{Told}
 
 -- the desk opens a screen with nothing on it, or is as it was
@@ -123,6 +125,20 @@ pub record Tells (number : State → ℤ) (old new : Standing) (code : ℤ) : Ty
 -- what a screen holds of a viewer, or no_viewer
 abbrev pub of_viewer : ℕ → (KeptViewer → ℤ) → State → ℤ
 of_viewer v number screen = elim (viewer_at screen v) [ None ↦ no_viewer | Some viewer ↦ number viewer ]
+
+-- what a viewer has set is shown in a room: how many places that takes, or no_viewer
+abbrev pub settings_code : ℕ → List ViewerSettings → State → ℤ
+settings_code v room screen = of_viewer v (λ viewer. pos (min 1 (length room))) screen
+
+-- and the room then: in its first place, if it has one, stands what the viewer has set; without such a viewer it is the same
+abbrev pub settings_room : ℕ → List ViewerSettings → State → List ViewerSettings
+settings_room v room screen = elim (viewer_at screen v) [ None ↦ room | Some viewer ↦ slice_set room 0 (settings_as (settings_of viewer)) ]
+
+-- a call changes nothing but a room, which shows what a viewer has set
+pub record ShowsSettings (v : ℕ) (old new : Standing) (room_old room_new : List ViewerSettings) (code : ℤ) : Type 0 where
+  pub answer : MatchOption old.screen (code ≡ shut) (λ screen. code ≡ settings_code v room_old screen)
+  pub room : MatchOption old.screen (room_new ≡ room_old) (λ screen. room_new ≡ settings_room v room_old screen)
+  pub same : new ≡ old
 
 -- the colour of a place, or off_screen
 abbrev pub colour_at : ℕ → ℕ → State → ℤ

@@ -1,4 +1,5 @@
 pub mod Codes
 pub mod Inputs
+pub mod Settings
 pub mod Desk
 pub mod Calls

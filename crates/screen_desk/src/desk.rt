@@ -15,7 +15,7 @@ ghost use Rattle.screen.specs.Refusals.{Refuses};
 ghost use Rattle.screen.specs.State.{state, refusal, viewer_at};
 ghost use Rattle.screen_desk.specs.Codes as code;
 ghost use Rattle.screen_desk.specs.Codes.{IsRefusal};
-ghost use Rattle.screen_desk.specs.Calls.{Opens, Draws, DrawsRegion, Connects, Hears, Cuts, CutsInto, Closes, TellsPending, Gives, Fetches, Shows, Tells, numbers_of, of_viewer, colour_at};
+ghost use Rattle.screen_desk.specs.Calls.{Opens, Draws, DrawsRegion, Connects, Hears, Cuts, CutsInto, Closes, TellsPending, Gives, Fetches, Shows, ShowsSettings, Tells, numbers_of, of_viewer, colour_at};
 ghost use Rattle.screen_desk.specs.Desk.{nothing_there, rect_of, config_of, put_output, region_due, IsListOf};
 ghost use Rattle.screen_desk.specs.Inputs.{in_order, told_by};
 
@@ -25,6 +25,7 @@ use crate::codes::{
 use crate::corners::{Corners, are_far, region_of};
 use crate::inputs::Inputs;
 use crate::output::{Output, copy_to, drop_output, fetch_output, first_for, put_bytes};
+use crate::settings::{ViewerSettings, show_settings};
 use crate::told::Told;
 use crate::update::DeskUpdate;
 use listed::Listed;
@@ -551,6 +552,17 @@ impl Desk {
             return SHUT;
         };
         fault_or(screen.fault(viewer))
+    }
+
+    /// `Screen::settings`: puts what a viewer has set at the room's start (`format` and the like of `rfbClientRec` in `rfb.h`). 1, or 0
+    /// where the room has no place; the rest of the room stays. `NoViewer`'s code where none has the number.
+    pub fn settings(&mut self, viewer: u64, room: &mut [ViewerSettings]) -> i32
+        ensures { ShowsSettings viewer self.old self.new room.old room.new result }
+    {
+        let Some(screen) = &self.screen else {
+            return SHUT;
+        };
+        show_settings(screen.settings(viewer), room)
     }
 
     /// `Screen::width`: 1 to 8192.

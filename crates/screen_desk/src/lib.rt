@@ -17,6 +17,7 @@ mod corners;
 mod desk;
 mod inputs;
 mod output;
+mod settings;
 mod told;
 mod update;
 
@@ -24,6 +25,7 @@ pub use codes::{OFF_SCREEN, OUT_OF_RANGE, OUTPUT_WAITS, SHUT, code_of, done_or, 
 pub use corners::{Corners, are_far, region_of};
 pub use desk::Desk;
 pub use output::copy_to;
-pub use screen::{Fault, Input, ScreenError};
+pub use screen::{Fault, Input, ScreenError, Settings};
+pub use settings::{ViewerSettings, settings_as, show_settings};
 pub use told::{Told, told_as};
 pub use update::DeskUpdate;

@@ -30,7 +30,7 @@ pub struct Told {
 }
 
 /// 1 for true.
-fn one_if(truth: bool) -> u32
+pub(crate) fn one_if(truth: bool) -> u32
     ensures { result ≡ one_if truth }
 {
     if truth { 1 } else { 0 }

@@ -13,8 +13,10 @@ use Rattle.take_pixels.specs.Takes.{IsTaken, IsPartlyTaken}
 use Rattle.take_pixels.specs.Paints.{paints_of}
 use Rattle.event_loop.specs.declared.event_loop.LoopError.{LoopError}
 use Rattle.screen_desk.specs.Codes.{Answers, code_of, done, no_viewer, out_of_memory, shut}
+use Rattle.screen_desk.specs.Calls.{settings_code, settings_room}
 use Rattle.screen_desk.specs.Desk.{IsListOf}
 use Rattle.screen_desk.specs.Inputs.{IsFetched}
+use Rattle.screen_desk.specs.declared.settings.ViewerSettings.{ViewerSettings}
 use Rattle.screen_desk.specs.declared.told.Told.{Told}
 use Rattle.server_desk.specs.declared.visits.Visit.{Visit}
 use Rattle.server_desk.specs.Codes.{bad_address, cannot_listen, network_failed, closed_code, turn_code}
@@ -93,6 +95,12 @@ pub record TellsAddress (v : ℕ) (old new : Standing) (room_old room_new : List
   pub answer : MatchOption old.served (code ≡ shut) (λ s. ((code ≡ no_viewer) × ((key : ℕ) → number_at s.slots key ≢ Some v)) ⊎ (((key : ℕ) × (number_at s.slots key ≡ Some v)) × IsAddressIn room_old room_new code))
   pub same : new ≡ old
   pub refused : code <ℤ pos 0 → room_new ≡ room_old
+
+-- a call changes nothing but a room, which shows what a viewer has set
+pub record ShowsSettings (v : ℕ) (old new : Standing) (room_old room_new : List ViewerSettings) (code : ℤ) : Type 0 where
+  pub answer : MatchOption old.served (code ≡ shut) (λ s. code ≡ settings_code v room_old s.surface.screen)
+  pub room : MatchOption old.served (room_new ≡ room_old) (λ s. room_new ≡ settings_room v room_old s.surface.screen)
+  pub same : new ≡ old
 
 -- a call changes nothing, and answers a number of what is served, or shut
 pub record Tells (number : Serving → ℤ) (old new : Standing) (code : ℤ) : Type 0 where

@@ -10,7 +10,7 @@ ghost use Rattle.screen_desk.specs.Calls.{colour_at};
 ghost use Rattle.screen_desk.specs.Desk.{rect_of, config_of, IsListOf};
 ghost use Rattle.std.specs.VecDeque.{deque_capacity};
 ghost use Rattle.server_desk.specs.Desk.{nothing_there, rects_per_update, IsPutBehind, region_due};
-ghost use Rattle.server_desk.specs.Calls.{Listens, TakesTurn, Draws, DrawsRegion, FetchesInputs, FetchesVisits, ShowsText, Tells, TellsAddress, TellsSome, LetsGo, TakesPixels};
+ghost use Rattle.server_desk.specs.Calls.{Listens, TakesTurn, Draws, DrawsRegion, FetchesInputs, FetchesVisits, ShowsText, ShowsSettings, Tells, TellsAddress, TellsSome, LetsGo, TakesPixels};
 ghost use Rattle.server_desk.specs.Pixels.{format_of, source_from};
 ghost use Rattle.source_pixels.specs.declared.formats.SourceFormat.TheVariants as format;
 
@@ -28,7 +28,8 @@ use crate::waker::ServerWaker;
 use event_loop::{EventLoop, Listed, Rect, Region, ScreenError, drawn_is_served};
 use screen::Drawing;
 use screen_desk::{
-    Corners, OFF_SCREEN, OUT_OF_RANGE, SHUT, Told, are_far, code_of, copy_to, done_or, region_of,
+    Corners, OFF_SCREEN, OUT_OF_RANGE, SHUT, Told, ViewerSettings, are_far, code_of, copy_to,
+    done_or, region_of, show_settings,
 };
 use std::alloc::{AllocError, Global};
 use std::collections::VecDeque;
@@ -488,6 +489,17 @@ impl ServerDesk {
             return SHUT;
         };
         events.viewer_count().min(1 << 30) as i32
+    }
+
+    /// `Screen::settings`: puts what a viewer has set at the room's start (`format` and the like of `rfbClientRec` in `rfb.h`). 1, or 0
+    /// where the room has no place; the rest of the room stays. `NoViewer`'s code where none has the number.
+    pub fn settings(&mut self, viewer: u64, room: &mut [ViewerSettings]) -> i32
+        ensures { ShowsSettings viewer self.old self.new room.old room.new result }
+    {
+        let Some(events) = &self.events else {
+            return SHUT;
+        };
+        show_settings(events.screen().settings(viewer), room)
     }
 
     /// `Screen::width`: 1 to 8192.

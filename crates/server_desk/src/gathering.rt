@@ -50,7 +50,7 @@ impl Gathering {
 }
 
 impl Application for Gathering {
-    fn told(&mut self, _: &mut Canvas, viewer: u64, input: &Input) -> Result<(), ScreenError> {
+    fn on_input(&mut self, _: &mut Canvas, viewer: u64, input: &Input) -> Result<(), ScreenError> {
         let kept = self.keep_input(viewer, input);
         self.count_lost(kept.is_ok());
         Ok(())

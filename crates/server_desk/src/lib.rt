@@ -25,6 +25,8 @@ mod waker;
 pub use codes::{BAD_ADDRESS, CANNOT_LISTEN, CLOCK_FAILED, NETWORK_FAILED};
 pub use desk::ServerDesk;
 pub use pixels::{BAD_FORMAT, BAD_STRIDE, PixelLayout, TOO_FEW_BYTES};
-pub use screen_desk::{Corners, OFF_SCREEN, OUT_OF_RANGE, SHUT, Told, code_of, fault_code};
+pub use screen_desk::{
+    Corners, OFF_SCREEN, OUT_OF_RANGE, SHUT, Told, ViewerSettings, code_of, fault_code,
+};
 pub use visits::Visit;
 pub use waker::ServerWaker;

@@ -21,7 +21,7 @@ use std::alloc::Global;
 const RECTS_PER_UPDATE: u32 = 1000;
 
 /// Why a screen is not served.
-#[derive(Clone, Copy, Debug, PartialEq, Eq)]
+#[derive(Clone, Copy)]
 pub(crate) enum ListenError {
     /// The screen's configuration is outside its limits, or memory was refused.
     Refused(ScreenError),

@@ -11,7 +11,7 @@ use update_sender::{Brush, Shared};
 /// What draws on a shared screen.
 pub trait Application<L: Ledger> {
     /// A viewer's input came; what follows from it is drawn. The server ends where this answers an error.
-    fn told<R: Wait>(
+    fn on_input<R: Wait>(
         &mut self,
         rt: &R,
         shared: &Shared<L>,
@@ -35,7 +35,7 @@ pub(crate) fn run_application<L: Ledger, A: Application<L>, R: Wait>(
         let Ok(told) = hub.take_wait(rt, taker) else {
             return Ok(());
         };
-        application.told(rt, shared, brush, &told)?;
+        application.on_input(rt, shared, brush, &told)?;
     }
     unreachable!()
 }

@@ -25,7 +25,7 @@ pub(crate) struct OpenConnections {
 }
 
 /// Where a connection's handle is kept.
-#[derive(Clone, Copy, Debug)]
+#[derive(Clone, Copy)]
 pub(crate) struct Slot {
     key: usize,
 }

@@ -98,7 +98,7 @@ fn paint_all(canvas: &mut Canvas, rows: &[Row]) -> Result<(), ScreenError>
 
 impl Application for Showing<'_> {
     /// Who watches can't do anything.
-    fn told(&mut self, _: &mut Canvas, _: u64, _: &Input) -> Result<(), ScreenError> {
+    fn on_input(&mut self, _: &mut Canvas, _: u64, _: &Input) -> Result<(), ScreenError> {
         Ok(())
     }
 

@@ -9,7 +9,7 @@ use slab::Slab;
 
 /// A head, which stands under the key of its own list, or a span of the list. The links lead from the head through the list's
 /// spans and to the head again.
-#[derive(Clone, Copy, Debug)]
+#[derive(Clone, Copy)]
 pub struct Node {
     pub list: usize,
     pub previous: usize,

@@ -35,7 +35,12 @@ const NOTHING: Counting = Counting {
 };
 
 impl Application for Counting {
-    fn told(&mut self, canvas: &mut Canvas, viewer: u64, input: &Input) -> Result<(), ScreenError> {
+    fn on_input(
+        &mut self,
+        canvas: &mut Canvas,
+        viewer: u64,
+        input: &Input,
+    ) -> Result<(), ScreenError> {
         if let Some(told) = self.told.get_mut((viewer as usize).saturating_sub(1)) {
             *told = told.saturating_add(1);
         }

@@ -1,6 +1,8 @@
 //! Each call once, with what RFC 6143 has for it.
 
-use screen_desk::{Corners, Desk, DeskUpdate, OFF_SCREEN, OUT_OF_RANGE, OUTPUT_WAITS, SHUT, Told};
+use screen_desk::{
+    Corners, Desk, DeskUpdate, OFF_SCREEN, OUT_OF_RANGE, OUTPUT_WAITS, SHUT, Told, ViewerSettings,
+};
 use std::alloc::Global;
 use std::test::Fail;
 use std::thread;
@@ -354,5 +356,152 @@ fn viewers_have_numbers(rt: HostRuntime) -> Result<(), Fail> {
     assert_eq!(rt; desk.is_live(5), 0);
     assert_eq!(rt; desk.numbers(&mut numbers), 2);
     assert_eq!(rt; numbers, [9, 4, 0, 0]);
+    Ok(())
+}
+
+/// The settings of that viewer once its opening is over: it shares, and takes the server's format (7.3.2, 7.4) in Raw (7.7.1).
+const AS_OPENED: ViewerSettings = ViewerSettings {
+    shared: 1,
+    encoding: 0,
+    copy_rect: 0,
+    desktop_size: 0,
+    bits_per_pixel: 32,
+    depth: 24,
+    big_endian: 0,
+    true_colour: 1,
+    red_max: 255,
+    green_max: 255,
+    blue_max: 255,
+    red_shift: 16,
+    green_shift: 8,
+    blue_shift: 0,
+};
+
+/// What no viewer has set.
+const UNSET: ViewerSettings = ViewerSettings {
+    encoding: 99,
+    depth: 77,
+    ..AS_OPENED
+};
+
+/// What a call shows of a viewer, where there is room for two, and the rest of the room.
+fn settings_of(desk: &mut Desk, viewer: u64) -> (i32, ViewerSettings, ViewerSettings) {
+    let mut room = [UNSET; 2];
+    let code = desk.settings(viewer, &mut room);
+    (code, room[0], room[1])
+}
+
+#[test]
+fn a_viewer_shares_once_it_says_so(rt: HostRuntime) -> Result<(), Fail> {
+    let mut desk = opened(rt.alloc());
+    let unshared = ViewerSettings {
+        shared: 0,
+        ..AS_OPENED
+    };
+    assert_eq!(rt; desk.connect(7), 0);
+    // before its ClientInit (7.3.1)
+    assert_eq!(rt; desk.hear(7, b"RFB 003.008\n\x01"), 0);
+    assert_eq!(rt; settings_of(&mut desk, 7), (1, unshared, UNSET));
+    assert_eq!(rt; desk.hear(7, b"\x01"), 0);
+    assert_eq!(rt; settings_of(&mut desk, 7), (1, AS_OPENED, UNSET));
+    // another one, which doesn't share
+    assert_eq!(rt; desk.connect(8), 0);
+    assert_eq!(rt; desk.hear(8, b"RFB 003.008\n\x01\x00"), 0);
+    assert_eq!(rt; settings_of(&mut desk, 8), (1, unshared, UNSET));
+    assert_eq!(rt; settings_of(&mut desk, 7), (1, AS_OPENED, UNSET));
+    Ok(())
+}
+
+#[test]
+fn a_viewer_sets_its_format(rt: HostRuntime) -> Result<(), Fail> {
+    let mut desk = with_viewer(rt.alloc());
+    // 7.5.1: 16 bits, the highest byte first, of which red has 5 from bit 11 on, green 6 from bit 5 on, and blue 5
+    let sixteen =
+        b"\x00\x00\x00\x00\x10\x0f\x01\x01\x00\x1f\x00\x3f\x00\x1e\x0b\x05\x01\x00\x00\x00";
+    assert_eq!(rt; desk.hear(7, sixteen), 0);
+    assert_eq!(rt;
+        settings_of(&mut desk, 7),
+        (
+            1,
+            ViewerSettings {
+                bits_per_pixel: 16,
+                depth: 15,
+                big_endian: 1,
+                red_max: 31,
+                green_max: 63,
+                blue_max: 30,
+                red_shift: 11,
+                green_shift: 5,
+                blue_shift: 1,
+                ..AS_OPENED
+            },
+            UNSET
+        )
+    );
+    // 8 bits with a colour map; what it says of components is not looked at
+    let mapped =
+        b"\x00\x00\x00\x00\x08\x06\x00\x00\x00\x1f\x00\x3f\x00\x1f\x0b\x05\x01\x00\x00\x00";
+    assert_eq!(rt; desk.hear(7, mapped), 0);
+    assert_eq!(rt;
+        settings_of(&mut desk, 7),
+        (
+            1,
+            ViewerSettings {
+                bits_per_pixel: 8,
+                depth: 6,
+                true_colour: 0,
+                red_max: 0,
+                green_max: 0,
+                blue_max: 0,
+                red_shift: 0,
+                green_shift: 0,
+                blue_shift: 0,
+                ..AS_OPENED
+            },
+            UNSET
+        )
+    );
+    Ok(())
+}
+
+#[test]
+fn a_viewer_sets_its_encodings(rt: HostRuntime) -> Result<(), Fail> {
+    let mut desk = with_viewer(rt.alloc());
+    // 7.5.2: CopyRect (7.7.2), Hextile (7.7.4), RRE (7.7.3) and DesktopSize (7.8.2, number -223)
+    let all = b"\x02\x00\x00\x04\x00\x00\x00\x01\x00\x00\x00\x05\x00\x00\x00\x02\xff\xff\xff\x21";
+    assert_eq!(rt; desk.hear(7, all), 0);
+    let hextile = ViewerSettings {
+        encoding: 5,
+        copy_rect: 1,
+        desktop_size: 1,
+        ..AS_OPENED
+    };
+    assert_eq!(rt; settings_of(&mut desk, 7), (1, hextile, UNSET));
+    // RRE alone, and then none that there is
+    assert_eq!(rt; desk.hear(7, b"\x02\x00\x00\x01\x00\x00\x00\x02"), 0);
+    let rre = ViewerSettings {
+        encoding: 2,
+        ..AS_OPENED
+    };
+    assert_eq!(rt; settings_of(&mut desk, 7), (1, rre, UNSET));
+    assert_eq!(rt; desk.hear(7, b"\x02\x00\x00\x00"), 0);
+    assert_eq!(rt; settings_of(&mut desk, 7), (1, AS_OPENED, UNSET));
+    Ok(())
+}
+
+#[test]
+fn settings_are_shown_or_refused(rt: HostRuntime) -> Result<(), Fail> {
+    let mut desk = with_viewer(rt.alloc());
+    let mut one = [UNSET];
+    assert_eq!(rt; desk.settings(7, &mut []), 0);
+    assert_eq!(rt; desk.settings(7, &mut one), 1);
+    assert_eq!(rt; one, [AS_OPENED]);
+    // -7: no viewer has the number
+    assert_eq!(rt; settings_of(&mut desk, 8), (-7, UNSET, UNSET));
+    assert_eq!(rt; desk.settings(8, &mut []), -7);
+    assert_eq!(rt; desk.close(7), 0);
+    assert_eq!(rt; settings_of(&mut desk, 7), (-7, UNSET, UNSET));
+    assert_eq!(rt; desk.shut(), 0);
+    assert_eq!(rt; settings_of(&mut desk, 7), (SHUT, UNSET, UNSET));
     Ok(())
 }

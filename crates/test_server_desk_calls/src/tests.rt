@@ -3,6 +3,7 @@ mod codes;
 mod keeping;
 mod refusing;
 mod seeing;
+mod setting;
 mod steps;
 mod telling;
 mod viewers;

@@ -26,7 +26,7 @@ use update_sender::{Brush, Report, Sent, Shared, finish};
 struct Painter;
 
 impl<L: Ledger> Application<L> for Painter {
-    fn told<R: Wait>(
+    fn on_input<R: Wait>(
         &mut self,
         rt: &R,
         shared: &Shared<L>,

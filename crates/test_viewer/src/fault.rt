@@ -42,7 +42,7 @@ pub struct Fault {
 }
 
 /// What is wrong with a group of bytes, and how many of them stand before the field that is wrong.
-#[derive(Clone, Copy, Debug, PartialEq, Eq)]
+#[derive(Clone, Copy)]
 pub(crate) struct Halt {
     pub kind: FaultKind,
     pub offset: u64,

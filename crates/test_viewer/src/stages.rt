@@ -10,7 +10,7 @@ use messages::Version;
 use pixel_translate::{Area, BitsPerPixel, Component, PixelFormat, Pixels};
 
 /// The group of bytes that comes next.
-#[derive(Clone, Copy, Debug, PartialEq, Eq)]
+#[derive(Clone, Copy)]
 pub(crate) enum Stage {
     /// The server's version (RFC 6143 section 7.1.1).
     Version,
@@ -63,7 +63,7 @@ pub(crate) enum Stage {
 }
 
 /// Places of the screen that are filled at once.
-#[derive(Clone, Copy, Debug, PartialEq, Eq)]
+#[derive(Clone, Copy)]
 pub(crate) struct Block {
     pub x: u32,
     pub y: u32,
@@ -72,7 +72,7 @@ pub(crate) struct Block {
 }
 
 /// A block that is sent pixel by pixel, and which pixel comes next.
-#[derive(Clone, Copy, Debug, PartialEq, Eq)]
+#[derive(Clone, Copy)]
 pub(crate) struct Cursor {
     pub block: Block,
     pub column: u16,
@@ -80,7 +80,7 @@ pub(crate) struct Cursor {
 }
 
 /// A tile of a rectangle, and the pixels that are carried from tile to tile (RFC 6143 section 7.7.4).
-#[derive(Clone, Copy, Debug, PartialEq, Eq)]
+#[derive(Clone, Copy)]
 pub(crate) struct Tile {
     pub column: u16,
     pub row: u16,
@@ -90,7 +90,7 @@ pub(crate) struct Tile {
 }
 
 /// What is kept of the bytes that came, but for what they show.
-#[derive(Clone, Copy, Debug, PartialEq, Eq)]
+#[derive(Clone, Copy)]
 pub(crate) struct Reading {
     pub version: Version,
     /// The screen's size, once ServerInit told it, and then the last DesktopSize.
@@ -118,7 +118,7 @@ pub(crate) struct Reading {
 }
 
 /// What a group of bytes does to what is shown.
-#[derive(Clone, Copy, Debug, PartialEq, Eq)]
+#[derive(Clone, Copy)]
 pub(crate) enum Effect {
     Nothing,
     /// There is a screen of this size, which shows nothing.
@@ -132,7 +132,7 @@ pub(crate) enum Effect {
 }
 
 /// What is kept behind a group of bytes, and what the group shows.
-#[derive(Clone, Copy, Debug, PartialEq, Eq)]
+#[derive(Clone, Copy)]
 pub(crate) struct Step {
     pub reading: Reading,
     pub effect: Effect,

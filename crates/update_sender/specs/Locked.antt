@@ -8,8 +8,8 @@ use Rattle.screen.specs.declared.Event.TheVariants.{Cut}
 use Rattle.screen.specs.Alone.{gives}
 use Rattle.screen.specs.History.{accepted, drawings, connects}
 use Rattle.screen.specs.State.{State, state, viewer_at}
-use Rattle.update_sender.specs.declared.turn.Turn.{Turn}
-use Rattle.update_sender.specs.declared.turn.Turn.TheVariants.{Send, Stopped, Closed, Faulty}
+use Rattle.update_sender.specs.declared.next_step.NextStep.{NextStep}
+use Rattle.update_sender.specs.declared.next_step.NextStep.TheVariants.{Send, Stopped, Closed, Faulty}
 use Rattle.update_sender.specs.Numbers.{rises, newest}
 
 -- what is held: the screen, the greatest number that connected, whether all was stopped, and how many drawing calls were counted
@@ -44,18 +44,18 @@ Joins v e old new = Steps e old new × (new ≡ record old { screen = new.screen
 abbrev pub Draws : Event → Locked → Locked → Type 0
 Draws e old new = Steps e old new × (new ≡ record old { screen = new.screen; drawn = suc old.drawn })
 
-abbrev faulty : KeptViewer → Option Turn
+abbrev faulty : KeptViewer → Option NextStep
 faulty viewer = elim (fault_in_rest viewer.heard) [ None ↦ None | Some fault ↦ Some (Faulty fault) ]
 
-abbrev pub ending_of : Option KeptViewer → Option Turn
+abbrev pub ending_of : Option KeptViewer → Option NextStep
 ending_of None = Some Closed
 ending_of (Some viewer) = faulty viewer
 
 -- why a viewer is sent nothing any more: all was stopped, or it is closed, or it has a fault, the first of these
-abbrev pub ending : Locked → ℕ → Option Turn
+abbrev pub ending : Locked → ℕ → Option NextStep
 ending held v = if_stopped held.stopped (ending_of (viewer_at held.screen v))
   where
-    if_stopped : Bool → Option Turn → Option Turn
+    if_stopped : Bool → Option NextStep → Option NextStep
     if_stopped true rest = Some Stopped
     if_stopped false rest = rest
 
@@ -65,17 +65,17 @@ is_open_now None = false
 is_open_now (Some viewer) = is_open_rest viewer.heard
 
 -- an update that is sent has bytes
-abbrev pub HasBytes : Turn → Type 0
+abbrev pub HasBytes : NextStep → Type 0
 HasBytes (Send update) = update ≢ []
-HasBytes turn = Unit {0}
+HasBytes step = Unit {0}
 
--- a turn is an event where it sends
-abbrev pub Takes : ℕ → Locked → Locked → Option Turn → Type 0
+-- a step is an event where it sends
+abbrev pub Takes : ℕ → Locked → Locked → Option NextStep → Type 0
 Takes v old new (Some (Send update)) = StepsAlone (Cut v) old new
 Takes v old new _ = new ≡ old
 
 -- where nothing ends its sender, a viewer is sent what the screen answers to a cut; its sender waits where that is nothing
-abbrev pub TellsTurn : Option Turn → Answer → Type 0
-TellsTurn None answer = answer ≡ gives []
-TellsTurn (Some (Send update)) answer = (answer ≡ gives update) × (update ≢ [])
-TellsTurn (Some turn) answer = ⊥
+abbrev pub TellsStep : Option NextStep → Answer → Type 0
+TellsStep None answer = answer ≡ gives []
+TellsStep (Some (Send update)) answer = (answer ≡ gives update) × (update ≢ [])
+TellsStep (Some step) answer = ⊥

@@ -4,11 +4,11 @@ use Rattle.screen.specs.declared.ScreenError.{ScreenError}
 use Rattle.screen.specs.declared.ScreenError.TheVariants.{NoViewer}
 use Rattle.receipts.specs.declared.Ended.{Ended}
 use Rattle.receipts.specs.declared.Ended.TheVariants as ended
-use Rattle.update_sender.specs.declared.turn.Turn.{Turn}
-use Rattle.update_sender.specs.declared.turn.Turn.TheVariants.{Send, Stopped, Closed, Faulty}
+use Rattle.update_sender.specs.declared.next_step.NextStep.{NextStep}
+use Rattle.update_sender.specs.declared.next_step.NextStep.TheVariants.{Send, Stopped, Closed, Faulty}
 
--- what a sender sends in its turn, or why it ends
-abbrev pub sent_in : Turn → Result (List ℕ) Ended
+-- what a sender sends next, or why it ends
+abbrev pub sent_in : NextStep → Result (List ℕ) Ended
 sent_in (Send update) = Ok update
 sent_in Stopped = Err ended.Stopped
 sent_in Closed = Err ended.Closed

@@ -3,9 +3,9 @@
 ghost use Rattle.std.specs.Prelude.{◌≡◌, OnOk, OnErr, MatchResult, length};
 ghost use Rattle.update_sender.specs.Serving.{HearsPiece, HearsNoMore};
 
-use crate::ends::Listener;
+use crate::line::Listener;
 use crate::reasons::{count_read, unheard_for};
-use crate::shared::{Heard, Shared};
+use crate::shared::{HearOutcome, Shared};
 use receipts::Ended;
 use std::io::Read;
 use std::sync::Wait;
@@ -20,7 +20,7 @@ pub fn hear_piece<L: Ledger, Rd: Read, R: Wait>(
     shared: &Shared<L>,
     listener: &mut Listener,
     reader: &mut Rd,
-) -> Result<Heard, Ended>
+) -> Result<HearOutcome, Ended>
     ensures { MatchResult result
         (λ _. HearsPiece (Rd.remaining reader.old) (Rd.remaining reader.new) listener.old listener.new)
         (λ e. (listener.new ≡ listener.old) × HearsNoMore (Rd.remaining reader.old) (Rd.remaining reader.new) e) }

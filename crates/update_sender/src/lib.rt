@@ -14,23 +14,23 @@
 #![tactic(auto)]
 
 mod brush;
-mod ending;
-mod ends;
+mod finishing;
 mod gate;
 mod hearing;
+mod line;
 mod locked_screen;
+mod next_step;
 mod opening;
 mod reader;
 mod reasons;
 mod sender;
 mod shared;
-mod turn;
 mod writing;
 
 pub use brush::Brush;
-pub use ending::{finish, receipt};
-pub use ends::{Line, Listener, Speaker};
+pub use finishing::{finish, receipt};
 pub use gate::{Gate, OpenGate};
+pub use line::{Line, Listener, Speaker};
 pub use opening::{Opened, serve_opening};
 pub use reader::{ReadHalf, serve_reader};
 pub use receipts::{Ended, FinishError, Report, Sent, check};

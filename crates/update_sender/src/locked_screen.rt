@@ -14,9 +14,9 @@ ghost use Rattle.screen.specs.Refusals.{absence, Refuses};
 ghost use Rattle.screen.specs.State.{state, viewer_at, refusal};
 ghost use Rattle.screen.specs.Calls.{call_refusal, event_of};
 ghost use Rattle.update_sender.specs.Numbers.{is_next};
-ghost use Rattle.update_sender.specs.Locked.{Draws, Joins, Stands, StepsAlone, Takes, TellsTurn, HasBytes, ending, is_open_now};
+ghost use Rattle.update_sender.specs.Locked.{Draws, Joins, Stands, StepsAlone, Takes, TellsStep, HasBytes, ending, is_open_now};
 
-use crate::turn::Turn;
+use crate::next_step::NextStep;
 use listed::Listed;
 use screen::{Answer, Drawing, Event, Screen, ScreenError, Update, kept_is_enough};
 use std::alloc::AllocError;
@@ -117,7 +117,7 @@ impl<L: Ledger> LockedScreen<L> {
     }
 
     /// Whether a viewer's sender need not wait: it ends, or has something to send.
-    pub fn has_turn(&self, number: u64) -> bool
+    pub fn has_step(&self, number: u64) -> bool
         ensures ends { is_some (ending self.now number) ≡ true → result ≡ true }
         ensures sends { (config : Config) (list : List Event) → self.now.screen ≡ state config list →
             ending self.now number ≡ None →
@@ -174,23 +174,23 @@ impl<L: Ledger> LockedScreen<L> {
     }
 
     /// What a viewer's sender does next; None where it waits.
-    pub fn take_turn(&mut self, number: u64) -> Result<Option<Turn>, AllocError>
+    pub fn take_step(&mut self, number: u64) -> Result<Option<NextStep>, AllocError>
         ensures ends { MatchOption (ending self.old number) (Unit {0}) (λ turn. result ≡ Ok (Some turn)) }
         ensures takes { IfOk result (λ turn. Takes number self.old self.new turn) }
         ensures bytes { IfOk result (λ turn. IfSome turn HasBytes) }
         ensures answer { (config : Config) (list : List Event) → self.old.screen ≡ state config list →
             ending self.old number ≡ None →
-            IfOk result (λ turn. TellsTurn turn (answer_to config list (Event.Cut number))) }
+            IfOk result (λ turn. TellsStep turn (answer_to config list (Event.Cut number))) }
         ensures err { OnErr result (self.new ≡ self.old) }
     {
         if self.stopped {
-            return Ok(Some(Turn::Stopped));
+            return Ok(Some(NextStep::Stopped));
         }
         match self.screen.fault(number) {
-            Err(_) => Ok(Some(Turn::Closed)),
-            Ok(Some(fault)) => Ok(Some(Turn::Faulty(fault))),
+            Err(_) => Ok(Some(NextStep::Closed)),
+            Ok(Some(fault)) => Ok(Some(NextStep::Faulty(fault))),
             Ok(None) => match self.cut(number) {
-                Ok(Some(update)) => Ok(Some(Turn::Send(update))),
+                Ok(Some(update)) => Ok(Some(NextStep::Send(update))),
                 Ok(None) => Ok(None),
                 // The viewer is live, so memory was refused.
                 Err(_) => Err(AllocError),

@@ -3,10 +3,10 @@
 ghost use Rattle.std.specs.Prelude.{◌≡◌, ◌++◌, List, ℕ, [], OnErr, OnOk, MatchResult};
 ghost use Rattle.update_sender.specs.Serving.{GreetingEnds, Opens, IsOf, Hears, Replies, Sends, OpeningEnds, receipt_of};
 
-use crate::ends::{Line, Listener, Speaker};
 use crate::hearing::hear_piece;
+use crate::line::{Line, Listener, Speaker};
 use crate::reasons::no_fault;
-use crate::shared::{Heard, Shared};
+use crate::shared::{HearOutcome, Shared};
 use receipts::{Ended, Receipt};
 use screen::Answer;
 use std::io::{Read, Write};
@@ -133,7 +133,7 @@ fn open_further<L: Ledger, Rd: Read, W: Write, R: Wait>(
         (λ _. (answer : List ℕ) × Sends (W.contents writer.old) (W.contents writer.new) speaker.old speaker.new answer)
         (λ e. (added : List ℕ) × Sends (W.contents writer.old) (W.contents writer.new) speaker.old speaker.new added × GreetingEnds e added []) }
 {
-    let Heard {
+    let HearOutcome {
         answer,
         is_open,
         ..

@@ -8,8 +8,8 @@ ghost use Rattle.update_sender.specs.Ends.{Listening, counted};
 ghost use Rattle.update_sender.specs.Inputs.{Puts};
 ghost use Rattle.update_sender.specs.Serving.{Hears, ReadingEnds};
 
-use crate::ends::Listener;
 use crate::hearing::hear_piece;
+use crate::line::Listener;
 use crate::reasons::no_fault;
 use crate::shared::Shared;
 use input_queue::{InputHub, InputSeat};

@@ -5,8 +5,8 @@ ghost use Rattle.update_sender.specs.Ends.{all_of};
 ghost use Rattle.update_sender.specs.Ends.{Speaking, has_cut};
 ghost use Rattle.update_sender.specs.Serving.{CutsAndSends, CuttingEnds, SendsNoMore, SendsUpdate};
 
-use crate::ends::Speaker;
 use crate::gate::Gate;
+use crate::line::Speaker;
 use crate::reasons::passed;
 use crate::shared::Shared;
 use crate::writing::{BUFFER, fill};
@@ -112,8 +112,8 @@ fn next_update<L: Ledger, R: Wait>(
     ensures err { OnErr result (speaker.new ≡ speaker.old) }
     ensures ended { IfErr result CuttingEnds }
 {
-    let turn = shared.wait_turn(rt, speaker.viewer)?;
-    let update = turn.update()?;
+    let step = shared.wait_for_step(rt, speaker.viewer)?;
+    let update = step.update()?;
     speaker.count_cut();
     Ok(update)
 }

@@ -10,9 +10,9 @@ ghost use Rattle.screen.specs.State.{history_by};
 ghost use Rattle.update_sender.specs.Locked.{HasBytes};
 
 use crate::brush::Brush;
-use crate::ends::{Line, Listener, Speaker};
+use crate::line::{Line, Listener, Speaker};
 use crate::locked_screen::LockedScreen;
-use crate::turn::Turn;
+use crate::next_step::NextStep;
 use kept_list::KeptList;
 use screen::{Answer, Config, Screen, ScreenError, Update};
 use std::alloc::{AllocError, Global};
@@ -44,12 +44,12 @@ impl<L: Ledger> Model for Shared<L> {
 
 /// What a piece brought.
 #[derive(Drop)]
-pub(crate) struct Heard {
+pub(crate) struct HearOutcome {
     pub(crate) answer: Answer,
     // the viewer had its ServerInit, and met no fault
     pub(crate) is_open: bool,
     // its sender need not wait
-    has_turn: bool,
+    has_step: bool,
 }
 
 impl<L: Ledger> Shared<L> {
@@ -127,14 +127,14 @@ impl<L: Ledger> Shared<L> {
         rt: &R,
         listener: &mut Listener,
         piece: &[u8],
-    ) -> Result<Heard, ScreenError>
+    ) -> Result<HearOutcome, ScreenError>
         ensures heard { OnOk result (listener.new ≡ listened piece.now listener.old) }
         ensures err { OnErr result (listener.new ≡ listener.old) }
         ensures refused { IfErr result (λ e. (e ≡ refusals.NoViewer) ⊎ (e ≡ refusals.OutOfMemory)) }
     {
         listener.heard.reserve(piece.len())?;
         let heard = self.hear_in_hold(rt, listener.viewer, &listener.heard, piece)?;
-        if heard.has_turn {
+        if heard.has_step {
             self.wake.notify_all();
         }
         listener.heard.append(piece);
@@ -149,27 +149,27 @@ impl<L: Ledger> Shared<L> {
         viewer: u64,
         _kept: &KeptList<u8>,
         piece: &[u8],
-    ) -> Result<Heard, ScreenError>
+    ) -> Result<HearOutcome, ScreenError>
         requires room { HasRoom (length piece.now) _kept.now }
         ensures refused { IfErr result (λ e. (e ≡ refusals.NoViewer) ⊎ (e ≡ refusals.OutOfMemory)) }
     {
         let mut locked = self.screen.lock(rt);
         let answer = locked.hear(viewer, piece)?;
-        Ok(Heard {
+        Ok(HearOutcome {
             answer,
             is_open: locked.is_open(viewer),
-            has_turn: locked.has_turn(viewer),
+            has_step: locked.has_step(viewer),
         })
     }
 
     /// Waits until a viewer's sender has something to do.
-    pub(crate) fn wait_turn<R: Wait>(&self, rt: &R, viewer: u64) -> Result<Turn, AllocError>
+    pub(crate) fn wait_for_step<R: Wait>(&self, rt: &R, viewer: u64) -> Result<NextStep, AllocError>
         ensures { IfOk result HasBytes }
     {
         let mut locked = self.screen.lock(rt);
         for _ in rt.forever() {
-            if let Some(turn) = locked.take_turn(viewer)? {
-                return Ok(turn);
+            if let Some(step) = locked.take_step(viewer)? {
+                return Ok(step);
             }
             locked = self.wake.wait(rt, locked);
         }
@@ -187,12 +187,12 @@ impl<L: Ledger> Shared<L> {
             (speaker.new ≡ has_cut speaker.old))) }
         ensures err { OnErr result (speaker.new ≡ speaker.old) }
     {
-        match self.wait_turn(rt, speaker.viewer)? {
-            Turn::Send(update) => {
+        match self.wait_for_step(rt, speaker.viewer)? {
+            NextStep::Send(update) => {
                 speaker.count_cut();
                 Ok(Some(update))
             }
-            Turn::Stopped | Turn::Closed | Turn::Faulty(_) => Ok(None),
+            NextStep::Stopped | NextStep::Closed | NextStep::Faulty(_) => Ok(None),
         }
     }
 }

@@ -6,7 +6,7 @@ ghost use Rattle.receipts.specs.declared.Ended.TheVariants as ended;
 ghost use Rattle.update_sender.specs.Ends.{has_sent};
 ghost use Rattle.update_sender.specs.Serving.{Writes};
 
-use crate::ends::Speaker;
+use crate::line::Speaker;
 use crate::reasons::all_written;
 use receipts::Ended;
 use std::alloc::AllocError;

@@ -96,9 +96,9 @@ area_cut w h a = fun_ext (λ x. fun_ext (λ y. go x y))
 -- a reply, by its parts
 pub reply-so : (w h w' h' : ℕ) (name before piece : List ℕ) (p : Phase) (items : List Item) (bytes : List ℕ) (inputs : List Input) (fault : Option Fault) → w ≡ w' → h ≡ h' → p ≡ (heard before).phase → items ≡ new_items before piece
     → bytes ≡ greetings (server_init w h name) p items → inputs ≡ filter_map input_of items → fault ≡ fault_of (heard (before ++ piece)).end
-    → record { bytes = bytes; inputs = inputs; closed = fault } ≡ heard_reply w' h' name before piece
+    → record { bytes = bytes; inputs = inputs; fault = fault } ≡ heard_reply w' h' name before piece
 reply-so w h w' h' name before piece p items bytes inputs fault wide high phase same said told fails =
-    let reply : List ℕ → List Input → Option Fault → Reply = λ b i f. record { bytes = b; inputs = i; closed = f } in
+    let reply : List ℕ → List Input → Option Fault → Reply = λ b i f. record { bytes = b; inputs = i; fault = f } in
     ap (λ b. reply b inputs fault)
     (said ∙ ap (λ n. greetings (server_init n h name) p items) wide ∙ ap (λ n. greetings (server_init w' n name) p items) high
     ∙ ap (λ (q : Phase). greetings (server_init w' h' name) q items) phase ∙ ap (λ (is : List Item). greetings (server_init w' h' name) (heard before).phase is) same)

@@ -24,5 +24,5 @@ heard_reply w h name before piece =
     let items = new_items before piece in record {
       bytes = greetings (server_init w h name) (heard before).phase items;
       inputs = filter_map input_of items;
-      closed = fault_of (heard (before ++ piece)).end;
+      fault = fault_of (heard (before ++ piece)).end;
     }

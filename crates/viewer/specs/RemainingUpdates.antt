@@ -11,6 +11,6 @@ remaining_part remaining.Nothing = []
 remaining_part (remaining.NewSize size) = size_bytes size.width size.height
 remaining_part (remaining.Places bytes) = bytes
 
--- the colour map is left where it is owed and not told yet
+-- the colour map is left where it is owed and not sent yet
 abbrev pub remaining_update : Bool → List Notice → ℕ → RemainingPart → List ℕ
-remaining_update map_owed notices told part = (map_bytes map_owed ++ flat_map notice_bytes (drop told notices)) ++ remaining_part part
+remaining_update map_owed notices sent part = (map_bytes map_owed ++ flat_map notice_bytes (drop sent notices)) ++ remaining_part part

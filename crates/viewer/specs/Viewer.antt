@@ -14,12 +14,15 @@ use Rattle.messages.specs.declared.Phase.{Phase}
 use Rattle.messages.specs.declared.Phase.TheVariants as phase
 use Rattle.messages.specs.Grammar.{End, waiting}
 use Rattle.messages.specs.Reading.{heard, Rest, rest}
+use Rattle.viewer.specs.declared.settings.Settings.{Settings}
 use Rattle.viewer.specs.declared.sizes.Size.{Size}
 use Rattle.viewer.specs.declared.notices.Notice.{Notice}
 
 -- One viewer. Its bytes so far stand as a list, or as what a screen keeps of them.
 pub record Viewer (Bytes : Type 0) : Type 0 where
   pub heard : Bytes
+  -- its ClientInit asked that others stay connected
+  pub shared : Bool
   pub format : PixelFormat
   -- it has not been sent the colour map that its format needs
   pub map_owed : Bool
@@ -37,11 +40,11 @@ abbrev pub KeptViewer : Type 0
 KeptViewer = Viewer Rest
 
 abbrev pub kept_viewer : Viewer (List ℕ) → KeptViewer
-kept_viewer v = record { heard = rest v.heard; format = v.format; map_owed = v.map_owed; encoding = v.encoding; uses_copyrect = v.uses_copyrect; takes_sizes = v.takes_sizes; told = v.told; marks = v.marks; notices = v.notices }
+kept_viewer v = record { heard = rest v.heard; shared = v.shared; format = v.format; map_owed = v.map_owed; encoding = v.encoding; uses_copyrect = v.uses_copyrect; takes_sizes = v.takes_sizes; told = v.told; marks = v.marks; notices = v.notices }
 
 -- at connecting
 abbrev pub new_viewer : ℕ → ℕ → Viewer (List ℕ)
-new_viewer w h = record { heard = []; format = server_format; map_owed = false; encoding = encoding.Raw; uses_copyrect = false; takes_sizes = false; told = None; marks = new_marks w h; notices = [] }
+new_viewer w h = record { heard = []; shared = false; format = server_format; map_owed = false; encoding = encoding.Raw; uses_copyrect = false; takes_sizes = false; told = None; marks = new_marks w h; notices = [] }
 
 -- the ServerInit is sent, and there is no fault
 abbrev pub is_open : Phase → End → Bool
@@ -50,6 +53,10 @@ is_open _ _ = false
 
 abbrev pub is_open_viewer : Viewer (List ℕ) → Bool
 is_open_viewer v = is_open (heard v.heard).phase (heard v.heard).end
+
+-- what it has set (RFC 6143, 7.3.1, 7.5.1 and 7.5.2)
+abbrev pub settings_of : {B : Type 0} → Viewer B → Settings
+settings_of v = record { shared = v.shared; format = v.format; encoding = v.encoding; uses_copyrect = v.uses_copyrect; takes_sizes = v.takes_sizes }
 
 -- it asked for places, and no update of places or of a size was cut for it since: a request of its is unanswered (RFC 6143, 7.5.3)
 abbrev pub is_asking : {B : Type 0} → Viewer B → Bool
@@ -114,5 +121,5 @@ after_item w h (item.Request incremental area) v =
     record v { marks = requested (area_places (view_of w h v).width (view_of w h v).height area) incremental v.marks }
 after_item w h (item.Version version) v = v
 after_item w h item.Choice v = v
-after_item w h (item.Init shared) v = record v { told = Some (record { width = w; height = h }) }
+after_item w h (item.Init shared) v = record v { shared = shared; told = Some (record { width = w; height = h }) }
 after_item w h (item.Input input) v = v

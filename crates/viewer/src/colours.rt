@@ -20,7 +20,7 @@ const AT_ONCE: usize = 2048;
 /// How a rectangle's colours are held.
 #[derive(Drop)]
 pub enum Storage {
-    Copied(Vec<u32>),
+    Owned(Vec<u32>),
     Shared(Snapshot),
 }
 
@@ -87,7 +87,7 @@ impl Colours {
         ensures colours { IfOk result (λ c. c ≡ block_colours picture.old.width block picture.old.colours) }
     {
         let storage = if block.columns < SHARED_COLUMNS {
-            Storage::Copied(picture.read(block)?)
+            Storage::Owned(picture.read(block)?)
         } else {
             Storage::Shared(picture.snapshot(block)?)
         };
@@ -99,7 +99,7 @@ impl Colours {
         ensures { IsTrue result ↔ (done < length self.now) }
     {
         match &self.storage {
-            Storage::Copied(colours) => done < colours.len(),
+            Storage::Owned(colours) => done < colours.len(),
             Storage::Shared(snapshot) => done < snapshot.width() * snapshot.height(),
         }
     }
@@ -112,7 +112,7 @@ impl Colours {
         ensures small { length self.now < 2 ^ 64 }
     {
         match &self.storage {
-            Storage::Copied(colours) => &colours[done..],
+            Storage::Owned(colours) => &colours[done..],
             Storage::Shared(snapshot) => rest_of_row(snapshot, done),
         }
     }
@@ -152,7 +152,7 @@ impl Colours {
         ensures { OnOk result (out.new.items ≡ out.old.items ++ rre table.now area self.now) }
     {
         match &self.storage {
-            Storage::Copied(colours) => encode_rre_with_table(out, area, colours, table),
+            Storage::Owned(colours) => encode_rre_with_table(out, area, colours, table),
             Storage::Shared(snapshot) => put_shared(out, area, snapshot, table),
         }
     }

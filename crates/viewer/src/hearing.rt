@@ -95,6 +95,7 @@ fn draft_of(alloc: Global, state: &ViewerState, log: &[LogEntry]) -> Result<Draf
     ensures { IfOk result (λ draft. viewer_by state.now draft ≡ viewer_told log.now (viewer_in state.now)) }
 {
     Ok(Draft {
+        shared: state.shared,
         format: None,
         map_owed: state.map_owed,
         encoding: state.encoding,
@@ -187,7 +188,8 @@ fn take_item(
             let view = view_by(screen_of(state), draft.told);
             take_request(draft, state, clipped(view, *area), *incremental)
         }
-        Item::Init { .. } => {
+        Item::Init { shared } => {
+            draft.shared = *shared;
             draft.told = Some(screen_of(state));
             Ok(())
         }
@@ -224,6 +226,7 @@ pub fn new_state(alloc: Global, width: u32, height: u32) -> Result<ViewerState, 
 {
     Ok(ViewerState {
         ear: Ear::new(alloc),
+        shared: false,
         format: Translation::new(alloc, &PixelFormat::server())?,
         map_owed: false,
         encoding: Encoding::Raw,
@@ -254,6 +257,7 @@ fn inputs_of(mut items: Vec<Item>, mut inputs: Vec<Input>) -> Vec<Input>
 fn put_draft(state: &mut ViewerState, draft: Draft)
     ensures { viewer_in state.new ≡ viewer_by state.old draft }
 {
+    state.shared = draft.shared;
     put_format(state, draft.format);
     state.map_owed = draft.map_owed;
     state.encoding = draft.encoding;
@@ -373,7 +377,7 @@ pub fn hear_in(
     let reply = Reply {
         bytes: Listed::from_vec(bytes),
         inputs: Listed::from_vec(inputs_of(items, room)),
-        closed: heard.fault,
+        fault: heard.fault,
     };
     Ok(HeardPiece { reply, knows_log })
 }

@@ -11,7 +11,7 @@ use std::marker::Model;
 use std::sync::Arc;
 
 /// A text, which all share to whom it goes. Contracts see the list of its bytes.
-#[derive(Debug, Drop)]
+#[derive(Drop)]
 pub struct Text {
     bytes: Arc<Vec<u8>>,
 }
@@ -51,7 +51,7 @@ impl Text {
 }
 
 /// What goes to a viewer before the rectangles of its next update.
-#[derive(Debug, Drop)]
+#[derive(Drop)]
 pub enum Notice {
     /// A Bell (RFC 6143, 7.6.3).
     Bell,

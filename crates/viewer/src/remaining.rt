@@ -366,7 +366,7 @@ pub struct RemainingUpdate {
     /// The colour map is to be encoded yet.
     map_owed: bool,
     notices: Vec<Notice>,
-    told: usize,
+    notices_sent: usize,
     part: RemainingPart,
 }
 
@@ -377,7 +377,7 @@ impl Model for RemainingUpdate {
 
     ghost Value = { List ℕ };
 
-    ghost view = { λ a. remaining_update a.map_owed a.notices.items a.told a.part };
+    ghost view = { λ a. remaining_update a.map_owed a.notices.items a.notices_sent a.part };
 
     ghost invariant = { λ a. All IsShort a.notices.items };
 }
@@ -398,7 +398,7 @@ impl RemainingUpdate {
         RemainingUpdate {
             map_owed,
             notices,
-            told: 0,
+            notices_sent: 0,
             part,
         }
     }
@@ -407,7 +407,7 @@ impl RemainingUpdate {
     pub fn is_ended(&self) -> bool
         ensures { IsTrue result ↔ (self.now ≡ []) }
     {
-        if self.map_owed || self.told < self.notices.len() {
+        if self.map_owed || self.notices_sent < self.notices.len() {
             return false;
         }
         match &self.part {
@@ -428,9 +428,9 @@ impl RemainingUpdate {
             self.map_owed = false;
             return Ok(());
         }
-        if self.told < self.notices.len() {
-            put_notice(out, &self.notices[self.told])?;
-            self.told += 1;
+        if self.notices_sent < self.notices.len() {
+            put_notice(out, &self.notices[self.notices_sent])?;
+            self.notices_sent += 1;
             return Ok(());
         }
         match &mut self.part {
@@ -456,7 +456,7 @@ impl RemainingUpdate {
     {
         match &mut self.part {
             RemainingPart::Places(rectangles)
-                if !self.map_owed && self.told >= self.notices.len() => {
+                if !self.map_owed && self.notices_sent >= self.notices.len() => {
                 rectangles.put_short(out)
             }
             _ => Ok(false),

@@ -5,7 +5,7 @@ ghost use Rattle.std.specs.Prelude.{OnErr};
 ghost use Rattle.messages.specs.Reading.{rest, new_items, is_open_rest, fault_in_rest};
 ghost use Rattle.copy_schedule.specs.Marks.{Marks, pending};
 ghost use Rattle.copy_schedule.specs.Log.{logged, IsCutEntry};
-ghost use Rattle.viewer.specs.Viewer.{is_asking, none_wait, noticed, new_viewer, kept_viewer, viewer_resized};
+ghost use Rattle.viewer.specs.Viewer.{is_asking, settings_of, none_wait, noticed, new_viewer, kept_viewer, viewer_resized};
 ghost use Rattle.viewer.specs.Hearing.{after_items, heard_reply};
 ghost use Rattle.viewer.specs.Sending.{tells_size, sending_kept};
 ghost use Rattle.viewer.specs.Given.{bytes_given, prepared_bytes, after_prepared, keeps_notices};
@@ -17,6 +17,7 @@ use crate::HeardPiece;
 use crate::cutting::{PreparedUpdate, commit_in, prepare_in};
 use crate::hearing::{hear_in, is_pending, new_state};
 use crate::notices::Notice;
+use crate::settings::{Settings, settings_in};
 use crate::sizes::{Size, view_by, whole};
 use crate::update::Update;
 use crate::viewer_state::ViewerState;
@@ -107,6 +108,13 @@ impl Viewer {
         ensures { result ≡ is_asking self.now }
     {
         self.state.marks.has_asked()
+    }
+
+    /// What the viewer has set.
+    pub fn settings(&self) -> Settings
+        ensures { result ≡ settings_of self.now }
+    {
+        settings_in(&self.state)
     }
 
     /// Why the viewer is heard no further, if a fault was met.

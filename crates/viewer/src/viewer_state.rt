@@ -14,6 +14,8 @@ use messages::{Ear, Encoding};
 #[derive(Drop)]
 pub struct ViewerState {
     pub ear: Ear,
+    /// Its ClientInit asked that others stay connected (RFC 6143, 7.3.1).
+    pub shared: bool,
     pub format: Translation,
     /// The colour map that its format needs has not been sent yet (RFC 6143, 7.6.2).
     pub map_owed: bool,
@@ -39,6 +41,7 @@ pub struct Planned {
 /// What changes of a viewer by its messages; its format and its marks stand here only where they change.
 #[derive(Drop)]
 pub struct Draft {
+    pub shared: bool,
     pub format: Option<Translation>,
     pub map_owed: bool,
     pub encoding: Encoding,

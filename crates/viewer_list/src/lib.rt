@@ -31,7 +31,7 @@ ghost use Rattle.viewer.specs.Hearing.{after_items, heard_reply};
 ghost use Rattle.viewer.specs.Sending.{sending_kept};
 ghost use Rattle.viewer.specs.Given.{prepared_bytes, after_prepared};
 ghost use Rattle.region.specs.Places.{longest_side};
-ghost use Rattle.viewer.specs.Viewer.{KeptViewer, is_asking, viewer_resized};
+ghost use Rattle.viewer.specs.Viewer.{KeptViewer, is_asking, settings_of, viewer_resized};
 ghost use Rattle.viewer_list.specs.Viewers.{viewer_of, with_viewer, drawn, is_pending, IsOfSize, viewer_noticed};
 
 mod joining;
@@ -49,7 +49,7 @@ use notices::{keep_texts, ring_all, texts};
 use resizing::{prepare_all, resize_all};
 use std::alloc::{AllocError, Global};
 use std::marker::Model;
-use viewer::{LogEntry, PreparedUpdate, Reply, Update, Viewer};
+use viewer::{LogEntry, PreparedUpdate, Reply, Settings, Update, Viewer};
 use walks::some_lags;
 
 /// How many entries the log has at most besides joined ones.
@@ -171,6 +171,16 @@ impl ViewerList {
     {
         match self.viewers.get(number) {
             Some(lagging) => Some(lagging.viewer.fault()),
+            None => None,
+        }
+    }
+
+    /// What the viewer with a number has set; None where there is none.
+    pub fn settings(&self, number: u64) -> Option<Settings>
+        ensures { result ≡ option_map settings_of (viewer_of self.now number) }
+    {
+        match self.viewers.get(number) {
+            Some(lagging) => Some(lagging.viewer.settings()),
             None => None,
         }
     }

@@ -14,10 +14,10 @@ ghost use Rattle.screen.specs.Viewer.{is_asking};
 ghost use Rattle.screen.specs.declared.Event.{Event};
 ghost use Rattle.screen.specs.State.{viewer_at};
 ghost use Rattle.screen_desk.specs.Codes as codes;
-ghost use Rattle.screen_desk.specs.Calls.{Opens, Draws, DrawsRegion, Connects, Hears, Cuts, CutsInto, Closes, TellsPending, Gives, GivesHeld, Fetches, Shows, Tells, numbers_of, of_viewer, colour_at};
+ghost use Rattle.screen_desk.specs.Calls.{Opens, Draws, DrawsRegion, Connects, Hears, Cuts, CutsInto, Closes, TellsPending, Gives, GivesHeld, Fetches, Shows, ShowsSettings, Tells, numbers_of, of_viewer, colour_at};
 ghost use Rattle.screen_desk.specs.Desk.{nothing_there, rect_of, config_of};
 
-use screen_desk::{Corners, Desk, DeskUpdate, Told};
+use screen_desk::{Corners, Desk, DeskUpdate, Told, ViewerSettings};
 use std::alloc::Global;
 use std::mem::size_of;
 use std::ptr;
@@ -39,7 +39,7 @@ pub struct UpdatePlace {
 /// The number of this interface: `VNC_SCREEN_ABI` of the header.
 #[unsafe(no_mangle)]
 pub extern "C" fn vnc_screen_abi() -> u32 {
-    2
+    3
 }
 
 /// How many bytes of memory C has to give for a screen; their address is a multiple of 16.
@@ -401,6 +401,20 @@ pub unsafe extern "C" fn vnc_screen_fault(at: *mut Place, viewer: u64) -> i32
     ensures* { sem 𝓛 (leaves at (λ after. Tells (of_viewer viewer (λ seen. codes.fault_code (fault_in_rest seen.heard))) before after result)) }
 {
     Desk::fault(&mut *(at as *mut Desk), viewer)
+}
+
+/// `Desk::settings`.
+#[unsafe(no_mangle)]
+pub unsafe extern "C" fn vnc_screen_settings(
+    at: *mut Place,
+    viewer: u64,
+    room: &mut [ViewerSettings],
+) -> i32
+    ghost before: { desk_row.Denot }
+    requires* { sem 𝓛 (holds at before) }
+    ensures* { sem 𝓛 (leaves at (λ after. ShowsSettings viewer before after room.old room.new result)) }
+{
+    Desk::settings(&mut *(at as *mut Desk), viewer, room)
 }
 
 /// `Desk::width`.

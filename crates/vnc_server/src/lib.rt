@@ -14,11 +14,11 @@ ghost use Rattle.screen_desk.specs.Codes as codes;
 ghost use Rattle.screen_desk.specs.Calls.{colour_at};
 ghost use Rattle.screen_desk.specs.Desk.{rect_of, config_of};
 ghost use Rattle.server_desk.specs.Desk.{nothing_there, rects_per_update};
-ghost use Rattle.server_desk.specs.Calls.{Listens, TakesTurn, Draws, DrawsRegion, FetchesInputs, FetchesVisits, ShowsText, Tells, TellsAddress, TellsSome, LetsGo, TakesPixels, Wakes};
+ghost use Rattle.server_desk.specs.Calls.{Listens, TakesTurn, Draws, DrawsRegion, FetchesInputs, FetchesVisits, ShowsText, ShowsSettings, Tells, TellsAddress, TellsSome, LetsGo, TakesPixels, Wakes};
 ghost use Rattle.server_desk.specs.Pixels.{format_of, source_from};
 ghost use Rattle.source_pixels.specs.declared.formats.SourceFormat.TheVariants as format;
 
-use server_desk::{Corners, PixelLayout, ServerDesk, ServerWaker, Told, Visit};
+use server_desk::{Corners, PixelLayout, ServerDesk, ServerWaker, Told, ViewerSettings, Visit};
 use std::alloc::Global;
 use std::mem::size_of;
 use std::ptr;
@@ -40,7 +40,7 @@ pub struct WakerPlace {
 /// The number of this interface: `VNC_SERVER_ABI` of the header.
 #[unsafe(no_mangle)]
 pub extern "C" fn vnc_server_abi() -> u32 {
-    2
+    3
 }
 
 /// How many bytes of memory C has to give for a server; their address is a multiple of 16.
@@ -392,6 +392,20 @@ pub unsafe extern "C" fn vnc_server_viewer_count(at: *mut Place) -> i32
     ensures* { sem 𝓛 (leaves at (λ after. Tells (λ served. pos (min (count_by is_some served.slots) (2 ^ 30))) before after result)) }
 {
     ServerDesk::viewer_count(&mut *(at as *mut ServerDesk))
+}
+
+/// `ServerDesk::settings`.
+#[unsafe(no_mangle)]
+pub unsafe extern "C" fn vnc_server_settings(
+    at: *mut Place,
+    viewer: u64,
+    room: &mut [ViewerSettings],
+) -> i32
+    ghost before: { desk_row.Denot }
+    requires* { sem 𝓛 (holds at before) }
+    ensures* { sem 𝓛 (leaves at (λ after. ShowsSettings viewer before after room.old room.new result)) }
+{
+    ServerDesk::settings(&mut *(at as *mut ServerDesk), viewer, room)
 }
 
 /// `ServerDesk::width`.

@@ -1,6 +1,6 @@
 // The calls of a desk that answer a number, as values.
 
-use server_desk::{Corners, PixelLayout, ServerDesk, Told, Visit};
+use server_desk::{Corners, PixelLayout, ServerDesk, Told, ViewerSettings, Visit};
 
 pub const NOTHING_TOLD: Told = Told {
     viewer: 0,
@@ -19,6 +19,24 @@ pub const NO_VISIT: Visit = Visit {
     kind: 0,
     reason: 0,
     fault: 0,
+};
+
+/// What no viewer has set.
+pub const NO_SETTINGS: ViewerSettings = ViewerSettings {
+    shared: 99,
+    encoding: 99,
+    copy_rect: 99,
+    desktop_size: 99,
+    bits_per_pixel: 99,
+    depth: 99,
+    big_endian: 99,
+    true_colour: 99,
+    red_max: 99,
+    green_max: 99,
+    blue_max: 99,
+    red_shift: 99,
+    green_shift: 99,
+    blue_shift: 99,
 };
 
 type Bytes = &'static [u8];
@@ -40,6 +58,9 @@ pub enum Call {
     CloseViewer(u64),
     /// Into a room of two bytes; what is put there isn't looked at.
     ViewerAddress(u64),
+    /// Into a room of one place, and of none; what is put there isn't looked at.
+    Settings(u64),
+    SettingsNowhere(u64),
     Handle,
     LongestWait,
     Port,
@@ -100,6 +121,8 @@ fn code(desk: &mut ServerDesk, call: Call) -> i32 {
         Call::Turn(milliseconds) => desk.process_events(milliseconds),
         Call::CloseViewer(viewer) => desk.close_viewer(viewer),
         Call::ViewerAddress(viewer) => desk.viewer_address(viewer, &mut [0; 2]),
+        Call::Settings(viewer) => desk.settings(viewer, &mut [NO_SETTINGS]),
+        Call::SettingsNowhere(viewer) => desk.settings(viewer, &mut []),
         Call::Handle => desk.handle(),
         Call::LongestWait => desk.longest_wait(),
         Call::Port => desk.port(),

@@ -4,7 +4,8 @@ use crate::tests::calls::Call;
 use crate::tests::calls::Call::{
     Bell, Close, CloseViewer, Colour, CutText, DoCopy, DoCopyRegion, Handle, Height, Inputs,
     Listen, LongestWait, Lost, Mark, MarkRegion, Paint, Port, Resize, ScheduleCopy,
-    ScheduleCopyRegion, Take, Text, Turn, ViewerAddress, ViewerCount, Visits, Width, Write,
+    ScheduleCopyRegion, Settings, Take, Text, Turn, ViewerAddress, ViewerCount, Visits, Width,
+    Write,
 };
 use crate::tests::steps::Step::{
     AllAnswer, Answers, AnswersOneOf, AnswersWithin, First, HasKeptPort, HasOtherPort, KeepsPort,
@@ -76,6 +77,7 @@ const OTHERS: &[Call] = &[
     Turn(0),
     CloseViewer(1),
     ViewerAddress(1),
+    Settings(1),
     Handle,
     LongestWait,
     Port,
@@ -127,6 +129,7 @@ static EXAMPLES: [Example; 8] = [
             AllAnswer(DRAWING, 0),
             Answers(Turn(0), 0),
             Answers(CloseViewer(1), -7),
+            Answers(Settings(1), -7),
             AnswersWithin(Handle, 0, 0x7fff_ffff),
             AnswersWithin(LongestWait, 0, 0x7fff_ffff),
             NewWaker,

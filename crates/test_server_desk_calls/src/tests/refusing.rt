@@ -3,7 +3,7 @@
 use crate::tests::calls::Call;
 use crate::tests::calls::Call::{
     CloseViewer, DoCopyRegion, Height, Inputs, Lost, MarkRegion, Paint, Resize, ScheduleCopyRegion,
-    Take, ViewerAddress, ViewerCount, Visits, Width, Write,
+    Settings, Take, ViewerAddress, ViewerCount, Visits, Width, Write,
 };
 use crate::tests::steps::Step::{AllAnswer, Answers, CutsLetters, First};
 use crate::tests::steps::{Example, LISTENS, first_wrong_of};
@@ -78,6 +78,9 @@ const NOBODY: &[Call] = &[
     ViewerAddress(0),
     ViewerAddress(2),
     ViewerAddress(u64::MAX),
+    Settings(0),
+    Settings(2),
+    Settings(u64::MAX),
 ];
 
 const LAYOUT: PixelLayout = PixelLayout {

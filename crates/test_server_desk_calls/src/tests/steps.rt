@@ -1,9 +1,9 @@
 // A desk with two viewers and a waker, and the steps of an example, each with what is to be seen of it.
 
-use crate::tests::calls::{Call, NO_VISIT, NOTHING_TOLD, answer};
+use crate::tests::calls::{Call, NO_SETTINGS, NO_VISIT, NOTHING_TOLD, answer};
 use crate::tests::viewers::{Act, TURNS, acts, letters, next_input, next_visit, take_turn};
 use crate::tests::waiting::{handle_waits, is_left_alone, turn_takes};
-use server_desk::{SHUT, ServerDesk, ServerWaker, Told, Visit};
+use server_desk::{SHUT, ServerDesk, ServerWaker, Told, ViewerSettings, Visit};
 use std::alloc::{AllocError, Global};
 use std::net::TcpStream;
 use std::test::Fail;
@@ -36,6 +36,8 @@ pub enum Step {
     TextIsLetters(u32),
     /// The address of a viewer is put into a room: how many bytes of it, and the room then.
     Address(u64, &'static [u8; 12], i32, &'static [u8; 12]),
+    /// What a viewer has set is put into a room of two places: what the call answers, and the first place then. The other one stays.
+    Shows(u64, i32, ViewerSettings),
     /// What `cut_text` answers for so many letters.
     CutsLetters(usize, i32),
     /// The port is kept in mind; it is the kept one, or another one.
@@ -142,6 +144,11 @@ fn has_address(
     desk.viewer_address(viewer, &mut room) == count && room == *after
 }
 
+fn shows(desk: &mut ServerDesk, viewer: u64, code: i32, settings: ViewerSettings) -> bool {
+    let mut room = [NO_SETTINGS; 2];
+    desk.settings(viewer, &mut room) == code && room == [settings, NO_SETTINGS]
+}
+
 fn text_is_letters(alloc: Global, desk: &mut ServerDesk, count: u32) -> Result<bool, AllocError> {
     let mut room = vec![in alloc; 0; count as usize]?;
     let fetched = desk.text(&mut room);
@@ -196,6 +203,7 @@ fn holds_of_desk(alloc: Global, stage: &mut Stage, step: Step) -> Result<bool, A
         Step::Address(viewer, before, count, after) => {
             has_address(desk, viewer, before, count, after)
         }
+        Step::Shows(viewer, code, settings) => shows(desk, viewer, code, settings),
         Step::TextIsLetters(count) => text_is_letters(alloc, desk, count)?,
         Step::CutsLetters(count, code) => desk.cut_text(&letters(alloc, count)?) == code,
         Step::KeepsPort => keeps_port(stage),

@@ -11,15 +11,15 @@ returns-then-self-clause-more c = λ some. some_more c.args.out.now.items c.put_
 pub returns-in_ok-put_size-in-NewSize-clause-bytes : goal.returns-in_ok-put_size-in-NewSize-clause-bytes
 returns-in_ok-put_size-in-NewSize-clause-bytes c =
     let here = c.self.inside in
-    let over : length here.notices.items ≤ here.told = omega (arith, here.notices.ok.0, c.len.ensures, c.if-self-len.false) in
-    let rest = all_told here.map_owed here.notices.items here.told (remaining_part here.part) c.args.self.now c.if-self.false over c.self.view_is in
-    let none = all_told here.map_owed here.notices.items here.told [] (remaining_update here.map_owed here.notices.items here.told Nothing) c.if-self.false over refl in
+    let over : length here.notices.items ≤ here.notices_sent = omega (arith, here.notices.ok.0, c.len.ensures, c.if-self-len.false) in
+    let rest = all_told here.map_owed here.notices.items here.notices_sent (remaining_part here.part) c.args.self.now c.if-self.false over c.self.view_is in
+    let none = all_told here.map_owed here.notices.items here.notices_sent [] (remaining_update here.map_owed here.notices.items here.notices_sent Nothing) c.if-self.false over refl in
     ap (λ (l : List ℕ). c.put_size.new.out.items ++ l) (sym none) ∙ append-nil c.put_size.new.out.items ∙ c.in_ok-put_size-in-NewSize.ensures
     ∙ ap (λ (l : List ℕ). c.args.out.now.items ++ l) (sym (ap remaining_part c.in-NewSize.is) ∙ rest)
 
 pub returns-in-Places-clause-more : goal.returns-in-Places-clause-more
 returns-in-Places-clause-more c =
     let here = c.self.inside in
-    let over : length here.notices.items ≤ here.told = omega (arith, here.notices.ok.0, c.len.ensures, c.if-self-len.false) in
-    let rest = all_told here.map_owed here.notices.items here.told (remaining_part here.part) c.args.self.now c.if-self.false over c.self.view_is in
+    let over : length here.notices.items ≤ here.notices_sent = omega (arith, here.notices.ok.0, c.len.ensures, c.if-self-len.false) in
+    let rest = all_told here.map_owed here.notices.items here.notices_sent (remaining_part here.part) c.args.self.now c.if-self.false over c.self.view_is in
     on_ok c.put_part.result _ _ c.put_part.ensures.more (λ f some. f (λ none. some (sym rest ∙ ap remaining_part c.in-Places.is ∙ none)))

@@ -1,4 +1,4 @@
-//! A sender's turn.
+//! What a sender does next.
 
 ghost use Rattle.std.specs.Prelude.{◌≡◌, ◌≢◌, [], IfOk, IfErr};
 ghost use Rattle.update_sender.specs.Reasons.{sent_in};
@@ -10,7 +10,7 @@ use screen::{Fault, Update};
 
 /// What a viewer's sender does next: it sends an update, or ends.
 #[derive(Drop)]
-pub enum Turn {
+pub enum NextStep {
     /// Sends this.
     Send(Update),
     /// Ends, since all was stopped.
@@ -21,18 +21,18 @@ pub enum Turn {
     Faulty(Fault),
 }
 
-impl Turn {
+impl NextStep {
     /// The update that is sent, or why the sender ends.
     pub fn update(self) -> Result<Update, Ended>
-        ensures turn { result ≡ sent_in self }
+        ensures step { result ≡ sent_in self }
         ensures bytes { HasBytes self → IfOk result (λ update. update ≢ []) }
         ensures ends { IfErr result CuttingEnds }
     {
         match self {
-            Turn::Send(update) => Ok(update),
-            Turn::Stopped => Err(Ended::Stopped),
-            Turn::Closed => Err(Ended::Closed),
-            Turn::Faulty(fault) => Err(Ended::Fault(fault)),
+            NextStep::Send(update) => Ok(update),
+            NextStep::Stopped => Err(Ended::Stopped),
+            NextStep::Closed => Err(Ended::Closed),
+            NextStep::Faulty(fault) => Err(Ended::Fault(fault)),
         }
     }
 }

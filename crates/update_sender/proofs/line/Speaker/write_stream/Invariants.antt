@@ -1,6 +1,6 @@
 use Rattle.std.proofs.Common.{◌++◌, length}
 use Rattle.update_sender.proofs.Served.{SendsSome}
-use Rattle.update_sender.proofs.ends.Speaker.write_stream.Given as goal
+use Rattle.update_sender.proofs.line.Speaker.write_stream.Given as goal
 
 -- what is written and what is left are the update's bytes
 abbrev pub invariant-loop-buffer : goal.invariant-loop-buffer

@@ -1,7 +1,7 @@
 use Rattle.std.proofs.Common.{◌++◌, ◌∙◌, List, ℕ, subst, arith}
 use Rattle.update_sender.specs.Serving.{WritingEnds}
 use Rattle.update_sender.proofs.Served.{on_error, sends-then, sends-further, ending-further}
-use Rattle.update_sender.proofs.ends.Speaker.write_stream.Goals as goal
+use Rattle.update_sender.proofs.line.Speaker.write_stream.Goals as goal
 
 pub returns-in_err-write-2-clause-sent : goal.returns-in_err-write-2-clause-sent
 returns-in_err-write-2-clause-sent g c =

@@ -86,7 +86,7 @@ fn draw<L: Ledger, R: Wait>(
 }
 
 impl<L: Ledger> Application<L> for Drawer {
-    fn told<R: Wait>(
+    fn on_input<R: Wait>(
         &mut self,
         rt: &R,
         shared: &Shared<L>,

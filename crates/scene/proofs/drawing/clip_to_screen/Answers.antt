@@ -4,7 +4,7 @@ use Rattle.std.proofs.lemmas.Result.{IfOk-weaker}
 use Rattle.region.specs.declared.Rect.{Rect}
 use Rattle.region.specs.Region.{covers, in_rect}
 use Rattle.scene.proofs.Owing.{cut-region}
-use Rattle.scene.proofs.drawing.cut_to_screen.Goals as goal
+use Rattle.scene.proofs.drawing.clip_to_screen.Goals as goal
 
 pub returns : goal.returns
 returns c =

@@ -6,7 +6,7 @@ ghost use Rattle.connections.specs.Drawing.{Draws};
 
 use crate::endings::print_judgement;
 use crate::one_thread::trouble_of;
-use crate::own::{
+use crate::self_test::{
     COLOURS, Drawer, END, PLACES, TARGET, config, connect_all, join_all, network_trouble,
     print_shows, spawn_all, status_of,
 };
@@ -66,7 +66,7 @@ fn events(alloc: Global) -> Result<Vec<Event>, AllocError> {
 }
 
 impl Application for Drawing {
-    fn told(
+    fn on_input(
         &mut self,
         canvas: &mut Canvas,
         _viewer: u64,

@@ -9,7 +9,7 @@ ghost use Rattle.update_sender.specs.Ends.{Listening};
 ghost use Rattle.update_sender.specs.Ends.{all_of};
 
 use crate::brush::Brush;
-use crate::ends::Listener;
+use crate::line::Listener;
 use crate::reader::ReadHalf;
 use crate::sender::WriteHalf;
 use crate::shared::Shared;

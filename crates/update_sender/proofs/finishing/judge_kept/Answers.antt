@@ -1,6 +1,6 @@
 use Rattle.std.proofs.Common.{◌≡◌, ap, sym, ◌∙◌, subst}
 use Rattle.update_sender.proofs.Finished.{kept-history, judged}
-use Rattle.update_sender.proofs.ending.judge_kept.Goals as goal
+use Rattle.update_sender.proofs.finishing.judge_kept.Goals as goal
 
 pub returns-in-Some-Some : goal.returns-in-Some-Some
 returns-in-Some-Some g c =

@@ -3,7 +3,7 @@ use Rattle.std.specs.Map.{values_of}
 use Rattle.scene.proofs.Kept.{all-last}
 use Rattle.viewer_list.specs.Viewers.{Viewers, IsOfSize}
 use Rattle.viewer_list.specs.SizeLemmas.{new_size}
-use Rattle.scene.proofs.arriving.let_in.Goals as goal
+use Rattle.scene.proofs.connecting.let_in.Goals as goal
 
 pub returns-in-Err-clause-sized : goal.returns-in-Err-clause-sized
 returns-in-Err-clause-sized c = λ sized. subst (λ (s : Viewers). All (IsOfSize c.args.width c.args.height) (values_of s.pairs)) (sym c.in-Err.ensures.err) sized

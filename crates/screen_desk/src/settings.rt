@@ -1,0 +1,129 @@
+//! What a viewer has set, in numbers.
+
+ghost use Rattle.std.specs.Prelude.{◌≡◌, pos, min, length, slice_set, MatchResult};
+ghost use Rattle.screen_desk.specs.Codes.{code_of};
+ghost use Rattle.screen_desk.specs.Settings.{settings_as, encoding_number, bit_count};
+
+use crate::codes::code_of;
+use crate::told::one_if;
+use screen::{BitsPerPixel, Encoding, PixelFormat, Pixels, ScreenError, Settings};
+
+/// What a viewer has set by its messages (RFC 6143, 7.3.1, 7.5.1 and 7.5.2).
+#[repr(C)]
+#[derive(Clone, Copy, Debug, PartialEq, Eq)]
+pub struct ViewerSettings {
+    /// 1 where its ClientInit asked that other viewers stay connected; 0 before it. The server serves all all the same.
+    pub shared: u32,
+    /// The number of its encoding (7.7): 0 for Raw, 2 for RRE, 5 for Hextile; the first of these in its SetEncodings, and Raw where
+    /// there is none.
+    pub encoding: u32,
+    /// 1 where its SetEncodings lists CopyRect (7.7.2), else 0.
+    pub copy_rect: u32,
+    /// 1 where its SetEncodings lists DesktopSize (7.8.2), else 0.
+    pub desktop_size: u32,
+    /// Of the pixel format that it is sent (7.4), the server's until its SetPixelFormat: 8, 16 or 32.
+    pub bits_per_pixel: u32,
+    /// Of the format: how many of these bits are used, as the viewer says it.
+    pub depth: u32,
+    /// Of the format: 1 where a pixel's highest byte is sent first, else 0.
+    pub big_endian: u32,
+    /// Of the format: 1 where a pixel is a colour, and 0 where it is a place of the colour map; then the six fields below are 0.
+    pub true_colour: u32,
+    /// Of a colour: the greatest value of its red.
+    pub red_max: u32,
+    /// Of a colour: the greatest value of its green.
+    pub green_max: u32,
+    /// Of a colour: the greatest value of its blue.
+    pub blue_max: u32,
+    /// Of a colour: how many bits stand below its red.
+    pub red_shift: u32,
+    /// Of a colour: how many bits stand below its green.
+    pub green_shift: u32,
+    /// Of a colour: how many bits stand below its blue.
+    pub blue_shift: u32,
+}
+
+/// An encoding's number (RFC 6143, 7.7).
+fn encoding_number(encoding: Encoding) -> u32
+    ensures { result ≡ encoding_number encoding }
+{
+    match encoding {
+        Encoding::Raw => 0,
+        Encoding::Rre => 2,
+        Encoding::Hextile => 5,
+    }
+}
+
+/// How many bits a pixel has, as a number.
+fn bit_count(bits: BitsPerPixel) -> u32
+    ensures { result ≡ bit_count bits }
+{
+    match bits {
+        BitsPerPixel::Eight => 8,
+        BitsPerPixel::Sixteen => 16,
+        BitsPerPixel::ThirtyTwo => 32,
+    }
+}
+
+/// What a viewer has set, in numbers.
+pub fn settings_as(settings: &Settings) -> ViewerSettings
+    ensures { result ≡ settings_as settings.now }
+{
+    let PixelFormat {
+        depth,
+        big_endian,
+        pixels,
+    } = settings.format;
+    let with_colour_map = ViewerSettings {
+        shared: one_if(settings.shared),
+        encoding: encoding_number(settings.encoding),
+        copy_rect: one_if(settings.uses_copyrect),
+        desktop_size: one_if(settings.takes_sizes),
+        bits_per_pixel: 8,
+        depth: u32::from(depth),
+        big_endian: one_if(big_endian),
+        true_colour: 0,
+        red_max: 0,
+        green_max: 0,
+        blue_max: 0,
+        red_shift: 0,
+        green_shift: 0,
+        blue_shift: 0,
+    };
+    match pixels {
+        Pixels::ColourMap => with_colour_map,
+        Pixels::TrueColour {
+            bits,
+            red,
+            green,
+            blue,
+        } => ViewerSettings {
+            bits_per_pixel: bit_count(bits),
+            true_colour: 1,
+            red_max: u32::from(red.max),
+            green_max: u32::from(green.max),
+            blue_max: u32::from(blue.max),
+            red_shift: u32::from(red.shift),
+            green_shift: u32::from(green.shift),
+            blue_shift: u32::from(blue.shift),
+            ..with_colour_map
+        },
+    }
+}
+
+/// Puts what a viewer has set at the room's start: 1, or 0 where the room has no place. The rest of the room stays. The code of the
+/// refusal where there is one.
+pub fn show_settings(answer: Result<Settings, ScreenError>, room: &mut [ViewerSettings]) -> i32
+    ensures code { MatchResult answer (λ _. result ≡ pos (min 1 (length room.old))) (λ e. result ≡ code_of e) }
+    ensures room { MatchResult answer (λ settings. room.new ≡ slice_set room.old 0 (settings_as settings)) (λ _. room.new ≡ room.old) }
+{
+    let settings = match answer {
+        Ok(settings) => settings,
+        Err(e) => return code_of(e),
+    };
+    if room.is_empty() {
+        return 0;
+    }
+    room[0] = settings_as(&settings);
+    1
+}

@@ -1,0 +1,37 @@
+//! What a viewer has set.
+
+ghost use Rattle.std.specs.Prelude.{◌≡◌};
+ghost use Rattle.viewer.specs.Viewer.{settings_of};
+ghost use Rattle.viewer.specs.ViewerStates.{viewer_in};
+
+use crate::viewer_state::ViewerState;
+use messages::Encoding;
+use pixel_translate::PixelFormat;
+
+/// What a viewer has set by its messages (RFC 6143, 7.3.1, 7.5.1 and 7.5.2).
+#[derive(Clone, Copy, Debug, PartialEq, Eq)]
+pub struct Settings {
+    /// Its ClientInit asked that other viewers stay connected; false before it. The server serves all all the same.
+    pub shared: bool,
+    /// The pixel format that it is sent (7.4): the server's until its SetPixelFormat.
+    pub format: PixelFormat,
+    /// The first of Raw, RRE and Hextile in its SetEncodings; Raw where there is none.
+    pub encoding: Encoding,
+    /// Its SetEncodings lists CopyRect (7.7.2).
+    pub uses_copyrect: bool,
+    /// Its SetEncodings lists DesktopSize (7.8.2).
+    pub takes_sizes: bool,
+}
+
+/// What a viewer has set.
+pub(crate) fn settings_in(state: &ViewerState) -> Settings
+    ensures { result ≡ settings_of (viewer_in state.now) }
+{
+    Settings {
+        shared: state.shared,
+        format: state.format.table().format(),
+        encoding: state.encoding,
+        uses_copyrect: state.uses_copyrect,
+        takes_sizes: state.takes_sizes,
+    }
+}

@@ -1,0 +1,12 @@
+use Rattle.std.proofs.Common.{◌∙◌, sym, ap, Some}
+use Rattle.std.specs.Option.{option_map}
+use Rattle.viewer.specs.declared.settings.Settings.{Settings}
+use Rattle.viewer.specs.Viewer.{settings_of}
+use Rattle.viewer_list.proofs.ListLemmas.{viewer-some, viewer-absent}
+use Rattle.viewer_list.proofs.ViewerList.settings.Goals as goal
+
+pub returns-in-Some : goal.returns-in-Some
+returns-in-Some c = ap (λ (s : Settings). Some s) c.settings.ensures ∙ sym (ap (option_map settings_of) (viewer-some c.args.self.now c.self.inside.log.items c.self.inside.viewers.pairs _ c.args.number c.in-Some.lagging.now c.self.view_is c.in-Some.ensures))
+
+pub returns-in-None : goal.returns-in-None
+returns-in-None c = sym (ap (option_map settings_of) (viewer-absent c.args.self.now c.self.inside.log.items c.self.inside.viewers.pairs _ c.args.number c.self.view_is c.in-None.ensures))
