@@ -384,11 +384,11 @@ const UNSET: ViewerSettings = ViewerSettings {
     ..AS_OPENED
 };
 
-/// What a call shows of a viewer, where there is room for two, and the rest of the room.
-fn settings_of(desk: &mut Desk, viewer: u64) -> (i32, ViewerSettings, ViewerSettings) {
+/// Whether a call answers this of a viewer, and shows these settings in the first of two places.
+fn shows(desk: &mut Desk, viewer: u64, code: i32, settings: ViewerSettings) -> bool {
     let mut room = [UNSET; 2];
-    let code = desk.settings(viewer, &mut room);
-    (code, room[0], room[1])
+    let answered = desk.settings(viewer, &mut room);
+    answered == code && room == [settings, UNSET]
 }
 
 #[test]
@@ -401,14 +401,14 @@ fn a_viewer_shares_once_it_says_so(rt: HostRuntime) -> Result<(), Fail> {
     assert_eq!(rt; desk.connect(7), 0);
     // before its ClientInit (7.3.1)
     assert_eq!(rt; desk.hear(7, b"RFB 003.008\n\x01"), 0);
-    assert_eq!(rt; settings_of(&mut desk, 7), (1, unshared, UNSET));
+    assert!(rt; shows(&mut desk, 7, 1, unshared));
     assert_eq!(rt; desk.hear(7, b"\x01"), 0);
-    assert_eq!(rt; settings_of(&mut desk, 7), (1, AS_OPENED, UNSET));
+    assert!(rt; shows(&mut desk, 7, 1, AS_OPENED));
     // another one, which doesn't share
     assert_eq!(rt; desk.connect(8), 0);
     assert_eq!(rt; desk.hear(8, b"RFB 003.008\n\x01\x00"), 0);
-    assert_eq!(rt; settings_of(&mut desk, 8), (1, unshared, UNSET));
-    assert_eq!(rt; settings_of(&mut desk, 7), (1, AS_OPENED, UNSET));
+    assert!(rt; shows(&mut desk, 8, 1, unshared));
+    assert!(rt; shows(&mut desk, 7, 1, AS_OPENED));
     Ok(())
 }
 
@@ -419,48 +419,36 @@ fn a_viewer_sets_its_format(rt: HostRuntime) -> Result<(), Fail> {
     let sixteen =
         b"\x00\x00\x00\x00\x10\x0f\x01\x01\x00\x1f\x00\x3f\x00\x1e\x0b\x05\x01\x00\x00\x00";
     assert_eq!(rt; desk.hear(7, sixteen), 0);
-    assert_eq!(rt;
-        settings_of(&mut desk, 7),
-        (
-            1,
-            ViewerSettings {
-                bits_per_pixel: 16,
-                depth: 15,
-                big_endian: 1,
-                red_max: 31,
-                green_max: 63,
-                blue_max: 30,
-                red_shift: 11,
-                green_shift: 5,
-                blue_shift: 1,
-                ..AS_OPENED
-            },
-            UNSET
-        )
-    );
+    let in_sixteen = ViewerSettings {
+        bits_per_pixel: 16,
+        depth: 15,
+        big_endian: 1,
+        red_max: 31,
+        green_max: 63,
+        blue_max: 30,
+        red_shift: 11,
+        green_shift: 5,
+        blue_shift: 1,
+        ..AS_OPENED
+    };
+    assert!(rt; shows(&mut desk, 7, 1, in_sixteen));
     // 8 bits with a colour map; what it says of components is not looked at
     let mapped =
         b"\x00\x00\x00\x00\x08\x06\x00\x00\x00\x1f\x00\x3f\x00\x1f\x0b\x05\x01\x00\x00\x00";
     assert_eq!(rt; desk.hear(7, mapped), 0);
-    assert_eq!(rt;
-        settings_of(&mut desk, 7),
-        (
-            1,
-            ViewerSettings {
-                bits_per_pixel: 8,
-                depth: 6,
-                true_colour: 0,
-                red_max: 0,
-                green_max: 0,
-                blue_max: 0,
-                red_shift: 0,
-                green_shift: 0,
-                blue_shift: 0,
-                ..AS_OPENED
-            },
-            UNSET
-        )
-    );
+    let with_colour_map = ViewerSettings {
+        bits_per_pixel: 8,
+        depth: 6,
+        true_colour: 0,
+        red_max: 0,
+        green_max: 0,
+        blue_max: 0,
+        red_shift: 0,
+        green_shift: 0,
+        blue_shift: 0,
+        ..AS_OPENED
+    };
+    assert!(rt; shows(&mut desk, 7, 1, with_colour_map));
     Ok(())
 }
 
@@ -476,16 +464,16 @@ fn a_viewer_sets_its_encodings(rt: HostRuntime) -> Result<(), Fail> {
         desktop_size: 1,
         ..AS_OPENED
     };
-    assert_eq!(rt; settings_of(&mut desk, 7), (1, hextile, UNSET));
+    assert!(rt; shows(&mut desk, 7, 1, hextile));
     // RRE alone, and then none that there is
     assert_eq!(rt; desk.hear(7, b"\x02\x00\x00\x01\x00\x00\x00\x02"), 0);
     let rre = ViewerSettings {
         encoding: 2,
         ..AS_OPENED
     };
-    assert_eq!(rt; settings_of(&mut desk, 7), (1, rre, UNSET));
+    assert!(rt; shows(&mut desk, 7, 1, rre));
     assert_eq!(rt; desk.hear(7, b"\x02\x00\x00\x00"), 0);
-    assert_eq!(rt; settings_of(&mut desk, 7), (1, AS_OPENED, UNSET));
+    assert!(rt; shows(&mut desk, 7, 1, AS_OPENED));
     Ok(())
 }
 
@@ -497,11 +485,11 @@ fn settings_are_shown_or_refused(rt: HostRuntime) -> Result<(), Fail> {
     assert_eq!(rt; desk.settings(7, &mut one), 1);
     assert_eq!(rt; one, [AS_OPENED]);
     // -7: no viewer has the number
-    assert_eq!(rt; settings_of(&mut desk, 8), (-7, UNSET, UNSET));
+    assert!(rt; shows(&mut desk, 8, -7, UNSET));
     assert_eq!(rt; desk.settings(8, &mut []), -7);
     assert_eq!(rt; desk.close(7), 0);
-    assert_eq!(rt; settings_of(&mut desk, 7), (-7, UNSET, UNSET));
+    assert!(rt; shows(&mut desk, 7, -7, UNSET));
     assert_eq!(rt; desk.shut(), 0);
-    assert_eq!(rt; settings_of(&mut desk, 7), (SHUT, UNSET, UNSET));
+    assert!(rt; shows(&mut desk, 7, SHUT, UNSET));
     Ok(())
 }
