@@ -12,7 +12,7 @@ use messages::Input;
 use play_script::refusal_text;
 use play_script::trouble::{Trouble, print, report};
 use receipts::Receipt;
-use screen::{Config, History, Listed, Rect, ScreenError};
+use screen::{Config, History, LONGEST_TEXT, Listed, Rect, ScreenError};
 use serving::{Application, ServeError, Told, serve_viewers};
 use std::alloc::{AllocError, Global};
 use std::io::Write;
@@ -43,9 +43,6 @@ pub struct ServeOptions {
     pub one_thread: bool,
 }
 
-/// The most bytes of a text that is sent back.
-const TEXT_LIMIT: usize = 65_536;
-
 /// The application: a pointer with its first button down paints its place white, a key that goes down rings the bell, and a text
 /// is sent back.
 #[derive(Clone, Copy, Drop)]
@@ -72,10 +69,10 @@ pub(crate) const WHITE: u32 = 0xff_ffff;
 fn first_of(text: &[u8]) -> &[u8]
     ensures { result.now ≡ take 65536 text.now }
 {
-    if text.len() <= TEXT_LIMIT {
+    if text.len() <= LONGEST_TEXT {
         text
     } else {
-        &text[..TEXT_LIMIT]
+        &text[..LONGEST_TEXT]
     }
 }
 

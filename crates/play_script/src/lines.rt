@@ -9,7 +9,7 @@ use crate::hex::{hex_bytes, hex_colours};
 use crate::words::{NUMBER_LIMIT, number, signed, viewer_number, word, word_count};
 use listed::Listed;
 use region::Rect;
-use screen::{Config, Event, History};
+use screen::{Config, Event, History, MOST_PLACES};
 use std::alloc::{AllocError, Global};
 
 /// What a line of a script says.
@@ -175,7 +175,7 @@ fn places_by(x: u32, y: u32, width: u32, height: u32) -> Option<Places>
     let right = x + width;
     let bottom = y + height;
     let count = u64::from(width) * u64::from(height);
-    if right > NUMBER_LIMIT || bottom > NUMBER_LIMIT || count > 1 << 24 {
+    if right > NUMBER_LIMIT || bottom > NUMBER_LIMIT || count > u64::from(MOST_PLACES) {
         return None;
     }
     Some(Places {

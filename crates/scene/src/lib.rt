@@ -17,7 +17,10 @@ pub use laws::{
     accepted_happens_again, accepted_is_enough, held_as_alone, maps_are_there, one_viewer_is_alone,
     pictures_are_shown, refusals_are_due, viewers_are_alone,
 };
-pub use limits::{config_refusal, pixels_refusal, size_refusal, text_refusal};
+pub use limits::{
+    LONGEST_NAME, LONGEST_TEXT, MOST_PLACES, MOST_RECTS, config_refusal, pixels_refusal,
+    size_refusal, text_refusal,
+};
 pub use listed::Listed;
 pub use messages::{Fault, Input};
 pub use region::{Rect, Region, RegionError};

@@ -9,12 +9,28 @@ use crate::{Config, ScreenError};
 use framebuffer::{Block, Framebuffer, block_of};
 use region::{LONGEST_SIDE, Rect};
 
+/// How many places a screen has at most.
+pub const MOST_PLACES: u32 = 1 << 24;
+
+/// How many bytes a desktop's name has at most.
+pub const LONGEST_NAME: usize = 255;
+
+/// How many copies, and how many rectangles of pixels, an update has at most, whatever a configuration says.
+pub const MOST_RECTS: u32 = 1000;
+
+/// How many bytes a text has at most.
+pub const LONGEST_TEXT: usize = 65_536;
+
 /// Whether a screen may have so many columns and rows: 1 to 8192 each, with at most 2^24 places.
 fn is_size(width: u32, height: u32) -> bool
     ensures { result ≡ is_size width height }
 {
     let longest = LONGEST_SIDE as u32;
-    1 <= width && width <= longest && 1 <= height && height <= longest && width * height <= 1 << 24
+    1 <= width
+        && width <= longest
+        && 1 <= height
+        && height <= longest
+        && width * height <= MOST_PLACES
 }
 
 /// Why a screen can't have so many columns and rows, if it can't: `BadSize` unless each is 1 to 8192, with at most 2^24 places.
@@ -47,10 +63,10 @@ pub fn config_refusal(
     if !is_size(width, height) {
         return Some(ScreenError::BadSize);
     }
-    if name.len() > 255 {
+    if name.len() > LONGEST_NAME {
         return Some(ScreenError::BadName);
     }
-    if !(1 <= rects_per_update && rects_per_update <= 1000) {
+    if !(1 <= rects_per_update && rects_per_update <= MOST_RECTS) {
         return Some(ScreenError::BadRectLimit);
     }
     None
@@ -105,7 +121,7 @@ pub fn pixels_refusal(width: u32, height: u32, rect: Rect, colours: &[u32]) -> O
 pub fn text_refusal(text: &[u8]) -> Option<ScreenError>
     ensures { result ≡ text_refusal text.now }
 {
-    if text.len() > 65_536 {
+    if text.len() > LONGEST_TEXT {
         return Some(ScreenError::TextTooLong);
     }
     None

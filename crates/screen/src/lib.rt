@@ -24,9 +24,9 @@ pub use messages::{Fault, Input};
 pub use region::{Rect, Region, RegionError};
 pub use runs::{kept_is_enough, kept_is_kept, run};
 pub use scene::{
-    Answer, Config, Drawing, Event, History, ScreenError, config_refusal, held_as_alone,
-    maps_are_there, one_viewer_is_alone, pictures_are_shown, pixels_refusal, size_refusal,
-    text_refusal, viewers_are_alone,
+    Answer, Config, Drawing, Event, History, LONGEST_NAME, LONGEST_TEXT, MOST_PLACES, MOST_RECTS,
+    ScreenError, config_refusal, held_as_alone, maps_are_there, one_viewer_is_alone,
+    pictures_are_shown, pixels_refusal, size_refusal, text_refusal, viewers_are_alone,
 };
 pub use screen::Screen;
 pub use viewer::{BitsPerPixel, Component, Encoding, PixelFormat, Pixels, Settings, Update};

@@ -12,13 +12,13 @@ use crate::codes::{BAD_ADDRESS, CANNOT_LISTEN};
 use crate::system::{Network, address_of};
 use event_loop::{Config, EventLoop, History, Limits, Listed, LoopError, ScreenError, WhenFull};
 use mio::net::TcpListener;
-use screen::config_refusal;
+use screen::{MOST_RECTS, config_refusal};
 use screen_desk::code_of;
 use std::alloc::Global;
 
 /// How many copies, and how many rectangles of pixels, an update has at most: what is drawn between two turns seldom takes more, so that
 /// a viewer sees it at once.
-const RECTS_PER_UPDATE: u32 = 1000;
+const RECTS_PER_UPDATE: u32 = MOST_RECTS;
 
 /// Why a screen is not served.
 #[derive(Clone, Copy)]
