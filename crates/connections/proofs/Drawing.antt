@@ -15,7 +15,7 @@ use Rattle.screen.specs.declared.Drawing.{Drawing}
 use Rattle.screen.specs.declared.Drawing.TheVariants.{Write, Paint, MarkRect, MarkRegion, ScheduleCopyRect, ScheduleCopyRegion, DoCopyRect, DoCopyRegion, Bell, CutText, NewFramebuffer}
 use Rattle.screen.specs.State.{State, state}
 use Rattle.source_pixels.specs.declared.pieces.Piece.{Piece}
-use Rattle.take_pixels.specs.Paints.{paints_of}
+use Rattle.screen.specs.Paints.{paints_of}
 use Rattle.connections.specs.Drawing.{Surface, Draws, are_drawings, is_notice, has_notice}
 
 -- no bell or text is among more calls

@@ -7,16 +7,15 @@ ghost use Rattle.screen.specs.Alone.{config_refusal};
 ghost use Rattle.screen.specs.Answers.{answer_to};
 ghost use Rattle.screen.specs.Refusals.{Refuses};
 ghost use Rattle.screen.specs.State.{state, refusal};
-ghost use Rattle.take_pixels.specs.Takes.{Takes};
+ghost use Rattle.screen.specs.Takes.{Takes};
 ghost use Rattle.viewer.specs.Given.{bytes_given};
 ghost use Rattle.screen.specs.Calls.{event_of};
 ghost use Rattle.connections.specs.Drawing.{Draws, is_asking_on, is_notice, IsNotedAfter};
 
 use listed::Listed;
-use screen::{Answer, Drawing, Rect, Region, Screen, ScreenError, Update};
+use screen::{Answer, Drawing, PixelSource, Rect, Region, Screen, ScreenError, Update};
 use std::alloc::Global;
 use std::marker::Model;
-use take_pixels::{PixelSource, take};
 
 /// A screen to draw on, and whether it was drawn on since its viewers were looked at. Each drawing call is the screen's, with the
 /// same refusals, and leaves the screen as it was where it is refused; its viewers are looked at in the next turn.
@@ -251,7 +250,7 @@ impl Canvas {
         self.draw(&Drawing::NewFramebuffer { width, height })
     }
 
-    /// A program's own pixels are taken into the picture: `take_pixels::take`, which paints what differs.
+    /// A program's own pixels are taken into the picture: `Screen::take`, which paints what differs.
     pub fn take(
         &mut self,
         alloc: Global,
@@ -266,7 +265,7 @@ impl Canvas {
         ensures noticed { self.new.noticed ≡ self.old.noticed }
     {
         self.has_drawn = true;
-        take(alloc, &mut self.screen, left, top, source)
+        self.screen.take(alloc, left, top, source)
     }
 
     /// Those were looked at that are to be for what was drawn.

@@ -1,1 +1,5 @@
 mod GoesOn
+pub mod PaintedLemmas
+pub mod EventLemmas
+pub mod TakeLemmas
+pub mod RowsLemmas

@@ -1,4 +1,8 @@
 pub mod State
+pub mod Taken
+pub mod Paints
+pub mod Takes
+pub mod TakenExamples
 pub use Rattle.scene.specs.Alone
 pub use Rattle.scene.specs.Answers
 pub use Rattle.scene.specs.Calls

@@ -12,11 +12,25 @@
 //!     let bytes = update.encode()?; // 0000 0001 0000 0000 0002 0001 00000000 0000ff00 00000000
 //! }
 //! ```
+//!
+//! A program may have a framebuffer of its own, of 320 columns in 32 bits, and say that 64 columns and 48 rows of it from (16, 8) on
+//! may have changed:
+//!
+//! ```
+//! let first = &framebuffer[8 * 1280 + 16 * 4..];
+//! let source = PixelSource::new(first, 1280, 64, 48, SourceFormat::TrueColour(TrueColour::server()))?;
+//! let places = screen.take(alloc, 16, 8, &source)?; // so many places changed
+//! ```
+//!
+//! A program that draws through another type than `Screen` asks for the `differences`, and paints each piece in the `rect_of` it.
 #![tactic(auto)]
 
 mod kept_events;
+mod painting;
+mod part;
 mod runs;
 mod screen;
+mod taking;
 
 pub use kept_events::list_for;
 pub use listed::Listed;
@@ -29,4 +43,8 @@ pub use scene::{
     pictures_are_shown, pixels_refusal, size_refusal, text_refusal, viewers_are_alone,
 };
 pub use screen::Screen;
+pub use source_pixels::{
+    BytesPerPixel, Differences, Piece, PixelSource, SourceError, SourceFormat, TrueColour,
+};
+pub use taking::rect_of;
 pub use viewer::{BitsPerPixel, Component, Encoding, PixelFormat, Pixels, Settings, Update};

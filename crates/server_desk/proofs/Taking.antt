@@ -10,8 +10,8 @@ use Rattle.screen.specs.Alone.{config_refusal}
 use Rattle.screen.specs.State.{State, state}
 use Rattle.source_pixels.specs.declared.pieces.Piece.{Piece}
 use Rattle.source_pixels.specs.Source.{Source}
-use Rattle.take_pixels.specs.Paints.{paints_of}
-use Rattle.take_pixels.specs.Takes.{Takes}
+use Rattle.screen.specs.Paints.{paints_of}
+use Rattle.screen.specs.Takes.{Takes}
 use Rattle.connections.specs.Drawing.{Surface, IsDrawnFrom, are_drawings, has_notice}
 use Rattle.connections.specs.Serving.{Serving, Serves, drawn_is_served}
 use Rattle.event_loop.specs.Sockets.{sockets}

@@ -9,8 +9,8 @@ use Rattle.screen.specs.Alone.{config_refusal}
 use Rattle.connections.specs.Serving.{Serving, Serves, number_at}
 use Rattle.event_loop.specs.Sockets.{sockets}
 use Rattle.source_pixels.specs.Source.{Source}
-use Rattle.take_pixels.specs.Takes.{IsTaken, IsPartlyTaken}
-use Rattle.take_pixels.specs.Paints.{paints_of}
+use Rattle.screen.specs.Takes.{IsTaken, IsPartlyTaken}
+use Rattle.screen.specs.Paints.{paints_of}
 use Rattle.event_loop.specs.declared.event_loop.LoopError.{LoopError}
 use Rattle.screen_desk.specs.Codes.{Answers, code_of, done, no_viewer, out_of_memory, shut}
 use Rattle.screen_desk.specs.Calls.{settings_code, settings_room}

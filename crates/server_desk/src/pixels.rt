@@ -4,7 +4,7 @@ ghost use Rattle.std.specs.Prelude.{◌≡◌, length, Some, None, IfOk, IfErr, 
 ghost use Rattle.source_pixels.specs.declared.formats.SourceFormat.TheVariants as kind;
 ghost use Rattle.server_desk.specs.Pixels as pixels;
 
-use take_pixels::{BytesPerPixel, Component, PixelSource, SourceError, SourceFormat, TrueColour};
+use screen::{BytesPerPixel, Component, PixelSource, SourceError, SourceFormat, TrueColour};
 
 /// The format is none: a component has no value above 0, or doesn't fit in the pixel; a pixel isn't of 1 to 4 bytes; or a table has more
 /// than 256 colours, or stands beside a layout.

@@ -1,10 +1,10 @@
 use Rattle.std.proofs.Common.{◌≡◌, List, ◌++◌, map, take}
-use Rattle.screen.specs.declared.Config.{Config}
-use Rattle.screen.specs.declared.Event.{Event}
+use Rattle.scene.specs.declared.Config.{Config}
+use Rattle.scene.specs.declared.Event.{Event}
 use Rattle.screen.specs.State.{state}
 use Rattle.source_pixels.specs.Gathering.{piece_of}
-use Rattle.take_pixels.specs.Paints.{paints_of}
-use Rattle.take_pixels.proofs.painting.paint_bands.Given as goal
+use Rattle.screen.specs.Paints.{paints_of}
+use Rattle.screen.proofs.painting.paint_bands.Given as goal
 
 abbrev pub invariant-loop-band : goal.invariant-loop-band
 invariant-loop-band l = record {

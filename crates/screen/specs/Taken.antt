@@ -3,8 +3,8 @@ use Rattle.std.specs.Prelude.{ℕ, ◌+◌, ◌-◌, ◌*◌, if◌then◌else�
 use Rattle.region.specs.declared.Rect.{Rect}
 use Rattle.region.specs.Region.{in_rect}
 use Rattle.region.specs.Places.{by_place, longest_side}
-use Rattle.screen.specs.Frame.{Frame}
-use Rattle.screen.specs.Picture.{written, colour_at}
+use Rattle.framebuffer.specs.Frame.{Frame}
+use Rattle.framebuffer.specs.Picture.{written, colour_at}
 use Rattle.source_pixels.specs.declared.pieces.Piece.{Piece}
 use Rattle.source_pixels.specs.Parts.{Part}
 use Rattle.source_pixels.specs.Source.{Source}

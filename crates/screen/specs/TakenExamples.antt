@@ -1,12 +1,12 @@
 -- Worked values, which compute.
 use Rattle.std.specs.Prelude.{◌≡◌, ℕ, List, [], ◌∷◌, refl}
-use Rattle.screen.specs.Frame.{Frame}
+use Rattle.framebuffer.specs.Frame.{Frame}
 use Rattle.source_pixels.specs.declared.pieces.Piece.{Piece}
 use Rattle.source_pixels.specs.declared.formats.SourceFormat.TheVariants as kind
 use Rattle.source_pixels.specs.Source.{Source}
 use Rattle.source_pixels.specs.Examples.{bgr233}
 use Rattle.source_pixels.specs.Differences.{place_count, block_colours}
-use Rattle.take_pixels.specs.Taken.{taken, part_from, painted}
+use Rattle.screen.specs.Taken.{taken, part_from, painted}
 
 -- red and green above blue and black, in a byte each
 abbrev pub square : Source

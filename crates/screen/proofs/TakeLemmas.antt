@@ -2,12 +2,12 @@
 use Rattle.std.proofs.Common.{◌≡◌, ℕ, ◌<◌, List, ◌++◌, None, length, map, get_or, take, sym, ◌∙◌, ap, subst, arith}
 use Rattle.std.specs.Prelude.{All, ◌⊎◌}
 use Rattle.std.proofs.lemmas.List.{get_or-take, get_or-map, length-take, length-map}
-use Rattle.screen.specs.Frame.{Frame, IsPicture}
-use Rattle.screen.specs.declared.Config.{Config}
-use Rattle.screen.specs.declared.ScreenError.{ScreenError}
-use Rattle.screen.specs.declared.ScreenError.TheVariants.{OutOfMemory}
-use Rattle.screen.specs.declared.Event.{Event}
-use Rattle.screen.specs.Alone.{config_refusal, pixels_refusal}
+use Rattle.framebuffer.specs.Frame.{Frame, IsPicture}
+use Rattle.scene.specs.declared.Config.{Config}
+use Rattle.scene.specs.declared.ScreenError.{ScreenError}
+use Rattle.scene.specs.declared.ScreenError.TheVariants.{OutOfMemory}
+use Rattle.scene.specs.declared.Event.{Event}
+use Rattle.scene.specs.Alone.{config_refusal, pixels_refusal}
 use Rattle.screen.specs.State.{State, state}
 use Rattle.source_pixels.specs.declared.bands.Band.{Band}
 use Rattle.source_pixels.specs.declared.pieces.Piece.{Piece}
@@ -17,11 +17,11 @@ use Rattle.source_pixels.specs.Source.{Source, source_refusal}
 use Rattle.source_pixels.specs.Differences.{columns_beside, rows_beside, AreDifferences, IsPiece}
 use Rattle.source_pixels.specs.Bands.{IsBand}
 use Rattle.source_pixels.specs.Gathering.{piece_of}
-use Rattle.take_pixels.specs.Taken.{part_from, painted, taken, piece_rect, colour_on}
-use Rattle.take_pixels.specs.Paints.{paints_of}
-use Rattle.take_pixels.specs.Takes.{IsPartlyTaken}
-use Rattle.take_pixels.proofs.PaintedLemmas.{painted_is_taken, painted_size, partly}
-use Rattle.take_pixels.proofs.EventLemmas.{picture_whole, pictures-painted, piece_accepted}
+use Rattle.screen.specs.Taken.{part_from, painted, taken, piece_rect, colour_on}
+use Rattle.screen.specs.Paints.{paints_of}
+use Rattle.screen.specs.Takes.{IsPartlyTaken}
+use Rattle.screen.proofs.PaintedLemmas.{painted_is_taken, painted_size, partly}
+use Rattle.screen.proofs.EventLemmas.{picture_whole, pictures-painted, piece_accepted}
 
 -- the picture behind some of the paints
 pub picture_behind : (s : Source) (left top : ℕ) (config : Config) (list : List Event) (old new : State) (qs : List Piece) → old ≡ state config list → All (IsPiece s (part_from old.picture left top)) qs

@@ -3,13 +3,13 @@ use Rattle.std.specs.Prelude.{◌≡◌, ℕ, ◌<◌, ◌⊎◌, List, ◌++◌
 use Rattle.source_pixels.specs.declared.pieces.Piece.{Piece}
 use Rattle.source_pixels.specs.Source.{Source}
 use Rattle.source_pixels.specs.Differences.{AreDifferences}
-use Rattle.screen.specs.declared.Config.{Config}
-use Rattle.screen.specs.declared.ScreenError.{ScreenError}
-use Rattle.screen.specs.declared.ScreenError.TheVariants.{OutOfMemory}
-use Rattle.screen.specs.declared.Event.{Event}
+use Rattle.scene.specs.declared.Config.{Config}
+use Rattle.scene.specs.declared.ScreenError.{ScreenError}
+use Rattle.scene.specs.declared.ScreenError.TheVariants.{OutOfMemory}
+use Rattle.scene.specs.declared.Event.{Event}
 use Rattle.screen.specs.State.{State, state}
-use Rattle.take_pixels.specs.Paints.{paints_of}
-use Rattle.take_pixels.specs.Taken.{taken, part_from, colour_on}
+use Rattle.screen.specs.Paints.{paints_of}
+use Rattle.screen.specs.Taken.{taken, part_from, colour_on}
 
 -- the picture has the source's colours; the screen stands for its events with the paints of what differed behind them
 pub record IsTaken (s : Source) (left top : ℕ) (config : Config) (list : List Event) (old new : State) (places : ℕ) : Type 0 where

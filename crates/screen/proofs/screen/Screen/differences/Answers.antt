@@ -1,13 +1,13 @@
 use Rattle.std.proofs.Common.{◌≡◌, ℕ, None, Result, Ok, Err}
 use Rattle.std.specs.Prelude.{IfOk}
 use Rattle.std.specs.declared.alloc.AllocError.{AllocError}
-use Rattle.screen.specs.Frame.{Frame, IsPicture}
+use Rattle.framebuffer.specs.Frame.{Frame, IsPicture}
 use Rattle.source_pixels.specs.declared.pieces.Differences.{Differences}
 use Rattle.source_pixels.specs.Source.{Source, source_refusal}
 use Rattle.source_pixels.specs.Differences.{AreDifferences}
-use Rattle.take_pixels.specs.Taken.{part_from, painted, taken}
-use Rattle.take_pixels.proofs.PaintedLemmas.{painted_is_taken}
-use Rattle.take_pixels.proofs.taking.differences.Goals as goal
+use Rattle.screen.specs.Taken.{part_from, painted, taken}
+use Rattle.screen.proofs.PaintedLemmas.{painted_is_taken}
+use Rattle.screen.proofs.screen.Screen.differences.Goals as goal
 
 made : (s : Source) (f : Frame) (left top : ℕ) (r : Result Differences AllocError) → source_refusal s ≡ None → IsPicture f → IfOk r (λ d. AreDifferences s (part_from f left top) d)
     → IfOk r (λ d. painted left top d.pieces f ≡ taken s left top f)
@@ -16,4 +16,4 @@ made s f left top (Err e) accepted picture differ = tt
 
 pub returns-clause-made : goal.returns-clause-made
 returns-clause-made c =
-    λ picture. made c.args.source.now c.args.screen.now.picture c.args.left c.args.top c.find_differences.result c.find_differences.ensures.accepted picture c.find_differences.ensures.differ
+    λ picture. made c.args.source.now c.args.self.now.picture c.args.left c.args.top c.find_differences.result c.find_differences.ensures.accepted picture c.find_differences.ensures.differ

@@ -6,20 +6,20 @@ use Rattle.std.proofs.lemmas.Bool.{and_parts, and_from, leb-true, le-leb, eq-eqb
 use Rattle.std.proofs.lemmas.List.{append_assoc, append-nil, length-replicate, map_more}
 use Rattle.std.proofs.lemmas.List.FromFn.{length-map-range_with_len}
 use Rattle.region.specs.declared.Rect.{Rect}
-use Rattle.screen.specs.Frame.{Frame, IsPicture, blank_frame}
+use Rattle.framebuffer.specs.Frame.{Frame, IsPicture, blank_frame}
 use Rattle.source_pixels.specs.declared.pieces.Piece.{Piece}
 use Rattle.source_pixels.specs.Source.{Source}
 use Rattle.source_pixels.specs.Differences.{IsPiece}
-use Rattle.screen.specs.declared.Config.{Config}
-use Rattle.screen.specs.declared.ScreenError.{ScreenError}
-use Rattle.screen.specs.declared.ScreenError.TheVariants as refusals
-use Rattle.screen.specs.declared.Event.{Event}
-use Rattle.screen.specs.declared.Event.TheVariants.{Write, Paint, Mark, ScheduleCopy, DoCopy, Bell, CutText, Resize, Connect, Hear, Cut, Close}
-use Rattle.screen.specs.Viewer.{Viewer}
-use Rattle.screen.specs.Alone.{One, at_size, step, after, draw_step, own_step, owner_of, drawing_refusal, pixels_refusal, is_size, is_within, drawn, empty_screen, config_refusal}
-use Rattle.screen.specs.Answers.{is_drawing, picture_of}
-use Rattle.take_pixels.specs.Taken.{part_from, piece_rect, painted}
-use Rattle.take_pixels.specs.Paints.{paint_of, paints_of}
+use Rattle.scene.specs.declared.Config.{Config}
+use Rattle.scene.specs.declared.ScreenError.{ScreenError}
+use Rattle.scene.specs.declared.ScreenError.TheVariants as refusals
+use Rattle.scene.specs.declared.Event.{Event}
+use Rattle.scene.specs.declared.Event.TheVariants.{Write, Paint, Mark, ScheduleCopy, DoCopy, Bell, CutText, Resize, Connect, Hear, Cut, Close}
+use Rattle.viewer.specs.Viewer.{Viewer}
+use Rattle.scene.specs.Alone.{One, at_size, step, after, draw_step, own_step, owner_of, drawing_refusal, pixels_refusal, is_size, is_within, drawn, empty_screen, config_refusal}
+use Rattle.scene.specs.Answers.{is_drawing, picture_of}
+use Rattle.screen.specs.Taken.{part_from, piece_rect, painted}
+use Rattle.screen.specs.Paints.{paint_of, paints_of}
 
 -- ---- each picture is one
 

@@ -1,17 +1,18 @@
 //! Bands of a program's pixels, painted on a screen.
 
 ghost use Rattle.std.specs.Prelude.{◌≡◌, ◌+◌, ◌^◌, ◌<◌, List, [], ◌∷◌, ◌++◌, length, map, None, OnOk, OnErr, IsOkUnless, All};
-ghost use Rattle.screen.specs.declared.Config.{Config};
-ghost use Rattle.screen.specs.declared.Event.{Event};
+ghost use Rattle.scene.specs.declared.Config.{Config};
+ghost use Rattle.scene.specs.declared.Event.{Event};
 ghost use Rattle.screen.specs.State.{state, refusal};
 ghost use Rattle.source_pixels.specs.Bands.{IsBand};
 ghost use Rattle.source_pixels.specs.Differences.{IsPiece};
 ghost use Rattle.source_pixels.specs.Gathering.{piece_of};
-ghost use Rattle.take_pixels.specs.Taken.{part_from, rect_at};
-ghost use Rattle.take_pixels.specs.Paints.{paint_of, PaintsPieces};
+ghost use Rattle.screen.specs.Taken.{part_from, rect_at};
+ghost use Rattle.screen.specs.Paints.{paint_of, PaintsPieces};
 
+use crate::Screen;
 use region::Rect;
-use screen::{Screen, ScreenError};
+use scene::ScreenError;
 use source_pixels::{Band, PixelSource};
 
 /// The rectangle of so many columns and rows from a place on.

@@ -1,13 +1,13 @@
 -- Rectangles of a source as the events that paint them.
 use Rattle.std.specs.Prelude.{◌≡◌, ℕ, List, map, take, ◌++◌, MatchResult, Result}
 use Rattle.source_pixels.specs.declared.pieces.Piece.{Piece}
-use Rattle.screen.specs.declared.Config.{Config}
-use Rattle.screen.specs.declared.ScreenError.{ScreenError}
-use Rattle.screen.specs.declared.ScreenError.TheVariants.{OutOfMemory}
-use Rattle.screen.specs.declared.Event.{Event}
-use Rattle.screen.specs.declared.Event.TheVariants.{Paint}
+use Rattle.scene.specs.declared.Config.{Config}
+use Rattle.scene.specs.declared.ScreenError.{ScreenError}
+use Rattle.scene.specs.declared.ScreenError.TheVariants.{OutOfMemory}
+use Rattle.scene.specs.declared.Event.{Event}
+use Rattle.scene.specs.declared.Event.TheVariants.{Paint}
 use Rattle.screen.specs.State.{State, state}
-use Rattle.take_pixels.specs.Taken.{piece_rect}
+use Rattle.screen.specs.Taken.{piece_rect}
 
 abbrev pub paint_of : ℕ → ℕ → Piece → Event
 paint_of left top q = Paint (piece_rect left top q) q.colours

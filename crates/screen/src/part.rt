@@ -4,10 +4,10 @@ ghost use Rattle.std.specs.Prelude.{◌≡◌, ◌-◌, ◌*◌, ◌^◌, ◌<�
 ghost use Rattle.region.specs.Places.{longest_side};
 ghost use Rattle.source_pixels.specs.Source.{source_refusal};
 ghost use Rattle.source_pixels.specs.Differences.{rows_beside};
-ghost use Rattle.take_pixels.specs.Taken.{part_from};
+ghost use Rattle.screen.specs.Taken.{part_from};
 
+use crate::Screen;
 use region::LONGEST_SIDE;
-use screen::Screen;
 use source_pixels::{Beside, MOST_PLACES, PixelSource};
 
 /// A screen's picture from a place on.

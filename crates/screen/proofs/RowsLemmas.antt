@@ -4,12 +4,12 @@ use Rattle.std.specs.Prelude.{min}
 use Rattle.std.proofs.lemmas.List.{append_assoc, map-append}
 use Rattle.std.proofs.lemmas.List.Elements.{All-append}
 use Rattle.region.specs.Places.{longest_side}
-use Rattle.screen.specs.Frame.{Frame, IsPicture}
-use Rattle.screen.specs.declared.Config.{Config}
-use Rattle.screen.specs.declared.ScreenError.{ScreenError}
-use Rattle.screen.specs.declared.ScreenError.TheVariants.{OutOfMemory}
-use Rattle.screen.specs.declared.Event.{Event}
-use Rattle.screen.specs.Alone.{config_refusal}
+use Rattle.framebuffer.specs.Frame.{Frame, IsPicture}
+use Rattle.scene.specs.declared.Config.{Config}
+use Rattle.scene.specs.declared.ScreenError.{ScreenError}
+use Rattle.scene.specs.declared.ScreenError.TheVariants.{OutOfMemory}
+use Rattle.scene.specs.declared.Event.{Event}
+use Rattle.scene.specs.Alone.{config_refusal}
 use Rattle.screen.specs.State.{State, state}
 use Rattle.source_pixels.specs.declared.bands.Band.{Band}
 use Rattle.source_pixels.specs.declared.pieces.Piece.{Piece}
@@ -17,12 +17,12 @@ use Rattle.source_pixels.specs.Source.{Source, source_refusal}
 use Rattle.source_pixels.specs.Differences.{rows_beside, IsPiece, AreDifferences}
 use Rattle.source_pixels.specs.Gathering.{AreGathered, piece_of}
 use Rattle.source_pixels.specs.GatheredLemmas.{gathered_none, gathered_append, are_pieces, pieces_above, differences_are}
-use Rattle.take_pixels.specs.Taken.{part_from, painted}
-use Rattle.take_pixels.specs.Paints.{paint_of, paints_of}
-use Rattle.take_pixels.specs.Takes.{IsTaken, IsPartlyTaken}
-use Rattle.take_pixels.proofs.PaintedLemmas.{painted_size, found_before}
-use Rattle.take_pixels.proofs.EventLemmas.{picture_whole}
-use Rattle.take_pixels.proofs.TakeLemmas.{picture_behind, picture_taken, partly_taken, first_pieces}
+use Rattle.screen.specs.Taken.{part_from, painted}
+use Rattle.screen.specs.Paints.{paint_of, paints_of}
+use Rattle.screen.specs.Takes.{IsTaken, IsPartlyTaken}
+use Rattle.screen.proofs.PaintedLemmas.{painted_size, found_before}
+use Rattle.screen.proofs.EventLemmas.{picture_whole}
+use Rattle.screen.proofs.TakeLemmas.{picture_behind, picture_taken, partly_taken, first_pieces}
 
 -- the rows above row y are taken: the screen stands for its events with the paints of what differed there behind them
 pub record AreRowsTaken (s : Source) (left top : ℕ) (config : Config) (list : List Event) (old now : State) (y places : ℕ) : Type 0 where

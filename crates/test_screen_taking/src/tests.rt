@@ -1,13 +1,12 @@
 //! What no clause says of taking pixels: that each call succeeds where there is memory. Colours are worked out by hand from RFC 6143,
 //! section 7.4.
 
-use screen::{Config, History, Listed, Rect, Screen, ScreenError};
+use screen::{
+    BytesPerPixel, Component, Config, History, Listed, PixelSource, Rect, Screen, ScreenError,
+    SourceError, SourceFormat, TrueColour, rect_of,
+};
 use std::alloc::{AllocError, Global};
 use std::test::Fail;
-use take_pixels::{
-    BytesPerPixel, Component, PixelSource, SourceError, SourceFormat, TrueColour, differences,
-    rect_of, take,
-};
 
 /// A screen of 4 columns and 2 rows.
 fn small_screen(alloc: Global) -> Result<Screen, ScreenError> {
@@ -73,7 +72,7 @@ fn takes(
     let Ok(source) = PixelSource::new(bytes, bytes.len(), 2, 1, format) else {
         return Ok(None);
     };
-    let places = take(alloc, &mut screen, 1, 1, &source)?;
+    let places = screen.take(alloc, 1, 1, &source)?;
     let are_there = screen.colour(1, 1) == Some(colours[0])
         && screen.colour(2, 1) == Some(colours[1]);
     Ok(if are_there { Some(places) } else { None })
@@ -176,7 +175,7 @@ fn differences_are_one_rectangle(rt: HostRuntime) -> Result<(), Fail> {
         .ok_or("refused")?;
     assert_eq!(rt; source.colour(2, 1), Some(0xff));
     assert_eq!(rt; source.colour(4, 1), None);
-    let found = differences(rt.alloc(), &screen, 0, 0, &source)?;
+    let found = screen.differences(rt.alloc(), 0, 0, &source)?;
     assert_eq!(rt; found.places, 4);
     assert_eq!(rt; found.pieces.len(), 1);
     let Some(piece) = found.pieces.as_slice().first() else {
@@ -207,11 +206,11 @@ fn what_is_off_the_screen_is_left_out(rt: HostRuntime) -> Result<(), Fail> {
     let source = PixelSource::new(BLUE_SQUARE, 16, 4, 2, format)
         .ok()
         .ok_or("refused")?;
-    assert_eq!(rt; take(rt.alloc(), &mut screen, 2, 1, &source)?, 1);
+    assert_eq!(rt; screen.take(rt.alloc(), 2, 1, &source)?, 1);
     assert_eq!(rt; screen.colour(3, 1), Some(0xff));
     // the same again changes nothing, nor does a place off the screen
-    assert_eq!(rt; take(rt.alloc(), &mut screen, 2, 1, &source)?, 0);
-    assert_eq!(rt; take(rt.alloc(), &mut screen, u32::MAX, 0, &source)?, 0);
+    assert_eq!(rt; screen.take(rt.alloc(), 2, 1, &source)?, 0);
+    assert_eq!(rt; screen.take(rt.alloc(), u32::MAX, 0, &source)?, 0);
     let events = screen.history().ok_or("not kept")?;
     assert_eq!(rt; events.len(), 1);
     Ok(())
@@ -293,12 +292,12 @@ fn a_large_picture_is_taken_in_parts(rt: HostRuntime) -> Result<(), Fail> {
     let source = PixelSource::new(&bytes, 1200, 300, 500, format)
         .ok()
         .ok_or("refused")?;
-    assert_eq!(rt; take(rt.alloc(), &mut screen, 0, 0, &source)?, count_new());
+    assert_eq!(rt; screen.take(rt.alloc(), 0, 0, &source)?, count_new());
     assert_eq!(rt; count_wrong(&screen, false), 0);
     // rows 100 to 217, 218 to 435, and 436 to 449
     let events = screen.history().ok_or("not kept")?;
     assert_eq!(rt; events.len(), 3);
-    assert_eq!(rt; take(rt.alloc(), &mut screen, 0, 0, &source)?, 0);
+    assert_eq!(rt; screen.take(rt.alloc(), 0, 0, &source)?, 0);
     Ok(())
 }
 
@@ -311,11 +310,11 @@ fn a_second_call_takes_the_rest(rt: HostRuntime) -> Result<(), Fail> {
     let source = PixelSource::new(&bytes, 1200, 300, 500, format)
         .ok()
         .ok_or("refused")?;
-    let first = take(rt.alloc(), &mut screen, 0, 0, &source);
+    let first = screen.take(rt.alloc(), 0, 0, &source);
     assert_eq!(rt; count_wrong(&screen, true), 0);
     if let Err(error) = first {
         assert_eq!(rt; error, ScreenError::OutOfMemory);
-        take(rt.alloc(), &mut screen, 0, 0, &source)?;
+        screen.take(rt.alloc(), 0, 0, &source)?;
     }
     assert_eq!(rt; count_wrong(&screen, false), 0);
     Ok(())

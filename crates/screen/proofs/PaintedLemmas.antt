@@ -11,8 +11,8 @@ use Rattle.std.specs.List.{range_with_len}
 use Rattle.region.specs.Region.{in_rect, on_screen}
 use Rattle.region.specs.Places.{longest_side}
 use Rattle.region.specs.PlaceLemmas.{row_below, on_screen-number, at_place-number, by_place-numbers, value_on}
-use Rattle.screen.specs.Frame.{Frame, IsPicture}
-use Rattle.screen.specs.Picture.{written, colour_at, colour_in}
+use Rattle.framebuffer.specs.Frame.{Frame, IsPicture}
+use Rattle.framebuffer.specs.Picture.{written, colour_at, colour_in}
 use Rattle.source_pixels.specs.declared.bands.Band.{Band}
 use Rattle.source_pixels.specs.declared.pieces.Piece.{Piece}
 use Rattle.source_pixels.specs.declared.pieces.Differences.{Differences}
@@ -23,7 +23,7 @@ use Rattle.source_pixels.specs.SourceLemmas.{colour_small}
 use Rattle.source_pixels.specs.Differences.{is_in_piece, columns_beside, rows_beside, row_beside, IsPiece, AreDifferences}
 use Rattle.source_pixels.specs.Gathering.{AreGathered}
 use Rattle.source_pixels.specs.GatheredLemmas.{gathered_beside}
-use Rattle.take_pixels.specs.Taken.{rect_at, taken, part_from, piece_rect, painted, colour_on}
+use Rattle.screen.specs.Taken.{rect_at, taken, part_from, piece_rect, painted, colour_on}
 
 -- ---- places of a rectangle
 

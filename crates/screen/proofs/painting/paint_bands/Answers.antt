@@ -5,11 +5,11 @@ use Rattle.screen.specs.State.{state}
 use Rattle.source_pixels.specs.declared.bands.Band.{Band}
 use Rattle.source_pixels.specs.declared.pieces.Piece.{Piece}
 use Rattle.source_pixels.specs.Gathering.{piece_of}
-use Rattle.take_pixels.specs.Taken.{part_from}
-use Rattle.take_pixels.specs.Paints.{paint_of, paints_of, PaintsPieces}
-use Rattle.take_pixels.proofs.EventLemmas.{paints-more}
-use Rattle.take_pixels.proofs.TakeLemmas.{accepted_behind, band_placed, first_pieces}
-use Rattle.take_pixels.proofs.painting.paint_bands.Goals as goal
+use Rattle.screen.specs.Taken.{part_from}
+use Rattle.screen.specs.Paints.{paint_of, paints_of, PaintsPieces}
+use Rattle.screen.proofs.EventLemmas.{paints-more}
+use Rattle.screen.proofs.TakeLemmas.{accepted_behind, band_placed, first_pieces}
+use Rattle.screen.proofs.painting.paint_bands.Goals as goal
 
 abbrev no_band : Band
 no_band = record { top = 0; bottom = 0; from = 0; to = 0; spans = 0 }

@@ -1,4 +1,0 @@
-pub mod PaintedLemmas
-pub mod EventLemmas
-pub mod TakeLemmas
-pub mod RowsLemmas

@@ -1,4 +1,0 @@
-pub mod Taken
-pub mod Paints
-pub mod Takes
-pub mod Examples
