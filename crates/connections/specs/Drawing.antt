@@ -19,6 +19,10 @@ pub record Surface : Type 0 where
 abbrev pub is_asking_on : State → ℕ → Bool
 is_asking_on screen v = elim (viewer_at screen v) [ None ↦ false | Some viewer ↦ is_asking viewer ]
 
+-- how many requests of a viewer of a screen were not incremental; no viewer made any
+abbrev pub full_requests_on : State → ℕ → ℕ
+full_requests_on screen v = elim (viewer_at screen v) [ None ↦ 0 | Some viewer ↦ viewer.full_requests ]
+
 -- each event of a list is a drawing call
 abbrev pub are_drawings : List Event → Bool
 are_drawings es = list_all (λ e. is_drawing (owner_of e)) es

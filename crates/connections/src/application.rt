@@ -25,6 +25,15 @@ pub trait Application {
         Ok(())
     }
 
+    /// A viewer asked for places whether these changed or not, by a request that isn't incremental (RFC 6143, 7.5.3; `displayHook` of
+    /// `rfb.h`). It is told so once for each piece of bytes in which it did, behind the inputs of that piece and before the answer is
+    /// cut: what is drawn now is in it.
+    fn asked(&mut self, _canvas: &mut Canvas, _viewer: u64) -> Result<(), ScreenError>
+        ensures draws { Draws _canvas.old _canvas.new }
+    {
+        Ok(())
+    }
+
     /// A viewer ended, and its connection is closed. Its receipt has the bytes that were heard and sent, where the history is kept.
     fn left(&mut self, _canvas: &mut Canvas, _receipt: Receipt) -> Result<(), ScreenError>
         ensures draws { Draws _canvas.old _canvas.new }

@@ -10,7 +10,7 @@ ghost use Rattle.screen.specs.State.{state, refusal};
 ghost use Rattle.screen.specs.Takes.{Takes};
 ghost use Rattle.viewer.specs.Given.{bytes_given};
 ghost use Rattle.screen.specs.Calls.{event_of};
-ghost use Rattle.connections.specs.Drawing.{Draws, is_asking_on, is_notice, IsNotedAfter};
+ghost use Rattle.connections.specs.Drawing.{Draws, full_requests_on, is_asking_on, is_notice, IsNotedAfter};
 
 use listed::Listed;
 use screen::{Answer, Drawing, PixelSource, Rect, Region, Screen, ScreenError, Update};
@@ -70,6 +70,16 @@ impl Canvas {
         match self.screen.is_asking(viewer) {
             Ok(is_asking) => is_asking,
             Err(_) => false,
+        }
+    }
+
+    /// How many requests of a viewer were not incremental; 0 where there is none with the number.
+    pub(crate) fn full_requests(&self, viewer: u64) -> u64
+        ensures { result ≡ full_requests_on self.now.screen viewer }
+    {
+        match self.screen.settings(viewer) {
+            Ok(settings) => settings.full_requests,
+            Err(_) => 0,
         }
     }
 

@@ -57,6 +57,7 @@ fn hear<T: Transport, A: Application>(
     ensures carried { connection.new.carried ≡ connection.old.carried }
 {
     let viewer = connection.number();
+    let full_requests = canvas.full_requests(viewer);
     if connection.make_room(piece).is_err() {
         connection.end(Ended::Memory);
         return Ok(());
@@ -67,20 +68,30 @@ fn hear<T: Transport, A: Application>(
     };
     connection.count_piece(piece);
     connection.give(answer.bytes.as_slice(), answer.closed);
-    tell(canvas, viewer, answer.inputs.as_slice(), application)
+    tell(
+        canvas,
+        viewer,
+        answer.inputs.as_slice(),
+        full_requests,
+        application,
+    )
 }
 
-/// Tells the application a viewer's inputs, in order.
+/// Tells the application a viewer's inputs, in order, and whether there are more full requests of it now than there were.
 fn tell<A: Application>(
     canvas: &mut Canvas,
     viewer: u64,
     inputs: &[Input],
+    full_requests: u64,
     application: &mut A,
 ) -> Result<(), ScreenError>
     ensures draws { Draws canvas.old canvas.new }
 {
     for input in inputs {
         application.on_input(canvas, viewer, input)?;
+    }
+    if canvas.full_requests(viewer) > full_requests {
+        application.asked(canvas, viewer)?;
     }
     Ok(())
 }

@@ -38,6 +38,7 @@ with_colour_map s = record {
   red_shift = 0;
   green_shift = 0;
   blue_shift = 0;
+  full_requests = s.full_requests;
 }
 
 -- by what a pixel is

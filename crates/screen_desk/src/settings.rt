@@ -41,6 +41,9 @@ pub struct ViewerSettings {
     pub green_shift: u32,
     /// Of a colour: how many bits stand below its blue.
     pub blue_shift: u32,
+    /// How many of its FramebufferUpdateRequests were not incremental (7.5.3), so that they want places whether these changed or not; at
+    /// most 2^64 - 1.
+    pub full_requests: u64,
 }
 
 /// An encoding's number (RFC 6143, 7.7).
@@ -89,6 +92,7 @@ pub fn settings_as(settings: &Settings) -> ViewerSettings
         red_shift: 0,
         green_shift: 0,
         blue_shift: 0,
+        full_requests: settings.full_requests,
     };
     match pixels {
         Pixels::ColourMap => with_colour_map,

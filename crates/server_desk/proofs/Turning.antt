@@ -63,7 +63,7 @@ listens-err {X = X} result e None is h = of-system e (subst (λ (r : Result X Li
 listens-err result e (Some r) is h = let same : e ≡ Refused r = cc in ap listen_code same
 
 -- it listens
-pub listens : {X : Type 0} (result : Result X ListenError) (x : X) (c : Config) (desk new : Standing) (s : Serving) (port : ℕ) → new ≡ record { served = Some s; port = port; inputs = []; visits = []; text = []; lost = 0 }
+pub listens : {X : Type 0} (result : Result X ListenError) (x : X) (c : Config) (desk new : Standing) (s : Serving) (port : ℕ) → new ≡ record { served = Some s; port = port; inputs = []; visits = []; text = []; lost = 0; full_requests = 0 }
     → Serves c (sockets c) [] s → result ≡ Ok x → IsRefusedBy (config_refusal c) result → Listens c desk new done
 listens result x c desk new s port so serves is h = rw so (record {
   answer = listens-ok result x (config_refusal c) is h;
@@ -72,6 +72,7 @@ listens result x c desk new s port so serves is h = rw so (record {
   visits = λ is_done. refl;
   text = λ is_done. refl;
   lost = λ is_done. refl;
+  full_requests = λ is_done. refl;
   refused = λ not_done. absurd (not_done refl);
 })
 
@@ -84,6 +85,7 @@ listens-not result e c desk code code_is is h = rw code_is (record {
   visits = λ is_done. absurd (never-listens e is_done);
   text = λ is_done. absurd (never-listens e is_done);
   lost = λ is_done. absurd (never-listens e is_done);
+  full_requests = λ is_done. absurd (never-listens e is_done);
   refused = λ not_done. refl;
 })
 
@@ -97,30 +99,32 @@ nothing (suc k) = refl
 puts-none : {X : Type 0} (most : ℕ) (old new : List X) → new ≡ old → IsPutBehind most old new
 puts-none most old new same = ([], same ∙ (sym (append-nil old) ∙ ap (λ l. old ++ l) (sym (nothing (most - length old)))))
 
-pub turns : (desk : Standing) (before : Option Serving) (s t : Serving) (answer : Result (Unit {0}) LoopError) (code : ℤ) (port : ℕ) (inputs inputs_kept inputs_put : List (ℕ × Input)) (visits visits_kept visits_put : List Visit) (text : List ℕ) (lost lost_now : ℕ)
-    → record { served = before; port = port; inputs = inputs; visits = visits; text = text; lost = lost } ≡ desk → before ≡ Some s → code ≡ turn_code answer → GoesOnServing s t
-    → inputs_kept ≡ inputs → visits_kept ≡ visits → IsPutBehind 4096 inputs_kept inputs_put → IsPutBehind 1024 visits_kept visits_put → lost ≤ lost_now
-    → TakesTurn desk (record { served = Some t; port = port; inputs = inputs_put; visits = visits_put; text = text; lost = lost_now }) code
-turns desk before s t answer code port inputs inputs_kept inputs_put visits visits_kept visits_put text lost lost_now view is code_is goes inputs_are visits_are inputs_come visits_come more =
+pub turns : (desk : Standing) (before : Option Serving) (s t : Serving) (answer : Result (Unit {0}) LoopError) (code : ℤ) (port : ℕ) (inputs inputs_kept inputs_put : List (ℕ × Input)) (visits visits_kept visits_put : List Visit) (text : List ℕ) (lost lost_now full full_now : ℕ)
+    → record { served = before; port = port; inputs = inputs; visits = visits; text = text; lost = lost; full_requests = full } ≡ desk → before ≡ Some s → code ≡ turn_code answer → GoesOnServing s t
+    → inputs_kept ≡ inputs → visits_kept ≡ visits → IsPutBehind 4096 inputs_kept inputs_put → IsPutBehind 1024 visits_kept visits_put → lost ≤ lost_now → full ≤ full_now
+    → TakesTurn desk (record { served = Some t; port = port; inputs = inputs_put; visits = visits_put; text = text; lost = lost_now; full_requests = full_now }) code
+turns desk before s t answer code port inputs inputs_kept inputs_put visits visits_kept visits_put text lost lost_now full full_now view is code_is goes inputs_are visits_are inputs_come visits_come more more_full =
     rw (sym view) (rw is (record {
       answer = (answer, code_is);
       served = λ c list stands. goes c list stands;
       inputs = subst (λ (l : List (ℕ × Input)). IsPutBehind 4096 l inputs_put) inputs_are inputs_come;
       visits = subst (λ (l : List Visit). IsPutBehind 1024 l visits_put) visits_are visits_come;
       lost = more;
+      full_requests = more_full;
       same = refl;
     }))
 
 -- memory is refused before it begins
-pub no-turn : (desk : Standing) (before : Option Serving) (s : Serving) (port : ℕ) (inputs inputs_kept : List (ℕ × Input)) (visits visits_kept : List Visit) (text : List ℕ) (lost : ℕ) (code : ℤ)
-    → record { served = before; port = port; inputs = inputs; visits = visits; text = text; lost = lost } ≡ desk → before ≡ Some s → code ≡ out_of_memory → inputs_kept ≡ inputs → visits_kept ≡ visits
-    → TakesTurn desk (record { served = Some s; port = port; inputs = inputs_kept; visits = visits_kept; text = text; lost = lost }) code
-no-turn desk before s port inputs inputs_kept visits visits_kept text lost code view is code_is inputs_are visits_are =
+pub no-turn : (desk : Standing) (before : Option Serving) (s : Serving) (port : ℕ) (inputs inputs_kept : List (ℕ × Input)) (visits visits_kept : List Visit) (text : List ℕ) (lost full : ℕ) (code : ℤ)
+    → record { served = before; port = port; inputs = inputs; visits = visits; text = text; lost = lost; full_requests = full } ≡ desk → before ≡ Some s → code ≡ out_of_memory → inputs_kept ≡ inputs → visits_kept ≡ visits
+    → TakesTurn desk (record { served = Some s; port = port; inputs = inputs_kept; visits = visits_kept; text = text; lost = lost; full_requests = full }) code
+no-turn desk before s port inputs inputs_kept visits visits_kept text lost full code view is code_is inputs_are visits_are =
     rw (sym view) (rw is (rw code_is (record {
       answer = (Err (Screen OutOfMemory), refl);
       served = λ c list stands. ([], rw (append-nil list) stands);
       inputs = puts-none 4096 inputs inputs_kept inputs_are;
       visits = puts-none 1024 visits visits_kept visits_are;
       lost = omega arith;
+      full_requests = omega arith;
       same = refl;
     })))

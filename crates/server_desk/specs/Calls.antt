@@ -31,6 +31,7 @@ pub record Listens (c : Config) (old new : Standing) (code : ℤ) : Type 0 where
   pub visits : code ≡ done → new.visits ≡ []
   pub text : code ≡ done → new.text ≡ []
   pub lost : code ≡ done → new.lost ≡ 0
+  pub full_requests : code ≡ done → new.full_requests ≡ 0
   pub refused : code ≢ done → new ≡ old
 
 -- A turn: whatever list of events the screen stood for, it stands for it with others behind it, and by that list each viewer is served, also where the turn ended by an error. What waited to be fetched waits still, and what came waits behind it.
@@ -40,7 +41,8 @@ pub record TakesTurn (old new : Standing) (code : ℤ) : Type 0 where
   pub inputs : IsPutBehind 4096 old.inputs new.inputs
   pub visits : IsPutBehind 1024 old.visits new.visits
   pub lost : old.lost ≤ new.lost
-  pub same : new ≡ record old { served = new.served; inputs = new.inputs; visits = new.visits; lost = new.lost }
+  pub full_requests : old.full_requests ≤ new.full_requests
+  pub same : new ≡ record old { served = new.served; inputs = new.inputs; visits = new.visits; lost = new.lost; full_requests = new.full_requests }
 
 -- a call draws: where it is done its event comes behind the others, and else nothing is drawn; what waits to be fetched stays
 pub record Draws (e : Event) (old new : Standing) (code : ℤ) : Type 0 where

@@ -13,7 +13,7 @@ use Rattle.screen_desk.specs.Codes.{shut}
 use Rattle.screen_desk.specs.Desk.{due_by, far_or_none}
 use Rattle.server_desk.specs.declared.visits.Visit.{Visit}
 
--- the screen and its viewers' connections, unless the desk is shut; the port; what came and wasn't fetched, the inputs with their viewers' numbers; the text that was fetched last; and how much was lost
+-- the screen and its viewers' connections, unless the desk is shut; the port; what came and wasn't fetched, the inputs with their viewers' numbers; the text that was fetched last; how much was lost; and how many full requests were told
 pub record Standing : Type 0 where
   pub served : Option Serving
   pub port : ℕ
@@ -21,13 +21,14 @@ pub record Standing : Type 0 where
   pub visits : List Visit
   pub text : List ℕ
   pub lost : ℕ
+  pub full_requests : ℕ
 
 -- how many copies, and how many rectangles of pixels, an update has at most
 abbrev pub rects_per_update : ℕ
 rects_per_update = 1000
 
 abbrev pub nothing_there : Standing
-nothing_there = record { served = None; port = 0; inputs = []; visits = []; text = []; lost = 0 }
+nothing_there = record { served = None; port = 0; inputs = []; visits = []; text = []; lost = 0; full_requests = 0 }
 
 -- the screen stands for a list of events, and by that list each viewer is served
 abbrev pub IsServedBy : Config → List Event → Option Serving → Type 0

@@ -52,6 +52,7 @@ pub struct ServerDesk {
     // how many bytes of texts may come before they are too many
     text_room: usize,
     lost: u64,
+    full_requests: u64,
 }
 
 // Written out, so that who holds one proves one call here, and not the drop of each field.
@@ -66,6 +67,7 @@ impl Drop for ServerDesk {
             text: _text,
             text_room: _text_room,
             lost: _lost,
+            full_requests: _full_requests,
         } = self;
     }
 }
@@ -75,7 +77,7 @@ impl Model for ServerDesk {
 
     ghost Value = { Standing };
 
-    ghost view = { λ a. record { served = a.events; port = a.port; inputs = a.inputs.items; visits = a.visits.items; text = a.text; lost = a.lost } };
+    ghost view = { λ a. record { served = a.events; port = a.port; inputs = a.inputs.items; visits = a.visits.items; text = a.text; lost = a.lost; full_requests = a.full_requests } };
 }
 
 /// Makes room for as much as may wait.
@@ -120,6 +122,7 @@ impl ServerDesk {
             text: Listed::new(alloc),
             text_room: MOST_TEXT,
             lost: 0,
+            full_requests: 0,
         }
     }
 
@@ -152,13 +155,14 @@ impl ServerDesk {
 
     /// Nothing waits any more.
     fn clear(&mut self)
-        ensures { self.new ≡ record self.old { inputs = []; visits = []; text = []; lost = 0 } }
+        ensures { self.new ≡ record self.old { inputs = []; visits = []; text = []; lost = 0; full_requests = 0 } }
     {
         self.inputs = VecDeque::new(self.alloc);
         self.visits = VecDeque::new(self.alloc);
         self.text = Listed::new(self.alloc);
         self.text_room = MOST_TEXT;
         self.lost = 0;
+        self.full_requests = 0;
     }
 
     /// The server is gone: its port is free, and its viewers' connections are closed (`rfbShutdownServer` and `rfbScreenCleanup` of
@@ -188,6 +192,7 @@ impl ServerDesk {
         let mut came = Gathering::new(self.alloc, self.text_room);
         let answer = events.process_events(&SystemClock, timeout_of(milliseconds), &mut came);
         self.text_room = came.text_room;
+        self.full_requests = self.full_requests.saturating_add(came.full_requests);
         let lost = keep(&mut self.inputs, &mut self.visits, came);
         self.lost = self.lost.saturating_add(lost);
         turn_code(answer)
@@ -458,6 +463,18 @@ impl ServerDesk {
             return i64::from(SHUT);
         }
         self.lost.min(1 << 62) as i64
+    }
+
+    /// How often, since `listen`, a viewer was heard to ask for places whether these changed or not, by a request that isn't incremental
+    /// (RFC 6143, 7.5.3; `displayHook` of `rfb.h`): more than before where one did in the last turns. At most 2^62; `settings` tells of
+    /// each viewer how many.
+    pub fn full_requests(&mut self) -> i64
+        ensures { Tells (λ _. pos (min self.old.full_requests (2 ^ 62))) self.old self.new result }
+    {
+        if self.events.is_none() {
+            return i64::from(SHUT);
+        }
+        self.full_requests.min(1 << 62) as i64
     }
 
     /// What ends a wait of `process_events` from another thread. It is shut where the desk is, or the system refuses it; and once the desk

@@ -16,6 +16,8 @@ pub(crate) struct Gathering {
     /// How many bytes more may wait in texts.
     pub text_room: usize,
     pub lost: u64,
+    /// How often a viewer was heard to ask for places whether these changed or not.
+    pub full_requests: u64,
 }
 
 impl Gathering {
@@ -27,6 +29,7 @@ impl Gathering {
             visits: VecDeque::new(alloc),
             text_room,
             lost: 0,
+            full_requests: 0,
         }
     }
 
@@ -59,6 +62,11 @@ impl Application for Gathering {
     fn came(&mut self, _: &mut Canvas, viewer: u64) -> Result<(), ScreenError> {
         let kept = self.visits.push_back(coming_of(viewer));
         self.count_lost(kept.is_ok());
+        Ok(())
+    }
+
+    fn asked(&mut self, _: &mut Canvas, _: u64) -> Result<(), ScreenError> {
+        self.full_requests = self.full_requests.saturating_add(1);
         Ok(())
     }
 

@@ -81,11 +81,11 @@ fn admit<'a>(
 }
 
 /// So many turns, in which every transport may be ready each time.
-fn turns(
+fn turns<A: Application>(
     connections: &mut Connections<Line<'_>>,
     keys: &[usize],
     count: u32,
-    application: &mut Counting,
+    application: &mut A,
 ) -> Result<(), ScreenError> {
     for _ in 0..count {
         for key in keys {
@@ -311,6 +311,42 @@ fn what_is_drawn_between_turns_is_sent(rt: HostRuntime) {
 #[test]
 fn a_bell_leaves_a_request_open(rt: HostRuntime) {
     assert_eq!(rt; a_change_comes(rt.alloc(), true, BELL_AND_CHANGE), Ok(true));
+}
+
+/// Paints the screen in 00000b for who asks for all of it.
+#[derive(Drop)]
+struct Pulling;
+
+impl Application for Pulling {
+    fn on_input(&mut self, _: &mut Canvas, _: u64, _: &Input) -> Result<(), ScreenError> {
+        Ok(())
+    }
+
+    fn asked(&mut self, canvas: &mut Canvas, _viewer: u64) -> Result<(), ScreenError>
+        ensures draws { Draws canvas.old canvas.new }
+    {
+        canvas.paint(ALL, &[11; 12])
+    }
+}
+
+/// Who asks for the whole screen is sent what is drawn for it then.
+fn is_pulled(alloc: Global, connections: &mut Connections<Line<'_>>) -> Result<bool, ScreenError> {
+    let key = admit(connections, saying(alloc, OPENING_AND_REQUEST))?;
+    turns(connections, &[key], 3, &mut Pulling)?;
+    let (Some(departed), Ok(wanted)) = (connections.take_departed(), whole(alloc, 11)) else {
+        return Ok(false);
+    };
+    Ok(wanted.get(..WHOLE) == Some(departed.transport.taken.as_slice()))
+}
+
+fn what_is_drawn_is_sent(alloc: Global) -> Result<bool, ScreenError> {
+    let mut connections = painted(alloc, History::NotKept)?;
+    is_pulled(alloc, &mut connections)
+}
+
+#[test]
+fn what_is_drawn_for_who_asks_is_sent(rt: HostRuntime) {
+    assert_eq!(rt; what_is_drawn_is_sent(rt.alloc()), Ok(true));
 }
 
 /// An opening, and so many pointers (7.5.5).

@@ -375,6 +375,7 @@ const AS_OPENED: ViewerSettings = ViewerSettings {
     red_shift: 16,
     green_shift: 8,
     blue_shift: 0,
+    full_requests: 0,
 };
 
 /// What no viewer has set.
@@ -474,6 +475,24 @@ fn a_viewer_sets_its_encodings(rt: HostRuntime) -> Result<(), Fail> {
     assert!(rt; shows(&mut desk, 7, 1, rre));
     assert_eq!(rt; desk.hear(7, b"\x02\x00\x00\x00"), 0);
     assert!(rt; shows(&mut desk, 7, 1, AS_OPENED));
+    // a request of all, one of changes (7.5.3), and once more all
+    assert_eq!(rt;
+        desk.hear(7, b"\x03\x00\x00\x00\x00\x00\x00\x02\x00\x01"),
+        0
+    );
+    assert_eq!(rt;
+        desk.hear(7, b"\x03\x01\x00\x00\x00\x00\x00\x02\x00\x01"),
+        0
+    );
+    assert_eq!(rt;
+        desk.hear(7, b"\x03\x00\x00\x00\x00\x00\x00\x02\x00\x01"),
+        0
+    );
+    let asked = ViewerSettings {
+        full_requests: 2,
+        ..AS_OPENED
+    };
+    assert!(rt; shows(&mut desk, 7, 1, asked));
     Ok(())
 }
 

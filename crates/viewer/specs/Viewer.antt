@@ -1,5 +1,5 @@
 -- One viewer, and what drawing and its own messages do to it.
-use Rattle.std.specs.Prelude.{ℕ, ◌+◌, Bool, true, false, not, ◌&&◌, ◌||◌, if◌then◌else◌, nat_lt, min, List, [], ◌∷◌, ◌++◌, length, ℤ, pos, Option, None, Some, unwrap_or}
+use Rattle.std.specs.Prelude.{ℕ, ◌+◌, ◌-◌, ◌^◌, Bool, true, false, not, ◌&&◌, ◌||◌, if◌then◌else◌, nat_lt, min, List, [], ◌∷◌, ◌++◌, length, ℤ, pos, Option, None, Some, unwrap_or}
 use Rattle.region.specs.Region.{in_rect, on_screen}
 use Rattle.region.specs.Places.{some_place, cut_destination, same_offset}
 use Rattle.copy_schedule.specs.Marks.{Marks, has_asked, new_marks, marked, copied_by, requested, resized, without_copyrect}
@@ -30,6 +30,8 @@ pub record Viewer (Bytes : Type 0) : Type 0 where
   pub uses_copyrect : Bool
   -- it lists DesktopSize, so it can be told a new size
   pub takes_sizes : Bool
+  -- how many of its requests were not incremental, so that they want places whether these changed or not; at most 2^64 - 1
+  pub full_requests : ℕ
   -- the size that it was told last; none before its ServerInit
   pub told : Option Size
   pub marks : Marks
@@ -40,11 +42,11 @@ abbrev pub KeptViewer : Type 0
 KeptViewer = Viewer Rest
 
 abbrev pub kept_viewer : Viewer (List ℕ) → KeptViewer
-kept_viewer v = record { heard = rest v.heard; shared = v.shared; format = v.format; map_owed = v.map_owed; encoding = v.encoding; uses_copyrect = v.uses_copyrect; takes_sizes = v.takes_sizes; told = v.told; marks = v.marks; notices = v.notices }
+kept_viewer v = record { heard = rest v.heard; shared = v.shared; format = v.format; map_owed = v.map_owed; encoding = v.encoding; uses_copyrect = v.uses_copyrect; takes_sizes = v.takes_sizes; full_requests = v.full_requests; told = v.told; marks = v.marks; notices = v.notices }
 
 -- at connecting
 abbrev pub new_viewer : ℕ → ℕ → Viewer (List ℕ)
-new_viewer w h = record { heard = []; shared = false; format = server_format; map_owed = false; encoding = encoding.Raw; uses_copyrect = false; takes_sizes = false; told = None; marks = new_marks w h; notices = [] }
+new_viewer w h = record { heard = []; shared = false; format = server_format; map_owed = false; encoding = encoding.Raw; uses_copyrect = false; takes_sizes = false; full_requests = 0; told = None; marks = new_marks w h; notices = [] }
 
 -- the ServerInit is sent, and there is no fault
 abbrev pub is_open : Phase → End → Bool
@@ -56,7 +58,7 @@ is_open_viewer v = is_open (heard v.heard).phase (heard v.heard).end
 
 -- what it has set (RFC 6143, 7.3.1, 7.5.1 and 7.5.2)
 abbrev pub settings_of : {B : Type 0} → Viewer B → Settings
-settings_of v = record { shared = v.shared; format = v.format; encoding = v.encoding; uses_copyrect = v.uses_copyrect; takes_sizes = v.takes_sizes }
+settings_of v = record { shared = v.shared; format = v.format; encoding = v.encoding; uses_copyrect = v.uses_copyrect; takes_sizes = v.takes_sizes; full_requests = v.full_requests }
 
 -- it asked for places, and no update of places or of a size was cut for it since: a request of its is unanswered (RFC 6143, 7.5.3)
 abbrev pub is_asking : {B : Type 0} → Viewer B → Bool
@@ -108,6 +110,11 @@ viewer_resized w h v = record v { marks = resized w h (in_view w h v) v.marks }
 abbrev pub area_places : ℕ → ℕ → Area → ℤ → ℤ → Bool
 area_places w h a x y = in_rect (record { x1 = pos a.x; y1 = pos a.y; x2 = pos (a.x + a.w); y2 = pos (a.y + a.h) }) x y && on_screen w h x y
 
+-- one request more, which is counted where it isn't incremental
+abbrev pub with_request : Bool → ℕ → ℕ
+with_request true n = n
+with_request false n = min (n + 1) (2 ^ 64 - 1)
+
 -- RFC 6143, 7.5: what a viewer's message does on a w by h screen. Its ClientInit is answered with the screen's size.
 abbrev pub after_item : {B : Type 0} → ℕ → ℕ → Item → Viewer B → Viewer B
 after_item w h (item.Format f) v = record v { format = f; map_owed = is_colour_map f }
@@ -118,7 +125,7 @@ after_item w h (item.Encodings preferred copyrect resize) v = record v {
   marks = if copyrect then v.marks else without_copyrect v.marks;
 }
 after_item w h (item.Request incremental area) v =
-    record v { marks = requested (area_places (view_of w h v).width (view_of w h v).height area) incremental v.marks }
+    record v { full_requests = with_request incremental v.full_requests; marks = requested (area_places (view_of w h v).width (view_of w h v).height area) incremental v.marks }
 after_item w h (item.Version version) v = v
 after_item w h item.Choice v = v
 after_item w h (item.Init shared) v = record v { shared = shared; told = Some (record { width = w; height = h }) }

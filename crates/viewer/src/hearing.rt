@@ -8,7 +8,7 @@ ghost use Rattle.region.specs.Region.{in_rect};
 ghost use Rattle.region.specs.Places.{longest_side};
 ghost use Rattle.copy_schedule.specs.Marks.{pending, requested, without_copyrect};
 ghost use Rattle.viewer.specs.Hearing.{input_of, after_items, heard_reply};
-ghost use Rattle.viewer.specs.Viewer.{KeptViewer, none_wait, after_item, new_viewer, kept_viewer};
+ghost use Rattle.viewer.specs.Viewer.{KeptViewer, none_wait, with_request, after_item, new_viewer, kept_viewer};
 ghost use Rattle.viewer.specs.Sending.{is_size_owed, tells_size};
 ghost use Rattle.copy_schedule.specs.Log.{logged, IsCutEntry};
 ghost use Rattle.viewer.specs.ViewerStates.{viewer_in, viewer_by};
@@ -101,6 +101,7 @@ fn draft_of(alloc: Global, state: &ViewerState, log: &[LogEntry]) -> Result<Draf
         encoding: state.encoding,
         uses_copyrect: state.uses_copyrect,
         takes_sizes: state.takes_sizes,
+        full_requests: state.full_requests,
         told: state.told,
         marks: marks_after(alloc, state, log)?,
     })
@@ -144,6 +145,17 @@ fn take_encodings(
     Ok(())
 }
 
+/// How many requests were not incremental, with one request more.
+fn with_request(incremental: bool, full_requests: u64) -> u64
+    ensures { result ≡ with_request incremental full_requests }
+{
+    if incremental {
+        full_requests
+    } else {
+        full_requests.saturating_add(1)
+    }
+}
+
 /// The viewer's FramebufferUpdateRequest (RFC 6143, 7.5.3).
 fn take_request(
     draft: &mut Draft,
@@ -153,11 +165,13 @@ fn take_request(
 ) -> Result<(), AllocError>
     ensures { OnOk result (viewer_by state.now draft.new ≡
         record (viewer_by state.now draft.old) {
+          full_requests = with_request incremental draft.old.full_requests;
           marks = requested (in_rect rect) incremental (marks_put state.now.marks draft.old.marks);
         }) }
 {
     let mut marks = marks_to_change(state, draft.marks.take())?;
     marks.request(rect, incremental)?;
+    draft.full_requests = with_request(incremental, draft.full_requests);
     draft.marks = Some(marks);
     Ok(())
 }
@@ -232,6 +246,7 @@ pub fn new_state(alloc: Global, width: u32, height: u32) -> Result<ViewerState, 
         encoding: Encoding::Raw,
         uses_copyrect: false,
         takes_sizes: false,
+        full_requests: 0,
         told: None,
         marks: Marks::new(alloc, width, height),
         notices: Notices::new(alloc)?,
@@ -263,6 +278,7 @@ fn put_draft(state: &mut ViewerState, draft: Draft)
     state.encoding = draft.encoding;
     state.uses_copyrect = draft.uses_copyrect;
     state.takes_sizes = draft.takes_sizes;
+    state.full_requests = draft.full_requests;
     state.told = draft.told;
     put_marks(state, draft.marks);
 }
@@ -310,7 +326,9 @@ fn take_request_in_place(
     ensures err { OnErr result (state.new ≡ state.old) }
 {
     let view = view_by(screen_of(state), state.told);
-    state.marks.request(clipped(view, area), incremental)
+    state.marks.request(clipped(view, area), incremental)?;
+    state.full_requests = with_request(incremental, state.full_requests);
+    Ok(())
 }
 
 /// What was heard is taken by a viewer, once its marks know the drawing of a log. After an `AllocError` it is as it was. Inputs

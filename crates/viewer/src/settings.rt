@@ -21,6 +21,9 @@ pub struct Settings {
     pub uses_copyrect: bool,
     /// Its SetEncodings lists DesktopSize (7.8.2).
     pub takes_sizes: bool,
+    /// How many of its FramebufferUpdateRequests were not incremental (7.5.3), so that they want places whether these changed or not;
+    /// at most 2^64 - 1.
+    pub full_requests: u64,
 }
 
 /// What a viewer has set.
@@ -33,5 +36,6 @@ pub(crate) fn settings_in(state: &ViewerState) -> Settings
         encoding: state.encoding,
         uses_copyrect: state.uses_copyrect,
         takes_sizes: state.takes_sizes,
+        full_requests: state.full_requests,
     }
 }

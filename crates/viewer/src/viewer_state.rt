@@ -23,6 +23,8 @@ pub struct ViewerState {
     pub uses_copyrect: bool,
     /// It lists DesktopSize (RFC 6143, 7.8.2).
     pub takes_sizes: bool,
+    /// How many of its requests were not incremental (RFC 6143, 7.5.3).
+    pub full_requests: u64,
     /// The size that it was told last; None before its ServerInit (RFC 6143, 7.3.2).
     pub told: Option<Size>,
     pub marks: Marks,
@@ -47,6 +49,7 @@ pub struct Draft {
     pub encoding: Encoding,
     pub uses_copyrect: bool,
     pub takes_sizes: bool,
+    pub full_requests: u64,
     pub told: Option<Size>,
     pub marks: Option<Marks>,
 }

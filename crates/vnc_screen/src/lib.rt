@@ -39,7 +39,7 @@ pub struct UpdatePlace {
 /// The number of this interface: `VNC_SCREEN_ABI` of the header.
 #[unsafe(no_mangle)]
 pub extern "C" fn vnc_screen_abi() -> u32 {
-    3
+    4
 }
 
 /// How many bytes of memory C has to give for a screen; their address is a multiple of 16.

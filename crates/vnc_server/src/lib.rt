@@ -40,7 +40,7 @@ pub struct WakerPlace {
 /// The number of this interface: `VNC_SERVER_ABI` of the header.
 #[unsafe(no_mangle)]
 pub extern "C" fn vnc_server_abi() -> u32 {
-    3
+    4
 }
 
 /// How many bytes of memory C has to give for a server; their address is a multiple of 16.
@@ -372,6 +372,16 @@ pub unsafe extern "C" fn vnc_server_lost(at: *mut Place) -> i64
     ensures* { sem 𝓛 (leaves at (λ after. Tells (λ _. pos (min before.lost (2 ^ 62))) before after result)) }
 {
     ServerDesk::lost(&mut *(at as *mut ServerDesk))
+}
+
+/// `ServerDesk::full_requests`.
+#[unsafe(no_mangle)]
+pub unsafe extern "C" fn vnc_server_full_requests(at: *mut Place) -> i64
+    ghost before: { desk_row.Denot }
+    requires* { sem 𝓛 (holds at before) }
+    ensures* { sem 𝓛 (leaves at (λ after. Tells (λ _. pos (min before.full_requests (2 ^ 62))) before after result)) }
+{
+    ServerDesk::full_requests(&mut *(at as *mut ServerDesk))
 }
 
 /// `ServerDesk::port`.

@@ -37,6 +37,7 @@ pub const NO_SETTINGS: ViewerSettings = ViewerSettings {
     red_shift: 99,
     green_shift: 99,
     blue_shift: 99,
+    full_requests: 99,
 };
 
 type Bytes = &'static [u8];
@@ -66,6 +67,7 @@ pub enum Call {
     Port,
     ViewerCount,
     Lost,
+    FullRequests,
     Width,
     Height,
     Colour(u32, u32),
@@ -136,6 +138,7 @@ fn code(desk: &mut ServerDesk, call: Call) -> i32 {
 pub fn answer(desk: &mut ServerDesk, call: Call) -> i64 {
     match call {
         Call::Lost => desk.lost(),
+        Call::FullRequests => desk.full_requests(),
         Call::Width => desk.width(),
         Call::Height => desk.height(),
         Call::Colour(x, y) => desk.colour(x, y),

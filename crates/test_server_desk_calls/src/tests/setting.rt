@@ -1,10 +1,11 @@
 // What viewers have set, as it is shown.
 
-use crate::tests::calls::Call::{CloseViewer, Settings, SettingsNowhere};
+use crate::tests::calls::Call::{CloseViewer, FullRequests, Settings, SettingsNowhere};
 use crate::tests::calls::NO_SETTINGS;
 use crate::tests::steps::Step::{Answers, Comes, First, Goes, Second, Shows};
 use crate::tests::steps::{Example, LISTENS, first_wrong_of};
-use crate::tests::viewers::Act::{Connects, Ends, IsHeard, Opens, Reads, Says, Skips};
+use crate::tests::viewers::Act::{Connects, Ends, IsHeard, Opens, Reads, Says, SeesAll, Skips};
+use crate::tests::viewers::CHANGES;
 use server_desk::ViewerSettings;
 use std::test::Fail;
 
@@ -30,6 +31,7 @@ const AS_OPENED: ViewerSettings = ViewerSettings {
     red_shift: 16,
     green_shift: 8,
     blue_shift: 0,
+    full_requests: 0,
 };
 
 const UNSHARED: ViewerSettings = ViewerSettings {
@@ -86,7 +88,18 @@ const RRE: ViewerSettings = ViewerSettings {
     ..AS_OPENED
 };
 
-static EXAMPLES: [Example; 3] = [
+// It asked for all (7.5.3) once, or twice.
+const ASKED_ONCE: ViewerSettings = ViewerSettings {
+    full_requests: 1,
+    ..AS_OPENED
+};
+
+const ASKED_TWICE: ViewerSettings = ViewerSettings {
+    full_requests: 2,
+    ..AS_OPENED
+};
+
+static EXAMPLES: [Example; 4] = [
     // The ServerInit (7.3.2) that answers the ClientInit has 28 bytes.
     (
         "a viewer shares from its ClientInit (7.3.1) on, if that says so",
@@ -144,6 +157,27 @@ static EXAMPLES: [Example; 3] = [
             Comes(1),
             Goes(1, 6, 0),
             Shows(1, -7, NO_SETTINGS),
+        ],
+    ),
+    (
+        "requests that are not incremental (7.5.3) are counted, those of a viewer and those of all, and others are not",
+        &[
+            Answers(FullRequests, -32),
+            LISTENS,
+            Answers(FullRequests, 0),
+            First(Opens),
+            Second(Opens),
+            Answers(FullRequests, 0),
+            First(SeesAll),
+            Answers(FullRequests, 1),
+            First(Says(CHANGES)),
+            First(IsHeard),
+            Answers(FullRequests, 1),
+            Second(SeesAll),
+            First(SeesAll),
+            Answers(FullRequests, 3),
+            Shows(1, 1, ASKED_TWICE),
+            Shows(2, 1, ASKED_ONCE),
         ],
     ),
 ];
