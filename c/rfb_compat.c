@@ -1,8 +1,9 @@
 /* rfb_compat.c: the server of rfb_compat.h, over vnc_server.h.
  *
  * The library has a picture of its own. A mark is kept as a rectangle, and the next turn takes what stands there then out of frameBuffer
- * into the picture. A copy first takes what is marked, then moves frameBuffer and the picture alike, and marks where it came to: so what
- * was drawn and not marked is put right there. Nothing is taken while nobody watches; for a viewer that comes, all is. */
+ * into the picture. A copy first takes what is marked, then moves frameBuffer and the picture alike. Where it can't, as marks are left, or
+ * there are several rectangles, it marks where the copy came to. Nothing is taken while nobody watches. For a viewer that comes, or asks for
+ * places whether these changed or not, all is taken: also what was drawn and never marked. */
 #define _POSIX_C_SOURCE 200809L
 #include "rfb_compat.h"
 #include "vnc_server.h"
@@ -23,6 +24,7 @@ struct rfbCompat {
     sraRect marked[MOST_MARKS];
     int marks;
     uint64_t last;      /* the number of the viewer that came last */
+    int64_t asked;      /* how often viewers asked for all */
 };
 
 static void lock(rfbScreenInfoPtr s) { pthread_mutex_lock(&s->compat->lock); }
@@ -101,6 +103,8 @@ void rfbMarkRegionAsModified(rfbScreenInfoPtr s, sraRegionPtr r)
 
 /* ---- copies ---- */
 
+static sraRect rect_of(int x1, int y1, int x2, int y2) { const sraRect r = {x1, y1, x2, y2}; return r; }
+
 /* What of a rectangle lies on the screen, and comes from there. */
 static sraRect copied(rfbScreenInfoPtr s, sraRect r, int dx, int dy)
 {
@@ -113,7 +117,12 @@ static sraRect copied(rfbScreenInfoPtr s, sraRect r, int dx, int dy)
 static void copy_pixels(rfbScreenInfoPtr s, const sraRect *to, size_t count, int dx, int dy)
 {
     const ptrdiff_t bytes = s->serverFormat.bitsPerPixel / 8, pitch = s->paddedWidthInBytes;
+    const sraRect one = copied(s, count == 1 ? *to : rect_of(0, 0, 0, 0), dx, dy);
     char row[4 * MOST_COLUMNS];
+    if (one.x2 - one.x1 == s->width && pitch == s->width * bytes) { /* whole rows */
+        memmove(s->frameBuffer + one.y1 * pitch, s->frameBuffer + (one.y1 - dy) * pitch, (size_t)((one.y2 - one.y1) * pitch));
+        return;
+    }
     for (int i = larger(dy, 0); i < s->height + smaller(dy, 0); i++) {
         const int y = dy > 0 ? s->height - 1 - i + dy : i;
         const char *there = s->frameBuffer + (y - dy) * pitch, *from = count > 1 ? (char *)memcpy(row, there, (size_t)(s->width * bytes)) : there;
@@ -130,16 +139,15 @@ static void copy(rfbScreenInfoPtr s, const sraRect *to, size_t count, int dx, in
     lock(s);
     if (!isMoved) take_marks(s);
     if (!isMoved) copy_pixels(s, to, count, dx, dy);
-    for (size_t k = 0; k < count; k++) {
+    for (size_t k = 0, stale = count > 1 || s->compat->marks > 0; k < count; k++) {
         const sraRect r = copied(s, to[k], dx, dy);
-        if (s->clientHead && s->compat->server) vnc_server_do_copy_rect(s->compat->server, r.x1, r.y1, r.x2, r.y2, dx, dy);
-        mark(s, r.x1, r.y1, r.x2, r.y2);
+        const int32_t code = s->clientHead && s->compat->server ? vnc_server_do_copy_rect(s->compat->server, r.x1, r.y1, r.x2, r.y2, dx, dy) : 0;
+        if (stale || code < 0) mark(s, r.x1, r.y1, r.x2, r.y2);
     }
     unlock(s);
 }
 
 static void copy_one(rfbScreenInfoPtr s, sraRect to, int dx, int dy, rfbBool isMoved) { copy(s, &to, 1, dx, dy, isMoved); }
-static sraRect rect_of(int x1, int y1, int x2, int y2) { const sraRect r = {x1, y1, x2, y2}; return r; }
 void rfbDoCopyRegion(rfbScreenInfoPtr s, sraRegionPtr r, int dx, int dy) { copy(s, r->at, r->count, dx, dy, FALSE); }
 void rfbScheduleCopyRegion(rfbScreenInfoPtr s, sraRegionPtr r, int dx, int dy) { copy(s, r->at, r->count, dx, dy, TRUE); }
 void rfbDoCopyRect(rfbScreenInfoPtr s, int x1, int y1, int x2, int y2, int dx, int dy) { copy_one(s, rect_of(x1, y1, x2, y2), dx, dy, FALSE); }
@@ -199,6 +207,17 @@ static void close_some(rfbScreenInfoPtr s)
     while (vnc_server_viewer_count(s->compat->server) > known && let_go(s, s->compat->last + 1)) s->compat->last++;
 }
 
+/* A viewer that is open now, as it asks for all, and doesn't share, stays alone: the others are closed, or where dontDisconnect is set, it is. */
+static void share(rfbScreenInfoPtr s, rfbClientPtr cl)
+{
+    vnc_settings set;
+    if (cl->isOpen || vnc_server_settings(s->compat->server, cl->number, &set, 1) != 1 || set.full_requests == 0) return;
+    cl->isOpen = TRUE;
+    if (!s->neverShared && (s->alwaysShared || set.shared)) return;
+    for (rfbClientPtr other = s->clientHead; other; other = other->next)
+        if (other != cl && other->isOpen && !other->isClosing && !other->isGone) (s->dontDisconnect ? cl : other)->isClosing = TRUE;
+}
+
 /* An input goes to the program's hook. While a client holds a button down, the pointer is its alone. */
 static void tell(rfbScreenInfoPtr s, const vnc_input *in)
 {
@@ -246,6 +265,7 @@ static void serve(rfbScreenInfoPtr s)
     vnc_server *server = s->compat->server;
     vnc_visit visit;
     vnc_input in;
+    int64_t asked;
     int32_t code;
     take_marks(s);
     close_some(s);
@@ -256,6 +276,10 @@ static void serve(rfbScreenInfoPtr s)
         if (visit.kind == VNC_CAME) come(s, visit.viewer);
         else if (cl) cl->isGone = TRUE;
     }
+    asked = vnc_server_full_requests(server);
+    for (rfbClientPtr cl = asked > s->compat->asked ? s->clientHead : NULL; cl; cl = cl->next) share(s, cl);
+    if (asked > s->compat->asked) mark(s, 0, 0, s->width, s->height);
+    s->compat->asked = asked;
     while (vnc_server_inputs(server, &in, 1) > 0) tell(s, &in);
 }
 

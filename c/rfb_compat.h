@@ -98,7 +98,7 @@ typedef struct _rfbScreenInfo {
     in_addr_t listenInterface;      /* all of the machine's, unless it is set before rfbInitServer */
     enum rfbSocketState socketState;
     int deferUpdateTime;            /* in milliseconds, 5 at first */
-    rfbBool alwaysShared;           /* not read: all share, whatever a viewer asks */
+    rfbBool alwaysShared, neverShared, dontDisconnect; /* who doesn't share has the others closed as it asks for all first, or is closed */
     struct _rfbClientRec *clientHead, *pointerClient;
     char *frameBuffer;              /* the program's */
     rfbKbdAddEventProcPtr kbdAddEvent;
@@ -123,7 +123,7 @@ typedef struct _rfbClientRec {
     rfbBool viewOnly; /* its inputs go to no hook */
     struct _rfbClientRec *next;
     uint64_t number;           /* the server's number of it */
-    rfbBool isClosing, isLetGo, isGone; /* not the program's, nor is what follows */
+    rfbBool isOpen, isClosing, isLetGo, isGone; /* not the program's, nor is what follows */
     char address[48];
 } rfbClientRec;
 

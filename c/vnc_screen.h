@@ -33,7 +33,7 @@ extern "C" {
 #endif
 
 /* Grows with each change that a program made before it can see; vnc_screen_abi() is the library's. */
-#define VNC_SCREEN_ABI 3
+#define VNC_SCREEN_ABI 4
 
 typedef struct vnc_screen vnc_screen;
 

@@ -34,7 +34,7 @@ extern "C" {
 #endif
 
 /* Grows with each change that a program made before it can see; vnc_server_abi() is the library's. */
-#define VNC_SERVER_ABI 3
+#define VNC_SERVER_ABI 4
 
 typedef struct vnc_server vnc_server;
 
@@ -137,6 +137,11 @@ int32_t vnc_server_viewer_address(vnc_server *server, uint64_t viewer, uint8_t *
  * VNC_NO_VIEWER where none has the number. It has them from its coming on, and a turn may change them. (Of rfbClientRec its format,
  * preferredEncoding, useCopyRect and useNewFBSize, and the shared flag of its ClientInit.) */
 int32_t vnc_server_settings(vnc_server *server, uint64_t viewer, vnc_settings *room, size_t count);
+
+/* How often, since vnc_server_listen, viewers asked for places whether these changed or not, by requests that aren't incremental (RFC 6143,
+ * 7.5.3): more than before a turn where one did in it. A program that draws without saying so takes its pixels in then (displayHook);
+ * vnc_server_settings has how many a viewer made. */
+int64_t vnc_server_full_requests(vnc_server *server);
 
 /* How many inputs, comings and goings were lost since vnc_server_listen. */
 int64_t vnc_server_lost(vnc_server *server);

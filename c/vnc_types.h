@@ -73,6 +73,7 @@ typedef struct vnc_settings {
     uint32_t red_shift;      /* of a colour: how many bits stand below its red */
     uint32_t green_shift;    /* of a colour: how many bits stand below its green */
     uint32_t blue_shift;     /* of a colour: how many bits stand below its blue */
+    uint64_t full_requests;  /* how many of its requests were not incremental (7.5.3): they want places whether these changed or not */
 } vnc_settings;
 
 #endif

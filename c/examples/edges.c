@@ -7,18 +7,19 @@
 
 static const uint8_t opening[] = "RFB 003.008\n\x01\x01";
 
-/* What viewers set: a format (7.5.1) of 16 bits, one with a colour map, encodings (7.5.2), and the shared flag (7.3.1). */
+/* What viewers set: a format (7.5.1) of 16 bits, one with a colour map, encodings (7.5.2), and the shared flag (7.3.1); and a request of
+ * all that they made. */
 static int settings(void)
 {
-    static const vnc_settings opened = {1, 0, 0, 0, 32, 24, 0, 1, 255, 255, 255, 16, 8, 0}, unshared = {0, 0, 0, 0, 32, 24, 0, 1, 255, 255, 255, 16, 8, 0};
-    static const vnc_settings sixteen = {1, 0, 0, 0, 16, 15, 1, 1, 31, 63, 30, 11, 5, 1}, mapped = {1, 5, 1, 1, 8, 6, 0, 0, 0, 0, 0, 0, 0, 0};
+    static const vnc_settings opened = {1, 0, 0, 0, 32, 24, 0, 1, 255, 255, 255, 16, 8, 0, 0}, unshared = {0, 0, 0, 0, 32, 24, 0, 1, 255, 255, 255, 16, 8, 0, 0};
+    static const vnc_settings sixteen = {1, 0, 0, 0, 16, 15, 1, 1, 31, 63, 30, 11, 5, 1, 0}, mapped = {1, 5, 1, 1, 8, 6, 0, 0, 0, 0, 0, 0, 0, 0, 1};
     static const size_t size = sizeof(vnc_settings);
     vnc_settings room[2], before;
     vnc_screen *s = 0;
 
     memset(room, 0x55, sizeof room);
     before = room[0];
-    IS(size, 14 * 4);
+    IS(size, 14 * 4 + 8);
     IS(vnc_screen_new(2, 1, (const uint8_t *)"x", 1, 50, &s), 0);
     IS(vnc_screen_settings(s, 7, room, 2), VNC_NO_VIEWER);
     IS(vnc_screen_settings(s, 7, 0, 0), VNC_NO_VIEWER);
@@ -36,6 +37,8 @@ static int settings(void)
     IS(memcmp(room, &sixteen, size), 0);
     IS(vnc_screen_hear(s, 7, (const uint8_t *)"\0\0\0\0\x08\x06\0\0\0\x1f\0\x3f\0\x1f\x0b\x05\x01\0\0", 20), 0);
     IS(vnc_screen_hear(s, 7, (const uint8_t *)"\x02\0\0\x04\0\0\0\x01\0\0\0\x05\0\0\0\x02\xff\xff\xff\x21", 20), 0);
+    /* a request of all, and one of changes (7.5.3) */
+    IS(vnc_screen_hear(s, 7, (const uint8_t *)"\x03\0\0\0\0\0\0\x02\0\x01\x03\x01\0\0\0\0\0\x02\0\x01", 20), 0);
     IS(vnc_screen_settings(s, 7, room, 1), 1);
     IS(memcmp(room, &mapped, size), 0);
     IS(vnc_screen_shut(s), 0);

@@ -84,7 +84,7 @@ static void *wakes(void *waker)
 int main(void)
 {
     static const uint8_t update[24] = {0, 0, 0, 1, 0, 0, 0, 0, 0, 2, 0, 1, 0, 0, 0, 0, 0, 0, 0xff, 0};
-    static const vnc_settings opened = {1, 0, 0, 0, 32, 24, 0, 1, 255, 255, 255, 16, 8, 0}, hextile = {1, 5, 1, 1, 32, 24, 0, 1, 255, 255, 255, 16, 8, 0};
+    static const vnc_settings opened = {1, 0, 0, 0, 32, 24, 0, 1, 255, 255, 255, 16, 8, 0, 1}, hextile = {1, 5, 1, 1, 32, 24, 0, 1, 255, 255, 255, 16, 8, 0, 1};
     static uint32_t colours[4] = {0xff0000};
     vnc_server *s = (vnc_server *)malloc(vnc_server_size());
     vnc_waker *w = 0;
@@ -104,6 +104,7 @@ int main(void)
     IS(vnc_server_port(s), VNC_SHUT);
     IS(vnc_server_viewer_address(s, 1, room, 64), VNC_SHUT);
     IS(vnc_server_settings(s, 1, 0, 0), VNC_SHUT);
+    IS(vnc_server_full_requests(s), VNC_SHUT);
     IS(vnc_server_close(s), 0);
     IS(listens(s, "127.0.0.1", 0, 1), VNC_BAD_SIZE);
     IS(listens(s, "127.0.0.1", 8193, 1), VNC_BAD_SIZE);
@@ -137,8 +138,10 @@ int main(void)
     IS(fd < 0, 0);
     IS(says(s, fd, "RFB 003.008\n\x01\x01", 14, room, 43), 0);
     IS(memcmp(room, "RFB 003.008\n\x01\x01\0\0\0\0\0\x02\0\x01\x20\x18\0\x01\0\xff\0\xff\0\xff\x10\x08\0\0\0\0\0\0\0\x01x", 43), 0);
+    IS(vnc_server_full_requests(s), 0);
     IS(says(s, fd, "\x03\0\0\0\0\0\0\x02\0\x01", 10, room, 24), 0);
     IS(memcmp(room, update, 24), 0);
+    IS(vnc_server_full_requests(s), 1);
     IS(says(s, fd, "\x04\x01\0\0\0\0\0\x61\x05\x04\0\x01\0\x00", 14, room, 0), 0);
     IS(vnc_server_inputs(s, in, 1), 1);
     IS(in[0].viewer == 1 && in[0].kind == VNC_KEY && in[0].down == 1 && in[0].key == 0x61, 1);
@@ -157,7 +160,7 @@ int main(void)
     IS(vnc_server_viewer_address(s, 1, room, 3), 3);
     IS(vnc_server_viewer_address(s, 2, room, 64), VNC_NO_VIEWER);
 
-    /* what it set: the shared flag (7.3.1), and then CopyRect, Hextile and DesktopSize (7.5.2) */
+    /* what it set, and that it asked for all once: the shared flag (7.3.1), and then CopyRect, Hextile and DesktopSize (7.5.2) */
     memset(set, 0x55, sizeof set);
     before = set[0];
     IS(vnc_server_settings(s, 2, set, 2), VNC_NO_VIEWER);

@@ -9,7 +9,7 @@
 enum { W = 40, H = 30 };
 typedef struct { int fd; uint32_t seen[H][W]; int copies, bells; char text[16]; } viewer;
 
-static int keys, points, gone, refuses, strangers;
+static int keys, points, gone, refuses, strangers, shares = 1;
 static char said[16];
 static rfbClientPtr newest;
 
@@ -111,7 +111,8 @@ static int opens(rfbScreenInfoPtr s, viewer *v, int in_background)
     memset(v, 0, sizeof *v);
     memset(v->seen, 0xff, sizeof v->seen);
     v->fd = connects(s->port);
-    if (v->fd < 0 || says(v->fd, "RFB 003.008\n\x01\x01\x02\0\0\x02\0\0\0\x01\0\0\0\0\x03\0\0\0\0\0\0\x28\0\x1e", 36)) return -1;
+    if (v->fd < 0 || says(v->fd, "RFB 003.008\n\x01", 13) || says(v->fd, shares ? "\x01" : "\0", 1)) return -1;
+    if (says(v->fd, "\x02\0\0\x02\0\0\0\x01\0\0\0\0\x03\0\0\0\0\0\0\x28\0\x1e", 22)) return -1;
     s = in_background ? NULL : s;
     return reads(s, v->fd, room, 12 + 2 + 4 + 24) || reads(s, v->fd, room + 42, (size_t)room[41]);
 }
@@ -224,8 +225,12 @@ static int pictures(int bytes)
     IS(shows(s, &v, bytes, 0), 0);
     for (dy = -4; dy <= 4; dy += 4)
         for (dx = -7; dx <= 7; dx += 7) {
-            memset(s->frameBuffer + 6 * s->paddedWidthInBytes + 12 * bytes, dx + dy, 30); /* not marked */
+            rfbDoCopyRect(s, -3, 2, 35, 50, dy, dx);
+            rfbDoCopyRect(s, 0, 0, W, H, 0, dx + dy);
+            IS(shows(s, &v, bytes, 0), 0);
+            memset(s->frameBuffer + 6 * s->paddedWidthInBytes + 12 * bytes, dx + dy, 30); /* not marked: it is shown to who asks for all */
             rfbDoCopyRect(s, -5, 1, 33, 50, dx, dy);
+            IS(says(v.fd, "\x03\0\0\0\0\0\0\x28\0\x1e", 10), 0);
             IS(shows(s, &v, bytes, 0), 0);
             rfbDoCopyRegion(s, r, dx, dy);
             rfbMarkRegionAsModified(s, r);
@@ -280,11 +285,25 @@ static int clients(void)
     rfbCloseClient(newest);
     IS(turns(s, &gone, 3), 1);
     close(w.fd);
+    /* who doesn't share is let go where the others are to stay, shares where all do, and else has them closed */
+    for (shares = k = 0; k < 3; k++) {
+        s->dontDisconnect = k == 0 ? TRUE : FALSE;
+        s->alwaysShared = k == 1 ? TRUE : FALSE;
+        IS(opens(s, &w, 0), 0);
+        if (k) IS(shows(s, &w, 4, 0), 0);
+        if (k == 1) rfbCloseClient(newest);
+        IS(turns(s, &gone, 4 + k), 1);
+        if (k < 2) close(w.fd);
+    }
+    while (reads(s, v.fd, &byte, 1) == 0) {}
+    close(v.fd);
+    v = w;
+    shares = 1;
     rfbShutdownServer(s, FALSE);
     IS(rfbIsActive(s), TRUE);
     IS(shows(s, &v, 4, 0), 0);
     close(v.fd);
-    IS(turns(s, &gone, 4), 1);
+    IS(turns(s, &gone, 7), 1);
     IS(rfbIsActive(s), FALSE);
     IS(connects(s->port), -1);
     clean(s);
