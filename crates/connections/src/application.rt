@@ -25,9 +25,9 @@ pub trait Application {
         Ok(())
     }
 
-    /// A viewer asked for places whether these changed or not, by a request that isn't incremental (RFC 6143, 7.5.3; `displayHook` of
-    /// `rfb.h`). It is told so once for each piece of bytes in which it did, behind the inputs of that piece and before the answer is
-    /// cut: what is drawn now is in it.
+    /// A viewer asked for places whether these changed or not, by a request that isn't incremental (RFC 6143, 7.5.3;
+    /// `clientFramebufferUpdateRequestHook` of `rfb.h` is called for each request). It is told once for each piece of bytes in which
+    /// there is one, behind the inputs of that piece and before the answer is cut: what is drawn now is in it.
     fn asked(&mut self, _canvas: &mut Canvas, _viewer: u64) -> Result<(), ScreenError>
         ensures draws { Draws _canvas.old _canvas.new }
     {

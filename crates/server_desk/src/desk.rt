@@ -466,8 +466,8 @@ impl ServerDesk {
     }
 
     /// How often, since `listen`, a viewer was heard to ask for places whether these changed or not, by a request that isn't incremental
-    /// (RFC 6143, 7.5.3; `displayHook` of `rfb.h`): more than before where one did in the last turns. At most 2^62; `settings` tells of
-    /// each viewer how many.
+    /// (RFC 6143, 7.5.3; `clientFramebufferUpdateRequestHook` of `rfb.h` is called for each request): more than before where one did in
+    /// the last turns. At most 2^62. `settings` tells how many of a viewer's requests were such.
     pub fn full_requests(&mut self) -> i64
         ensures { Tells (λ _. pos (min self.old.full_requests (2 ^ 62))) self.old self.new result }
     {
