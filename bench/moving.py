@@ -16,7 +16,6 @@ import time
 HERE = os.path.dirname(os.path.abspath(__file__))
 PROGRAMS = (("LibVNCServer, loop", "moving_lvs"), ("`rfb_compat.h` over `vnc_server`", "moving_compat"))
 KINDS = (("all", "all places change"), ("places", "100 places change, all are marked"), ("scroll", "it moves up by 16 rows"))
-TICKS = os.sysconf("SC_CLK_TCK")
 next_port = 6040
 
 
@@ -70,9 +69,9 @@ def connected(port):
 
 
 def cpu(pid):
-    with open(f"/proc/{pid}/stat") as f:
-        words = f.read().rsplit(")", 1)[1].split()
-    return (int(words[11]) + int(words[12])) / TICKS
+    """seconds that the server's one thread ran, by the scheduler's clock: that of /proc/PID/stat counts in steps of 10 ms"""
+    with open(f"/proc/{pid}/schedstat") as f:
+        return int(f.read().split()[0]) / 1e9
 
 
 def peak(pid):

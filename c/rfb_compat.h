@@ -5,7 +5,7 @@
  * As there    The program draws in frameBuffer, in its own format, and marks what it changed. What stands there as the next turn begins,
  *             deferUpdateTime milliseconds later at most, is sent where it differs from what was there. Hooks run in the loop.
  * Refused     A screen that wants a password is never served: see rfbInitServer. A client that is put on hold is closed.
- * Not here    What docs/C_LIBRARY.md lists. A field that is not read says so; what is missing doesn't compile.
+ * Not here    What docs/EMBEDDING.md lists. A field that is not read says so; what is missing doesn't compile.
  * Threads     Each call takes the screen's lock, which is recursive. The loop has it but while it waits, and so do hooks: a hook must
  *             not wait for another thread that calls. One thread takes the turns. A rfbClientPtr lasts until its clientGoneHook has
  *             returned. frameBuffer is read with no lock of the program's.

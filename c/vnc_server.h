@@ -139,9 +139,8 @@ int32_t vnc_server_viewer_address(vnc_server *server, uint64_t viewer, uint8_t *
 int32_t vnc_server_settings(vnc_server *server, uint64_t viewer, vnc_settings *room, size_t count);
 
 /* How often, since vnc_server_listen, viewers asked for places whether these changed or not, by requests that aren't incremental (RFC 6143,
- * 7.5.3): more than before a turn where one did in it. A program that draws without saying so takes its pixels in then (compare
- * clientFramebufferUpdateRequestHook);
- * vnc_server_settings has how many a viewer made. */
+ * 7.5.3): more than before a turn where one did in it. A program that draws without saying so takes its pixels in then.
+ * vnc_server_settings has how many a viewer made. (clientFramebufferUpdateRequestHook, which is called for each request.) */
 int64_t vnc_server_full_requests(vnc_server *server);
 
 /* How many inputs, comings and goings were lost since vnc_server_listen. */
