@@ -11,7 +11,7 @@
 #include <pthread.h>
 #include <stdarg.h>
 
-enum { MOST_VIEWERS = 1000, MOST_COLUMNS = 8192, MOST_ROWS = 8192, MOST_MARKS = 32, LONGEST = 1000000 };
+enum { MOST_VIEWERS = 1000, MOST_COLUMNS = 8192, MOST_ROWS = 8192, MOST_MARKS = 32, LONGEST = 1000000, MANY = 1024, UNCOMPARED = 15 };
 
 struct rfbCompat {
     vnc_server *server; /* none before rfbInitServer, and once it has ended */
@@ -25,6 +25,8 @@ struct rfbCompat {
     int marks;
     uint64_t last;      /* the number of the viewer that came last */
     int64_t asked;      /* how often viewers asked for all */
+    sraRect dense;      /* what last differed nearly everywhere, and so many times more it isn't compared */
+    int uncompared;
 };
 
 static void lock(rfbScreenInfoPtr s) { pthread_mutex_lock(&s->compat->lock); }
@@ -53,18 +55,36 @@ static void fill_table(const rfbColourMap *map, uint32_t *table)
         table[k / 3] = table[k / 3] << 8 | (uint32_t)(map->is16 ? map->data.shorts[k] >> 8 : map->data.bytes[k]);
 }
 
-/* A rectangle that lies on the screen is taken: how many places changed, or a vnc_code. */
+/* Whether rows of frameBuffer, from `first` on, are colours as vnc_server_paint has them. */
+static rfbBool are_colours(rfbScreenInfoPtr s, sraRect r, const uint8_t *first)
+{
+    const rfbPixelFormat *f = &s->serverFormat;
+    const rfbBool isDirect = f->trueColour && !f->bigEndian && f->bitsPerPixel == 32 && f->redMax == 255 && f->greenMax == 255 && f->blueMax == 255;
+    const rfbBool isInPlace = f->redShift == 16 && f->greenShift == 8 && f->blueShift == 0 && (uintptr_t)first % sizeof(uint32_t) == 0;
+    return isDirect && isInPlace && r.x1 == 0 && r.x2 == s->width && s->paddedWidthInBytes == 4 * s->width ? TRUE : FALSE;
+}
+
+/* A rectangle that lies on the screen is taken: 0 or more, or a vnc_code. Where nearly all of one differed, it is painted the next times
+ * without being compared, as what moves goes on moving. */
 static int64_t take_rect(rfbScreenInfoPtr s, sraRect r)
 {
     const rfbPixelFormat *f = &s->serverFormat;
     const vnc_pixel_format format = {f->bitsPerPixel / 8u, f->bigEndian, f->redMax, f->greenMax, f->blueMax, f->redShift, f->greenShift, f->blueShift};
     const size_t bytes = f->bitsPerPixel / 8u, stride = (size_t)s->paddedWidthInBytes, width = (size_t)(r.x2 - r.x1), height = (size_t)(r.y2 - r.y1);
     const uint8_t *first = (const uint8_t *)s->frameBuffer + (size_t)r.y1 * stride + (size_t)r.x1 * bytes;
+    struct rfbCompat *c = s->compat;
     uint32_t table[256] = {0};
+    int64_t places;
     if (!f->trueColour && bytes != 1) return VNC_BAD_FORMAT;
     if (!f->trueColour) fill_table(&s->colourMap, table);
-    return vnc_server_take(s->compat->server, (uint32_t)r.x1, (uint32_t)r.y1, (uint32_t)width, (uint32_t)height, first, (height - 1) * stride + width * bytes,
-                           stride, f->trueColour ? &format : NULL, f->trueColour ? 1 : 0, table, f->trueColour ? 0 : 256);
+    if (c->uncompared > 0 && memcmp(&r, &c->dense, sizeof r) == 0 && are_colours(s, r, first)) {
+        c->uncompared--;
+        return vnc_server_paint(c->server, r.x1, r.y1, r.x2, r.y2, (const uint32_t *)(const void *)first, width * height);
+    }
+    places = vnc_server_take(c->server, (uint32_t)r.x1, (uint32_t)r.y1, (uint32_t)width, (uint32_t)height, first, (height - 1) * stride + width * bytes,
+                             stride, f->trueColour ? &format : NULL, f->trueColour ? 1 : 0, table, f->trueColour ? 0 : 256);
+    if (places >= (int64_t)(width * height / 8 * 7) && width * height >= MANY) c->dense = r, c->uncompared = UNCOMPARED;
+    return places;
 }
 
 /* What is marked is taken. Where memory is refused the rest stays marked. */

@@ -117,7 +117,15 @@ static int opens(rfbScreenInfoPtr s, viewer *v, int in_background)
     return reads(s, v->fd, room, 12 + 2 + 4 + 24) || reads(s, v->fd, room + 42, (size_t)room[41]);
 }
 
-/* Whether the viewer's picture becomes frameBuffer, of `bytes` a pixel with 8 or 5 bits a sample, red lowest. */
+/* The colour of a pixel of two bytes with 5 bits a sample, or of four with 8. */
+static uint32_t colour_of(rfbScreenInfoPtr s, const uint8_t *p, int bytes)
+{
+    uint32_t n = p[0] | (uint32_t)p[1] << 8;
+    if (bytes == 2) return ((n & 31) * 255 + 15) / 31 << 16 | ((n >> 5 & 31) * 255 + 15) / 31 << 8 | ((n >> 10 & 31) * 255 + 15) / 31;
+    return (uint32_t)p[s->serverFormat.redShift / 8] << 16 | (uint32_t)p[1] << 8 | p[s->serverFormat.blueShift / 8];
+}
+
+/* Whether the viewer's picture becomes frameBuffer, of so many bytes a pixel. */
 static int shows(rfbScreenInfoPtr s, viewer *v, int bytes, int in_background)
 {
     int tries, x, y, off = 1;
@@ -126,9 +134,7 @@ static int shows(rfbScreenInfoPtr s, viewer *v, int bytes, int in_background)
         for (off = y = 0; y < H; y++)
             for (x = 0; x < W; x++) {
                 const uint8_t *p = (const uint8_t *)s->frameBuffer + (size_t)y * (size_t)s->paddedWidthInBytes + (size_t)(x * bytes);
-                uint32_t n = p[0] | (uint32_t)p[1] << 8, c = bytes == 4 ? (uint32_t)p[0] << 16 | (uint32_t)p[1] << 8 | p[2]
-                           : ((n & 31) * 255 + 15) / 31 << 16 | ((n >> 5 & 31) * 255 + 15) / 31 << 8 | ((n >> 10 & 31) * 255 + 15) / 31;
-                off += c != v->seen[y][x];
+                off += colour_of(s, p, bytes) != v->seen[y][x];
             }
     }
     return off;
@@ -253,6 +259,27 @@ static int pictures(int bytes)
     return 0;
 }
 
+/* What moves all over, and then hardly at all, in colours as the library has them. */
+static int moves(void)
+{
+    rfbScreenInfoPtr s = screen(4);
+    viewer v;
+    int k;
+    s->serverFormat.redShift = 16;
+    s->serverFormat.blueShift = 0;
+    rfbInitServer(s);
+    IS(opens(s, &v, 0), 0);
+    for (k = 0; k < 60; k++) {
+        if (k < 40) memset(s->frameBuffer, k, W * H * 4);
+        s->frameBuffer[4 * (k * 97 % (W * H))]++;
+        rfbMarkRectAsModified(s, 0, 0, W, H);
+        IS(shows(s, &v, 4, 0), 0);
+    }
+    close(v.fd);
+    clean(s);
+    return 0;
+}
+
 /* Hooks, clients that are let go, and a server that ends once the last has left. */
 static int clients(void)
 {
@@ -338,7 +365,7 @@ static int background(void)
 
 int main(void)
 {
-    if (passwords() || later() || pictures(4) || pictures(2) || clients() || background()) return 1;
+    if (passwords() || later() || pictures(4) || pictures(2) || moves() || clients() || background()) return 1;
     IS(strangers, 0);
     puts("rfb_edges ok");
     return 0;
