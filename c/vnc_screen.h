@@ -136,6 +136,16 @@ int32_t vnc_screen_bell(vnc_screen *screen);                                    
 int32_t vnc_screen_cut_text(vnc_screen *screen, const uint8_t *text, size_t count);         /* rfbSendServerCutText */
 int32_t vnc_screen_new_framebuffer(vnc_screen *screen, uint32_t width, uint32_t height);    /* rfbNewFramebuffer; black */
 
+/* A program's own pixels are taken in (rfbMarkRectAsModified): the rectangle of `width` columns and `height` rows of the picture whose
+ * corner is at column `left` of row `top` becomes `bytes`, rows `stride` bytes apart; what differs is painted, in few rectangles.
+ * `format`: one (format_count 1), or NULL, 0: 32 bits, 0x00RRGGBB in little-endian order. Or `table` of 1 to 256 colours 0x00RRGGBB, one
+ * byte a pixel, and no format. What lies off the screen is left out. How many places changed; VNC_BAD_FORMAT, VNC_BAD_STRIDE or
+ * VNC_TOO_FEW_BYTES. Where memory is refused (VNC_OUT_OF_MEMORY) each place has its old colour or its new one, and another call takes
+ * the rest. */
+int64_t vnc_screen_take(vnc_screen *screen, uint32_t left, uint32_t top, uint32_t width, uint32_t height, const uint8_t *bytes,
+                        size_t byte_count, uint64_t stride, const vnc_pixel_format *format, size_t format_count, const uint32_t *table,
+                        size_t table_count);
+
 /* What the screen holds. */
 int64_t vnc_screen_width(vnc_screen *screen);
 int64_t vnc_screen_height(vnc_screen *screen);

@@ -192,11 +192,6 @@ int32_t vnc_server_bell(vnc_server *server);                                    
 int32_t vnc_server_cut_text(vnc_server *server, const uint8_t *text, size_t count);      /* rfbSendServerCutText; at most 65536 bytes */
 int32_t vnc_server_new_framebuffer(vnc_server *server, uint32_t width, uint32_t height); /* rfbNewFramebuffer; black */
 
-/* What a pixel's bytes say: each component is what the pixel's number has above its shift, as a mask of its maximum. */
-typedef struct vnc_pixel_format {
-    uint32_t bytes_per_pixel, big_endian, red_max, green_max, blue_max, red_shift, green_shift, blue_shift;
-} vnc_pixel_format;
-
 /* A program's own pixels are taken in (rfbMarkRectAsModified): the rectangle of `width` columns and `height` rows of the picture whose
  * corner is at column `left` of row `top` becomes `bytes`, rows `stride` bytes apart; what differs is painted, in few rectangles.
  * `format`: one (format_count 1), or NULL, 0: 32 bits, 0x00RRGGBB in little-endian order. Or `table` of 1 to 256 colours 0x00RRGGBB, one

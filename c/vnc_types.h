@@ -76,4 +76,9 @@ typedef struct vnc_settings {
     uint64_t full_requests;  /* how many of its requests were not incremental (7.5.3): they want places whether these changed or not */
 } vnc_settings;
 
+/* What a pixel's bytes say: each component is what the pixel's number has above its shift, as a mask of its maximum. */
+typedef struct vnc_pixel_format {
+    uint32_t bytes_per_pixel, big_endian, red_max, green_max, blue_max, red_shift, green_shift, blue_shift;
+} vnc_pixel_format;
+
 #endif

@@ -49,6 +49,32 @@ static int settings(void)
     return 0;
 }
 
+/* A program's own pixels: 32 bits, 16 bits, bytes by a table, what lies off the screen, and refusals. */
+static int takes(void)
+{
+    static const uint8_t pixels[8] = {0x33, 0x22, 0x11, 0, 0, 0xf8, 0xff, 0};
+    static const uint32_t table[257] = {0x010203, 0x040506};
+    vnc_pixel_format format = {2, 0, 31, 63, 31, 11, 5, 0};
+    vnc_screen *s = 0;
+    IS(vnc_screen_new(2, 1, (const uint8_t *)"x", 1, 50, &s), 0);
+    IS(vnc_screen_take(s, 0, 0, 2, 1, pixels, 8, 8, 0, 0, 0, 0), 2);
+    IS(vnc_screen_colour(s, 0, 0) == 0x112233 && vnc_screen_colour(s, 1, 0) == 0xfff800, 1);
+    IS(vnc_screen_take(s, 0, 0, 2, 1, pixels, 8, 8, 0, 0, 0, 0), 0);
+    IS(vnc_screen_take(s, 1, 0, 2, 1, pixels, 8, 8, 0, 0, 0, 0), 1);
+    IS(vnc_screen_take(s, 0, 0, 1, 1, pixels + 4, 2, 2, &format, 1, 0, 0), 1);
+    IS(vnc_screen_colour(s, 0, 0), 0xff0000);
+    IS(vnc_screen_take(s, 0, 0, 2, 1, pixels + 3, 2, 2, 0, 0, table, 2), 2);
+    IS(vnc_screen_colour(s, 0, 0) == 0x010203 && vnc_screen_colour(s, 1, 0) == 0x010203, 1);
+    IS(vnc_screen_take(s, 0, 0, 1, 1, pixels, 2, 2, &format, 1, table, 2), VNC_BAD_FORMAT);
+    IS(vnc_screen_take(s, 0, 0, 1, 1, pixels, 1, 1, 0, 0, table, 257), VNC_BAD_FORMAT);
+    IS(vnc_screen_take(s, 0, 0, 2, 1, pixels, 4, 3, &format, 1, 0, 0), VNC_BAD_STRIDE);
+    IS(vnc_screen_take(s, 0, 0, 2, 1, pixels, 3, 4, &format, 1, 0, 0), VNC_TOO_FEW_BYTES);
+    IS(vnc_screen_shut(s), 0);
+    IS(vnc_screen_take(s, 0, 0, 0, 0, pixels, 0, 0, 0, 0, 0, 0), VNC_SHUT);
+    vnc_screen_free(s);
+    return 0;
+}
+
 int main(void)
 {
     static const uint8_t name[256] = "x";
@@ -64,7 +90,7 @@ int main(void)
     int32_t n, i;
 
     IS(vnc_screen_abi(), VNC_SCREEN_ABI);
-    if (settings()) return 1;
+    if (settings() || takes()) return 1;
     IS(vnc_screen_new(0, 1, name, 1, 50, &s), VNC_BAD_SIZE);
     IS(vnc_screen_new(8193, 1, name, 1, 50, &s), VNC_BAD_SIZE);
     IS(vnc_screen_new(1, 1, name, 256, 50, &s), VNC_BAD_NAME);

@@ -1,3 +1,4 @@
 pub mod Fetching
 pub mod Drawing
+pub mod Taking
 pub mod Pieces

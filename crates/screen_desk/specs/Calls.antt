@@ -1,17 +1,21 @@
 -- What the calls of a desk do: the number that each answers, and the desk before and after it.
 use Rattle.std.specs.Prelude.{◌≡◌, ◌≢◌, ◌⊎◌, ℕ, ◌+◌, ◌*◌, ◌^◌, nat_lt, min, ℤ, pos, ◌<ℤ◌, ◌≤ℤ◌, ◌&&◌, if◌then◌else◌, List, [], ◌∷◌, ◌++◌, length, drop, take, slice_index, slice_set, Option, Some, None, option_map, MatchOption}
 use Rattle.std.specs.Map.{keys_of}
+use Rattle.source_pixels.specs.Source.{Source}
 use Rattle.region.specs.declared.Rect.{Rect}
 use Rattle.screen.specs.declared.Config.{Config}
 use Rattle.screen.specs.declared.Event.{Event}
 use Rattle.screen.specs.declared.Event.TheVariants.{Connect, Hear, Cut, Close}
+use Rattle.screen.specs.declared.ScreenError.TheVariants.{OutOfMemory}
 use Rattle.screen.specs.Alone.{config_refusal, something_to_send, some_bytes}
 use Rattle.screen.specs.Answers.{answer_to}
 use Rattle.viewer.specs.Viewer.{KeptViewer, settings_of}
 use Rattle.screen.specs.State.{State, state, viewer_at}
+use Rattle.screen.specs.Takes.{IsTaken, IsPartlyTaken}
 use Rattle.screen_desk.specs.Codes.{Answers, code_of, done, fault_code, no_viewer, off_screen, one_or_zero, out_of_memory, shut, truth_code}
 use Rattle.screen_desk.specs.Desk.{Standing, StandsFor, IsListOf, due, region_due, cut_due, cut_into_due, absence, put_output, without, next_piece, left_of}
 use Rattle.screen_desk.specs.Inputs.{told_by, IsFetched}
+use Rattle.screen_desk.specs.Pixels.{source_due}
 use Rattle.screen_desk.specs.Settings.{settings_as}
 use Rattle.screen_desk.specs.declared.settings.ViewerSettings.{ViewerSettings}
 use Rattle.screen_desk.specs.declared.told.Told.{Told}
@@ -35,6 +39,25 @@ pub record DrawsRegion (rects : List Rect) (event : List Rect → Event) (old ne
   pub step : code ≡ done → (places : List Rect) × (IsListOf rects places × ((c : Config) (list : List Event) → StandsFor c list old → StandsFor c (list ++ event places ∷ []) new))
   pub same : new ≡ record old { screen = new.screen }
   pub refused : code ≢ done → new ≡ old
+
+-- why a program's pixels are not taken in: the desk is shut, or they are refused
+abbrev pub take_due : Option State → Option Source → Option ℤ
+take_due None source = Some shut
+take_due (Some screen) source = source_due source
+
+-- They are taken into the picture, with their corner at a place of it, and the number says how many places changed. For want of memory some of what differed is painted, or nothing.
+abbrev pub TakesIn : ℕ → ℕ → ℤ → Option Source → Option State → Option State → Type 0
+TakesIn left top code (Some s) (Some a) (Some b) =
+    (c : Config) (list : List Event) → config_refusal c ≡ None → a ≡ state c list →
+    ((places : ℕ) × ((code ≡ pos (min places (2 ^ 62))) × IsTaken s left top c list a b places)) ⊎ ((code ≡ out_of_memory) × IsPartlyTaken s left top c list a b OutOfMemory)
+TakesIn left top code (Some s) (Some a) None = ⊥
+TakesIn left top code source old new = Unit {0}
+
+-- a program's own pixels are taken in; what waits stays
+pub record TakesPixels (source : Option Source) (left top : ℕ) (old new : Standing) (code : ℤ) : Type 0 where
+  pub refused : (refusal : ℤ) → take_due old.screen source ≡ Some refusal → (code ≡ refusal) × (new ≡ old)
+  pub taken : take_due old.screen source ≡ None → TakesIn left top code source old.screen new.screen
+  pub same : new ≡ record old { screen = new.screen }
 
 -- a viewer connects, and what it is answered waits for it
 pub record Connects (v : ℕ) (old new : Standing) (code : ℤ) : Type 0 where

@@ -2,4 +2,5 @@ pub mod Codes
 pub mod Inputs
 pub mod Settings
 pub mod Desk
+pub mod Pixels
 pub mod Calls

@@ -1,6 +1,6 @@
 //! The numbers that calls answer.
 
-ghost use Rattle.std.specs.Prelude.{◌≡◌, ◌≢◌, ◌≤◌, ◌^◌, pos, Option, option_map, IfOk, MatchResult};
+ghost use Rattle.std.specs.Prelude.{◌≡◌, ◌≢◌, ◌≤◌, ◌^◌, pos, min, Option, option_map, IfOk, MatchResult};
 ghost use Rattle.screen.specs.declared.ScreenError.{ScreenError};
 ghost use Rattle.screen.specs.Refusals.{Refuses};
 ghost use Rattle.screen_desk.specs.Codes as code;
@@ -94,5 +94,15 @@ pub(crate) fn count_or(answer: Result<usize, AllocError>) -> i32
     match answer {
         Ok(count) => count as i32,
         Err(_) => code_of(ScreenError::OutOfMemory),
+    }
+}
+
+/// How many places changed, at most 2^62, or the code of a refusal.
+pub fn places_code(answer: Result<usize, ScreenError>) -> i64
+    ensures { MatchResult answer (λ places. result ≡ pos (min places (2 ^ 62))) (λ e. result ≡ code.code_of e) }
+{
+    match answer {
+        Ok(places) => places.min(1 << 62) as i64,
+        Err(e) => i64::from(code_of(e)),
     }
 }

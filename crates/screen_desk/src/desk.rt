@@ -15,16 +15,20 @@ ghost use Rattle.screen.specs.Refusals.{Refuses};
 ghost use Rattle.screen.specs.State.{state, refusal, viewer_at};
 ghost use Rattle.screen_desk.specs.Codes as code;
 ghost use Rattle.screen_desk.specs.Codes.{IsRefusal};
-ghost use Rattle.screen_desk.specs.Calls.{Opens, Draws, DrawsRegion, Connects, Hears, Cuts, CutsInto, Closes, TellsPending, Gives, Fetches, Shows, ShowsSettings, Tells, numbers_of, of_viewer, colour_at};
+ghost use Rattle.screen_desk.specs.Calls.{Opens, Draws, DrawsRegion, Connects, Hears, Cuts, CutsInto, Closes, TellsPending, Gives, Fetches, Shows, ShowsSettings, TakesPixels, Tells, numbers_of, of_viewer, colour_at};
 ghost use Rattle.screen_desk.specs.Desk.{nothing_there, rect_of, config_of, put_output, region_due, IsListOf};
 ghost use Rattle.screen_desk.specs.Inputs.{in_order, told_by};
+ghost use Rattle.screen_desk.specs.Pixels.{format_of, source_from};
+ghost use Rattle.source_pixels.specs.declared.formats.SourceFormat.TheVariants as format;
 
 use crate::codes::{
-    OFF_SCREEN, OUT_OF_RANGE, OUTPUT_WAITS, SHUT, code_of, count_or, done_or, fault_or, truth_or,
+    OFF_SCREEN, OUT_OF_RANGE, OUTPUT_WAITS, SHUT, code_of, count_or, done_or, fault_or,
+    places_code, truth_or,
 };
 use crate::corners::{Corners, are_far, region_of};
 use crate::inputs::Inputs;
 use crate::output::{Output, copy_to, drop_output, fetch_output, first_for, put_bytes};
+use crate::pixels::{PixelLayout, source_of};
 use crate::settings::{ViewerSettings, show_settings};
 use crate::told::Told;
 use crate::update::DeskUpdate;
@@ -291,6 +295,33 @@ impl Desk {
     {
         let rect = Rect { x1, y1, x2, y2 };
         self.draw(&Drawing::DoCopyRect { rect, dx, dy })
+    }
+
+    /// `Screen::take`: a program's own pixels become the picture's (`rfbMarkRectAsModified` of `rfb.h`), from column `left` of row `top`
+    /// on, and what differs is owed to every viewer. `bytes` has so many columns and rows of pixels, `stride` bytes from one row to the
+    /// next; their format is a layout, or a table of colours, or where both are empty 32 bits `0x00RRGGBB` in little-endian order. What
+    /// lies off the screen is left out. How many places changed; where memory is refused, each place has its old colour or its new one.
+    pub fn take(
+        &mut self,
+        left: u32,
+        top: u32,
+        width: u32,
+        height: u32,
+        bytes: &[u8],
+        stride: u64,
+        layouts: &[PixelLayout],
+        table: &[u32],
+    ) -> i64
+        ensures { TakesPixels (source_from width height stride bytes.now (format_of layouts.now (length table.now) (format.Table table.entry))) left top self.old self.new result }
+    {
+        let Some(screen) = &mut self.screen else {
+            return i64::from(SHUT);
+        };
+        let source = match source_of(bytes, stride, width, height, layouts, table) {
+            Ok(source) => source,
+            Err(code) => return i64::from(code),
+        };
+        places_code(screen.take(self.alloc, left, top, &source))
     }
 
     /// `Screen::bell` (`rfbSendBell` of `rfb.h`).

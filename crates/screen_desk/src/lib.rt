@@ -17,14 +17,18 @@ mod corners;
 mod desk;
 mod inputs;
 mod output;
+mod pixels;
 mod settings;
 mod told;
 mod update;
 
-pub use codes::{OFF_SCREEN, OUT_OF_RANGE, OUTPUT_WAITS, SHUT, code_of, done_or, fault_code};
+pub use codes::{
+    OFF_SCREEN, OUT_OF_RANGE, OUTPUT_WAITS, SHUT, code_of, done_or, fault_code, places_code,
+};
 pub use corners::{Corners, are_far, region_of};
 pub use desk::Desk;
 pub use output::copy_to;
+pub use pixels::{BAD_FORMAT, BAD_STRIDE, PixelLayout, TOO_FEW_BYTES, source_of};
 pub use screen::{Fault, Input, ScreenError, Settings};
 pub use settings::{ViewerSettings, settings_as, show_settings};
 pub use told::{Told, told_as};

@@ -18,7 +18,7 @@ use Rattle.event_loop.specs.Sockets.{sockets}
 use Rattle.screen_desk.specs.Codes.{code_of}
 use Rattle.server_desk.specs.declared.visits.Visit.{Visit}
 use Rattle.server_desk.specs.Desk.{Standing}
-use Rattle.server_desk.specs.Pixels.{source_due}
+use Rattle.screen_desk.specs.Pixels.{source_due}
 use Rattle.server_desk.specs.Calls.{TakesPixels, TakesIn}
 
 -- paints are drawing calls, and no notices

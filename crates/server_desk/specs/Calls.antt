@@ -20,7 +20,7 @@ use Rattle.screen_desk.specs.declared.settings.ViewerSettings.{ViewerSettings}
 use Rattle.screen_desk.specs.declared.told.Told.{Told}
 use Rattle.server_desk.specs.declared.visits.Visit.{Visit}
 use Rattle.server_desk.specs.Codes.{bad_address, cannot_listen, network_failed, closed_code, turn_code}
-use Rattle.server_desk.specs.Pixels.{source_due}
+use Rattle.screen_desk.specs.Pixels.{source_due}
 use Rattle.server_desk.specs.Desk.{Standing, StandsFor, IsAsBefore, IsPutBehind, due, region_due}
 
 -- the desk listens, and serves a screen with nothing on it to no viewer yet; or it is as it was
@@ -129,6 +129,7 @@ pub record IsTakenInPart (s : Source) (left top : ℕ) (c : Config) (list : List
 -- a program's own pixels are taken into the picture, with their corner at a place of it
 abbrev pub TakesIn : ℕ → ℕ → ℤ → Option Source → Option Serving → Option Serving → Type 0
 TakesIn left top code (Some s) (Some a) (Some b) = (c : Config) (list : List Event) → config_refusal c ≡ None → Serves c (sockets c) list a → IsTakenIn s left top c list a b code ⊎ ((code ≡ out_of_memory) × IsTakenInPart s left top c list a b)
+TakesIn left top code (Some s) (Some a) None = ⊥
 TakesIn left top code source old new = Unit {0}
 
 pub record TakesPixels (source : Option Source) (left top : ℕ) (old new : Standing) (code : ℤ) : Type 0 where

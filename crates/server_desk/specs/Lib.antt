@@ -2,5 +2,4 @@ pub mod Codes
 pub mod Visits
 pub mod Listening
 pub mod Desk
-pub mod Pixels
 pub mod Calls

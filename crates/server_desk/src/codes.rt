@@ -1,6 +1,6 @@
 //! The numbers that calls answer besides those of `screen_desk`.
 
-ghost use Rattle.std.specs.Prelude.{◌≡◌, ◌^◌, pos, min, MatchResult};
+ghost use Rattle.std.specs.Prelude.{◌≡◌};
 ghost use Rattle.screen_desk.specs.Codes.{code_of};
 ghost use Rattle.server_desk.specs.Codes as code;
 
@@ -40,16 +40,6 @@ pub(crate) fn closed_code(answer: Result<bool, AllocError>) -> i32
         Ok(true) => 0,
         Ok(false) => code_of(ScreenError::NoViewer),
         Err(_) => code_of(ScreenError::OutOfMemory),
-    }
-}
-
-/// How many places changed, at most 2^62, or the code of a refusal.
-pub(crate) fn places_code(answer: Result<usize, ScreenError>) -> i64
-    ensures { MatchResult answer (λ places. result ≡ pos (min places (2 ^ 62))) (λ e. result ≡ code_of e) }
-{
-    match answer {
-        Ok(places) => places.min(1 << 62) as i64,
-        Err(e) => i64::from(code_of(e)),
     }
 }
 

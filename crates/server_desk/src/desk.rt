@@ -11,16 +11,15 @@ ghost use Rattle.screen_desk.specs.Desk.{rect_of, config_of, IsListOf};
 ghost use Rattle.std.specs.VecDeque.{deque_capacity};
 ghost use Rattle.server_desk.specs.Desk.{nothing_there, rects_per_update, IsPutBehind, region_due};
 ghost use Rattle.server_desk.specs.Calls.{Listens, TakesTurn, Draws, DrawsRegion, FetchesInputs, FetchesVisits, ShowsText, ShowsSettings, Tells, TellsAddress, TellsSome, LetsGo, TakesPixels};
-ghost use Rattle.server_desk.specs.Pixels.{format_of, source_from};
+ghost use Rattle.screen_desk.specs.Pixels.{format_of, source_from};
 ghost use Rattle.source_pixels.specs.declared.formats.SourceFormat.TheVariants as format;
 
-use crate::codes::{CLOCK_FAILED, NETWORK_FAILED, closed_code, places_code, turn_code};
+use crate::codes::{CLOCK_FAILED, NETWORK_FAILED, closed_code, turn_code};
 use crate::gathering::Gathering;
 use crate::listening::{Listening, listen_on};
 use crate::news::{
     MOST_INPUTS, MOST_TEXT, MOST_VISITS, fetch_inputs, fetch_visits, is_text_at, make_room, put_all,
 };
-use crate::pixels::{PixelLayout, source_of};
 use crate::system::{SystemClock, digits_of, milliseconds_of, timeout_of};
 use crate::told::ToldBy;
 use crate::visits::Visit;
@@ -28,8 +27,8 @@ use crate::waker::ServerWaker;
 use event_loop::{EventLoop, Listed, Rect, Region, ScreenError, drawn_is_served};
 use screen::Drawing;
 use screen_desk::{
-    Corners, OFF_SCREEN, OUT_OF_RANGE, SHUT, Told, ViewerSettings, are_far, code_of, copy_to,
-    done_or, region_of, show_settings,
+    Corners, OFF_SCREEN, OUT_OF_RANGE, PixelLayout, SHUT, Told, ViewerSettings, are_far, code_of,
+    copy_to, done_or, places_code, region_of, show_settings, source_of,
 };
 use std::alloc::{AllocError, Global};
 use std::collections::VecDeque;

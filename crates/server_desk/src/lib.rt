@@ -16,7 +16,6 @@ mod desk;
 mod gathering;
 mod listening;
 mod news;
-mod pixels;
 mod system;
 mod told;
 mod visits;
@@ -24,9 +23,9 @@ mod waker;
 
 pub use codes::{BAD_ADDRESS, CANNOT_LISTEN, CLOCK_FAILED, NETWORK_FAILED};
 pub use desk::ServerDesk;
-pub use pixels::{BAD_FORMAT, BAD_STRIDE, PixelLayout, TOO_FEW_BYTES};
 pub use screen_desk::{
-    Corners, OFF_SCREEN, OUT_OF_RANGE, SHUT, Told, ViewerSettings, code_of, fault_code,
+    BAD_FORMAT, BAD_STRIDE, Corners, OFF_SCREEN, OUT_OF_RANGE, PixelLayout, SHUT, TOO_FEW_BYTES,
+    Told, ViewerSettings, code_of, fault_code,
 };
 pub use visits::Visit;
 pub use waker::ServerWaker;

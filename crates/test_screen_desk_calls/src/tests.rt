@@ -1,7 +1,8 @@
 //! Each call once, with what RFC 6143 has for it.
 
 use screen_desk::{
-    Corners, Desk, DeskUpdate, OFF_SCREEN, OUT_OF_RANGE, OUTPUT_WAITS, SHUT, Told, ViewerSettings,
+    BAD_FORMAT, BAD_STRIDE, Corners, Desk, DeskUpdate, OFF_SCREEN, OUT_OF_RANGE, OUTPUT_WAITS,
+    PixelLayout, SHUT, TOO_FEW_BYTES, Told, ViewerSettings,
 };
 use std::alloc::Global;
 use std::test::Fail;
@@ -317,6 +318,95 @@ fn places_are_painted(rt: HostRuntime) -> Result<(), Fail> {
     assert_eq!(rt; desk.do_copy_rect(1, 0, 2, 1, 1, 0), 0);
     assert_eq!(rt; desk.colour(1, 0), 1);
     assert_eq!(rt; desk.colour(2, 0), i64::from(OFF_SCREEN));
+    Ok(())
+}
+
+/// 5, 6 and 5 bits, red highest.
+const RGB565: PixelLayout = PixelLayout {
+    bytes_per_pixel: 2,
+    big_endian: 0,
+    red_max: 31,
+    green_max: 63,
+    blue_max: 31,
+    red_shift: 11,
+    green_shift: 5,
+    blue_shift: 0,
+};
+
+/// How many places of the two change where pixels are taken in, and whether they have these colours then.
+fn takes(
+    desk: &mut Desk,
+    bytes: &[u8],
+    layouts: &[PixelLayout],
+    table: &[u32],
+    colours: [i64; 2],
+) -> (i64, bool) {
+    let stride = bytes.len() as u64;
+    let code = desk.take(0, 0, 2, 1, bytes, stride, layouts, table);
+    (
+        code,
+        desk.colour(0, 0) == colours[0] && desk.colour(1, 0) == colours[1],
+    )
+}
+
+#[test]
+fn pixels_of_a_programs_own_are_taken_in(rt: HostRuntime) -> Result<(), Fail> {
+    let mut desk = opened(rt.alloc());
+    let bytes = b"\x03\x02\x01\xff\0\0\xff\0";
+    assert_eq!(rt;
+        takes(&mut desk, bytes, &[], &[], [0x01_0203, 0xff_0000]),
+        (2, true)
+    );
+    assert_eq!(rt;
+        takes(&mut desk, bytes, &[], &[], [0x01_0203, 0xff_0000]),
+        (0, true)
+    );
+    // red, and then the greatest value of each
+    let bytes = b"\x00\xf8\xff\xff";
+    assert_eq!(rt;
+        takes(&mut desk, bytes, &[RGB565], &[], [0xff_0000, 0xff_ffff]),
+        (2, true)
+    );
+    let table = [0xff_0000, 0x00_00ff];
+    assert_eq!(rt;
+        takes(&mut desk, b"\0\x01", &[], &table, [0xff_0000, 0x00_00ff]),
+        (1, true)
+    );
+    // a column to the right, of which the second lies off the screen
+    assert_eq!(rt; desk.take(1, 0, 2, 1, b"\0\0", 2, &[], &table), 1);
+    assert_eq!(rt; desk.colour(1, 0), 0xff_0000);
+    Ok(())
+}
+
+#[test]
+fn pixels_that_are_none_are_refused(rt: HostRuntime) -> Result<(), Fail> {
+    let mut desk = opened(rt.alloc());
+    let no_green = PixelLayout {
+        green_max: 0,
+        ..RGB565
+    };
+    assert_eq!(rt;
+        desk.take(0, 0, 1, 1, &[7; 4], 4, &[no_green], &[]),
+        i64::from(BAD_FORMAT)
+    );
+    assert_eq!(rt;
+        desk.take(0, 0, 1, 1, &[7; 4], 4, &[RGB565], &[7]),
+        i64::from(BAD_FORMAT)
+    );
+    assert_eq!(rt;
+        desk.take(0, 0, 2, 1, &[7; 4], 3, &[RGB565], &[]),
+        i64::from(BAD_STRIDE)
+    );
+    assert_eq!(rt;
+        desk.take(0, 0, 2, 1, &[7; 3], 4, &[RGB565], &[]),
+        i64::from(TOO_FEW_BYTES)
+    );
+    assert_eq!(rt; desk.colour(0, 0), 0);
+    assert_eq!(rt; desk.shut(), 0);
+    assert_eq!(rt;
+        desk.take(0, 0, 1, 1, &[7; 4], 4, &[], &[]),
+        i64::from(SHUT)
+    );
     Ok(())
 }
 

@@ -14,10 +14,12 @@ ghost use Rattle.screen.specs.Viewer.{is_asking};
 ghost use Rattle.screen.specs.declared.Event.{Event};
 ghost use Rattle.screen.specs.State.{viewer_at};
 ghost use Rattle.screen_desk.specs.Codes as codes;
-ghost use Rattle.screen_desk.specs.Calls.{Opens, Draws, DrawsRegion, Connects, Hears, Cuts, CutsInto, Closes, TellsPending, Gives, GivesHeld, Fetches, Shows, ShowsSettings, Tells, numbers_of, of_viewer, colour_at};
+ghost use Rattle.screen_desk.specs.Calls.{Opens, Draws, DrawsRegion, Connects, Hears, Cuts, CutsInto, Closes, TellsPending, Gives, GivesHeld, Fetches, Shows, ShowsSettings, TakesPixels, Tells, numbers_of, of_viewer, colour_at};
 ghost use Rattle.screen_desk.specs.Desk.{nothing_there, rect_of, config_of};
+ghost use Rattle.screen_desk.specs.Pixels.{format_of, source_from};
+ghost use Rattle.source_pixels.specs.declared.formats.SourceFormat.TheVariants as format;
 
-use screen_desk::{Corners, Desk, DeskUpdate, Told, ViewerSettings};
+use screen_desk::{Corners, Desk, DeskUpdate, PixelLayout, Told, ViewerSettings};
 use std::alloc::Global;
 use std::mem::size_of;
 use std::ptr;
@@ -141,6 +143,36 @@ pub unsafe extern "C" fn vnc_screen_do_copy_rect(
     ensures* { sem 𝓛 (leaves at (λ after. Draws (Event.DoCopy (record { x1 = x1; y1 = y1; x2 = x2; y2 = y2 } ∷ []) dx dy) before after result)) }
 {
     Desk::do_copy_rect(&mut *(at as *mut Desk), x1, y1, x2, y2, dx, dy)
+}
+
+/// `Desk::take`.
+#[unsafe(no_mangle)]
+pub unsafe extern "C" fn vnc_screen_take(
+    at: *mut Place,
+    left: u32,
+    top: u32,
+    width: u32,
+    height: u32,
+    bytes: &[u8],
+    stride: u64,
+    layouts: &[PixelLayout],
+    table: &[u32],
+) -> i64
+    ghost before: { desk_row.Denot }
+    requires* { sem 𝓛 (holds at before) }
+    ensures* { sem 𝓛 (leaves at (λ after. TakesPixels (source_from width height stride bytes.now (format_of layouts.now (length table.now) (format.Table table.entry))) left top before after result)) }
+{
+    Desk::take(
+        &mut *(at as *mut Desk),
+        left,
+        top,
+        width,
+        height,
+        bytes,
+        stride,
+        layouts,
+        table,
+    )
 }
 
 /// `Desk::bell`.

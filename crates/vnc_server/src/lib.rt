@@ -15,7 +15,7 @@ ghost use Rattle.screen_desk.specs.Calls.{colour_at};
 ghost use Rattle.screen_desk.specs.Desk.{rect_of, config_of};
 ghost use Rattle.server_desk.specs.Desk.{nothing_there, rects_per_update};
 ghost use Rattle.server_desk.specs.Calls.{Listens, TakesTurn, Draws, DrawsRegion, FetchesInputs, FetchesVisits, ShowsText, ShowsSettings, Tells, TellsAddress, TellsSome, LetsGo, TakesPixels, Wakes};
-ghost use Rattle.server_desk.specs.Pixels.{format_of, source_from};
+ghost use Rattle.screen_desk.specs.Pixels.{format_of, source_from};
 ghost use Rattle.source_pixels.specs.declared.formats.SourceFormat.TheVariants as format;
 
 use server_desk::{Corners, PixelLayout, ServerDesk, ServerWaker, Told, ViewerSettings, Visit};

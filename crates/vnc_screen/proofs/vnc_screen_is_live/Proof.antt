@@ -9,8 +9,10 @@ use Rattle.screen.specs.Viewer.{is_asking}
 use Rattle.screen.specs.declared.Event.{Event}
 use Rattle.screen.specs.State.{viewer_at}
 use Rattle.screen_desk.specs.Codes as codes
-use Rattle.screen_desk.specs.Calls.{Opens, Draws, DrawsRegion, Connects, Hears, Cuts, CutsInto, Closes, TellsPending, Gives, GivesHeld, Fetches, Shows, ShowsSettings, Tells, numbers_of, of_viewer, colour_at}
+use Rattle.screen_desk.specs.Calls.{Opens, Draws, DrawsRegion, Connects, Hears, Cuts, CutsInto, Closes, TellsPending, Gives, GivesHeld, Fetches, Shows, ShowsSettings, TakesPixels, Tells, numbers_of, of_viewer, colour_at}
 use Rattle.screen_desk.specs.Desk.{nothing_there, rect_of, config_of}
+use Rattle.screen_desk.specs.Pixels.{format_of, source_from}
+use Rattle.source_pixels.specs.declared.formats.SourceFormat.TheVariants as format
 use Rattle.vnc_screen.specs.contracts.vnc_screen_is_live as f
 use Rattle.vnc_screen.proofs.vnc_screen_is_live.Statement.{statement}
 use Rattle.vnc_screen.proofs.vnc_screen_is_live.Code as code

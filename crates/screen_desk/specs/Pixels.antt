@@ -11,7 +11,7 @@ use Rattle.source_pixels.specs.declared.errors.SourceError.TheVariants.{BadCompo
 use Rattle.source_pixels.specs.Formats.{server_format}
 use Rattle.source_pixels.specs.Source.{Source, source_refusal}
 use Rattle.screen_desk.specs.Codes.{minus}
-use Rattle.server_desk.specs.declared.pixels.PixelLayout.{PixelLayout}
+use Rattle.screen_desk.specs.declared.pixels.PixelLayout.{PixelLayout}
 
 abbrev pub bad_format : ℤ
 bad_format = minus 17

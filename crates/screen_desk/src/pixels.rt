@@ -2,7 +2,7 @@
 
 ghost use Rattle.std.specs.Prelude.{◌≡◌, length, Some, None, IfOk, IfErr, OnOk};
 ghost use Rattle.source_pixels.specs.declared.formats.SourceFormat.TheVariants as kind;
-ghost use Rattle.server_desk.specs.Pixels as pixels;
+ghost use Rattle.screen_desk.specs.Pixels as pixels;
 
 use screen::{BytesPerPixel, Component, PixelSource, SourceError, SourceFormat, TrueColour};
 
@@ -100,7 +100,7 @@ fn source_code(refusal: SourceError) -> i32
 }
 
 /// So many columns and rows of pixels, a stride of bytes from one row to the next; or the code of the refusal.
-pub(crate) fn source_of<'a>(
+pub fn source_of<'a>(
     bytes: &'a [u8],
     stride: u64,
     width: u32,
