@@ -25,7 +25,7 @@ struct rfbCompat {
     int marks;
     uint64_t last;      /* the number of the viewer that came last */
     int64_t asked;      /* how often viewers asked for all */
-    sraRect dense;      /* what last differed nearly everywhere, and so many times more it isn't compared */
+    sraRect dense;      /* what last differed nearly everywhere; and so many times more it isn't compared */
     int uncompared;
 };
 
@@ -33,6 +33,7 @@ static void lock(rfbScreenInfoPtr s) { pthread_mutex_lock(&s->compat->lock); }
 static void unlock(rfbScreenInfoPtr s) { pthread_mutex_unlock(&s->compat->lock); }
 static int larger(int a, int b) { return a > b ? a : b; }
 static int smaller(int a, int b) { return a < b ? a : b; }
+static sraRect rect_of(int x1, int y1, int x2, int y2) { const sraRect r = {x1, y1, x2, y2}; return r; }
 
 static void say(const char *format, ...)
 {
@@ -64,8 +65,8 @@ static rfbBool are_colours(rfbScreenInfoPtr s, sraRect r, const uint8_t *first)
     return isDirect && isInPlace && r.x1 == 0 && r.x2 == s->width && s->paddedWidthInBytes == 4 * s->width ? TRUE : FALSE;
 }
 
-/* A rectangle that lies on the screen is taken: 0 or more, or a vnc_code. Where nearly all of one differed, it is painted the next times
- * without being compared, as what moves goes on moving. */
+/* A rectangle that lies on the screen is taken: 0 or more, or a vnc_code. Where nearly all of one differed twice in turn, it is painted the
+ * next times without being compared, as what moves goes on moving. */
 static int64_t take_rect(rfbScreenInfoPtr s, sraRect r)
 {
     const rfbPixelFormat *f = &s->serverFormat;
@@ -74,16 +75,19 @@ static int64_t take_rect(rfbScreenInfoPtr s, sraRect r)
     const uint8_t *first = (const uint8_t *)s->frameBuffer + (size_t)r.y1 * stride + (size_t)r.x1 * bytes;
     struct rfbCompat *c = s->compat;
     uint32_t table[256] = {0};
+    const rfbBool isSame = memcmp(&r, &c->dense, sizeof r) == 0 ? TRUE : FALSE;
     int64_t places;
+    rfbBool isDense;
     if (!f->trueColour && bytes != 1) return VNC_BAD_FORMAT;
     if (!f->trueColour) fill_table(&s->colourMap, table);
-    if (c->uncompared > 0 && memcmp(&r, &c->dense, sizeof r) == 0 && are_colours(s, r, first)) {
+    if (c->uncompared > 0 && isSame && are_colours(s, r, first)) {
         c->uncompared--;
         return vnc_server_paint(c->server, r.x1, r.y1, r.x2, r.y2, (const uint32_t *)(const void *)first, width * height);
     }
     places = vnc_server_take(c->server, (uint32_t)r.x1, (uint32_t)r.y1, (uint32_t)width, (uint32_t)height, first, (height - 1) * stride + width * bytes,
                              stride, f->trueColour ? &format : NULL, f->trueColour ? 1 : 0, table, f->trueColour ? 0 : 256);
-    if (places >= (int64_t)(width * height / 8 * 7) && width * height >= MANY) c->dense = r, c->uncompared = UNCOMPARED;
+    isDense = places >= (int64_t)(width * height / 8 * 7) && width * height >= MANY ? TRUE : FALSE;
+    if (isDense || isSame) c->uncompared = isDense && isSame ? UNCOMPARED : 0, c->dense = isDense ? r : rect_of(0, 0, 0, 0);
     return places;
 }
 
@@ -122,8 +126,6 @@ void rfbMarkRegionAsModified(rfbScreenInfoPtr s, sraRegionPtr r)
 }
 
 /* ---- copies ---- */
-
-static sraRect rect_of(int x1, int y1, int x2, int y2) { const sraRect r = {x1, y1, x2, y2}; return r; }
 
 /* What of a rectangle lies on the screen, and comes from there. */
 static sraRect copied(rfbScreenInfoPtr s, sraRect r, int dx, int dy)
