@@ -2,8 +2,8 @@
  *
  * The library has a picture of its own. A mark is kept as a rectangle, and the next turn takes what stands there then out of frameBuffer
  * into the picture. A copy first takes what is marked, then moves frameBuffer and the picture alike. Where it can't, as marks are left, or
- * there are several rectangles, it marks where the copy came to. Nothing is taken while nobody watches. For a viewer that comes, or asks for
- * places whether these changed or not, all is taken: also what was drawn and never marked. */
+ * there are several rectangles, or characters were drawn, which nobody marks, it marks where the copy came to. Nothing is taken while nobody
+ * watches. For a viewer that comes, or asks for places whether these changed or not, all is taken: also what was drawn and never marked. */
 #define _POSIX_C_SOURCE 200809L
 #include "rfb_compat.h"
 #include "vnc_server.h"
@@ -108,6 +108,7 @@ static void mark(rfbScreenInfoPtr s, int x1, int y1, int x2, int y2)
     struct rfbCompat *c = s->compat;
     sraRect r = {larger(smaller(x1, x2), 0), larger(smaller(y1, y2), 0), smaller(larger(x1, x2), s->width), smaller(larger(y1, y2), s->height)};
     if (!s->clientHead || r.x1 >= r.x2 || r.y1 >= r.y2) return;
+    if (r.x2 - r.x1 == s->width && r.y2 - r.y1 == s->height) s->isWritten = FALSE; /* as all is taken */
     for (int k = 0; k < c->marks; k++) {
         const sraRect m = c->marked[k], both = {smaller(r.x1, m.x1), smaller(r.y1, m.y1), larger(r.x2, m.x2), larger(r.y2, m.y2)};
         if (memcmp(&both, &m, sizeof m) == 0) return;
@@ -161,7 +162,7 @@ static void copy(rfbScreenInfoPtr s, const sraRect *to, size_t count, int dx, in
     lock(s);
     if (!isMoved) take_marks(s);
     if (!isMoved) copy_pixels(s, to, count, dx, dy);
-    for (size_t k = 0, stale = count > 1 || s->compat->marks > 0; k < count; k++) {
+    for (size_t k = 0, stale = count > 1 || s->compat->marks > 0 || s->isWritten; k < count; k++) {
         const sraRect r = copied(s, to[k], dx, dy);
         const int32_t code = s->clientHead && s->compat->server ? vnc_server_do_copy_rect(s->compat->server, r.x1, r.y1, r.x2, r.y2, dx, dy) : 0;
         if (stale || code < 0) mark(s, r.x1, r.y1, r.x2, r.y2);

@@ -111,7 +111,8 @@ typedef struct _rfbScreenInfo {
     rfbCursorPtr cursor;            /* kept and freed, not shown */
     char *httpDir;                  /* not read */
     rfbBool httpEnableProxyConnect; /* not read */
-    struct rfbCompat *compat;       /* not the program's */
+    rfbBool isWritten;              /* characters stand in frameBuffer, maybe not marked; not the program's, nor is what follows */
+    struct rfbCompat *compat;
 } rfbScreenInfo;
 
 typedef struct _rfbClientRec {

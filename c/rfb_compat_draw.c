@@ -38,7 +38,7 @@ int rfbDrawCharWithClip(rfbScreenInfoPtr s, rfbFontDataPtr font, int x, int y, u
 {
     const int *m = font->metaData + 5 * c;
     int right, bottom;
-    rfbFontBBox(font, c, &x, &y, &right, &bottom);
+    rfbFontBBox(font, c, &x, &y, &right, &bottom), s->isWritten = TRUE;
     for (int i = 0; i < m[1] * m[2]; i++) {
         const int column = i % m[1], row = i / m[1], isLit = font->data[m[0] + row * ((m[1] + 7) / 8) + column / 8] & 0x80 >> column % 8;
         const int isIn = x + column >= x1 && x + column < x2 && y + row >= y1 && y + row < y2;
