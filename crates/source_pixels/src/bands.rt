@@ -10,7 +10,7 @@ const SLACK: usize = 64;
 
 /// How many places rows that are joined have at most, so that the colours of a rectangle of several rows, of four bytes each, stay in
 /// a processor's cache from when they are written to when they are read.
-pub const MOST_PLACES: usize = 65_536;
+pub const MOST_PLACES: usize = 16_384;
 
 /// The columns from one to below another, in the rows from one to below another.
 #[derive(Clone, Copy, Debug)]

@@ -1,9 +1,14 @@
 //! The colours of a row's pixels beside those of a row of a picture.
 
-ghost use Rattle.std.specs.Prelude.{◌≡◌, ◌≢◌, ◌≤◌, ◌-◌, ◌<◌, ◌↔◌, IsTrue, length, map, slice_index, MatchOption};
+ghost use Rattle.std.specs.Prelude.{◌≡◌, ◌≢◌, ◌+◌, ◌≤◌, ◌-◌, ◌<◌, ◌^◌, ◌↔◌, IsTrue, length, map, slice_index, IfSome, MatchOption};
 ghost use Rattle.source_pixels.specs.Rows.{AreSame, IsDifference, difference_count};
+ghost use Rattle.source_pixels.specs.RowLemmas.{with_block};
 
 use crate::colours::Colours;
+
+/// How many places are compared at once: a loop over so many goes by vectors, without a branch, and where one differs, few others are
+/// looked at again.
+const BLOCK: usize = 64;
 
 /// Where a row differs from a row of a picture: the columns from the first to behind the last of the places that differ, and how
 /// many places differ.
@@ -70,7 +75,55 @@ fn end_of_differences<P: Copy, C: Colours<P>>(colours: &C, pixels: &[P], row: &[
     0
 }
 
-/// Where pixels' colours differ from a row's, if they do. Only a row that differs is looked at again.
+/// Where the pixels' colours differ from a row's, if they do: a block, or what is left behind the last.
+fn compare_block<P: Copy, C: Colours<P>>(
+    colours: &C,
+    pixels: &[P],
+    row: &[u32],
+) -> Option<RowDifference>
+    requires { length row.now ≤ length pixels.now }
+    ensures { MatchOption result (AreSame (map (C.colour_of colours.now) pixels.now) row.now 0 (length row.now))
+        (λ d. IsDifference (map (C.colour_of colours.now) pixels.now) row.now d) }
+{
+    let places = count_differences(colours, pixels, row);
+    if places == 0 {
+        return None;
+    }
+    Some(RowDifference {
+        from: first_difference(colours, pixels, row),
+        to: end_of_differences(colours, pixels, row),
+        places,
+    })
+}
+
+/// Where a row differs, from where it does in its columns to below one, and in a block from that one on.
+fn with_block(
+    so_far: Option<RowDifference>,
+    from: usize,
+    block: Option<RowDifference>,
+) -> Option<RowDifference>
+    requires inside { IfSome block (λ d. (d.from < d.to) × (from + d.to < 2 ^ 64)) }
+    requires few { IfSome so_far (λ before. IfSome block (λ d. before.places + d.places < 2 ^ 64)) }
+    ensures { result ≡ with_block so_far from block }
+{
+    let Some(block) = block else {
+        return so_far;
+    };
+    Some(match so_far {
+        None => RowDifference {
+            from: from + block.from,
+            to: from + block.to,
+            places: block.places,
+        },
+        Some(before) => RowDifference {
+            from: before.from,
+            to: from + block.to,
+            places: before.places + block.places,
+        },
+    })
+}
+
+/// Where pixels' colours differ from a row's, if they do. Only a block that differs is looked at again.
 pub(crate) fn compare<P: Copy, C: Colours<P>>(
     colours: &C,
     pixels: &[P],
@@ -80,14 +133,20 @@ pub(crate) fn compare<P: Copy, C: Colours<P>>(
     ensures { MatchOption result (AreSame (map (C.colour_of colours.now) pixels.now) row.now 0 (length row.now))
         (λ d. IsDifference (map (C.colour_of colours.now) pixels.now) row.now d) }
 {
-    if are_same(colours, pixels, row) {
-        return None;
+    let mut difference = None;
+    let blocks = row.len() / BLOCK;
+    for block in 0..blocks {
+        let from = block * BLOCK;
+        let to = from + BLOCK;
+        if !are_same(colours, &pixels[from..to], &row[from..to]) {
+            let found = compare_block(colours, &pixels[from..to], &row[from..to]);
+            difference = with_block(difference, from, found);
+        }
     }
-    Some(RowDifference {
-        from: first_difference(colours, pixels, row),
-        to: end_of_differences(colours, pixels, row),
-        places: count_differences(colours, pixels, row),
-    })
+    let from = blocks * BLOCK;
+    let to = row.len();
+    let rest = compare_block(colours, &pixels[from..to], &row[from..to]);
+    with_block(difference, from, rest)
 }
 
 /// Writes the colours of pixels, of which there are as many as places.

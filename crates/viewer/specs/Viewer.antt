@@ -56,7 +56,7 @@ is_open _ _ = false
 abbrev pub is_open_viewer : Viewer (List ℕ) → Bool
 is_open_viewer v = is_open (heard v.heard).phase (heard v.heard).end
 
--- what it has set (RFC 6143, 7.3.1, 7.5.1 and 7.5.2)
+-- what it has set (RFC 6143, 7.3.1, 7.5.1 and 7.5.2), and how many of its requests were not incremental (7.5.3)
 abbrev pub settings_of : {B : Type 0} → Viewer B → Settings
 settings_of v = record { shared = v.shared; format = v.format; encoding = v.encoding; uses_copyrect = v.uses_copyrect; takes_sizes = v.takes_sizes; full_requests = v.full_requests }
 
