@@ -294,14 +294,14 @@ fn a_large_picture_is_taken_in_parts(rt: HostRuntime) -> Result<(), Fail> {
         .ok_or("refused")?;
     assert_eq!(rt; screen.take(rt.alloc(), 0, 0, &source)?, count_new());
     assert_eq!(rt; count_wrong(&screen, false), 0);
-    // rows 100 to 217, 218 to 435, and 436 to 449
+    // of 54 rows at a time: 100 to 107, six times 54, and 432 to 449
     let events = screen.history().ok_or("not kept")?;
-    assert_eq!(rt; events.len(), 3);
+    assert_eq!(rt; events.len(), 8);
     assert_eq!(rt; screen.take(rt.alloc(), 0, 0, &source)?, 0);
     Ok(())
 }
 
-// Of this test's 520 allocations the last 17 are those of taking: rt try --test --fail-alloc N refuses the Nth.
+// The last of this test's allocations are those of taking: rt try --test --fail-alloc N refuses the Nth.
 #[test]
 fn a_second_call_takes_the_rest(rt: HostRuntime) -> Result<(), Fail> {
     let mut screen = screen_of(rt.alloc(), COLUMNS, ROWS)?;
