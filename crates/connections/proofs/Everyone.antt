@@ -1,5 +1,5 @@
 -- What a step makes of all connections.
-use Rattle.std.proofs.Common.{◌≡◌, ◌≢◌, ◌⊎◌, inl, inr, true≢false, ◌<◌, ◌≤◌, ℕ, zero, suc, Bool, true, false, List, [], ◌∷◌, ◌++◌, Option, Some, None, refl, sym, ap, ◌∙◌, append_assoc, append-nil, subst, arith, ◌+◌}
+use Rattle.std.proofs.Common.{◌≡◌, ◌≢◌, ◌⊎◌, inl, inr, true≢false, ◌<◌, ◌≤◌, ℕ, zero, suc, Bool, true, false, List, [], ◌∷◌, ◌++◌, Option, Some, None, Result, Ok, Err, refl, sym, ap, ◌∙◌, append_assoc, append-nil, subst, arith, ◌+◌}
 use Rattle.std.specs.Prelude.{◌==◌, ◌&&◌, unwrap_or, length, slice_set}
 use Rattle.std.proofs.lemmas.List.{get_or-set_same, get_or-set_other}
 use Rattle.std.specs.Io.KnownBytes.{Appends, Consumes}
@@ -7,6 +7,8 @@ use Rattle.std.proofs.lemmas.Bool.Decides.{Decides-eqb}
 use Rattle.screen.specs.declared.Config.{Config}
 use Rattle.screen.specs.declared.Event.{Event}
 use Rattle.screen.specs.declared.Event.TheVariants.{Connect, Close}
+use Rattle.screen.specs.declared.Input.{Input}
+use Rattle.screen.specs.declared.ScreenError.{ScreenError}
 use Rattle.screen.specs.Answers.{viewer_of, answer_to}
 use Rattle.slab.specs.Slab.{Slab, get, Updates}
 use Rattle.receipts.specs.declared.Receipt.{Receipt}
@@ -18,8 +20,10 @@ use Rattle.connections.specs.Waiting.{waiting_bytes, IsFew}
 use Rattle.connections.specs.Drawing.{Surface, Draws, IsDrawnFrom}
 use Rattle.connections.specs.Among.{is_among}
 use Rattle.connections.specs.Attending.{asks, IsSettled}
-use Rattle.connections.specs.Serving.{Carried, ViewerConnection, Moves, breaks_off, has_work, IsServed, WasServed, IsOver, IsAttended, Serving, at_key, works_at, may_cut_at, may_ask_at, is_kept, Serves, GoesOn, drawn_is_served}
-use Rattle.connections.specs.Turns.{Knows, IsTurnFrom, TakesTurn}
+use Rattle.connections.specs.Telling.{inputs_after, IsTold}
+use Rattle.connections.specs.Serving.{Carried, ViewerConnection, Moves, breaks_off, has_work, IsServed, WasServed, IsOver, IsAttended, Serving, at_key, works_at, may_cut_at, may_ask_at, is_kept, Serves, GoesOn, GoesOnTelling, drawn_is_served}
+use Rattle.connections.specs.Turns.{Knows, IsTurnFrom, TakesTurn, TakesTurnTelling}
+use Rattle.connections.proofs.Telling.{inputs-append, inputs-drawings, told-nothing, told-all, told-then, told-ended}
 use Rattle.connections.proofs.Given.{SameFor, bytes-own, heard-same, same-others, same-drawings}
 use Rattle.connections.proofs.Turns.{served-same, drawn-on, moves-nothing}
 use Rattle.connections.proofs.Seen.{asks-drawings, asks-others}
@@ -30,8 +34,37 @@ use Rattle.connections.proofs.Knowing.{settled-looked, settled-other, settled-dr
 pub goes-then : (a b d : Serving) → GoesOn a b → GoesOn b d → GoesOn a d
 goes-then a b d g h c began list s =
     let first = g c began list s in
-    let second = h c began (list ++ first.0) first.1 in
-    (first.0 ++ second.0, subst (λ (l : List Event). Serves c began l d) (append_assoc list first.0 second.0) second.1)
+    let second = h c began (list ++ first.0) first.1 in (
+      first.0 ++ second.0,
+      subst (λ (l : List Event). Serves c began l d) (append_assoc list first.0 second.0) second.1,
+      inputs-append c list first.0 second.0 ∙ ap (λ l. l ++ inputs_after c (list ++ first.0) second.0) first.2 ∙ second.2,
+    )
+
+module _ {A : Type 0} (stands : A → List (ℕ × Input) → Type 0) where
+  -- an application was told all
+  abbrev pub TellsAll : Serving → Serving → A → A → Type 0
+  TellsAll a b x y = GoesOnTelling {X = Unit {0}} {E = ScreenError} stands a b x y (Ok tt)
+
+  -- an application is told nothing
+  pub goes-silently : {X E : Type 0} (x : A) (r : Result X E) (a b : Serving) → GoesOn a b → GoesOnTelling stands a b x x r
+  goes-silently x r a b g c began list s = let p = g c began list s in (p.0, p.1, subst (λ l. IsTold stands l x x r) (sym p.2) (told-nothing stands x r))
+
+  pub tells-all : {X E : Type 0} (x y : A) (r : Result X E) (value : X) (a b : Serving) → r ≡ Ok value → GoesOnTelling stands a b x y r → TellsAll a b x y
+  tells-all x y r value a b ok g c began list s = let p = g c began list s in (p.0, p.1, told-all stands x y (inputs_after c list p.0) r value ok p.2)
+
+  -- it was told all, and is told more
+  pub tells-then : {X E : Type 0} (x y z : A) (r : Result X E) (a b d : Serving) → TellsAll a b x y → GoesOnTelling stands b d y z r → GoesOnTelling stands a d x z r
+  tells-then x y z r a b d g h c began list s =
+      let first = g c began list s in
+      let second = h c began (list ++ first.0) first.1 in (
+        first.0 ++ second.0,
+        subst (λ (l : List Event). Serves c began l d) (append_assoc list first.0 second.0) second.1,
+        subst (λ l. IsTold stands l x z r) (sym (inputs-append c list first.0 second.0)) (told-then stands x y z (inputs_after c list first.0) (inputs_after c (list ++ first.0) second.0) r first.2 second.2),
+      )
+
+  -- as an error says that ended it
+  pub tells-ended : {X Y E F : Type 0} (x y : A) (q : Result X E) (r : Result Y F) (f : F) (a b : Serving) → r ≡ Err f → GoesOnTelling stands a b x y q → GoesOnTelling stands a b x y r
+  tells-ended x y q r f a b err g c began list s = let p = g c began list s in (p.0, p.1, told-ended stands x y (inputs_after c list p.0) q r f err p.2)
 
 -- ---- which are to be looked at
 
@@ -61,7 +94,7 @@ pub goes-listed : (a b : Serving) → b.surface ≡ a.surface → b.kept ≡ a.k
     → ((key : ℕ) → works_at a.slots key ≡ true → is_among key a.agenda ≡ true → is_among key b.agenda ≡ true)
     → ((key : ℕ) → may_ask_at a.slots key ≡ true → is_among key a.asking ≡ true → is_among key b.asking ≡ true) → GoesOn a b
 goes-listed a b surface kept next slots listed asked c began list s =
-    ([], subst (λ (l : List Event). Serves c began l b) (sym (append-nil list)) (serves-listed c began list a b surface kept next slots listed asked s))
+    ([], subst (λ (l : List Event). Serves c began l b) (sym (append-nil list)) (serves-listed c began list a b surface kept next slots listed asked s), refl)
 
 pub goes-nowhere : (a : Serving) → GoesOn a a
 goes-nowhere a = goes-listed a a refl refl refl refl (λ key works h. h) (λ key asks h. h)
@@ -101,6 +134,7 @@ goes-settled a b same screen looked c began list s =
         apart = λ j k d e dj ek same. s.apart j k d e (ap (λ l. at_key l j) (sym slots) ∙ dj) (ap (λ l. at_key l k) (sym slots) ∙ ek) same;
         unused = λ v free. s.unused v (subst (λ (n : ℕ). n ≤ v) next free);
       }),
+      refl,
     )
   where
     unasked : (key : ℕ) (e : ViewerConnection) → is_among key a.asking ≡ false → IsAttended c list a key e → (w : Bool) → e.known.may_ask ≡ w → asks (viewer_of c e.number list) ≡ false
@@ -147,7 +181,7 @@ serves-drawn c began list a b d same s =
 pub goes-drawn : (a b : Serving) → Draws a.surface b.surface → b ≡ record a { surface = b.surface } → GoesOn a b
 goes-drawn a b draws same c began list s =
     let d = drawn-on c list a.surface b.surface s.screen draws in
-    (d.calls, serves-drawn c began list a b d same s)
+    (d.calls, serves-drawn c began list a b d same s, inputs-drawings c list d.calls d.drawings)
 
 pub drawn-serves : drawn_is_served
 drawn-serves c began list s surface drawn serves = serves-drawn c began list s (record s { surface = surface }) drawn refl serves
@@ -164,35 +198,40 @@ goes-drawn-by a before after kept next slots vacant agenda asking is draws =
 less-apart : (m n v : ℕ) → m < n → n ≤ v → m ≡ v → ⊥
 less-apart m n v less free is = omega (arith, less, free, is)
 
-pub goes-by-turn : (a b : Serving) (key : ℕ) (e f : ViewerConnection) → at_key a.slots key ≡ Some e → at_key b.slots key ≡ Some f
-    → ((other : ℕ) → other ≢ key → at_key b.slots other ≡ at_key a.slots other) → b.kept ≡ a.kept → b.next ≡ a.next → b.agenda ≡ a.agenda → b.asking ≡ a.asking
-    → is_among key a.agenda ≡ true → (f.known.may_ask ≡ true → (e.known.may_ask ≡ true) ⊎ (is_among key a.asking ≡ true)) → TakesTurn a.surface e b.surface f → GoesOn a b
-goes-by-turn a b key e f there now others kept next agenda asking among asked turn c began list s =
+-- a turn begins
+begun : (c : Config) (began : ℕ → Carried) (list : List Event) (a : Serving) (key : ℕ) (e : ViewerConnection) → at_key a.slots key ≡ Some e → Serves c began list a → IsTurnFrom c list (began e.number) e.number [] a.surface a.surface e
+begun c began list a key e there s =
     let n = e.number in
-    let mine = s.each key e there in
     let known = s.attended key e there in
-    let t = turn c list (began n) n a.surface (record {
+    record {
       events = [];
+      inputs = refl;
       own = refl;
       screen = s.screen ∙ ap (state c) (sym (append-nil list));
       number = refl;
-      served = subst (λ (l : List Event). IsServed c l (began n) e) (sym (append-nil list)) mine.1;
+      served = subst (λ (l : List Event). IsServed c l (began n) e) (sym (append-nil list)) (s.each key e there).1;
       knows = subst (λ (l : List Event). Knows c list l n a.surface a.surface e.known) (sym (append-nil list)) (record { answered = known.answered; settled = known.settled; others = λ u apart h. h });
-    }) in
-    let stays : (v : ℕ) → (n ≡ v → ⊥) → SameFor c v list (list ++ t.events) = λ v apart. same-others c n v apart list t.events t.own in (
-      t.events,
-      record {
-        screen = t.screen;
-        kept = kept ∙ s.kept;
-        each = λ j g at. at-one j g at (j == key) refl t stays;
-        attended = λ j g at. known-one j g at (j == key) refl t;
-        apart = λ j k d g dj gk same. apart-two j k d g dj gk same t;
-        unused = λ v free. let f = subst (λ (n : ℕ). n ≤ v) next free in let h = s.unused v f in let w = stays v (less-apart n a.next v mine.0 f) in (w.0 ∙ h.0, w.1 ∙ h.1);
-      },
-    )
+    }
+
+serves-by-turn : (c : Config) (began : ℕ → Carried) (list : List Event) (a b : Serving) (key : ℕ) (e f : ViewerConnection) (said : List (ℕ × Input)) → at_key a.slots key ≡ Some e → at_key b.slots key ≡ Some f
+    → ((other : ℕ) → other ≢ key → at_key b.slots other ≡ at_key a.slots other) → b.kept ≡ a.kept → b.next ≡ a.next → b.agenda ≡ a.agenda → b.asking ≡ a.asking
+    → is_among key a.agenda ≡ true → (f.known.may_ask ≡ true → (e.known.may_ask ≡ true) ⊎ (is_among key a.asking ≡ true))
+    → (t : IsTurnFrom c list (began e.number) e.number said a.surface b.surface f) → Serves c began list a → Serves c began (list ++ t.events) b
+serves-by-turn c began list a b key e f said there now others kept next agenda asking among asked t s =
+    let n = e.number in
+    let mine = s.each key e there in
+    let stays : (v : ℕ) → (n ≡ v → ⊥) → SameFor c v list (list ++ t.events) = λ v apart. same-others c n v apart list t.events t.own in
+    record {
+      screen = t.screen;
+      kept = kept ∙ s.kept;
+      each = λ j g at. at-one j g at (j == key) refl t stays;
+      attended = λ j g at. known-one j g at (j == key) refl t;
+      apart = λ j k d g dj gk same. apart-two j k d g dj gk same t;
+      unused = λ v free. let f = subst (λ (n : ℕ). n ≤ v) next free in let h = s.unused v f in let w = stays v (less-apart n a.next v mine.0 f) in (w.0 ∙ h.0, w.1 ∙ h.1);
+    }
   where
     Turned : Type 0
-    Turned = IsTurnFrom c list (began e.number) e.number a.surface b.surface f
+    Turned = IsTurnFrom c list (began e.number) e.number said a.surface b.surface f
 
     same-f : (g : ViewerConnection) → at_key b.slots key ≡ Some g → f ≡ g
     same-f g at = let two : ◌≡◌ {A = Option ViewerConnection} (Some f) (Some g) = sym now ∙ at in cc
@@ -253,6 +292,21 @@ goes-by-turn a b key e f there now others kept next agenda asking among asked tu
         let q = was-one k g gk (k == key) refl t in
         s.apart j k p.0 q.0 p.1 q.1 (p.2 ∙ same ∙ sym q.2)
 
+pub goes-by-turn : (a b : Serving) (key : ℕ) (e f : ViewerConnection) → at_key a.slots key ≡ Some e → at_key b.slots key ≡ Some f
+    → ((other : ℕ) → other ≢ key → at_key b.slots other ≡ at_key a.slots other) → b.kept ≡ a.kept → b.next ≡ a.next → b.agenda ≡ a.agenda → b.asking ≡ a.asking
+    → is_among key a.agenda ≡ true → (f.known.may_ask ≡ true → (e.known.may_ask ≡ true) ⊎ (is_among key a.asking ≡ true)) → TakesTurn a.surface e b.surface f → GoesOn a b
+goes-by-turn a b key e f there now others kept next agenda asking among asked turn c began list s =
+    let t = turn c list (began e.number) e.number [] a.surface (begun c began list a key e there s) in
+    (t.events, serves-by-turn c began list a b key e f [] there now others kept next agenda asking among asked t s, t.inputs)
+
+-- the same where an application is told what came
+pub goes-by-telling : {A X E : Type 0} (stands : A → List (ℕ × Input) → Type 0) (x y : A) (r : Result X E) (a b : Serving) (key : ℕ) (e f : ViewerConnection) → at_key a.slots key ≡ Some e → at_key b.slots key ≡ Some f
+    → ((other : ℕ) → other ≢ key → at_key b.slots other ≡ at_key a.slots other) → b.kept ≡ a.kept → b.next ≡ a.next → b.agenda ≡ a.agenda → b.asking ≡ a.asking
+    → is_among key a.agenda ≡ true → (f.known.may_ask ≡ true → (e.known.may_ask ≡ true) ⊎ (is_among key a.asking ≡ true)) → TakesTurnTelling stands a.surface e b.surface f x y r → GoesOnTelling stands a b x y r
+goes-by-telling stands x y r a b key e f there now others kept next agenda asking among asked turn c began list s =
+    let t = turn c list (began e.number) e.number [] a.surface (begun c began list a key e there s) in
+    (t.1.events, serves-by-turn c began list a b key e f t.0 there now others kept next agenda asking among asked t.1 s, subst (λ l. IsTold stands l x y r) (sym t.1.inputs) t.2)
+
 -- a key with a connection is one of the slots
 within : (slots : List (Option ViewerConnection)) (key : ℕ) (e : ViewerConnection) → at_key slots key ≡ Some e → key < length slots
 within [] key e h = absurd cc
@@ -267,6 +321,17 @@ goes-at a before after kept next slots vacant agenda asking key e f is there lis
     let b : Serving = record { surface = after; kept = kept; next = next; slots = slice_set slots key (Some f); vacant = vacant; agenda = agenda; asking = asking } in
     subst (λ (x : Serving). GoesOn x b) is
     (goes-by-turn (record { surface = before; kept = kept; next = next; slots = slots; vacant = vacant; agenda = agenda; asking = asking }) b key e f there
+    (get_or-set_same slots key (Some f) None (within slots key e there))
+    (λ other away. get_or-set_other slots key other (Some f) None away) refl refl refl refl listed asked turn)
+
+pub goes-at-telling : {A X E : Type 0} (stands : A → List (ℕ × Input) → Type 0) (x y : A) (r : Result X E) (a : Serving) (before after : Surface) (kept : Bool) (next : ℕ) (slots : List (Option ViewerConnection)) (vacant : ℕ) (agenda asking : List ℕ) (key : ℕ)
+    (e f : ViewerConnection) → record { surface = before; kept = kept; next = next; slots = slots; vacant = vacant; agenda = agenda; asking = asking } ≡ a → at_key slots key ≡ Some e
+    → is_among key agenda ≡ true → (f.known.may_ask ≡ true → (e.known.may_ask ≡ true) ⊎ (is_among key asking ≡ true)) → TakesTurnTelling stands before e after f x y r
+    → GoesOnTelling stands a (record { surface = after; kept = kept; next = next; slots = slice_set slots key (Some f); vacant = vacant; agenda = agenda; asking = asking }) x y r
+goes-at-telling stands x y r a before after kept next slots vacant agenda asking key e f is there listed asked turn =
+    let b : Serving = record { surface = after; kept = kept; next = next; slots = slice_set slots key (Some f); vacant = vacant; agenda = agenda; asking = asking } in
+    subst (λ (s : Serving). GoesOnTelling stands s b x y r) is
+    (goes-by-telling stands x y r (record { surface = before; kept = kept; next = next; slots = slots; vacant = vacant; agenda = agenda; asking = asking }) b key e f there
     (get_or-set_same slots key (Some f) None (within slots key e there))
     (λ other away. get_or-set_other slots key other (Some f) None away) refl refl refl refl listed asked turn)
 
@@ -517,16 +582,16 @@ pub parted : {T : Type 0} (c : Config) (began : ℕ → Carried) (list : List Ev
     → (before.screen ≡ state c list → after.screen ≡ state c (list ++ Close v ∷ [])) → (before.screen ≡ state c list → (answer_to c list (Close v)).bytes ≡ [])
     → get old key ≡ Some e → Updates old new key None → IsOver (get old key) v ended → r.viewer ≡ e.number → r.ended ≡ ended → r.sent ≡ unwrap_or e.carried.sent []
     → record { unread = unread transport; written = written transport; sent = e.carried.sent } ≡ e.carried → after ≡ record before { screen = after.screen } → Lets key agenda later_agenda → Lets key asking later_asking → Serves c began list a
-    → (more : List Event) × Serves c began (list ++ more) (record { surface = after; kept = kept; next = next; slots = new.slots; vacant = new.vacant_key; agenda = later_agenda; asking = later_asking }) × WasServed c (list ++ more) (began r.viewer) unread written transport r
+    → (more : List Event) × Serves c began (list ++ more) (record { surface = after; kept = kept; next = next; slots = new.slots; vacant = new.vacant_key; agenda = later_agenda; asking = later_asking }) × (inputs_after c list more ≡ []) × WasServed c (list ++ more) (began r.viewer) unread written transport r
 parted {T = T} c began list a before after kept next old new agenda asking later_agenda later_asking key v e ended unread written transport r is steps quiet there updates over viewer so sent carried still listed asked =
     let b : Serving = record { surface = after; kept = kept; next = next; slots = new.slots; vacant = new.vacant_key; agenda = later_agenda; asking = later_asking } in
     let was : Serving = record { surface = before; kept = kept; next = next; slots = old.slots; vacant = old.vacant_key; agenda = agenda; asking = asking } in
     let ended_so : IsOver (Some e) v ended = subst (λ (o : Option ViewerConnection). IsOver o v ended) there over in
     let number : v ≡ e.number = sym ended_so.0 in
-    subst (λ (x : Serving). Serves c began list x → (more : List Event) × Serves c began (list ++ more) b × WasServed c (list ++ more) (began r.viewer) unread written transport r) is
+    subst (λ (x : Serving). Serves c began list x → (more : List Event) × Serves c began (list ++ more) b × (inputs_after c list more ≡ []) × WasServed c (list ++ more) (began r.viewer) unread written transport r) is
     (λ s.
     let both = one-less c began list was b key e unread written transport r (subst (λ (n : ℕ). after.screen ≡ state c (list ++ Close n ∷ [])) number (steps s.screen))
     (subst (λ (n : ℕ). (answer_to c list (Close n)).bytes ≡ []) number (quiet s.screen)) refl refl there updates.changed updates.others
     (subst (λ (x : Ended). IsOver (Some e) e.number x) (sym so) (subst (λ (n : ℕ). IsOver (Some e) n ended) number ended_so)) viewer sent carried
     (ap (λ (x : Surface). x.drawn) still) (ap (λ (x : Surface). x.noticed) still) listed asked s in
-    (Close e.number ∷ [], both.0, both.1))
+    (Close e.number ∷ [], both.0, refl, both.1))

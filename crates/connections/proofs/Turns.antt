@@ -1,5 +1,5 @@
 -- What a step of one connection, or of the screen, makes of all of them.
-use Rattle.std.proofs.Common.{◌≡◌, ◌≢◌, ◌⊎◌, ℕ, true, false, List, [], ◌∷◌, ◌++◌, Option, Some, None, refl, sym, ap, ◌∙◌, append_assoc, append-nil, subst, inl, inr}
+use Rattle.std.proofs.Common.{◌≡◌, ◌≢◌, ◌⊎◌, ℕ, true, false, List, [], ◌∷◌, ◌++◌, Option, Some, None, Result, refl, sym, ap, ◌∙◌, append_assoc, append-nil, subst, inl, inr}
 use Rattle.std.specs.Prelude.{◌&&◌, option_map}
 use Rattle.std.proofs.KnownBytes.{Appends-nil, Appends-trans, Consumes-nil, Consumes-trans}
 use Rattle.std.proofs.lemmas.Bool.{and_from}
@@ -8,6 +8,7 @@ use Rattle.std.proofs.lemmas.List.Folds.{list_all-append}
 use Rattle.screen.specs.declared.Config.{Config}
 use Rattle.screen.specs.declared.Event.{Event}
 use Rattle.screen.specs.declared.Event.TheVariants.{Hear, Cut}
+use Rattle.screen.specs.declared.Input.{Input}
 use Rattle.screen.specs.Alone.{owner_of}
 use Rattle.screen.specs.Answers.{is_owner, answer_to}
 use Rattle.screen.specs.Refusals.{held_as_alone}
@@ -19,7 +20,9 @@ use Rattle.connections.specs.Waiting.{waiting_bytes, IsFew}
 use Rattle.connections.specs.Drawing.{Surface, IsDrawnFrom, Draws, is_asking_on}
 use Rattle.connections.specs.Attending.{Known, next_bytes}
 use Rattle.connections.specs.Serving.{Carried, ViewerConnection, Moves, breaks_off, IsServed}
-use Rattle.connections.specs.Turns.{are_of, Knows, IsTurnFrom, HasRead, HearsPiece, TakesTurn}
+use Rattle.connections.specs.Telling.{said_by, inputs_after, IsTold}
+use Rattle.connections.specs.Turns.{are_of, Knows, IsTurnFrom, HasRead, HearsPiece, TakesTurn, TakesTurnTelling}
+use Rattle.connections.proofs.Telling.{inputs-append, inputs-drawings, told-nothing}
 use Rattle.connections.proofs.Given.{SameFor, bytes-own, heard-own, heard-same, same-drawings, drawings-own}
 use Rattle.connections.proofs.Knowing.{knows-known, knows-looked, knows-drawn, knows-heard, knows-none, knows-cut}
 
@@ -93,11 +96,12 @@ drawn-on c list a b stands draws = draws c list a (record { calls = []; drawings
 
 -- the application draws in a viewer's turn
 pub turn-drawn : (a b : Surface) (e : ViewerConnection) → Draws a b → TakesTurn a e b e
-turn-drawn a b e draws c list began v since t =
+turn-drawn a b e draws c list began v said since t =
     let d = drawn-on c (list ++ t.events) a b t.screen draws in
     let far : (list ++ t.events) ++ d.calls ≡ list ++ (t.events ++ d.calls) = append_assoc list t.events d.calls in
     record {
       events = t.events ++ d.calls;
+      inputs = inputs-append c list t.events d.calls ∙ ap (λ l. l ++ inputs_after c (list ++ t.events) d.calls) t.inputs ∙ ap (λ l. said ++ l) (inputs-drawings c (list ++ t.events) d.calls d.drawings) ∙ append-nil said;
       own = own-then v t.events d.calls t.own (drawings-own v d.calls d.drawings);
       screen = d.screen ∙ ap (state c) far;
       number = t.number;
@@ -107,9 +111,9 @@ turn-drawn a b e draws c list began v since t =
     }
 
 -- a read of a viewer that hasn't ended
-pub turn-read : (c : Config) (list : List Event) (began : Carried) (v : ℕ) (since a : Surface) (e f : ViewerConnection) (known : Known) (piece : List ℕ) → e.ended ≡ None
-    → f ≡ record e { carried = f.carried; known = known } → known.may_cut ≡ e.known.may_cut → known.may_ask ≡ e.known.may_ask → Moves e.carried f.carried piece [] → IsTurnFrom c list began v since a e → HasRead c list began v piece since a f
-turn-read c list began v since a e f known piece live same cut ask moved t =
+pub turn-read : (c : Config) (list : List Event) (began : Carried) (v : ℕ) (said : List (ℕ × Input)) (since a : Surface) (e f : ViewerConnection) (known : Known) (piece : List ℕ) → e.ended ≡ None
+    → f ≡ record e { carried = f.carried; known = known } → known.may_cut ≡ e.known.may_cut → known.may_ask ≡ e.known.may_ask → Moves e.carried f.carried piece [] → IsTurnFrom c list began v said since a e → HasRead c list began v said piece since a f
+turn-read c list began v said since a e f known piece live same cut ask moved t =
     let s = t.served in
     let none : s.unheard ≡ [] = s.heard (λ is. let no : ◌≡◌ {A = Option Ended} None (Some Memory) = sym live ∙ is in absurd cc) in
     let all : s.unwritten ≡ waiting_bytes e.waiting = s.waits (ap breaks_off live) in
@@ -117,6 +121,7 @@ turn-read c list began v since a e f known piece live same cut ask moved t =
     let waiting : f.waiting ≡ e.waiting = ap (λ (x : ViewerConnection). x.waiting) same in
     record {
       events = t.events;
+      inputs = t.inputs;
       own = t.own;
       screen = t.screen;
       number = number ∙ t.number;
@@ -132,15 +137,16 @@ turn-read c list began v since a e f known piece live same cut ask moved t =
     }
 
 -- a viewer of which nothing was read goes on, or ends
-pub turn-unread : (c : Config) (list : List Event) (began : Carried) (v : ℕ) (since a : Surface) (e f : ViewerConnection)
-    → f ≡ record e { ended = f.ended } → HasRead c list began v [] since a e → IsTurnFrom c list began v since a f
-turn-unread c list began v since a e f same h =
+pub turn-unread : (c : Config) (list : List Event) (began : Carried) (v : ℕ) (said : List (ℕ × Input)) (since a : Surface) (e f : ViewerConnection)
+    → f ≡ record e { ended = f.ended } → HasRead c list began v said [] since a e → IsTurnFrom c list began v said since a f
+turn-unread c list began v said since a e f same h =
     let number : f.number ≡ v = ap (λ (x : ViewerConnection). x.number) same ∙ h.number in
     let carried : f.carried ≡ e.carried = ap (λ (x : ViewerConnection). x.carried) same in
     let waiting : f.waiting ≡ e.waiting = ap (λ (x : ViewerConnection). x.waiting) same in
     let es = list ++ h.events in
     record {
       events = h.events;
+      inputs = h.inputs;
       own = h.own;
       screen = h.screen;
       number = number;
@@ -158,37 +164,41 @@ turn-unread c list began v since a e f same h =
     }
 
 -- memory was refused to hear a piece
-pub turn-unheard : (a b : Surface) (e f : ViewerConnection) (piece : List ℕ) → b ≡ a → f ≡ record e { ended = Some Memory } → HearsPiece piece a e b f
-turn-unheard a b e f piece still same c list began v since h =
+pub turn-unheard : {A X E : Type 0} (stands : A → List (ℕ × Input) → Type 0) (x : A) (r : Result X E) (a b : Surface) (e f : ViewerConnection) (piece : List ℕ) → b ≡ a → f ≡ record e { ended = Some Memory } → HearsPiece stands piece a e b f x x r
+turn-unheard stands x r a b e f piece still same c list began v said since h =
     let number : f.number ≡ v = ap (λ (x : ViewerConnection). x.number) same ∙ h.number in
     let carried : f.carried ≡ e.carried = ap (λ (x : ViewerConnection). x.carried) same in
     let ended : f.ended ≡ Some Memory = ap (λ (x : ViewerConnection). x.ended) same in
-    let es = list ++ h.events in
-    record {
-      events = h.events;
-      own = h.own;
-      screen = ap (λ (x : Surface). x.screen) still ∙ h.screen;
-      number = number;
-      served = record {
-        unheard = piece;
-        written = h.written;
-        unwritten = waiting_bytes e.waiting;
-        moved = subst (λ (n : ℕ). Moves began f.carried (heard_of n es ++ piece) h.written) (sym number) (subst (λ (x : Carried). Moves began x (heard_of v es ++ piece) h.written) (sym carried) h.moved);
-        due = h.due ∙ ap (λ n. bytes_of c n es) (sym number);
-        heard = λ fine. absurd (fine ended);
-        waits = λ fine. let e : breaks_off f.ended ≡ true = ap breaks_off ended in absurd cc;
-        few = subst IsFew (sym (ap (λ (x : ViewerConnection). x.waiting) same)) h.few;
-      };
-      knows = let is : f.known ≡ e.known = ap (λ (x : ViewerConnection). x.known) same in
-          knows-known c list es v since a b e.known f.known still (ap (λ (x : Known). x.may_cut) is) (ap (λ (x : Known). x.may_ask) is) h.knows;
-    }
+    let es = list ++ h.events in (
+      [],
+      record {
+        events = h.events;
+        inputs = h.inputs ∙ sym (append-nil said);
+        own = h.own;
+        screen = ap (λ (x : Surface). x.screen) still ∙ h.screen;
+        number = number;
+        served = record {
+          unheard = piece;
+          written = h.written;
+          unwritten = waiting_bytes e.waiting;
+          moved = subst (λ (n : ℕ). Moves began f.carried (heard_of n es ++ piece) h.written) (sym number) (subst (λ (x : Carried). Moves began x (heard_of v es ++ piece) h.written) (sym carried) h.moved);
+          due = h.due ∙ ap (λ n. bytes_of c n es) (sym number);
+          heard = λ fine. absurd (fine ended);
+          waits = λ fine. let e : breaks_off f.ended ≡ true = ap breaks_off ended in absurd cc;
+          few = subst IsFew (sym (ap (λ (x : ViewerConnection). x.waiting) same)) h.few;
+        };
+        knows = let is : f.known ≡ e.known = ap (λ (x : ViewerConnection). x.known) same in
+            knows-known c list es v since a b e.known f.known still (ap (λ (x : Known). x.may_cut) is) (ap (λ (x : Known). x.may_ask) is) h.knows;
+      },
+      told-nothing stands x r,
+    )
 
 -- a piece is heard and answered
-heard-turn : (c : Config) (list : List Event) (began : Carried) (v : ℕ) (since a b : Surface) (e f : ViewerConnection) (piece bytes : List ℕ)
-    → (h : HasRead c list began v piece since a e) → b.drawn ≡ a.drawn → b.noticed ≡ a.noticed → f.known.may_cut ≡ true → f.known.may_ask ≡ true → b.screen ≡ state c ((list ++ h.events) ++ Hear v piece ∷ []) → bytes ≡ (answer_to c (list ++ h.events) (Hear v piece)).bytes
+heard-turn : (c : Config) (list : List Event) (began : Carried) (v : ℕ) (said : List (ℕ × Input)) (since a b : Surface) (e f : ViewerConnection) (piece bytes : List ℕ)
+    → (h : HasRead c list began v said piece since a e) → b.drawn ≡ a.drawn → b.noticed ≡ a.noticed → f.known.may_cut ≡ true → f.known.may_ask ≡ true → b.screen ≡ state c ((list ++ h.events) ++ Hear v piece ∷ []) → bytes ≡ (answer_to c (list ++ h.events) (Hear v piece)).bytes
     → f ≡ record e { waiting = f.waiting; ended = f.ended; known = f.known } → (breaks_off f.ended ≡ false → waiting_bytes f.waiting ≡ waiting_bytes e.waiting ++ bytes) → IsFew f.waiting
-    → IsTurnFrom c list began v since b f
-heard-turn c list began v since a b e f piece bytes h drawn noticed cut ask stands answered same waits few =
+    → IsTurnFrom c list began v (said ++ said_by v (answer_to c (list ++ h.events) (Hear v piece)).inputs) since b f
+heard-turn c list began v said since a b e f piece bytes h drawn noticed cut ask stands answered same waits few =
     let number : f.number ≡ v = ap (λ (x : ViewerConnection). x.number) same ∙ h.number in
     let carried : f.carried ≡ e.carried = ap (λ (x : ViewerConnection). x.carried) same in
     let es = list ++ h.events in
@@ -196,6 +206,7 @@ heard-turn c list began v since a b e f piece bytes h drawn noticed cut ask stan
     let far : fs ≡ list ++ (h.events ++ Hear v piece ∷ []) = append_assoc list h.events (Hear v piece ∷ []) in
     record {
       events = h.events ++ Hear v piece ∷ [];
+      inputs = inputs-append c list h.events (Hear v piece ∷ []) ∙ ap (λ l. l ++ inputs_after c es (Hear v piece ∷ [])) h.inputs ∙ ap (λ l. said ++ l) (append-nil (said_by v (answer_to c es (Hear v piece)).inputs));
       own = own-then v h.events (Hear v piece ∷ []) h.own (own-one v (Hear v piece) refl);
       screen = stands ∙ ap (state c) far;
       number = number;
@@ -221,18 +232,25 @@ counted-same e p f counted answered =
     let known : f.known ≡ p.known = ap (λ (x : ViewerConnection). x.known) answered in
     answered ∙ ap (λ (x : ViewerConnection). record x { waiting = f.waiting; ended = f.ended }) counted ∙ ap (λ k. record e { waiting = f.waiting; ended = f.ended; known = k }) (sym known)
 
--- and the application draws, as it is told
-pub turn-heard : (a b d : Surface) (e f : ViewerConnection) (n : ℕ) (piece bytes : List ℕ) → n ≡ e.number → b.drawn ≡ a.drawn → b.noticed ≡ a.noticed → f.known.may_cut ≡ true → f.known.may_ask ≡ true
+-- and the application is told what it says, and draws
+pub turn-heard : {A X E : Type 0} (stands : A → List (ℕ × Input) → Type 0) (x y : A) (r : Result X E) (inputs : List Input) (a b d : Surface) (e f : ViewerConnection) (n : ℕ) (piece bytes : List ℕ)
+    → n ≡ e.number → b.drawn ≡ a.drawn → b.noticed ≡ a.noticed → f.known.may_cut ≡ true → f.known.may_ask ≡ true
     → ((c : Config) (list : List Event) → a.screen ≡ state c list → b.screen ≡ state c (list ++ Hear n piece ∷ []))
     → ((c : Config) (list : List Event) → a.screen ≡ state c list → bytes ≡ (answer_to c list (Hear n piece)).bytes)
+    → ((c : Config) (list : List Event) → a.screen ≡ state c list → inputs ≡ (answer_to c list (Hear n piece)).inputs)
     → f ≡ record e { waiting = f.waiting; ended = f.ended; known = f.known } → (breaks_off f.ended ≡ false → waiting_bytes f.waiting ≡ waiting_bytes e.waiting ++ bytes) → IsFew f.waiting → Draws b d
-    → HearsPiece piece a e d f
-turn-heard a b d e f n piece bytes its drawn noticed cut ask steps answers same waits few draws c list began v since h =
+    → IsTold stands (said_by n inputs) x y r → HearsPiece stands piece a e d f x y r
+turn-heard stands x y r inputs a b d e f n piece bytes its drawn noticed cut ask steps answers hears same waits few draws told c list began v said since h =
     let es = list ++ h.events in
-    turn-drawn b d f draws c list began v since
-    (heard-turn c list began v since a b e f piece bytes h drawn noticed cut ask
-    (subst (λ (m : ℕ). b.screen ≡ state c (es ++ Hear m piece ∷ [])) (its ∙ h.number) (steps c es h.screen))
-    (subst (λ (m : ℕ). bytes ≡ (answer_to c es (Hear m piece)).bytes) (its ∙ h.number) (answers c es h.screen)) same waits few)
+    let number : n ≡ v = its ∙ h.number in
+    let is : said_by n inputs ≡ said_by v (answer_to c es (Hear v piece)).inputs = ap (λ m. said_by m inputs) number ∙ ap (said_by v) (subst (λ (m : ℕ). inputs ≡ (answer_to c es (Hear m piece)).inputs) number (hears c es h.screen)) in (
+      said_by v (answer_to c es (Hear v piece)).inputs,
+      turn-drawn b d f draws c list began v (said ++ said_by v (answer_to c es (Hear v piece)).inputs) since
+          (heard-turn c list began v said since a b e f piece bytes h drawn noticed cut ask
+          (subst (λ (m : ℕ). b.screen ≡ state c (es ++ Hear m piece ∷ [])) number (steps c es h.screen))
+          (subst (λ (m : ℕ). bytes ≡ (answer_to c es (Hear m piece)).bytes) number (answers c es h.screen)) same waits few),
+      subst (λ l. IsTold stands l x y r) is told,
+    )
 
 -- an update is cut for a viewer, or there is none
 cut-turn : (a b : Surface) (e f : ViewerConnection) (m : ℕ) (bytes : List ℕ) → m ≡ e.number
@@ -240,7 +258,7 @@ cut-turn : (a b : Surface) (e f : ViewerConnection) (m : ℕ) (bytes : List ℕ)
     → ((c : Config) (list : List Event) → a.screen ≡ state c list → bytes ≡ (answer_to c list (Cut m)).bytes)
     → f ≡ record e { waiting = f.waiting; known = f.known } → waiting_bytes f.waiting ≡ waiting_bytes e.waiting ++ bytes → (IsFew e.waiting → IsFew f.waiting)
     → ((c : Config) (before list : List Event) (since : Surface) → a.screen ≡ state c list → Knows c before list e.number since a e.known → Knows c before (list ++ Cut e.number ∷ []) e.number since b f.known) → TakesTurn a e b f
-cut-turn a b e f number bytes its steps-at answers-at same waits few knows c list began v since t =
+cut-turn a b e f number bytes its steps-at answers-at same waits few knows c list began v said since t =
     let steps : (c : Config) (list : List Event) → a.screen ≡ state c list → b.screen ≡ state c (list ++ Cut e.number ∷ []) = λ c list h. subst (λ (m : ℕ). b.screen ≡ state c (list ++ Cut m ∷ [])) its (steps-at c list h) in
     let answers : (c : Config) (list : List Event) → a.screen ≡ state c list → bytes ≡ (answer_to c list (Cut e.number)).bytes = λ c list h. subst (λ (m : ℕ). bytes ≡ (answer_to c list (Cut m)).bytes) its (answers-at c list h) in
     let number : f.number ≡ e.number = ap (λ (x : ViewerConnection). x.number) same in
@@ -253,6 +271,7 @@ cut-turn a b e f number bytes its steps-at answers-at same waits few knows c lis
     let far : fs ≡ list ++ (t.events ++ Cut n ∷ []) = append_assoc list t.events (Cut n ∷ []) in
     record {
       events = t.events ++ Cut n ∷ [];
+      inputs = inputs-append c list t.events (Cut n ∷ []) ∙ append-nil (inputs_after c list t.events) ∙ t.inputs;
       own = own-then v t.events (Cut n ∷ []) t.own (own-one v (Cut n) (ap Some t.number));
       screen = steps c es t.screen ∙ ap (state c) far;
       number = number ∙ t.number;
@@ -299,8 +318,9 @@ turn-uncut a b e f m its steps answers same drawn noticed ask =
 
 -- an update may be there to be cut
 pub turn-looked : (a : Surface) (e f : ViewerConnection) → f ≡ record e { known = f.known } → f.known.may_cut ≡ true → f.known.may_ask ≡ e.known.may_ask → TakesTurn a e a f
-turn-looked a e f same cut ask c list began v since t = record {
+turn-looked a e f same cut ask c list began v said since t = record {
   events = t.events;
+  inputs = t.inputs;
   own = t.own;
   screen = t.screen;
   number = ap (λ (x : ViewerConnection). x.number) same ∙ t.number;
@@ -310,8 +330,9 @@ turn-looked a e f same cut ask c list began v since t = record {
 
 -- more is known of its transport
 pub turn-noted : (a : Surface) (e f : ViewerConnection) → f ≡ record e { known = f.known } → f.known.may_cut ≡ e.known.may_cut → f.known.may_ask ≡ e.known.may_ask → TakesTurn a e a f
-turn-noted a e f same cut ask c list began v since t = record {
+turn-noted a e f same cut ask c list began v said since t = record {
   events = t.events;
+  inputs = t.inputs;
   own = t.own;
   screen = t.screen;
   number = ap (λ (x : ViewerConnection). x.number) same ∙ t.number;
@@ -323,13 +344,14 @@ turn-noted a e f same cut ask c list began v since t = record {
 pub turn-written : (a b : Surface) (e f : ViewerConnection) (known : Known) (added unwritten : List ℕ) → b ≡ a → breaks_off e.ended ≡ false
     → f ≡ record e { carried = f.carried; waiting = f.waiting; ended = f.ended; known = known } → known.may_cut ≡ e.known.may_cut → known.may_ask ≡ e.known.may_ask → Moves e.carried f.carried [] added → added ++ unwritten ≡ waiting_bytes e.waiting
     → (breaks_off f.ended ≡ false → unwritten ≡ waiting_bytes f.waiting) → IsFew f.waiting → TakesTurn a e b f
-turn-written a b e f known added unwritten still whole same cut ask moved parts waits few c list began v since t =
+turn-written a b e f known added unwritten still whole same cut ask moved parts waits few c list began v said since t =
     let number : f.number ≡ e.number = ap (λ (x : ViewerConnection). x.number) same in
     let s = t.served in
     let es = list ++ t.events in
     let all : s.unwritten ≡ waiting_bytes e.waiting = s.waits whole in
     record {
       events = t.events;
+      inputs = t.inputs;
       own = t.own;
       screen = ap (λ (x : Surface). x.screen) still ∙ t.screen;
       number = number ∙ t.number;
@@ -350,17 +372,31 @@ turn-written a b e f known added unwritten still whole same cut ask moved parts 
 
 -- a viewer ends, by a failure or by being closed
 pub turn-ended : (a b : Surface) (e f : ViewerConnection) → b ≡ a → e.ended ≡ None → f ≡ record e { ended = f.ended } → TakesTurn a e b f
-turn-ended a b e f still live same c list began v since t =
-    let h = turn-read c list began v since a e e e.known [] live refl refl refl (moves-nothing e.carried) t in
-    subst (λ (x : Surface). IsTurnFrom c list began v since x f) (sym still) (turn-unread c list began v since a e f same h)
+turn-ended a b e f still live same c list began v said since t =
+    let h = turn-read c list began v said since a e e e.known [] live refl refl refl (moves-nothing e.carried) t in
+    subst (λ (x : Surface). IsTurnFrom c list began v said since x f) (sym still) (turn-unread c list began v said since a e f same h)
 
 -- a viewer is let go, unless it ended before
 pub turn-closed : (a : Surface) (e f : ViewerConnection) (o : Option Ended) → (f ≡ e) ⊎ ((e.ended ≡ None) × (f ≡ record e { ended = o })) → TakesTurn a e a f
-turn-closed a e f o (inl same) c list began v since t = subst (λ (x : ViewerConnection). IsTurnFrom c list began v since a x) (sym same) t
-turn-closed a e f o (inr h) c list began v since t = turn-ended a a e f refl h.0 (h.1 ∙ ap (λ o. record e { ended = o }) (sym (ap (λ (x : ViewerConnection). x.ended) h.1))) c list began v since t
+turn-closed a e f o (inl same) c list began v said since t = subst (λ (x : ViewerConnection). IsTurnFrom c list began v said since a x) (sym same) t
+turn-closed a e f o (inr h) c list began v said since t = turn-ended a a e f refl h.0 (h.1 ∙ ap (λ o. record e { ended = o }) (sym (ap (λ (x : ViewerConnection). x.ended) h.1))) c list began v said since t
 
 pub turn-stays : (a : Surface) (e : ViewerConnection) → TakesTurn a e a e
-turn-stays a e c list began v since t = t
+turn-stays a e c list began v said since t = t
 
 pub turn-then : (a b d : Surface) (e f g : ViewerConnection) → TakesTurn a e b f → TakesTurn b f d g → TakesTurn a e d g
-turn-then a b d e f g s t c list began v since h = t c list began v since (s c list began v since h)
+turn-then a b d e f g s t c list began v said since h = t c list began v said since (s c list began v said since h)
+
+-- an application is told nothing
+pub turn-silently : {A X E : Type 0} (stands : A → List (ℕ × Input) → Type 0) (x : A) (r : Result X E) (a b : Surface) (e f : ViewerConnection) → TakesTurn a e b f → TakesTurnTelling stands a e b f x x r
+turn-silently stands x r a b e f turn c list began v said since t =
+    ([], subst (λ l. IsTurnFrom c list began v l since b f) (sym (append-nil said)) (turn c list began v said since t), told-nothing stands x r)
+
+-- nothing is read of a viewer that hasn't ended
+pub turn-nothing : (a : Surface) (e f h : ViewerConnection) (known : Known) → e.ended ≡ None → f ≡ record e { carried = f.carried; known = known } → known.may_cut ≡ e.known.may_cut → known.may_ask ≡ e.known.may_ask → Moves e.carried f.carried [] []
+    → h ≡ record f { ended = h.ended } → TakesTurn a e a h
+turn-nothing a e f h known live same cut ask moved ended c list began v said since t =
+    turn-unread c list began v said since a f h ended (turn-read c list began v said since a e f known [] live same cut ask moved t)
+
+pub ended-so : (f h : ViewerConnection) (o : Option Ended) → h ≡ record f { ended = o } → h ≡ record f { ended = h.ended }
+ended-so f h o is = is ∙ ap (λ o. record f { ended = o }) (sym (ap (λ (x : ViewerConnection). x.ended) is))

@@ -2,6 +2,7 @@ pub mod Waiting
 pub mod Drawing
 pub mod Among
 pub mod Attending
+pub mod Telling
 pub mod Serving
 pub mod Turns
 pub mod Lending

@@ -1,8 +1,9 @@
 -- What the connections of a screen's viewers hold, and what that is by the events of the screen.
-use Rattle.std.specs.Prelude.{◌≡◌, ◌≢◌, ◌⊎◌, ℕ, ◌≤◌, ◌<◌, Bool, true, false, not, ◌&&◌, ◌||◌, if◌then◌else◌, is_none, is_some, List, [], ◌++◌, Option, Some, None, option_map, unwrap_or, slice_index_or}
+use Rattle.std.specs.Prelude.{◌≡◌, ◌≢◌, ◌⊎◌, ℕ, ◌≤◌, ◌<◌, Result, Bool, true, false, not, ◌&&◌, ◌||◌, if◌then◌else◌, is_none, is_some, List, [], ◌++◌, Option, Some, None, option_map, unwrap_or, slice_index_or}
 use Rattle.std.specs.Io.KnownBytes.{Appends, Consumes}
 use Rattle.screen.specs.declared.Config.{Config}
 use Rattle.screen.specs.declared.Event.{Event}
+use Rattle.screen.specs.declared.Input.{Input}
 use Rattle.screen.specs.declared.History.{History}
 use Rattle.screen.specs.declared.History.TheVariants.{Kept, NotKept}
 use Rattle.screen.specs.Alone.{some_bytes}
@@ -18,6 +19,7 @@ use Rattle.connections.specs.declared.connections.Readiness.{Readiness}
 use Rattle.connections.specs.Waiting.{Waiting, waiting_bytes, IsFew}
 use Rattle.connections.specs.Drawing.{Surface, IsDrawnFrom}
 use Rattle.connections.specs.Among.{is_among}
+use Rattle.connections.specs.Telling.{inputs_after, IsTold}
 use Rattle.connections.specs.Attending.{Known, noted, asks, next_bytes, IsSettled}
 
 -- what a transport has still to give and what was written to it, where these are known, and what is kept of the latter, where it is kept
@@ -162,9 +164,13 @@ pub record Serves (c : Config) (began : ℕ → Carried) (list : List Event) (s 
   pub apart : (j k : ℕ) (d e : ViewerConnection) → at_key s.slots j ≡ Some d → at_key s.slots k ≡ Some e → d.number ≡ e.number → j ≡ k
   pub unused : (v : ℕ) → s.next ≤ v → (heard_of v list ≡ []) × (bytes_of c v list ≡ [])
 
--- whatever the connections stood for, they stand for it with more events behind it
+-- whatever the connections stood for, they stand for it with more events behind it, none of which has an input
 abbrev pub GoesOn : Serving → Serving → Type 0
-GoesOn old new = (c : Config) (began : ℕ → Carried) (list : List Event) → Serves c began list old → (more : List Event) × Serves c began (list ++ more) new
+GoesOn old new = (c : Config) (began : ℕ → Carried) (list : List Event) → Serves c began list old → (more : List Event) × Serves c began (list ++ more) new × (inputs_after c list more ≡ [])
+
+-- whatever the connections stood for, they stand for it with more events behind it, and an application is told the inputs of these
+abbrev pub GoesOnTelling : {A X E : Type 0} → (A → List (ℕ × Input) → Type 0) → Serving → Serving → A → A → Result X E → Type 0
+GoesOnTelling stands old new before after result = (c : Config) (began : ℕ → Carried) (list : List Event) → Serves c began list old → (more : List Event) × Serves c began (list ++ more) new × IsTold stands (inputs_after c list more) before after result
 
 -- Viewers that are served by a list of events are served, once their screen was drawn on, by that list with the drawing calls behind it.
 abbrev pub drawn_is_served : Type 0

@@ -1,8 +1,9 @@
 -- One viewer's connection and the screen, in the course of a turn.
-use Rattle.std.specs.Prelude.{◌≡◌, ℕ, Bool, true, false, List, [], ◌++◌, ◌≤◌, length, take, None}
+use Rattle.std.specs.Prelude.{◌≡◌, ℕ, Bool, true, false, List, [], ◌++◌, ◌≤◌, length, take, None, Result}
 use Rattle.std.specs.List.{list_all}
 use Rattle.screen.specs.declared.Config.{Config}
 use Rattle.screen.specs.declared.Event.{Event}
+use Rattle.screen.specs.declared.Input.{Input}
 use Rattle.screen.specs.Alone.{owner_of}
 use Rattle.screen.specs.Answers.{is_owner, viewer_of}
 use Rattle.screen.specs.State.{state}
@@ -11,6 +12,7 @@ use Rattle.connections.specs.declared.connection.Got.TheVariants.{Piece}
 use Rattle.connections.specs.Drawing.{Surface}
 use Rattle.connections.specs.Attending.{Known, asks, IsSettled}
 use Rattle.receipts.specs.Histories.{bytes_of, heard_of}
+use Rattle.connections.specs.Telling.{inputs_after, IsTold}
 use Rattle.connections.specs.Waiting.{waiting_bytes, IsFew}
 use Rattle.connections.specs.Serving.{Carried, ViewerConnection, Moves, IsServed}
 
@@ -33,9 +35,10 @@ pub record Knows (c : Config) (before list : List Event) (v : ℕ) (since surfac
   pub settled : known.may_cut ≡ false → IsSettled c list surface v
   pub others : (u : ℕ) → (v ≡ u → ⊥) → IsSettled c before since u → IsSettled c list surface u
 
--- since a list of events, nothing happened but drawing calls and events of this viewer, which is served, or was until it ended
-pub record IsTurnFrom (c : Config) (list : List Event) (began : Carried) (v : ℕ) (since surface : Surface) (e : ViewerConnection) : Type 0 where
+-- since a list of events, nothing happened but drawing calls and events of this viewer, which have these inputs; it is served, or was until it ended
+pub record IsTurnFrom (c : Config) (list : List Event) (began : Carried) (v : ℕ) (said : List (ℕ × Input)) (since surface : Surface) (e : ViewerConnection) : Type 0 where
   pub events : List Event
+  pub inputs : inputs_after c list events ≡ said
   pub own : are_of v events ≡ true
   pub screen : surface.screen ≡ state c (list ++ events)
   pub number : e.number ≡ v
@@ -43,8 +46,9 @@ pub record IsTurnFrom (c : Config) (list : List Event) (began : Carried) (v : �
   pub knows : Knows c list (list ++ events) v since surface e.known
 
 -- the same with a piece that was read and isn't heard yet
-pub record HasRead (c : Config) (list : List Event) (began : Carried) (v : ℕ) (piece : List ℕ) (since surface : Surface) (e : ViewerConnection) : Type 0 where
+pub record HasRead (c : Config) (list : List Event) (began : Carried) (v : ℕ) (said : List (ℕ × Input)) (piece : List ℕ) (since surface : Surface) (e : ViewerConnection) : Type 0 where
   pub events : List Event
+  pub inputs : inputs_after c list events ≡ said
   pub own : are_of v events ≡ true
   pub screen : surface.screen ≡ state c (list ++ events)
   pub number : e.number ≡ v
@@ -55,11 +59,20 @@ pub record HasRead (c : Config) (list : List Event) (began : Carried) (v : ℕ) 
   pub few : IsFew e.waiting
   pub knows : Knows c list (list ++ events) v since surface e.known
 
--- a piece that was read is heard, or its viewer ended
-abbrev pub HearsPiece : List ℕ → Surface → ViewerConnection → Surface → ViewerConnection → Type 0
-HearsPiece piece surface e surface' e' =
-    (c : Config) (list : List Event) (began : Carried) (v : ℕ) (since : Surface) → HasRead c list began v piece since surface e → IsTurnFrom c list began v since surface' e'
-
--- a turn goes on
+-- a turn goes on, without an input
 abbrev pub TakesTurn : Surface → ViewerConnection → Surface → ViewerConnection → Type 0
-TakesTurn surface e surface' e' = (c : Config) (list : List Event) (began : Carried) (v : ℕ) (since : Surface) → IsTurnFrom c list began v since surface e → IsTurnFrom c list began v since surface' e'
+TakesTurn surface e surface' e' = (c : Config) (list : List Event) (began : Carried) (v : ℕ) (said : List (ℕ × Input)) (since : Surface) → IsTurnFrom c list began v said since surface e → IsTurnFrom c list began v said since surface' e'
+
+-- a turn went on, and an application is told the inputs that came
+abbrev pub IsTurnTelling : {A : Type 0} {X E : Type 0} → (A → List (ℕ × Input) → Type 0) → Config → List Event → Carried → ℕ → List (ℕ × Input) → Surface → Surface → ViewerConnection → A → A → Result X E → Type 0
+IsTurnTelling stands c list began v said since surface e before after result = (more : List (ℕ × Input)) × IsTurnFrom c list began v (said ++ more) since surface e × IsTold stands more before after result
+
+-- a piece that was read is heard, and an application told what it says; or its viewer ended
+abbrev pub HearsPiece : {A X E : Type 0} → (A → List (ℕ × Input) → Type 0) → List ℕ → Surface → ViewerConnection → Surface → ViewerConnection → A → A → Result X E → Type 0
+HearsPiece stands piece surface e surface' e' before after result =
+    (c : Config) (list : List Event) (began : Carried) (v : ℕ) (said : List (ℕ × Input)) (since : Surface) → HasRead c list began v said piece since surface e → IsTurnTelling stands c list began v said since surface' e' before after result
+
+-- a turn goes on, and an application is told the inputs that came
+abbrev pub TakesTurnTelling : {A X E : Type 0} → (A → List (ℕ × Input) → Type 0) → Surface → ViewerConnection → Surface → ViewerConnection → A → A → Result X E → Type 0
+TakesTurnTelling stands surface e surface' e' before after result =
+    (c : Config) (list : List Event) (began : Carried) (v : ℕ) (said : List (ℕ × Input)) (since : Surface) → IsTurnFrom c list began v said since surface e → IsTurnTelling stands c list began v said since surface' e' before after result

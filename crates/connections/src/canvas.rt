@@ -318,6 +318,8 @@ impl Canvas {
             OnOk result (self.new.screen ≡ state config (list ++ Event.Hear number piece.now ∷ [])) }
         ensures answer { (config : Config) (list : List Event) → self.old.screen ≡ state config list →
             IfOk result (λ answer. answer.bytes ≡ (answer_to config list (Event.Hear number piece.now)).bytes) }
+        ensures inputs { (config : Config) (list : List Event) → self.old.screen ≡ state config list →
+            IfOk result (λ answer. answer.inputs ≡ (answer_to config list (Event.Hear number piece.now)).inputs) }
         ensures same { self.new ≡ record self.old { screen = self.new.screen } }
         ensures err { OnErr result (self.new ≡ self.old) }
     {

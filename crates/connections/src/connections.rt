@@ -4,11 +4,13 @@ ghost use Rattle.std.specs.Prelude.{◌≡◌, ◌++◌, ◌∷◌, ◌+◌, [],
 ghost use Rattle.std.specs.Prelude.{true, false, not, ◌||◌, ◌==◌, is_some, count_by, IsSomeAnd, MatchOption, IsOkUnless, option_map, ◌≢◌};
 ghost use Rattle.std.specs.Borrow.{sem};
 ghost use Rattle.screen.specs.declared.Config.{Config};
+ghost use Rattle.screen.specs.declared.Input.{Input};
 ghost use Rattle.screen.specs.declared.Event.{Event};
 ghost use Rattle.screen.specs.Alone.{config_refusal};
 ghost use Rattle.connections.specs.Among.{is_among};
-ghost use Rattle.connections.specs.Serving.{Carried, GoesOn, HasNothingToDo, IsOver, Serves, ViewerConnection, WasServed, at_key, is_kept, is_open_on, may_cut_at, noted_by, number_at};
+ghost use Rattle.connections.specs.Serving.{Carried, GoesOn, GoesOnTelling, HasNothingToDo, IsOver, Serves, ViewerConnection, WasServed, at_key, is_kept, is_open_on, may_cut_at, noted_by, number_at};
 ghost use Rattle.connections.specs.Recording.{none_yet};
+ghost use Rattle.connections.specs.Telling.{inputs_after};
 ghost use Rattle.connections.specs.Lending.{lends_canvas};
 
 use crate::application::Application;
@@ -287,6 +289,7 @@ impl<T: Transport> Connections<T> {
         application: &mut A,
     ) -> Result<(), ScreenError>
         ensures served { GoesOn self.old self.new }
+        ensures stands { (inputs : List (ℕ × Input)) → A.stands application.old inputs → A.stands application.new inputs }
     {
         application.came(&mut self.canvas, viewer)
     }
@@ -298,6 +301,7 @@ impl<T: Transport> Connections<T> {
         application: &mut A,
     ) -> Result<(), ScreenError>
         ensures served { GoesOn self.old self.new }
+        ensures stands { (inputs : List (ℕ × Input)) → A.stands application.old inputs → A.stands application.new inputs }
     {
         application.left(&mut self.canvas, receipt)
     }
@@ -308,6 +312,7 @@ impl<T: Transport> Connections<T> {
         application: &mut A,
     ) -> Result<Option<Duration>, ScreenError>
         ensures served { GoesOn self.old self.new }
+        ensures stands { (inputs : List (ℕ × Input)) → A.stands application.old inputs → A.stands application.new inputs }
     {
         application.tick(&mut self.canvas)
     }
@@ -315,6 +320,7 @@ impl<T: Transport> Connections<T> {
     /// The application is told that another thread woke it.
     pub fn tell_woken<A: Application>(&mut self, application: &mut A) -> Result<(), ScreenError>
         ensures served { GoesOn self.old self.new }
+        ensures stands { (inputs : List (ℕ × Input)) → A.stands application.old inputs → A.stands application.new inputs }
     {
         application.woken(&mut self.canvas)
     }
@@ -393,9 +399,10 @@ impl<T: Transport> Connections<T> {
     ///
     /// Whatever list of events the screen stood for, it stands for it with others behind it, and by that list each viewer is served:
     /// what was read of it is what the screen heard of it, and what was written to it is, with what waits for it, what the screen with
-    /// this one viewer gives, or the beginning of that where the viewer ended by a failure.
+    /// this one viewer gives, or the beginning of that where the viewer ended by a failure. Whatever inputs the application stood for, it
+    /// stands for these with those of the events behind them, or the first of these where an error ended the turn.
     pub fn turn<A: Application>(&mut self, application: &mut A) -> Result<(), ScreenError>
-        ensures served { GoesOn self.old self.new }
+        ensures served { GoesOnTelling A.stands self.old self.new application.old application.new result }
     {
         let flooding = self.listen_in_turn(application)?;
         self.list_watching()?;
@@ -408,7 +415,7 @@ impl<T: Transport> Connections<T> {
     /// none; where memory is refused to close it, it is given later.
     pub fn take_departed(&mut self) -> Option<Departed<T>>
         ensures served { (config : Config) (began : ℕ → Carried) (list : List Event) → Serves config began list self.old →
-            (more : List Event) × Serves config began (list ++ more) self.new ×
+            (more : List Event) × Serves config began (list ++ more) self.new × (inputs_after config list more ≡ []) ×
             IfSome result (λ d. WasServed config (list ++ more) (began d.receipt.viewer) T.unread T.written d.transport d.receipt) }
     {
         let key = self.find_over()?;
@@ -467,7 +474,7 @@ impl<T: Transport> Connections<T> {
         &mut self,
         application: &mut A,
     ) -> Result<Option<usize>, ScreenError>
-        ensures served { GoesOn self.old self.new }
+        ensures served { GoesOnTelling A.stands self.old self.new application.old application.new result }
     {
         let all_flood = self.all_flood();
         let flooding = self.listen_all(all_flood, application)?;
@@ -514,7 +521,7 @@ impl<T: Transport> Connections<T> {
         all_flood: bool,
         application: &mut A,
     ) -> Result<Option<usize>, ScreenError>
-        ensures served { GoesOn self.old self.new }
+        ensures served { GoesOnTelling A.stands self.old self.new application.old application.new result }
     {
         let mut flooding = None;
         for place in 0..self.agenda.len() {
@@ -539,7 +546,7 @@ impl<T: Transport> Connections<T> {
         application: &mut A,
     ) -> Result<(), ScreenError>
         requires { is_among key self.old.agenda ≡ true }
-        ensures served { GoesOn self.old self.new }
+        ensures served { GoesOnTelling A.stands self.old self.new application.old application.new result }
         ensures agenda { self.new.agenda ≡ self.old.agenda }
     {
         self.asking.insert(key)?;
@@ -554,7 +561,7 @@ impl<T: Transport> Connections<T> {
     ) -> Result<(), ScreenError>
         requires agenda { is_among key self.old.agenda ≡ true }
         requires asking { is_among key self.old.asking ≡ true }
-        ensures served { GoesOn self.old self.new }
+        ensures served { GoesOnTelling A.stands self.old self.new application.old application.new result }
         ensures agenda { self.new.agenda ≡ self.old.agenda }
     {
         match self.connections.get_mut(key) {

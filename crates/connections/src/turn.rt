@@ -6,7 +6,8 @@ ghost use Rattle.connections.specs.Waiting.{waiting_bytes};
 ghost use Rattle.connections.specs.Bounds.{AreWrittenAtMost, AreReadAtMost};
 ghost use Rattle.connections.specs.Drawing.{Draws};
 ghost use Rattle.connections.specs.Serving.{breaks_off};
-ghost use Rattle.connections.specs.Turns.{HearsPiece, TakesTurn};
+ghost use Rattle.connections.specs.Telling.{said_by, IsTold};
+ghost use Rattle.connections.specs.Turns.{HearsPiece, TakesTurn, TakesTurnTelling};
 
 use crate::application::Application;
 use crate::canvas::Canvas;
@@ -31,7 +32,7 @@ pub(crate) fn listen<T: Transport, A: Application>(
     now: u64,
     application: &mut A,
 ) -> Result<(), ScreenError>
-    ensures turn { TakesTurn canvas.old connection.old canvas.new connection.new }
+    ensures turn { TakesTurnTelling A.stands canvas.old connection.old canvas.new connection.new application.old application.new result }
     ensures bound { AreReadAtMost 128 connection.old.carried.unread connection.new.carried.unread }
 {
     if !connection.may_read() {
@@ -53,7 +54,7 @@ fn hear<T: Transport, A: Application>(
     piece: &[u8],
     application: &mut A,
 ) -> Result<(), ScreenError>
-    ensures heard { HearsPiece piece.now canvas.old connection.old canvas.new connection.new }
+    ensures heard { HearsPiece A.stands piece.now canvas.old connection.old canvas.new connection.new application.old application.new result }
     ensures carried { connection.new.carried ≡ connection.old.carried }
 {
     let viewer = connection.number();
@@ -86,6 +87,7 @@ fn tell<A: Application>(
     application: &mut A,
 ) -> Result<(), ScreenError>
     ensures draws { Draws canvas.old canvas.new }
+    ensures told { IsTold A.stands (said_by viewer inputs.now) application.old application.new result }
 {
     for input in inputs {
         application.on_input(canvas, viewer, input)?;

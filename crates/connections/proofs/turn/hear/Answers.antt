@@ -1,17 +1,19 @@
-use Rattle.std.proofs.Common.{◌≡◌, Some, refl, sym, ap, ◌∙◌, subst, ◌++◌, false}
+use Rattle.std.proofs.Common.{◌≡◌, Ok, Some, refl, sym, ap, ◌∙◌, subst, ◌++◌, false}
+use Rattle.screen.specs.declared.ScreenError.{ScreenError}
 use Rattle.receipts.specs.declared.Ended.TheVariants.{Memory}
 use Rattle.connections.specs.Attending.{Known}
 use Rattle.connections.specs.Drawing.{Surface}
 use Rattle.connections.specs.Waiting.{Waiting, waiting_bytes}
+use Rattle.connections.specs.Telling.{said_by, IsTold}
 use Rattle.connections.specs.Serving.{ViewerConnection, breaks_off}
 use Rattle.connections.proofs.Turns.{turn-unheard, turn-heard, counted-same}
 use Rattle.connections.proofs.turn.hear.Goals as goal
 
 pub returns-then-is_err-clause-heard : goal.returns-then-is_err-clause-heard
-returns-then-is_err-clause-heard g c = turn-unheard _ _ _ _ _ refl (c.end.ensures ∙ ap (λ (e : ViewerConnection). record e { ended = Some Memory }) c.make_room.ensures)
+returns-then-is_err-clause-heard g c = turn-unheard {X = Unit {0}} {E = ScreenError} g.A.Application.stands _ (Ok tt) _ _ _ _ _ refl (c.end.ensures ∙ ap (λ (e : ViewerConnection). record e { ended = Some Memory }) c.make_room.ensures)
 
 pub returns-in_default-clause-heard : goal.returns-in_default-clause-heard
-returns-in_default-clause-heard g c = turn-unheard _ _ _ _ _ c.in_default.ensures.err (c.end-in_default.ensures ∙ ap (λ (e : ViewerConnection). record e { ended = Some Memory }) c.make_room.ensures)
+returns-in_default-clause-heard g c = turn-unheard {X = Unit {0}} {E = ScreenError} g.A.Application.stands _ (Ok tt) _ _ _ _ _ c.in_default.ensures.err (c.end-in_default.ensures ∙ ap (λ (e : ViewerConnection). record e { ended = Some Memory }) c.make_room.ensures)
 
 pub returns-clause-heard : goal.returns-clause-heard
 returns-clause-heard g c =
@@ -24,8 +26,9 @@ returns-clause-heard g c =
     let counted : p ≡ record e { known = p.known } = subst (λ (x : ViewerConnection). p ≡ record x { known = p.known }) c.make_room.ensures still in
     let known = ap (λ (x : ViewerConnection). x.known) c.give.ensures.same ∙ ap (λ (x : ViewerConnection). x.known) c.count_piece.ensures in
     let waiting : p.waiting ≡ e.waiting = ap (λ (x : ViewerConnection). x.waiting) counted in
-    turn-heard c.args.canvas.now c.hear.new.self c.tell.new.canvas e f c.number-viewer.result c.args.piece.now bytes c.number-viewer.ensures
+    turn-heard g.A.Application.stands c.args.application.now c.tell.new.application c.tell.result c.as_slice-2.result.now c.args.canvas.now c.hear.new.self c.tell.new.canvas e f c.number-viewer.result c.args.piece.now bytes c.number-viewer.ensures
     (ap (λ (x : Surface). x.drawn) c.hear.ensures.same) (ap (λ (x : Surface). x.noticed) c.hear.ensures.same) (ap (λ (k : Known). k.may_cut) known) (ap (λ (k : Known). k.may_ask) known)
-    c.in-Ok.ensures.step (λ config list h. c.as_slice.ensures ∙ c.in-Ok.ensures.answer config list h)
+    c.in-Ok.ensures.step (λ config list h. c.as_slice.ensures ∙ c.in-Ok.ensures.answer config list h) (λ config list h. c.as_slice-2.ensures ∙ c.in-Ok.ensures.inputs config list h)
     (counted-same e p f counted c.give.ensures.same)
     (subst (λ (w : Waiting). breaks_off f.ended ≡ false → waiting_bytes f.waiting ≡ waiting_bytes w ++ bytes) waiting c.give.ensures.bytes) c.give.ensures.few c.tell.ensures.draws
+    (subst (λ n. IsTold g.A.Application.stands (said_by n c.as_slice-2.result.now) c.args.application.now c.tell.new.application c.tell.result) refl c.tell.ensures.told)

@@ -1,8 +1,20 @@
-use Rattle.connections.proofs.Everyone.{goes-then}
+use Rattle.std.proofs.Common.{Ok}
+use Rattle.std.proofs.lemmas.Result.{err_from_is_err_and}
+use Rattle.screen.specs.declared.ScreenError.{ScreenError}
+use Rattle.connections.proofs.Everyone.{tells-all, tells-then, tells-ended}
 use Rattle.connections.proofs.connections.Connections.listen_all.Goals as goal
 
 pub returns-in_err-listen_at : goal.returns-in_err-listen_at
-returns-in_err-listen_at g c = record { served = goes-then _ _ _ c.loop-place.invariant c.listen_at.ensures.served }
+returns-in_err-listen_at g c =
+    let stands = g.A.Application.stands in
+    let error = err_from_is_err_and c.from_residual.result c.from_residual.ensures.1 in
+    record {
+      served = tells-then stands c.args.application.now c.loop-place.application c.listen_at.new.application c.from_residual.result _ _ _ c.loop-place.invariant
+          (tells-ended stands c.loop-place.application c.listen_at.new.application c.listen_at.result c.from_residual.result error.0 _ _ error.1 c.listen_at.ensures.served);
+    }
 
 pub loop-place-preserved : goal.loop-place-preserved
-loop-place-preserved g c = goes-then _ _ _ c.loop-place.invariant c.listen_at.ensures.served
+loop-place-preserved g c =
+    let stands = g.A.Application.stands in
+    tells-then stands {X = Unit {0}} {E = ScreenError} c.args.application.now c.loop-place.application c.listen_at.new.application (Ok tt) _ _ _ c.loop-place.invariant
+    (tells-all stands c.loop-place.application c.listen_at.new.application c.listen_at.result c.in_ok-listen_at.field-0 _ _ c.in_ok-listen_at.was c.listen_at.ensures.served)

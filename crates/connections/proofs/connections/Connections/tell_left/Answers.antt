@@ -2,4 +2,4 @@ use Rattle.connections.proofs.Everyone.{goes-drawn-by}
 use Rattle.connections.proofs.connections.Connections.tell_left.Goals as goal
 
 pub returns : goal.returns
-returns g c = record { served = goes-drawn-by c.args.self.now c.self.inside.canvas c.left.new._canvas _ _ _ _ _ _ c.self.view_is c.left.ensures.draws }
+returns g c = record { served = goes-drawn-by c.args.self.now c.self.inside.canvas c.left.new._canvas _ _ _ _ _ _ c.self.view_is c.left.ensures.draws; stands = c.left.ensures.stands }

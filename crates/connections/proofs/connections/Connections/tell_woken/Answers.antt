@@ -2,4 +2,4 @@ use Rattle.connections.proofs.Everyone.{goes-drawn-by}
 use Rattle.connections.proofs.connections.Connections.tell_woken.Goals as goal
 
 pub returns : goal.returns
-returns g c = record { served = goes-drawn-by c.args.self.now c.self.inside.canvas c.woken.new._canvas _ _ _ _ _ _ c.self.view_is c.woken.ensures.draws }
+returns g c = record { served = goes-drawn-by c.args.self.now c.self.inside.canvas c.woken.new._canvas _ _ _ _ _ _ c.self.view_is c.woken.ensures.draws; stands = c.woken.ensures.stands }
