@@ -13,7 +13,7 @@ use Rattle.screen.specs.Answers.{viewer_of, answer_to}
 use Rattle.slab.specs.Slab.{Slab, get, Updates}
 use Rattle.receipts.specs.declared.Receipt.{Receipt}
 use Rattle.receipts.specs.declared.Ended.{Ended}
-use Rattle.receipts.specs.declared.Ended.TheVariants.{Memory, Closed}
+use Rattle.receipts.specs.declared.Ended.TheVariants.{Memory}
 use Rattle.receipts.specs.Histories.{heard_of, bytes_of}
 use Rattle.screen.specs.State.{state}
 use Rattle.connections.specs.Waiting.{waiting_bytes, IsFew}
@@ -23,7 +23,7 @@ use Rattle.connections.specs.Attending.{asks, IsSettled}
 use Rattle.connections.specs.Telling.{inputs_after, IsTold}
 use Rattle.connections.specs.Serving.{Carried, ViewerConnection, Moves, breaks_off, has_work, IsServed, WasServed, IsOver, IsAttended, Serving, at_key, works_at, may_cut_at, may_ask_at, is_kept, Serves, GoesOn, GoesOnTelling, drawn_is_served}
 use Rattle.connections.specs.Turns.{Knows, IsTurnFrom, TakesTurn, TakesTurnTelling}
-use Rattle.connections.proofs.Telling.{inputs-append, inputs-drawings, told-nothing, told-all, told-then, told-ended}
+use Rattle.connections.specs.TellingLemmas.{inputs-append, inputs-drawings, told-nothing, told-all, told-then, told-ended}
 use Rattle.connections.proofs.Given.{SameFor, bytes-own, heard-same, same-others, same-drawings}
 use Rattle.connections.proofs.Turns.{served-same, drawn-on, moves-nothing}
 use Rattle.connections.proofs.Seen.{asks-drawings, asks-others}

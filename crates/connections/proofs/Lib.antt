@@ -4,7 +4,6 @@ pub mod Among
 pub mod Seen
 pub mod Knowing
 pub mod Resting
-pub mod Telling
 pub mod Given
 pub mod Turns
 pub mod Everyone

@@ -13,7 +13,7 @@ use Rattle.screen.specs.Alone.{owner_of}
 use Rattle.screen.specs.Answers.{is_owner, answer_to}
 use Rattle.screen.specs.Refusals.{held_as_alone}
 use Rattle.receipts.specs.declared.Ended.{Ended}
-use Rattle.receipts.specs.declared.Ended.TheVariants.{Memory, Closed}
+use Rattle.receipts.specs.declared.Ended.TheVariants.{Memory}
 use Rattle.receipts.specs.Histories.{heard_of, bytes_of}
 use Rattle.screen.specs.State.{state}
 use Rattle.connections.specs.Waiting.{waiting_bytes, IsFew}
@@ -22,7 +22,7 @@ use Rattle.connections.specs.Attending.{Known, next_bytes}
 use Rattle.connections.specs.Serving.{Carried, ViewerConnection, Moves, breaks_off, IsServed}
 use Rattle.connections.specs.Telling.{said_by, inputs_after, IsTold}
 use Rattle.connections.specs.Turns.{are_of, Knows, IsTurnFrom, HasRead, HearsPiece, TakesTurn, TakesTurnTelling}
-use Rattle.connections.proofs.Telling.{inputs-append, inputs-drawings, told-nothing}
+use Rattle.connections.specs.TellingLemmas.{inputs-append, inputs-drawings, told-nothing}
 use Rattle.connections.proofs.Given.{SameFor, bytes-own, heard-own, heard-same, same-drawings, drawings-own}
 use Rattle.connections.proofs.Knowing.{knows-known, knows-looked, knows-drawn, knows-heard, knows-none, knows-cut}
 

@@ -3,6 +3,7 @@ pub mod Drawing
 pub mod Among
 pub mod Attending
 pub mod Telling
+pub mod TellingLemmas
 pub mod Serving
 pub mod Turns
 pub mod Lending

@@ -1,5 +1,5 @@
 -- Steps of a loop, one after the other.
-use Rattle.std.proofs.Common.{◌≡◌, ℕ, List, [], ◌∷◌, ◌++◌, Option, None, Some, Result, Err, sym, ap, append_assoc, append-nil, subst, inr}
+use Rattle.std.proofs.Common.{◌≡◌, ℕ, List, [], ◌∷◌, ◌++◌, Option, None, Some, Result, Ok, Err, refl, sym, ap, ◌∙◌, append_assoc, append-nil, subst, inr}
 use Rattle.std.specs.Prelude.{MatchOption, IsOkUnless}
 use Rattle.screen.specs.declared.ScreenError.{ScreenError}
 use Rattle.screen.specs.declared.ScreenError.TheVariants.{OutOfMemory}
@@ -9,18 +9,24 @@ use Rattle.event_loop.specs.Opening.{IsOpenedOr}
 use Rattle.screen.specs.declared.Config.{Config}
 use Rattle.screen.specs.declared.Event.{Event}
 use Rattle.screen.specs.declared.Event.TheVariants.{Connect}
+use Rattle.screen.specs.declared.Input.{Input}
+use Rattle.connections.specs.Telling.{inputs_after, IsTold}
+use Rattle.connections.specs.TellingLemmas.{inputs-append, told-nothing, told-all, told-then, told-ended}
 use Rattle.connections.specs.Recording.{none_yet}
-use Rattle.connections.specs.Serving.{Carried, Serving, Serves, GoesOn}
-use Rattle.event_loop.specs.Sockets.{sockets, GoesOnServing}
+use Rattle.connections.specs.Serving.{Carried, Serving, Serves, GoesOn, GoesOnTelling}
+use Rattle.event_loop.specs.Sockets.{sockets, GoesOnServing, GoesOnServingTelling, Stays}
 
 pub on-then : (a b d : Serving) → GoesOnServing a b → GoesOnServing b d → GoesOnServing a d
 on-then a b d g h c list s =
     let first = g c list s in
-    let second = h c (list ++ first.0) first.1 in
-    (first.0 ++ second.0, subst (λ (l : List Event). Serves c (sockets c) l d) (append_assoc list first.0 second.0) second.1)
+    let second = h c (list ++ first.0) first.1 in (
+      first.0 ++ second.0,
+      subst (λ (l : List Event). Serves c (sockets c) l d) (append_assoc list first.0 second.0) second.1,
+      inputs-append c list first.0 second.0 ∙ ap (λ l. l ++ inputs_after c (list ++ first.0) second.0) first.2 ∙ second.2,
+    )
 
 pub on-same : (a b : Serving) → a ≡ b → GoesOnServing a b
-on-same a b is c list s = ([], subst (λ (l : List Event). Serves c (sockets c) l b) (sym (append-nil list)) (subst (λ (x : Serving). Serves c (sockets c) list x) is s))
+on-same a b is c list s = ([], subst (λ (l : List Event). Serves c (sockets c) l b) (sym (append-nil list)) (subst (λ (x : Serving). Serves c (sockets c) list x) is s), refl)
 
 -- what goes on for any transports goes on for sockets
 pub on-from : (a before b : Serving) → before ≡ a → GoesOn before b → GoesOnServing a b
@@ -35,7 +41,40 @@ pub on-admitted : (a before b : Serving) → before ≡ a
     → GoesOnServing a b
 on-admitted a before b is admits c list s =
     let t : Serves c (sockets c) list before = subst (λ (x : Serving). Serves c (sockets c) list x) (sym is) s in
-    (Connect before.next ∷ [], admits c (sockets c) list t (ap (λ kept. record { unread = None; written = None; sent = none_yet kept }) (sym t.kept)))
+    (Connect before.next ∷ [], admits c (sockets c) list t (ap (λ kept. record { unread = None; written = None; sent = none_yet kept }) (sym t.kept)), refl)
+
+module _ {A : Type 0} (stands : A → List (ℕ × Input) → Type 0) where
+  -- an application was told all
+  abbrev pub TellsAll : Serving → Serving → A → A → Type 0
+  TellsAll a b x y = GoesOnServingTelling {X = Unit {0}} {E = LoopError} stands a b x y (Ok tt)
+
+  told-stays : {X E : Type 0} (x y : A) (r : Result X E) → Stays stands x y → IsTold stands [] x y r
+  told-stays x y r stays before h = let p = told-nothing stands x r before h in (p.0, p.1, p.2, p.3, stays (before ++ p.0) p.4)
+
+  -- it is told nothing
+  pub tells-silently : {X E : Type 0} (x y : A) (r : Result X E) (a b : Serving) → Stays stands x y → GoesOnServing a b → GoesOnServingTelling stands a b x y r
+  tells-silently x y r a b stays g c list s = let p = g c list s in (p.0, p.1, subst (λ l. IsTold stands l x y r) (sym p.2) (told-stays x y r stays))
+
+  pub tells-all : {X E : Type 0} (x y : A) (r : Result X E) (value : X) (a b : Serving) → r ≡ Ok value → GoesOnServingTelling stands a b x y r → GoesOnServingTelling {X = Unit {0}} {E = LoopError} stands a b x y (Ok tt)
+  tells-all x y r value a b ok g c list s = let p = g c list s in (p.0, p.1, told-all stands x y (inputs_after c list p.0) r value ok p.2)
+
+  -- it was told all, and is told more
+  pub tells-then : {X E : Type 0} (x y z : A) (r : Result X E) (a b d : Serving) → TellsAll a b x y → GoesOnServingTelling stands b d y z r → GoesOnServingTelling stands a d x z r
+  tells-then x y z r a b d g h c list s =
+      let first = g c list s in
+      let second = h c (list ++ first.0) first.1 in (
+        first.0 ++ second.0,
+        subst (λ (l : List Event). Serves c (sockets c) l d) (append_assoc list first.0 second.0) second.1,
+        subst (λ l. IsTold stands l x z r) (sym (inputs-append c list first.0 second.0)) (told-then stands x y z (inputs_after c list first.0) (inputs_after c (list ++ first.0) second.0) r first.2 second.2),
+      )
+
+  -- as an error says that ended it
+  pub tells-ended : {X Y E F : Type 0} (x y : A) (q : Result X E) (r : Result Y F) (f : F) (a b : Serving) → r ≡ Err f → GoesOnServingTelling stands a b x y q → GoesOnServingTelling stands a b x y r
+  tells-ended x y q r f a b err g c list s = let p = g c list s in (p.0, p.1, told-ended stands x y (inputs_after c list p.0) q r f err p.2)
+
+  -- what goes on for any transports goes on for sockets
+  pub tells-from : {X E : Type 0} (x y : A) (r : Result X E) (a before b : Serving) → before ≡ a → GoesOnTelling stands before b x y r → GoesOnServingTelling stands a b x y r
+  tells-from x y r a before b is g c list s = g c (sockets c) list (subst (λ (x : Serving). Serves c (sockets c) list x) (sym is) s)
 
 -- connections that were refused are no loop
 pub refused-connections : {X : Type 0} (Y : Type 0) (made : Result X ScreenError) (refusal : ScreenError) (due : Option ScreenError) → made ≡ Err refusal → MatchOption due (IsOkUnless made OutOfMemory) (λ e. made ≡ Err e)

@@ -1,7 +1,9 @@
 -- What sockets carry.
-use Rattle.std.specs.Prelude.{ℕ, List, ◌++◌, None}
+use Rattle.std.specs.Prelude.{◌≡◌, ℕ, List, [], ◌++◌, None, Result}
 use Rattle.screen.specs.declared.Config.{Config}
 use Rattle.screen.specs.declared.Event.{Event}
+use Rattle.screen.specs.declared.Input.{Input}
+use Rattle.connections.specs.Telling.{inputs_after, IsTold}
 use Rattle.connections.specs.Recording.{none_yet}
 use Rattle.connections.specs.Serving.{Carried, Serving, is_kept, Serves}
 
@@ -9,6 +11,15 @@ use Rattle.connections.specs.Serving.{Carried, Serving, is_kept, Serves}
 abbrev pub sockets : Config → ℕ → Carried
 sockets c v = record { unread = None; written = None; sent = none_yet (is_kept c.history) }
 
--- whatever the connections stood for, they stand for it with more events behind it
+-- whatever the connections stood for, they stand for it with more events behind it, none of which has an input
 abbrev pub GoesOnServing : Serving → Serving → Type 0
-GoesOnServing old new = (c : Config) (list : List Event) → Serves c (sockets c) list old → (more : List Event) × Serves c (sockets c) (list ++ more) new
+GoesOnServing old new = (c : Config) (list : List Event) → Serves c (sockets c) list old → (more : List Event) × Serves c (sockets c) (list ++ more) new × (inputs_after c list more ≡ [])
+
+-- whatever the connections stood for, they stand for it with more events behind it, and an application is told the inputs of these
+abbrev pub GoesOnServingTelling : {A X E : Type 0} → (A → List (ℕ × Input) → Type 0) → Serving → Serving → A → A → Result X E → Type 0
+GoesOnServingTelling stands old new before after result =
+    (c : Config) (list : List Event) → Serves c (sockets c) list old → (more : List Event) × Serves c (sockets c) (list ++ more) new × IsTold stands (inputs_after c list more) before after result
+
+-- an application stands for the inputs that it stood for
+abbrev pub Stays : {A : Type 0} → (A → List (ℕ × Input) → Type 0) → A → A → Type 0
+Stays stands before after = (inputs : List (ℕ × Input)) → stands before inputs → stands after inputs

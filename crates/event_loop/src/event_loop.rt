@@ -9,7 +9,7 @@ ghost use Rattle.connections.specs.Serving.{Serves, number_at};
 ghost use Rattle.event_loop.specs.declared.event_loop.WhenFull.TheVariants as when_full;
 ghost use Rattle.event_loop.specs.Lending.{lends_canvas};
 ghost use Rattle.event_loop.specs.declared.event_loop.LoopError.TheVariants as error;
-ghost use Rattle.event_loop.specs.Sockets.{sockets, GoesOnServing};
+ghost use Rattle.event_loop.specs.Sockets.{sockets, GoesOnServing, GoesOnServingTelling, Stays};
 ghost use Rattle.event_loop.specs.Opening.{IsOpenedOr};
 
 use crate::opening::Newcomers;
@@ -301,14 +301,15 @@ impl EventLoop {
     /// `Connections::turn` says; last, connections that came are accepted, which are heard from the next turn on.
     ///
     /// Whatever list of events the screen stood for, it stands for it with others behind it, and by that list each viewer is served:
-    /// what waits for it is the end of what the screen with this one viewer gives it.
+    /// what waits for it is the end of what the screen with this one viewer gives it. Whatever inputs the application stood for, it stands
+    /// for these with those of the events behind them, or the first of these where an error ended the turn.
     pub fn process_events<C: Clock, A: Application>(
         &mut self,
         clock: &C,
         timeout: Option<Duration>,
         application: &mut A,
     ) -> Result<(), LoopError>
-        ensures served { GoesOnServing self.old self.new }
+        ensures served { GoesOnServingTelling A.stands self.old self.new application.old application.new result }
     {
         let now = self.wait(clock, timeout)?;
         self.tell_time(now, application)?;
@@ -322,7 +323,7 @@ impl EventLoop {
         clock: &C,
         application: &mut A,
     ) -> Result<(), LoopError>
-        ensures served { GoesOnServing self.old self.new }
+        ensures served { GoesOnServingTelling A.stands self.old self.new application.old application.new result }
     {
         for _ in 0..u64::MAX {
             if application.is_done() {
@@ -388,6 +389,7 @@ impl EventLoop {
         application: &mut A,
     ) -> Result<(), LoopError>
         ensures served { GoesOnServing self.old self.new }
+        ensures stands { Stays A.stands application.old application.new }
     {
         self.tell_woken(application)?;
         self.tick(now, application)
@@ -400,6 +402,7 @@ impl EventLoop {
         application: &mut A,
     ) -> Result<(), LoopError>
         ensures served { GoesOnServing self.old self.new }
+        ensures stands { Stays A.stands application.old application.new }
     {
         self.retry(now);
         self.accept_some(now, application)?;
@@ -417,7 +420,7 @@ impl EventLoop {
 
     /// What viewers sent is heard, what they are given is written, and those that ended are parted with.
     fn turn<A: Application>(&mut self, now: Instant, application: &mut A) -> Result<(), LoopError>
-        ensures served { GoesOnServing self.old self.new }
+        ensures served { GoesOnServingTelling A.stands self.old self.new application.old application.new result }
     {
         let milliseconds = self.milliseconds(now);
         self.connections.set_time(milliseconds);
@@ -428,6 +431,7 @@ impl EventLoop {
     /// The application is told that it was woken, where it was.
     fn tell_woken<A: Application>(&mut self, application: &mut A) -> Result<(), LoopError>
         ensures served { GoesOnServing self.old self.new }
+        ensures stands { Stays A.stands application.old application.new }
     {
         if !self.is_woken {
             return Ok(());
@@ -449,6 +453,7 @@ impl EventLoop {
     /// The application is told that its time has come, where it has.
     fn tick<A: Application>(&mut self, now: Instant, application: &mut A) -> Result<(), LoopError>
         ensures served { GoesOnServing self.old self.new }
+        ensures stands { Stays A.stands application.old application.new }
     {
         if self.has_ticked && !self.next_tick.is_some_and(|then| then <= now) {
             return Ok(());
@@ -466,6 +471,7 @@ impl EventLoop {
         application: &mut A,
     ) -> Result<(), LoopError>
         ensures served { GoesOnServing self.old self.new }
+        ensures stands { Stays A.stands application.old application.new }
     {
         for _ in 0..ACCEPTED {
             if !self.accepts() {
@@ -479,6 +485,7 @@ impl EventLoop {
     /// Accepts a connection, if one waits. Where the system has no room for it, it is asked again a little later.
     fn accept<A: Application>(&mut self, now: Instant, application: &mut A) -> Result<(), LoopError>
         ensures served { GoesOnServing self.old self.new }
+        ensures stands { Stays A.stands application.old application.new }
     {
         match self.listener.accept() {
             Ok((stream, _address)) => return self.admit(now, stream, application),
@@ -502,6 +509,7 @@ impl EventLoop {
         application: &mut A,
     ) -> Result<(), LoopError>
         ensures served { GoesOnServing self.old self.new }
+        ensures stands { Stays A.stands application.old application.new }
     {
         let key = self.connections.next_key();
         if !self.has_room() || self.poller.add(&mut stream, key).is_err() {
@@ -524,6 +532,7 @@ impl EventLoop {
         application: &mut A,
     ) -> Result<(), LoopError>
         ensures served { GoesOnServing self.old self.new }
+        ensures stands { Stays A.stands application.old application.new }
     {
         let Some(viewer) = self.connections.viewer(key) else {
             return Ok(());
@@ -563,6 +572,7 @@ impl EventLoop {
     /// Viewers that ended are parted with, and the application is told.
     fn part<A: Application>(&mut self, application: &mut A) -> Result<(), LoopError>
         ensures served { GoesOnServing self.old self.new }
+        ensures stands { Stays A.stands application.old application.new }
     {
         for _ in 0..self.connections.len() {
             if !self.part_with_one(application)? {
@@ -575,6 +585,7 @@ impl EventLoop {
     /// One viewer that ended is parted with. Whether there was one.
     fn part_with_one<A: Application>(&mut self, application: &mut A) -> Result<bool, LoopError>
         ensures served { GoesOnServing self.old self.new }
+        ensures stands { Stays A.stands application.old application.new }
     {
         let Some(departed) = self.connections.take_departed() else {
             return Ok(false);

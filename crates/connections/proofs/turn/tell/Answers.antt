@@ -1,6 +1,6 @@
 use Rattle.std.proofs.Common.{◌+◌, sym}
 use Rattle.std.proofs.lemmas.Result.{err_from_is_err_and}
-use Rattle.connections.proofs.Telling.{told-more, told-first}
+use Rattle.connections.specs.TellingLemmas.{told-more, told-first}
 use Rattle.connections.proofs.turn.tell.Goals as goal
 
 pub returns-in_err-on_input-clause-told : goal.returns-in_err-on_input-clause-told

@@ -1,7 +1,7 @@
 use Rattle.std.proofs.Common.{take}
 use Rattle.connections.specs.Drawing.{Draws}
 use Rattle.connections.specs.Telling.{said_by}
-use Rattle.connections.proofs.Telling.{IsToldAll}
+use Rattle.connections.specs.TellingLemmas.{IsToldAll}
 use Rattle.connections.proofs.turn.tell.Given as goal
 
 -- so far the application was told the first inputs
