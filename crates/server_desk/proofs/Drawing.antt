@@ -1,5 +1,5 @@
 -- Calls that draw.
-use Rattle.std.proofs.Common.{◌≡◌, ◌≢◌, ◌⊎◌, ℕ, ℤ, pos, min, ◌^◌, true, false, true≢false, List, [], ◌∷◌, ◌++◌, append-nil, Option, Some, None, Result, Ok, Err, refl, sym, ap, ◌∙◌, inl, inr, subst}
+use Rattle.std.proofs.Common.{◌≡◌, ◌≢◌, ℕ, ℤ, true, true≢false, List, [], ◌∷◌, ◌++◌, append-nil, Option, Some, None, Result, Ok, Err, refl, sym, ap, ◌∙◌, inl, inr, subst}
 use Rattle.std.proofs.lemmas.Bool.{and_from, or_parts, or_from}
 use Rattle.std.specs.Prelude.{OnOk, OnErr, MatchResult, option_map, not}
 use Rattle.std.specs.List.{list_any}
@@ -16,7 +16,7 @@ use Rattle.screen.specs.Answers.{is_drawing}
 use Rattle.screen.specs.Calls.{event_of}
 use Rattle.screen.specs.Refusals.{Refuses}
 use Rattle.screen.specs.State.{State, state, refusal}
-use Rattle.connections.specs.Drawing.{Surface, IsNotedAfter, IsDrawnFrom, are_drawings, has_notice}
+use Rattle.connections.specs.Drawing.{Surface, IsNotedAfter, IsDrawnFrom}
 use Rattle.connections.specs.Serving.{Serving, Serves, drawn_is_served}
 use Rattle.event_loop.specs.Sockets.{sockets}
 use Rattle.screen_desk.specs.Codes.{Answers, IsRefusal, code_of, done, shut}

@@ -2,3 +2,4 @@ pub mod Waiting
 pub mod Drawing
 pub mod Turning
 pub mod Taking
+pub mod Keeping

@@ -1,19 +1,18 @@
 -- A program's own pixels.
-use Rattle.std.proofs.Common.{◌≡◌, ◌⊎◌, ℕ, ℤ, pos, min, ◌^◌, true, false, true≢false, List, [], ◌∷◌, ◌++◌, Option, Some, None, Result, Ok, Err, refl, sym, ap, ◌∙◌, inl, inr, subst}
+use Rattle.std.proofs.Common.{◌≡◌, ℕ, ℤ, pos, min, ◌^◌, true, false, true≢false, List, [], ◌∷◌, ◌++◌, Option, Some, None, Result, Ok, Err, refl, sym, ap, ◌∙◌, inl, inr, subst}
 use Rattle.std.specs.Prelude.{MatchResult}
 use Rattle.screen.specs.declared.Input.{Input}
 use Rattle.screen.specs.declared.Config.{Config}
 use Rattle.screen.specs.declared.Event.{Event}
 use Rattle.screen.specs.declared.ScreenError.{ScreenError}
-use Rattle.screen.specs.declared.ScreenError.TheVariants.{OutOfMemory}
 use Rattle.screen.specs.Alone.{config_refusal}
-use Rattle.screen.specs.State.{State, state}
+use Rattle.screen.specs.State.{state}
 use Rattle.source_pixels.specs.declared.pieces.Piece.{Piece}
 use Rattle.source_pixels.specs.Source.{Source}
 use Rattle.screen.specs.Paints.{paints_of}
 use Rattle.screen.specs.Takes.{Takes}
 use Rattle.connections.specs.Drawing.{Surface, IsDrawnFrom, are_drawings, has_notice}
-use Rattle.connections.specs.Serving.{Serving, Serves, drawn_is_served}
+use Rattle.connections.specs.Serving.{Serving, drawn_is_served}
 use Rattle.event_loop.specs.Sockets.{sockets}
 use Rattle.screen_desk.specs.Codes.{code_of}
 use Rattle.server_desk.specs.declared.visits.Visit.{Visit}

@@ -1,6 +1,7 @@
 -- Turns, and what begins them.
-use Rattle.std.proofs.Common.{◌≡◌, ◌≢◌, ◌≤◌, ◌-◌, ℕ, zero, suc, ℤ, List, [], ◌∷◌, ◌++◌, length, take, Option, Some, None, Result, Ok, Err, refl, sym, ap, ◌∙◌, inl, inr, subst, append-nil, arith}
-use Rattle.std.specs.Prelude.{MatchOption, IfErr, option_map, ◌⊎◌}
+use Rattle.std.proofs.Common.{◌≡◌, ◌≢◌, ◌≤◌, ◌<◌, ◌-◌, ◌+◌, ◌^◌, ℕ, zero, suc, ℤ, List, [], ◌++◌, length, take, Option, Some, None, Result, Ok, Err, refl, sym, ap, ◌∙◌, inl, inr, subst, append-nil, arith}
+use Rattle.std.specs.Prelude.{IfErr, OnOk, option_map, min, ◌⊎◌}
+use Rattle.std.proofs.lemmas.List.{take_all}
 use Rattle.screen.specs.declared.Input.{Input}
 use Rattle.screen.specs.declared.Config.{Config}
 use Rattle.screen.specs.declared.Event.{Event}
@@ -9,17 +10,19 @@ use Rattle.screen.specs.declared.ScreenError.TheVariants.{OutOfMemory}
 use Rattle.screen.specs.declared.ScreenError.TheVariants as refusals
 use Rattle.screen.specs.Alone.{config_refusal}
 use Rattle.connections.specs.Serving.{Serving, Serves}
-use Rattle.event_loop.specs.Sockets.{sockets, GoesOnServing}
+use Rattle.connections.specs.Telling.{inputs_after}
+use Rattle.event_loop.specs.Sockets.{sockets}
 use Rattle.event_loop.specs.declared.event_loop.LoopError.{LoopError}
-use Rattle.event_loop.specs.declared.event_loop.LoopError.TheVariants.{Screen}
+use Rattle.event_loop.specs.declared.event_loop.LoopError.TheVariants.{Network, Clock, Screen}
 use Rattle.screen_desk.specs.Codes.{Answers, code_of, done, out_of_memory}
 use Rattle.server_desk.specs.declared.listening.ListenError.{ListenError}
 use Rattle.server_desk.specs.declared.listening.ListenError.TheVariants.{Refused, BadAddress, CannotListen}
 use Rattle.server_desk.specs.declared.visits.Visit.{Visit}
 use Rattle.server_desk.specs.Codes.{bad_address, cannot_listen, turn_code}
 use Rattle.server_desk.specs.Listening.{IsOfSystem, IsRefusedBy, listen_code}
-use Rattle.server_desk.specs.Desk.{Standing, IsPutBehind}
+use Rattle.server_desk.specs.Desk.{Standing, IsKept, IsPutBehind}
 use Rattle.server_desk.specs.Calls.{Listens, TakesTurn}
+use Rattle.server_desk.proofs.Keeping.{part-first}
 
 -- ---- listening
 
@@ -99,15 +102,44 @@ nothing (suc k) = refl
 puts-none : {X : Type 0} (most : ℕ) (old new : List X) → new ≡ old → IsPutBehind most old new
 puts-none most old new same = ([], same ∙ (sym (append-nil old) ∙ ap (λ l. old ++ l) (sym (nothing (most - length old)))))
 
-pub turns : (desk : Standing) (before : Option Serving) (s t : Serving) (answer : Result (Unit {0}) LoopError) (code : ℤ) (port : ℕ) (inputs inputs_kept inputs_put : List (ℕ × Input)) (visits visits_kept visits_put : List Visit) (text : List ℕ) (lost lost_now full full_now : ℕ)
-    → record { served = before; port = port; inputs = inputs; visits = visits; text = text; lost = lost; full_requests = full } ≡ desk → before ≡ Some s → code ≡ turn_code answer → GoesOnServing s t
-    → inputs_kept ≡ inputs → visits_kept ≡ visits → IsPutBehind 4096 inputs_kept inputs_put → IsPutBehind 1024 visits_kept visits_put → lost ≤ lost_now → full ≤ full_now
+done-all : (answer : Result (Unit {0}) LoopError) (P : Type 0) → OnOk answer P → turn_code answer ≡ done → P
+done-all (Ok x) P h is_done = h
+done-all (Err Network) P h is_done = absurd (cc)
+done-all (Err Clock) P h is_done = absurd (cc)
+done-all (Err (Screen e)) P h is_done = absurd (never_done e is_done)
+
+-- nothing more is lost only where nothing is
+none-lost : (old now more : ℕ) → now ≡ min (old + more) (2 ^ 64 - 1) → now ≡ old → old < 2 ^ 64 - 1 → more ≡ 0
+none-lost old now more is same few = omega (is, same, few, arith)
+
+pub turns : (desk : Standing) (before : Option Serving) (s t : Serving) (answer : Result (Unit {0}) LoopError) (code : ℤ) (port : ℕ) (inputs inputs_kept inputs_put came : List (ℕ × Input)) (visits visits_kept visits_put : List Visit) (text : List ℕ) (lost lost_now came_lost kept_lost full full_now : ℕ)
+    → record { served = before; port = port; inputs = inputs; visits = visits; text = text; lost = lost; full_requests = full } ≡ desk → before ≡ Some s → code ≡ turn_code answer
+    → ((c : Config) (list : List Event) → Serves c (sockets c) list s → (more : List Event) × Serves c (sockets c) (list ++ more) t
+    × ((told rest : List (ℕ × Input)) × (told ++ rest ≡ inputs_after c list more) × OnOk answer (rest ≡ []) × IsKept told came came_lost))
+    → inputs_kept ≡ inputs → visits_kept ≡ visits → inputs_put ≡ inputs_kept ++ take (4096 - length inputs_kept) came → (kept_lost ≡ 0 → (came_lost ≡ 0) × (length came ≤ 4096 - length inputs_kept)) → IsPutBehind 1024 visits_kept visits_put
+    → lost_now ≡ min (lost + kept_lost) (2 ^ 64 - 1) → lost ≤ lost_now → full ≤ full_now
     → TakesTurn desk (record { served = Some t; port = port; inputs = inputs_put; visits = visits_put; text = text; lost = lost_now; full_requests = full_now }) code
-turns desk before s t answer code port inputs inputs_kept inputs_put visits visits_kept visits_put text lost lost_now full full_now view is code_is goes inputs_are visits_are inputs_come visits_come more more_full =
+turns desk before s t answer code port inputs inputs_kept inputs_put came visits visits_kept visits_put text lost lost_now came_lost kept_lost full full_now view is code_is goes inputs_are visits_are inputs_come none visits_come lost_is more more_full =
     rw (sym view) (rw is (record {
       answer = (answer, code_is);
-      served = λ c list stands. goes c list stands;
-      inputs = subst (λ (l : List (ℕ × Input)). IsPutBehind 4096 l inputs_put) inputs_are inputs_come;
+      served = λ c list stands.
+          let p = goes c list stands in
+          let k = p.2 in
+          record {
+            more = p.0;
+            stands = p.1;
+            told = k.0;
+            rest = k.1;
+            inputs = k.2;
+            all = λ is_done. done-all answer (k.1 ≡ []) k.3 (sym code_is ∙ is_done);
+            kept = take (4096 - length inputs_kept) came;
+            part = part-first (4096 - length inputs_kept) came k.0 k.4.0;
+            waiting = inputs_come ∙ ap (λ l. l ++ take (4096 - length inputs_kept) came) inputs_are;
+            whole = λ same few.
+                let n = none (none-lost lost lost_now kept_lost lost_is same few) in
+                take_all (4096 - length inputs_kept) came n.1 ∙ k.4.1 n.0;
+          };
+      inputs = subst (λ (l : List (ℕ × Input)). IsPutBehind 4096 l inputs_put) inputs_are (came, inputs_come);
       visits = subst (λ (l : List Visit). IsPutBehind 1024 l visits_put) visits_are visits_come;
       lost = more;
       full_requests = more_full;
@@ -121,7 +153,18 @@ pub no-turn : (desk : Standing) (before : Option Serving) (s : Serving) (port : 
 no-turn desk before s port inputs inputs_kept visits visits_kept text lost full code view is code_is inputs_are visits_are =
     rw (sym view) (rw is (rw code_is (record {
       answer = (Err (Screen OutOfMemory), refl);
-      served = λ c list stands. ([], rw (append-nil list) stands);
+      served = λ c list stands. record {
+        more = [];
+        stands = rw (append-nil list) stands;
+        told = [];
+        rest = [];
+        inputs = refl;
+        all = λ is_done. refl;
+        kept = [];
+        part = tt;
+        waiting = inputs_are ∙ sym (append-nil inputs);
+        whole = λ same few. refl;
+      };
       inputs = puts-none 4096 inputs inputs_kept inputs_are;
       visits = puts-none 1024 visits visits_kept visits_are;
       lost = omega arith;

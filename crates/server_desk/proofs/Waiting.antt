@@ -1,5 +1,5 @@
 -- What waits, as it is fetched one by one.
-use Rattle.std.proofs.Common.{◌≡◌, ℕ, zero, suc, ◌+◌, ◌<◌, ◌≤◌, List, [], ◌∷◌, ◌++◌, length, take, drop, refl, sym, ap, ◌∙◌, arith, slice_set, add-one}
+use Rattle.std.proofs.Common.{◌≡◌, ℕ, zero, suc, ◌+◌, ◌<◌, ◌≤◌, List, [], ◌∷◌, ◌++◌, length, take, drop, sym, ap, ◌∙◌, arith, slice_set, add-one}
 
 one-of : {X : Type 0} (count : ℕ) (all room new : List X) (x : X) → drop count all ≡ x ∷ new → count < length room
     → (drop (suc count) all ≡ new) × (slice_set (take count all ++ drop count room) count x ≡ take (suc count) all ++ drop (suc count) room) × (suc count ≤ length all)

@@ -1,11 +1,13 @@
 -- What the calls of a server's desk do: the number that each answers, and the desk before and after it.
-use Rattle.std.specs.Prelude.{◌≡◌, ◌≢◌, ◌⊎◌, ℕ, ◌^◌, ◌≤◌, min, ℤ, pos, Bool, true, false, ◌<ℤ◌, ◌≤ℤ◌, List, [], ◌∷◌, ◌++◌, length, drop, take, Option, Some, None, Result, Ok, MatchOption, option_map}
+use Rattle.std.specs.Prelude.{◌≡◌, ◌≢◌, ◌⊎◌, ℕ, ◌^◌, ◌-◌, ◌<◌, ◌≤◌, min, ℤ, pos, Bool, true, false, ◌<ℤ◌, ◌≤ℤ◌, List, [], ◌∷◌, ◌++◌, length, drop, take, Option, Some, None, Result, Ok, MatchOption, option_map}
 use Rattle.std.specs.declared.alloc.AllocError.{AllocError}
 use Rattle.region.specs.declared.Rect.{Rect}
 use Rattle.screen.specs.declared.Config.{Config}
+use Rattle.screen.specs.declared.Input.{Input}
 use Rattle.screen.specs.declared.Event.{Event}
 use Rattle.screen.specs.declared.ScreenError.TheVariants.{OutOfMemory}
 use Rattle.screen.specs.Alone.{config_refusal}
+use Rattle.connections.specs.Telling.{inputs_after}
 use Rattle.connections.specs.Serving.{Serving, Serves, number_at}
 use Rattle.event_loop.specs.Sockets.{sockets}
 use Rattle.source_pixels.specs.Source.{Source}
@@ -21,7 +23,7 @@ use Rattle.screen_desk.specs.declared.told.Told.{Told}
 use Rattle.server_desk.specs.declared.visits.Visit.{Visit}
 use Rattle.server_desk.specs.Codes.{bad_address, cannot_listen, network_failed, closed_code, turn_code}
 use Rattle.screen_desk.specs.Pixels.{source_due}
-use Rattle.server_desk.specs.Desk.{Standing, StandsFor, IsAsBefore, IsPutBehind, due, region_due}
+use Rattle.server_desk.specs.Desk.{Standing, StandsFor, IsAsBefore, IsPartOf, IsPutBehind, due, region_due}
 
 -- the desk listens, and serves a screen with nothing on it to no viewer yet; or it is as it was
 pub record Listens (c : Config) (old new : Standing) (code : ℤ) : Type 0 where
@@ -34,10 +36,23 @@ pub record Listens (c : Config) (old new : Standing) (code : ℤ) : Type 0 where
   pub full_requests : code ≡ done → new.full_requests ≡ 0
   pub refused : code ≢ done → new ≡ old
 
+-- The screen stands for a list with more events behind it. Of the inputs of these, or of the first ones where the turn ended by an error, some wait behind those that waited, in order: all, where nothing more is lost.
+pub record IsTurnBy (c : Config) (list : List Event) (old new : Standing) (code : ℤ) : Type 0 where
+  pub more : List Event
+  pub stands : StandsFor c (list ++ more) new
+  pub told : List (ℕ × Input)
+  pub rest : List (ℕ × Input)
+  pub inputs : told ++ rest ≡ inputs_after c list more
+  pub all : code ≡ done → rest ≡ []
+  pub kept : List (ℕ × Input)
+  pub part : IsPartOf kept told
+  pub waiting : new.inputs ≡ old.inputs ++ kept
+  pub whole : new.lost ≡ old.lost → old.lost < 2 ^ 64 - 1 → kept ≡ told
+
 -- A turn: whatever list of events the screen stood for, it stands for it with others behind it, and by that list each viewer is served, also where the turn ended by an error. What waited to be fetched waits still, and what came waits behind it.
 pub record TakesTurn (old new : Standing) (code : ℤ) : Type 0 where
   pub answer : MatchOption old.served (code ≡ shut) (λ s. (answer : Result (Unit {0}) LoopError) × (code ≡ turn_code answer))
-  pub served : (c : Config) (list : List Event) → StandsFor c list old → (more : List Event) × StandsFor c (list ++ more) new
+  pub served : (c : Config) (list : List Event) → StandsFor c list old → IsTurnBy c list old new code
   pub inputs : IsPutBehind 4096 old.inputs new.inputs
   pub visits : IsPutBehind 1024 old.visits new.visits
   pub lost : old.lost ≤ new.lost

@@ -1,5 +1,5 @@
 -- The numbers that calls of a server answer, besides those of a screen's desk.
-use Rattle.std.specs.Prelude.{◌≡◌, ℕ, ℤ, pos, Bool, true, false, Result, Ok, Err, Some, None}
+use Rattle.std.specs.Prelude.{ℕ, ℤ, pos, Bool, true, false, Result, Ok, Err, Some}
 use Rattle.std.specs.declared.alloc.AllocError.{AllocError}
 use Rattle.receipts.specs.declared.Ended.{Ended}
 use Rattle.receipts.specs.declared.Ended.TheVariants as ended

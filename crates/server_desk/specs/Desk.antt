@@ -1,5 +1,5 @@
 -- What a server's desk holds.
-use Rattle.std.specs.Prelude.{◌≡◌, ◌≢◌, ℕ, ◌-◌, ℤ, List, [], ◌++◌, length, take, Option, Some, None, option_map, not}
+use Rattle.std.specs.Prelude.{◌≡◌, ◌⊎◌, ℕ, ◌-◌, ℤ, List, [], ◌∷◌, ◌++◌, length, take, Option, Some, None, option_map, not}
 use Rattle.std.specs.List.{list_any}
 use Rattle.region.specs.declared.Rect.{Rect}
 use Rattle.region.specs.RegionView.{in_range}
@@ -54,6 +54,16 @@ due desk e = due_by (screen_of desk) e
 -- why a call for the places of rectangles is refused: the desk is shut, or a coordinate is beyond 2^20
 abbrev pub region_due : Standing → List Rect → Option ℤ
 region_due desk rects = elim desk.served [ None ↦ Some shut | Some s ↦ far_or_none (list_any (λ r. not (in_range r)) rects) ]
+
+-- some things of a list, in its order
+abbrev pub IsPartOf : {X : Type 0} → List X → List X → Type 0
+IsPartOf [] all = Unit {0}
+IsPartOf (x ∷ xs) [] = ⊥
+IsPartOf (x ∷ xs) (y ∷ ys) = ((x ≡ y) × IsPartOf xs ys) ⊎ IsPartOf (x ∷ xs) ys
+
+-- of the inputs that came some are kept, in order, and so much is lost: where nothing is, these are all
+abbrev pub IsKept : List (ℕ × Input) → List (ℕ × Input) → ℕ → Type 0
+IsKept came kept lost = IsPartOf kept came × (lost ≡ 0 → kept ≡ came)
 
 -- what waits is what waited, and then what came, as far as so many may wait
 abbrev pub IsPutBehind : {X : Type 0} → ℕ → List X → List X → Type 0

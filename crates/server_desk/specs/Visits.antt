@@ -1,5 +1,5 @@
 -- Who came and went, as a program in C is given it.
-use Rattle.std.specs.Prelude.{◌≡◌, ℕ, pos}
+use Rattle.std.specs.Prelude.{ℕ, pos}
 use Rattle.receipts.specs.declared.Ended.{Ended}
 use Rattle.server_desk.specs.Codes.{reason_code, fault_of}
 use Rattle.server_desk.specs.declared.visits.Visit.{Visit}

@@ -1,5 +1,8 @@
 //! The application: it draws nothing, and keeps what it is told.
 
+ghost use Rattle.std.specs.Prelude.{◌≡◌, ◌≢◌, ℕ, List, [], ◌∷◌, ◌++◌, OnOk, OnErr, true, false};
+ghost use Rattle.server_desk.specs.Desk.{IsKept};
+
 use crate::told::{ToldBy, copy_of, text_len};
 use crate::visits::{Visit, coming_of, going_of};
 use connections::Receipt;
@@ -22,7 +25,10 @@ pub(crate) struct Gathering {
 
 impl Gathering {
     /// Nothing yet.
-    pub fn new(alloc: Global, text_room: usize) -> Gathering {
+    pub fn new(alloc: Global, text_room: usize) -> Gathering
+        ensures inputs { result.inputs.items ≡ [] }
+        ensures lost { result.lost ≡ 0 }
+    {
         Gathering {
             alloc,
             inputs: VecDeque::new(alloc),
@@ -34,7 +40,11 @@ impl Gathering {
     }
 
     /// Keeps an input.
-    fn keep_input(&mut self, viewer: u64, input: &Input) -> Result<(), AllocError> {
+    fn keep_input(&mut self, viewer: u64, input: &Input) -> Result<(), AllocError>
+        ensures kept { OnOk result (self.new.inputs.items ≡ self.old.inputs.items ++ (viewer, input.now) ∷ []) }
+        ensures refused { OnErr result (self.new.inputs.items ≡ self.old.inputs.items) }
+        ensures lost { self.new.lost ≡ self.old.lost }
+    {
         let Some(room) = self.text_room.checked_sub(text_len(input)) else {
             return Err(AllocError);
         };
@@ -45,7 +55,11 @@ impl Gathering {
     }
 
     /// Counts what was not kept.
-    fn count_lost(&mut self, is_kept: bool) {
+    fn count_lost(&mut self, is_kept: bool)
+        ensures inputs { self.new.inputs ≡ self.old.inputs }
+        ensures kept { is_kept ≡ true → self.new.lost ≡ self.old.lost }
+        ensures lost { is_kept ≡ false → self.new.lost ≢ 0 }
+    {
         if !is_kept {
             self.lost = self.lost.saturating_add(1);
         }
@@ -53,6 +67,8 @@ impl Gathering {
 }
 
 impl Application for Gathering {
+    ghost stands = { λ gathering inputs. IsKept inputs gathering.inputs.items gathering.lost };
+
     fn on_input(&mut self, _: &mut Canvas, viewer: u64, input: &Input) -> Result<(), ScreenError> {
         let kept = self.keep_input(viewer, input);
         self.count_lost(kept.is_ok());

@@ -1,4 +1,4 @@
-use Rattle.std.proofs.Common.{rules, refl}
+use Rattle.std.proofs.Common.{rules}
 use Rattle.server_desk.proofs.Drawing.{draws, drawing_own}
 use Rattle.server_desk.proofs.desk.ServerDesk.draw.Goals as goal
 

@@ -1,0 +1,49 @@
+-- What is kept of what came.
+use Rattle.std.proofs.Common.{◌≡◌, ◌≢◌, ℕ, zero, suc, Bool, true, false, List, [], ◌∷◌, ◌++◌, take, Result, Ok, Err, refl, sym, ap, ◌∙◌, inl, inr, subst}
+use Rattle.std.specs.Prelude.{◌⊎◌, is_ok, OnOk, OnErr}
+use Rattle.std.specs.declared.alloc.AllocError.{AllocError}
+use Rattle.screen.specs.declared.Input.{Input}
+use Rattle.server_desk.specs.Desk.{IsPartOf, IsKept}
+
+part-more : {X : Type 0} (kept all : List X) (x : X) → IsPartOf kept all → IsPartOf (kept ++ x ∷ []) (all ++ x ∷ [])
+part-more [] [] x h = inl (refl, tt)
+part-more [] (y ∷ all) x h = inr (part-more [] all x tt)
+part-more (k ∷ kept) [] x h = absurd h
+part-more (k ∷ kept) (y ∷ all) x (inl h) = inl (h.0, part-more kept all x h.1)
+part-more (k ∷ kept) (y ∷ all) x (inr h) = inr (part-more (k ∷ kept) all x h)
+
+part-less : {X : Type 0} (kept all : List X) (x : X) → IsPartOf kept all → IsPartOf kept (all ++ x ∷ [])
+part-less [] all x h = tt
+part-less (k ∷ kept) [] x h = absurd h
+part-less (k ∷ kept) (y ∷ all) x (inl h) = inl (h.0, part-less kept all x h.1)
+part-less (k ∷ kept) (y ∷ all) x (inr h) = inr (part-less (k ∷ kept) all x h)
+
+pub part-first : {X : Type 0} (n : ℕ) (kept all : List X) → IsPartOf kept all → IsPartOf (take n kept) all
+part-first zero kept all h = tt
+part-first (suc n) [] all h = tt
+part-first (suc n) (k ∷ kept) [] h = absurd h
+part-first (suc n) (k ∷ kept) (y ∷ all) (inl h) = inl (h.0, part-first n kept all h.1)
+part-first (suc n) (k ∷ kept) (y ∷ all) (inr h) = inr (part-first (suc n) (k ∷ kept) all h)
+
+-- an input is kept
+pub kept-more : (came kept kept' : List (ℕ × Input)) (lost lost' : ℕ) (x : ℕ × Input) → kept' ≡ kept ++ x ∷ [] → lost' ≡ lost → IsKept came kept lost → IsKept (came ++ x ∷ []) kept' lost'
+kept-more came kept kept' lost lost' x is same h =
+    subst (λ (k : List (ℕ × Input)). IsKept (came ++ x ∷ []) k lost') (sym is) (part-more kept came x h.0, λ none. ap (λ k. k ++ x ∷ []) (h.1 (sym same ∙ none)))
+
+-- it is lost
+pub kept-less : (came kept kept' : List (ℕ × Input)) (lost lost' : ℕ) (x : ℕ × Input) → kept' ≡ kept → lost' ≢ 0 → IsKept came kept lost → IsKept (came ++ x ∷ []) kept' lost'
+kept-less came kept kept' lost lost' x is some h = subst (λ (k : List (ℕ × Input)). IsKept (came ++ x ∷ []) k lost') (sym is) (part-less kept came x h.0, λ none. absurd (some none))
+
+-- something else is kept, or lost
+pub kept-still : (came kept kept' : List (ℕ × Input)) (lost lost' : ℕ) → kept' ≡ kept → (lost' ≡ lost) ⊎ (lost' ≢ 0) → IsKept came kept lost → IsKept came kept' lost'
+kept-still came kept kept' lost lost' is (inl same) h = subst (λ (k : List (ℕ × Input)). IsKept came k lost') (sym is) (h.0, λ none. h.1 (sym same ∙ none))
+kept-still came kept kept' lost lost' is (inr some) h = subst (λ (k : List (ℕ × Input)). IsKept came k lost') (sym is) (h.0, λ none. absurd (some none))
+
+-- an input is kept where it can be
+pub input-kept : (came kept kept' kept'' : List (ℕ × Input)) (lost mid lost' : ℕ) (x : ℕ × Input) (r : Result (Unit {0}) AllocError) (b : Bool) → b ≡ is_ok r → OnOk r (kept' ≡ kept ++ x ∷ []) → OnErr r (kept' ≡ kept) → mid ≡ lost → kept'' ≡ kept'
+    → (b ≡ true → lost' ≡ mid) → (b ≡ false → lost' ≢ 0) → IsKept came kept lost → IsKept (came ++ x ∷ []) kept'' lost'
+input-kept came kept kept' kept'' lost mid lost' x (Ok u) b is fine refused same still whole short h = kept-more came kept kept'' lost lost' x (still ∙ fine) (whole is ∙ same) h
+input-kept came kept kept' kept'' lost mid lost' x (Err e) b is fine refused same still whole short h = kept-less came kept kept'' lost lost' x (still ∙ refused) (short is) h
+
+pub nothing-kept : (kept : List (ℕ × Input)) (lost : ℕ) → kept ≡ [] → IsKept [] kept lost
+nothing-kept kept lost is = subst (λ (k : List (ℕ × Input)). IsKept [] k lost) (sym is) (tt, λ none. refl)
