@@ -21,6 +21,10 @@ abbrev pub inputs_after : Config → List Event → List Event → List (ℕ × 
 inputs_after c before [] = []
 inputs_after c before (e ∷ es) = inputs_by e (answer_to c before e) ++ inputs_after c (before ++ e ∷ []) es
 
+-- an application stands for the inputs that it stood for
+abbrev pub Stays : {A : Type 0} → (A → List (ℕ × Input) → Type 0) → A → A → Type 0
+Stays stands before after = (inputs : List (ℕ × Input)) → stands before inputs → stands after inputs
+
 -- An application is told inputs, in order. Whatever inputs it stood for, it stands for these with those that it was told behind them: all, or the first ones where an error ended this.
 abbrev pub IsTold : {A X E : Type 0} → (A → List (ℕ × Input) → Type 0) → List (ℕ × Input) → A → A → Result X E → Type 0
 IsTold stands inputs old new result = (before : List (ℕ × Input)) → stands old before → (told rest : List (ℕ × Input)) × (told ++ rest ≡ inputs) × OnOk result (rest ≡ []) × stands new (before ++ told)

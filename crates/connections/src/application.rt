@@ -2,6 +2,7 @@
 
 ghost use Rattle.std.specs.Prelude.{ℕ, List, [], ◌∷◌, ◌++◌};
 ghost use Rattle.screen.specs.declared.Input.{Input};
+ghost use Rattle.connections.specs.Telling.{Stays};
 ghost use Rattle.connections.specs.Drawing.{Draws};
 
 use crate::canvas::Canvas;
@@ -11,9 +12,9 @@ use std::time::Duration;
 
 /// What draws on a canvas. Each call may draw, and draws alone; where one answers an error, so does the turn that made it.
 ///
-/// An application may say for which inputs it `stands`, those that it was told: `Connections::turn` says then which these are.
+/// An application may say for which inputs it `stands`, those that it was told; `Connections::turn` says then which these are.
 pub trait Application {
-    /// That it stands for these inputs, each with its viewer's number, in the order in which they came.
+    /// That it was told these inputs, each with its viewer's number, in the order in which they came.
     ghost stands: { Self → List (ℕ × Input) → Type 0 } = { λ _ _. Unit {0} };
 
     /// A viewer's input came (RFC 6143, 7.3.1 and 7.5.4 to 7.5.6).
@@ -29,7 +30,7 @@ pub trait Application {
     /// A viewer connected; it is served from now on.
     fn came(&mut self, _canvas: &mut Canvas, _viewer: u64) -> Result<(), ScreenError>
         ensures draws { Draws _canvas.old _canvas.new }
-        ensures stands { (inputs : List (ℕ × Input)) → stands self.old inputs → stands self.new inputs }
+        ensures stands { Stays stands self.old self.new }
     {
         Ok(())
     }
@@ -39,7 +40,7 @@ pub trait Application {
     /// there is one, behind the inputs of that piece and before the answer is cut: what is drawn now is in it.
     fn asked(&mut self, _canvas: &mut Canvas, _viewer: u64) -> Result<(), ScreenError>
         ensures draws { Draws _canvas.old _canvas.new }
-        ensures stands { (inputs : List (ℕ × Input)) → stands self.old inputs → stands self.new inputs }
+        ensures stands { Stays stands self.old self.new }
     {
         Ok(())
     }
@@ -47,7 +48,7 @@ pub trait Application {
     /// A viewer ended, and its connection is closed. Its receipt has the bytes that were heard and sent, where the history is kept.
     fn left(&mut self, _canvas: &mut Canvas, _receipt: Receipt) -> Result<(), ScreenError>
         ensures draws { Draws _canvas.old _canvas.new }
-        ensures stands { (inputs : List (ℕ × Input)) → stands self.old inputs → stands self.new inputs }
+        ensures stands { Stays stands self.old self.new }
     {
         Ok(())
     }
@@ -56,7 +57,7 @@ pub trait Application {
     /// none is.
     fn tick(&mut self, _canvas: &mut Canvas) -> Result<Option<Duration>, ScreenError>
         ensures draws { Draws _canvas.old _canvas.new }
-        ensures stands { (inputs : List (ℕ × Input)) → stands self.old inputs → stands self.new inputs }
+        ensures stands { Stays stands self.old self.new }
     {
         Ok(None)
     }
@@ -64,7 +65,7 @@ pub trait Application {
     /// Another thread woke the loop.
     fn woken(&mut self, _canvas: &mut Canvas) -> Result<(), ScreenError>
         ensures draws { Draws _canvas.old _canvas.new }
-        ensures stands { (inputs : List (ℕ × Input)) → stands self.old inputs → stands self.new inputs }
+        ensures stands { Stays stands self.old self.new }
     {
         Ok(())
     }

@@ -4,13 +4,12 @@ ghost use Rattle.std.specs.Prelude.{◌≡◌, ◌++◌, ◌∷◌, ◌+◌, [],
 ghost use Rattle.std.specs.Prelude.{true, false, not, ◌||◌, ◌==◌, is_some, count_by, IsSomeAnd, MatchOption, IsOkUnless, option_map, ◌≢◌};
 ghost use Rattle.std.specs.Borrow.{sem};
 ghost use Rattle.screen.specs.declared.Config.{Config};
-ghost use Rattle.screen.specs.declared.Input.{Input};
 ghost use Rattle.screen.specs.declared.Event.{Event};
 ghost use Rattle.screen.specs.Alone.{config_refusal};
 ghost use Rattle.connections.specs.Among.{is_among};
 ghost use Rattle.connections.specs.Serving.{Carried, GoesOn, GoesOnTelling, HasNothingToDo, IsOver, Serves, ViewerConnection, WasServed, at_key, is_kept, is_open_on, may_cut_at, noted_by, number_at};
 ghost use Rattle.connections.specs.Recording.{none_yet};
-ghost use Rattle.connections.specs.Telling.{inputs_after};
+ghost use Rattle.connections.specs.Telling.{inputs_after, Stays};
 ghost use Rattle.connections.specs.Lending.{lends_canvas};
 
 use crate::application::Application;
@@ -289,7 +288,7 @@ impl<T: Transport> Connections<T> {
         application: &mut A,
     ) -> Result<(), ScreenError>
         ensures served { GoesOn self.old self.new }
-        ensures stands { (inputs : List (ℕ × Input)) → A.stands application.old inputs → A.stands application.new inputs }
+        ensures stands { Stays A.stands application.old application.new }
     {
         application.came(&mut self.canvas, viewer)
     }
@@ -301,7 +300,7 @@ impl<T: Transport> Connections<T> {
         application: &mut A,
     ) -> Result<(), ScreenError>
         ensures served { GoesOn self.old self.new }
-        ensures stands { (inputs : List (ℕ × Input)) → A.stands application.old inputs → A.stands application.new inputs }
+        ensures stands { Stays A.stands application.old application.new }
     {
         application.left(&mut self.canvas, receipt)
     }
@@ -312,7 +311,7 @@ impl<T: Transport> Connections<T> {
         application: &mut A,
     ) -> Result<Option<Duration>, ScreenError>
         ensures served { GoesOn self.old self.new }
-        ensures stands { (inputs : List (ℕ × Input)) → A.stands application.old inputs → A.stands application.new inputs }
+        ensures stands { Stays A.stands application.old application.new }
     {
         application.tick(&mut self.canvas)
     }
@@ -320,7 +319,7 @@ impl<T: Transport> Connections<T> {
     /// The application is told that another thread woke it.
     pub fn tell_woken<A: Application>(&mut self, application: &mut A) -> Result<(), ScreenError>
         ensures served { GoesOn self.old self.new }
-        ensures stands { (inputs : List (ℕ × Input)) → A.stands application.old inputs → A.stands application.new inputs }
+        ensures stands { Stays A.stands application.old application.new }
     {
         application.woken(&mut self.canvas)
     }

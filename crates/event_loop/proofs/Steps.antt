@@ -10,11 +10,11 @@ use Rattle.screen.specs.declared.Config.{Config}
 use Rattle.screen.specs.declared.Event.{Event}
 use Rattle.screen.specs.declared.Event.TheVariants.{Connect}
 use Rattle.screen.specs.declared.Input.{Input}
-use Rattle.connections.specs.Telling.{inputs_after, IsTold}
+use Rattle.connections.specs.Telling.{inputs_after, Stays, IsTold}
 use Rattle.connections.specs.TellingLemmas.{inputs-append, told-nothing, told-all, told-then, told-ended}
 use Rattle.connections.specs.Recording.{none_yet}
 use Rattle.connections.specs.Serving.{Carried, Serving, Serves, GoesOn, GoesOnTelling}
-use Rattle.event_loop.specs.Sockets.{sockets, GoesOnServing, GoesOnServingTelling, Stays}
+use Rattle.event_loop.specs.Sockets.{sockets, GoesOnServing, GoesOnServingTelling}
 
 pub on-then : (a b d : Serving) → GoesOnServing a b → GoesOnServing b d → GoesOnServing a d
 on-then a b d g h c list s =

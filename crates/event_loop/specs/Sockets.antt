@@ -19,7 +19,3 @@ GoesOnServing old new = (c : Config) (list : List Event) → Serves c (sockets c
 abbrev pub GoesOnServingTelling : {A X E : Type 0} → (A → List (ℕ × Input) → Type 0) → Serving → Serving → A → A → Result X E → Type 0
 GoesOnServingTelling stands old new before after result =
     (c : Config) (list : List Event) → Serves c (sockets c) list old → (more : List Event) × Serves c (sockets c) (list ++ more) new × IsTold stands (inputs_after c list more) before after result
-
--- an application stands for the inputs that it stood for
-abbrev pub Stays : {A : Type 0} → (A → List (ℕ × Input) → Type 0) → A → A → Type 0
-Stays stands before after = (inputs : List (ℕ × Input)) → stands before inputs → stands after inputs

@@ -5,11 +5,12 @@ ghost use Rattle.std.specs.Borrow.{sem};
 ghost use Rattle.std.specs.Duration.{as_nanos};
 ghost use Rattle.screen.specs.declared.Config.{Config};
 ghost use Rattle.screen.specs.Alone.{config_refusal};
+ghost use Rattle.connections.specs.Telling.{Stays};
 ghost use Rattle.connections.specs.Serving.{Serves, number_at};
 ghost use Rattle.event_loop.specs.declared.event_loop.WhenFull.TheVariants as when_full;
 ghost use Rattle.event_loop.specs.Lending.{lends_canvas};
 ghost use Rattle.event_loop.specs.declared.event_loop.LoopError.TheVariants as error;
-ghost use Rattle.event_loop.specs.Sockets.{sockets, GoesOnServing, GoesOnServingTelling, Stays};
+ghost use Rattle.event_loop.specs.Sockets.{sockets, GoesOnServing, GoesOnServingTelling};
 ghost use Rattle.event_loop.specs.Opening.{IsOpenedOr};
 
 use crate::opening::Newcomers;

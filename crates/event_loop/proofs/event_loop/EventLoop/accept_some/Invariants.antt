@@ -1,4 +1,5 @@
-use Rattle.event_loop.specs.Sockets.{GoesOnServing, Stays}
+use Rattle.connections.specs.Telling.{Stays}
+use Rattle.event_loop.specs.Sockets.{GoesOnServing}
 use Rattle.event_loop.proofs.event_loop.EventLoop.accept_some.Given as goal
 
 abbrev pub invariant-loop : goal.invariant-loop
