@@ -1,6 +1,7 @@
 -- What is kept of what came.
-use Rattle.std.proofs.Common.{◌≡◌, ◌≢◌, ℕ, zero, suc, Bool, true, false, List, [], ◌∷◌, ◌++◌, take, Result, Ok, Err, refl, sym, ap, ◌∙◌, inl, inr, subst}
-use Rattle.std.specs.Prelude.{◌⊎◌, is_ok, OnOk, OnErr}
+use Rattle.std.proofs.Common.{◌≡◌, ◌+◌, ◌-◌, ◌^◌, ◌≤◌, ℕ, zero, suc, Bool, true, false, List, [], ◌∷◌, ◌++◌, take, Result, Ok, Err, refl, sym, ap, ◌∙◌, inl, inr, subst, arith}
+use Rattle.std.specs.Prelude.{min, is_ok, OnOk, OnErr}
+use Rattle.std.proofs.lemmas.List.{length-append}
 use Rattle.std.specs.declared.alloc.AllocError.{AllocError}
 use Rattle.screen.specs.declared.Input.{Input}
 use Rattle.server_desk.specs.Desk.{IsPartOf, IsKept}
@@ -26,24 +27,27 @@ part-first (suc n) (k ∷ kept) (y ∷ all) (inl h) = inl (h.0, part-first n kep
 part-first (suc n) (k ∷ kept) (y ∷ all) (inr h) = inr (part-first (suc n) (k ∷ kept) all h)
 
 -- an input is kept
-pub kept-more : (came kept kept' : List (ℕ × Input)) (lost lost' : ℕ) (x : ℕ × Input) → kept' ≡ kept ++ x ∷ [] → lost' ≡ lost → IsKept came kept lost → IsKept (came ++ x ∷ []) kept' lost'
+kept-more : (came kept kept' : List (ℕ × Input)) (lost lost' : ℕ) (x : ℕ × Input) → kept' ≡ kept ++ x ∷ [] → lost' ≡ lost → IsKept came kept lost → IsKept (came ++ x ∷ []) kept' lost'
 kept-more came kept kept' lost lost' x is same h =
-    subst (λ (k : List (ℕ × Input)). IsKept (came ++ x ∷ []) k lost') (sym is) (part-more kept came x h.0, λ none. ap (λ k. k ++ x ∷ []) (h.1 (sym same ∙ none)))
+    subst (λ (k : List (ℕ × Input)). IsKept (came ++ x ∷ []) k lost') (sym is)
+    (part-more kept came x h.0, λ few. let before = h.1 (omega (arith, same, few)) in omega (arith, same, before, length-append came (x ∷ []), length-append kept (x ∷ [])))
 
 -- it is lost
-pub kept-less : (came kept kept' : List (ℕ × Input)) (lost lost' : ℕ) (x : ℕ × Input) → kept' ≡ kept → lost' ≢ 0 → IsKept came kept lost → IsKept (came ++ x ∷ []) kept' lost'
-kept-less came kept kept' lost lost' x is some h = subst (λ (k : List (ℕ × Input)). IsKept (came ++ x ∷ []) k lost') (sym is) (part-less kept came x h.0, λ none. absurd (some none))
+kept-less : (came kept kept' : List (ℕ × Input)) (lost lost' : ℕ) (x : ℕ × Input) → kept' ≡ kept → lost' ≡ min (lost + 1) (2 ^ 64 - 1) → IsKept came kept lost → IsKept (came ++ x ∷ []) kept' lost'
+kept-less came kept kept' lost lost' x is one h =
+    subst (λ (k : List (ℕ × Input)). IsKept (came ++ x ∷ []) k lost') (sym is)
+    (part-less kept came x h.0, λ few. let before = h.1 (omega (arith, one, few)) in omega (arith, one, few, before, length-append came (x ∷ [])))
 
 -- something else is kept, or lost
-pub kept-still : (came kept kept' : List (ℕ × Input)) (lost lost' : ℕ) → kept' ≡ kept → (lost' ≡ lost) ⊎ (lost' ≢ 0) → IsKept came kept lost → IsKept came kept' lost'
-kept-still came kept kept' lost lost' is (inl same) h = subst (λ (k : List (ℕ × Input)). IsKept came k lost') (sym is) (h.0, λ none. h.1 (sym same ∙ none))
-kept-still came kept kept' lost lost' is (inr some) h = subst (λ (k : List (ℕ × Input)). IsKept came k lost') (sym is) (h.0, λ none. absurd (some none))
+pub kept-still : (came kept kept' : List (ℕ × Input)) (lost lost' : ℕ) → kept' ≡ kept → lost ≤ lost' → IsKept came kept lost → IsKept came kept' lost'
+kept-still came kept kept' lost lost' is more h =
+    subst (λ (k : List (ℕ × Input)). IsKept came k lost') (sym is) (h.0, λ few. let before = h.1 (omega (arith, more, few)) in omega (arith, more, before))
 
 -- an input is kept where it can be
 pub input-kept : (came kept kept' kept'' : List (ℕ × Input)) (lost mid lost' : ℕ) (x : ℕ × Input) (r : Result (Unit {0}) AllocError) (b : Bool) → b ≡ is_ok r → OnOk r (kept' ≡ kept ++ x ∷ []) → OnErr r (kept' ≡ kept) → mid ≡ lost → kept'' ≡ kept'
-    → (b ≡ true → lost' ≡ mid) → (b ≡ false → lost' ≢ 0) → IsKept came kept lost → IsKept (came ++ x ∷ []) kept'' lost'
+    → (b ≡ true → lost' ≡ mid) → (b ≡ false → lost' ≡ min (mid + 1) (2 ^ 64 - 1)) → IsKept came kept lost → IsKept (came ++ x ∷ []) kept'' lost'
 input-kept came kept kept' kept'' lost mid lost' x (Ok u) b is fine refused same still whole short h = kept-more came kept kept'' lost lost' x (still ∙ fine) (whole is ∙ same) h
-input-kept came kept kept' kept'' lost mid lost' x (Err e) b is fine refused same still whole short h = kept-less came kept kept'' lost lost' x (still ∙ refused) (short is) h
+input-kept came kept kept' kept'' lost mid lost' x (Err e) b is fine refused same still whole short h = kept-less came kept kept'' lost lost' x (still ∙ refused) (short is ∙ ap (λ n. min (n + 1) (2 ^ 64 - 1)) same) h
 
 pub nothing-kept : (kept : List (ℕ × Input)) (lost : ℕ) → kept ≡ [] → IsKept [] kept lost
-nothing-kept kept lost is = subst (λ (k : List (ℕ × Input)). IsKept [] k lost) (sym is) (tt, λ none. refl)
+nothing-kept kept lost is = subst (λ (k : List (ℕ × Input)). IsKept [] k lost) (sym is) (tt, λ few. omega arith)

@@ -1,7 +1,7 @@
 -- Turns, and what begins them.
 use Rattle.std.proofs.Common.{◌≡◌, ◌≢◌, ◌≤◌, ◌<◌, ◌-◌, ◌+◌, ◌^◌, ℕ, zero, suc, ℤ, List, [], ◌++◌, length, take, Option, Some, None, Result, Ok, Err, refl, sym, ap, ◌∙◌, inl, inr, subst, append-nil, arith}
 use Rattle.std.specs.Prelude.{IfErr, OnOk, option_map, min, ◌⊎◌}
-use Rattle.std.proofs.lemmas.List.{take_all}
+use Rattle.std.proofs.lemmas.List.{length-take}
 use Rattle.screen.specs.declared.Input.{Input}
 use Rattle.screen.specs.declared.Config.{Config}
 use Rattle.screen.specs.declared.Event.{Event}
@@ -108,15 +108,15 @@ done-all (Err Network) P h is_done = absurd (cc)
 done-all (Err Clock) P h is_done = absurd (cc)
 done-all (Err (Screen e)) P h is_done = absurd (never_done e is_done)
 
--- nothing more is lost only where nothing is
-none-lost : (old now more : ℕ) → now ≡ min (old + more) (2 ^ 64 - 1) → now ≡ old → old < 2 ^ 64 - 1 → more ≡ 0
-none-lost old now more is same few = omega (is, same, few, arith)
+-- no more are missing than are counted
+all-counted : (told came came_lost room kept_lost lost now : ℕ) → told ≤ came + came_lost → came_lost + (came - room) ≤ kept_lost → now ≡ min (lost + kept_lost) (2 ^ 64 - 1) → now < 2 ^ 64 - 1 → told ≤ min room came + (now - lost)
+all-counted told came came_lost room kept_lost lost now missing put is few = omega (missing, put, is, few, arith)
 
 pub turns : (desk : Standing) (before : Option Serving) (s t : Serving) (answer : Result (Unit {0}) LoopError) (code : ℤ) (port : ℕ) (inputs inputs_kept inputs_put came : List (ℕ × Input)) (visits visits_kept visits_put : List Visit) (text : List ℕ) (lost lost_now came_lost kept_lost full full_now : ℕ)
     → record { served = before; port = port; inputs = inputs; visits = visits; text = text; lost = lost; full_requests = full } ≡ desk → before ≡ Some s → code ≡ turn_code answer
     → ((c : Config) (list : List Event) → Serves c (sockets c) list s → (more : List Event) × Serves c (sockets c) (list ++ more) t
     × ((told rest : List (ℕ × Input)) × (told ++ rest ≡ inputs_after c list more) × OnOk answer (rest ≡ []) × IsKept told came came_lost))
-    → inputs_kept ≡ inputs → visits_kept ≡ visits → inputs_put ≡ inputs_kept ++ take (4096 - length inputs_kept) came → (kept_lost ≡ 0 → (came_lost ≡ 0) × (length came ≤ 4096 - length inputs_kept)) → IsPutBehind 1024 visits_kept visits_put
+    → inputs_kept ≡ inputs → visits_kept ≡ visits → inputs_put ≡ inputs_kept ++ take (4096 - length inputs_kept) came → (kept_lost < 2 ^ 64 - 1 → came_lost + (length came - (4096 - length inputs_kept)) ≤ kept_lost) → IsPutBehind 1024 visits_kept visits_put
     → lost_now ≡ min (lost + kept_lost) (2 ^ 64 - 1) → lost ≤ lost_now → full ≤ full_now
     → TakesTurn desk (record { served = Some t; port = port; inputs = inputs_put; visits = visits_put; text = text; lost = lost_now; full_requests = full_now }) code
 turns desk before s t answer code port inputs inputs_kept inputs_put came visits visits_kept visits_put text lost lost_now came_lost kept_lost full full_now view is code_is goes inputs_are visits_are inputs_come none visits_come lost_is more more_full =
@@ -135,9 +135,10 @@ turns desk before s t answer code port inputs inputs_kept inputs_put came visits
             kept = take (4096 - length inputs_kept) came;
             part = part-first (4096 - length inputs_kept) came k.0 k.4.0;
             waiting = inputs_come ∙ ap (λ l. l ++ take (4096 - length inputs_kept) came) inputs_are;
-            whole = λ same few.
-                let n = none (none-lost lost lost_now kept_lost lost_is same few) in
-                take_all (4096 - length inputs_kept) came n.1 ∙ k.4.1 n.0;
+            counted = λ few.
+                let put = none (omega (lost_is, few, arith)) in
+                let missing = k.4.1 (omega (lost_is, few, put, arith)) in
+                rw (length-take (4096 - length inputs_kept) came) (all-counted (length k.0) (length came) came_lost (4096 - length inputs_kept) kept_lost lost lost_now missing put lost_is few);
           };
       inputs = subst (λ (l : List (ℕ × Input)). IsPutBehind 4096 l inputs_put) inputs_are (came, inputs_come);
       visits = subst (λ (l : List Visit). IsPutBehind 1024 l visits_put) visits_are visits_come;
@@ -163,7 +164,7 @@ no-turn desk before s port inputs inputs_kept visits visits_kept text lost full 
         kept = [];
         part = tt;
         waiting = inputs_are ∙ sym (append-nil inputs);
-        whole = λ same few. refl;
+        counted = λ few. omega arith;
       };
       inputs = puts-none 4096 inputs inputs_kept inputs_are;
       visits = puts-none 1024 visits visits_kept visits_are;

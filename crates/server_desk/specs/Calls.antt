@@ -1,5 +1,5 @@
 -- What the calls of a server's desk do: the number that each answers, and the desk before and after it.
-use Rattle.std.specs.Prelude.{◌≡◌, ◌≢◌, ◌⊎◌, ℕ, ◌^◌, ◌-◌, ◌<◌, ◌≤◌, min, ℤ, pos, Bool, true, false, ◌<ℤ◌, ◌≤ℤ◌, List, [], ◌∷◌, ◌++◌, length, drop, take, Option, Some, None, Result, Ok, MatchOption, option_map}
+use Rattle.std.specs.Prelude.{◌≡◌, ◌≢◌, ◌⊎◌, ℕ, ◌^◌, ◌+◌, ◌-◌, ◌<◌, ◌≤◌, min, ℤ, pos, Bool, true, false, ◌<ℤ◌, ◌≤ℤ◌, List, [], ◌∷◌, ◌++◌, length, drop, take, Option, Some, None, Result, Ok, MatchOption, option_map}
 use Rattle.std.specs.declared.alloc.AllocError.{AllocError}
 use Rattle.region.specs.declared.Rect.{Rect}
 use Rattle.screen.specs.declared.Config.{Config}
@@ -36,7 +36,7 @@ pub record Listens (c : Config) (old new : Standing) (code : ℤ) : Type 0 where
   pub full_requests : code ≡ done → new.full_requests ≡ 0
   pub refused : code ≢ done → new ≡ old
 
--- The screen stands for a list with more events behind it. Of the inputs of these, or of the first ones where the turn ended by an error, some wait behind those that waited, in order: all, where nothing more is lost.
+-- The screen stands for a list with more events behind it. Of the inputs of these, or of the first ones where the turn ended by an error, some wait behind those that waited, in order; no more are missing than are counted as lost.
 pub record IsTurnBy (c : Config) (list : List Event) (old new : Standing) (code : ℤ) : Type 0 where
   pub more : List Event
   pub stands : StandsFor c (list ++ more) new
@@ -47,7 +47,7 @@ pub record IsTurnBy (c : Config) (list : List Event) (old new : Standing) (code 
   pub kept : List (ℕ × Input)
   pub part : IsPartOf kept told
   pub waiting : new.inputs ≡ old.inputs ++ kept
-  pub whole : new.lost ≡ old.lost → old.lost < 2 ^ 64 - 1 → kept ≡ told
+  pub counted : new.lost < 2 ^ 64 - 1 → length told ≤ length kept + (new.lost - old.lost)
 
 -- A turn: whatever list of events the screen stood for, it stands for it with others behind it, and by that list each viewer is served, also where the turn ended by an error. What waited to be fetched waits still, and what came waits behind it.
 pub record TakesTurn (old new : Standing) (code : ℤ) : Type 0 where

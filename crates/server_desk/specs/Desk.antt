@@ -1,5 +1,5 @@
 -- What a server's desk holds.
-use Rattle.std.specs.Prelude.{◌≡◌, ◌⊎◌, ℕ, ◌-◌, ℤ, List, [], ◌∷◌, ◌++◌, length, take, Option, Some, None, option_map, not}
+use Rattle.std.specs.Prelude.{◌≡◌, ◌⊎◌, ℕ, ◌+◌, ◌-◌, ◌^◌, ◌<◌, ◌≤◌, ℤ, List, [], ◌∷◌, ◌++◌, length, take, Option, Some, None, option_map, not}
 use Rattle.std.specs.List.{list_any}
 use Rattle.region.specs.declared.Rect.{Rect}
 use Rattle.region.specs.RegionView.{in_range}
@@ -61,9 +61,9 @@ IsPartOf [] all = Unit {0}
 IsPartOf (x ∷ xs) [] = ⊥
 IsPartOf (x ∷ xs) (y ∷ ys) = ((x ≡ y) × IsPartOf xs ys) ⊎ IsPartOf (x ∷ xs) ys
 
--- of the inputs that came some are kept, in order, and so much is lost: where nothing is, these are all
+-- of the inputs that came some are kept, in order; no more are missing than are counted as lost, as far as that is counted
 abbrev pub IsKept : List (ℕ × Input) → List (ℕ × Input) → ℕ → Type 0
-IsKept came kept lost = IsPartOf kept came × (lost ≡ 0 → kept ≡ came)
+IsKept came kept lost = IsPartOf kept came × (lost < 2 ^ 64 - 1 → length came ≤ length kept + lost)
 
 -- what waits is what waited, and then what came, as far as so many may wait
 abbrev pub IsPutBehind : {X : Type 0} → ℕ → List X → List X → Type 0

@@ -1,6 +1,6 @@
 //! The desk: the calls of a server, and what waits to be fetched.
 
-ghost use Rattle.std.specs.Prelude.{◌≡◌, ◌≤◌, ◌-◌, ◌∷◌, ◌++◌, [], ◌^◌, take, pos, map, min, length, None, IfOk, IfErr, OnOk, is_some, count_by};
+ghost use Rattle.std.specs.Prelude.{◌≡◌, ◌≤◌, ◌<◌, ◌+◌, ◌-◌, ◌∷◌, ◌++◌, [], ◌^◌, take, pos, map, min, length, None, IfOk, IfErr, OnOk, is_some, count_by};
 ghost use Rattle.screen.specs.declared.Event.{Event};
 ghost use Rattle.screen.specs.Alone.{config_refusal};
 ghost use Rattle.screen.specs.Calls.{event_of};
@@ -100,7 +100,7 @@ fn keep(inputs: &mut VecDeque<ToldBy>, visits: &mut VecDeque<Visit>, came: Gathe
     requires visits { 1024 ≤ deque_capacity visits.old }
     ensures inputs { inputs.new.items ≡ inputs.old.items ++ take (4096 - length inputs.old.items) came.inputs.items }
     ensures visits { IsPutBehind 1024 visits.old.items visits.new.items }
-    ensures lost { result ≡ 0 → (came.lost ≡ 0) × (length came.inputs.items ≤ 4096 - length inputs.old.items) }
+    ensures lost { result < 2 ^ 64 - 1 → came.lost + (length came.inputs.items - (4096 - length inputs.old.items)) ≤ result }
 {
     let lost_inputs = put_all(inputs, came.inputs, MOST_INPUTS);
     let lost_visits = put_all(visits, came.visits, MOST_VISITS);

@@ -1,6 +1,6 @@
 //! The application: it draws nothing, and keeps what it is told.
 
-ghost use Rattle.std.specs.Prelude.{◌≡◌, ◌≢◌, ℕ, List, [], ◌∷◌, ◌++◌, OnOk, OnErr, true, false};
+ghost use Rattle.std.specs.Prelude.{◌≡◌, ◌≤◌, ◌+◌, ◌-◌, ◌^◌, min, ℕ, List, [], ◌∷◌, ◌++◌, OnOk, OnErr, true, false};
 ghost use Rattle.server_desk.specs.Desk.{IsKept};
 
 use crate::told::{ToldBy, copy_of, text_len};
@@ -58,7 +58,8 @@ impl Gathering {
     fn count_lost(&mut self, is_kept: bool)
         ensures inputs { self.new.inputs ≡ self.old.inputs }
         ensures kept { is_kept ≡ true → self.new.lost ≡ self.old.lost }
-        ensures lost { is_kept ≡ false → self.new.lost ≢ 0 }
+        ensures lost { is_kept ≡ false → self.new.lost ≡ min (self.old.lost + 1) (2 ^ 64 - 1) }
+        ensures more { self.old.lost ≤ self.new.lost }
     {
         if !is_kept {
             self.lost = self.lost.saturating_add(1);
