@@ -3,12 +3,12 @@
 use crate::difference::{Difference, compare, make_difference};
 use crate::encoding;
 use crate::pieces::check_pieces;
-use crate::playing::play;
 use crate::replaying::{check_history, check_run};
 use crate::script::{Script, played, script_of, text_of};
 use crate::transcripts::{Exchange, Transcript};
 use crate::viewing::Viewing;
 use crate::watching::check_shown;
+use play_script::play_over;
 use screen::{Screen, ScreenError};
 use std::alloc::{AllocError, Global};
 
@@ -30,7 +30,7 @@ fn check_status(
 fn check_played(alloc: Global, transcript: &Transcript) -> Result<Option<Difference>, AllocError> {
     let script = text_of(alloc, &transcript.exchanges)?;
     let mut printed = Vec::new(alloc);
-    let status = play(alloc, &mut script.as_bytes(), &mut printed);
+    let status = play_over(alloc, &mut script.as_bytes(), &mut printed);
     let text = str::from_utf8(&printed).unwrap_or("(no text)");
     let wanted = played(alloc, &transcript.exchanges)?;
     match compare(alloc, "played", &wanted, text)? {

@@ -10,7 +10,6 @@ mod checking;
 mod difference;
 mod encoding;
 mod pieces;
-mod playing;
 mod replaying;
 mod script;
 mod showing;

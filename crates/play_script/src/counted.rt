@@ -1,4 +1,4 @@
-//! A reader whose reads are counted. No other function of the crate but `play_over` has the reader itself.
+//! A reader whose reads are counted. No other function of the crate but `play_counted` has the reader itself.
 ghost use Rattle.std.specs.Prelude.{◌≡◌, ◌+◌};
 ghost use Rattle.std.specs.Io.{ReadsAtMost};
 ghost use Rattle.std.specs.Io.KnownBytes.{ReadConsumes};

@@ -14,7 +14,8 @@ use crate::{Line, answer_text, bad_line_text, ok_text, parse_line, refusal_text,
 use screen::{Config, Event, Screen, ScreenError};
 use std::alloc::{AllocError, Global};
 use std::io::{Read, Write};
-use std::sync::ledger::Ledger;
+use std::marker::Brand;
+use std::sync::ledger::{Blank, Ledger};
 
 // What is printed of a line, and the status where the script ends with it.
 #[derive(Drop)]
@@ -149,8 +150,8 @@ fn play_whole<R: Read, W: Write, L: Ledger>(
     Ok(status)
 }
 
-// `play_over` on a reader whose every read is counted.
-fn play_counted<R: Read, W: Write, L: Ledger>(
+// Plays on a reader whose every read is counted.
+fn play_by_reads<R: Read, W: Write, L: Ledger>(
     alloc: Global,
     reader: &mut CountedReader<'_, R, L>,
     writer: &mut W,
@@ -167,10 +168,8 @@ fn play_counted<R: Read, W: Write, L: Ledger>(
     }
 }
 
-/// Reads a script whole and prints the answer to each line. The status is 0; 1 where the script ended
-/// with a bad line or a refused screen; 3 after `out of memory`; 5 after `read fault`, after `too long`,
-/// which is a script of more than 2^24 bytes, and after a write that failed. Each read of the reader is one step.
-pub fn play_over<R: Read, W: Write, L: Ledger>(
+/// `play_over`, each of whose reads is one step.
+pub fn play_counted<R: Read, W: Write, L: Ledger>(
     alloc: Global,
     reader: &mut R,
     writer: &mut W,
@@ -182,5 +181,35 @@ pub fn play_over<R: Read, W: Write, L: Ledger>(
     ensures status { (result ≡ 0) ⊎ (result ≡ 1) ⊎ (result ≡ 3) ⊎ (result ≡ 5) }
     ensures reads { steps.new ≤ steps.old + (2 ^ 24 + 1) }
 {
-    play_counted(alloc, &mut CountedReader::new(reader, steps), writer)
+    play_by_reads(alloc, &mut CountedReader::new(reader, steps), writer)
+}
+
+// The reads are counted on a ledger that nobody looks into.
+fn play_uncounted<R: Read, W: Write, L: Ledger>(
+    alloc: Global,
+    reader: &mut R,
+    writer: &mut W,
+    blank: Blank,
+) -> u8
+    requires name { blank.name ≡ L.name }
+    requires parts { blank.parts ≡ L.parts }
+    requires one { L.parts ≡ 1 }
+    ensures transcript { (result ≡ 0) ⊎ (result ≡ 1) → IfSome (R.remaining reader.old) (λ script.
+        Appends (W.contents writer.old) (W.contents writer.new) (transcript script) × (result ≡ status_of script)) }
+    ensures status { (result ≡ 0) ⊎ (result ≡ 1) ⊎ (result ≡ 3) ⊎ (result ≡ 5) }
+{
+    let mut steps = Steps::<L>::new(blank);
+    play_counted(alloc, reader, writer, &mut steps)
+}
+
+/// Reads a script whole and prints the answer to each line. The status is 0; 1 where the script ended
+/// with a bad line or a refused screen; 3 after `out of memory`; 5 after `read fault`, after `too long`,
+/// which is a script of more than 2^24 bytes, and after a write that failed. It reads at most 2^24 + 1 times (`play_counted`).
+pub fn play_over<R: Read, W: Write>(alloc: Global, reader: &mut R, writer: &mut W) -> u8
+    // What it wrote is the transcript of what it read, where reader and writer tell their bytes.
+    ensures transcript { (result ≡ 0) ⊎ (result ≡ 1) → IfSome (R.remaining reader.old) (λ script.
+        Appends (W.contents writer.old) (W.contents writer.new) (transcript script) × (result ≡ status_of script)) }
+    ensures status { (result ≡ 0) ⊎ (result ≡ 1) ⊎ (result ≡ 3) ⊎ (result ≡ 5) }
+{
+    play_uncounted::<R, W, Brand>(alloc, reader, writer, Blank::new(1))
 }

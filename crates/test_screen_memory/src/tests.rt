@@ -1,2 +1,0 @@
-mod lists_of_events;
-mod refused;
