@@ -4,7 +4,7 @@ ghost use Rattle.std.specs.Prelude.{◌≡◌, ◌∷◌, [], List, ℕ, false, 
 ghost use Rattle.std.specs.Option.{option_map_or};
 ghost use Rattle.std.specs.Str.{bytes_eq};
 ghost use Rattle.clap.specs.Values.{kind_of};
-ghost use Rattle.demo_app.specs.CommandLine.{HasViewers, most_viewers};
+ghost use Rattle.demo_app.specs.CommandLine.{HasViewers};
 ghost use Rattle.demo_app.specs.declared.command_line.Chosen.TheVariants as chosen;
 
 use crate::serve::ServeOptions;
@@ -18,10 +18,14 @@ use std::alloc::{AllocError, Global};
 pub enum Chosen {
     /// A script is read from standard input and answered on standard output.
     Play,
-    /// Viewers are served on a port of 127.0.0.1.
+    /// Viewers are served on a port of 127.0.0.1, by two threads each.
     Serve { port: u16, options: ServeOptions },
-    /// A server, in one thread or in several, and so many viewers run in one process.
-    Own { viewers: u32, one_thread: bool },
+    /// The same, by one thread for all.
+    ServeInOneThread { port: u16, options: ServeOptions },
+    /// A server with threads and so many viewers run in one process.
+    Own { viewers: u32 },
+    /// The same, with a server in one thread.
+    OwnInOneThread { viewers: u32 },
 }
 
 /// The version that `--version` prints.
@@ -147,36 +151,52 @@ fn serve_command<'a>(alloc: Global) -> Result<Command<'a>, AllocError> {
         .arg(one_thread_option(alloc))
 }
 
-/// How many viewers may be served.
-fn most_viewers(one_thread: bool) -> u32
-    ensures { result ≡ most_viewers one_thread }
-{
-    if one_thread { 1024 } else { 64 }
-}
+/// How many viewers threads serve, and one thread, at most.
+const MOST_BY_THREADS: u32 = 64;
+
+const MOST_BY_ONE: u32 = 1024;
 
 /// How many viewers the options of `serve` ask for.
 fn viewers_of(matches: &ArgMatches<'_>) -> u32 {
     matches.get_one("viewers").unwrap_or(1)
 }
 
-/// What the options of `serve` say.
-fn serve_of(alloc: Global, matches: &ArgMatches<'_>) -> Result<Chosen, AllocError>
-    ensures { IfOk result HasViewers }
+/// What the options of `serve` say of the screen and its viewers.
+fn options_of(
+    alloc: Global,
+    matches: &ArgMatches<'_>,
+    viewers: u32,
+) -> Result<ServeOptions, AllocError>
+    ensures { IfOk result (λ o. o.viewers ≡ viewers) }
 {
     let name = matches.get_str("name").unwrap_or("demo");
-    let one_thread = matches.get_flag("one-thread");
-    let options = ServeOptions {
+    Ok(ServeOptions {
         width: matches.get_one("width").unwrap_or(640),
         height: matches.get_one("height").unwrap_or(480),
         name: Listed::from_slice(alloc, name.as_bytes())?,
         limit: matches.get_one("limit").unwrap_or(50),
-        // all other numbers are refused
-        viewers: viewers_of(matches).clamp(1, most_viewers(one_thread)),
+        viewers,
         check: matches.get_flag("check"),
-        one_thread,
-    };
+    })
+}
+
+/// What the options of `serve` choose. All other numbers of viewers are refused before.
+fn serve_of(alloc: Global, matches: &ArgMatches<'_>) -> Result<Chosen, AllocError>
+    ensures { IfOk result HasViewers }
+{
     let port = matches.get_one("port").unwrap_or(5900);
+    let viewers = viewers_of(matches);
+    if matches.get_flag("one-thread") {
+        let options = options_of(alloc, matches, viewers.clamp(1, MOST_BY_ONE))?;
+        return Ok(Chosen::ServeInOneThread { port, options });
+    }
+    let options = options_of(alloc, matches, viewers.clamp(1, MOST_BY_THREADS))?;
     Ok(Chosen::Serve { port, options })
+}
+
+/// Whether more viewers are asked for than threads serve.
+fn has_too_many(matches: &ArgMatches<'_>) -> bool {
+    !matches.get_flag("one-thread") && viewers_of(matches) > MOST_BY_THREADS
 }
 
 /// What a line that begins with `serve` chooses.
@@ -191,8 +211,9 @@ fn serve_line(alloc: Global, words: &[String]) -> Result<Chosen, Error>
     let Some(matches) = matches.subcommand_matches("serve") else {
         return Err(Error::from(AllocError));
     };
-    if viewers_of(matches) > most_viewers(matches.get_flag("one-thread")) {
-        return Err(serve_command(alloc)?.error(ErrorKind::ValueValidation, TOO_MANY)?);
+    if has_too_many(matches) {
+        let mut command = serve_command(alloc)?.bin_name("vncdemo serve")?;
+        return Err(command.error(ErrorKind::ValueValidation, TOO_MANY)?);
     }
     Ok(serve_of(alloc, matches)?)
 }
@@ -209,6 +230,18 @@ fn own_command<'a>(alloc: Global) -> Result<Command<'a>, AllocError> {
         .arg(one_thread_option(alloc))
 }
 
+/// What the options of `self` choose. clap refuses all other numbers, and says so.
+fn own_of(matches: &ArgMatches<'_>) -> Chosen
+    ensures { HasViewers result }
+{
+    let viewers = matches.get_one::<u32>("viewers").unwrap_or(2).clamp(1, 8);
+    if matches.get_flag("one-thread") {
+        Chosen::OwnInOneThread { viewers }
+    } else {
+        Chosen::Own { viewers }
+    }
+}
+
 /// What a line that begins with `self` chooses.
 fn own_line(alloc: Global, words: &[String]) -> Result<Chosen, Error>
     ensures { IfOk result HasViewers }
@@ -219,11 +252,7 @@ fn own_line(alloc: Global, words: &[String]) -> Result<Chosen, Error>
         .subcommand(own_command(alloc)?)?;
     let matches = command.try_get_matches_from(words)?;
     match matches.subcommand_matches("self") {
-        // clap refuses all other numbers, and says so
-        Some(matches) => Ok(Chosen::Own {
-            viewers: matches.get_one::<u32>("viewers").unwrap_or(2).clamp(1, 8),
-            one_thread: matches.get_flag("one-thread"),
-        }),
+        Some(matches) => Ok(own_of(matches)),
         None => Err(Error::from(AllocError)),
     }
 }

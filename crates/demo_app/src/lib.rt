@@ -17,7 +17,7 @@ mod watching;
 pub use command_line::{Chosen, line_of};
 pub use one_thread::serve_in_one_thread;
 pub use pixel_translate::{BitsPerPixel, Component};
-pub use play_script::{SCRIPT_LIMIT, Steps, play_over};
+pub use play_script::{SCRIPT_LIMIT, Steps, play_counted, play_over};
 pub use self_test::self_on;
 pub use self_test_one_thread::self_in_one_thread;
 pub use serve::{ServeOptions, serve_on};

@@ -39,8 +39,6 @@ pub struct ServeOptions {
     pub viewers: u32,
     /// Whether the history is kept, and the run is judged at its end.
     pub check: bool,
-    /// Whether one thread serves all viewers.
-    pub one_thread: bool,
 }
 
 /// The application: a pointer with its first button down paints its place white, a key that goes down rings the bell, and a text

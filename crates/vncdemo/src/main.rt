@@ -1,21 +1,17 @@
 //! The program `vncdemo`: its command line, `play` on standard input and output, `serve` on a port of 127.0.0.1, and `self`.
 #![tactic(auto)]
 
-ghost use Rattle.std.specs.Prelude.{◌≡◌};
-
 use clap::error::ErrorKind;
 use demo_app::{
-    Chosen, ServeOptions, Steps, line_of, play_over, self_in_one_thread, self_on,
-    serve_in_one_thread, serve_on,
+    Chosen, ServeOptions, line_of, play_over, self_in_one_thread, self_on, serve_in_one_thread,
+    serve_on,
 };
 use std::alloc::Global;
 use std::io::{BufWriter, Write};
-use std::marker::Brand;
 use std::net::{Ipv4Addr, Net, SocketAddr, TcpListener, TcpStream};
 use std::process::ExitCode;
 use std::rt::Runtime;
 use std::sync::Wait;
-use std::sync::ledger::{Blank, Ledger};
 use std::thread::Threads;
 use std::time::Clock;
 use std::{env, io};
@@ -38,19 +34,13 @@ fn words(rt: &HostRuntime) -> io::Result<Vec<String>> {
     Ok(words)
 }
 
-// The reads are counted on a ledger that nobody looks into.
-fn play<L: Ledger>(rt: &HostRuntime, blank: Blank) -> ExitCode
-    requires name { blank.name ≡ L.name }
-    requires parts { blank.parts ≡ L.parts }
-    requires one { L.parts ≡ 1 }
-{
+fn play(rt: &HostRuntime) -> ExitCode {
     let alloc = rt.alloc();
-    let mut steps = Steps::<L>::new(blank);
     let mut reader = rt.reader();
     let Ok(mut writer) = BufWriter::new(alloc, io::writer(rt)) else {
         return out_of_memory(rt);
     };
-    let status = play_over(alloc, &mut reader, &mut writer, &mut steps);
+    let status = play_over(alloc, &mut reader, &mut writer);
     // After a write fault nothing more is written: what the buffer holds is let go.
     let _ = writer.into_parts();
     ExitCode::from(status)
@@ -76,19 +66,26 @@ fn serve_by_one<W: Write, R: Net + Clock>(
     Some(serve_in_one_thread(rt, alloc, listener, options, writer))
 }
 
+/// How a command works for its viewers.
+#[derive(Clone, Copy)]
+enum Way {
+    Threads,
+    OneThread,
+}
+
 fn serve<R: Runtime + Threads + Wait + Net<Listener = TcpListener, Stream = TcpStream> + Sync>(
     rt: &R,
     alloc: Global,
+    way: Way,
     port: u16,
     options: &ServeOptions,
 ) -> ExitCode {
     let Ok(mut writer) = BufWriter::new(alloc, io::writer(rt)) else {
         return out_of_memory(rt);
     };
-    let served = if options.one_thread {
-        serve_by_one(rt, alloc, port, options, &mut writer)
-    } else {
-        serve_by_threads(rt, alloc, port, options, &mut writer)
+    let served = match way {
+        Way::Threads => serve_by_threads(rt, alloc, port, options, &mut writer),
+        Way::OneThread => serve_by_one(rt, alloc, port, options, &mut writer),
     };
     // After a write fault nothing more is written: what the buffer holds is let go.
     let _ = writer.into_parts();
@@ -101,16 +98,15 @@ fn serve<R: Runtime + Threads + Wait + Net<Listener = TcpListener, Stream = TcpS
 fn own<R: Runtime + Threads + Wait + Net<Listener = TcpListener, Stream = TcpStream> + Sync>(
     rt: &R,
     alloc: Global,
+    way: Way,
     viewers: u32,
-    one_thread: bool,
 ) -> ExitCode {
     let Ok(mut writer) = BufWriter::new(alloc, io::writer(rt)) else {
         return out_of_memory(rt);
     };
-    let status = if one_thread {
-        self_in_one_thread(rt, alloc, viewers, &mut writer)
-    } else {
-        self_on(rt, alloc, viewers, &mut writer)
+    let status = match way {
+        Way::Threads => self_on(rt, alloc, viewers, &mut writer),
+        Way::OneThread => self_in_one_thread(rt, alloc, viewers, &mut writer),
     };
     // After a write fault nothing more is written: what the buffer holds is let go.
     let _ = writer.into_parts();
@@ -121,15 +117,15 @@ fn main(rt: HostRuntime) -> ExitCode {
     let Ok(words) = words(&rt) else {
         return out_of_memory(&rt);
     };
-    match line_of(rt.alloc(), &words) {
-        Ok(Chosen::Play) => play::<Brand>(&rt, Blank::new(1)),
-        Ok(Chosen::Serve { port, options }) => serve(&rt, rt.alloc(), port, &options),
-        Ok(
-            Chosen::Own {
-                viewers,
-                one_thread,
-            },
-        ) => own(&rt, rt.alloc(), viewers, one_thread),
+    let alloc = rt.alloc();
+    match line_of(alloc, &words) {
+        Ok(Chosen::Play) => play(&rt),
+        Ok(Chosen::Serve { port, options }) => serve(&rt, alloc, Way::Threads, port, &options),
+        Ok(Chosen::ServeInOneThread { port, options }) => {
+            serve(&rt, alloc, Way::OneThread, port, &options)
+        }
+        Ok(Chosen::Own { viewers }) => own(&rt, alloc, Way::Threads, viewers),
+        Ok(Chosen::OwnInOneThread { viewers }) => own(&rt, alloc, Way::OneThread, viewers),
         Err(error) if error.kind() == ErrorKind::OutOfMemory => out_of_memory(&rt),
         Err(error) => {
             // Where standard error fails too, there is nobody left to tell.
