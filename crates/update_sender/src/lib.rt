@@ -27,6 +27,11 @@ mod sender;
 mod shared;
 mod writing;
 
+/// What is known of a viewer once it has ended. A module has no two items whose names differ only in case, and `receipt` is a call.
+pub mod viewer_receipt {
+    pub use receipts::Receipt;
+}
+
 pub use brush::Brush;
 pub use finishing::{finish, receipt};
 pub use gate::{Gate, OpenGate};
@@ -37,3 +42,6 @@ pub use receipts::{Ended, FinishError, Report, Sent, check};
 pub use screen::{Answer, Config, Event, History, Rect, Region, ScreenError, Update};
 pub use sender::{WriteHalf, serve_sender};
 pub use shared::Shared;
+
+/// The error of a call that is refused memory.
+pub use std::alloc::AllocError as OutOfMemory;

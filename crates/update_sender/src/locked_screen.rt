@@ -109,6 +109,16 @@ impl<L: Ledger> LockedScreen<L> {
         Ok(answer)
     }
 
+    /// Why a piece of a viewer's bytes is not heard for want of memory: the refusal that is due, and else that want.
+    pub fn refusal_of_hearing(&self, number: u64) -> ScreenError
+        ensures { MatchOption (absence (viewer_at self.now.screen number)) (result ≡ refusals.OutOfMemory) (λ e. result ≡ e) }
+    {
+        match self.screen.fault(number) {
+            Ok(_) => ScreenError::OutOfMemory,
+            Err(refusal) => refusal,
+        }
+    }
+
     /// Whether a viewer had its ServerInit and met no fault.
     pub fn is_open(&self, number: u64) -> bool
         ensures { result ≡ is_open_now (viewer_at self.now.screen number) }

@@ -132,7 +132,9 @@ impl<L: Ledger> Shared<L> {
         ensures err { OnErr result (listener.new ≡ listener.old) }
         ensures refused { IfErr result (λ e. (e ≡ refusals.NoViewer) ⊎ (e ≡ refusals.OutOfMemory)) }
     {
-        listener.heard.reserve(piece.len())?;
+        if listener.heard.reserve(piece.len()).is_err() {
+            return Err(self.screen.lock(rt).refusal_of_hearing(listener.viewer));
+        }
         let heard = self.hear_in_hold(rt, listener.viewer, &listener.heard, piece)?;
         if heard.has_step {
             self.wake.notify_all();
