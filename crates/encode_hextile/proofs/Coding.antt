@@ -5,7 +5,7 @@ use Rattle.std.proofs.lemmas.Bool.{lt-ltb}
 use Rattle.std.proofs.lemmas.Bool.Decides.{leb_tells}
 use Rattle.pixel_translate.specs.declared.PixelFormat.{PixelFormat}
 use Rattle.pixel_translate.specs.Pixel.{bytes_per_pixel}
-use Rattle.encode_rre.specs.Subrectangles.{background_of, subrectangles}
+use Rattle.subrectangles.specs.Subrectangles.{background_of, subrectangles}
 use Rattle.encode_hextile.specs.declared.Carried.{Carried}
 use Rattle.encode_hextile.specs.declared.TilePixels.{TilePixels}
 use Rattle.encode_hextile.specs.Hextile.{Coded, others_of, said_bytes, list_bytes, coded, raw_tile, tile}

@@ -7,8 +7,8 @@ use Rattle.std.proofs.Math.ListN.{drop_of_length-le}
 use Rattle.std.proofs.Math.Seq.{take-length, set-append_seam, take-append_seam, drop-append_seam}
 use Rattle.std.proofs.lemmas.List.{take-append-drop, map_more, drop_more, take_more, take-map, drop-map, drop-drop, drop-take, take-take, length-take, length-take-le, length-drop, length-map, get_or-map, get_or-take, get_or-drop}
 use Rattle.std.proofs.lemmas.List.Folds.{concat-append}
-use Rattle.encode_rre.specs.Subrectangles.{rows_of, row_at}
-use Rattle.encode_rre.specs.Scans.{row_is, rows_count}
+use Rattle.subrectangles.specs.Subrectangles.{rows_of, row_at}
+use Rattle.subrectangles.specs.Scans.{row_is, rows_count}
 use Rattle.encode_hextile.specs.Tiles.{Tile, tile_rows}
 
 -- one place more is written

@@ -3,7 +3,7 @@ use Rattle.std.proofs.Common.{◌≡◌, ℕ, zero, suc, ◌+◌, ◌++◌, List
 use Rattle.std.specs.List.{flat_map, range_with_len}
 use Rattle.std.proofs.lemmas.List.{map-append}
 use Rattle.pixel_translate.specs.declared.PixelFormat.{PixelFormat}
-use Rattle.encode_rre.specs.Scans.{row_more}
+use Rattle.subrectangles.specs.Scans.{row_more}
 use Rattle.encode_hextile.specs.declared.Carried.{Carried}
 use Rattle.encode_hextile.specs.Tiles.{Tile, tiles_in, tile_rows}
 use Rattle.encode_hextile.specs.Hextile.{Coded, tile, tiles, carried_after}

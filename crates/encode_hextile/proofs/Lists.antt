@@ -12,12 +12,12 @@ use Rattle.pixel_translate.specs.declared.PixelFormat.{PixelFormat}
 use Rattle.pixel_translate.specs.declared.BitsPerPixel.{BitsPerPixel}
 use Rattle.pixel_translate.specs.declared.BitsPerPixel.TheVariants.{Eight, Sixteen, ThirtyTwo}
 use Rattle.pixel_translate.specs.Pixel.{bit_count, bytes_per_pixel, pixel_bytes, bits_of}
-use Rattle.encode_rre.specs.declared.Subrectangle.{Subrectangle}
-use Rattle.encode_rre.specs.Subrectangles.{FindsTheBackground, rows_of, row_at, times, background_of, run_at, is_above, stretch, subrectangles_in, subrectangles, begins_subrectangle, subrectangle_from}
+use Rattle.subrectangles.specs.declared.Subrectangle.{Subrectangle}
+use Rattle.subrectangles.specs.Subrectangles.{FindsTheBackground, rows_of, row_at, times, background_of, run_at, is_above, stretch, subrectangles_in, subrectangles, begins_subrectangle, subrectangle_from}
 use Rattle.pixel_translate.specs.Bounds.{pixel_length}
-use Rattle.encode_rre.specs.Scans.{found_before, one_more, some_run, stretch_is, run_same, row_is, row_more, fewer_rows, rows_count}
-use Rattle.encode_rre.specs.Runs.{Front, prefix_is}
-use Rattle.encode_rre.specs.Paint.{and_true}
+use Rattle.subrectangles.specs.Scans.{found_before, one_more, some_run, stretch_is, run_same, row_is, row_more, fewer_rows, rows_count}
+use Rattle.subrectangles.specs.Runs.{Front, prefix_is}
+use Rattle.subrectangles.specs.Paint.{and_true}
 use Rattle.encode_hextile.specs.Hextile.{subrectangle_bytes}
 
 abbrev pub unit : PixelFormat → Bool → ℕ

@@ -7,9 +7,9 @@ use Rattle.std.proofs.lemmas.Bool.Decides.{eqb_tells}
 use Rattle.std.proofs.lemmas.List.Sums.{count_by-le-length, sum_by-cons, count_by_more_yes, count_by_more_no}
 use Rattle.std.proofs.lemmas.List.{get_or-drop, length-drop, get_or-set_same, get_or-set_other}
 use Rattle.std.proofs.lemmas.Grind.{get_or-set_at}
-use Rattle.encode_rre.specs.Subrectangles.{times, background_of, stretch}
-use Rattle.encode_rre.specs.Counts.{best_is, run_counted}
-use Rattle.encode_rre.specs.Runs.{Front, prefix_is}
+use Rattle.subrectangles.specs.Subrectangles.{times, background_of, stretch}
+use Rattle.subrectangles.specs.Counts.{best_is, run_counted}
+use Rattle.subrectangles.specs.Runs.{Front, prefix_is}
 use Rattle.encode_hextile.specs.declared.TilePixels.{TilePixels}
 use Rattle.encode_hextile.specs.declared.TilePixels.TheVariants.{Alone, OneOther, Several}
 use Rattle.encode_hextile.specs.Hextile.{kind_of, others_of}

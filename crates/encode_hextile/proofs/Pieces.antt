@@ -7,8 +7,8 @@ use Rattle.std.proofs.lemmas.Grind.{div_ceil_times}
 use Rattle.std.proofs.lemmas.List.{take-map, drop-map, drop-drop, drop-take, take-take}
 use Rattle.pixel_translate.specs.declared.PixelFormat.{PixelFormat}
 use Rattle.pixel_translate.specs.Pixel.{pixel}
-use Rattle.encode_rre.specs.declared.rows.Rows.{Rows}
-use Rattle.encode_rre.specs.Subrectangles.{rows_of}
+use Rattle.subrectangles.specs.declared.rows.Rows.{Rows}
+use Rattle.subrectangles.specs.Subrectangles.{rows_of}
 use Rattle.encode_hextile.specs.declared.Carried.{Carried}
 use Rattle.encode_hextile.specs.Tiles.{Tile, pixel_rows, rows_of_tiles, tiles_in, tile_rows}
 use Rattle.encode_hextile.specs.Hextile.{Coded, tile, tiles, carried_after}

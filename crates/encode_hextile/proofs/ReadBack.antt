@@ -15,10 +15,10 @@ use Rattle.encode_raw.specs.Raw.{head}
 use Rattle.encode_raw.specs.Reading.{◌>>=◌, head_at, Patch}
 use Rattle.encode_raw.specs.Claims.{pixels_of}
 use Rattle.encode_raw.specs.Back.{head_back, same_patched}
-use Rattle.encode_rre.specs.Subrectangles.{FindsTheBackground, ListsTheSubrectangles, rows_of, pixel_in}
-use Rattle.encode_rre.specs.Listed.{head_of, tail_of, cases_of, not_in_none, flat_cases, range_cases}
-use Rattle.encode_rre.specs.Scans.{rows_count}
-use Rattle.encode_rre.specs.Paint.{and_true}
+use Rattle.subrectangles.specs.Subrectangles.{FindsTheBackground, ListsTheSubrectangles, rows_of, pixel_in}
+use Rattle.subrectangles.specs.Listed.{head_of, tail_of, cases_of, not_in_none, flat_cases, range_cases}
+use Rattle.subrectangles.specs.Scans.{rows_count}
+use Rattle.subrectangles.specs.Paint.{and_true}
 use Rattle.encode_hextile.specs.declared.Carried.{Carried}
 use Rattle.encode_hextile.specs.Tiles.{Tile, tiles_in, tiles_of, tile_rows}
 use Rattle.encode_hextile.specs.Hextile.{nothing, tile, tiles, hextile_of}

@@ -11,12 +11,12 @@ use Rattle.pixel_translate.specs.declared.PixelFormat.{PixelFormat}
 use Rattle.pixel_translate.specs.Pixel.{bit_count, bytes_per_pixel, pixel_bytes, bits_of as format_bits}
 use Rattle.encode_raw.specs.Reading.{◌>>=◌, number_at, pixels_at, raw_at, row_by_row, Patch}
 use Rattle.encode_raw.specs.Back.{pixel_back}
-use Rattle.encode_rre.specs.declared.Subrectangle.{Subrectangle}
-use Rattle.encode_rre.specs.Reading.{painted}
-use Rattle.encode_rre.specs.Subrectangles.{FindsTheBackground, ListsTheSubrectangles, IsSubrectangle, HasRun, run_of, rows_of, row_at, pixel_in, background_of, subrectangles}
-use Rattle.encode_rre.specs.Listed.{head_of, tail_of}
-use Rattle.encode_rre.specs.Scans.{row_is, rows_count}
-use Rattle.encode_rre.specs.Paint.{paint, paint_is, covers, Covering, covered, and_true}
+use Rattle.subrectangles.specs.declared.Subrectangle.{Subrectangle}
+use Rattle.subrectangles.specs.Reading.{painted}
+use Rattle.subrectangles.specs.Subrectangles.{FindsTheBackground, ListsTheSubrectangles, IsSubrectangle, HasRun, run_of, rows_of, row_at, pixel_in, background_of, subrectangles}
+use Rattle.subrectangles.specs.Listed.{head_of, tail_of}
+use Rattle.subrectangles.specs.Scans.{row_is, rows_count}
+use Rattle.subrectangles.specs.Paint.{paint, paint_is, covers, Covering, covered, and_true}
 use Rattle.encode_hextile.specs.declared.Carried.{Carried}
 use Rattle.encode_hextile.specs.declared.TilePixels.{TilePixels}
 use Rattle.encode_hextile.specs.declared.TilePixels.TheVariants.{Alone, OneOther, Several}

@@ -3,7 +3,7 @@ use Rattle.std.specs.Prelude.{◌≡◌, ℕ, ◌*◌, ◌/◌, ◌%◌, List, [
 use Rattle.pixel_translate.specs.declared.Area.{Area}
 use Rattle.pixel_translate.specs.Pixel.{server_format}
 use Rattle.encode_raw.specs.Reading.{◌>>=◌, Patch, pixels_at}
-use Rattle.encode_rre.specs.Subrectangles.{rows_of}
+use Rattle.subrectangles.specs.Subrectangles.{rows_of}
 use Rattle.std.specs.List.{range_with_len}
 use Rattle.encode_hextile.specs.Hextile.{hextile, hextile_of}
 use Rattle.encode_hextile.specs.Reading.{hextile_at, subrectangles_at}

@@ -2,7 +2,7 @@
 use Rattle.std.specs.Prelude.{◌≡◌, ℕ, ◌*◌, ◌≤◌, true, List, length, flat_map}
 use Rattle.pixel_translate.specs.declared.PixelFormat.{PixelFormat}
 use Rattle.pixel_translate.specs.Pixel.{bytes_per_pixel}
-use Rattle.encode_rre.specs.Subrectangles.{rows_of, background_of, subrectangles}
+use Rattle.subrectangles.specs.Subrectangles.{rows_of, background_of, subrectangles}
 use Rattle.encode_hextile.specs.declared.palette.Palette.{Palette}
 use Rattle.encode_hextile.specs.declared.TilePixels.TheVariants.{Several}
 use Rattle.encode_hextile.specs.Hextile.{others_of, subrectangle_bytes}

@@ -4,8 +4,8 @@ use Rattle.std.specs.Int.{div_ceil}
 use Rattle.std.specs.List.{flat_map, range_with_len}
 use Rattle.std.proofs.lemmas.Grind.{div_ceil_times}
 use Rattle.pixel_translate.specs.declared.PixelFormat.{PixelFormat}
-use Rattle.encode_rre.specs.declared.rows.Rows.{Rows}
-use Rattle.encode_rre.specs.Subrectangles.{rows_of}
+use Rattle.subrectangles.specs.declared.rows.Rows.{Rows}
+use Rattle.subrectangles.specs.Subrectangles.{rows_of}
 use Rattle.encode_hextile.specs.declared.Carried.{Carried}
 use Rattle.encode_hextile.specs.Tiles.{Tile, tiles_in}
 use Rattle.encode_hextile.specs.Hextile.{nothing, tiles, hextile_of}

@@ -3,8 +3,8 @@ use Rattle.std.specs.Prelude.{ℕ, zero, suc, ◌+◌, ◌-◌, ◌*◌, ◌/◌
 use Rattle.std.specs.Int.{bit_at, w8}
 use Rattle.pixel_translate.specs.declared.PixelFormat.{PixelFormat}
 use Rattle.encode_raw.specs.Reading.{◌>>=◌, number_at, pixel_at, raw_at, Patch}
-use Rattle.encode_rre.specs.declared.Subrectangle.{Subrectangle}
-use Rattle.encode_rre.specs.Reading.{painted}
+use Rattle.subrectangles.specs.declared.Subrectangle.{Subrectangle}
+use Rattle.subrectangles.specs.Reading.{painted}
 use Rattle.encode_hextile.specs.declared.Carried.{Carried}
 use Rattle.encode_hextile.specs.Tiles.{Tile, tiles_of}
 use Rattle.encode_hextile.specs.Hextile.{nothing}

@@ -3,9 +3,9 @@
 ghost use Rattle.std.specs.Prelude.{◌≡◌, ◌+◌, ◌*◌, ◌<◌, ◌≤◌, ◌++◌, ◌∷◌, [], true, false, length, flat_map, IfOk, OnOk, OnErr};
 ghost use Rattle.pixel_translate.specs.Pixel.{pixel_bytes, bytes_per_pixel};
 ghost use Rattle.arrayvec.specs.ArrayVec.{array_vec_len};
-ghost use Rattle.encode_rre.specs.Subrectangles.{subrectangles, background_of};
-ghost use Rattle.encode_rre.specs.Rows.{rows_in};
-ghost use Rattle.encode_rre.specs.Begins.{BeginsWith};
+ghost use Rattle.subrectangles.specs.Subrectangles.{subrectangles, background_of};
+ghost use Rattle.subrectangles.specs.Rows.{rows_in};
+ghost use Rattle.subrectangles.specs.Begins.{BeginsWith};
 ghost use Rattle.encode_hextile.specs.Hextile.{is_carried, bytes_unless, bits_of, said_bytes, list_bytes, next_of, tile};
 ghost use Rattle.encode_hextile.specs.Palettes.{IsPaletteOf};
 
@@ -14,10 +14,10 @@ use crate::raw::put_raw;
 use crate::scan::{ROOM, list_subrectangles, put_number};
 use crate::{Carried, TilePixels};
 use arrayvec::ArrayVec;
-use encode_rre::background_is_most_frequent;
-use encode_rre::rows::Rows;
 use pixel_translate::PixelFormat;
 use std::alloc::AllocError;
+use subrectangles::background_is_most_frequent;
+use subrectangles::rows::Rows;
 
 /// Room for the byte of bits, two pixels, and the number of subrectangles.
 const FRONT: usize = 10;

@@ -5,8 +5,8 @@ ghost use Rattle.std.specs.List.{concat};
 ghost use Rattle.pixel_translate.specs.Pixel.{pixel, server_format};
 ghost use Rattle.encode_hextile.specs.Tiles.{pixel_rows, tile_rows};
 
-use encode_rre::rows::Rows;
 use pixel_translate::{Table, server_pixel};
+use subrectangles::rows::Rows;
 
 /// The pixel of a colour. Where it is the last colour again, its pixel is known.
 fn pixel_after(table: &Table, last: u32, known: u32, colour: u32) -> u32

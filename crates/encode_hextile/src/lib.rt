@@ -19,7 +19,7 @@
 
 ghost use Rattle.std.specs.Prelude.{◌≡◌, ℕ, List, ◌+◌, ◌*◌, ◌<◌, ◌≤◌, ◌++◌, length, map, IfOk, OnOk, OnErr};
 ghost use Rattle.pixel_translate.specs.Pixel.{pixel};
-ghost use Rattle.encode_rre.specs.Begins.{BeginsWith};
+ghost use Rattle.subrectangles.specs.Begins.{BeginsWith};
 ghost use Rattle.encode_hextile.specs.Tiles.{pixel_rows, tiles_in};
 ghost use Rattle.encode_hextile.specs.Pieces.{hextile_from, IsRowOfTiles};
 ghost use Rattle.encode_hextile.specs.Claims.{hextile_reads_back};
@@ -34,11 +34,14 @@ mod scan;
 use crate::bytes::{NOTHING, put_tile};
 use crate::cut::{cut_tile, side_of};
 use encode_raw::rect_header;
-pub use encode_rre::rows::Rows;
-use encode_rre::{background_is_most_frequent, subrectangles_are_all_listed};
 use pixel_translate::Table;
 pub use pixel_translate::{Area, PixelFormat};
 use std::alloc::AllocError;
+pub use subrectangles::rows::Rows;
+use subrectangles::{background_is_most_frequent, subrectangles_are_all_listed};
+
+/// The error of a call that is refused memory.
+pub use std::alloc::AllocError as OutOfMemory;
 
 /// What the tiles so far leave to the next (RFC 6143, 7.7.4): the pixels that need not be said again.
 #[derive(Clone, Copy)]

@@ -1,14 +1,14 @@
 //! The background of a tile, and which pixels it has beside it.
 
 ghost use Rattle.std.specs.Prelude.{◌≡◌, ◌+◌, ◌-◌, ◌*◌, ◌<◌, ◌≤◌, ℕ, ◌%◌, true, List, length, slice_index, MatchOption};
-ghost use Rattle.encode_rre.specs.Subrectangles.{times, background_of, row_at, subrectangles_in, subrectangles};
-ghost use Rattle.encode_rre.specs.Rows.{rows_in};
+ghost use Rattle.subrectangles.specs.Subrectangles.{times, background_of, row_at, subrectangles_in, subrectangles};
+ghost use Rattle.subrectangles.specs.Rows.{rows_in};
 ghost use Rattle.encode_hextile.specs.Palettes.{IsPaletteOf, HasSeveral, AreLong};
 
 use crate::TilePixels;
-use encode_rre::rows::Rows;
-use encode_rre::{is_better, stretch_from, times};
 use pixel_translate::PixelFormat;
+use subrectangles::rows::Rows;
+use subrectangles::{is_better, stretch_from, times};
 
 /// The background of a tile, and which pixels it has beside it.
 #[derive(Clone, Copy)]

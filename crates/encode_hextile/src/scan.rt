@@ -4,16 +4,16 @@ ghost use Rattle.std.specs.Prelude.{◌≡◌, ℕ, ◌+◌, ◌-◌, ◌*◌, �
 ghost use Rattle.std.specs.Prelude.{if◌then◌else◌};
 ghost use Rattle.pixel_translate.specs.Pixel.{pixel_bytes, bytes_per_pixel};
 ghost use Rattle.arrayvec.specs.ArrayVec.{array_vec_len};
-ghost use Rattle.encode_rre.specs.Rows.{rows_in};
-ghost use Rattle.encode_rre.specs.Subrectangles.{stretch, subrectangles_in, subrectangles};
+ghost use Rattle.subrectangles.specs.Rows.{rows_in};
+ghost use Rattle.subrectangles.specs.Subrectangles.{stretch, subrectangles_in, subrectangles};
 ghost use Rattle.encode_hextile.specs.Hextile.{subrectangle_bytes};
 
 use arrayvec::ArrayVec;
-use encode_rre::lines::{Lines, Values};
-use encode_rre::rows::Rows;
-use encode_rre::{Subrectangle, subrectangle_at};
 use pixel_translate::bytes::{bytes_8, bytes_16, bytes_32};
 use pixel_translate::{BitsPerPixel, PixelFormat};
+use subrectangles::lines::{Lines, Values};
+use subrectangles::rows::Rows;
+use subrectangles::{Subrectangle, subrectangle_at};
 
 /// Room for a tile's subrectangles as bytes: as many as its pixels have, and a row's more.
 pub(crate) const ROOM: usize = 1120;

@@ -9,19 +9,10 @@ use Rattle.pixel_translate.specs.declared.PixelFormat.{PixelFormat}
 use Rattle.pixel_translate.specs.Pixel.{bytes_per_pixel, pixel, pixel_bytes}
 use Rattle.pixel_translate.specs.Bounds.{pixel_length}
 use Rattle.encode_raw.specs.Raw.{head, raw}
-use Rattle.encode_rre.specs.declared.Subrectangle.{Subrectangle}
-use Rattle.encode_rre.specs.Rre.{subrectangle_bytes, rre_data, rre_of, rre}
-use Rattle.encode_rre.specs.Subrectangles.{rows_of, background_of, subrectangles}
-
-pub sub_length : (f : PixelFormat) (s : Subrectangle) → length (subrectangle_bytes f s) ≡ bytes_per_pixel f + 8
-sub_length f s = simp length-append (omega (arith, pixel_length f s.pixel))
-
-pub subs_length : (f : PixelFormat) (subs : List Subrectangle) → length (flat_map (subrectangle_bytes f) subs) ≡ length subs * (bytes_per_pixel f + 8)
-subs_length f [] = sym (zero-mul (bytes_per_pixel f + 8))
-subs_length f (s ∷ subs) =
-    let more = subs_length f subs in
-    let e : suc (length subs) * (bytes_per_pixel f + 8) ≡ length subs * (bytes_per_pixel f + 8) + (bytes_per_pixel f + 8) = suc-mul (length subs) (bytes_per_pixel f + 8) in
-    length-append (subrectangle_bytes f s) (flat_map (subrectangle_bytes f) subs) ∙ omega (arith, more, sub_length f s, e)
+use Rattle.subrectangles.specs.declared.Subrectangle.{Subrectangle}
+use Rattle.subrectangles.specs.Bytes.{subrectangle_bytes, subs_length}
+use Rattle.encode_rre.specs.Rre.{rre_data, rre_of, rre}
+use Rattle.subrectangles.specs.Subrectangles.{rows_of, background_of, subrectangles}
 
 pub data_length : (f : PixelFormat) (b : ℕ) (subs : List Subrectangle) → length (rre_data f b subs) ≡ 4 + bytes_per_pixel f + length subs * (bytes_per_pixel f + 8)
 data_length f b subs = omega (arith, length-append (pixel_bytes f b) (flat_map (subrectangle_bytes f) subs), pixel_length f b, subs_length f subs)

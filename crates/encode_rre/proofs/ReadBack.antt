@@ -15,16 +15,17 @@ use Rattle.encode_raw.specs.Raw.{head, raw}
 use Rattle.encode_raw.specs.Reading.{◌>>=◌, number_at, pixel_at, head_at, Patch}
 use Rattle.encode_raw.specs.Claims.{pixels_of, raw_reads_back}
 use Rattle.encode_raw.specs.Back.{pixel_back, head_back, same_patched}
-use Rattle.encode_rre.specs.declared.Subrectangle.{Subrectangle}
+use Rattle.subrectangles.specs.declared.Subrectangle.{Subrectangle}
 use Rattle.encode_rre.specs.Claims.{ReadsBack, rre_reads_back}
-use Rattle.encode_rre.specs.Reading.{subrectangle_at, subrectangles_at, painted, rre_at}
-use Rattle.encode_rre.specs.Rre.{subrectangle_bytes, rre_data, rre_of}
-use Rattle.encode_rre.specs.Subrectangles.{IsSubrectangle, HasRun, run_of, times, rows_of, row_at, pixel_in, background_of, subrectangles}
-use Rattle.encode_rre.specs.MostFrequent.{finds_the_background}
-use Rattle.encode_rre.specs.Listed.{lists_the_subrectangles, head_of, tail_of}
-use Rattle.encode_rre.specs.Scans.{row_is, rows_count}
+use Rattle.subrectangles.specs.Reading.{subrectangle_at, subrectangles_at, painted, rre_at}
+use Rattle.subrectangles.specs.Bytes.{subrectangle_bytes}
+use Rattle.encode_rre.specs.Rre.{rre_data, rre_of}
+use Rattle.subrectangles.specs.Subrectangles.{IsSubrectangle, HasRun, run_of, times, rows_of, row_at, pixel_in, background_of, subrectangles}
+use Rattle.subrectangles.specs.MostFrequent.{finds_the_background}
+use Rattle.subrectangles.specs.Listed.{lists_the_subrectangles, head_of, tail_of}
+use Rattle.subrectangles.specs.Scans.{row_is, rows_count}
 use Rattle.encode_rre.proofs.Lengths.{data_length, few, pick_no, pick_yes}
-use Rattle.encode_rre.specs.Paint.{paint, paint_is, covers, Covering, covered, and_true}
+use Rattle.subrectangles.specs.Paint.{paint, paint_is, covers, Covering, covered, and_true}
 
 -- a subrectangle whose numbers have room on the wire
 pub record Fitting (f : PixelFormat) (s : Subrectangle) : Type 0 where

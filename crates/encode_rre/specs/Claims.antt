@@ -6,7 +6,7 @@ use Rattle.pixel_translate.specs.Pixel.{IsArea}
 use Rattle.encode_raw.specs.Reading.{head_at, raw_at, Shown, Patch, patched}
 use Rattle.encode_raw.specs.Claims.{pixels_of}
 use Rattle.encode_rre.specs.Rre.{rre}
-use Rattle.encode_rre.specs.Reading.{rre_at}
+use Rattle.subrectangles.specs.Reading.{rre_at}
 
 -- 7.7: the pixels of a rectangle, by its encoding: Raw is 0, and RRE is 2
 abbrev pub IsReadAs : PixelFormat → Area → ℤ → List ℕ → Patch → List ℕ → Type 0

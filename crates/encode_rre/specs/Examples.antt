@@ -5,9 +5,9 @@ use Rattle.pixel_translate.specs.declared.Area.{Area}
 use Rattle.pixel_translate.specs.Pixel.{server_format}
 use Rattle.encode_raw.specs.Raw.{raw}
 use Rattle.encode_raw.specs.Reading.{◌>>=◌, Patch}
-use Rattle.encode_rre.specs.Subrectangles.{rows_of, subrectangles}
+use Rattle.subrectangles.specs.Subrectangles.{rows_of, subrectangles}
 use Rattle.encode_rre.specs.Rre.{rre, rre_of}
-use Rattle.encode_rre.specs.Reading.{rre_at, subrectangles_at}
+use Rattle.subrectangles.specs.Reading.{rre_at, subrectangles_at}
 
 abbrev at_corner : ℕ → ℕ → Area
 at_corner w h = record { x = 0; y = 0; w = w; h = h }

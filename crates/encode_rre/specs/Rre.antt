@@ -2,14 +2,11 @@
 use Rattle.std.specs.Prelude.{ℕ, ◌*◌, nat_lt, if◌then◌else◌, pos, List, ◌++◌, length, map, flat_map}
 use Rattle.pixel_translate.specs.declared.Area.{Area}
 use Rattle.pixel_translate.specs.declared.PixelFormat.{PixelFormat}
-use Rattle.pixel_translate.specs.Pixel.{be16, be32, bytes_per_pixel, pixel, pixel_bytes}
+use Rattle.pixel_translate.specs.Pixel.{be32, bytes_per_pixel, pixel, pixel_bytes}
 use Rattle.encode_raw.specs.Raw.{head, raw}
-use Rattle.encode_rre.specs.declared.Subrectangle.{Subrectangle}
-use Rattle.encode_rre.specs.Subrectangles.{rows_of, background_of, subrectangles}
-
--- 7.7.3: a subrectangle's pixel, place and size
-abbrev pub subrectangle_bytes : PixelFormat → Subrectangle → List ℕ
-subrectangle_bytes f s = pixel_bytes f s.pixel ++ be16 s.x ++ be16 s.y ++ be16 s.w ++ be16 s.h
+use Rattle.subrectangles.specs.declared.Subrectangle.{Subrectangle}
+use Rattle.subrectangles.specs.Bytes.{subrectangle_bytes}
+use Rattle.subrectangles.specs.Subrectangles.{rows_of, background_of, subrectangles}
 
 -- 7.7.3: how many subrectangles there are, the background, and each of them
 abbrev pub rre_data : PixelFormat → ℕ → List Subrectangle → List ℕ

@@ -1,12 +1,7 @@
 //! The encoding RRE (RFC 6143, 7.7.3): a background and subrectangles of one pixel each, or Raw
 //! where that is no shorter.
 //!
-//! An area is looked at in three steps, each of which ends as soon as RRE can't be shorter than Raw. First the places are
-//! counted that begin a subrectangle whatever the background is (`breaks`): in one row of 16, and where these let expect too many
-//! in one pass over all, or in two with 2 KB of counters. Then the background is found (`background`): guessed and tested in one
-//! pass or in two, or else counted in a table of the pixels that differ. Last the subrectangles are found row by row (`scan`),
-//! which goes over each place a bounded number of times, and are written to the output as they are found. Where a colour isn't its
-//! own pixel, each step translates the rows as it comes to them, and keeps two of them (`translated`).
+//! `subrectangles` finds the background and the subrectangles; here they are written, with their number, or what is written is taken back.
 //!
 //! A white line of two places on four by two black ones, which appends the head, the count `00000001`, the background `00000000`
 //! and the subrectangle `ffffff00 0002 0000 0002 0001`:
@@ -25,44 +20,21 @@ ghost use Rattle.pixel_translate.specs.Pixel.{pixel, colour_bytes};
 ghost use Rattle.encode_raw.specs.Raw.{raw};
 ghost use Rattle.encode_rre.specs.Claims.{rre_reads_back};
 ghost use Rattle.encode_rre.specs.Rre.{rre};
-ghost use Rattle.encode_rre.specs.Begins.{BeginsWith};
-ghost use Rattle.encode_rre.specs.Lines.{values_in};
-ghost use Rattle.encode_rre.specs.Pixels.{pixels_in};
-ghost use Rattle.encode_rre.specs.Subrectangles.{ListsTheSubrectangles, ListsInOrder, FindsTheBackground};
+ghost use Rattle.subrectangles.specs.Begins.{BeginsWith};
+ghost use Rattle.subrectangles.specs.Lines.{values_in};
+ghost use Rattle.subrectangles.specs.Pixels.{pixels_in};
 
-mod background;
-mod breaks;
-mod bytes;
-mod colour_runs;
-pub mod lines;
-mod pixels;
-pub mod rows;
-mod scan;
-mod translated;
-
-use crate::background::background_of;
-use crate::breaks::has_too_many;
-use crate::bytes::{put_front, write_count};
-use crate::lines::{Lines, Values};
-use crate::scan::put_subrectangles;
-use crate::translated::Pixels;
-pub use background::{is_better, times};
 use encode_raw::{put_raw_pixels, raw_is_read_back, rect_header};
 use pixel_translate::{Table, server_pixels_are_colours};
 pub use pixel_translate::{Area, PixelFormat};
-pub use scan::{stretch_from, subrectangle_at};
 use std::alloc::AllocError;
+use subrectangles::lines::{Lines, Values};
+use subrectangles::{
+    Pixels, background_of, has_too_many, put_front, put_subrectangles, write_count,
+};
 
-/// A subrectangle of one pixel: its place relative to the rectangle that it belongs to, and its
-/// size, in pixels.
-#[derive(Clone, Copy, Debug, PartialEq, Eq)]
-pub struct Subrectangle {
-    pub x: u16,
-    pub y: u16,
-    pub w: u16,
-    pub h: u16,
-    pub pixel: u32,
-}
+/// The error of a call that is refused memory.
+pub use std::alloc::AllocError as OutOfMemory;
 
 /// The greatest colour, or 0 where there is none.
 fn greatest(colours: &[u32]) -> u32
@@ -273,22 +245,6 @@ pub fn encode_rre_by_rows(
     };
     put_or_nothing(out, area, &lines, table)
 }
-
-/// The subrectangles listed for a rectangle are exactly the runs that the row above and the row
-/// below haven't, as high as they go.
-pub fn subrectangles_are_all_listed()
-    ensures { ListsTheSubrectangles }
-{}
-
-/// They are listed by y, and those of one row by x, each once.
-pub fn subrectangles_are_in_order()
-    ensures { ListsInOrder }
-{}
-
-/// The background is the most frequent pixel, of several the smallest.
-pub fn background_is_most_frequent()
-    ensures { FindsTheBackground }
-{}
 
 /// A viewer that reads a rectangle in RRE, or in Raw, by RFC 6143 shows each colour's pixel at its
 /// place, and every other place as before.

@@ -2,7 +2,7 @@
 use Rattle.std.specs.Prelude.{◌≡◌, ℕ, ◌+◌, ◌%◌, List, [], ◌∷◌, ◌++◌, replicate, map, flat_map, pos, refl}
 use Rattle.std.specs.List.{range_with_len}
 use Rattle.region.specs.Examples.{rect}
-use Rattle.encode_rre.specs.Subrectangles.{rows_of}
+use Rattle.subrectangles.specs.Subrectangles.{rows_of}
 use Rattle.pixel_translate.specs.Pixel.{format_bytes, server_format}
 use Rattle.messages.specs.Server.{server_version, server_init, colour_map}
 use Rattle.scene.specs.declared.Config.{Config}

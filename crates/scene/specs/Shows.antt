@@ -6,8 +6,8 @@ use Rattle.pixel_translate.specs.Pixel.{server_format}
 use Rattle.pixel_translate.specs.Examples.{rgb565}
 use Rattle.region.specs.Examples.{rect}
 use Rattle.encode_raw.specs.Reading.{Dot, pixels_at}
-use Rattle.encode_rre.specs.Subrectangles.{rows_of}
-use Rattle.encode_rre.specs.Reading.{subrectangles_at as rre_subrectangles_at}
+use Rattle.subrectangles.specs.Subrectangles.{rows_of}
+use Rattle.subrectangles.specs.Reading.{subrectangles_at as rre_subrectangles_at}
 use Rattle.encode_hextile.specs.Reading.{subrectangles_at}
 use Rattle.viewer_picture.specs.Messages.{rectangles_at, messages_in}
 use Rattle.scene.specs.declared.Config.{Config}

@@ -1,10 +1,10 @@
 -- A row of colours whose pixels have a run, and one whose pixels haven't.
 use Rattle.std.proofs.Common.{◌≡◌, ℕ, ◌+◌, ◌-◌, ◌<◌, ◌≤◌, true, false, List, [], ◌∷◌, length, map, take, drop, get_or, sym, ap, ◌∙◌, arith}
 use Rattle.std.proofs.lemmas.List.{length-map, get_or-map, get_or-drop, get_or-take, length-drop, length-take-le}
-use Rattle.encode_rre.specs.declared.scan.Run.{Run}
-use Rattle.encode_rre.specs.Subrectangles.{has_run}
-use Rattle.encode_rre.specs.Runs.{has_run_true}
-use Rattle.encode_rre.proofs.Ends.{has_of, false_unless}
+use Rattle.subrectangles.specs.declared.scan.Run.{Run}
+use Rattle.subrectangles.specs.Subrectangles.{has_run}
+use Rattle.subrectangles.specs.Runs.{has_run_true}
+use Rattle.subrectangles.proofs.Ends.{has_of, false_unless}
 
 -- a colour of a part, and its place in the row
 spot : (row : List ℕ) (x n k : ℕ) → x ≤ k → k < x + n → get_or row k 0 ≡ get_or (take (x + n - x) (drop x row)) (k - x) 0

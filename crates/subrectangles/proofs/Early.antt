@@ -2,10 +2,10 @@
 use Rattle.std.proofs.Common.{◌≡◌, ℕ, zero, suc, ◌+◌, ◌-◌, ◌*◌, ◌/◌, ◌%◌, ◌<◌, ◌≤◌, ◌&&◌, inl, inr, Bool, true, false, not, cond, eqb, List, [], ◌∷◌, length, get_or, refl, sym, ap, ◌∙◌, subst, arith, length-append}
 use Rattle.std.specs.List.{flat_map, range_with_len}
 use Rattle.std.proofs.lemmas.Bool.{eq-eqb, eqb-false, ltb-true, cases_eq}
-use Rattle.encode_rre.specs.declared.Subrectangle.{Subrectangle}
-use Rattle.encode_rre.specs.Breaks.{is_break, breaks, is_like, breaks_like}
-use Rattle.encode_rre.specs.Subrectangles.{row_at, pixel_in, begins_subrectangle, subrectangle_from, subrectangles_in}
-use Rattle.encode_rre.specs.Scans.{found_before, one_more, some_run, unequal, row_more}
+use Rattle.subrectangles.specs.declared.Subrectangle.{Subrectangle}
+use Rattle.subrectangles.specs.Breaks.{is_break, breaks, is_like, breaks_like}
+use Rattle.subrectangles.specs.Subrectangles.{row_at, pixel_in, begins_subrectangle, subrectangle_from, subrectangles_in}
+use Rattle.subrectangles.specs.Scans.{found_before, one_more, some_run, unequal, row_more}
 
 and_true : (a b : Bool) → (a && b) ≡ true → (a ≡ true) × (b ≡ true)
 and_true true b e = (refl, e)

@@ -3,10 +3,10 @@ use Rattle.std.proofs.Common.{◌≡◌, ℕ, ◌+◌, ◌-◌, ◌<◌, ◌≤�
 use Rattle.std.proofs.lemmas.Bool.{eq-eqb}
 use Rattle.std.proofs.lemmas.Bool.Decides.{eqb_tells}
 use Rattle.std.proofs.lemmas.List.{get_or-drop, get_or-take, length-drop, length-take-le}
-use Rattle.encode_rre.specs.declared.scan.Run.{Run}
-use Rattle.encode_rre.specs.Subrectangles.{HasRun, has_run}
-use Rattle.encode_rre.specs.Runs.{has_run_true, has_run_is}
-use Rattle.encode_rre.specs.Scans.{unequal}
+use Rattle.subrectangles.specs.declared.scan.Run.{Run}
+use Rattle.subrectangles.specs.Subrectangles.{HasRun, has_run}
+use Rattle.subrectangles.specs.Runs.{has_run_true, has_run_is}
+use Rattle.subrectangles.specs.Scans.{unequal}
 
 -- a part of the row has one pixel
 pub part : (row : List ℕ) (x n pixel : ℕ) → x + n ≤ length row → ((k : ℕ) → k < length (take (x + n - x) (drop x row)) → get_or (take (x + n - x) (drop x row)) k 0 ≡ pixel)

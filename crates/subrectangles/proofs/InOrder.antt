@@ -4,10 +4,10 @@ use Rattle.std.specs.List.{flat_map, range_with_len}
 use Rattle.std.proofs.lemmas.Bool.{cases_lt}
 use Rattle.std.proofs.lemmas.List.{get_or_append_left}
 use Rattle.std.proofs.Math.Seq.{get_or-append_right}
-use Rattle.encode_rre.specs.declared.Subrectangle.{Subrectangle}
-use Rattle.encode_rre.specs.Subrectangles.{begins_subrectangle, subrectangle_from, subrectangles_in, row_at, IsBefore, ListsInOrder}
-use Rattle.encode_rre.specs.Listed.{flat_cases, kept_cases, range_cases, not_in_none, cases_of}
-use Rattle.encode_rre.specs.Scans.{found_before, one_more, row_more}
+use Rattle.subrectangles.specs.declared.Subrectangle.{Subrectangle}
+use Rattle.subrectangles.specs.Subrectangles.{begins_subrectangle, subrectangle_from, subrectangles_in, row_at, IsBefore, ListsInOrder}
+use Rattle.subrectangles.specs.Listed.{flat_cases, kept_cases, range_cases, not_in_none, cases_of}
+use Rattle.subrectangles.specs.Scans.{found_before, one_more, row_more}
 
 at_place : {X : Type 0} (xs : List X) (k : ℕ) (d : X) → k < length xs → Contains xs (get_or xs k d)
 at_place [] k d lt = absurd (omega arith)

@@ -5,13 +5,13 @@ use Rattle.std.proofs.lemmas.List.{length-drop, length-take-le, length-map, take
 use Rattle.pixel_translate.specs.declared.PixelFormat.{PixelFormat}
 use Rattle.std.specs.Vec.{with_items}
 use Rattle.pixel_translate.specs.Pixel.{pixel}
-use Rattle.encode_rre.specs.declared.lines.Lines.{Lines}
-use Rattle.encode_rre.specs.declared.translated.Pixels.{Pixels}
-use Rattle.encode_rre.specs.declared.translated.TwoRows.{TwoRows}
-use Rattle.encode_rre.specs.Lines.{values_in, lines_in}
-use Rattle.encode_rre.specs.Pixels.{translated, pixels_in, pixel_lines, translated_lines, HasRoom, HasRow, HaveRoom, HasRows, whole}
-use Rattle.encode_rre.specs.Subrectangles.{rows_of, row_at}
-use Rattle.encode_rre.specs.Scans.{row_is}
+use Rattle.subrectangles.specs.declared.lines.Lines.{Lines}
+use Rattle.subrectangles.specs.declared.translated.Pixels.{Pixels}
+use Rattle.subrectangles.specs.declared.translated.TwoRows.{TwoRows}
+use Rattle.subrectangles.specs.Lines.{values_in, lines_in}
+use Rattle.subrectangles.specs.Pixels.{translated, pixels_in, pixel_lines, translated_lines, HasRoom, HasRow, HaveRoom, HasRows, whole}
+use Rattle.subrectangles.specs.Subrectangles.{rows_of, row_at}
+use Rattle.subrectangles.specs.Scans.{row_is}
 
 pub on_some_map : {A : Type 0} (o : Option A) (P Q : Type 0) → (P → Q) → OnSome o P → OnSome o Q
 on_some_map None P Q f h = tt

@@ -3,9 +3,9 @@ use Rattle.std.proofs.Common.{◌≡◌, ℕ, ◌+◌, ◌-◌, ◌<◌, ◌≤�
 use Rattle.std.proofs.lemmas.Bool.{cases_lt}
 use Rattle.std.proofs.lemmas.Bool.Decides.{eqb_tells}
 use Rattle.std.proofs.lemmas.List.{get_or-set_same, get_or-set_other}
-use Rattle.encode_rre.specs.Subrectangles.{stretch}
-use Rattle.encode_rre.specs.Starts.{AreRuns, Found}
-use Rattle.encode_rre.specs.Scans.{stretch_is}
+use Rattle.subrectangles.specs.Subrectangles.{stretch}
+use Rattle.subrectangles.specs.Starts.{AreRuns, Found}
+use Rattle.subrectangles.specs.Scans.{stretch_is}
 
 set_here : (starts : List ℕ) (i x : ℕ) → i < length starts → get_or (set starts i x) i 0 ≡ x
 set_here starts i x lt = get_or-set_same starts i x 0 lt

@@ -3,7 +3,7 @@ use Rattle.std.proofs.Common.{◌≡◌, ℕ, ◌+◌, ◌-◌, ◌<◌, ◌≤�
 use Rattle.std.proofs.lemmas.Bool.Decides.{eqb_tells}
 use Rattle.std.proofs.Math.Seq.{take-add}
 use Rattle.std.proofs.lemmas.List.{take_more_set, map_more, map-append}
-use Rattle.encode_rre.specs.Scans.{unequal}
+use Rattle.subrectangles.specs.Scans.{unequal}
 use mir.Val.{bool_byte}
 
 -- one place more

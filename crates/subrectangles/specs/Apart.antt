@@ -6,8 +6,8 @@ use Rattle.std.proofs.Math.Seq.{take-add, take-append_seam, drop-append-add}
 use Rattle.std.proofs.lemmas.List.{get_or-drop, get_or-take}
 use Rattle.std.proofs.lemmas.List.Elements.{All-head, All-tail}
 use Rattle.std.proofs.lemmas.List.Concat.{flat_map-cons}
-use Rattle.encode_rre.specs.Subrectangles.{rows_of, row_at}
-use Rattle.encode_rre.specs.Scans.{row_is}
+use Rattle.subrectangles.specs.Subrectangles.{rows_of, row_at}
+use Rattle.subrectangles.specs.Scans.{row_is}
 
 -- the values from a row's place on begin with that row
 pub apart_row : {S : Type 0} (f : S → List ℕ) (d : S) (w : ℕ) (rs : List S) (y : ℕ) → All (λ r. length r ≡ w) (map f rs) → y < length rs

@@ -2,7 +2,7 @@
 use Rattle.std.specs.Prelude.{◌≡◌, ℕ, ◌<◌, ◌≤◌, nat_eq}
 use Rattle.std.specs.Option.{unwrap_or}
 use Rattle.std.specs.HashMap as hash
-use Rattle.encode_rre.specs.declared.background.Counter.{Counter}
+use Rattle.subrectangles.specs.declared.background.Counter.{Counter}
 
 -- how often a pixel was counted
 abbrev pub count_in : Counter → ℕ → ℕ

@@ -5,10 +5,10 @@ use Rattle.std.proofs.lemmas.Bool.Decides.{eqb_tells}
 use Rattle.std.proofs.lemmas.List.Sums.{count_by-le-length, count_by_more_yes, count_by_more_no, sum_by-cons, sum_by-append}
 use Rattle.std.proofs.Math.Nat.{suc-mul, zero-mul, mul-add}
 use Rattle.std.proofs.Math.Seq.{take-add}
-use Rattle.encode_rre.specs.Counted.{IsBestOf}
-use Rattle.encode_rre.specs.Subrectangles.{times, background_of, stretch, IsBackground, rows_of, row_at}
-use Rattle.encode_rre.specs.MostFrequent.{finds_the_background}
-use Rattle.encode_rre.specs.Scans.{run_same, row_is}
+use Rattle.subrectangles.specs.Counted.{IsBestOf}
+use Rattle.subrectangles.specs.Subrectangles.{times, background_of, stretch, IsBackground, rows_of, row_at}
+use Rattle.subrectangles.specs.MostFrequent.{finds_the_background}
+use Rattle.subrectangles.specs.Scans.{run_same, row_is}
 
 -- n more of one pixel
 pub record CountsRun (before after : ℕ → ℕ) (p n : ℕ) : Type 0 where

@@ -1,7 +1,7 @@
 -- Where the values of a rectangle stand.
 use Rattle.std.specs.Prelude.{ℕ, Bool, true, false, List, [], flat_map, map}
-use Rattle.encode_rre.specs.declared.lines.Values.{Values}
-use Rattle.encode_rre.specs.declared.lines.Values.TheVariants.{Whole, Apart}
+use Rattle.subrectangles.specs.declared.lines.Values.{Values}
+use Rattle.subrectangles.specs.declared.lines.Values.TheVariants.{Whole, Apart}
 
 -- the values, row behind row
 abbrev pub all_in : Values → List ℕ

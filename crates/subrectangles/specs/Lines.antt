@@ -1,9 +1,9 @@
 -- The rows of a rectangle, as a list.
 use Rattle.std.proofs.Common.{ℕ, ◌<◌, ◌≤◌, ◌*◌, List, length, arith}
 use Rattle.std.proofs.Math.Nat.{mul-le-mul}
-use Rattle.encode_rre.specs.declared.lines.Lines.{Lines}
-use Rattle.encode_rre.specs.Laid.{all_in}
-use Rattle.encode_rre.specs.Subrectangles.{rows_of}
+use Rattle.subrectangles.specs.declared.lines.Lines.{Lines}
+use Rattle.subrectangles.specs.Laid.{all_in}
+use Rattle.subrectangles.specs.Subrectangles.{rows_of}
 
 -- the values, row behind row
 abbrev pub values_in : Lines → List ℕ

@@ -3,9 +3,9 @@ use Rattle.std.proofs.Common.{◌≡◌, ℕ, zero, suc, ◌+◌, ◌<◌, ◌�
 use Rattle.std.specs.List.{flat_map, range_with_len}
 use Rattle.std.proofs.lemmas.Bool.{cases_lt}
 use Rattle.std.proofs.lemmas.List.Elements.{Contains-append_left, Contains-append_right, Contains-append_cases}
-use Rattle.encode_rre.specs.declared.Subrectangle.{Subrectangle}
-use Rattle.encode_rre.specs.Subrectangles.{IsSubrectangle, begins_subrectangle, subrectangle_from, subrectangles_in, subrectangles, row_at, ListsTheSubrectangles}
-use Rattle.encode_rre.specs.Runs.{begins_there, subrectangle_from_is}
+use Rattle.subrectangles.specs.declared.Subrectangle.{Subrectangle}
+use Rattle.subrectangles.specs.Subrectangles.{IsSubrectangle, begins_subrectangle, subrectangle_from, subrectangles_in, subrectangles, row_at, ListsTheSubrectangles}
+use Rattle.subrectangles.specs.Runs.{begins_there, subrectangle_from_is}
 
 pub head_of : {X : Type 0} (x : X) (xs : List X) → Contains (x ∷ xs) x
 head_of x xs = (0, omega arith, refl)

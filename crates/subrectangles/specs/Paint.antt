@@ -4,13 +4,13 @@ use Rattle.std.specs.List.{prefix_len}
 use Rattle.std.proofs.lemmas.Bool.{eq-eqb, eqb-true, lt-ltb, le-leb, cases_eq, cases_lt}
 use Rattle.std.proofs.lemmas.List.{get_or-drop, length-drop}
 use Rattle.encode_raw.specs.Reading.{Patch, is_inside}
-use Rattle.encode_rre.specs.declared.Subrectangle.{Subrectangle}
-use Rattle.encode_rre.specs.declared.scan.Run.{Run}
-use Rattle.encode_rre.specs.Reading.{painted}
-use Rattle.encode_rre.specs.Subrectangles.{IsSubrectangle, row_at, pixel_in, begins_run, stretch, has_run, run_at, is_above, begins_subrectangle, subrectangle_from, subrectangles}
-use Rattle.encode_rre.specs.Runs.{Front, prefix_is, subrectangle_from_is}
-use Rattle.encode_rre.specs.Listed.{lists_the_subrectangles, head_of, tail_of, cases_of, not_in_none}
-use Rattle.encode_rre.specs.Scans.{some_run, unequal}
+use Rattle.subrectangles.specs.declared.Subrectangle.{Subrectangle}
+use Rattle.subrectangles.specs.declared.scan.Run.{Run}
+use Rattle.subrectangles.specs.Reading.{painted}
+use Rattle.subrectangles.specs.Subrectangles.{IsSubrectangle, row_at, pixel_in, begins_run, stretch, has_run, run_at, is_above, begins_subrectangle, subrectangle_from, subrectangles}
+use Rattle.subrectangles.specs.Runs.{Front, prefix_is, subrectangle_from_is}
+use Rattle.subrectangles.specs.Listed.{lists_the_subrectangles, head_of, tail_of, cases_of, not_in_none}
+use Rattle.subrectangles.specs.Scans.{some_run, unequal}
 
 abbrev pub covers : Subrectangle → ℕ → ℕ → Bool
 covers s x y = is_inside (record { x = s.x; y = s.y; w = s.w; h = s.h }) x y

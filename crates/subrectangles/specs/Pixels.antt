@@ -4,11 +4,11 @@ use Rattle.std.proofs.Common.{None, Some, Bor, refl, arith, ◌∙◌}
 use Rattle.std.proofs.lemmas.List.{length-map}
 use Rattle.pixel_translate.specs.declared.PixelFormat.{PixelFormat}
 use Rattle.pixel_translate.specs.Pixel.{pixel}
-use Rattle.encode_rre.specs.declared.lines.Lines.{Lines}
-use Rattle.encode_rre.specs.declared.translated.Pixels.{Pixels}
-use Rattle.encode_rre.specs.declared.translated.TwoRows.{TwoRows}
-use Rattle.encode_rre.specs.Subrectangles.{rows_of, row_at}
-use Rattle.encode_rre.specs.Lines.{values_in, some_values}
+use Rattle.subrectangles.specs.declared.lines.Lines.{Lines}
+use Rattle.subrectangles.specs.declared.translated.Pixels.{Pixels}
+use Rattle.subrectangles.specs.declared.translated.TwoRows.{TwoRows}
+use Rattle.subrectangles.specs.Subrectangles.{rows_of, row_at}
+use Rattle.subrectangles.specs.Lines.{values_in, some_values}
 
 -- a colour's pixel by a table, or the colour where there is none
 abbrev pub pixel_by : Option (Bor PixelFormat) → ℕ → ℕ

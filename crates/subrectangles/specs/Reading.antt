@@ -3,7 +3,7 @@ use Rattle.std.specs.Prelude.{ℕ, zero, suc, if◌then◌else◌, List, Option,
 use Rattle.std.specs.Int.{w16, w32}
 use Rattle.pixel_translate.specs.declared.PixelFormat.{PixelFormat}
 use Rattle.encode_raw.specs.Reading.{◌>>=◌, number_at, pixel_at, Patch, is_inside}
-use Rattle.encode_rre.specs.declared.Subrectangle.{Subrectangle}
+use Rattle.subrectangles.specs.declared.Subrectangle.{Subrectangle}
 
 -- 7.7.3: a subrectangle's pixel, place and size
 abbrev pub subrectangle_at : PixelFormat → List ℕ → Option (Subrectangle × List ℕ)

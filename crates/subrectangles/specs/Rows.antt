@@ -1,8 +1,8 @@
 -- The rows of a rectangle, as a list.
 use Rattle.std.proofs.Common.{ℕ, ◌<◌, ◌≤◌, ◌*◌, List, length, arith}
 use Rattle.std.proofs.Math.Nat.{mul-le-mul}
-use Rattle.encode_rre.specs.declared.rows.Rows.{Rows}
-use Rattle.encode_rre.specs.Subrectangles.{rows_of}
+use Rattle.subrectangles.specs.declared.rows.Rows.{Rows}
+use Rattle.subrectangles.specs.Subrectangles.{rows_of}
 
 -- the rows from the top, each from left to right
 abbrev pub rows_in : Rows → List (List ℕ)

@@ -4,9 +4,9 @@ use Rattle.std.specs.List.{prefix_len}
 use Rattle.std.proofs.lemmas.Bool.{eq-eqb, eqb-true, eqb-false, cases_order, cases_lt, lt-ltb, ltb-true}
 use Rattle.std.proofs.lemmas.Bool.Decides.{eqb_tells}
 use Rattle.std.proofs.lemmas.List.{get_or-drop, length-drop}
-use Rattle.encode_rre.specs.declared.Subrectangle.{Subrectangle}
-use Rattle.encode_rre.specs.declared.scan.Run.{Run}
-use Rattle.encode_rre.specs.Subrectangles.{HasRun, has_run, begins_run, stretch, row_at, pixel_in, run_at, run_of, IsSubrectangle, is_above, begins_subrectangle, subrectangle_from}
+use Rattle.subrectangles.specs.declared.Subrectangle.{Subrectangle}
+use Rattle.subrectangles.specs.declared.scan.Run.{Run}
+use Rattle.subrectangles.specs.Subrectangles.{HasRun, has_run, begins_run, stretch, row_at, pixel_in, run_at, run_of, IsSubrectangle, is_above, begins_subrectangle, subrectangle_from}
 
 -- n is how many pass the test from the front on
 pub record Front {X : Type 0} (p : X → Bool) (d : X) (xs : List X) (n : ℕ) : Type 0 where

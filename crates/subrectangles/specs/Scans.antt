@@ -7,10 +7,10 @@ use Rattle.std.proofs.lemmas.List.{get_or-drop, length-drop, drop-drop, map-appe
 use Rattle.std.proofs.lemmas.List.Elements.{filter-append}
 use Rattle.std.proofs.lemmas.Bool.{eq-eqb, eqb-true, eqb-false, lt-ltb, cases_lt}
 use Rattle.std.proofs.lemmas.Bool.Decides.{eqb_tells}
-use Rattle.encode_rre.specs.declared.Subrectangle.{Subrectangle}
-use Rattle.encode_rre.specs.declared.scan.Run.{Run}
-use Rattle.encode_rre.specs.Subrectangles.{rows_of, row_at, begins_run, stretch, has_run, run_at, begins_subrectangle, subrectangle_from, subrectangles_in}
-use Rattle.encode_rre.specs.Runs.{Front, Front-one, prefix_is}
+use Rattle.subrectangles.specs.declared.Subrectangle.{Subrectangle}
+use Rattle.subrectangles.specs.declared.scan.Run.{Run}
+use Rattle.subrectangles.specs.Subrectangles.{rows_of, row_at, begins_run, stretch, has_run, run_at, begins_subrectangle, subrectangle_from, subrectangles_in}
+use Rattle.subrectangles.specs.Runs.{Front, Front-one, prefix_is}
 
 -- ---- the rows of a rectangle
 

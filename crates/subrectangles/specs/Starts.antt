@@ -1,6 +1,6 @@
 -- Where the runs of a row begin, written one behind another.
 use Rattle.std.specs.Prelude.{◌≡◌, ℕ, ◌+◌, ◌-◌, ◌<◌, ◌≤◌, List, length, slice_index}
-use Rattle.encode_rre.specs.Subrectangles.{stretch}
+use Rattle.subrectangles.specs.Subrectangles.{stretch}
 
 -- the first run begins at 0, each one ends where the next one begins, and the last of so many ends with the row
 pub record AreRuns (row starts : List ℕ) (count : ℕ) : Type 0 where

@@ -2,8 +2,8 @@
 -- rectangle the list of its rows.
 use Rattle.std.specs.Prelude.{◌≡◌, ◌≢◌, ◌↔◌, ℕ, zero, suc, ◌+◌, ◌<◌, ◌≤◌, Bool, ◌&&◌, ◌||◌, not, ◌==◌, nat_lt, if◌then◌else◌, List, [], ◌∷◌, length, take, drop, map, flat_map, filter, count_by, ◌-◌, slice_index, slice_index_or, Contains, AllPairs, ◌⊎◌}
 use Rattle.std.specs.List.{prefix_len, range_with_len}
-use Rattle.encode_rre.specs.declared.Subrectangle.{Subrectangle}
-use Rattle.encode_rre.specs.declared.scan.Run.{Run}
+use Rattle.subrectangles.specs.declared.Subrectangle.{Subrectangle}
+use Rattle.subrectangles.specs.declared.scan.Run.{Run}
 
 -- the rows of a rectangle whose pixels stand row by row, each of w pixels
 unfoldable pub rows_of : ℕ → ℕ → List ℕ → List (List ℕ)

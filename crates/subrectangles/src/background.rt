@@ -4,10 +4,10 @@
 ghost use Rattle.std.specs.Prelude.{◌≡◌, ◌≢◌, ℕ, ◌+◌, ◌*◌, ◌<◌, ◌≤◌, ◌⊎◌, ◌^◌, true, false, nat_eq, length, IfOk, OnOk, IfSome};
 ghost use Rattle.std.specs.HashMap as hash;
 ghost use Rattle.std.specs.Option.{unwrap_or};
-ghost use Rattle.encode_rre.specs.Counted.{count_in, IsBestOf};
-ghost use Rattle.encode_rre.specs.Subrectangles.{background_of, times, row_at};
-ghost use Rattle.encode_rre.specs.Lines.{lines_in};
-ghost use Rattle.encode_rre.specs.Pixels.{pixels_in};
+ghost use Rattle.subrectangles.specs.Counted.{count_in, IsBestOf};
+ghost use Rattle.subrectangles.specs.Subrectangles.{background_of, times, row_at};
+ghost use Rattle.subrectangles.specs.Lines.{lines_in};
+ghost use Rattle.subrectangles.specs.Pixels.{pixels_in};
 
 use crate::lines::Lines;
 use crate::scan::stretch_from;
@@ -223,7 +223,7 @@ fn counted_background(alloc: Global, pixels: &Pixels) -> Result<u32, AllocError>
 /// The most frequent pixel, of several the smallest. Where a pixel that seems likely has more than
 /// half of the places, it is the one, and where two have enough of them, it is one of these; else
 /// all pixels are counted.
-pub(crate) fn background_of(alloc: Global, pixels: &Pixels) -> Result<u32, AllocError>
+pub fn background_of(alloc: Global, pixels: &Pixels) -> Result<u32, AllocError>
     ensures { IfOk result (λ b. b ≡ background_of (pixels_in pixels.now)) }
 {
     let guess = likely(pixels, None);

@@ -6,9 +6,9 @@
 //! too many, such places are counted by their pixels.
 
 ghost use Rattle.std.specs.Prelude.{◌≡◌, ℕ, ◌+◌, ◌*◌, ◌^◌, ◌<◌, ◌≤◌, true, length, slice_index, IfOk};
-ghost use Rattle.encode_rre.specs.Breaks.{breaks, breaks_like};
-ghost use Rattle.encode_rre.specs.Subrectangles.{subrectangles};
-ghost use Rattle.encode_rre.specs.Pixels.{pixel_lines};
+ghost use Rattle.subrectangles.specs.Breaks.{breaks, breaks_like};
+ghost use Rattle.subrectangles.specs.Subrectangles.{subrectangles};
+ghost use Rattle.subrectangles.specs.Pixels.{pixel_lines};
 
 use crate::translated::Pixels;
 use std::alloc::{AllocError, Global};
@@ -98,7 +98,7 @@ fn may_have_too_many(alloc: Global, pixels: &Pixels, limit: usize) -> Result<boo
 /// Whether there are more than `limit` subrectangles for certain: where a part of the rows has many
 /// such places, first with the half of each row left out, and then, where such places are enough, by
 /// their pixels.
-pub(crate) fn has_too_many(alloc: Global, pixels: &Pixels, limit: usize) -> Result<bool, AllocError>
+pub fn has_too_many(alloc: Global, pixels: &Pixels, limit: usize) -> Result<bool, AllocError>
     requires limited { limit < 2 ^ 32 }
     ensures { IfOk result (λ many. many ≡ true → (b : ℕ) → limit < length (subrectangles b (pixel_lines pixels.now))) }
 {

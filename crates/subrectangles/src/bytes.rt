@@ -1,11 +1,11 @@
 //! A rectangle in RRE as bytes.
 
 ghost use Rattle.std.specs.Prelude.{◌≡◌, ◌+◌, ◌≤◌, ◌++◌, length, take, drop, pos, OnOk, OnErr};
-ghost use Rattle.encode_rre.specs.Begins.{BeginsWith};
+ghost use Rattle.subrectangles.specs.Begins.{BeginsWith};
 ghost use Rattle.std.specs.Int.{w32, to_le_bytes};
 ghost use Rattle.pixel_translate.specs.Pixel.{be16, be32, pixel_bytes};
 ghost use Rattle.encode_raw.specs.Raw.{head};
-ghost use Rattle.encode_rre.specs.Rre.{subrectangle_bytes};
+ghost use Rattle.subrectangles.specs.Bytes.{subrectangle_bytes};
 
 use crate::Subrectangle;
 use encode_raw::rect_header;
@@ -48,7 +48,7 @@ pub(crate) fn put_subrectangle(
 }
 
 /// Appends what stands before the subrectangles: the rectangle's head, four places for their number, and the background.
-pub(crate) fn put_front(
+pub fn put_front(
     out: &mut Vec<u8>,
     area: Area,
     format: &PixelFormat,
@@ -64,7 +64,7 @@ pub(crate) fn put_front(
 }
 
 /// Writes the number of subrectangles in its four places.
-pub(crate) fn write_count(out: &mut Vec<u8>, start: usize, count: u32)
+pub fn write_count(out: &mut Vec<u8>, start: usize, count: u32)
     requires { start + 4 ≤ length out.old.items }
     ensures { out.new.items ≡ take start out.old.items ++ (be32 count ++ drop (start + 4) out.old.items) }
 {

@@ -4,9 +4,9 @@
 ghost use Rattle.std.specs.Prelude.{◌≡◌, ℕ, ◌+◌, ◌<◌, ◌≤◌, ◌^◌, ◌==◌, true, length, drop, map, slice_index};
 ghost use Rattle.std.specs.List.{prefix_len};
 ghost use Rattle.pixel_translate.specs.Pixel.{pixel};
-ghost use Rattle.encode_rre.specs.Lines.{lines_in};
-ghost use Rattle.encode_rre.specs.Pixels.{translated_lines};
-ghost use Rattle.encode_rre.specs.Subrectangles.{row_at, has_run};
+ghost use Rattle.subrectangles.specs.Lines.{lines_in};
+ghost use Rattle.subrectangles.specs.Pixels.{translated_lines};
+ghost use Rattle.subrectangles.specs.Subrectangles.{row_at, has_run};
 
 use crate::lines::Lines;
 use crate::scan::{Run, are_all};

@@ -1,7 +1,7 @@
 //! The rows of a rectangle whose colours or pixels stand in one list, or each row in a list of its own.
 
 ghost use Rattle.std.specs.Prelude.{◌≡◌, ◌*◌, ◌<◌, ◌≤◌, ◌^◌, true, length, All};
-ghost use Rattle.encode_rre.specs.Laid.{all_in, are_apart, rows_apart};
+ghost use Rattle.subrectangles.specs.Laid.{all_in, are_apart, rows_apart};
 
 /// Where the values of a rectangle stand, row by row from the top, each row from left to right.
 #[derive(Clone, Copy)]
@@ -29,8 +29,8 @@ pub struct Lines<'a> {
 
 impl<'a> Lines<'a> {
     ghost use Rattle.std.specs.Prelude.{◌≡◌, ◌<◌, ℕ, [], true, length};
-    ghost use Rattle.encode_rre.specs.Lines.{lines_in};
-    ghost use Rattle.encode_rre.specs.Subrectangles.{row_at, subrectangles_in};
+    ghost use Rattle.subrectangles.specs.Lines.{lines_in};
+    ghost use Rattle.subrectangles.specs.Subrectangles.{row_at, subrectangles_in};
 
     /// The row at `y`.
     #[inline(always)]

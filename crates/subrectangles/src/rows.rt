@@ -18,8 +18,8 @@ pub struct Rows<'a> {
 
 impl<'a> Rows<'a> {
     ghost use Rattle.std.specs.Prelude.{◌≡◌, ◌<◌, length};
-    ghost use Rattle.encode_rre.specs.Rows.{rows_in};
-    ghost use Rattle.encode_rre.specs.Subrectangles.{row_at};
+    ghost use Rattle.subrectangles.specs.Rows.{rows_in};
+    ghost use Rattle.subrectangles.specs.Subrectangles.{row_at};
 
     /// The row at `y`.
     #[inline(always)]

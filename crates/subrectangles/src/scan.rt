@@ -2,15 +2,15 @@
 
 ghost use Rattle.std.specs.Prelude.{◌≡◌, ℕ, ◌+◌, ◌-◌, ◌*◌, ◌<◌, ◌≤◌, ◌^◌, ◌++◌, true, false, length, drop, slice_index};
 ghost use Rattle.std.specs.Prelude.{IfOk, IfSome, MatchOption, OnOk, OnErr, flat_map};
-ghost use Rattle.encode_rre.specs.Begins.{BeginsWith};
-ghost use Rattle.encode_rre.specs.Rre.{subrectangle_bytes};
+ghost use Rattle.subrectangles.specs.Begins.{BeginsWith};
+ghost use Rattle.subrectangles.specs.Bytes.{subrectangle_bytes};
 ghost use Rattle.std.specs.List.{prefix_len};
-ghost use Rattle.encode_rre.specs.Starts.{AreRuns, Found};
-ghost use Rattle.encode_rre.specs.Lines.{lines_in};
-ghost use Rattle.encode_rre.specs.Pixels.{pixel_lines, translated_lines, HasRows};
+ghost use Rattle.subrectangles.specs.Starts.{AreRuns, Found};
+ghost use Rattle.subrectangles.specs.Lines.{lines_in};
+ghost use Rattle.subrectangles.specs.Pixels.{pixel_lines, translated_lines, HasRows};
 ghost use Rattle.pixel_translate.specs.Pixel.{pixel};
-ghost use Rattle.encode_rre.specs.Subrectangles.{row_at, stretch, has_run, begins_run, begins_subrectangle, subrectangle_from};
-ghost use Rattle.encode_rre.specs.Subrectangles.{run_at, subrectangles_in, subrectangles};
+ghost use Rattle.subrectangles.specs.Subrectangles.{row_at, stretch, has_run, begins_run, begins_subrectangle, subrectangle_from};
+ghost use Rattle.subrectangles.specs.Subrectangles.{run_at, subrectangles_in, subrectangles};
 
 use crate::Subrectangle;
 use crate::bytes::put_subrectangle;
@@ -346,7 +346,7 @@ fn put_row(
 
 /// Appends the subrectangles by y and then by x, as bytes, and tells whether they leave `out` shorter than `end`. Else a part of
 /// them is appended.
-pub(crate) fn put_subrectangles(
+pub fn put_subrectangles(
     out: &mut Vec<u8>,
     pixels: &Pixels,
     format: &PixelFormat,

@@ -1,8 +1,8 @@
 //! The pixels of a rectangle, row by row: its colours themselves, or their translations, of which two rows are kept at a time.
 
 ghost use Rattle.std.specs.Prelude.{◌≡◌, ℕ, ◌-◌, ◌<◌, [], true, length, IfOk};
-ghost use Rattle.encode_rre.specs.Pixels.{pixel_by, pixel_lines, HasRow, HasRoom, HasRows, HaveRoom};
-ghost use Rattle.encode_rre.specs.Subrectangles.{row_at, subrectangles_in};
+ghost use Rattle.subrectangles.specs.Pixels.{pixel_by, pixel_lines, HasRow, HasRoom, HasRows, HaveRoom};
+ghost use Rattle.subrectangles.specs.Subrectangles.{row_at, subrectangles_in};
 
 use crate::lines::Lines;
 use crate::pixels::write_row;
@@ -12,9 +12,9 @@ use std::mem;
 
 /// The pixels of a rectangle: of its colours, by a table of the format, or the colours themselves where there is no table.
 #[derive(Clone, Copy)]
-pub(crate) struct Pixels<'a> {
-    pub(crate) colours: Lines<'a>,
-    pub(crate) table: Option<&'a Table>,
+pub struct Pixels<'a> {
+    pub colours: Lines<'a>,
+    pub table: Option<&'a Table>,
 }
 
 /// Places for the pixels of a row, and for those of the row above it; there are none where pixels are the colours themselves.

@@ -7,7 +7,7 @@ use Rattle.pixel_translate.specs.declared.Pixels.TheVariants.{TrueColour}
 use Rattle.pixel_translate.specs.Pixel.{server_format, red_in, green_in, blue_in}
 use Rattle.pixel_translate.specs.Examples.{F}
 use Rattle.encode_raw.specs.Reading.{◌>>=◌, Shown, pixels_at}
-use Rattle.encode_rre.specs.Reading.{subrectangles_at}
+use Rattle.subrectangles.specs.Reading.{subrectangles_at}
 use Rattle.messages.specs.Grammar.{desktop_size}
 use Rattle.messages.specs.declared.Version.TheVariants.{V33, V37, V38}
 use Rattle.viewer_picture.specs.Messages.{rectangles_at, entries_at, messages_in, messages_at, nothing_mapped}

@@ -7,7 +7,7 @@ use Rattle.pixel_translate.specs.declared.Area.{Area}
 use Rattle.pixel_translate.specs.declared.PixelFormat.{PixelFormat}
 use Rattle.messages.specs.Grammar.{desktop_size, is_desktop_size}
 use Rattle.encode_raw.specs.Reading.{◌>>=◌, bytes_at, number_at, head_at, Shown, Patch, patched, raw_at, copyrect_at}
-use Rattle.encode_rre.specs.Reading.{rre_at}
+use Rattle.subrectangles.specs.Reading.{rre_at}
 use Rattle.encode_hextile.specs.Reading.{hextile_at}
 
 -- What a viewer goes by when an update comes: the picture's size (7.3.2), the format of pixels (7.5.1), and the encodings that it

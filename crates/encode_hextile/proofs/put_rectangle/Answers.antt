@@ -1,4 +1,4 @@
-use Rattle.encode_rre.specs.Begins.{begins_more, on_err_map}
+use Rattle.subrectangles.specs.Begins.{begins_more, on_err_map}
 use Rattle.encode_hextile.proofs.put_rectangle.Goals as goal
 
 pub returns-clause-err : goal.returns-clause-err

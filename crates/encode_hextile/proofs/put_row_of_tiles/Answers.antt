@@ -1,11 +1,11 @@
 use Rattle.std.proofs.Common.{◌≡◌, ◌++◌, ◌*◌, ◌<◌, ℕ, List, take, drop, map, arith, ap, ◌∙◌}
 use Rattle.pixel_translate.specs.declared.PixelFormat.{PixelFormat}
 use Rattle.pixel_translate.specs.Pixel.{pixel}
-use Rattle.encode_rre.specs.Subrectangles.{rows_of}
+use Rattle.subrectangles.specs.Subrectangles.{rows_of}
 use Rattle.encode_hextile.specs.Tiles.{tile_rows}
 use Rattle.encode_hextile.specs.Hextile.{tile}
 use Rattle.encode_hextile.proofs.Cuts.{tile_at, tile_in_front}
-use Rattle.encode_rre.specs.Begins.{begins_more, on_err}
+use Rattle.subrectangles.specs.Begins.{begins_more, on_err}
 use Rattle.encode_hextile.proofs.Folds.{one_tile_more, carried_more}
 use Rattle.encode_hextile.proofs.put_row_of_tiles.Goals as goal
 

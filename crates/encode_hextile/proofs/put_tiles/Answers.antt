@@ -1,8 +1,8 @@
 use Rattle.std.proofs.Common.{ℕ, List, map}
 use Rattle.pixel_translate.specs.Pixel.{pixel}
-use Rattle.encode_rre.specs.Subrectangles.{rows_of}
+use Rattle.subrectangles.specs.Subrectangles.{rows_of}
 use Rattle.encode_hextile.specs.Hextile.{nothing}
-use Rattle.encode_rre.specs.Begins.{begins_more, on_err}
+use Rattle.subrectangles.specs.Begins.{begins_more, on_err}
 use Rattle.encode_hextile.proofs.Folds.{one_row_more, carried_rows}
 use Rattle.encode_hextile.proofs.put_tiles.Goals as goal
 

@@ -1,7 +1,7 @@
 use Rattle.std.proofs.Common.{◌≡◌, ℕ, List, ◌+◌, ◌-◌, ◌*◌, get_or, inl, inr, arith, ap}
 use Rattle.std.proofs.lemmas.Bool.{cases_lt}
-use Rattle.encode_rre.specs.Lines.{values_in}
-use Rattle.encode_rre.proofs.Apart.{in_rows}
+use Rattle.subrectangles.specs.Lines.{values_in}
+use Rattle.subrectangles.specs.Apart.{in_rows}
 use Rattle.encode_rre.proofs.are_low.Goals as goal
 
 pub loop-y-preserved : goal.loop-y-preserved

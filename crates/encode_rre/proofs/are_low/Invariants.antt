@@ -1,5 +1,5 @@
 use Rattle.std.proofs.Common.{◌<◌, ◌*◌, ◌^◌, ℕ, get_or}
-use Rattle.encode_rre.specs.Lines.{values_in}
+use Rattle.subrectangles.specs.Lines.{values_in}
 use Rattle.encode_rre.proofs.are_low.Given as goal
 
 -- no colour of the rows passed has a top byte

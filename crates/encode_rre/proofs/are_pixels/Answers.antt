@@ -1,5 +1,5 @@
 use Rattle.std.proofs.Common.{◌^◌, ◌-◌, arith}
-use Rattle.encode_rre.specs.Lines.{values_in}
+use Rattle.subrectangles.specs.Lines.{values_in}
 use Rattle.encode_rre.proofs.Plain.{themselves}
 use Rattle.encode_rre.proofs.are_pixels.Goals as goal
 

@@ -1,7 +1,7 @@
 use Rattle.std.proofs.Common.{◌≡◌, ◌*◌, ℕ, List, All, Bor, length, map, arith, ap, sym, ◌∙◌}
 use Rattle.std.proofs.lemmas.List.{length-map}
 use Rattle.std.proofs.lemmas.List.Elements.{All-map}
-use Rattle.encode_rre.proofs.Apart.{apart_len}
+use Rattle.subrectangles.specs.Apart.{apart_len}
 use Rattle.encode_rre.proofs.encode_rre_by_rows.Goals as goal
 
 pub invariant_of-lines : goal.invariant_of-lines

@@ -4,13 +4,13 @@ use Rattle.std.proofs.Math.Seq.{take-length}
 use Rattle.pixel_translate.specs.Pixel.{be32, bytes_per_pixel, pixel_bytes}
 use Rattle.pixel_translate.specs.Bounds.{pixel_length}
 use Rattle.encode_raw.specs.Raw.{head}
-use Rattle.encode_rre.specs.declared.Subrectangle.{Subrectangle}
-use Rattle.encode_rre.specs.Rre.{subrectangle_bytes}
-use Rattle.encode_rre.specs.Subrectangles.{background_of, subrectangles, rows_of}
-use Rattle.encode_rre.specs.Lines.{values_in}
-use Rattle.encode_rre.specs.Pixels.{pixels_in, pixel_lines}
+use Rattle.subrectangles.specs.declared.Subrectangle.{Subrectangle}
+use Rattle.subrectangles.specs.Bytes.{subrectangle_bytes, subs_length}
+use Rattle.subrectangles.specs.Subrectangles.{background_of, subrectangles, rows_of}
+use Rattle.subrectangles.specs.Lines.{values_in}
+use Rattle.subrectangles.specs.Pixels.{pixels_in, pixel_lines}
 use Rattle.encode_rre.proofs.Coded.{four_written}
-use Rattle.encode_rre.proofs.Lengths.{raw_where, rre_where, too_many, le_more, same_subs, subs_length, few}
+use Rattle.encode_rre.proofs.Lengths.{raw_where, rre_where, too_many, le_more, same_subs, few}
 use Rattle.encode_rre.proofs.put_coded.Goals as goal
 
 pub returns-then-many : goal.returns-then-many

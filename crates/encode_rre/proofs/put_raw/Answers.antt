@@ -3,9 +3,9 @@ use Rattle.std.proofs.lemmas.Grind.{flat_map-append}
 use Rattle.std.specs.List.{flat_map}
 use Rattle.pixel_translate.specs.Pixel.{colour_bytes}
 use Rattle.encode_raw.specs.Raw.{head}
-use Rattle.encode_rre.specs.Lines.{values_in, lines_in}
-use Rattle.encode_rre.specs.Subrectangles.{row_at}
-use Rattle.encode_rre.proofs.Apart.{row_behind, behind}
+use Rattle.subrectangles.specs.Lines.{values_in, lines_in}
+use Rattle.subrectangles.specs.Subrectangles.{row_at}
+use Rattle.subrectangles.specs.Apart.{row_behind, behind}
 use Rattle.encode_rre.proofs.put_raw.Goals as goal
 
 pub loop-y-preserved : goal.loop-y-preserved

@@ -2,7 +2,7 @@ use Rattle.std.proofs.Common.{◌≡◌, ◌*◌, ◌++◌, take, pos}
 use Rattle.std.specs.List.{flat_map}
 use Rattle.pixel_translate.specs.Pixel.{colour_bytes}
 use Rattle.encode_raw.specs.Raw.{head}
-use Rattle.encode_rre.specs.Lines.{values_in}
+use Rattle.subrectangles.specs.Lines.{values_in}
 use Rattle.encode_rre.proofs.put_raw.Given as goal
 
 -- the head and the rows passed are there

@@ -1,6 +1,6 @@
 use Rattle.std.proofs.Common.{◌≡◌, ◌+◌, ◌*◌, ◌++◌, ◌∷◌, ℕ, List, length, arith, sym, ap, ◌∙◌, append_assoc, length-append}
 use Rattle.pixel_translate.specs.Pixel.{bytes_per_pixel}
-use Rattle.encode_rre.specs.Subrectangles.{rows_of, subrectangles}
+use Rattle.subrectangles.specs.Subrectangles.{rows_of, subrectangles}
 use Rattle.encode_hextile.specs.declared.TilePixels.{TilePixels}
 use Rattle.encode_hextile.specs.Hextile.{Coded, tile, coded, raw_tile, bits_of, said_bytes, list_bytes}
 use Rattle.encode_hextile.proofs.Cuts.{concat_rows}

@@ -1,5 +1,5 @@
 use Rattle.std.proofs.Common.{arith}
-use Rattle.encode_rre.specs.Rows.{some_values}
+use Rattle.subrectangles.specs.Rows.{some_values}
 use Rattle.encode_hextile.proofs.Lists.{count_fits}
 use Rattle.encode_hextile.proofs.bytes.put_list.Goals as goal
 

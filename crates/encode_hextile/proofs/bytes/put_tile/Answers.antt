@@ -1,5 +1,5 @@
 use Rattle.std.proofs.Common.{◌≡◌, ◌++◌, ◌∷◌, ℕ, List, arith, refl, sym, ap, ◌∙◌, length-append}
-use Rattle.encode_rre.specs.Subrectangles.{rows_of, background_of, subrectangles}
+use Rattle.subrectangles.specs.Subrectangles.{rows_of, background_of, subrectangles}
 use Rattle.encode_hextile.specs.declared.TilePixels.TheVariants.{Several}
 use Rattle.encode_hextile.specs.Hextile.{Coded, tile, raw_tile, said_bytes, list_bytes}
 use Rattle.encode_hextile.proofs.Cuts.{concat_rows}

@@ -1,7 +1,7 @@
 use Rattle.std.proofs.Common.{◌≡◌, ◌<◌, ◌+◌, ◌-◌, ◌*◌, min, ℕ, List, [], length, take, drop, map, get_or, arith, sym, ap, ◌∙◌}
 use Rattle.std.specs.List.{concat}
 use Rattle.pixel_translate.specs.Pixel.{pixel}
-use Rattle.encode_rre.specs.Subrectangles.{rows_of}
+use Rattle.subrectangles.specs.Subrectangles.{rows_of}
 use Rattle.encode_hextile.specs.Tiles.{tile_rows}
 use Rattle.encode_hextile.proofs.Cuts.{tile_at, tile_height, tile_width, source_row, places_inside, rows_length, row_written, all_written}
 use Rattle.encode_hextile.proofs.cut.cut_tile.Goals as goal

@@ -1,6 +1,6 @@
 use Rattle.std.proofs.Common.{◌≡◌, ◌≤◌, ◌+◌, ◌%◌, ℕ, List, take, get_or, set, arith, refl, sym, subst, ◌∙◌}
 use Rattle.std.proofs.lemmas.List.{get_or-replicate, length-set}
-use Rattle.encode_rre.specs.Subrectangles.{times}
+use Rattle.subrectangles.specs.Subrectangles.{times}
 use Rattle.encode_hextile.proofs.Palettes.{bucket_more, bucket_few}
 use Rattle.encode_hextile.proofs.palette.buckets_of.Goals as goal
 

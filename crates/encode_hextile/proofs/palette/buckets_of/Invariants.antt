@@ -1,5 +1,5 @@
 use Rattle.std.proofs.Common.{ℕ, ◌≤◌, ◌<◌, ◌%◌, take, get_or, length, ◌≡◌}
-use Rattle.encode_rre.specs.Subrectangles.{times}
+use Rattle.subrectangles.specs.Subrectangles.{times}
 use Rattle.encode_hextile.proofs.palette.buckets_of.Given as goal
 
 -- the pixels passed are in their buckets

@@ -2,7 +2,7 @@ use Rattle.std.proofs.Common.{◌≡◌, ◌<◌, ◌+◌, inl, inr, ℕ, List, 
 use Rattle.std.proofs.lemmas.Bool.{cases_eq}
 use Rattle.std.proofs.lemmas.List.Sums.{count_by-le-length}
 use Rattle.std.proofs.Common.{eqb}
-use Rattle.encode_rre.specs.Subrectangles.{times, background_of}
+use Rattle.subrectangles.specs.Subrectangles.{times, background_of}
 use Rattle.encode_hextile.specs.Hextile.{others_of}
 use Rattle.encode_hextile.proofs.Palettes.{alone, one_other, several, best_alone, best_of_two, stretch_ends, stretch_other, times_at, apart2}
 use Rattle.encode_hextile.proofs.palette.few_pixels.Goals as goal

@@ -1,7 +1,7 @@
 use Rattle.std.proofs.Common.{◌≡◌, ◌≤◌, ◌+◌, ◌*◌, ◌%◌, ℕ, List, length, arith, ap}
 use Rattle.std.proofs.lemmas.Bool.{leb-true}
 use Rattle.pixel_translate.specs.Pixel.{bytes_per_pixel}
-use Rattle.encode_rre.specs.Subrectangles.{rows_of, times, subrectangles}
+use Rattle.subrectangles.specs.Subrectangles.{rows_of, times, subrectangles}
 use Rattle.encode_hextile.proofs.Lists.{noise_long}
 use Rattle.encode_hextile.proofs.palette.is_noise.Goals as goal
 

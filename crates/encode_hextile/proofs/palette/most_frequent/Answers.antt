@@ -1,5 +1,5 @@
 use Rattle.std.proofs.Common.{◌≡◌, ◌≤◌, ◌<◌, ◌+◌, ◌%◌, ℕ, List, get_or, arith, sym, ap, subst, ◌∙◌}
-use Rattle.encode_rre.specs.Subrectangles.{times}
+use Rattle.subrectangles.specs.Subrectangles.{times}
 use Rattle.encode_hextile.proofs.Palettes.{Loses, loses_more, loses_itself, loses_bound, loses_so_far, best_of_all, times_at}
 use Rattle.encode_hextile.proofs.palette.most_frequent.Goals as goal
 use Rattle.encode_hextile.proofs.palette.most_frequent.Goals.{then-is_better+then-is_better-2, then-is_better+else-is_better-2, else-is_better}

@@ -1,5 +1,5 @@
 use Rattle.std.proofs.Common.{◌≡◌, ℕ, ◌<◌, get_or}
-use Rattle.encode_rre.specs.Subrectangles.{times}
+use Rattle.subrectangles.specs.Subrectangles.{times}
 use Rattle.encode_hextile.proofs.Palettes.{Loses}
 use Rattle.encode_hextile.proofs.palette.most_frequent.Given as goal
 

@@ -1,8 +1,8 @@
 use Rattle.std.proofs.Common.{◌≡◌, ℕ, List, inl, inr, length, take, get_or, arith, sym, ap, ◌∙◌}
 use Rattle.std.proofs.lemmas.Bool.{cases_lt}
 use Rattle.std.proofs.Math.Seq.{take-length}
-use Rattle.encode_rre.specs.Subrectangles.{times}
-use Rattle.encode_rre.specs.Scans.{found_before}
+use Rattle.subrectangles.specs.Subrectangles.{times}
+use Rattle.subrectangles.specs.Scans.{found_before}
 use Rattle.encode_hextile.proofs.Lists.{starts_same, starts_more}
 use Rattle.encode_hextile.proofs.palette.starts_in.Goals as goal
 use Rattle.encode_hextile.proofs.palette.starts_in.Goals.{then-starts_at, else-starts_at}

@@ -1,6 +1,6 @@
 use Rattle.std.proofs.Common.{◌≡◌, ℕ, ◌<◌, ◌≤◌, ◌+◌, ◌-◌, List, length, take}
-use Rattle.encode_rre.specs.Subrectangles.{row_at, times}
-use Rattle.encode_rre.specs.Scans.{found_before}
+use Rattle.subrectangles.specs.Subrectangles.{row_at, times}
+use Rattle.subrectangles.specs.Scans.{found_before}
 use Rattle.encode_hextile.proofs.palette.starts_in.Given as goal
 
 -- at each place counted a subrectangle begins, or it is of the background

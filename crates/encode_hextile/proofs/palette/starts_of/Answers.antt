@@ -1,7 +1,7 @@
 use Rattle.std.proofs.Common.{◌≡◌, ℕ, inl, inr, List, arith, sym, ap}
 use Rattle.std.proofs.lemmas.Bool.{cases_lt}
-use Rattle.encode_rre.specs.Subrectangles.{row_at, times}
-use Rattle.encode_rre.specs.Rows.{rows_in}
+use Rattle.subrectangles.specs.Subrectangles.{row_at, times}
+use Rattle.subrectangles.specs.Rows.{rows_in}
 use Rattle.encode_hextile.proofs.Lists.{starts_row, starts_all}
 use Rattle.encode_hextile.proofs.palette.starts_of.Goals as goal
 

@@ -1,7 +1,7 @@
 use Rattle.std.proofs.Common.{ℕ, ◌≤◌, ◌+◌, ◌-◌, ◌*◌, length, take}
 use Rattle.std.specs.List.{flat_map, range_with_len}
-use Rattle.encode_rre.specs.Subrectangles.{times, subrectangles_in}
-use Rattle.encode_rre.specs.Rows.{rows_in}
+use Rattle.subrectangles.specs.Subrectangles.{times, subrectangles_in}
+use Rattle.subrectangles.specs.Rows.{rows_in}
 use Rattle.encode_hextile.proofs.palette.starts_of.Given as goal
 
 -- the rows passed have so many, but for those of the background

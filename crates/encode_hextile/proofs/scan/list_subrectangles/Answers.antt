@@ -1,10 +1,10 @@
 use Rattle.std.proofs.Common.{◌≡◌, ◌+◌, ◌-◌, ◌*◌, ◌/◌, ℕ, List, length, arith, ap, ◌∙◌}
 use Rattle.std.specs.List.{flat_map, range_with_len}
 use Rattle.std.proofs.Math.Nat.{mul-div_cancel}
-use Rattle.encode_rre.specs.declared.Subrectangle.{Subrectangle}
-use Rattle.encode_rre.specs.Subrectangles.{subrectangles_in, subrectangles}
-use Rattle.encode_rre.specs.Scans.{rows_count}
-use Rattle.encode_rre.specs.Rows.{rows_in}
+use Rattle.subrectangles.specs.declared.Subrectangle.{Subrectangle}
+use Rattle.subrectangles.specs.Subrectangles.{subrectangles_in, subrectangles}
+use Rattle.subrectangles.specs.Scans.{rows_count}
+use Rattle.subrectangles.specs.Rows.{rows_in}
 use Rattle.encode_hextile.specs.Hextile.{subrectangle_bytes}
 use Rattle.encode_hextile.proofs.Lists.{unit, unit_some, list_length, fewer_bytes, more_bytes, raw_most, few_bytes_a_pixel}
 use Rattle.encode_hextile.proofs.scan.list_subrectangles.Goals as goal

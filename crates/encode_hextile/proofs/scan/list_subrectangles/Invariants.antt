@@ -1,8 +1,8 @@
 use Rattle.std.proofs.Common.{◌≡◌, ◌≤◌}
 use Rattle.std.specs.List.{flat_map, range_with_len}
 use Rattle.arrayvec.specs.ArrayVec.{array_vec_len}
-use Rattle.encode_rre.specs.Subrectangles.{subrectangles_in}
-use Rattle.encode_rre.specs.Rows.{rows_in}
+use Rattle.subrectangles.specs.Subrectangles.{subrectangles_in}
+use Rattle.subrectangles.specs.Rows.{rows_in}
 use Rattle.encode_hextile.specs.Hextile.{subrectangle_bytes}
 use Rattle.encode_hextile.proofs.scan.list_subrectangles.Given as goal
 

@@ -1,8 +1,8 @@
 use Rattle.std.proofs.Common.{◌≡◌, ℕ, List, length, arith, sym, ap, ◌∙◌, append-nil}
 use Rattle.arrayvec.specs.ArrayVec.{ArrayVec, array_vec_len}
-use Rattle.encode_rre.specs.Subrectangles.{row_at, stretch}
-use Rattle.encode_rre.specs.Scans.{Step, scan_step, put_yes, put_no}
-use Rattle.encode_rre.specs.Rows.{rows_in}
+use Rattle.subrectangles.specs.Subrectangles.{row_at, stretch}
+use Rattle.subrectangles.specs.Scans.{Step, scan_step, put_yes, put_no}
+use Rattle.subrectangles.specs.Rows.{rows_in}
 use Rattle.encode_hextile.specs.Hextile.{subrectangle_bytes}
 use Rattle.encode_hextile.proofs.scan.put_row.Goals as goal
 use Rattle.encode_hextile.proofs.scan.put_row.Goals.{in-Some, in_default}

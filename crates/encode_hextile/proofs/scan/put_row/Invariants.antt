@@ -1,9 +1,9 @@
 use Rattle.std.proofs.Common.{◌≡◌, ◌<◌, ◌≤◌, ◌+◌, ◌-◌, ◌*◌, ◌++◌, true}
 use Rattle.std.specs.List.{flat_map}
 use Rattle.arrayvec.specs.ArrayVec.{array_vec_len}
-use Rattle.encode_rre.specs.Subrectangles.{row_at, begins_run}
-use Rattle.encode_rre.specs.Scans.{found_before}
-use Rattle.encode_rre.specs.Rows.{rows_in}
+use Rattle.subrectangles.specs.Subrectangles.{row_at, begins_run}
+use Rattle.subrectangles.specs.Scans.{found_before}
+use Rattle.subrectangles.specs.Rows.{rows_in}
 use Rattle.encode_hextile.specs.Hextile.{subrectangle_bytes}
 use Rattle.encode_hextile.proofs.scan.put_row.Given as goal
 

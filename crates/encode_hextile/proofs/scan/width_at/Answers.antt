@@ -1,5 +1,5 @@
 use Rattle.std.proofs.Common.{◌≡◌, ◌∙◌}
-use Rattle.encode_rre.specs.Subrectangles.{stretch}
+use Rattle.subrectangles.specs.Subrectangles.{stretch}
 use Rattle.encode_hextile.proofs.Lists.{stretch_some, stretch_within}
 use Rattle.encode_hextile.proofs.scan.width_at.Goals as goal
 

@@ -2,7 +2,7 @@ use Rattle.std.proofs.Common.{◌≡◌, ◌+◌, ◌-◌, inl, inr, ℕ, List, 
 use Rattle.std.proofs.lemmas.Bool.{cases_eq}
 use Rattle.std.proofs.lemmas.List.{length-set, get_or-set_other}
 use Rattle.std.proofs.lemmas.Grind.{get_or-set_at}
-use Rattle.encode_rre.specs.Subrectangles.{stretch}
+use Rattle.subrectangles.specs.Subrectangles.{stretch}
 use Rattle.encode_hextile.proofs.Lists.{one_stretch}
 use Rattle.encode_hextile.proofs.scan.widths_of.Goals as goal
 use Rattle.encode_hextile.proofs.scan.widths_of.Goals.{then-row-x, else-row-x}

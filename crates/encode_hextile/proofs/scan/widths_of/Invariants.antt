@@ -1,5 +1,5 @@
 use Rattle.std.proofs.Common.{◌≡◌, ℕ, ◌<◌, ◌≤◌, ◌-◌, length, get_or}
-use Rattle.encode_rre.specs.Subrectangles.{stretch}
+use Rattle.subrectangles.specs.Subrectangles.{stretch}
 use Rattle.encode_hextile.proofs.scan.widths_of.Given as goal
 
 -- the k last places are known, and the first of them is at hand

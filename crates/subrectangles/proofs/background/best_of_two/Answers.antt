@@ -1,8 +1,8 @@
 use Rattle.std.proofs.Common.{◌≡◌, ◌+◌, ◌<◌, ◌⊎◌, max, length, ℕ, List, inl, inr, arith}
-use Rattle.encode_rre.specs.Subrectangles.{times}
-use Rattle.encode_rre.specs.Counts.{first_of_two, second_of_two, times_few}
-use Rattle.encode_rre.specs.Pixels.{pixels_in, some_pixels, whole}
-use Rattle.encode_rre.proofs.background.best_of_two.Goals as goal
+use Rattle.subrectangles.specs.Subrectangles.{times}
+use Rattle.subrectangles.specs.Counts.{first_of_two, second_of_two, times_few}
+use Rattle.subrectangles.specs.Pixels.{pixels_in, some_pixels, whole}
+use Rattle.subrectangles.proofs.background.best_of_two.Goals as goal
 
 pub returns-then-is_better : goal.returns-then-is_better
 returns-then-is_better c =

@@ -2,11 +2,11 @@ use Rattle.std.proofs.Common.{◌≡◌, ◌+◌, ◌*◌, ◌<◌, ◌≤◌, �
 use Rattle.std.specs.Option.{unwrap_or}
 use Rattle.std.specs.HashMap as hash
 use Rattle.std.proofs.Math.Nat.{mul-le-mul}
-use Rattle.encode_rre.specs.declared.background.Counter.{Counter}
-use Rattle.encode_rre.specs.Counted.{count_in, IsBestOf}
-use Rattle.encode_rre.specs.Counts.{CountsRun, better_best, same_best, more_of_row}
-use Rattle.encode_rre.proofs.background.count_row.Goals as goal
-use Rattle.encode_rre.proofs.background.count_row.Goals.{then-is_better, else-is_better}
+use Rattle.subrectangles.specs.declared.background.Counter.{Counter}
+use Rattle.subrectangles.specs.Counted.{count_in, IsBestOf}
+use Rattle.subrectangles.specs.Counts.{CountsRun, better_best, same_best, more_of_row}
+use Rattle.subrectangles.proofs.background.count_row.Goals as goal
+use Rattle.subrectangles.proofs.background.count_row.Goals.{then-is_better, else-is_better}
 
 some_places : (rows n : ℕ) → 0 < rows → 0 < n → 0 < rows * n
 some_places rows n a b = let one : 1 * 1 ≤ rows * n = mul-le-mul (let e : 1 ≤ rows = omega arith in e) (let e : 1 ≤ n = omega arith in e) in omega (arith, one)

@@ -1,7 +1,7 @@
 use Rattle.std.proofs.Common.{◌≡◌, ℕ, ◌≤◌, ◌+◌, ◌*◌, ◌-◌, length, take}
-use Rattle.encode_rre.specs.Subrectangles.{times}
-use Rattle.encode_rre.specs.Counted.{count_in, IsBestOf}
-use Rattle.encode_rre.proofs.background.count_row.Given as goal
+use Rattle.subrectangles.specs.Subrectangles.{times}
+use Rattle.subrectangles.specs.Counted.{count_in, IsBestOf}
+use Rattle.subrectangles.proofs.background.count_row.Given as goal
 
 -- the pixels passed are counted, and best is the best of all that are
 abbrev pub invariant-loop-start : goal.invariant-loop-start

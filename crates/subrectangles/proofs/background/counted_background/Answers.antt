@@ -1,12 +1,12 @@
 use Rattle.std.proofs.Common.{◌≡◌, ◌+◌, ◌*◌, ℕ, List, length, take, arith, sym, ap, ◌∙◌}
 use Rattle.std.proofs.Math.Nat.{mul_comm}
 use Rattle.std.proofs.Math.Seq.{take-length}
-use Rattle.encode_rre.specs.Counted.{count_in}
-use Rattle.encode_rre.specs.Subrectangles.{times}
-use Rattle.encode_rre.proofs.RowsAsPixels.{still_room, same_rows}
-use Rattle.encode_rre.specs.Counts.{best_is, rows_alike}
-use Rattle.encode_rre.specs.Pixels.{pixels_in, some_pixels, whole}
-use Rattle.encode_rre.proofs.background.counted_background.Goals as goal
+use Rattle.subrectangles.specs.Counted.{count_in}
+use Rattle.subrectangles.specs.Subrectangles.{times}
+use Rattle.subrectangles.proofs.RowsAsPixels.{still_room, same_rows}
+use Rattle.subrectangles.specs.Counts.{best_is, rows_alike}
+use Rattle.subrectangles.specs.Pixels.{pixels_in, some_pixels, whole}
+use Rattle.subrectangles.proofs.background.counted_background.Goals as goal
 
 pub loop-y-preserved : goal.loop-y-preserved
 loop-y-preserved c =

@@ -1,8 +1,8 @@
 use Rattle.std.proofs.Common.{◌≡◌, ℕ, ◌≤◌, ◌*◌, ◌-◌, take}
-use Rattle.encode_rre.specs.Subrectangles.{times}
-use Rattle.encode_rre.specs.Counted.{count_in, IsBestOf}
-use Rattle.encode_rre.specs.Pixels.{pixels_in, HasRoom}
-use Rattle.encode_rre.proofs.background.counted_background.Given as goal
+use Rattle.subrectangles.specs.Subrectangles.{times}
+use Rattle.subrectangles.specs.Counted.{count_in, IsBestOf}
+use Rattle.subrectangles.specs.Pixels.{pixels_in, HasRoom}
+use Rattle.subrectangles.proofs.background.counted_background.Given as goal
 
 -- the rows passed are counted, and best is the best of their pixels
 abbrev pub invariant-loop-y : goal.invariant-loop-y

@@ -1,7 +1,7 @@
 use Rattle.std.proofs.Common.{◌≡◌, ℕ, ◌<◌, ◌≤◌}
-use Rattle.encode_rre.specs.Subrectangles.{row_at}
-use Rattle.encode_rre.specs.Lines.{lines_in}
-use Rattle.encode_rre.proofs.background.rows_like.Given as goal
+use Rattle.subrectangles.specs.Subrectangles.{row_at}
+use Rattle.subrectangles.specs.Lines.{lines_in}
+use Rattle.subrectangles.proofs.background.rows_like.Given as goal
 
 -- the rows passed are like the first
 abbrev pub invariant-loop-y : goal.invariant-loop-y

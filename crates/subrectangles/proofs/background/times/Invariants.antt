@@ -1,6 +1,6 @@
 use Rattle.std.proofs.Common.{◌≡◌, ◌≤◌, take}
-use Rattle.encode_rre.specs.Subrectangles.{times}
-use Rattle.encode_rre.proofs.background.times.Given as goal
+use Rattle.subrectangles.specs.Subrectangles.{times}
+use Rattle.subrectangles.proofs.background.times.Given as goal
 
 -- the pixels passed are counted
 abbrev pub invariant-loop-other : goal.invariant-loop-other

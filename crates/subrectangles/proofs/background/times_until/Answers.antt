@@ -1,9 +1,9 @@
 use Rattle.std.proofs.Common.{◌≡◌, ◌+◌, ◌*◌, ℕ, List, arith, ap, ◌∙◌}
-use Rattle.encode_rre.specs.Subrectangles.{times, row_at}
-use Rattle.encode_rre.specs.Pixels.{pixel_lines, pixels_in}
-use Rattle.encode_rre.proofs.RowsAsPixels.{next_rows}
-use Rattle.encode_rre.specs.Counts.{rows_alike, times_few}
-use Rattle.encode_rre.proofs.background.times_until.Goals as goal
+use Rattle.subrectangles.specs.Subrectangles.{times, row_at}
+use Rattle.subrectangles.specs.Pixels.{pixel_lines, pixels_in}
+use Rattle.subrectangles.proofs.RowsAsPixels.{next_rows}
+use Rattle.subrectangles.specs.Counts.{rows_alike, times_few}
+use Rattle.subrectangles.proofs.background.times_until.Goals as goal
 
 pub loop-y-preserved : goal.loop-y-preserved
 loop-y-preserved c =

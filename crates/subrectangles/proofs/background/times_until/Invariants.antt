@@ -1,7 +1,7 @@
 use Rattle.std.proofs.Common.{◌≡◌, ◌≤◌, ◌-◌, ◌*◌, take}
-use Rattle.encode_rre.specs.Subrectangles.{times}
-use Rattle.encode_rre.specs.Pixels.{pixels_in, HasRows}
-use Rattle.encode_rre.proofs.background.times_until.Given as goal
+use Rattle.subrectangles.specs.Subrectangles.{times}
+use Rattle.subrectangles.specs.Pixels.{pixels_in, HasRows}
+use Rattle.subrectangles.proofs.background.times_until.Given as goal
 
 -- the rows passed are counted
 abbrev pub invariant-loop-y : goal.invariant-loop-y

@@ -1,5 +1,5 @@
 use Rattle.std.proofs.Common.{length, ◌-◌}
-use Rattle.encode_rre.proofs.background.vote_in_row.Given as goal
+use Rattle.subrectangles.proofs.background.vote_in_row.Given as goal
 
 abbrev pub decreases-loop-x : goal.decreases-loop-x
 decreases-loop-x l = length l.row - l.x

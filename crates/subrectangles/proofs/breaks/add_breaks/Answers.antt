@@ -1,6 +1,6 @@
 use Rattle.std.proofs.Common.{◌%◌, ◌<◌, arith, get_or}
-use Rattle.encode_rre.proofs.Early.{like_small}
-use Rattle.encode_rre.proofs.breaks.add_breaks.Goals as goal
+use Rattle.subrectangles.proofs.Early.{like_small}
+use Rattle.subrectangles.proofs.breaks.add_breaks.Goals as goal
 
 pub overflow_add-buckets : goal.overflow_add-buckets
 overflow_add-buckets c =

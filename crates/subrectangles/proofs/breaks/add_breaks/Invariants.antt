@@ -1,6 +1,6 @@
 use Rattle.std.proofs.Common.{◌≡◌, ℕ, ◌<◌, ◌≤◌, ◌+◌, get_or, length}
-use Rattle.encode_rre.specs.Breaks.{breaks, breaks_like}
-use Rattle.encode_rre.proofs.breaks.add_breaks.Given as goal
+use Rattle.subrectangles.specs.Breaks.{breaks, breaks_like}
+use Rattle.subrectangles.proofs.breaks.add_breaks.Given as goal
 
 -- the places passed are counted
 abbrev pub invariant-loop-x : goal.invariant-loop-x

@@ -1,7 +1,7 @@
 use Rattle.std.proofs.Common.{◌≡◌, length, inl, inr, arith, ap, ◌∙◌, sym}
 use Rattle.std.proofs.lemmas.Bool.{cases_lt}
-use Rattle.encode_rre.specs.Breaks.{breaks}
-use Rattle.encode_rre.proofs.breaks.breaks_in.Goals as goal
+use Rattle.subrectangles.specs.Breaks.{breaks}
+use Rattle.subrectangles.proofs.breaks.breaks_in.Goals as goal
 
 pub returns : goal.returns
 returns c = elim (cases_lt 0 (length c.args.row.now)) [

@@ -1,6 +1,6 @@
 use Rattle.std.proofs.Common.{◌≡◌, ◌≤◌, ◌+◌, length}
-use Rattle.encode_rre.specs.Breaks.{breaks}
-use Rattle.encode_rre.proofs.breaks.breaks_in.Given as goal
+use Rattle.subrectangles.specs.Breaks.{breaks}
+use Rattle.subrectangles.proofs.breaks.breaks_in.Given as goal
 
 -- the places passed are counted
 abbrev pub invariant-loop-x : goal.invariant-loop-x

@@ -1,13 +1,13 @@
 use Rattle.std.proofs.Common.{◌≡◌, ℕ, ◌+◌, ◌-◌, ◌*◌, ◌^◌, ◌≤◌, List, length, arith, ap, sym, subst, ◌∙◌}
 use Rattle.std.specs.List.{flat_map, range_with_len}
 use Rattle.std.proofs.Math.Nat.{mul-le-mul}
-use Rattle.encode_rre.specs.Breaks.{breaks}
-use Rattle.encode_rre.specs.Subrectangles.{row_at, subrectangles_in}
-use Rattle.encode_rre.specs.Pixels.{pixel_lines, pixels_in}
-use Rattle.encode_rre.proofs.Early.{breaks_small, rows_breaks, enough}
-use Rattle.encode_rre.proofs.RowsAsPixels.{next_rows}
-use Rattle.encode_rre.specs.Scans.{rows_count, fewer_rows}
-use Rattle.encode_rre.proofs.breaks.has_too_many.Goals as goal
+use Rattle.subrectangles.specs.Breaks.{breaks}
+use Rattle.subrectangles.specs.Subrectangles.{row_at, subrectangles_in}
+use Rattle.subrectangles.specs.Pixels.{pixel_lines, pixels_in}
+use Rattle.subrectangles.proofs.Early.{breaks_small, rows_breaks, enough}
+use Rattle.subrectangles.proofs.RowsAsPixels.{next_rows}
+use Rattle.subrectangles.specs.Scans.{rows_count, fewer_rows}
+use Rattle.subrectangles.proofs.breaks.has_too_many.Goals as goal
 
 pub overflow_add-count : goal.overflow_add-count
 overflow_add-count c =

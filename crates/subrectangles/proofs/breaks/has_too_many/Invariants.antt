@@ -1,8 +1,8 @@
 use Rattle.std.proofs.Common.{◌≤◌, ℕ, ◌+◌, ◌-◌, ◌*◌, length}
 use Rattle.std.specs.List.{flat_map, range_with_len}
-use Rattle.encode_rre.specs.Subrectangles.{subrectangles_in}
-use Rattle.encode_rre.specs.Pixels.{pixel_lines, HasRows}
-use Rattle.encode_rre.proofs.breaks.has_too_many.Given as goal
+use Rattle.subrectangles.specs.Subrectangles.{subrectangles_in}
+use Rattle.subrectangles.specs.Pixels.{pixel_lines, HasRows}
+use Rattle.subrectangles.proofs.breaks.has_too_many.Given as goal
 
 -- each row passed has its subrectangles, and at most as many places of the background as half of its width
 abbrev pub invariant-loop-y : goal.invariant-loop-y

@@ -3,13 +3,13 @@ use Rattle.std.specs.List.{flat_map, range_with_len}
 use Rattle.std.proofs.lemmas.Bool.{ltb-true}
 use Rattle.std.proofs.Math.Nat.{mul-le-mul}
 use Rattle.std.proofs.lemmas.List.{get_or-replicate}
-use Rattle.encode_rre.specs.Breaks.{breaks, breaks_like}
-use Rattle.encode_rre.specs.Subrectangles.{row_at, subrectangles_in}
-use Rattle.encode_rre.specs.Pixels.{pixel_lines, pixels_in}
-use Rattle.encode_rre.proofs.Early.{breaks_small, like_small, rows_kinds}
-use Rattle.encode_rre.proofs.RowsAsPixels.{next_rows}
-use Rattle.encode_rre.specs.Scans.{rows_count, fewer_rows}
-use Rattle.encode_rre.proofs.breaks.has_too_many_kinds.Goals as goal
+use Rattle.subrectangles.specs.Breaks.{breaks, breaks_like}
+use Rattle.subrectangles.specs.Subrectangles.{row_at, subrectangles_in}
+use Rattle.subrectangles.specs.Pixels.{pixel_lines, pixels_in}
+use Rattle.subrectangles.proofs.Early.{breaks_small, like_small, rows_kinds}
+use Rattle.subrectangles.proofs.RowsAsPixels.{next_rows}
+use Rattle.subrectangles.specs.Scans.{rows_count, fewer_rows}
+use Rattle.subrectangles.proofs.breaks.has_too_many_kinds.Goals as goal
 
 zeroes : (k m : ℕ) → k < 251 → get_or {A = ℕ} (replicate {A = ℕ} 251 0) k 0 ≤ m
 zeroes k m lt = omega (arith, get_or-replicate {A = ℕ} 251 k 0 0 lt)

@@ -1,5 +1,5 @@
-use Rattle.encode_rre.specs.Pixels.{HaveRoom}
-use Rattle.encode_rre.proofs.breaks.may_have_too_many.Given as goal
+use Rattle.subrectangles.specs.Pixels.{HaveRoom}
+use Rattle.subrectangles.proofs.breaks.may_have_too_many.Given as goal
 
 -- there is room for two rows
 abbrev pub invariant-loop-k : goal.invariant-loop-k

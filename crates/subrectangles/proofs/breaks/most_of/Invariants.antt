@@ -1,5 +1,5 @@
 use Rattle.std.proofs.Common.{ℕ, ◌<◌, ◌≤◌, get_or}
-use Rattle.encode_rre.proofs.breaks.most_of.Given as goal
+use Rattle.subrectangles.proofs.breaks.most_of.Given as goal
 
 -- none of those passed is greater
 abbrev pub invariant-loop-count : goal.invariant-loop-count

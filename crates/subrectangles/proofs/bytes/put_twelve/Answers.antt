@@ -1,5 +1,5 @@
 use Rattle.std.proofs.Common.{rules}
-use Rattle.encode_rre.proofs.bytes.put_twelve.Goals as goal
+use Rattle.subrectangles.proofs.bytes.put_twelve.Goals as goal
 
 pub returns : goal.returns
 returns c =

@@ -1,8 +1,8 @@
 use Rattle.std.proofs.Common.{rules, ◌≡◌, ◌<◌, ◌∙◌, length, get_or, ap, arith}
 use Rattle.pixel_translate.specs.Pixel.{pixel}
-use Rattle.encode_rre.proofs.Written.{put_more}
-use Rattle.encode_rre.proofs.pixels.write_each.Goals.{then-piece-x, else-piece-x}
-use Rattle.encode_rre.proofs.pixels.write_each.Goals as goal
+use Rattle.subrectangles.proofs.Written.{put_more}
+use Rattle.subrectangles.proofs.pixels.write_each.Goals.{then-piece-x, else-piece-x}
+use Rattle.subrectangles.proofs.pixels.write_each.Goals as goal
 
 pub loop-x-preserved : goal.loop-x-preserved
 loop-x-preserved c =

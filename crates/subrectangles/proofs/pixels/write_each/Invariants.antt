@@ -1,6 +1,6 @@
 use Rattle.std.proofs.Common.{◌≡◌, take, map}
 use Rattle.pixel_translate.specs.Pixel.{pixel}
-use Rattle.encode_rre.proofs.pixels.write_each.Given as goal
+use Rattle.subrectangles.proofs.pixels.write_each.Given as goal
 
 -- the colours passed are translated, and so is the last of them
 abbrev pub invariant-loop-x : goal.invariant-loop-x

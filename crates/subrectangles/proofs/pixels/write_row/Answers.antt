@@ -3,8 +3,8 @@ use Rattle.std.proofs.lemmas.List.{length-map, length-drop, length-take-le}
 use Rattle.std.proofs.lemmas.Slice.{take-put_mid}
 use borrow.Rule.Slice.PartMut.{put_mid, same_len_mid}
 use Rattle.pixel_translate.specs.Pixel.{pixel}
-use Rattle.encode_rre.proofs.Written.{piece_more}
-use Rattle.encode_rre.proofs.pixels.write_row.Goals as goal
+use Rattle.subrectangles.proofs.Written.{piece_more}
+use Rattle.subrectangles.proofs.pixels.write_row.Goals as goal
 
 pub loop-from-preserved : goal.loop-from-preserved
 loop-from-preserved c =

@@ -1,6 +1,6 @@
 use Rattle.std.proofs.Common.{◌≡◌, ◌≤◌, ◌-◌, length, take, map}
 use Rattle.pixel_translate.specs.Pixel.{pixel}
-use Rattle.encode_rre.proofs.pixels.write_row.Given as goal
+use Rattle.subrectangles.proofs.pixels.write_row.Given as goal
 
 -- the colours passed are translated
 abbrev pub invariant-loop-from : goal.invariant-loop-from

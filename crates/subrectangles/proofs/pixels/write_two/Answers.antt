@@ -1,8 +1,8 @@
 use Rattle.std.proofs.Common.{rules, ◌≡◌, ◌<◌, ◌≤◌, ◌∙◌, length, get_or, sym, ap, arith}
 use Rattle.pixel_translate.specs.Pixel.{pixel}
-use Rattle.encode_rre.proofs.Written.{put_more, byte_small, other_of}
-use Rattle.encode_rre.proofs.pixels.write_two.Goals.{then-colour-one, else-colour-one}
-use Rattle.encode_rre.proofs.pixels.write_two.Goals as goal
+use Rattle.subrectangles.proofs.Written.{put_more, byte_small, other_of}
+use Rattle.subrectangles.proofs.pixels.write_two.Goals.{then-colour-one, else-colour-one}
+use Rattle.subrectangles.proofs.pixels.write_two.Goals as goal
 
 pub loop-x-preserved : goal.loop-x-preserved
 loop-x-preserved c =

@@ -1,6 +1,6 @@
 use Rattle.std.proofs.Common.{◌≡◌, ◌≤◌, take, map}
 use Rattle.pixel_translate.specs.Pixel.{pixel}
-use Rattle.encode_rre.proofs.pixels.write_two.Given as goal
+use Rattle.subrectangles.proofs.pixels.write_two.Given as goal
 
 -- where no place has a third colour, the colours passed are translated
 abbrev pub invariant-loop-x : goal.invariant-loop-x

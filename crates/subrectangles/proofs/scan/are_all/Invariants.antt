@@ -1,5 +1,5 @@
 use Rattle.std.proofs.Common.{◌≡◌, ℕ, ◌<◌, ◌≤◌, get_or}
-use Rattle.encode_rre.proofs.scan.are_all.Given as goal
+use Rattle.subrectangles.proofs.scan.are_all.Given as goal
 
 -- where none is another, the pixels passed are the one, and the other way round
 abbrev pub invariant-loop-other : goal.invariant-loop-other

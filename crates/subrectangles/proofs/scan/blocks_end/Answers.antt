@@ -1,7 +1,7 @@
 use Rattle.std.proofs.Common.{inl, inr, arith}
 use Rattle.std.proofs.lemmas.Bool.{cases_lt}
-use Rattle.encode_rre.proofs.Ends.{part}
-use Rattle.encode_rre.proofs.scan.blocks_end.Goals as goal
+use Rattle.subrectangles.proofs.Ends.{part}
+use Rattle.subrectangles.proofs.scan.blocks_end.Goals as goal
 
 pub loop-x-preserved : goal.loop-x-preserved
 loop-x-preserved c = record {

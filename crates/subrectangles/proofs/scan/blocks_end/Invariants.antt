@@ -1,5 +1,5 @@
 use Rattle.std.proofs.Common.{◌≡◌, ℕ, ◌<◌, ◌≤◌, ◌-◌, get_or, length}
-use Rattle.encode_rre.proofs.scan.blocks_end.Given as goal
+use Rattle.subrectangles.proofs.scan.blocks_end.Given as goal
 
 -- the pixels passed are the one
 abbrev pub invariant-loop-x : goal.invariant-loop-x

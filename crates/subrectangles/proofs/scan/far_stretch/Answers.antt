@@ -1,6 +1,6 @@
 use Rattle.std.proofs.Common.{◌+◌, ◌-◌, ◌≡◌, ℕ, get_or, length, arith, ap, ◌∙◌, sym}
-use Rattle.encode_rre.specs.Scans.{stretch_is}
-use Rattle.encode_rre.proofs.scan.far_stretch.Goals as goal
+use Rattle.subrectangles.specs.Scans.{stretch_is}
+use Rattle.subrectangles.proofs.scan.far_stretch.Goals as goal
 
 pub returns-then-row-x-clause-same : goal.returns-then-row-x-clause-same
 returns-then-row-x-clause-same c =

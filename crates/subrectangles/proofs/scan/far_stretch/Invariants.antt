@@ -1,5 +1,5 @@
 use Rattle.std.proofs.Common.{◌≡◌, ℕ, ◌<◌, ◌≤◌, get_or}
-use Rattle.encode_rre.proofs.scan.far_stretch.Given as goal
+use Rattle.subrectangles.proofs.scan.far_stretch.Given as goal
 
 -- the pixels passed are the one at the start
 abbrev pub invariant-loop-x : goal.invariant-loop-x

@@ -1,7 +1,7 @@
 use Rattle.std.proofs.Common.{◌≡◌, length, arith, rules, subst}
-use Rattle.encode_rre.specs.Starts.{Found}
-use Rattle.encode_rre.proofs.Starts.{found_all}
-use Rattle.encode_rre.proofs.scan.find_runs.Goals as goal
+use Rattle.subrectangles.specs.Starts.{Found}
+use Rattle.subrectangles.proofs.Starts.{found_all}
+use Rattle.subrectangles.proofs.scan.find_runs.Goals as goal
 
 pub loop-x-preserved : goal.loop-x-preserved
 loop-x-preserved c = record {

@@ -1,6 +1,6 @@
 use Rattle.std.proofs.Common.{◌≡◌, ◌-◌, length}
-use Rattle.encode_rre.specs.Starts.{Found}
-use Rattle.encode_rre.proofs.scan.find_runs.Given as goal
+use Rattle.subrectangles.specs.Starts.{Found}
+use Rattle.subrectangles.proofs.scan.find_runs.Given as goal
 
 -- the runs that begin in the places passed are found
 abbrev pub invariant-loop-x : goal.invariant-loop-x

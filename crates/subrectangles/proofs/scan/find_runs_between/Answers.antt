@@ -1,6 +1,6 @@
 use Rattle.std.proofs.Common.{◌≡◌, ℕ, ◌+◌, ◌-◌, get_or, ap, arith, rules}
-use Rattle.encode_rre.proofs.Starts.{found_step}
-use Rattle.encode_rre.proofs.scan.find_runs_between.Goals as goal
+use Rattle.subrectangles.proofs.Starts.{found_step}
+use Rattle.subrectangles.proofs.scan.find_runs_between.Goals as goal
 
 pub loop-x-preserved : goal.loop-x-preserved
 loop-x-preserved c = record {

@@ -1,9 +1,9 @@
 use Rattle.std.proofs.Common.{◌≡◌, ◌∙◌, true, refl, arith, sym}
-use Rattle.encode_rre.specs.Subrectangles.{has_run}
-use Rattle.encode_rre.proofs.Ends.{Beside, Misfits, part, whole, has_where, has_of, none_where, false_unless, same_tests}
-use Rattle.encode_rre.specs.Scans.{unequal}
-use Rattle.encode_rre.proofs.scan.has_run.Goals as goal
-use Rattle.encode_rre.proofs.scan.has_run.Goals.{After-from-right}
+use Rattle.subrectangles.specs.Subrectangles.{has_run}
+use Rattle.subrectangles.proofs.Ends.{Beside, Misfits, part, whole, has_where, has_of, none_where, false_unless, same_tests}
+use Rattle.subrectangles.specs.Scans.{unequal}
+use Rattle.subrectangles.proofs.scan.has_run.Goals as goal
+use Rattle.subrectangles.proofs.scan.has_run.Goals.{After-from-right}
 
 beside : (c : After-from-right) → Beside c.args.row.now c.args.run c.saturating_sub.result c.min.result
 beside c = record { some = c.requires.some; inside = c.requires.inside; before = omega (arith, c.saturating_sub.ensures); behind = λ lt. omega (arith, lt, c.min.ensures) }

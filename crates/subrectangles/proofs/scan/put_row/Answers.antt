@@ -1,12 +1,12 @@
 use Rattle.std.proofs.Common.{flat_map, ◌≡◌, ◌≤◌, ◌<◌, ◌++◌, ℕ, ◌+◌, ◌-◌, List, length, arith, sym, ap, ◌∙◌, get_or, subst, Vec, Global}
-use Rattle.encode_rre.specs.Begins.{begins_more, on_err}
-use Rattle.encode_rre.specs.Starts.{AreRuns}
-use Rattle.encode_rre.specs.Subrectangles.{row_at, stretch, begins_run}
-use Rattle.encode_rre.specs.Rre.{subrectangle_bytes}
-use Rattle.encode_rre.specs.Scans.{Step, found_before, scan_step, put_yes, put_no}
-use Rattle.encode_rre.specs.Pixels.{pixel_lines}
-use Rattle.encode_rre.proofs.scan.put_row.Goals as goal
-use Rattle.encode_rre.proofs.scan.put_row.Goals.{in-Some+in_ok-put_subrectangle, in_default}
+use Rattle.subrectangles.specs.Begins.{begins_more, on_err}
+use Rattle.subrectangles.specs.Starts.{AreRuns}
+use Rattle.subrectangles.specs.Subrectangles.{row_at, stretch, begins_run}
+use Rattle.subrectangles.specs.Bytes.{subrectangle_bytes}
+use Rattle.subrectangles.specs.Scans.{Step, found_before, scan_step, put_yes, put_no}
+use Rattle.subrectangles.specs.Pixels.{pixel_lines}
+use Rattle.subrectangles.proofs.scan.put_row.Goals as goal
+use Rattle.subrectangles.proofs.scan.put_row.Goals.{in-Some+in_ok-put_subrectangle, in_default}
 
 pub loop-k-preserved : goal.loop-k-preserved
 loop-k-preserved c =

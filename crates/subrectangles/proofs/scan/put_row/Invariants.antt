@@ -1,9 +1,9 @@
 use Rattle.std.proofs.Common.{◌≡◌, ◌<◌, ◌++◌, true, get_or, flat_map}
-use Rattle.encode_rre.specs.Rre.{subrectangle_bytes}
-use Rattle.encode_rre.specs.Subrectangles.{row_at, begins_run}
-use Rattle.encode_rre.specs.Scans.{found_before}
-use Rattle.encode_rre.specs.Pixels.{pixel_lines}
-use Rattle.encode_rre.proofs.scan.put_row.Given as goal
+use Rattle.subrectangles.specs.Bytes.{subrectangle_bytes}
+use Rattle.subrectangles.specs.Subrectangles.{row_at, begins_run}
+use Rattle.subrectangles.specs.Scans.{found_before}
+use Rattle.subrectangles.specs.Pixels.{pixel_lines}
+use Rattle.subrectangles.proofs.scan.put_row.Given as goal
 
 -- a run begins at the next start, and the subrectangles that begin before it are there
 abbrev pub invariant-loop-k : goal.invariant-loop-k

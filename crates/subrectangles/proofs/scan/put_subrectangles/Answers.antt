@@ -1,15 +1,15 @@
 use Rattle.std.proofs.Common.{◌≡◌, ◌++◌, ◌+◌, ◌-◌, ℕ, List, length, length-append, flat_map, arith, ap, ◌∙◌}
 use Rattle.std.specs.List.{range_with_len}
 use Rattle.std.specs.Vec.{with_items}
-use Rattle.encode_rre.specs.declared.Subrectangle.{Subrectangle}
-use Rattle.encode_rre.specs.Begins.{begins_more}
-use Rattle.encode_rre.specs.Pixels.{pixel_lines, pixels_in}
-use Rattle.encode_rre.specs.Rre.{subrectangle_bytes}
-use Rattle.encode_rre.specs.Scans.{rows_count}
-use Rattle.encode_rre.specs.Subrectangles.{subrectangles_in}
-use Rattle.encode_rre.proofs.Coded.{rows_more, rows_fewer}
-use Rattle.encode_rre.proofs.RowsAsPixels.{next_rows}
-use Rattle.encode_rre.proofs.scan.put_subrectangles.Goals as goal
+use Rattle.subrectangles.specs.declared.Subrectangle.{Subrectangle}
+use Rattle.subrectangles.specs.Begins.{begins_more}
+use Rattle.subrectangles.specs.Pixels.{pixel_lines, pixels_in}
+use Rattle.subrectangles.specs.Bytes.{subrectangle_bytes}
+use Rattle.subrectangles.specs.Scans.{rows_count}
+use Rattle.subrectangles.specs.Subrectangles.{subrectangles_in}
+use Rattle.subrectangles.proofs.Coded.{rows_more, rows_fewer}
+use Rattle.subrectangles.proofs.RowsAsPixels.{next_rows}
+use Rattle.subrectangles.proofs.scan.put_subrectangles.Goals as goal
 
 pub returns-in_err-put_row-clause-front : goal.returns-in_err-put_row-clause-front
 returns-in_err-put_row-clause-front c = begins_more c.args.out.now.items c.loop-y.out.items c.put_row.new.out.items _ c.loop-y.invariant.found c.in_err-put_row.ensures.err

@@ -1,9 +1,9 @@
 use Rattle.std.proofs.Common.{◌≡◌, ◌++◌, ◌-◌, ◌<◌, length, flat_map}
 use Rattle.std.specs.List.{range_with_len}
-use Rattle.encode_rre.specs.Rre.{subrectangle_bytes}
-use Rattle.encode_rre.specs.Subrectangles.{subrectangles_in}
-use Rattle.encode_rre.specs.Pixels.{pixel_lines, HasRows}
-use Rattle.encode_rre.proofs.scan.put_subrectangles.Given as goal
+use Rattle.subrectangles.specs.Bytes.{subrectangle_bytes}
+use Rattle.subrectangles.specs.Subrectangles.{subrectangles_in}
+use Rattle.subrectangles.specs.Pixels.{pixel_lines, HasRows}
+use Rattle.subrectangles.proofs.scan.put_subrectangles.Given as goal
 
 -- the subrectangles of the rows passed are there
 abbrev pub invariant-loop-y : goal.invariant-loop-y

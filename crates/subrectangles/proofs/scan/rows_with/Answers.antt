@@ -1,8 +1,8 @@
 use Rattle.std.proofs.Common.{◌+◌, ◌-◌, ◌≡◌, ℕ, List, length, arith, ap, ◌∙◌, sym}
-use Rattle.encode_rre.specs.Subrectangles.{row_at, has_run}
-use Rattle.encode_rre.specs.Scans.{height_is, rows_count}
-use Rattle.encode_rre.specs.Lines.{lines_in, values_in}
-use Rattle.encode_rre.proofs.scan.rows_with.Goals as goal
+use Rattle.subrectangles.specs.Subrectangles.{row_at, has_run}
+use Rattle.subrectangles.specs.Scans.{height_is, rows_count}
+use Rattle.subrectangles.specs.Lines.{lines_in, values_in}
+use Rattle.subrectangles.proofs.scan.rows_with.Goals as goal
 
 pub returns-then-not-has_run-clause-rows : goal.returns-then-not-has_run-clause-rows
 returns-then-not-has_run-clause-rows c =

@@ -1,7 +1,7 @@
 use Rattle.std.proofs.Common.{◌≡◌, ℕ, ◌<◌, ◌≤◌, true}
-use Rattle.encode_rre.specs.Subrectangles.{row_at, has_run}
-use Rattle.encode_rre.specs.Lines.{lines_in}
-use Rattle.encode_rre.proofs.scan.rows_with.Given as goal
+use Rattle.subrectangles.specs.Subrectangles.{row_at, has_run}
+use Rattle.subrectangles.specs.Lines.{lines_in}
+use Rattle.subrectangles.proofs.scan.rows_with.Given as goal
 
 -- the rows passed have the run
 abbrev pub invariant-loop-y : goal.invariant-loop-y

@@ -1,6 +1,6 @@
 use Rattle.std.proofs.Common.{◌+◌, ◌-◌, ◌≡◌, ℕ, get_or, arith, ap, ◌∙◌, sym}
-use Rattle.encode_rre.specs.Scans.{stretch_is}
-use Rattle.encode_rre.proofs.scan.stretch_from.Goals as goal
+use Rattle.subrectangles.specs.Scans.{stretch_is}
+use Rattle.subrectangles.proofs.scan.stretch_from.Goals as goal
 
 pub returns-then-row-x-clause-same : goal.returns-then-row-x-clause-same
 returns-then-row-x-clause-same c =

@@ -1,10 +1,10 @@
 use Rattle.std.proofs.Common.{◌≡◌, ◌-◌, ℕ, List, length, map, get_or, ap, sym, ◌∙◌, arith}
 use Rattle.std.proofs.lemmas.List.{get_or-map}
 use Rattle.pixel_translate.specs.Pixel.{pixel}
-use Rattle.encode_rre.specs.Lines.{values_in, lines_in}
-use Rattle.encode_rre.specs.Subrectangles.{row_at}
-use Rattle.encode_rre.proofs.RowsAsPixels.{row_map, translated_length}
-use Rattle.encode_rre.proofs.scan.translated_subrectangle_at.Goals as goal
+use Rattle.subrectangles.specs.Lines.{values_in, lines_in}
+use Rattle.subrectangles.specs.Subrectangles.{row_at}
+use Rattle.subrectangles.proofs.RowsAsPixels.{row_map, translated_length}
+use Rattle.subrectangles.proofs.scan.translated_subrectangle_at.Goals as goal
 
 pub has_run-requires-clause-inside : goal.has_run-requires-clause-inside
 has_run-requires-clause-inside c =

@@ -1,6 +1,6 @@
 use Rattle.std.proofs.Common.{◌≡◌, ℕ, ◌<◌, get_or}
 use Rattle.pixel_translate.specs.Pixel.{pixel}
-use Rattle.encode_rre.proofs.colour_runs.ColourRun.has_all.Given as goal
+use Rattle.subrectangles.proofs.colour_runs.ColourRun.has_all.Given as goal
 
 -- the colours passed have the run's pixel
 abbrev pub invariant-loop-colour : goal.invariant-loop-colour

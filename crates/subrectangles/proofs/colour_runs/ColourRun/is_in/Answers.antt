@@ -1,11 +1,11 @@
 use Rattle.std.proofs.Common.{◌≡◌, ◌+◌, ◌-◌, ◌<◌, true, false, length, get_or, sym, ◌∙◌, arith}
 use Rattle.std.proofs.lemmas.Bool.{eqb-true, eq-eqb}
 use Rattle.pixel_translate.specs.Pixel.{pixel}
-use Rattle.encode_rre.proofs.Ends.{same_tests}
-use Rattle.encode_rre.proofs.ColourRuns.{none_behind, all_of, has_where}
-use Rattle.encode_rre.proofs.colour_runs.ColourRun.is_in.Goals as goal
-use Rattle.encode_rre.proofs.colour_runs.ColourRun.is_in.Goals.{else-start-ne0-via-then-start-ne0+else-has, else-start-ne0-via-else-start-ne0}
-use Rattle.encode_rre.proofs.colour_runs.ColourRun.is_in.Goals.{else-end-row-via-then-end-row+else-has-2, else-end-row-via-else-end-row}
+use Rattle.subrectangles.proofs.Ends.{same_tests}
+use Rattle.subrectangles.proofs.ColourRuns.{none_behind, all_of, has_where}
+use Rattle.subrectangles.proofs.colour_runs.ColourRun.is_in.Goals as goal
+use Rattle.subrectangles.proofs.colour_runs.ColourRun.is_in.Goals.{else-start-ne0-via-then-start-ne0+else-has, else-start-ne0-via-else-start-ne0}
+use Rattle.subrectangles.proofs.colour_runs.ColourRun.is_in.Goals.{else-end-row-via-then-end-row+else-has-2, else-end-row-via-else-end-row}
 
 pub returns-then-has-2 : goal.returns-then-has-2
 returns-then-has-2 c =

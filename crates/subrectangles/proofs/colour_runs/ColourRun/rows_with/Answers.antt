@@ -1,12 +1,12 @@
 use Rattle.std.proofs.Common.{◌+◌, ◌-◌, ◌≡◌, inl, inr, ℕ, List, length, map, arith, ap, ◌∙◌, sym}
 use Rattle.std.proofs.lemmas.Bool.{cases_lt}
 use Rattle.pixel_translate.specs.Pixel.{pixel}
-use Rattle.encode_rre.specs.Subrectangles.{row_at, has_run}
-use Rattle.encode_rre.specs.Scans.{height_is, rows_count}
-use Rattle.encode_rre.specs.Lines.{values_in}
-use Rattle.encode_rre.specs.Pixels.{translated_lines}
-use Rattle.encode_rre.proofs.RowsAsPixels.{row_map}
-use Rattle.encode_rre.proofs.colour_runs.ColourRun.rows_with.Goals as goal
+use Rattle.subrectangles.specs.Subrectangles.{row_at, has_run}
+use Rattle.subrectangles.specs.Scans.{height_is, rows_count}
+use Rattle.subrectangles.specs.Lines.{values_in}
+use Rattle.subrectangles.specs.Pixels.{translated_lines}
+use Rattle.subrectangles.proofs.RowsAsPixels.{row_map}
+use Rattle.subrectangles.proofs.colour_runs.ColourRun.rows_with.Goals as goal
 
 pub returns-then-not-is_in-clause-rows : goal.returns-then-not-is_in-clause-rows
 returns-then-not-is_in-clause-rows c =

@@ -1,7 +1,7 @@
 use Rattle.std.proofs.Common.{◌≡◌, ℕ, List, sym, ◌∙◌, rules}
-use Rattle.encode_rre.specs.Lines.{lines_in}
-use Rattle.encode_rre.specs.Scans.{none_in_repeated}
-use Rattle.encode_rre.proofs.lines.Lines.repeats.Goals as goal
+use Rattle.subrectangles.specs.Lines.{lines_in}
+use Rattle.subrectangles.specs.Scans.{none_in_repeated}
+use Rattle.subrectangles.proofs.lines.Lines.repeats.Goals as goal
 
 pub returns-then-y-gt0 : goal.returns-then-y-gt0
 returns-then-y-gt0 c same b =

@@ -1,10 +1,10 @@
 use Rattle.std.proofs.Common.{◌≡◌, ◌+◌, ◌-◌, ◌*◌, ◌<◌, ℕ, List, [], length, take, drop, map, refl, Bor, arith, sym, ap, ◌∙◌}
 use Rattle.std.proofs.lemmas.List.{length-map, get_or-map}
-use Rattle.encode_rre.specs.Laid.{all_in}
-use Rattle.encode_rre.specs.Lines.{values_in}
-use Rattle.encode_rre.specs.Scans.{row_is}
-use Rattle.encode_rre.proofs.Apart.{apart_row}
-use Rattle.encode_rre.proofs.lines.Lines.row.Goals as goal
+use Rattle.subrectangles.specs.Laid.{all_in}
+use Rattle.subrectangles.specs.Lines.{values_in}
+use Rattle.subrectangles.specs.Scans.{row_is}
+use Rattle.subrectangles.specs.Apart.{apart_row}
+use Rattle.subrectangles.proofs.lines.Lines.row.Goals as goal
 
 pub returns-in-Whole-clause-row : goal.returns-in-Whole-clause-row
 returns-in-Whole-clause-row c =

@@ -1,6 +1,6 @@
 use Rattle.std.proofs.Common.{◌+◌, ◌-◌, ◌*◌, ◌≡◌, ℕ, take, drop, arith, sym, ap, ◌∙◌}
-use Rattle.encode_rre.specs.Scans.{row_is}
-use Rattle.encode_rre.proofs.rows.Rows.row.Goals as goal
+use Rattle.subrectangles.specs.Scans.{row_is}
+use Rattle.subrectangles.proofs.rows.Rows.row.Goals as goal
 
 pub returns-clause-row : goal.returns-clause-row
 returns-clause-row c =

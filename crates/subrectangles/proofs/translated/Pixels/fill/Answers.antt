@@ -1,8 +1,8 @@
 use Rattle.std.proofs.Common.{map, ap, sym, ◌∙◌}
 use Rattle.pixel_translate.specs.Pixel.{pixel}
-use Rattle.encode_rre.specs.Lines.{values_in}
-use Rattle.encode_rre.proofs.RowsAsPixels.{row_map}
-use Rattle.encode_rre.proofs.translated.Pixels.fill.Goals as goal
+use Rattle.subrectangles.specs.Lines.{values_in}
+use Rattle.subrectangles.proofs.RowsAsPixels.{row_map}
+use Rattle.subrectangles.proofs.translated.Pixels.fill.Goals as goal
 
 pub returns-in-Some : goal.returns-in-Some
 returns-in-Some c =

@@ -1,9 +1,9 @@
 use Rattle.std.proofs.Common.{rules, ◌≡◌, ℕ, ◌-◌, length, map, arith, sym, ap, ◌∙◌, Vec, Global}
 use Rattle.std.proofs.lemmas.List.{length-map, with_items_is}
 use Rattle.pixel_translate.specs.Pixel.{pixel}
-use Rattle.encode_rre.specs.Lines.{values_in}
-use Rattle.encode_rre.proofs.RowsAsPixels.{on_some_map, row_map, same_rows, room_of}
-use Rattle.encode_rre.proofs.translated.Pixels.go_on.Goals as goal
+use Rattle.subrectangles.specs.Lines.{values_in}
+use Rattle.subrectangles.proofs.RowsAsPixels.{on_some_map, row_map, same_rows, room_of}
+use Rattle.subrectangles.proofs.translated.Pixels.go_on.Goals as goal
 
 pub copy_from_slice-requires : goal.copy_from_slice-requires
 copy_from_slice-requires c =

@@ -1,8 +1,8 @@
 use Rattle.std.proofs.Common.{rules, ◌≡◌, ◌-◌, sym, ◌∙◌, arith}
-use Rattle.encode_rre.specs.Pixels.{pixel_lines}
-use Rattle.encode_rre.specs.Scans.{none_in_repeated}
-use Rattle.encode_rre.proofs.RowsAsPixels.{same_rows}
-use Rattle.encode_rre.proofs.translated.Pixels.repeats.Goals as goal
+use Rattle.subrectangles.specs.Pixels.{pixel_lines}
+use Rattle.subrectangles.specs.Scans.{none_in_repeated}
+use Rattle.subrectangles.proofs.RowsAsPixels.{same_rows}
+use Rattle.subrectangles.proofs.translated.Pixels.repeats.Goals as goal
 
 pub returns-then-y-gt0 : goal.returns-then-y-gt0
 returns-then-y-gt0 c same b =
