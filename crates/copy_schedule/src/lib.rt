@@ -26,6 +26,9 @@ pub use log::joined_log;
 pub use marks::{Marks, Prepared, PreparedCut};
 use region::{Rect, Region};
 
+/// The error of a call that is refused memory.
+pub use std::alloc::AllocError as OutOfMemory;
+
 /// A law: in the order in which an update sends copies, none is drawn over what a later one is copied from.
 pub fn copies_are_in_order()
     ensures { copies_are_in_order }

@@ -12,6 +12,9 @@ use listed::Listed;
 use messages::Input;
 use std::alloc::AllocError;
 
+/// The error of a call that is refused memory.
+pub use std::alloc::AllocError as OutOfMemory;
+
 /// An input, and the viewer that it is from.
 #[derive(Debug, Drop)]
 pub struct Told {

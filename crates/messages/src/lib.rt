@@ -31,6 +31,9 @@ pub use writers::{
     put_update_head, put_version,
 };
 
+/// The error of a call that is refused memory.
+pub use std::alloc::AllocError as OutOfMemory;
+
 /// A version of the protocol, as it is served (RFC 6143 section 7.1.1 and appendix A).
 #[derive(Clone, Copy, Debug, PartialEq, Eq)]
 pub enum Version {

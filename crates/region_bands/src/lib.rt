@@ -24,14 +24,14 @@ use std::alloc::{AllocError, Global};
 use std::marker::Model;
 
 /// The columns of pixels from `from` up to `to`, without `to`.
-#[derive(Clone, Copy, Debug, PartialEq, Eq)]
+#[derive(Clone, Copy)]
 pub struct Interval {
     pub from: i32,
     pub to: i32,
 }
 
 /// The rows of pixels from `top` down to `bottom`, without `bottom`.
-#[derive(Clone, Copy, Debug, PartialEq, Eq)]
+#[derive(Clone, Copy)]
 pub struct Rows {
     pub top: i32,
     pub bottom: i32,

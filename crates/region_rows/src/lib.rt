@@ -15,7 +15,7 @@ use std::alloc::AllocError;
 use steps::{common_step, first_after, first_after_of, nearer, next_step, rows_start};
 
 /// Which places of two sets are kept.
-#[derive(Clone, Copy, Debug, PartialEq, Eq)]
+#[derive(Clone, Copy)]
 pub enum Keep {
     /// Those in either.
     Either,

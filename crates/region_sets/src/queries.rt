@@ -13,7 +13,7 @@ use crate::rows::{count_left, last_end, nearer, row_contains, rows_meet};
 use region_bands::{Interval, Reader, Rows};
 
 /// A rectangle of places.
-#[derive(Clone, Copy, Debug, PartialEq, Eq)]
+#[derive(Clone, Copy)]
 pub struct Rectangle {
     pub rows: Rows,
     pub columns: Interval,

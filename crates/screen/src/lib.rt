@@ -48,3 +48,6 @@ pub use source_pixels::{
 };
 pub use taking::rect_of;
 pub use viewer::{BitsPerPixel, Component, Encoding, PixelFormat, Pixels, Settings, Update};
+
+/// The error of a call that is refused memory.
+pub use std::alloc::AllocError as OutOfMemory;

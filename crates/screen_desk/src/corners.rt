@@ -10,7 +10,7 @@ use std::alloc::{AllocError, Global};
 
 /// The places (x, y) with x1 <= x < x2 and y1 <= y < y2; none where x1 >= x2 or y1 >= y2.
 #[repr(C)]
-#[derive(Clone, Copy, Debug, PartialEq, Eq)]
+#[derive(Clone, Copy)]
 pub struct Corners {
     pub x1: i32,
     pub y1: i32,

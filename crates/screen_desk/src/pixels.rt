@@ -19,7 +19,7 @@ pub const TOO_FEW_BYTES: i32 = -19;
 /// A format of pixels whose bits are a colour's components (`rfbPixelFormat` of `rfb.h`): of how many bytes a pixel is, 1 to 4; whether
 /// its highest byte comes first, 0 for no; and of each component the greatest value, which is its mask, and by how many bits it is shifted.
 #[repr(C)]
-#[derive(Clone, Copy, Debug, PartialEq, Eq)]
+#[derive(Clone, Copy)]
 pub struct PixelLayout {
     pub bytes_per_pixel: u32,
     pub big_endian: u32,

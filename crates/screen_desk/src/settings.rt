@@ -10,7 +10,7 @@ use screen::{BitsPerPixel, Encoding, PixelFormat, Pixels, ScreenError, Settings}
 
 /// What a viewer has set by its messages (RFC 6143, 7.3.1, 7.5.1 and 7.5.2).
 #[repr(C)]
-#[derive(Clone, Copy, Debug, PartialEq, Eq)]
+#[derive(Clone, Copy)]
 pub struct ViewerSettings {
     /// 1 where its ClientInit asked that other viewers stay connected; 0 before it. The server serves all all the same.
     pub shared: u32,

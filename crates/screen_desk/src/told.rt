@@ -7,7 +7,7 @@ use screen::Input;
 
 /// What a viewer told the application (RFC 6143, 7.5.4 to 7.5.6). What doesn't belong to its kind is 0.
 #[repr(C)]
-#[derive(Clone, Copy, Debug, PartialEq, Eq)]
+#[derive(Clone, Copy)]
 pub struct Told {
     /// The number of the viewer.
     pub viewer: u64,

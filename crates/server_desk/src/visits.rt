@@ -8,7 +8,7 @@ use event_loop::Ended;
 
 /// A viewer came, or it went. What doesn't belong to its kind is 0.
 #[repr(C)]
-#[derive(Clone, Copy, Debug, PartialEq, Eq)]
+#[derive(Clone, Copy)]
 pub struct Visit {
     /// The number of the viewer: they are counted from 1, as they come.
     pub viewer: u64,

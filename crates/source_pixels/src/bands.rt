@@ -13,7 +13,7 @@ const SLACK: usize = 64;
 pub const MOST_PLACES: usize = 16_384;
 
 /// The columns from one to below another, in the rows from one to below another.
-#[derive(Clone, Copy, Debug)]
+#[derive(Clone, Copy)]
 pub struct Band {
     pub top: usize,
     pub bottom: usize,

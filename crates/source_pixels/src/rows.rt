@@ -12,7 +12,7 @@ const BLOCK: usize = 64;
 
 /// Where a row differs from a row of a picture: the columns from the first to behind the last of the places that differ, and how
 /// many places differ.
-#[derive(Clone, Copy, Debug, PartialEq, Eq)]
+#[derive(Clone, Copy)]
 pub struct RowDifference {
     pub from: usize,
     pub to: usize,

@@ -17,6 +17,9 @@ use slab::Slab;
 use std::alloc::{AllocError, Global};
 use std::marker::Model;
 
+/// The error of a call that is refused memory.
+pub use std::alloc::AllocError as OutOfMemory;
+
 /// The id of a list. It stays the list's until that list is freed.
 #[derive(Clone, Copy, Debug, PartialEq, Eq)]
 pub struct ListId {

@@ -6,7 +6,8 @@ use std::marker::Brand;
 use std::sync::Wait;
 use std::sync::ledger::{Blank, Ledger};
 use std::test::Fail;
-use update_sender::{Config, History, Rect, ScreenError, Shared};
+use update_sender::viewer_receipt::Receipt;
+use update_sender::{Config, Ended, FinishError, History, Rect, ScreenError, Shared, check};
 
 fn drawn<L: Ledger, R: Wait>(rt: &R, alloc: Global, blank: Blank) -> Result<bool, ScreenError>
     requires name { blank.name ≡ L.name }
@@ -37,5 +38,33 @@ fn drawn<L: Ledger, R: Wait>(rt: &R, alloc: Global, blank: Blank) -> Result<bool
 #[test]
 fn a_screen_behind_a_lock(rt: HostRuntime) -> Result<(), Fail> {
     assert!(rt; drawn::<Brand, HostRuntime>(&rt, rt.alloc(), Blank::new(1))?);
+    Ok(())
+}
+
+/// Whether a run of no viewer is judged: a receipt of one is one too many.
+fn is_judged(alloc: Global) -> Result<bool, ScreenError> {
+    let config = Config {
+        width: 2,
+        height: 1,
+        name: Listed::from_slice(alloc, b"demo")?,
+        rects_per_update: 50,
+        history: History::Kept,
+    };
+    let receipt = Receipt {
+        viewer: 9,
+        pieces: 0,
+        cuts: 0,
+        heard: Listed::new(alloc),
+        sent: Listed::new(alloc),
+        ended: Ended::Closed,
+    };
+    let without = check(alloc, &config, &[], &[], &[]);
+    let with_one = check(alloc, &config, &[], &[], &[receipt]);
+    Ok(without.is_ok() && matches!(with_one, Err(FinishError::Missing { viewer: 9 })))
+}
+
+#[test]
+fn receipts_are_judged(rt: HostRuntime) -> Result<(), Fail> {
+    assert!(rt; is_judged(rt.alloc())?);
     Ok(())
 }

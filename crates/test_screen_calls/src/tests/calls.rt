@@ -1,13 +1,13 @@
 //! The calls that no line of a script makes, where there is memory: drawing by a rectangle or a region, `pending`, and updates
 //! that are encoded later. The bytes are written out from RFC 6143.
 
-use super::new_screen;
+use crate::tests::copies::{COPYING, Copying, copy};
+use crate::tests::screens::{new_screen, rect, region, request, say, sent, show};
 use region::Rect;
 use screen::{Screen, ScreenError, Update};
 use std::alloc::{AllocError, Global};
 use std::process::Abort;
 use std::test::Fail;
-use test_screens::{COPYING, Copying, copy, rect, region, request, say, sent, show};
 
 /// Whether these bytes were sent, or nothing where there are none.
 fn is_given(given: &Option<Vec<u8>>, bytes: &[u8]) -> bool {

@@ -1,14 +1,12 @@
 //! The calls that copy, as one.
 
-ghost use Rattle.std.specs.Prelude.{◌≡◌, OnErr};
-
-use crate::region;
+use super::screens::region;
 use region::Rect;
 use screen::{Screen, ScreenError};
 use std::alloc::Global;
 
 /// The calls that copy.
-#[derive(Clone, Copy, Debug)]
+#[derive(Clone, Copy)]
 pub enum Copying {
     /// The copy is made, to the places of a rectangle.
     DoRect,
@@ -35,9 +33,7 @@ pub fn copy(
     copying: Copying,
     to: Rect,
     by: (i32, i32),
-) -> Result<(), ScreenError>
-    ensures err { OnErr result (screen.new ≡ screen.old) }
-{
+) -> Result<(), ScreenError> {
     let (dx, dy) = by;
     match copying {
         Copying::DoRect => screen.do_copy_rect(to.x1, to.y1, to.x2, to.y2, dx, dy),

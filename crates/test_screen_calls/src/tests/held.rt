@@ -1,9 +1,8 @@
 //! What a screen holds, as it can be read, and the text of a refusal.
 
-use super::new_screen;
+use crate::tests::screens::{new_screen, rect, say};
 use screen::{Fault, Screen, ScreenError};
 use std::test::Fail;
-use test_screens::{rect, say};
 
 /// A place is painted, and viewer 5 sends what is no version.
 fn draw_and_fail(screen: &mut Screen) -> Result<(), ScreenError> {

@@ -6,11 +6,3 @@
 mod answers;
 mod kept;
 mod lists;
-
-use screen::{History, Screen, ScreenError};
-use std::alloc::Global;
-
-/// The lists' screen of 4 by 1.
-fn new_screen(alloc: Global, history: History) -> Result<Screen, ScreenError> {
-    test_screens::new_screen(alloc, (4, 1), 50, history)
-}

@@ -1,12 +1,11 @@
 //! How many entries of drawing stand in the log that the viewers share: each call that marks a place leaves one, any other none, and
 //! none is left where no viewer lacks one.
 
-use super::new_screen;
+use crate::tests::screens::{new_screen, open, rect, region, request, say, show};
 use screen::{Screen, ScreenError};
 use std::alloc::Global;
 use std::process::Abort;
 use std::test::Fail;
-use test_screens::{open, rect, region, request, say, show};
 
 /// So many entries stand in the log.
 fn expect_log(rt: &impl Abort, screen: &Screen, count: usize) {

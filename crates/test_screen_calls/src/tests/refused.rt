@@ -18,14 +18,8 @@ mod many;
 mod marks;
 mod named;
 
-use screen::{Answer, History, Screen, ScreenError, Update};
-use std::alloc::Global;
+use screen::{Answer, Screen, Update};
 use std::process::Abort;
-
-/// A screen of this size, of which an update has at most 50 rectangles.
-fn new_screen(alloc: Global, size: (u16, u16)) -> Result<Screen, ScreenError> {
-    test_screens::new_screen(alloc, size, 50, History::Kept)
-}
 
 /// A viewer sends bytes.
 fn hear_again(rt: &impl Abort, screen: &mut Screen, viewer: u64, piece: &[u8]) -> Answer {

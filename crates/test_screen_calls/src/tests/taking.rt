@@ -1,65 +1,44 @@
 //! What no clause says of taking pixels: that each call succeeds where there is memory. Colours are worked out by hand from RFC 6143,
 //! section 7.4.
 
+use crate::tests::screens::new_screen;
 use screen::{
-    BytesPerPixel, Component, Config, History, Listed, PixelSource, Rect, Screen, ScreenError,
-    SourceError, SourceFormat, TrueColour, rect_of,
+    BytesPerPixel, Component, PixelSource, Rect, Screen, ScreenError, SourceError, SourceFormat,
+    TrueColour, rect_of,
 };
 use std::alloc::{AllocError, Global};
 use std::test::Fail;
 
-/// A screen of 4 columns and 2 rows.
-fn small_screen(alloc: Global) -> Result<Screen, ScreenError> {
-    screen_of(alloc, 4, 2)
-}
-
-/// A screen of so many columns and rows.
-fn screen_of(alloc: Global, width: u32, height: u32) -> Result<Screen, ScreenError> {
-    let config = Config {
-        width,
-        height,
-        name: Listed::from_slice(alloc, b"demo")?,
-        rects_per_update: 50,
-        history: History::Kept,
-    };
-    Screen::new(alloc, config)
-}
-
-/// Components of 5, 6 and 5 bits, red highest.
-fn rgb565(big_endian: bool) -> SourceFormat<'static> {
-    SourceFormat::TrueColour(TrueColour {
-        bytes: BytesPerPixel::Two,
-        big_endian,
-        red: Component { max: 31, shift: 11 },
-        green: Component { max: 63, shift: 5 },
-        blue: Component { max: 31, shift: 0 },
-    })
-}
-
-/// Components of 3, 3 and 2 bits, red lowest.
-fn bgr233() -> SourceFormat<'static> {
-    SourceFormat::TrueColour(TrueColour {
-        bytes: BytesPerPixel::One,
-        big_endian: false,
-        red: Component { max: 7, shift: 0 },
-        green: Component { max: 7, shift: 3 },
-        blue: Component { max: 3, shift: 6 },
-    })
-}
-
-/// Components of whole bytes, red in the lowest.
-fn red_lowest(bytes: BytesPerPixel, big_endian: bool) -> SourceFormat<'static> {
+/// Red, green and blue, each by its greatest value and its shift.
+const fn components(
+    bytes: BytesPerPixel,
+    big_endian: bool,
+    [red, green, blue]: [(u16, u8); 3],
+) -> SourceFormat<'static> {
     SourceFormat::TrueColour(TrueColour {
         bytes,
         big_endian,
-        red: Component { max: 255, shift: 0 },
-        green: Component { max: 255, shift: 8 },
+        red: Component {
+            max: red.0,
+            shift: red.1,
+        },
+        green: Component {
+            max: green.0,
+            shift: green.1,
+        },
         blue: Component {
-            max: 255,
-            shift: 16,
+            max: blue.0,
+            shift: blue.1,
         },
     })
 }
+
+/// Components of 5, 6 and 5 bits, red highest; of 3, 3 and 2, red lowest; and of whole bytes, red in the lowest.
+const RGB565: [(u16, u8); 3] = [(31, 11), (63, 5), (31, 0)];
+
+const BGR233: [(u16, u8); 3] = [(7, 0), (7, 3), (3, 6)];
+
+const RED_LOWEST: [(u16, u8); 3] = [(255, 0), (255, 8), (255, 16)];
 
 /// How many places change where one row of two pixels is taken in at the place (1, 1), and whether they then have these colours.
 fn takes(
@@ -68,7 +47,7 @@ fn takes(
     format: SourceFormat<'_>,
     colours: [u32; 2],
 ) -> Result<Option<usize>, ScreenError> {
-    let mut screen = small_screen(alloc)?;
+    let mut screen = new_screen(alloc, (4, 2))?;
     let Ok(source) = PixelSource::new(bytes, bytes.len(), 2, 1, format) else {
         return Ok(None);
     };
@@ -78,87 +57,70 @@ fn takes(
     Ok(if are_there { Some(places) } else { None })
 }
 
-#[test]
-fn pixels_of_32_bits(rt: HostRuntime) -> Result<(), Fail> {
-    let format = SourceFormat::TrueColour(TrueColour::server());
-    let bytes = b"\x00\x80\xff\x55\x03\x02\x01\x00";
-    assert_eq!(rt;
-        takes(rt.alloc(), bytes, format, [0xff_8000, 0x01_0203])?,
-        Some(2)
-    );
-    Ok(())
-}
+use BytesPerPixel::{Four, One, Three, Two};
 
+/// Two pixels by their format, the colours that they have, and how many of these are not black, as the screen is. 32 of 63 is 129.5
+/// of 255, and 1 of 3 is 85.
 #[test]
-fn pixels_of_whole_bytes(rt: HostRuntime) -> Result<(), Fail> {
-    let little = red_lowest(BytesPerPixel::Four, false);
-    let bytes = b"\xff\x80\x00\x55\x00\x00\x00\xff";
-    assert_eq!(rt; takes(rt.alloc(), bytes, little, [0xff_8000, 0])?, Some(1));
-    let big = red_lowest(BytesPerPixel::Four, true);
-    let bytes = b"\x55\x00\x80\xff\x00\x03\x02\x01";
-    assert_eq!(rt;
-        takes(rt.alloc(), bytes, big, [0xff_8000, 0x01_0203])?,
-        Some(2)
-    );
-    Ok(())
-}
-
-#[test]
-fn pixels_of_24_bits(rt: HostRuntime) -> Result<(), Fail> {
-    let little = red_lowest(BytesPerPixel::Three, false);
-    let bytes = b"\xff\x80\x00\x01\x02\x03";
-    assert_eq!(rt;
-        takes(rt.alloc(), bytes, little, [0xff_8000, 0x01_0203])?,
-        Some(2)
-    );
-    let big = red_lowest(BytesPerPixel::Three, true);
-    let bytes = b"\x00\x80\xff\x03\x02\x01";
-    assert_eq!(rt;
-        takes(rt.alloc(), bytes, big, [0xff_8000, 0x01_0203])?,
-        Some(2)
-    );
-    Ok(())
-}
-
-#[test]
-fn pixels_of_16_bits(rt: HostRuntime) -> Result<(), Fail> {
-    // 32 of 63 is 129.5 of 255
-    let bytes = b"\x00\xfc\xff\xff";
-    assert_eq!(rt;
-        takes(rt.alloc(), bytes, rgb565(false), [0xff_8200, 0xff_ffff])?,
-        Some(2)
-    );
-    let bytes = b"\xfc\x00\x00\x1f";
-    assert_eq!(rt;
-        takes(rt.alloc(), bytes, rgb565(true), [0xff_8200, 0x00_00ff])?,
-        Some(2)
-    );
-    Ok(())
-}
-
-#[test]
-fn pixels_of_8_bits(rt: HostRuntime) -> Result<(), Fail> {
-    // 1 of 3 is 85 of 255
-    assert_eq!(rt;
-        takes(rt.alloc(), b"\x07\x40", bgr233(), [0xff_0000, 0x00_0055])?,
-        Some(2)
-    );
-    Ok(())
-}
-
-#[test]
-fn places_of_a_table(rt: HostRuntime) -> Result<(), Fail> {
-    let table = [0x12_3456u32, 0xff_ab_cdef];
-    let format = SourceFormat::Table(&table);
-    assert_eq!(rt;
-        takes(rt.alloc(), b"\x01\x00", format, [0xab_cdef, 0x12_3456])?,
-        Some(2)
-    );
-    // beyond the table is black, as the screen is
-    assert_eq!(rt;
-        takes(rt.alloc(), b"\x01\x02", format, [0xab_cdef, 0])?,
-        Some(1)
-    );
+fn pixels_of_each_format(rt: HostRuntime) -> Result<(), Fail> {
+    let table = SourceFormat::Table(&[0x12_3456, 0xff_ab_cdef]);
+    let rows: [(SourceFormat<'_>, &[u8], [u32; 2], usize); 11] = [
+        (
+            SourceFormat::TrueColour(TrueColour::server()),
+            b"\x00\x80\xff\x55\x03\x02\x01\x00",
+            [0xff_8000, 0x01_0203],
+            2,
+        ),
+        (
+            components(Four, false, RED_LOWEST),
+            b"\xff\x80\x00\x55\x00\x00\x00\xff",
+            [0xff_8000, 0],
+            1,
+        ),
+        (
+            components(Four, true, RED_LOWEST),
+            b"\x55\x00\x80\xff\x00\x03\x02\x01",
+            [0xff_8000, 0x01_0203],
+            2,
+        ),
+        (
+            components(Three, false, RED_LOWEST),
+            b"\xff\x80\x00\x01\x02\x03",
+            [0xff_8000, 0x01_0203],
+            2,
+        ),
+        (
+            components(Three, true, RED_LOWEST),
+            b"\x00\x80\xff\x03\x02\x01",
+            [0xff_8000, 0x01_0203],
+            2,
+        ),
+        (
+            components(Two, false, RGB565),
+            b"\x00\xfc\xff\xff",
+            [0xff_8200, 0xff_ffff],
+            2,
+        ),
+        (
+            components(Two, true, RGB565),
+            b"\xfc\x00\x00\x1f",
+            [0xff_8200, 0x00_00ff],
+            2,
+        ),
+        (
+            components(One, false, BGR233),
+            b"\x07\x40",
+            [0xff_0000, 0x00_0055],
+            2,
+        ),
+        (table, b"\x01\x00", [0xab_cdef, 0x12_3456], 2),
+        (table, b"\x01\x02", [0xab_cdef, 0], 1),
+        (table, b"\x02\xff", [0, 0], 0),
+    ];
+    for (number, (format, bytes, colours, places)) in rows.iter().enumerate() {
+        let taken = takes(rt.alloc(), bytes, *format, *colours)?;
+        assert!(rt; taken == Some(*places), "row {number}");
+    }
     Ok(())
 }
 
@@ -168,7 +130,7 @@ const BLUE_SQUARE: &[u8; 32] =
 
 #[test]
 fn differences_are_one_rectangle(rt: HostRuntime) -> Result<(), Fail> {
-    let screen = small_screen(rt.alloc())?;
+    let screen = new_screen(rt.alloc(), (4, 2))?;
     let format = SourceFormat::TrueColour(TrueColour::server());
     let source = PixelSource::new(BLUE_SQUARE, 16, 4, 2, format)
         .ok()
@@ -201,7 +163,7 @@ fn differences_are_one_rectangle(rt: HostRuntime) -> Result<(), Fail> {
 
 #[test]
 fn what_is_off_the_screen_is_left_out(rt: HostRuntime) -> Result<(), Fail> {
-    let mut screen = small_screen(rt.alloc())?;
+    let mut screen = new_screen(rt.alloc(), (4, 2))?;
     let format = SourceFormat::TrueColour(TrueColour::server());
     let source = PixelSource::new(BLUE_SQUARE, 16, 4, 2, format)
         .ok()
@@ -225,7 +187,7 @@ fn pixels_are_refused(rt: HostRuntime) -> Result<(), Fail> {
     assert_eq!(rt; refusal, Some(SourceError::StrideTooShort));
     let refusal = PixelSource::new(b"", 0, 0, 0, SourceFormat::Table(&[])).err();
     assert_eq!(rt; refusal, Some(SourceError::BadTable));
-    let wide = red_lowest(BytesPerPixel::Two, false);
+    let wide = components(Two, false, RED_LOWEST);
     let refusal = PixelSource::new(b"", 0, 0, 0, wide).err();
     assert_eq!(rt; refusal, Some(SourceError::BadComponent));
     Ok(())
@@ -286,7 +248,7 @@ fn count_wrong(screen: &Screen, may_be_black: bool) -> usize {
 
 #[test]
 fn a_large_picture_is_taken_in_parts(rt: HostRuntime) -> Result<(), Fail> {
-    let mut screen = screen_of(rt.alloc(), COLUMNS, ROWS)?;
+    let mut screen = new_screen(rt.alloc(), (COLUMNS as u16, ROWS as u16))?;
     let bytes = large_pixels(rt.alloc())?;
     let format = SourceFormat::TrueColour(TrueColour::server());
     let source = PixelSource::new(&bytes, 1200, 300, 500, format)
@@ -304,7 +266,7 @@ fn a_large_picture_is_taken_in_parts(rt: HostRuntime) -> Result<(), Fail> {
 // The last of this test's allocations are those of taking: rt try --test --fail-alloc N refuses the Nth.
 #[test]
 fn a_second_call_takes_the_rest(rt: HostRuntime) -> Result<(), Fail> {
-    let mut screen = screen_of(rt.alloc(), COLUMNS, ROWS)?;
+    let mut screen = new_screen(rt.alloc(), (COLUMNS as u16, ROWS as u16))?;
     let bytes = large_pixels(rt.alloc())?;
     let format = SourceFormat::TrueColour(TrueColour::server());
     let source = PixelSource::new(&bytes, 1200, 300, 500, format)

@@ -3,8 +3,8 @@
 
 use super::kept::expect_kept;
 use super::lists::Call::{Paint, Write};
-use super::lists::{Call, EVERY_KIND, NEW_SIZE, Row, TWO_VIEWERS, event, events};
-use super::new_screen;
+use super::lists::{Call, EVERY_KIND, FIRST_UPDATES, NEW_SIZE, Row, TWO_VIEWERS, event, events};
+use crate::tests::screens::screen_of;
 use screen::{Answer, Event, History, Screen, ScreenError};
 use std::alloc::Global;
 use std::process::Abort;
@@ -24,7 +24,7 @@ fn expect_answer(rt: &impl Abort, rows: &[Row], number: usize, answer: &Answer) 
         Some((_, bytes)) => is_answer(answer, bytes),
         None => false,
     };
-    assert!(rt; is_wanted, "event {number} is answered {answer:?}");
+    assert!(rt; is_wanted, "event {number}");
 }
 
 /// What an event is answered, at the second time where the first is refused for want of memory.
@@ -44,9 +44,14 @@ fn expect_answers(rt: &impl Abort, screen: &mut Screen, events: &[Event], rows: 
 }
 
 /// Each event is answered as wanted, and kept. Where memory is refused before the first, nothing is asked.
-fn expect_answers_at_last(rt: &impl Abort, alloc: Global, rows: &[Row]) -> Result<(), ScreenError> {
+fn expect_answers_at_last(
+    rt: &impl Abort,
+    alloc: Global,
+    size: (u16, u16),
+    rows: &[Row],
+) -> Result<(), ScreenError> {
     let events = events(alloc, rows)?;
-    let mut screen = new_screen(alloc, History::Kept)?;
+    let mut screen = screen_of(alloc, size, History::Kept)?;
     expect_answers(rt, &mut screen, &events, rows);
     expect_kept(rt, &screen, rows);
     Ok(())
@@ -54,17 +59,22 @@ fn expect_answers_at_last(rt: &impl Abort, alloc: Global, rows: &[Row]) -> Resul
 
 #[test]
 fn two_viewers_whichever_allocation_is_refused(rt: HostRuntime) {
-    let _ready = expect_answers_at_last(&rt, rt.alloc(), &TWO_VIEWERS);
+    let _ready = expect_answers_at_last(&rt, rt.alloc(), (4, 1), &TWO_VIEWERS);
 }
 
 #[test]
 fn every_kind_whichever_allocation_is_refused(rt: HostRuntime) {
-    let _ready = expect_answers_at_last(&rt, rt.alloc(), &EVERY_KIND);
+    let _ready = expect_answers_at_last(&rt, rt.alloc(), (4, 1), &EVERY_KIND);
 }
 
 #[test]
 fn a_new_size_whichever_allocation_is_refused(rt: HostRuntime) {
-    let _ready = expect_answers_at_last(&rt, rt.alloc(), &NEW_SIZE);
+    let _ready = expect_answers_at_last(&rt, rt.alloc(), (4, 1), &NEW_SIZE);
+}
+
+#[test]
+fn the_first_updates_whichever_allocation_is_refused(rt: HostRuntime) {
+    let _ready = expect_answers_at_last(&rt, rt.alloc(), (4, 3), &FIRST_UPDATES);
 }
 
 /// What no line of a script says: rectangles that begin left of the screen, or whose corners stand in the wrong order.
@@ -79,15 +89,14 @@ static NO_RECTANGLES: [Call; 4] = [
 fn expect_refused(rt: &impl Abort, alloc: Global, screen: &mut Screen) -> Result<(), ScreenError> {
     for call in &NO_RECTANGLES {
         let answer = screen.apply(&event(alloc, *call)?)?;
-        let is_refused = answer.refused == Some(ScreenError::BadRect);
-        assert!(rt; is_refused, "{answer:?}");
+        assert!(rt; answer.refused == Some(ScreenError::BadRect));
     }
     Ok(())
 }
 
 #[test]
 fn what_is_no_rectangle_is_refused(rt: HostRuntime) -> Result<(), Fail> {
-    let mut screen = new_screen(rt.alloc(), History::NotKept)?;
+    let mut screen = screen_of(rt.alloc(), (4, 1), History::NotKept)?;
     expect_refused(&rt, rt.alloc(), &mut screen)?;
     Ok(())
 }

@@ -1,11 +1,11 @@
 //! Lists of calls, each beside the bytes that it is answered, which are written out from RFC 6143. What a list's events are is made
 //! here, too.
 
+use crate::tests::screens::{OPENING, WITH_COPYRECT, rect};
 use listed::Listed;
 use region::Rect;
 use screen::Event;
 use std::alloc::{AllocError, Global};
-use test_screens::{OPENING, WITH_COPYRECT, rect};
 
 /// An event as it is written down here: each rectangle by its corners x1, y1, x2, y2.
 #[derive(Clone, Copy)]
@@ -125,6 +125,36 @@ pub(crate) static EVERY_KIND: [Row; 21] = [
         ],
     ),
     (Close(1), &[]),
+];
+
+/// A whole black screen of 4 by 3, as an update.
+const ALL_BLACK: &[u8] = &[
+    0, 0, 0, 1, 0, 0, 0, 0, 0, 4, 0, 3, 0, 0, 0, 0, 0, 0, 0, 0, 0, 0, 0, 0, 0, 0, 0, 0, 0, 0, 0, 0,
+    0, 0, 0, 0, 0, 0, 0, 0, 0, 0, 0, 0, 0, 0, 0, 0, 0, 0, 0, 0, 0, 0, 0, 0, 0, 0, 0, 0, 0, 0, 0, 0,
+];
+
+/// What the server answers on that screen behind its version.
+const OPENED_LARGER: &[u8] = &[
+    1, 1, 0, 0, 0, 0, 0, 4, 0, 3, 32, 24, 0, 1, 0, 255, 0, 255, 0, 255, 16, 8, 0, 0, 0, 0, 0, 0, 0,
+    4, 0x64, 0x65, 0x6d, 0x6f,
+];
+
+/// The first updates of a viewer of a screen of 4 by 3: a cut that gives nothing is no event.
+pub(crate) static FIRST_UPDATES: [Row; 9] = [
+    (Connect(1), VERSION),
+    (Hear(1, OPENING), OPENED_LARGER),
+    (Hear(1, &[3, 0, 0, 0, 0, 0, 0, 4, 0, 3]), &[]),
+    (Cut(1), ALL_BLACK),
+    (Hear(1, &[3, 1, 0, 0, 0, 0, 0, 4, 0, 3]), &[]),
+    (Cut(1), &[]),
+    (Paint([2, 1, 3, 2], &[0xff8000]), &[]),
+    (
+        Cut(1),
+        &[
+            0, 0, 0, 1, 0, 2, 0, 1, 0, 1, 0, 1, 0, 0, 0, 0, 0, 0x80, 0xff, 0,
+        ],
+    ),
+    (Cut(1), &[]),
 ];
 
 /// A new framebuffer, of more columns and rows: one viewer lists DesktopSize (RFC 6143, section 7.8.2), and the other knows the old

@@ -1,13 +1,12 @@
 //! Want of memory is answered only where there is none: more viewers than any table is likely to have, and each call that draws by
 //! a region with all of them there. The other calls are made with as many in `examples`, and there a long piece is heard.
 
-use super::new_screen;
+use crate::tests::screens::{new_screen, open, rect, region, request, say};
 use region::Region;
 use screen::{Screen, ScreenError};
 use std::alloc::Global;
 use std::process::Abort;
 use std::test::Fail;
-use test_screens::{open, rect, region, request, say};
 
 /// How many viewers connect.
 const VIEWERS: u64 = 200;

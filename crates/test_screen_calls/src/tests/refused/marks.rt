@@ -1,10 +1,10 @@
 //! Three hundred marks, with which the log of drawing is full, for viewers that ask before or after them.
 
-use super::{expect_sent, hear_again, new_screen};
+use super::{expect_sent, hear_again};
+use crate::tests::screens::{new_screen, open, request, say, show};
 use screen::{Screen, ScreenError};
 use std::alloc::Global;
 use std::process::Abort;
-use test_screens::{open, request, say, show};
 
 /// Five places in black, as an update.
 const FIVE_BLACK: &[u8] = &[

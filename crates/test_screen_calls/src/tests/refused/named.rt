@@ -1,11 +1,11 @@
 //! Each call by its name, once, with a second viewer that connects on the way.
 
-use super::{cut_again, expect_sent, hear_again, new_screen};
+use super::{cut_again, expect_sent, hear_again};
+use crate::tests::screens::{OPENING, new_screen, rect, region, request, show};
 use region::Region;
 use screen::{Screen, ScreenError};
 use std::alloc::Global;
 use std::process::Abort;
-use test_screens::{OPENING, rect, region, request, show};
 
 /// What the server says first.
 const VERSION: &[u8] = b"RFB 003.008\n";
