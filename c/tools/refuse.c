@@ -1,8 +1,10 @@
 /* A library for LD_PRELOAD that refuses the Nth call of malloc, calloc or realloc, N as FAIL_AT says, to see what a program makes of it.
+ * When the program ends, how many calls there were is written to the file that CALLS_TO names.
  * cc -shared -fPIC -o refuse.so refuse.c -ldl */
 #define _GNU_SOURCE
 #include <dlfcn.h>
 #include <errno.h>
+#include <stdio.h>
 #include <stdlib.h>
 
 static long at, refused = -1;
@@ -14,6 +16,16 @@ static int refuses(void)
         refused = number ? atol(number) : 0;
     }
     return ++at == refused;
+}
+
+__attribute__((destructor)) static void tells(void)
+{
+    const char *name = getenv("CALLS_TO");
+    const long calls = at;
+    FILE *file = name ? fopen(name, "w") : 0;
+    if (!file) return;
+    fprintf(file, "%ld\n", calls);
+    fclose(file);
 }
 
 void *malloc(size_t count)
