@@ -94,6 +94,15 @@ looked_at() { # WANTED COMMAND..
     done
     wait "$server"
 }
+# A program says that everything is as it stands there, and no more than that, and ends well.
+says_ok() { # NAME COMMAND..
+    local name=$1 said
+    shift
+    if said=$("$@" 2>"$room/errors") && [ "$said" = "$name ok" ]; then return 0; fi
+    echo "$said"
+    cat "$room/errors"
+    return 1
+}
 # A command whose input is two colours, and ends after some seconds.
 with_input() { (echo 204060; echo ff8000; sleep "$1"; echo 102030) | "${@:2}"; }
 run() { # NAME PROGRAM HOW..: each example, as it is to be run
@@ -101,7 +110,7 @@ run() { # NAME PROGRAM HOW..: each example, as it is to be run
     shift 2
     case $name in
     play) "$@" "$program" | cmp - "$here/../crates/vncdemo/stdout" ;;
-    edges | server_edges | rfb_edges) [ "$("$@" "$program" 2>/dev/null)" = "$name ok" ] ;;
+    edges | server_edges | rfb_edges | screen_calls | server_calls | server_viewers | server_visits | server_limits) says_ok "$name" "$@" "$program" ;;
     serve) looked_at "640 by 480, . colours, demo" "$@" "$program" PORT 3 ;;
     threads) looked_at "640 by 480, [23] colours, threads" "$@" "$program" PORT 3 ;;
     clock) looked_at "172 by 44, 3 colours, clock" "$@" "$program" PORT 10 ;;
@@ -121,7 +130,7 @@ if ! { $CC $sanitize -o "$room/none" "$room/none.c" && "$room/none"; } 2>/dev/nu
     sanitize=
     left+=("sanitizers: not installed")
 fi
-for source in "$here"/examples/*.c "$here/tools/rfb_edges.c"; do
+for source in "$here"/examples/*.c "$here"/tools/{rfb_edges,screen_calls,server_calls,server_viewers,server_visits,server_limits}.c; do
     name=$(basename "$source" .c)
     for standard in c99 c11 c++17; do
         case $standard in c++*) have "${CXX:-c++}" || continue ;; esac
@@ -176,7 +185,10 @@ refused() { # PROGRAM FIRST LAST ARGUMENT..
 }
 # shellcheck disable=SC2086
 if $CC -Wall -Wextra -Werror -shared -fPIC -o "$room/refuse.so" "$here/tools/refuse.c" -ldl; then
-    for name in play edges server_edges rfb_edges; do try "$name: each of its first 150 allocations is refused" refused "$name" 1 150; done
+    for name in play edges server_edges rfb_edges screen_calls; do try "$name: each of its first 150 allocations is refused" refused "$name" 1 150; done
+    for name in server_calls server_viewers server_visits server_limits; do
+        try "$name: each of its first 150 allocations is refused" refused "$name" 1 150 soon
+    done
     for name in clock sketch own_pixels own_loop; do try "$name: each of its first 40 allocations is refused" refused "$name" 1 40 0 1; done
 else
     left+=("refused memory: no shared object")
