@@ -97,7 +97,7 @@ static int answers(void)
 
 /* ---- Updates */
 
-/* An update is pending once it is asked for, and is fetched in pieces of any size. */
+/* An update is pending once it is asked for, and is fetched in pieces of any size. Nothing of a viewer's waits once it is closed. */
 static int pieces(void)
 {
     uint8_t room[24];
@@ -115,8 +115,13 @@ static int pieces(void)
     IS(vnc_screen_output(s, 7, room + 16, 8), 8);
     HOLDS(memcmp(room, RED_AND_BLACK, 24) == 0);
     IS(vnc_screen_cut(s, 7), 0);
+    IS(hears(s, 7, B(REQUEST)), 0);
+    IS(vnc_screen_cut(s, 7), 1);
     IS(vnc_screen_close(s, 7), 0);
     IS(vnc_screen_close(s, 7), VNC_NO_VIEWER);
+    IS(vnc_screen_connect(s, 7), 0);
+    IS(vnc_screen_output(s, 7, room, 24), 12);
+    IS(vnc_screen_output(s, 7, room, 24), 0);
     return vnc_screen_shut(s);
 }
 

@@ -337,7 +337,7 @@ int main(int argc, char **argv)
     pid_t child = -1;
     int status = 0;
     (void)argv;
-    alarm(300); /* a wait without end that nothing ends, ends the program */
+    alarm(120); /* where nothing ends a wait without end, this ends the program */
     s = (vnc_server *)malloc(vnc_server_size());
     HOLDS(s != 0);
     vnc_server_init(s);
