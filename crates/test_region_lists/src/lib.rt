@@ -1,4 +1,4 @@
-//! Long rows of calls on regions beside the same calls on plain lists of rectangles. There are tests here, and nothing else.
+//! Regions beside plain lists of rectangles over long rows of calls. There are tests here, and nothing else.
 #![tactic(auto)]
 
 #[cfg(test)]

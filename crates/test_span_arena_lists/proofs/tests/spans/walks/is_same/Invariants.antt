@@ -1,5 +1,0 @@
-use Rattle.span_arena.specs.WalkLemmas.{Walked}
-use Rattle.test_span_arena_lists.proofs.tests.spans.walks.is_same.Given as goal
-
-abbrev pub invariant-loop-start : goal.invariant-loop-start
-invariant-loop-start l = Walked l.spans l.list l.place

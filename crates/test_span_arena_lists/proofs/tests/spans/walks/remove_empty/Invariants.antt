@@ -1,8 +1,0 @@
-use Rattle.span_arena.specs.WalkLemmas.{Walked, ahead}
-use Rattle.test_span_arena_lists.proofs.tests.spans.walks.remove_empty.Given as goal
-
-abbrev pub invariant-loop-place : goal.invariant-loop-place
-invariant-loop-place l = Walked l.spans l.list l.place
-
-abbrev pub decreases-loop-place : goal.decreases-loop-place
-decreases-loop-place l = ahead l.spans l.list l.place

@@ -1,2 +1,0 @@
-mod clients;
-mod spans;
