@@ -1,7 +1,8 @@
 #!/usr/bin/env python3
 """check.py: holds the documents to the repository. Each file, folder, crate, function and type that a document names between backticks
-is there; docs/DEFINITIONS.md names each file of definitions that a contract cites; and the proofs of the C libraries' doors are what
-c/tools/walks.py writes. It prints a line for each thing that isn't so, and ends with status 1 where there is one."""
+is there, and where a document says in which file, in that one; docs/DEFINITIONS.md names each file of definitions that a contract rests
+on; and the proofs of the C libraries' doors are what c/tools/walks.py writes. It prints a line for each thing that isn't so, and ends
+with status 1 where there is one. CHANGELOG.md, which speaks of names that are gone, isn't looked at."""
 import glob
 import os
 import re
@@ -10,100 +11,105 @@ import sys
 import tempfile
 
 TOP = os.path.dirname(os.path.dirname(os.path.realpath(__file__)))
-DOCUMENTS = ["README.md", "CHANGELOG.md", "bench/README.md", *sorted(glob.glob("docs/*.md", root_dir=TOP))]
-# Words between backticks that are no name of this repository: of other programs and libraries, of Rust, of the shell.
-FOREIGN = re.compile(r"(?x) rfb[A-Z]\w* | \w*_t | libvnc\w* | lib\w+ | x\w*vnc\w* | gvnc\w+ | vncsnapshot | vncev | main | cc | CC | KIT | nproc | usize | u8 | u16 | u32 | u64 | i32 | f64 | str")
+DOCUMENTS = ["README.md", "bench/README.md", *sorted(glob.glob("docs/*.md", root_dir=TOP))]
+COMMENTS = {".rt": "//", ".antt": "--"}
+# Words between backticks that are no names of this repository: of other programs, of libraries, of C and of Rust.
+FOREIGN = re.compile(r"(rfb|sra)[A-Z]\w*|rfb\w*\.h|\w+_t|lib\w+|x\w*vnc\w*|gvnc\w+|vncsnapshot|vncev|indexmap|[iu](8|16|32|64|size)|[PC]C|main|ssh|stunnel\w*")
 
 
 def text_of(path):
-    with open(os.path.join(TOP, path), encoding="utf-8") as it:
+    with open(os.path.join(TOP, path), encoding="utf-8", errors="replace") as it:
         return it.read()
 
 
-def tracked():
-    ran = subprocess.run(["git", "ls-files"], cwd=TOP, capture_output=True, text=True, check=True)
-    return ran.stdout.split("\n")[:-1]
+def words_in(path):
+    """The words of a file, but for those that only comments have."""
+    text, mark = text_of(path), COMMENTS.get(os.path.splitext(path)[1])
+    text = re.sub(re.escape(mark) + ".*", "", text) if mark else text
+    return {word for words in re.findall(r"[A-Za-z_][\w-]*", text) for word in {words, *words.split("-")}}
 
 
-def known_words(files):
-    """Each word of the sources, scripts and headers."""
-    words = set()
-    for path in files:
-        if path.endswith((".rt", ".antt", ".c", ".h", ".py", ".sh", ".txt", ".in", ".edit", "HANDLES", "run", "Makefile", "args", "stdin")) and "/data/" not in path:
-            words.update(re.findall(r"[A-Za-z_][\w]*", text_of(path)))
-    return words
+def pattern_of(name):
+    """What a name stands for, by its stars, its <parts>, and the underscore that it begins or ends with."""
+    parts = re.split(r"(\*|<\w+>)", re.sub(r"^_|_$", lambda it: "*_" if it.start() == 0 and len(name) > 1 else "_*", name))
+    return re.compile("".join(r"\w*" if re.fullmatch(r"\*|<\w+>", part) else re.escape(part) for part in parts))
 
 
-def is_path(name):
-    return "/" in name.strip("/") or re.search(r"\.(rt|antt|md|c|h|py|sh|txt|edit|rs|in)$", name)
+def files_of(name, paths):
+    """The paths that a document may mean: the name as it stands, or what it ends."""
+    wanted = re.compile("(.*/)?" + pattern_of(name.rstrip("/").removeprefix("./")).pattern)
+    return [path for path in paths if wanted.fullmatch(path)]
 
 
-def exists(name, files, folders):
-    """Whether a path is there: as it stands, below crates/, below the document's own crates, or with a star or NAME in it."""
-    name = name.rstrip("/").removeprefix("./")
-    if re.search(r"[*<>{}]|NAME|OUT|DOOR", name):
-        pattern = re.sub(r"[*<>{}]+|NAME|OUT|DOOR", "*", name)
-        regex = re.compile(r"(.*/)?" + re.escape(pattern).replace(r"\*", ".*") + r"(/.*)?")
-        return any(regex.fullmatch(it) for it in files)
-    return any(it == name or it.endswith("/" + name) for it in files) or any(it == name or it.endswith("/" + name) for it in folders)
-
-
-def names_in(text):
-    """What stands between backticks outside of code blocks."""
-    text = re.sub(r"^```.*?^```", "", text, flags=re.S | re.M)
-    return re.findall(r"`([^`\n]+)`", text)
-
-
-def unknown(document, files, folders, words):
-    """What a document names that is not there."""
-    for name in names_in(text_of(document)):
-        if re.search(r"\s|^-|^/|=|^\$|^\d", name) or "://" in name:
+def unknown(document, paths, words):
+    """What a document names that is not there, or not in the file that it says."""
+    text = re.sub(r"^```.*?^```", "", text_of(document), flags=re.S | re.M)
+    everywhere = set().union(*words.values()) | {part for path in paths for part in re.findall(r"\w+", path)}
+    for name in re.findall(r"`([^`\n]+)`", text):
+        if re.search(r"\s|^[-/.$\d]|=|://", name) or FOREIGN.fullmatch(name):
             continue
-        if is_path(name):
-            if not exists(name, files, folders) and not name.startswith(("crates/vncdemo/out", "out")):
-                yield name
+        if re.search(r"\w/|\.[a-z]+$", name):
+            if not files_of(name, paths) and not re.match(r"(crates/\w+|bench)/(out|build)\b", name):
+                yield f"`{name}`, which is not there"
             continue
-        for word in re.findall(r"[A-Za-z_]\w*", name):
-            if word not in words and not FOREIGN.fullmatch(word) and word not in ("out",):
-                yield name
-                break
+        parts = re.findall(r"[A-Za-z_*<>][\w*<>-]*", name)
+        if any(not FOREIGN.fullmatch(part) and not any(map(pattern_of(part).fullmatch, everywhere)) for part in parts):
+            yield f"`{name}`, which is not there"
+        elif "::" in name and not any(set(parts) <= its for its in words.values()):
+            yield f"`{name}`, which no file has together"
+    for path, names in re.findall(r"`([\w/]+\.(?:antt|rt))`: ((?:`\w+`(?:, )?)+)", text):
+        for name in re.findall(r"\w+", names):
+            if not any(name in words.get(it, ()) for it in files_of(path, paths)):
+                yield f"`{name}` in `{path}`, where it is not"
 
 
-def definitions_left_out(files):
-    """Each file of definitions that a contract cites and that docs/DEFINITIONS.md neither names nor leaves out by kind."""
-    cited = set()
-    for path in files:
-        if re.match(r"crates/[^/]+/src/.*\.rt$", path):
-            cited.update(re.findall(r"ghost use Rattle\.(\w+)\.specs\.(\w+)\.", text_of(path)))
-    page = text_of("docs/DEFINITIONS.md")
-    for crate, name in sorted(cited):
-        path = f"crates/{crate}/specs/{name}.antt"
-        is_named = re.search(rf"`(crates/)?{crate}/specs/[^`]*`[^\n]*`?{name}\.antt`|`(crates/)?{crate}/specs/{name}\.antt`", page)
-        if path in files and not name.endswith(("Lemmas", "Examples")) and not is_named:
-            yield path
+def cited(text, handed_on):
+    """The files of definitions that a text cites, each where it stands."""
+    for name in re.findall(r"use Rattle\.(\w+)\.specs\.(\w+)", text):
+        while name in handed_on:
+            name = handed_on[name]
+        yield name
 
 
-def doors_differ():
+def definitions(files):
+    """What docs/DEFINITIONS.md lacks of the files that contracts rest on, but for those that it leaves out by kind; and what it has too much."""
+    specs = {tuple(path.split("/")[1::2]): path for path in files if re.match(r"crates/\w+/specs/\w+\.antt$", path)}
+    specs = {(crate, name.removesuffix(".antt")): text_of(path) for (crate, name), path in specs.items()}
+    handed_on = {(crate, it[1]): it for crate, name in specs if name == "Lib" for it in re.findall(r"pub use Rattle\.(\w+)\.specs\.(\w+)", specs[crate, name])}
+    left = [it for path in files if re.match(r"crates/\w+/src/.*\.rt$", path) for it in cited(text_of(path), handed_on)]
+    wanted = set()
+    while left:
+        if (it := left.pop()) in specs and it not in wanted and not it[1].endswith(("Lemmas", "Examples")):
+            wanted.add(it)
+            left += cited(specs[it], handed_on)
+    named, crate = set(), None
+    for name in re.findall(r"`([^`\n]+)`", text_of("docs/DEFINITIONS.md")):
+        parts = re.fullmatch(r"(?:(?:crates/)?(\w+)/specs/)?(\w+)\.antt", name)
+        crate = name if os.path.isdir(f"{TOP}/crates/{name}") else parts and parts[1] or crate
+        if parts and parts[2] != "Examples":
+            named.add((crate, parts[2]))
+    yield from (f"docs/DEFINITIONS.md has no {name}.antt of {crate}, on which a contract rests" for crate, name in sorted(wanted - named))
+    yield from (f"docs/DEFINITIONS.md has {name}.antt of {crate}, which is not there" for crate, name in sorted(named - set(specs), key=str))
+
+
+def doors():
     """The proofs of a C library that aren't what the generator writes."""
     for name in ("vnc_screen", "vnc_server"):
         with tempfile.TemporaryDirectory() as room:
             subprocess.run(["cp", "-r", f"{TOP}/crates/{name}", f"{room}/{name}"], check=True)
-            subprocess.run(["rm", "-rf", f"{room}/{name}/out"], check=True)
             subprocess.run([sys.executable, f"{TOP}/c/tools/walks.py", f"{room}/{name}"], check=True, stdout=subprocess.DEVNULL)
             ran = subprocess.run(["diff", "-rq", "-x", "out", f"{TOP}/crates/{name}", f"{room}/{name}"], capture_output=True, text=True)
-            yield from (it.replace(room, "made").replace(TOP + "/", "") for it in ran.stdout.splitlines())
+            yield from (f"c/tools/walks.py: {it}" for it in ran.stdout.replace(room, "made").replace(TOP + "/", "").splitlines())
 
 
 def main():
-    files = [it for it in tracked() if os.path.exists(os.path.join(TOP, it))]
-    folders = {"/".join(it.split("/")[:n]) for it in files for n in range(1, it.count("/") + 1)}
-    words = known_words(files) | {part for it in files for part in re.findall(r"\w+", it)}
-    wrong = [f"{document} names `{name}`, which is not there" for document in DOCUMENTS for name in unknown(document, files, folders, words)]
-    wrong += [f"docs/DEFINITIONS.md names no {it}, which a contract cites" for it in definitions_left_out(files)]
-    wrong += [f"c/tools/walks.py writes another proof: {it}" for it in doors_differ()]
-    for it in dict.fromkeys(wrong):
-        print(it)
-    print(f"the documents: {len(DOCUMENTS)} looked at, {len(wrong)} things that aren't so")
+    listed = subprocess.run(["git", "ls-files"], cwd=TOP, capture_output=True, text=True, check=True).stdout.split("\n")
+    files = [path for path in listed if os.path.isfile(os.path.join(TOP, path))]
+    paths = files + sorted({"/".join(path.split("/")[:n]) for path in files for n in range(1, path.count("/") + 1)})
+    words = {path: words_in(path) for path in files if not path.endswith(".md") and "/data/" not in path}
+    wrong = [f"{document} names {it}" for document in DOCUMENTS for it in dict.fromkeys(unknown(document, paths, words))]
+    wrong += [*definitions(files), *doors()]
+    print("\n".join([*wrong, f"the documents: {len(DOCUMENTS)} looked at, {len(wrong)} things that aren't so"]))
     return 1 if wrong else 0
 
 
