@@ -3,6 +3,4 @@
 #![tactic(auto)]
 
 #[cfg(test)]
-mod line;
-#[cfg(test)]
 mod tests;

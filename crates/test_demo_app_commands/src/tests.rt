@@ -1,3 +1,5 @@
+mod clients;
 mod lines;
+mod own;
 mod scripts;
 mod servers;

@@ -2,7 +2,6 @@
 ghost use Rattle.std.specs.Prelude.{◌≡◌};
 
 use input_queue::*;
-use listed::Listed;
 use messages::Input;
 use std::alloc::Global;
 use std::sync::Wait;
@@ -14,85 +13,62 @@ fn key(key: u32) -> Input {
     Input::Key { down: true, key }
 }
 
-/// The viewer and the key of an input, if it is one.
-fn key_of(told: Option<&Told>) -> Option<(u64, u32)> {
+/// Whether an input is this key of a viewer.
+fn is_key(told: Option<&Told>, viewer: u64, wanted: u32) -> bool {
     match told {
-        Some(
-            Told {
-                viewer,
-                input: Input::Key { down: true, key },
-            },
-        ) => Some((*viewer, *key)),
-        _ => None,
+        Some(told) => {
+            told.viewer == viewer
+                && matches!(told.input, Input::Key { down: true, key } if key == wanted)
+        }
+        None => false,
     }
 }
 
+// Two seats take turns; a full queue gives the input back; what is left is there in order.
 #[test]
-fn two_seats_take_turns(rt: HostRuntime) -> Result<(), Fail> {
-    let (mut hub, mut taker) = InputHub::new(rt.alloc(), 4)?;
+fn inputs_come_in_the_order_of_the_puts(rt: HostRuntime) -> Result<(), Fail> {
+    let (mut hub, mut taker) = InputHub::new(rt.alloc(), 2)?;
     let mut one = hub.seat(1);
     let mut two = hub.seat(2);
+    assert!(rt; hub.take(&rt, &mut taker).is_none());
     assert!(rt; hub.put(&rt, &mut one, key(1)).is_ok());
     assert!(rt; hub.put(&rt, &mut two, key(2)).is_ok());
-    assert!(rt; hub.put(&rt, &mut one, key(3)).is_ok());
+    let back = hub.put(&rt, &mut one, key(3));
+    assert!(rt; matches!(back, Err(Full(Input::Key { down: true, key: 3 }))));
     let first = hub.take(&rt, &mut taker);
-    assert_eq!(rt; key_of(first.as_ref()), Some((1, 1)));
+    let second = hub.take(&rt, &mut taker);
+    let third = hub.take(&rt, &mut taker);
+    assert!(rt; is_key(first.as_ref(), 1, 1) && is_key(second.as_ref(), 2, 2) && third.is_none());
+    assert!(rt; hub.put(&rt, &mut two, key(4)).is_ok());
+    assert!(rt; hub.put(&rt, &mut one, key(5)).is_ok());
     let mut seats = Vec::new(rt.alloc());
     seats.push(one)?;
     seats.push(two)?;
     let left = hub.join(&rt, taker, seats)?;
     let left = left.items.as_slice();
-    assert_eq!(rt; left.len(), 2);
-    assert_eq!(rt; key_of(left.first()), Some((2, 2)));
-    assert_eq!(rt; key_of(left.last()), Some((1, 3)));
+    assert!(rt; left.len() == 2 && is_key(left.first(), 2, 4) && is_key(left.last(), 1, 5));
     Ok(())
 }
 
 #[test]
-fn a_full_queue_gives_the_input_back(rt: HostRuntime) -> Result<(), Fail> {
-    let (mut hub, mut taker) = InputHub::new(rt.alloc(), 2)?;
-    let mut one = hub.seat(1);
-    assert!(rt; hub.put(&rt, &mut one, key(1)).is_ok());
-    assert!(rt; hub.put(&rt, &mut one, key(2)).is_ok());
-    let back = hub.put(&rt, &mut one, key(3));
-    assert!(rt; matches!(&back, Err(Full(Input::Key { down: true, key: 3 }))));
-    let first = hub.take(&rt, &mut taker);
-    let second = hub.take(&rt, &mut taker);
-    assert_eq!(rt; key_of(first.as_ref()), Some((1, 1)));
-    assert_eq!(rt; key_of(second.as_ref()), Some((1, 2)));
-    assert!(rt; hub.take(&rt, &mut taker).is_none());
-    let mut seats = Vec::new(rt.alloc());
-    seats.push(one)?;
-    assert!(rt; hub.join(&rt, taker, seats)?.items.is_empty());
-    Ok(())
-}
-
-#[test]
-fn capacities_are_1_to_65_536(rt: HostRuntime) -> Result<(), Fail> {
-    for (capacity, made) in &[(0usize, false), (1, true), (65_536, true), (65_537, false)] {
-        assert_eq!(rt;
-            InputHub::new(rt.alloc(), *capacity).is_ok(),
-            *made,
-            "{capacity}"
-        );
+fn capacities_are_1_to_65_536(rt: HostRuntime) {
+    for capacity in [0usize, 65_537] {
+        let made = InputHub::new(rt.alloc(), capacity);
+        assert!(rt; matches!(made, Err(QueueError::BadCapacity)), "{capacity}");
     }
-    Ok(())
+    for capacity in [1usize, 65_536] {
+        assert!(rt; InputHub::new(rt.alloc(), capacity).is_ok(), "{capacity}");
+    }
 }
 
-/// Puts the keys from 0 on, trying again where the queue is full, and says how many were accepted.
-fn put_all<R: Wait>(
-    rt: &R,
-    hub: &InputHub,
-    mut seat: InputSeat,
-    count: u32,
-    turns: u32,
-) -> (InputSeat, u32)
+/// Puts the keys from 0 to 999, trying again where the queue is full, and says how many were accepted.
+fn put_all<R: Wait>(rt: &R, hub: &InputHub, mut seat: InputSeat) -> (InputSeat, u32)
     requires { seat.queue ≡ hub.now.queue }
     ensures { result.0.queue ≡ seat.queue }
 {
     let mut next = 0u32;
-    for _ in 0..turns {
-        if next >= count {
+    for _ in 0..1_000_000u32 {
+        if next >= 1000 {
             break;
         }
         if hub.put(rt, &mut seat, key(next)).is_ok() {
@@ -116,23 +92,21 @@ fn take_next<R: Wait>(rt: &R, hub: &InputHub, taker: &mut Taker, waits: bool) ->
     }
 }
 
-/// Takes, in so many turns at most: where it waits, until the hub is closed, and else until it has so many, trying again where
-/// there is nothing.
+/// Takes, in 1,000,000 turns at most: where it waits, until the hub is closed, and else until it has 2,000, trying again where there
+/// is nothing.
 fn take_all<R: Wait>(
     rt: &R,
     alloc: Global,
     hub: &InputHub,
     mut taker: Taker,
     waits: bool,
-    count: usize,
-    turns: u32,
 ) -> (Taker, Vec<Told>)
     requires { taker.queue ≡ hub.now.queue }
     ensures { result.0.queue ≡ taker.queue }
 {
     let mut all = Vec::new(alloc);
-    for _ in 0..turns {
-        if !waits && all.len() >= count {
+    for _ in 0..1_000_000u32 {
+        if !waits && all.len() >= 2000 {
             break;
         }
         match take_next(rt, hub, &mut taker, waits) {
@@ -163,47 +137,34 @@ fn both<R: Threads + Wait + Sync>(
         move || -> (InputSeat, u32)
             requires { one.queue ≡ hub.now.queue }
             ensures { result.0.queue ≡ hub.entry.now.queue }
-        { put_all(rt, hub, one, 1000, 1_000_000) },
+        { put_all(rt, hub, one) },
         move || -> (InputSeat, u32)
             requires { two.queue ≡ hub.now.queue }
             ensures { result.0.queue ≡ hub.entry.now.queue }
-        { put_all(rt, hub, two, 1000, 1_000_000) },
+        { put_all(rt, hub, two) },
     )
 }
 
-/// The next number of a viewer's keys, if this one is the next; nothing where it is not.
-fn follows(told: &Told, of: u64, next: u32) -> Option<u32> {
-    if told.viewer != of {
-        return Some(next);
+/// Whether these are the keys from 0 to 999 of viewers 1 and 2, each viewer's in order, and nothing else.
+fn are_all(taken: &[Told]) -> bool {
+    let mut next = [0u32; 2];
+    for told in taken {
+        let [one, two] = next;
+        let place = if told.viewer == 1 { one } else { two };
+        if told.viewer > 2 || !is_key(Some(told), told.viewer, place) {
+            return false;
+        }
+        next = if told.viewer == 1 {
+            [one.saturating_add(1), two]
+        } else {
+            [one, two.saturating_add(1)]
+        };
     }
-    match told.input {
-        Input::Key { down: true, key } if key == next => next.checked_add(1),
-        _ => None,
-    }
+    next == [1000, 1000]
 }
 
-/// How many keys a viewer has in a list, which begins with this one; nothing where they are not in order.
-fn in_order(list: &[Told], of: u64, from: u32) -> Option<u32> {
-    let mut next = from;
-    for told in list {
-        next = follows(told, of, next)?;
-    }
-    Some(next)
-}
-
-/// How many keys a viewer has in two lists, one behind the other; nothing where they are not in order.
-fn in_both(taken: &[Told], left: &[Told], of: u64) -> Option<u32> {
-    let next = in_order(taken, of, 0)?;
-    in_order(left, of, next)
-}
-
-/// Whether so many of a viewer's keys were taken or are left, in order.
-fn is_accepted(taken: &[Told], left: &[Told], of: u64, count: u32) -> bool {
-    in_both(taken, left, of) == Some(count)
-}
-
-/// Two seats put and a third thread takes, which waits or not. Whether all was accepted, and what was taken and what is left is
-/// that, in order, and nothing else.
+/// Two seats put and a third thread takes, which waits or not. Whether all was accepted, and what was taken is that, in order, and
+/// nothing else.
 fn three<R: Threads + Wait + Sync>(rt: &R, alloc: Global, waits: bool) -> Result<bool, QueueError> {
     let (mut hub, taker) = InputHub::new(alloc, 64)?;
     let one = hub.seat(1);
@@ -222,19 +183,13 @@ fn three<R: Threads + Wait + Sync>(rt: &R, alloc: Global, waits: bool) -> Result
         move || -> (Taker, Vec<Told>)
             requires { taker.queue ≡ shared.now.queue }
             ensures { result.0.queue ≡ shared.entry.now.queue }
-        { take_all(rt, alloc, shared, taker, waits, 2000, 1_000_000) },
+        { take_all(rt, alloc, shared, taker, waits) },
     );
-    let mut seats = Vec::new(alloc);
-    seats.push(one).map_err(|_| QueueError::OutOfMemory)?;
-    seats.push(two).map_err(|_| QueueError::OutOfMemory)?;
+    let Ok(seats) = Vec::from_array(alloc, [one, two]) else {
+        return Err(QueueError::OutOfMemory);
+    };
     let left = hub.join(rt, taker, seats)?;
-    let left = left.items.as_slice();
-    Ok(
-        (first, second) == (1000, 1000)
-            && (taken.len(), left.len()) == (2000, 0)
-            && is_accepted(&taken, left, 1, first)
-            && is_accepted(&taken, left, 2, second),
-    )
+    Ok((first, second) == (1000, 1000) && are_all(&taken) && left.items.is_empty())
 }
 
 #[test]

@@ -1,2 +1,9 @@
-mod opening;
-mod overlapping;
+//! `drawing` has the drawing calls and what is sent of a picture, `memory` readers and writers that fail, `gates` where a sender is
+//! held, `steps` the calls of one thread, `threads` two viewers with a thread each, and `runs` the table of runs.
+
+mod drawing;
+mod gates;
+mod memory;
+mod runs;
+mod steps;
+mod threads;

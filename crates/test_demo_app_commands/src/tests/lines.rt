@@ -4,35 +4,26 @@ use demo_app::{Chosen, ServeOptions, line_of};
 use std::alloc::{AllocError, Global};
 use std::test::Fail;
 
-/// What a command line comes to.
+/// What a command line comes to, as a text.
 #[derive(Clone, Copy)]
 enum Outcome {
-    Play,
-    /// So many viewers, and whether they are served in one thread.
-    Own(u32, bool),
-    /// The port, the width, the height, the limit, the viewers, whether all is kept, whether there is one thread, and the name.
-    Serve((u16, u32, u32, u32, u32, bool, bool), &'static str),
-    /// Nothing is chosen, whatever is printed.
-    Refused,
-    /// Nothing is chosen, and this is printed.
-    Prints(&'static str),
-    /// Nothing is chosen, and what is printed begins so, and has these parts.
-    PrintsParts(&'static str, &'static [&'static str]),
+    Is(&'static str),
+    /// It begins so, and has these parts.
+    Has(&'static str, &'static [&'static str]),
 }
 
-use Outcome::{Own, Play, Prints, PrintsParts, Refused, Serve};
+// Nothing is chosen, whatever is printed.
+const REFUSED: Outcome = Has("refused: ", &[]);
 
-// The words of a command line.
-pub fn words(alloc: Global, texts: &[&str]) -> Result<Vec<String>, AllocError> {
-    let mut words = Vec::new(alloc);
-    for text in texts {
-        words.push(String::from_str(alloc, text)?)?;
-    }
-    Ok(words)
-}
+use Outcome::{Has, Is};
 
-// Whether `serve` was chosen with these options.
-fn is_serve(port: u16, options: &ServeOptions, outcome: Outcome) -> bool {
+// What is chosen for `serve`, as a text.
+fn text_of_serve(
+    alloc: Global,
+    command: &str,
+    port: u16,
+    options: &ServeOptions,
+) -> Result<String, AllocError> {
     let ServeOptions {
         width,
         height,
@@ -40,54 +31,63 @@ fn is_serve(port: u16, options: &ServeOptions, outcome: Outcome) -> bool {
         limit,
         viewers,
         check,
-        one_thread,
     } = options;
-    let numbers = (port, *width, *height, *limit, *viewers, *check, *one_thread);
-    match outcome {
-        Serve(wanted, called) => numbers == wanted && name.as_slice() == called.as_bytes(),
-        _ => false,
-    }
+    let name = str::from_utf8(name.as_slice()).unwrap_or("no text");
+    format!(in alloc; "{command} {port}, {width} by {height}, {name}, {limit}, {viewers}, check: {check}")
 }
 
-fn is_chosen(chosen: &Chosen, outcome: Outcome) -> bool {
+// What is chosen, as a text.
+fn text_of(alloc: Global, chosen: &Chosen) -> Result<String, AllocError> {
     match chosen {
-        Chosen::Play => matches!(outcome, Play),
-        Chosen::Own {
-            viewers,
-            one_thread,
-        } => matches!(outcome, Own(count, in_one) if (count, in_one) == (*viewers, *one_thread)),
-        Chosen::Serve { port, options } => is_serve(*port, options, outcome),
-    }
-}
-
-fn is_printed(text: &str, outcome: Outcome) -> bool {
-    match outcome {
-        Refused => true,
-        Prints(wanted) => text == wanted,
-        PrintsParts(start, parts) => {
-            text.starts_with(start) && parts.iter().all(|part| text.contains(*part))
+        Chosen::Play => String::from_str(alloc, "play"),
+        Chosen::Serve { port, options } => text_of_serve(alloc, "serve", *port, options),
+        Chosen::ServeInOneThread { port, options } => {
+            text_of_serve(alloc, "serve in one thread", *port, options)
         }
-        _ => false,
+        Chosen::Own { viewers } => format!(in alloc; "self {viewers}"),
+        Chosen::OwnInOneThread { viewers } => format!(in alloc; "self in one thread {viewers}"),
     }
 }
 
-fn comes_to(alloc: Global, texts: &[&str], outcome: Outcome) -> Result<bool, AllocError> {
-    let line = words(alloc, texts)?;
-    match line_of(alloc, &line) {
-        Ok(chosen) => Ok(is_chosen(&chosen, outcome)),
-        Err(error) => Ok(is_printed(&format!(in alloc; "{error}")?, outcome)),
+// The same of a line's words, or what is printed where nothing is chosen.
+fn text_of_line(alloc: Global, words: &[String]) -> Result<String, AllocError> {
+    match line_of(alloc, words) {
+        Ok(chosen) => text_of(alloc, &chosen),
+        Err(error) => format!(in alloc; "refused: {error}"),
     }
+}
+
+// Puts a line's words, which are separated by single blanks.
+fn put_words(alloc: Global, line: &str, words: &mut Vec<String>) -> Result<(), AllocError> {
+    for word in line.split(' ') {
+        words.push(String::from_str(alloc, word)?)?;
+    }
+    Ok(())
+}
+
+// Whether a line comes to what is said.
+fn comes_to(alloc: Global, line: &str, outcome: &Outcome) -> Result<bool, AllocError> {
+    let mut words = Vec::new(alloc);
+    put_words(alloc, line, &mut words)?;
+    let text = text_of_line(alloc, &words)?;
+    Ok(match outcome {
+        Is(wanted) => text.as_str() == *wanted,
+        Has(start, parts) => {
+            text.starts_with(*start) && parts.iter().all(|part| text.contains(*part))
+        }
+    })
 }
 
 #[test]
 fn command_lines_come_to_what_they_say(rt: HostRuntime) -> Result<(), Fail> {
     for (line, outcome) in &LINES {
-        assert!(rt; comes_to(rt.alloc(), line, *outcome)?, "{line:?}");
+        assert!(rt; comes_to(rt.alloc(), line, outcome)?, "{line}");
     }
     Ok(())
 }
 
-// Each command of a script as its line is written, and that the script is read whole first.
+// Each command of a script as its line is written, that the script is read whole first, and a script that works: the first one of
+// `tour.txt` in `examples`, which plays it.
 const HELP_OF_PLAY: &[&str] = &[
     "\nThe script is read whole before its first line runs. ",
     "\n  screen W H NAME [LIMIT]  ",
@@ -102,6 +102,8 @@ const HELP_OF_PLAY: &[&str] = &[
     "\n  hear V HEX  ",
     "\n  cut V  ",
     "\n  close V  ",
+    "\nA script that works:\n  screen 4 3 demo\n  connect 1\n  hear 1 524642203030332e3030380a0101\n\
+        \x20 hear 1 03000000000000040003\n  cut 1\n\n",
     "\nStatus: 0; 1 after a bad line or a refused screen; 2 after a refused command line,\n",
 ];
 
@@ -110,64 +112,60 @@ const OTHER_COMMANDS: &[&str] = &["\n  serve  shows ", "\n  self   serves "];
 
 const VIEWERS_OF_SELF: &str = " how many viewers there are, 1 to 8 [default: 2]\n";
 
-static LINES: [(&[&str], Outcome); 26] = [
-    (&["vncdemo", "play"], Play),
-    (&["vncdemo"], Refused),
-    (&["vncdemo", "--help"], PrintsParts("", OTHER_COMMANDS)),
-    (&["vncdemo", "--version"], Prints("vncdemo 0.1\n")),
+static LINES: [(&str, Outcome); 28] = [
+    ("vncdemo play", Is("play")),
+    ("vncdemo", REFUSED),
+    ("vncdemo --help", Has("refused: ", OTHER_COMMANDS)),
+    ("vncdemo --version", Is("refused: vncdemo 0.1\n")),
     (
-        &["vncdemo", "play", "--help"],
-        PrintsParts(
-            "answers a script from standard input\n\nUsage: vncdemo play\n",
+        "vncdemo play --help",
+        Has(
+            "refused: answers a script from standard input\n\nUsage: vncdemo play\n",
             HELP_OF_PLAY,
         ),
     ),
-    (
-        &["vncdemo", "self", "--help"],
-        PrintsParts("", &[VIEWERS_OF_SELF]),
-    ),
-    (&["vncdemo", "play", "--version"], Refused),
-    (&["vncdemo", "draw"], Refused),
-    (&["vncdemo", "play", "script"], Refused),
-    (&["vncdemo", "play", "--loud"], Refused),
+    ("vncdemo self --help", Has("refused: ", &[VIEWERS_OF_SELF])),
+    ("vncdemo play --version", REFUSED),
+    ("vncdemo draw", REFUSED),
+    ("vncdemo play script", REFUSED),
+    ("vncdemo play --loud", REFUSED),
     // the options of `serve`: none, all, and such as are refused
     (
-        &["vncdemo", "serve"],
-        Serve((5900, 640, 480, 50, 1, false, false), "demo"),
+        "vncdemo serve",
+        Is("serve 5900, 640 by 480, demo, 50, 1, check: false"),
+    ),
+    // with an empty name
+    (
+        "vncdemo serve --port 5901 --width 1 --height=2 --name  --limit 3 --viewers 64 --check --one-thread",
+        Is("serve in one thread 5901, 1 by 2, , 3, 64, check: true"),
+    ),
+    ("vncdemo serve --viewers 0", REFUSED),
+    ("vncdemo serve --viewers 65", REFUSED),
+    (
+        "vncdemo serve --viewers 1024 --one-thread",
+        Is("serve in one thread 5900, 640 by 480, demo, 50, 1024, check: false"),
+    ),
+    ("vncdemo serve --viewers 1025 --one-thread", REFUSED),
+    ("vncdemo serve --port 65536", REFUSED),
+    ("vncdemo serve --width 4294967296", REFUSED),
+    ("vncdemo serve --height -1", REFUSED),
+    ("vncdemo serve --limit many", REFUSED),
+    ("vncdemo serve --name", REFUSED),
+    // the options of `self`
+    ("vncdemo self", Is("self 2")),
+    (
+        "vncdemo self --viewers 1",
+        Is("self 1"),
     ),
     (
-        &[
-            "vncdemo",
-            "serve",
-            "--port",
-            "5901",
-            "--width",
-            "1",
-            "--height=2",
-            "--name",
-            "",
-            "--limit",
-            "3",
-            "--viewers",
-            "64",
-            "--check",
-            "--one-thread",
-        ],
-        Serve((5901, 1, 2, 3, 64, true, true), ""),
+        "vncdemo self --viewers 8",
+        Is("self 8"),
     ),
-    (&["vncdemo", "serve", "--viewers", "0"], Refused),
-    (&["vncdemo", "serve", "--viewers", "65"], Refused),
-    (&["vncdemo", "serve", "--port", "65536"], Refused),
-    (&["vncdemo", "serve", "--width", "4294967296"], Refused),
-    (&["vncdemo", "serve", "--height", "-1"], Refused),
-    (&["vncdemo", "serve", "--limit", "many"], Refused),
-    (&["vncdemo", "serve", "--name"], Refused),
-    // the options of `self`
-    (&["vncdemo", "self"], Own(2, false)),
-    (&["vncdemo", "self", "--viewers", "1"], Own(1, false)),
-    (&["vncdemo", "self", "--viewers", "8"], Own(8, false)),
-    (&["vncdemo", "self", "--one-thread"], Own(2, true)),
-    (&["vncdemo", "self", "--viewers", "0"], Refused),
-    (&["vncdemo", "self", "--viewers", "9"], Refused),
-    (&["vncdemo", "self", "--viewers", "two"], Refused),
+    (
+        "vncdemo self --one-thread",
+        Is("self in one thread 2"),
+    ),
+    ("vncdemo self --viewers 0", REFUSED),
+    ("vncdemo self --viewers 9", REFUSED),
+    ("vncdemo self --viewers two", REFUSED),
 ];

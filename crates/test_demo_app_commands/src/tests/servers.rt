@@ -1,2 +1,371 @@
-mod own;
-mod serve;
+// `serve` over loopback: what is printed, and the status. The bytes are written out from RFC 6143.
+
+ghost use Rattle.std.specs.Prelude.{◌≡◌, ◌<◌};
+
+use super::clients::{Client, talk_all};
+use demo_app::{ServeOptions, serve_in_one_thread, serve_on};
+use listed::Listed;
+use serving::{
+    Application, Brush, Config, History, Input, ScreenError, ServeError, Shared, Told,
+    serve_viewers,
+};
+use std::alloc::{AllocError, Global};
+use std::marker::Brand;
+use std::net::{Ipv4Addr, Net, SocketAddr, TcpListener, TcpStream};
+use std::sync::Wait;
+use std::sync::ledger::{Blank, Ledger};
+use std::test::Fail;
+use std::thread::Threads;
+use std::time::Clock;
+use std::{io, thread};
+
+// A server: the screen's size, whether the history is kept, its clients, whether all connect before the first one talks, and what is
+// printed once they have gone, one of these, with which status.
+#[derive(Clone, Copy)]
+struct Run {
+    name: &'static str,
+    size: (u32, u32),
+    check: bool,
+    clients: &'static [Client],
+    together: bool,
+    printed: &'static [&'static [u8]],
+    // what is printed where one thread serves all: it knows why a viewer that was open left
+    by_one: &'static [u8],
+    status: u8,
+}
+
+fn options(alloc: Global, run: &Run) -> Result<ServeOptions, AllocError> {
+    let (width, height) = run.size;
+    Ok(ServeOptions {
+        width,
+        height,
+        name: Listed::from_slice(alloc, b"demo")?,
+        limit: 50,
+        viewers: run.clients.len() as u32,
+        check: run.check,
+    })
+}
+
+// Whether the clients read what they say, and what is printed is as it says, with its status.
+fn comes_out<R: Threads + Wait + Clock + Net<Listener = TcpListener, Stream = TcpStream> + Sync>(
+    rt: &R,
+    alloc: Global,
+    run: &Run,
+) -> io::Result<bool> {
+    let options = options(alloc, run)?;
+    let listener = rt.bind(SocketAddr::from((Ipv4Addr::LOCALHOST, 0)))?;
+    let address = listener.local_addr()?;
+    let mut out = Vec::new(alloc);
+    let (talked, ended) = thread::join(
+        rt,
+        move || talk_all(rt, alloc, address, run.clients, run.together),
+        || serve_on(rt, alloc, &listener, &options, &mut out),
+    );
+    let is_printed = run.printed.iter().any(|printed| *printed == out.as_slice());
+    Ok(talked? && ended == run.status && is_printed)
+}
+
+// The same of one thread that serves all.
+fn comes_out_of_one_thread<
+    R: Threads + Wait + Clock + Net<Listener = TcpListener, Stream = TcpStream> + Sync,
+>(rt: &R, alloc: Global, run: &Run) -> io::Result<bool> {
+    let options = options(alloc, run)?;
+    let address = SocketAddr::from((Ipv4Addr::LOCALHOST, 0));
+    let listener = mio::net::TcpListener::bind(rt, address)?;
+    let address = listener.local_addr()?;
+    let mut out = Vec::new(alloc);
+    let (talked, ended) = thread::join(
+        rt,
+        move || talk_all(rt, alloc, address, run.clients, run.together),
+        || serve_in_one_thread(rt, alloc, listener, &options, &mut out),
+    );
+    Ok(talked? && ended == run.status && out.as_slice() == run.by_one)
+}
+
+#[test]
+fn viewers_are_served_by_threads_and_by_one(rt: HostRuntime) -> Result<(), Fail> {
+    for run in &RUNS {
+        assert!(rt; comes_out(&rt, rt.alloc(), run)?, "{}", run.name);
+        assert!(rt;
+            comes_out_of_one_thread(&rt, rt.alloc(), run)?,
+            "in one thread: {}",
+            run.name
+        );
+    }
+    Ok(())
+}
+
+// A listener that doesn't wait counts as one that fails.
+#[test]
+fn a_listener_that_fails(rt: HostRuntime) -> Result<(), Fail> {
+    let options = options(rt.alloc(), &SEES_ALL)?;
+    let listener = rt.bind(SocketAddr::from((Ipv4Addr::LOCALHOST, 0)))?;
+    listener.set_nonblocking(true)?;
+    let mut out = Vec::new(rt.alloc());
+    let ended = serve_on(&rt, rt.alloc(), &listener, &options, &mut out);
+    assert!(rt; ended == 5 && out.as_slice() == b"network fault\n".as_slice());
+    Ok(())
+}
+
+/// An application that refuses to go on at an input.
+#[derive(Drop)]
+struct Refusing;
+
+impl<L: Ledger> Application<L> for Refusing {
+    fn on_input<R: Wait>(
+        &mut self,
+        _rt: &R,
+        _shared: &Shared<L>,
+        _brush: &mut Brush<L>,
+        told: &Told,
+    ) -> Result<(), ScreenError> {
+        match &told.input {
+            Input::Text { .. } => Err(ScreenError::TextTooLong),
+            _ => Ok(()),
+        }
+    }
+}
+
+// One client says nothing and waits until its connection is shut: it reads the version, if that was written before, and no byte more.
+// The other one says a text, at which the application does not go on (7.5.6).
+const REFUSED: &[Client] = &[
+    Client {
+        steps: &[],
+        shut: Some(12),
+    },
+    Client {
+        steps: &[(OPENING, GREETING), (b"\x06\0\0\0\0\0\0\x02hi", b"")],
+        shut: Some(0),
+    },
+];
+
+// Whether the server ends with the refusal while one viewer is silent and another one is awaited, and the clients read what they say.
+fn ends_on<
+    L: Ledger + Send + Sync,
+    R: Threads + Wait + Clock + Net<Listener = TcpListener, Stream = TcpStream> + Sync,
+>(rt: &R, alloc: Global, shared: &Shared<L>, brush: &mut Brush<L>) -> io::Result<bool> {
+    let listener = rt.bind(SocketAddr::from((Ipv4Addr::LOCALHOST, 0)))?;
+    let address = listener.local_addr()?;
+    let (talked, served) = thread::join(
+        rt,
+        move || talk_all(rt, alloc, address, REFUSED, true),
+        || serve_viewers(rt, alloc, &listener, shared, brush, 3, &mut Refusing),
+    );
+    Ok(talked? && matches!(served, Err(ServeError::Screen(ScreenError::TextTooLong))))
+}
+
+fn ends_with_ledger<
+    L: Ledger + Send + Sync,
+    R: Threads + Wait + Clock + Net<Listener = TcpListener, Stream = TcpStream> + Sync,
+>(rt: &R, alloc: Global, blank: Blank) -> Result<bool, Fail>
+    requires name { blank.name ≡ L.name }
+    requires parts { blank.parts ≡ L.parts }
+    requires some { 0 < L.parts }
+{
+    let config = Config {
+        width: 4,
+        height: 3,
+        name: Listed::from_slice(alloc, b"demo")?,
+        rects_per_update: 50,
+        history: History::NotKept,
+    };
+    let (shared, mut brush) = Shared::<L>::new(alloc, blank, config)?;
+    Ok(ends_on(rt, alloc, &shared, &mut brush)?)
+}
+
+fn ends<R: Threads + Wait + Clock + Net<Listener = TcpListener, Stream = TcpStream> + Sync>(
+    rt: &R,
+    alloc: Global,
+) -> Result<bool, Fail> {
+    ends_with_ledger::<Brand, R>(rt, alloc, Blank::new(1))
+}
+
+#[test]
+fn a_refusal_ends_everything(rt: HostRuntime) -> Result<(), Fail> {
+    assert!(rt; ends(&rt, rt.alloc())?);
+    Ok(())
+}
+
+// The opening in 3.8 and its answers on a screen of 4 by 3 (7.1 to 7.3).
+const OPENING: &[u8] = b"RFB 003.008\n\x01\x01";
+
+const GREETING: &[u8] =
+    b"RFB 003.008\n\x01\x01\0\0\0\0\0\x04\0\x03\x20\x18\0\x01\0\xff\0\xff\0\xff\x10\x08\0\0\0\0\0\0\0\x04demo";
+
+// A request of that screen, and an update of it in Raw, all of it black (7.5.3, 7.6.1, 7.7.1).
+const ALL: &[u8] = b"\x03\0\0\0\0\0\0\x04\0\x03";
+
+const BLACK: &[u8] = b"\0\0\0\x01\0\0\0\0\0\x04\0\x03\0\0\0\0\
+    \0\0\0\0\0\0\0\0\0\0\0\0\0\0\0\0\0\0\0\0\0\0\0\0\
+    \0\0\0\0\0\0\0\0\0\0\0\0\0\0\0\0\0\0\0\0\0\0\0\0";
+
+const SEES: Client = Client {
+    steps: &[(OPENING, GREETING), (ALL, BLACK)],
+    shut: None,
+};
+
+// It takes the server for another one's.
+const ASTRAY: Client = Client {
+    steps: &[(b"GET / HTTP/1.0\r\n\r\n", b"RFB 003.008\n")],
+    shut: None,
+};
+
+// It goes away in its opening, once it has read all.
+const EARLY: Client = Client {
+    steps: &[(b"RFB 003", b"RFB 003.008\n")],
+    shut: None,
+};
+
+// It says what no message says.
+const WRONG: Client = Client {
+    steps: &[(OPENING, GREETING), (b"\x09", b"")],
+    shut: Some(0),
+};
+
+const SEES_ALL: Run = Run {
+    name: "the whole screen is seen",
+    size: (4, 3),
+    check: true,
+    clients: &[SEES],
+    together: false,
+    printed: &[b"viewer 1 Closed\nfinish ok\n"],
+    by_one: b"viewer 1 EndOfInput\nfinish ok\n",
+    status: 0,
+};
+
+static RUNS: [Run; 10] = [
+    SEES_ALL,
+    Run {
+        name: "two viewers, and no history",
+        check: false,
+        clients: &[SEES, SEES],
+        printed: &[b"viewer 1 Closed\nviewer 2 Closed\n"],
+        by_one: b"viewer 1 EndOfInput\nviewer 2 EndOfInput\n",
+        ..SEES_ALL
+    },
+    Run {
+        name: "no such screen",
+        size: (0, 3),
+        clients: &[],
+        printed: &[b"refused 1 BadSize\n"],
+        by_one: b"refused 1 BadSize\n",
+        status: 1,
+        ..SEES_ALL
+    },
+    Run {
+        name: "inputs, and what they come to",
+        clients: &[Client {
+            steps: &[
+                (OPENING, GREETING),
+                // a key goes down (7.5.4): the bell (7.6.3)
+                (b"\x04\x01\0\0\0\0\xff\x0d", b"\x02"),
+                // the key goes up, and a text (7.5.6), which comes back (7.6.4)
+                (
+                    b"\x04\0\0\0\0\0\xff\x0d\x06\0\0\0\0\0\0\x02hi",
+                    b"\x03\0\0\0\0\0\0\x02hi",
+                ),
+                // a request of the place (1, 1)
+                (
+                    b"\x03\0\0\x01\0\x01\0\x01\0\x01",
+                    b"\0\0\0\x01\0\x01\0\x01\0\x01\0\x01\0\0\0\0\0\0\0\0",
+                ),
+                // a request of what changes there, and pointers (7.5.5): with the second button, off the screen, and with the
+                // first button and the third, which makes the place white
+                (
+                    b"\x03\x01\0\x01\0\x01\0\x01\0\x01\
+                        \x05\x02\0\x01\0\x01\x05\x01\0\x04\0\x01\x05\x05\0\x01\0\x01",
+                    b"\0\0\0\x01\0\x01\0\x01\0\x01\0\x01\0\0\0\0\xff\xff\xff\0",
+                ),
+            ],
+            shut: None,
+        }],
+        ..SEES_ALL
+    },
+    Run {
+        name: "a client of another server",
+        clients: &[ASTRAY],
+        printed: &[b"viewer 1 Fault\nfinish ok\n"],
+        by_one: b"viewer 1 Fault\nfinish ok\n",
+        ..SEES_ALL
+    },
+    Run {
+        name: "a client that goes away in its opening",
+        clients: &[EARLY],
+        printed: &[b"viewer 1 EndOfInput\nfinish ok\n"],
+        by_one: b"viewer 1 EndOfInput\nfinish ok\n",
+        ..SEES_ALL
+    },
+    // its sender finds the fault, or that the viewer is closed
+    Run {
+        name: "a client that says what no message says",
+        clients: &[WRONG],
+        printed: &[
+            b"viewer 1 Fault\nfinish ok\n",
+            b"viewer 1 Closed\nfinish ok\n",
+        ],
+        by_one: b"viewer 1 Fault\nfinish ok\n",
+        ..SEES_ALL
+    },
+    Run {
+        name: "a client that goes away with a byte unread, which resets the connection",
+        clients: &[Client {
+            steps: &[(b"", b"RFB 003.008")],
+            shut: None,
+        }],
+        printed: &[b"viewer 1 ReadFailed\nfinish ok\n"],
+        by_one: b"viewer 1 ReadFailed\nfinish ok\n",
+        ..SEES_ALL
+    },
+    // of the update of 16 MB a connection holds a part
+    Run {
+        name: "a client that goes away once a long update has begun",
+        size: (2048, 2048),
+        check: false,
+        clients: &[Client {
+            steps: &[(
+                b"RFB 003.008\n\x01\x01\x03\0\0\0\0\0\x08\0\x08\0",
+                b"RFB 003.008\n\x01\x01\0\0\0\0\x08\0\x08\0\x20\x18\0\x01\0\xff\0\xff\0\xff\x10\x08\0\0\0\0\0\0\0\x04demo\
+                    \0\0\0\x01\0\0\0\0\x08\0\x08\0\0\0\0\0",
+            )],
+            shut: None,
+        }],
+        printed: &[b"viewer 1 WriteFailed\n"],
+        by_one: b"viewer 1 WriteFailed\n",
+        ..SEES_ALL
+    },
+    // they connect in this order and talk in the other: nobody waits for another one
+    Run {
+        name: "six clients at once",
+        clients: &[
+            // it paints the place (2, 1) by a pointer, and sees that
+            Client {
+                steps: &[
+                    (OPENING, GREETING),
+                    (ALL, BLACK),
+                    (
+                        b"\x03\x01\0\0\0\0\0\x04\0\x03\x05\x01\0\x02\0\x01",
+                        b"\0\0\0\x01\0\x02\0\x01\0\x01\0\x01\0\0\0\0\xff\xff\xff\0",
+                    ),
+                ],
+                shut: None,
+            },
+            // it presses Return, and hears the bell
+            Client {
+                steps: &[(OPENING, GREETING), (b"\x04\x01\0\0\0\0\xff\x0d", b"\x02")],
+                shut: None,
+            },
+            ASTRAY,
+            EARLY,
+            WRONG,
+            SEES,
+        ],
+        together: true,
+        printed: &[
+            b"viewer 1 Closed\nviewer 2 Closed\nviewer 3 Fault\nviewer 4 EndOfInput\nviewer 5 Fault\nviewer 6 Closed\nfinish ok\n",
+            b"viewer 1 Closed\nviewer 2 Closed\nviewer 3 Fault\nviewer 4 EndOfInput\nviewer 5 Closed\nviewer 6 Closed\nfinish ok\n",
+        ],
+        by_one: b"viewer 1 EndOfInput\nviewer 2 EndOfInput\nviewer 3 Fault\nviewer 4 EndOfInput\nviewer 5 Fault\n\
+            viewer 6 EndOfInput\nfinish ok\n",
+        ..SEES_ALL
+    },
+];

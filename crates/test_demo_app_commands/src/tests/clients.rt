@@ -1,0 +1,103 @@
+// Clients over loopback, and what they read. The bytes are written out from RFC 6143.
+
+use std::alloc::Global;
+use std::io;
+use std::io::{Read, Write};
+use std::net::{Net, SocketAddr, TcpListener, TcpStream};
+
+/// What a client says, and what it reads then.
+pub type Step = (&'static [u8], &'static [u8]);
+
+/// What a client does before it goes away, and how many bytes it reads at most until its connection is shut, where it waits for that.
+#[derive(Clone, Copy)]
+pub struct Client {
+    pub steps: &'static [Step],
+    pub shut: Option<usize>,
+}
+
+/// Whether a client reads these bytes next.
+fn reads(stream: &mut TcpStream, wanted: &[u8]) -> io::Result<bool> {
+    let mut byte = [0];
+    for expected in wanted {
+        stream.read_exact(&mut byte)?;
+        if byte[0] != *expected {
+            return Ok(false);
+        }
+    }
+    Ok(true)
+}
+
+/// Whether its connection is shut before it has read more bytes than these.
+fn is_shut(stream: &mut TcpStream, most: usize) -> bool {
+    let mut byte = [0];
+    for _ in 0..=most {
+        if !matches!(stream.read(&mut byte), Ok(1)) {
+            return true;
+        }
+    }
+    false
+}
+
+/// A client's steps on its connection. Whether it reads what it says.
+fn talk(stream: &mut TcpStream, client: &Client) -> io::Result<bool> {
+    for (says, wanted) in client.steps {
+        stream.write_all(says)?;
+        if !reads(stream, wanted)? {
+            return Ok(false);
+        }
+    }
+    Ok(match client.shut {
+        Some(most) => is_shut(stream, most),
+        None => true,
+    })
+}
+
+/// The clients talk, the last one first, each on the connection that was made last, or on a new one. Whether each reads what it says.
+fn talk_in_turn<R: Net<Listener = TcpListener, Stream = TcpStream>>(
+    rt: &R,
+    address: SocketAddr,
+    clients: &[Client],
+    streams: &mut Vec<TcpStream>,
+) -> io::Result<bool> {
+    let mut is_right = true;
+    for client in clients.iter().rev() {
+        let mut stream = match streams.pop() {
+            Some(stream) => stream,
+            None => rt.connect(address)?,
+        };
+        is_right = talk(&mut stream, client)? && is_right;
+    }
+    Ok(is_right)
+}
+
+/// So many connections are made.
+fn connect<R: Net<Listener = TcpListener, Stream = TcpStream>>(
+    rt: &R,
+    address: SocketAddr,
+    count: usize,
+    streams: &mut Vec<TcpStream>,
+) -> io::Result<()> {
+    for _ in 0..count {
+        streams.push(rt.connect(address)?)?;
+    }
+    Ok(())
+}
+
+/// Clients talk one after the other, the last one first; all of them have connected before, where that is wished. Whether each reads
+/// what it says.
+pub fn talk_all<R: Net<Listener = TcpListener, Stream = TcpStream>>(
+    rt: &R,
+    alloc: Global,
+    address: SocketAddr,
+    clients: &[Client],
+    together: bool,
+) -> io::Result<bool> {
+    let mut streams = Vec::new(alloc);
+    connect(
+        rt,
+        address,
+        if together { clients.len() } else { 0 },
+        &mut streams,
+    )?;
+    talk_in_turn(rt, address, clients, &mut streams)
+}

@@ -1,5 +1,0 @@
-mod closing;
-mod drawing;
-mod runs;
-mod single;
-mod waking;
