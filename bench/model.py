@@ -571,18 +571,25 @@ def transcripts(text):
             exchanges[-1][1].append(line)
 
 
+def first_word(lines):
+    return next((line.split(" ")[0] for line in lines if line and not line.startswith("#")), "")
+
+
+def answers_to(lines):
+    """The answers to each line of a transcript of `encode` or of `play`, and its status."""
+    if first_word(lines) == "encode":
+        return [encoded(line) if line.startswith("encode ") else [] for line in lines], 0
+    return play(lines)
+
+
 def check(name):
     agreed = others = 0
     for at, (exchanges, status) in enumerate(transcripts(open(name, encoding="utf-8", newline="").read()), 1):
         said = [line for line, _ in exchanges]
-        first = next((line.split(" ")[0] for line in said if line and not line.startswith("#")), "")
-        if first == "viewer":
+        if first_word(said) == "viewer":
             others += 1
             continue
-        if first == "encode":
-            given, ends = [encoded(line) if line.startswith("encode ") else [] for line in said], 0
-        else:
-            given, ends = play(said)
+        given, ends = answers_to(said)
         wanted = [answers for _, answers in exchanges]
         given += [[] for _ in wanted[len(given) :]]
         if given == wanted and ends == status:
@@ -626,9 +633,9 @@ def chosen_format(form):
 class Script:
     """The lines of a script as they are drawn."""
 
-    def __init__(self, comment, width, height, limit=50):
-        self.width, self.height, self.limit = width, height, limit
-        self.lines = ["# " + comment, f"screen {width} {height} drawn {limit}"]
+    def __init__(self, comment, width=0, height=0, limit=50):
+        self.width, self.height = width, height
+        self.lines = ["# " + comment] + ([f"screen {width} {height} drawn {limit}"] if width else [])
 
     def say(self, *words):
         self.lines.append(" ".join(map(str, words)))
@@ -648,7 +655,7 @@ class Script:
         self.say("cut", viewer)
 
     def text(self):
-        answers, status = play(self.lines)
+        answers, status = answers_to(self.lines)
         blocks = [line + "\n" for said, answered in zip(self.lines, answers) for line in ["> " + said, *answered]]
         return "".join(blocks) + f"status {status}\n"
 
@@ -708,6 +715,19 @@ def pictures(draw):
                     script.hear(viewer, chosen_format(draw.choice(forms)))
                 script.hear(viewer, request(0, x, y, w, h))
                 script.say("cut", viewer)
+        yield script
+
+
+def encodings_alone(draw):
+    """Pictures coded by the encoders themselves, in RRE and Hextile by turns."""
+    sides = [(18, 18), (33, 3), (3, 35), (40, 2), (17, 17), (2, 80), (20, 9), (9, 20)]
+    for at in range(ENCODED):
+        script = Script(f"Pictures {at * 10 + 1} to {at * 10 + 10}, coded whole.")
+        for turn in range(10):
+            width, height = draw.choice(sides) if turn % 3 == 0 else (draw.randint(1, 16), draw.randint(1, 12))
+            colours = "".join(f"{colour:06x}" for colour in drawn_picture(draw, width, height))
+            form = draw.choice([*FORMATS, LOWEST, MAPPED]).hex() if draw.randrange(8) else "-"
+            script.say("encode", ("rre", "hextile")[turn % 2], form, width, height, colours)
         yield script
 
 
@@ -822,7 +842,7 @@ def pieces(_draw):
         yield script
 
 
-PICTURES, MARKS = 150, 32
+PICTURES, ENCODED, MARKS = 126, 28, 32
 LETTERS = "abcdefghijklmnopqrstuvwxyzABCD"
 
 
@@ -838,7 +858,7 @@ def print_moves():
 
 
 def write(folder):
-    for name, drawn in (("drawn_pictures", pictures), ("drawn_marks", marks), ("drawn_moves", moves), ("drawn_pieces", pieces)):
+    for name, drawn in (("drawn_pictures", pictures), ("drawn_encodings", encodings_alone), ("drawn_marks", marks), ("drawn_moves", moves), ("drawn_pieces", pieces)):
         with open(f"{folder}/{name}.txt", "w", encoding="utf-8", newline="") as file:
             file.write("\n".join(script.text() for script in drawn(random.Random(name))))
 

@@ -143,10 +143,10 @@ static CALLS: [Call; 13] = [
         appends: &[1, 2, 0, 3, 0, 4, 0, 5, 0xff, 0xff, 0xff, 0x21],
     },
     Call {
-        kind: Kind::Copy(0, 0),
+        kind: Kind::Copy(5, 258),
         area: area!(1, 0, 3, 1),
         colours: &[],
-        appends: &[0, 1, 0, 0, 0, 3, 0, 1, 0, 0, 0, 1, 0, 0, 0, 0],
+        appends: &[0, 1, 0, 0, 0, 3, 0, 1, 0, 0, 0, 1, 0, 5, 1, 2],
     },
     Call {
         kind: Kind::Raw,
