@@ -14,8 +14,8 @@
  * Threads    One call at a time for each screen, and for each update, by any thread: where several threads use one, a lock of the
  *            program's stands around each call. Two screens have nothing in common. A call for an update may run beside one for its
  *            screen, but for vnc_screen_cut_into, which is a call for both.
- * Results    0 or more: done. Below 0: a vnc_code, and nothing has changed. A screen that is shut answers VNC_SHUT to each call
- *            for it but vnc_screen_open and vnc_screen_shut.
+ * Results    0 or more: done. Below 0: a vnc_code, and nothing has changed, but that vnc_screen_take may have taken some pixels where
+ *            memory was refused. A screen that is shut answers VNC_SHUT to each call for it but vnc_screen_open and vnc_screen_shut.
  * Held       What waits for a viewer is bounded: the server's words of the opening, some 300 bytes, and one update, which holds 4
  *            bytes for each place and is encoded as it is fetched; so does a vnc_update. Inputs wait until they are fetched.
  * Undefined  A pointer to a screen or an update that is null, freed, not initialised or moved; room or data that isn't there for its

@@ -12,8 +12,8 @@
  * Threads    One call at a time for each server, by any thread: where several threads use one, a lock of the program's stands around
  *            each call, and so a turn that waits holds it; vnc_waker_wake ends the wait. Two servers have nothing in common. No call
  *            locks or starts a thread, and only vnc_server_process_events waits.
- * Results    0 or more: done. Below 0: a vnc_code, and nothing has changed (vnc_server_process_events says what has). A server that is
- *            shut answers VNC_SHUT to each call but vnc_server_listen and vnc_server_close.
+ * Results    0 or more: done. Below 0: a vnc_code, and nothing has changed, but for vnc_server_process_events and vnc_server_take, which
+ *            say what has. A server that is shut answers VNC_SHUT to each call but vnc_server_listen and vnc_server_close.
  * Held       For each viewer one update on its way, which holds 4 bytes for each place, and what its socket didn't take of 64 KB. What
  *            viewers told waits until it is fetched: at most 4,096 inputs with 4 MB of texts, and 1,024 comings and goings. What comes
  *            when there is no more room, or memory for it is refused, is lost, and counted: vnc_server_lost.
@@ -103,9 +103,9 @@ static inline void vnc_server_free(vnc_server *server)
 }
 
 /* A turn (rfbProcessEvents): waits until something can be done, for at most so many milliseconds, and below 0 without end. Then it
- * accepts who came, hears what viewers sent, and writes what they are to be sent; a turn is bounded, however much they send. 0, or
- * VNC_OUT_OF_MEMORY, VNC_NETWORK_FAILED or VNC_CLOCK_FAILED where it ended early: then what it did stays done, each viewer is served as
- * before, and the next turn goes on. */
+ * hears what viewers sent, writes what they are to be sent, and last accepts who came, who is heard from the next turn on; a turn is
+ * bounded, however much they send. 0, or VNC_OUT_OF_MEMORY, VNC_NETWORK_FAILED or VNC_CLOCK_FAILED where it ended early: then what it did
+ * stays done, each viewer is served as before, and the next turn goes on. */
 int32_t vnc_server_process_events(vnc_server *server, int32_t milliseconds);
 
 /* For a program that waits in a loop of its own, by poll, epoll or select: it takes a turn, of 0 milliseconds, once this handle is ready
@@ -147,10 +147,9 @@ int64_t vnc_server_full_requests(vnc_server *server);
 int64_t vnc_server_lost(vnc_server *server);
 
 /* A waker ends a wait of vnc_server_process_events, or the next one's, from another thread; then the thread that takes the turns may
- * see to what is new. It lies in memory of the program's, of vnc_waker_size() bytes at a
- * multiple of 16, as a server does. One call at a time for each waker; unlike a server's own, vnc_waker_wake may be called while a call
- * for the server runs. A server has one waker at a time. It may be closed before the server or after it; once the server is closed, it
- * wakes nobody. */
+ * see to what is new. It lies in memory of the program's, of vnc_waker_size() bytes at a multiple of 16, as a server does. One call at a
+ * time for each waker; unlike a server's own, vnc_waker_wake may be called while a call for the server runs. A server has one waker at a
+ * time. It may be closed before the server or after it; once the server is closed, it wakes nobody. */
 typedef struct vnc_waker vnc_waker;
 
 size_t vnc_waker_size(void);

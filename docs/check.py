@@ -14,7 +14,7 @@ TOP = os.path.dirname(os.path.dirname(os.path.realpath(__file__)))
 DOCUMENTS = ["README.md", "bench/README.md", *sorted(glob.glob("docs/*.md", root_dir=TOP))]
 COMMENTS = {".rt": "//", ".antt": "--"}
 # Words between backticks that are no names of this repository: of other programs, of libraries, of C and of Rust.
-FOREIGN = re.compile(r"(rfb|sra)[A-Z]\w*|rfb\w*\.h|\w+_t|lib\w+|x\w*vnc\w*|gvnc\w+|vncsnapshot|vncev|indexmap|[iu](8|16|32|64|size)|[PC]C|main|ssh|stunnel\w*")
+FOREIGN = re.compile(r"(rfb|sra)[A-Z]\w*|rfb\w*\.h|\w+_t|lib\w+|x\w*vnc\w*|gvnc\w+|vncsnapshot|vncev|indexmap|[iu](8|16|32|64|size)|[PC]C|main|ssh|stunnel\w*|rattle-kit-\w+")
 
 
 def text_of(path):
