@@ -33,7 +33,9 @@ fn text_of_serve(
         check,
     } = options;
     let name = str::from_utf8(name.as_slice()).unwrap_or("no text");
-    format!(in alloc; "{command} {port}, {width} by {height}, {name}, {limit}, {viewers}, check: {check}")
+    format!(in alloc;
+        "{command} {port}, {width} by {height}, {name}, {limit}, {viewers}, check: {check}"
+    )
 }
 
 // What is chosen, as a text.
@@ -153,18 +155,9 @@ static LINES: [(&str, Outcome); 28] = [
     ("vncdemo serve --name", REFUSED),
     // the options of `self`
     ("vncdemo self", Is("self 2")),
-    (
-        "vncdemo self --viewers 1",
-        Is("self 1"),
-    ),
-    (
-        "vncdemo self --viewers 8",
-        Is("self 8"),
-    ),
-    (
-        "vncdemo self --one-thread",
-        Is("self in one thread 2"),
-    ),
+    ("vncdemo self --viewers 1", Is("self 1")),
+    ("vncdemo self --viewers 8", Is("self 8")),
+    ("vncdemo self --one-thread", Is("self in one thread 2")),
     ("vncdemo self --viewers 0", REFUSED),
     ("vncdemo self --viewers 9", REFUSED),
     ("vncdemo self --viewers two", REFUSED),
