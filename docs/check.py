@@ -6,6 +6,7 @@ with status 1 where there is one. CHANGELOG.md, which speaks of names that are g
 import glob
 import os
 import re
+import shutil
 import subprocess
 import sys
 import tempfile
@@ -14,7 +15,8 @@ TOP = os.path.dirname(os.path.dirname(os.path.realpath(__file__)))
 DOCUMENTS = ["README.md", "bench/README.md", *sorted(glob.glob("docs/*.md", root_dir=TOP))]
 COMMENTS = {".rt": "//", ".antt": "--"}
 # Words between backticks that are no names of this repository: of other programs, of libraries, of C and of Rust.
-FOREIGN = re.compile(r"(rfb|sra)[A-Z]\w*|rfb\w*\.h|\w+_t|lib\w+|x\w*vnc\w*|gvnc\w+|vncsnapshot|vncev|indexmap|[iu](8|16|32|64|size)|[PC]C|main|ssh|stunnel\w*|rattle-kit-\w+")
+FOREIGN = re.compile(r"(rfb|sra)[A-Z]\w*|rfb\w*\.h|\w+_t|lib\w+|x\w*vnc\w*|gvnc\w+|vncsnapshot|vncev|indexmap|[iu](8|16|32|64|size)"
+                     r"|[PC]C|main|ssh|stunnel\w*|rattle-kit-\w+")
 
 
 def text_of(path):
@@ -25,35 +27,34 @@ def text_of(path):
 def words_in(path):
     """The words of a file, but for those that only comments have."""
     text, mark = text_of(path), COMMENTS.get(os.path.splitext(path)[1])
-    text = re.sub(re.escape(mark) + ".*", "", text) if mark else text
-    return {word for words in re.findall(r"[A-Za-z_][\w-]*", text) for word in {words, *words.split("-")}}
+    text = re.sub(mark + ".*", "", text) if mark else text
+    return {part for word in re.findall(r"[A-Za-z_][\w-]*", text) for part in (word, *word.split("-"))}
 
 
 def pattern_of(name):
-    """What a name stands for, by its stars, its <parts>, and the underscore that it begins or ends with."""
-    parts = re.split(r"(\*|<\w+>)", re.sub(r"^_|_$", lambda it: "*_" if it.start() == 0 and len(name) > 1 else "_*", name))
-    return re.compile("".join(r"\w*" if re.fullmatch(r"\*|<\w+>", part) else re.escape(part) for part in parts))
+    """A name as a pattern: a star, a <part>, and what an underscore at an end leaves open stand for anything."""
+    name = re.sub(r"^_(?=\w)", "*_", re.sub(r"(?<=\w)_$", "_*", name))
+    return re.compile(r"\w*".join(map(re.escape, re.split(r"\*|<\w+>", name))))
 
 
 def files_of(name, paths):
-    """The paths that a document may mean: the name as it stands, or what it ends."""
-    wanted = re.compile("(.*/)?" + pattern_of(name.rstrip("/").removeprefix("./")).pattern)
+    """The paths that a document may mean: the name as it stands, or as a path's end."""
+    wanted = re.compile("(.*/)?" + pattern_of(name.rstrip("/")).pattern)
     return [path for path in paths if wanted.fullmatch(path)]
 
 
 def unknown(document, paths, words):
     """What a document names that is not there, or not in the file that it says."""
     text = re.sub(r"^```.*?^```", "", text_of(document), flags=re.S | re.M)
-    everywhere = set().union(*words.values()) | {part for path in paths for part in re.findall(r"\w+", path)}
+    everywhere = set().union(*words.values()) | {word for path in paths for word in re.findall(r"\w+", path)}
     for name in re.findall(r"`([^`\n]+)`", text):
+        parts = re.findall(r"[A-Za-z_*<][\w*<>-]*", name)
         if re.search(r"\s|^[-/.$\d]|=|://", name) or FOREIGN.fullmatch(name):
             continue
         if re.search(r"\w/|\.[a-z]+$", name):
-            if not files_of(name, paths) and not re.match(r"(crates/\w+|bench)/(out|build)\b", name):
+            if not files_of(name, paths) and not re.match(r"(crates/\w+/out|bench/build)/", name):
                 yield f"`{name}`, which is not there"
-            continue
-        parts = re.findall(r"[A-Za-z_*<>][\w*<>-]*", name)
-        if any(not FOREIGN.fullmatch(part) and not any(map(pattern_of(part).fullmatch, everywhere)) for part in parts):
+        elif any(not FOREIGN.fullmatch(part) and not any(map(pattern_of(part).fullmatch, everywhere)) for part in parts):
             yield f"`{name}`, which is not there"
         elif "::" in name and not any(set(parts) <= its for its in words.values()):
             yield f"`{name}`, which no file has together"
@@ -64,39 +65,40 @@ def unknown(document, paths, words):
 
 
 def cited(text, handed_on):
-    """The files of definitions that a text cites, each where it stands."""
-    for name in re.findall(r"use Rattle\.(\w+)\.specs\.(\w+)", text):
-        while name in handed_on:
-            name = handed_on[name]
-        yield name
+    """The files of definitions that a text cites, as crate and name, each where it stands."""
+    for it in re.findall(r"use Rattle\.(\w+)\.specs\.(\w+)", text):
+        yield handed_on.get(it, it)
 
 
 def definitions(files):
-    """What docs/DEFINITIONS.md lacks of the files that contracts rest on, but for those that it leaves out by kind; and what it has too much."""
-    specs = {tuple(path.split("/")[1::2]): path for path in files if re.match(r"crates/\w+/specs/\w+\.antt$", path)}
-    specs = {(crate, name.removesuffix(".antt")): text_of(path) for (crate, name), path in specs.items()}
+    """What docs/DEFINITIONS.md lacks of the files that contracts rest on, but for kinds that it leaves out, and what it has too much."""
+    found = [re.fullmatch(r"crates/(\w+)/specs/(\w+)\.antt", path) for path in files]
+    specs = {it.groups(): text_of(it[0]) for it in found if it}
     handed_on = {(crate, it[1]): it for crate, name in specs if name == "Lib" for it in re.findall(r"pub use Rattle\.(\w+)\.specs\.(\w+)", specs[crate, name])}
     left = [it for path in files if re.match(r"crates/\w+/src/.*\.rt$", path) for it in cited(text_of(path), handed_on)]
     wanted = set()
     while left:
-        if (it := left.pop()) in specs and it not in wanted and not it[1].endswith(("Lemmas", "Examples")):
+        it = left.pop()
+        if it in specs and it not in wanted and not it[1].endswith(("Lemmas", "Examples")):
             wanted.add(it)
             left += cited(specs[it], handed_on)
-    named, crate = set(), None
+    named, crate = set(), ""
     for name in re.findall(r"`([^`\n]+)`", text_of("docs/DEFINITIONS.md")):
-        parts = re.fullmatch(r"(?:(?:crates/)?(\w+)/specs/)?(\w+)\.antt", name)
-        crate = name if os.path.isdir(f"{TOP}/crates/{name}") else parts and parts[1] or crate
-        if parts and parts[2] != "Examples":
-            named.add((crate, parts[2]))
+        it = re.fullmatch(r"(?:(?:crates/)?(\w+)/specs/)?(\w+)\.antt", name)
+        if it:
+            crate = it[1] or crate
+            named.add((crate, it[2]))
+        elif os.path.isdir(f"{TOP}/crates/{name}"):
+            crate = name
     yield from (f"docs/DEFINITIONS.md has no {name}.antt of {crate}, on which a contract rests" for crate, name in sorted(wanted - named))
-    yield from (f"docs/DEFINITIONS.md has {name}.antt of {crate}, which is not there" for crate, name in sorted(named - set(specs), key=str))
+    yield from (f"docs/DEFINITIONS.md has {name}.antt of {crate}, which is not there" for crate, name in sorted(named - set(specs)) if name != "Examples")
 
 
 def doors():
     """The proofs of a C library that aren't what the generator writes."""
     for name in ("vnc_screen", "vnc_server"):
         with tempfile.TemporaryDirectory() as room:
-            subprocess.run(["cp", "-r", f"{TOP}/crates/{name}", f"{room}/{name}"], check=True)
+            shutil.copytree(f"{TOP}/crates/{name}", f"{room}/{name}", ignore=shutil.ignore_patterns("out"))
             subprocess.run([sys.executable, f"{TOP}/c/tools/walks.py", f"{room}/{name}"], check=True, stdout=subprocess.DEVNULL)
             ran = subprocess.run(["diff", "-rq", "-x", "out", f"{TOP}/crates/{name}", f"{room}/{name}"], capture_output=True, text=True)
             yield from (f"c/tools/walks.py: {it}" for it in ran.stdout.replace(room, "made").replace(TOP + "/", "").splitlines())
