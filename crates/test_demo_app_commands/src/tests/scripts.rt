@@ -240,7 +240,7 @@ fn a_writer_that_fails_or_is_not_flushed(rt: HostRuntime) {
 
 // The script was played, or ended where a growth was refused: whole lines, and then `out of memory`.
 #[test]
-fn memory_that_is_refused(rt: HostRuntime) {
+fn whichever_growth_is_refused_the_script_ends(rt: HostRuntime) {
     let Ok(mut out) = Vec::with_capacity(rt.alloc(), 1 << 12) else {
         return;
     };
