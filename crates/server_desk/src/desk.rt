@@ -177,7 +177,7 @@ impl ServerDesk {
     }
 
     /// One turn of the loop (`rfbProcessEvents` of `rfb.h`): it waits until something is ready, at most so many milliseconds, and below 0
-    /// without end; then who came is accepted, what viewers sent is heard, and what they are owed is written. 0, or why the turn ended
+    /// without end; then what viewers sent is heard, what they are owed is written, and who came is accepted. 0, or why the turn ended
     /// before its end: a code of `code_of`, `NETWORK_FAILED` or `CLOCK_FAILED`; also then each viewer is served as far as the turn
     /// came, and what it brought waits.
     pub fn process_events(&mut self, milliseconds: i32) -> i32
