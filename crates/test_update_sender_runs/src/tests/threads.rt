@@ -144,13 +144,27 @@ impl Viewer<'_> {
             )
     }
 
-    /// What was kept as sent to it, how many updates were cut, and why it was sent no more.
-    fn left(&self) -> Option<(&[u8], u64, Ended)> {
-        match (&self.over, &self.sending.write) {
-            (Some(receipt), _) => Some((receipt.sent.as_slice(), receipt.cuts, receipt.ended)),
-            (None, Some(half)) => Some((half.sent.as_slice(), half.cuts, half.ended)),
-            (None, None) => None,
-        }
+    /// How many updates were cut for it, and why it was sent no more; None where what is kept as sent isn't what its writer took, or
+    /// isn't nothing where nothing is kept.
+    fn left(&self, is_kept: bool) -> Option<(u64, Ended)> {
+        let written = self.sending.sink.written.as_slice();
+        let (is_written, is_empty, cuts, ended) = match (&self.over, &self.sending.write) {
+            (Some(receipt), _) => (
+                receipt.sent.as_slice() == written,
+                receipt.sent.is_empty(),
+                receipt.cuts,
+                receipt.ended,
+            ),
+            (None, Some(half)) => (
+                half.sent.as_slice() == written,
+                half.sent.is_empty(),
+                half.cuts,
+                half.ended,
+            ),
+            (None, None) => return None,
+        };
+        let is_right = if is_kept { is_written } else { is_empty };
+        is_right.then_some((cuts, ended))
     }
 
     /// Whether its writer took what was due, which is kept where it is to be; its gate was told of each update that was written
@@ -165,13 +179,13 @@ impl Viewer<'_> {
         is_kept: bool,
     ) -> bool {
         let is_gone = client.ended == Ended::Stopped || self.is_gone(rt, shared);
-        let Some((kept, cuts, ended)) = self.left() else {
+        let Some((cuts, ended)) = self.left(is_kept) else {
             return false;
         };
         let written = self.sending.sink.written.as_slice();
-        let due = match client.sent {
-            Some(count) => bytes.get(..count).unwrap_or_default(),
-            None => written,
+        let is_due = match client.sent {
+            Some(count) => bytes.get(..count) == Some(written),
+            None => true,
         };
         let updates = cuts.saturating_sub(u64::from(ended.may_break_off()));
         let wrote = if updates == 0 {
@@ -181,8 +195,7 @@ impl Viewer<'_> {
         };
         let told = guard.progress(self.sending.sink.viewer);
         is_gone
-            && written == due
-            && kept == if is_kept { due } else { &[] }
+            && is_due
             && ended == client.ended
             && told.wrote.load(Ordering::SeqCst) == wrote as u64
             && told.ended.load(Ordering::SeqCst) == 1
