@@ -10,7 +10,7 @@ use super::steps::{Seat, Step, holds};
 use super::threads::{Client, Crew, Reading, Viewer, Way, work};
 use listed::Listed;
 use receipts::Receipt;
-use screen::{Event, Fault, History, ScreenError};
+use screen::{Config, Event, Fault, History, ScreenError};
 use std::alloc::{AllocError, Global};
 use std::marker::Brand;
 use std::mem;
@@ -300,7 +300,13 @@ fn whichever_growth_is_refused_the_receipts_are_right(rt: HostRuntime) {
 
 /// Whether drawing calls that were made are found to differ at a place from those of a history.
 fn differ(alloc: Global, history: &[Event], drawn: &[Event], at: u64) -> Result<bool, AllocError> {
-    let config = config(alloc, Picture::Black, History::Kept)?;
+    let config = Config {
+        width: 4,
+        height: 3,
+        name: Listed::from_vec(b"demo".to_vec(alloc)?),
+        rects_per_update: 50,
+        history: History::Kept,
+    };
     let found = check(alloc, &config, history, drawn, &[]);
     Ok(is_found(&found, Verdict::Refused(FinishError::Drawing { at })))
 }
