@@ -41,7 +41,7 @@ fn options(alloc: Global, run: &Run) -> Result<ServeOptions, AllocError> {
         height,
         name: Listed::from_slice(alloc, b"demo")?,
         limit: 50,
-        viewers: run.clients.len() as u32,
+        viewers: u32::try_from(run.clients.len()).unwrap_or(0),
         check: run.check,
     })
 }
