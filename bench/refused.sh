@@ -12,7 +12,8 @@ tests=0
 
 # How many allocations a test makes where none is refused.
 allocations() { # PROGRAM TEST
-    FAIL_AT=0 CALLS_TO=$room/calls LD_PRELOAD=$room/refuse.so "$@" >/dev/null 2>&1 && cat "$room/calls"
+    rm -f "$room/calls"
+    FAIL_AT=0 CALLS_TO=$room/calls LD_PRELOAD=$room/refuse.so "$@" >/dev/null 2>&1 && tr -d ' \0' <"$room/calls"
 }
 
 for program in "$top"/crates/*/out/*_tests; do

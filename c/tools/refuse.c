@@ -1,31 +1,40 @@
 /* A library for LD_PRELOAD that refuses the Nth call of malloc, calloc or realloc, N as FAIL_AT says, to see what a program makes of it.
- * When the program ends, how many calls there were is written to the file that CALLS_TO names.
+ * How many calls there were so far stands in the file that CALLS_TO names, however the program ends.
  * cc -shared -fPIC -o refuse.so refuse.c -ldl */
 #define _GNU_SOURCE
 #include <dlfcn.h>
 #include <errno.h>
+#include <fcntl.h>
 #include <stdio.h>
 #include <stdlib.h>
+#include <sys/mman.h>
+#include <unistd.h>
+
+#define ROOM 24
 
 static long at, refused = -1;
+static char *calls;
+
+/* The file's first bytes, as memory; none where there is no such file. */
+static char *opened(const char *name)
+{
+    void *room;
+    int file = name ? open(name, O_RDWR | O_CREAT | O_TRUNC, 0600) : -1;
+    if (file < 0 || ftruncate(file, ROOM)) return 0;
+    room = mmap(0, ROOM, PROT_READ | PROT_WRITE, MAP_SHARED, file, 0);
+    return room == MAP_FAILED ? 0 : (char *)room;
+}
 
 static int refuses(void)
 {
     if (refused < 0) {
         const char *number = getenv("FAIL_AT");
         refused = number ? atol(number) : 0;
+        calls = opened(getenv("CALLS_TO"));
     }
-    return ++at == refused;
-}
-
-__attribute__((destructor)) static void tells(void)
-{
-    const char *name = getenv("CALLS_TO");
-    const long calls = at;
-    FILE *file = name ? fopen(name, "w") : 0;
-    if (!file) return;
-    fprintf(file, "%ld\n", calls);
-    fclose(file);
+    at++;
+    if (calls) snprintf(calls, ROOM, "%*ld\n", ROOM - 2, at);
+    return at == refused;
 }
 
 void *malloc(size_t count)
