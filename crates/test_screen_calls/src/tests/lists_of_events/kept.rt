@@ -75,11 +75,11 @@ fn expect_event(rt: &impl Abort, kept: &[Event], number: usize, call: Call) {
 /// The screen keeps the events of these calls, in order, and no others: a cut that gave nothing is not among them.
 pub(crate) fn expect_kept(rt: &impl Abort, screen: &Screen, rows: &[Row]) {
     let kept = screen.history().expect(rt, "the events are kept");
-    let mut number = 0;
+    let mut number: usize = 0;
     for (call, bytes) in rows {
         if !(matches!(call, Call::Cut(_)) && bytes.is_empty()) {
             expect_event(rt, kept, number, *call);
-            number += 1;
+            number = number.saturating_add(1);
         }
     }
     assert!(rt; number == kept.len(), "{number} events");
