@@ -19,6 +19,8 @@ allocations() { # PROGRAM TEST
 for program in "$top"/crates/*/out/*_tests; do
     [ -x "$program" ] || continue
     for test in $("$program" --list | sed -n 's/: test$//p' | grep whichever); do
+        # with threads, which allocation is the Nth is the schedule's, and a run may last
+        case $test in *receipts_are_right) echo "left out: $(basename "$program" _tests) $test: it has threads" && continue ;; esac
         tests=$((tests + 1))
         last=$(allocations "$program" "$test") || last=0
         # shellcheck disable=SC2016
