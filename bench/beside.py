@@ -43,7 +43,7 @@ def rows():
         for encoding in ("raw", "rre", "hextile"):
             for n in (1, 8) if bits == 32 else (1,):
                 yield (f"{encoding.upper() if encoding == 'rre' else encoding.capitalize()}, {viewers(n)}{name}", HEADS, HD, n,
-                       ["full", "--encoding", encoding, "--format", bits, "--viewers", n, "--verify", *TEXT], WHOLE)
+                       ["full", "--encoding", encoding, "--format", bits, "--viewers", n, "--change", *TEXT], WHOLE)
     # by threads `vncdemo` serves at most 64 viewers; of LibVNCServer's each takes three handles, and it can wait for 1,024
     for n, able in ((1, HEADS), (8, HEADS), (32, HEADS), (128, ("loop", "one-thread", "threads"))):
         yield f"a dot to {viewers(n)}", able, VGA, n, ["dots", "--rate", 200, "--viewers", n], DOT

@@ -37,7 +37,7 @@ typedef uint8_t u8; typedef uint16_t u16; typedef uint32_t u32; typedef uint64_t
 /* ---- options ---------------------------------------------------------- */
 
 static int o_port, o_viewers = 1, o_enc = RAW, o_format = 32, o_prepaint;
-static int o_verify, o_count, o_conns = 40;
+static int o_verify, o_change, o_swapped, o_mix, o_count, o_conns = 40;
 static double o_seconds = 2, o_warmup = 0.5, o_rate = 200, o_phase = 3;
 static long o_pid;
 static const char *o_attack = "", *mode;
@@ -323,6 +323,7 @@ static int set_format(struct conn *c, int bits)
     if (bits == 32) { m[5] = 24; put16(m + 8, 255); put16(m + 10, 255); put16(m + 12, 255); m[14] = 16; m[15] = 8; m[16] = 0; }
     else if (bits == 16) { m[5] = 16; put16(m + 8, 31); put16(m + 10, 63); put16(m + 12, 31); m[14] = 11; m[15] = 5; m[16] = 0; }
     else { m[5] = 8; put16(m + 8, 7); put16(m + 10, 7); put16(m + 12, 3); m[14] = 5; m[15] = 2; m[16] = 0; }
+    m[6] = (u8)o_swapped;
     m[7] = 1;
     c->bpp = bits / 8;
     return say(c, m, 20);
@@ -517,9 +518,14 @@ static int refresh(struct conn *c)
     return bad(c, "refresh");
 }
 
+static struct conn conns[MAXV];
+
+/* With --mix viewers are of four kinds: Raw in 32 and in 16 bits, RRE, Hextile. */
 static int prepare(struct conn *c)
 {
-    if (set_format(c, o_format) || set_encodings(c, o_enc)) return -1;
+    int kind = o_mix && c >= conns && c < conns + MAXV ? (int)((c - conns) % 4) : -1;
+    int bits = kind < 0 ? o_format : kind == 1 ? 16 : 32, encoding = kind < 0 ? o_enc : kind < 2 ? RAW : kind == 2 ? RRE : HEXTILE;
+    if (set_format(c, bits) || set_encodings(c, encoding)) return -1;
     return refresh(c);
 }
 
@@ -620,7 +626,6 @@ static long prepaint(struct conn *c, long most)
 
 /* ---- shared set-up -------------------------------------------------------- */
 
-static struct conn conns[MAXV];
 static u32 *reference;           /* what Raw in 32 bits showed */
 static double connect_med, connect_max;
 static long painted;
@@ -781,12 +786,47 @@ static void reset_stall(int n)
 
 /* ---- full ------------------------------------------------------------------ */
 
+static pthread_barrier_t round_begins, round_ends;
+static atomic_int rounds_over;          /* set by the first viewer alone, before a round begins */
+static atomic_int round_lost;           /* set before a round ends */
+
+/* The first viewer paints a place, and waits until it is shown it. */
+static int change_a_place(struct conn *c)
+{
+    static unsigned turn = 1;        /* never the first place, which LibVNCServer takes for the background in RRE */
+    u8 m[12];
+    unsigned at = turn++ * 7919u % ((unsigned)c->w * (unsigned)c->h);
+    put_pointer(m, 1, (int)(at % (unsigned)c->w), (int)(at / (unsigned)c->w));
+    put_pointer(m + 6, 0, (int)(at % (unsigned)c->w), (int)(at / (unsigned)c->w));
+    if (say(c, m, sizeof m) || request(c, 1, 0, 0, c->w, c->h)) return -1;
+    for (;;) {
+        long n = message(c);
+        if (n == -1) return -1;
+        if (n > 0) return 0;
+    }
+}
+
+/* With --change all viewers begin each update together, once a place was painted that changes the picture. */
+static int begin_round(struct conn *c)
+{
+    if (c == &conns[0] && (atomic_load(&stop_all) || change_a_place(c))) atomic_store(&rounds_over, 1);
+    pthread_barrier_wait(&round_begins);
+    return atomic_load(&rounds_over);
+}
+
 static void *full_viewer(void *arg)
 {
     struct conn *c = arg;
-    while (!atomic_load(&stop_all)) {
+    while (o_change || !atomic_load(&stop_all)) {
+        if (o_change && begin_round(c)) return NULL;
         u64 before = atomic_load(&c->bytes) - (c->len - c->pos);
-        if (refresh(c)) return NULL;
+        int lost = refresh(c);
+        if (lost) atomic_store(&round_lost, 1);
+        if (o_change) {
+            pthread_barrier_wait(&round_ends);
+            lost = atomic_load(&round_lost);
+        }
+        if (lost) return NULL;
         atomic_fetch_add(&c->updates, 1);
         c->whole_bytes += atomic_load(&c->bytes) - (c->len - c->pos) - before;
         c->whole_updates++;
@@ -796,7 +836,7 @@ static void *full_viewer(void *arg)
 }
 
 /* Full updates of a window: its bytes, divided by the bytes of one update
- * (the picture stands still, so every update has as many). */
+ * (the picture stands still, or changes by a place, so every update has about as many). */
 static double window_updates(const struct sample *a, const struct sample *b, int from, int n, double *low, double *high)
 {
     double all = 0;
@@ -821,7 +861,8 @@ static int run_full(void)
     pthread_t th[MAXV];
     static struct sample a, b;
     if (open_all(n, 1)) return cannot();
-    for (int i = 0; i < n; i++) { conns[i].impatient = i > 0; pthread_create(&th[i], NULL, full_viewer, &conns[i]); }
+    if (pthread_barrier_init(&round_begins, NULL, (unsigned)n) || pthread_barrier_init(&round_ends, NULL, (unsigned)n)) return cannot();
+    for (int i = 0; i < n; i++) { conns[i].impatient = i > 0 && !o_change; pthread_create(&th[i], NULL, full_viewer, &conns[i]); }
     if (o_count) {                   /* so many updates each, and an end */
         for (int i = 0; i < n; i++) pthread_join(th[i], NULL);
         json_head(conns[0].w, conns[0].h);
@@ -1271,7 +1312,8 @@ static int usage(void)
     fprintf(stderr,
         "load full|dots|slow|idle|churn|hostile --port P [--viewers N] [--encoding raw|rre|hextile] [--format 32|16|8]\n"
         "  [--seconds S] [--warmup S] [--pid PID] [--prepaint PLACES] [--verify]\n"
-        "  full: --count UPDATES (of each viewer, in place of a time; no rates are told)\n"
+        "  full: --count UPDATES (of each viewer, in place of a time; no rates are told), --change (a place changes before each),\n"
+        "        --swapped (the other order of bytes), --mix (four kinds of viewers)\n"
         "  dots: --rate R (0: the next dot once all viewers saw the last), --count DOTS (in place of a time, at rate 0)\n"
         "  slow: --phase S   (N viewers, one of which never reads)\n"
         "  churn: --conns C\n"
@@ -1286,6 +1328,9 @@ int main(int argc, char **argv)
     for (int i = 2; i < argc; i++) {
         const char *a = argv[i], *v = i + 1 < argc ? argv[i + 1] : NULL;
         if (!strcmp(a, "--verify")) { o_verify = 1; continue; }
+        if (!strcmp(a, "--change")) { o_change = 1; continue; }
+        if (!strcmp(a, "--swapped")) { o_swapped = 1; continue; }
+        if (!strcmp(a, "--mix")) { o_mix = 1; continue; }
         if (!v) return usage();
         i++;
         if (!strcmp(a, "--port")) o_port = atoi(v);
@@ -1304,6 +1349,7 @@ int main(int argc, char **argv)
         else return usage();
     }
     if (o_count) o_rate = 0;
+    if (o_change && strcmp(mode, "full")) return usage();
     if (o_port < 1 || o_port > 65535 || o_viewers < 1 || o_viewers > MAXV || o_seconds > 120 || o_phase > 120 ||
         o_warmup > 60 || o_conns < 1 || o_conns > 100000 || o_rate > 100000 || o_prepaint < 0 || o_prepaint > 1000000 ||
         (o_format != 32 && o_format != 16 && o_format != 8)) return usage();

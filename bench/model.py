@@ -4,6 +4,7 @@
     bench/model.py check FILE..     compares a file's transcripts with the model (crates/examples/data)
     bench/model.py write FOLDER     writes the files of drawn transcripts into FOLDER, the same each time
     bench/model.py moves            prints the table of moves of crates/test_parts_calls
+    bench/model.py alike N SEED     prints N more transcripts of viewers that are alike
 
 The picture, the marks and the asked places are kept place by place, messages are read from the bytes that came, and RRE and Hextile
 are written from RFC 6143 (7.7.3, 7.7.4) and from this project's choices in docs/PROTOCOL.md."""
@@ -775,6 +776,52 @@ def marks(draw):
         yield script
 
 
+def alike(draw, scripts=None):
+    """One to eight viewers, most of them alike: they ask for the same, and updates are cut for one after the other, with drawing between."""
+    for at in range(scripts or ALIKE):
+        width, height = draw.choice(((8, 8), (16, 4), (17, 5), (33, 3), (9, 8), (3, 40)))
+        script = Script(f"Viewers that are alike {at + 1}.", width, height, draw.choice((1, 2, 50)))
+        script.paint(drawn_picture(draw, width, height))
+        kinds = [((draw.choice(((0,), (2,), (5,), (1, 2), (1, 5)))), draw.choice([*FORMATS, LOWEST, MAPPED]))
+                 for _ in range(draw.choice((1, 1, 1, 2, 3)))]
+        viewers = range(1, draw.choice((1, 2, 3, 4, 8)) + 1)
+        for viewer in viewers:
+            encoding, form = draw.choice(kinds)
+            script.open(viewer)
+            script.hear(viewer, encodings(*encoding), chosen_format(form))
+        for _ in range(8):
+            (x, w), (y, h) = ((0, width), (0, height)) if draw.randrange(3) else (part_of(draw, width), part_of(draw, height))
+            incremental, busy = draw.randrange(2), draw.choice((0, 0, 1, 4))
+            for viewer in viewers:
+                if draw.randrange(8):
+                    script.hear(viewer, request(incremental, x, y, w, h))
+            for viewer in viewers:
+                script.say("cut", viewer)
+                if draw.randrange(6) < busy:
+                    draw_some(draw, script)
+            if draw.randrange(2):
+                draw_some(draw, script)
+        yield script
+
+
+def draw_some(draw, script):
+    """A drawing call of some kind."""
+    width, height = script.width, script.height
+    kind, (x1, y1, x2, y2) = draw.randrange(8), corners(draw, width, height)
+    x1, y1 = min(max(x1, 0), width - 1), min(max(y1, 0), height - 1)
+    x2, y2 = min(max(x2, x1 + 1), width), min(max(y2, y1 + 1), height)
+    if kind < 3:
+        script.say("paint", x1, y1, x2, y2, "".join(f"{draw.choice((0, 0xffffff, 0x10305)):06x}" for _ in range((x2 - x1) * (y2 - y1))))
+    elif kind < 4:
+        script.paint(drawn_picture(draw, width, height))
+    elif kind < 6:
+        script.say("docopy", x1, y1, x2, y2, draw.randint(-2, 2), draw.randint(-1, 1))
+    elif kind < 7:
+        script.say("mark", x1, y1, x2, y2)
+    else:
+        script.say("bell")
+
+
 def moves(draw):
     """Copies in every direction over numbered pictures, each looked at whole behind it."""
     directions = [(dx, dy) for dx in (-1, 0, 1) for dy in (-1, 0, 1)]
@@ -842,7 +889,7 @@ def pieces(_draw):
         yield script
 
 
-PICTURES, ENCODED, MARKS = 126, 28, 32
+PICTURES, ENCODED, MARKS, ALIKE = 126, 28, 32, 32
 LETTERS = "abcdefghijklmnopqrstuvwxyzABCD"
 
 
@@ -858,7 +905,7 @@ def print_moves():
 
 
 def write(folder):
-    for name, drawn in (("drawn_pictures", pictures), ("drawn_encodings", encodings_alone), ("drawn_marks", marks), ("drawn_moves", moves), ("drawn_pieces", pieces)):
+    for name, drawn in (("drawn_pictures", pictures), ("drawn_encodings", encodings_alone), ("drawn_marks", marks), ("drawn_moves", moves), ("drawn_pieces", pieces), ("drawn_alike", alike)):
         with open(f"{folder}/{name}.txt", "w", encoding="utf-8", newline="") as file:
             file.write("\n".join(script.text() for script in drawn(random.Random(name))))
 
@@ -870,5 +917,7 @@ if __name__ == "__main__":
             check(name)
     elif sys.argv[1:2] == ["write"]:
         write(sys.argv[2])
+    elif sys.argv[1:2] == ["alike"]:
+        print("\n".join(script.text() for script in alike(random.Random(sys.argv[3]), int(sys.argv[2]))), end="")
     elif sys.argv[1:2] == ["moves"]:
         print_moves()

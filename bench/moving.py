@@ -1,11 +1,12 @@
 #!/usr/bin/env python3
-"""moving.py [--rounds 3] [--seconds 4] [--encoding raw] - a moving picture of 1920 by 1080 by LibVNCServer's API, over vnc_server beside
+"""moving.py [--rounds 3] [--seconds 4] [--encoding raw] [--viewers 1] [--no-copyrect] - a moving picture of 1920 by 1080 by LibVNCServer's API, over vnc_server beside
 LibVNCServer.
 
-A viewer asks for changes in CopyRect and Raw, or Hextile, one request after the other. In each round the two take turns; a cell is the median of the
+Viewers ask for changes in CopyRect and Raw, or Hextile, or without CopyRect; each asks anew when all have theirs. In each round the two take turns; a cell is the median of the
 rounds: updates a second, milliseconds of the server's processor time for each, and the most memory that it had, in MB. In brackets
 stands the ratio to LibVNCServer's."""
 import argparse
+import concurrent.futures
 import os
 import socket
 import statistics
@@ -22,7 +23,7 @@ next_port = 6040
 
 
 class Viewer:
-    def __init__(self, port, encoding):
+    def __init__(self, port, encodings):
         self.socket = connected(port)
         self.socket.setsockopt(socket.IPPROTO_TCP, socket.TCP_NODELAY, 1)
         self.room, self.at, self.end = bytearray(1 << 24), 0, 0
@@ -35,7 +36,7 @@ class Viewer:
         self.width, self.height = struct.unpack(">HH", self.read(4))
         self.read(16)
         self.read(struct.unpack(">I", self.read(4))[0])
-        self.socket.sendall(struct.pack(">BxHii", 2, 2, 1, encoding))
+        self.socket.sendall(struct.pack(f">BxH{len(encodings)}i", 2, len(encodings), *encodings))
 
     def read(self, count):
         """the next bytes, those of small parts, which are looked at"""
@@ -110,19 +111,22 @@ def peak(pid):
         return next(int(line.split()[1]) / 1024 for line in f if line.startswith("VmHWM"))
 
 
-def measured(program, kind, encoding, seconds):
+def measured(program, kind, encodings, viewers, seconds):
     global next_port
     next_port += 1
-    with subprocess.Popen([f"{HERE}/build/{program}", "--port", str(next_port), "--what", kind]) as server:
+    with subprocess.Popen([f"{HERE}/build/{program}", "--port", str(next_port), "--what", kind]) as server, \
+            concurrent.futures.ThreadPoolExecutor(viewers) as readers:
         try:
-            viewer = Viewer(next_port, encoding)
-            viewer.ask(0)
-            viewer.update()
+            all_of_them = [Viewer(next_port, encodings) for _ in range(viewers)]
+            for viewer in all_of_them:
+                viewer.ask(0)
+                viewer.update()
             updates, pixels, began, used = 0, 0, time.monotonic(), cpu(server.pid)
             while time.monotonic() < began + seconds:
-                viewer.ask(1)
-                pixels += viewer.update()
-                updates += 1
+                for viewer in all_of_them:
+                    viewer.ask(1)
+                pixels += sum(readers.map(Viewer.update, all_of_them))
+                updates += viewers
             took, used = time.monotonic() - began, cpu(server.pid) - used
             return updates / took, 1000 * used / updates, peak(server.pid), pixels / updates
         finally:
@@ -134,13 +138,16 @@ def main():
     parser.add_argument("--rounds", type=int, default=3)
     parser.add_argument("--seconds", type=float, default=4)
     parser.add_argument("--encoding", choices=ENCODINGS, default="raw")
+    parser.add_argument("--viewers", type=int, default=1)
+    parser.add_argument("--no-copyrect", action="store_true")
     opts = parser.parse_args()
+    encodings = [1] * (not opts.no_copyrect) + [ENCODINGS[opts.encoding]]
     print(f"| what | {' | '.join(name for name, _ in PROGRAMS)} |\n|---|---|---|")
     for kind, said in KINDS:
         runs = {program: [] for _, program in PROGRAMS}
         for _ in range(opts.rounds):
             for _, program in PROGRAMS:
-                runs[program].append(measured(program, kind, ENCODINGS[opts.encoding], opts.seconds))
+                runs[program].append(measured(program, kind, encodings, opts.viewers, opts.seconds))
         middles = [[statistics.median(values) for values in zip(*runs[program])] for _, program in PROGRAMS]
         cells = []
         for rate, ms, most, pixels in middles:

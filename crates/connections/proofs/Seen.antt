@@ -10,10 +10,12 @@ use Rattle.screen.specs.Picture.{places_in}
 use Rattle.copy_schedule.specs.Marks.{Marks, Sent, has_asked, asked_at, copied_by, resized, pending, cut_of, copies_of, pixels_of, after_sending}
 use Rattle.copy_schedule.specs.LogLemmas.{unasked_is_not_pending}
 use Rattle.screen.specs.Server.{colour_map}
-use Rattle.viewer.specs.declared.notices.Notice.{Notice}
-use Rattle.viewer.specs.declared.notices.Notice.TheVariants as notice
-use Rattle.viewer.specs.Viewer.{Viewer, is_asking, is_open_viewer, none_wait, kept_viewer, does_nothing, in_view}
-use Rattle.viewer.specs.Sending.{map_bytes, notice_bytes, front_bytes, size_bytes, update_bytes, is_size_owed, tells_size, with_size, with_update, sending_open, sending}
+use Rattle.updates.specs.declared.notices.Notice.{Notice}
+use Rattle.updates.specs.declared.notices.Notice.TheVariants as notice
+use Rattle.updates.specs.Waiting.{none_wait}
+use Rattle.viewer.specs.Viewer.{Viewer, is_asking, is_open_viewer, kept_viewer, does_nothing, in_view}
+use Rattle.updates.specs.Bytes.{map_bytes, notice_bytes, size_bytes}
+use Rattle.viewer.specs.Sending.{front_bytes, update_bytes, is_size_owed, tells_size, with_size, with_update, sending_open, sending}
 use Rattle.screen.specs.declared.Config.{Config}
 use Rattle.screen.specs.declared.ScreenError.{ScreenError}
 use Rattle.screen.specs.declared.Event.{Event}

@@ -4,7 +4,8 @@ use Rattle.screen.specs.declared.Config.{Config}
 use Rattle.screen.specs.declared.Event.{Event}
 use Rattle.screen.specs.declared.Event.TheVariants.{Cut}
 use Rattle.screen.specs.Answers.{viewer_of, answer_to}
-use Rattle.viewer.specs.Viewer.{Viewer, is_asking, is_open_viewer, none_wait}
+use Rattle.updates.specs.Waiting.{none_wait}
+use Rattle.viewer.specs.Viewer.{Viewer, is_asking, is_open_viewer}
 use Rattle.connections.specs.declared.connections.Readiness.{Readiness}
 use Rattle.connections.specs.Drawing.{Surface}
 

@@ -326,6 +326,14 @@ impl Canvas {
         self.screen.hear(number, piece)
     }
 
+    /// `Screen::encode_ahead`.
+    #[inline(always)]
+    pub(crate) fn encode_ahead(&mut self, number: u64) -> Option<u64>
+        ensures { self.new ≡ self.old }
+    {
+        self.screen.encode_ahead(number)
+    }
+
     /// `Screen::cut`.
     pub(crate) fn cut(&mut self, number: u64) -> Result<Option<Update>, ScreenError>
         ensures step { (config : Config) (list : List Event) → self.old.screen ≡ state config list →

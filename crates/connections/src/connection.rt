@@ -28,6 +28,9 @@ const LONG: u64 = 65_536;
 /// How many of these are forgotten in each millisecond.
 const FORGOTTEN: u64 = 64;
 
+/// For how many updates a viewer doesn't wait for what is encoded for several, once what it waited for was lost.
+const HURRIED: u32 = 64;
+
 /// How much a viewer said of late: what it says is added, and with time it is forgotten.
 #[derive(Clone, Copy)]
 struct Flow {
@@ -75,6 +78,10 @@ pub(crate) struct Connection<T: Transport> {
     may_cut: bool,
     // it was heard since an update was cut for it, or has a request that none answered
     may_ask: bool,
+    // its next update waits for what is encoded for several viewers, which was let go so often before
+    waits_for: Option<u64>,
+    // for so many updates it doesn't
+    hurried: u32,
 }
 
 impl<T: Transport> Model for Connection<T> {
@@ -131,6 +138,8 @@ impl<T: Transport> Connection<T> {
             flow: Flow { level: 0, since: 0 },
             may_cut: true,
             may_ask: true,
+            waits_for: None,
+            hurried: 0,
         }
     }
 
@@ -184,6 +193,18 @@ impl<T: Transport> Connection<T> {
         ensures { self.new ≡ record self.old { known = record self.old.known { may_cut = may_cut } } }
     {
         self.may_cut = may_cut;
+    }
+
+    /// Whether its next update waits for what is encoded for several viewers, which was let go so often before. Where that was let go since it
+    /// began to wait, it doesn't, nor do its next 64 updates.
+    pub fn waits(&mut self, losses: u64) -> bool
+        ensures { self.new ≡ self.old }
+    {
+        if self.waits_for.is_some_and(|before| before != losses) {
+            self.hurried = HURRIED;
+        }
+        self.waits_for = Some(losses);
+        self.hurried == 0
     }
 
     /// Whether a read may give something.
@@ -358,6 +379,8 @@ impl<T: Transport> Connection<T> {
         ensures few { IsFew self.new.waiting }
     {
         self.cuts = self.cuts.saturating_add(1);
+        self.waits_for = None;
+        self.hurried = self.hurried.saturating_sub(1);
         self.may_cut = is_asking;
         self.may_ask = self.may_ask && is_asking;
         self.backlog.start(update);

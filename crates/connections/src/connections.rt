@@ -130,7 +130,8 @@ impl<T: Transport> Connections<T> {
         ensures refused { MatchOption (config_refusal config) (IsOkUnless result ScreenError.OutOfMemory) (λ e. result ≡ Err e) }
     {
         let is_kept = is_kept(config.history);
-        let screen = Screen::new(alloc, config)?;
+        let mut screen = Screen::new(alloc, config)?;
+        screen.share_encodings(true);
         Ok(Connections {
             alloc,
             is_kept,

@@ -117,7 +117,8 @@ pub(crate) fn send<T: Transport>(
     }
 }
 
-/// Whether a write may take something, where an update is cut if nothing waits and one may be there.
+/// Whether a write may take something, where an update is cut if nothing waits and one may be there. An update whose rectangles are being
+/// encoded for several viewers is cut in a later turn.
 fn prepare<T: Transport>(canvas: &mut Canvas, connection: &mut Connection<T>) -> bool
     ensures turn { TakesTurn canvas.old connection.old canvas.new connection.new }
     ensures asks { connection.new.known.may_ask ≡ true → connection.old.known.may_ask ≡ true }
@@ -130,10 +131,24 @@ fn prepare<T: Transport>(canvas: &mut Canvas, connection: &mut Connection<T>) ->
     if !connection.is_idle() {
         return true;
     }
-    if !connection.may_cut() {
+    if !connection.may_cut() || waits(canvas, connection) {
         return false;
     }
     cut(canvas, connection)
+}
+
+/// Whether a viewer's next update waits for what is being encoded for several viewers.
+fn waits<T: Transport>(canvas: &mut Canvas, connection: &mut Connection<T>) -> bool
+    ensures canvas { canvas.new ≡ canvas.old }
+    ensures connection { connection.new ≡ connection.old }
+{
+    if connection.ended().is_some() {
+        return false;
+    }
+    match canvas.encode_ahead(connection.number()) {
+        Some(losses) => connection.waits(losses),
+        None => false,
+    }
 }
 
 /// Cuts an update for a viewer for which nothing waits, if there is something to send and it hasn't ended. Whether there is.

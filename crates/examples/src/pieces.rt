@@ -68,12 +68,22 @@ fn streamed(alloc: Global, update: Update) -> Result<Vec<u8>, AllocError> {
     Ok(bytes)
 }
 
+/// What several viewers are likely to be sent is encoded once.
+fn encode_ahead(screen: &mut Screen, viewer: u64) {
+    for _ in 0..u64::MAX {
+        if screen.encode_ahead(viewer).is_none() {
+            return;
+        }
+    }
+}
+
 fn cut_in(
     alloc: Global,
     screen: &mut Screen,
     sent: &mut Sent,
     viewer: u64,
 ) -> Result<(), ScreenError> {
+    encode_ahead(screen, viewer);
     match screen.cut(viewer) {
         Ok(Some(update)) => Ok(send(alloc, sent, viewer, &streamed(alloc, update)?)?),
         Ok(None) | Err(ScreenError::NoViewer) => Ok(()),
@@ -104,9 +114,11 @@ fn do_in(
     }
 }
 
-/// The same, where viewers' bytes are heard in pieces of at most this length, and updates are encoded piece by piece.
+/// The same, where viewers' bytes are heard in pieces of at most this length, and updates are encoded piece by piece, and once for viewers
+/// that are alike.
 fn sent_in(alloc: Global, script: &Script, length: usize) -> Result<Sent, ScreenError> {
     let mut screen = Screen::new(alloc, script.config.try_clone(alloc)?)?;
+    screen.share_encodings(true);
     let mut sent = BTreeMap::new(alloc);
     for event in &script.events {
         do_in(alloc, &mut screen, &mut sent, event, length)?;

@@ -12,9 +12,10 @@ use Rattle.scene.specs.declared.Event.TheVariants.{Connect, Hear, Cut, Close}
 use Rattle.scene.specs.declared.Answer.{Answer}
 use Rattle.scene.specs.declared.ScreenError.{ScreenError}
 use Rattle.scene.specs.declared.ScreenError.TheVariants as refusals
-use Rattle.viewer.specs.Viewer.{KeptViewer, kept_viewer, Viewer, none_wait, new_viewer}
-use Rattle.viewer.specs.declared.notices.Notice.{Notice}
-use Rattle.viewer.specs.declared.notices.Notice.TheVariants as notice
+use Rattle.updates.specs.Waiting.{none_wait}
+use Rattle.viewer.specs.Viewer.{KeptViewer, kept_viewer, Viewer, new_viewer}
+use Rattle.updates.specs.declared.notices.Notice.{Notice}
+use Rattle.updates.specs.declared.notices.Notice.TheVariants as notice
 use Rattle.framebuffer.specs.Frame.{Frame}
 use Rattle.copy_schedule.specs.declared.Mark.TheVariants.{Owed}
 use Rattle.copy_schedule.specs.Marks.{Sent, pending, copies_of, pixels_of, after_sending}

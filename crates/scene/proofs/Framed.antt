@@ -8,7 +8,8 @@ use Rattle.framebuffer.specs.Picture.{written}
 use Rattle.copy_schedule.specs.Marks.{pending}
 use Rattle.messages.specs.declared.Item.{Item}
 use Rattle.messages.specs.Reading.{is_open_rest}
-use Rattle.viewer.specs.Viewer.{Viewer, KeptViewer, new_viewer, none_wait}
+use Rattle.updates.specs.Waiting.{none_wait}
+use Rattle.viewer.specs.Viewer.{Viewer, KeptViewer, new_viewer}
 use Rattle.viewer.specs.Hearing.{after_items, heard_reply}
 use Rattle.viewer.specs.Sending.{tells_size}
 use Rattle.viewer_list.specs.Viewers.{IsOfSize, is_pending}

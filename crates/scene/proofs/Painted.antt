@@ -21,10 +21,11 @@ use Rattle.scene.specs.declared.Config.{Config}
 use Rattle.scene.specs.declared.Event.{Event}
 use Rattle.scene.specs.declared.Event.TheVariants as event
 use Rattle.scene.specs.declared.ScreenError.TheVariants as refusals
-use Rattle.viewer.specs.declared.notices.Notice.{Notice}
-use Rattle.viewer.specs.declared.notices.Notice.TheVariants as notice
-use Rattle.viewer.specs.Short.{IsShort}
-use Rattle.viewer.specs.Viewer.{Viewer, is_open_viewer, with_notice, viewer_copied, viewer_resized, in_view, does_nothing}
+use Rattle.updates.specs.declared.notices.Notice.{Notice}
+use Rattle.updates.specs.declared.notices.Notice.TheVariants as notice
+use Rattle.updates.specs.Short.{IsShort}
+use Rattle.updates.specs.Waiting.{with_notice}
+use Rattle.viewer.specs.Viewer.{Viewer, is_open_viewer, viewer_copied, viewer_resized, in_view, does_nothing}
 use Rattle.framebuffer.specs.Frame.{Frame, blank_frame}
 use Rattle.scene.specs.Alone.{owner_of, at_size, drawing_refusal, drawn, shown_drawing}
 use Rattle.scene.specs.Shown.{Watching}

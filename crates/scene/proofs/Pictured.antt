@@ -31,10 +31,11 @@ use Rattle.scene.specs.declared.Config.{Config}
 use Rattle.scene.specs.declared.Event.{Event}
 use Rattle.scene.specs.declared.Event.TheVariants.{Write, Paint, Mark as MarkEvent, ScheduleCopy, DoCopy, Bell, CutText, Resize, Connect, Hear, Cut, Close}
 use Rattle.scene.specs.declared.ScreenError.TheVariants as refusals
-use Rattle.viewer.specs.Short.{IsShort}
-use Rattle.viewer.specs.declared.sizes.Size.{Size}
+use Rattle.updates.specs.Short.{IsShort}
+use Rattle.updates.specs.declared.sizes.Size.{Size}
 use Rattle.viewer.specs.Viewer.{Viewer, new_viewer, view_by, is_open, is_open_viewer}
-use Rattle.viewer.specs.Sending.{front_bytes, bytes_of, size_bytes, tells_size, with_size, with_update, sending_open, sending}
+use Rattle.updates.specs.Bytes.{bytes_of, size_bytes}
+use Rattle.viewer.specs.Sending.{front_bytes, tells_size, with_size, with_update, sending_open, sending}
 use Rattle.scene.specs.Alone.{own_step, at_size, config_refusal, drawing_refusal, drawn, is_size, hearing}
 use Rattle.scene.specs.Pictures.{IsServers}
 use Rattle.scene.specs.Shown.{Watching, after_version, or_nothing, after_messages, after_piece, watched_unless_refused}

@@ -19,7 +19,7 @@ use Rattle.region.specs.Places.{IsOnScreen, source_rect, longest_side}
 use Rattle.copy_schedule.specs.declared.Mark.TheVariants.{Copied}
 use Rattle.copy_schedule.specs.Marks.{Marks, mark_at, asked_at, copies_of, pixels_of}
 use Rattle.copy_schedule.specs.CutLemmas.{copies_on_screen, sources_inside, pixels_on_screen}
-use Rattle.viewer.specs.Areas.{area_of}
+use Rattle.updates.specs.Areas.{area_of}
 use Rattle.framebuffer.specs.Picture.{colours_of}
 use Rattle.viewer_picture.specs.Messages.{Agreed, ColourMap, Display, is_in_picture, may_come, rectangles_at, messages_in}
 use Rattle.viewer_picture.specs.Encodings.{number_of}
@@ -27,10 +27,10 @@ use Rattle.viewer_picture.specs.Claims.{IsPart, RectanglesAreRead}
 use Rattle.viewer_picture.specs.MessageLemmas.{display, IsReadAs, changed, list-read, Reads, bell-read, text-read, update-read}
 use Rattle.viewer_picture.specs.MapLemmas.{all_mapped, map-read}
 use Rattle.viewer_picture.specs.CutLemmas.{copy_of, pixel_of, update_of, copies-may, copies-within, sources-within, pixels-within}
-use Rattle.viewer.specs.declared.notices.Notice.{Notice}
-use Rattle.viewer.specs.declared.notices.Notice.TheVariants as notice
-use Rattle.viewer.specs.Short.{IsShort}
-use Rattle.viewer.specs.Sending.{map_bytes, notice_bytes, copy_bytes, pixel_rectangle, bytes_of}
+use Rattle.updates.specs.declared.notices.Notice.{Notice}
+use Rattle.updates.specs.declared.notices.Notice.TheVariants as notice
+use Rattle.updates.specs.Short.{IsShort}
+use Rattle.updates.specs.Bytes.{map_bytes, notice_bytes, copy_bytes, pixel_rectangle, bytes_of}
 
 -- ---- notices
 

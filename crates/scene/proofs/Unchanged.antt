@@ -7,10 +7,11 @@ use Rattle.scene.specs.declared.ScreenError.{ScreenError}
 use Rattle.scene.specs.declared.Event.{Event}
 use Rattle.scene.specs.declared.Event.TheVariants.{Write, Paint, Mark, ScheduleCopy, DoCopy, Bell, CutText, Resize, Connect, Hear, Cut, Close}
 use Rattle.messages.specs.Server.{colour_map}
-use Rattle.viewer.specs.declared.notices.Notice.{Notice}
-use Rattle.viewer.specs.declared.notices.Notice.TheVariants as notice
+use Rattle.updates.specs.declared.notices.Notice.{Notice}
+use Rattle.updates.specs.declared.notices.Notice.TheVariants as notice
 use Rattle.viewer.specs.Viewer.{Viewer, is_open_viewer}
-use Rattle.viewer.specs.Sending.{map_bytes, notice_bytes, size_bytes, update_bytes, tells_size, with_size, with_update}
+use Rattle.updates.specs.Bytes.{map_bytes, notice_bytes, size_bytes}
+use Rattle.viewer.specs.Sending.{update_bytes, tells_size, with_size, with_update}
 use Rattle.scene.specs.Alone.{One, at_size, step, own_step, draw_step, drawing_refusal, some_bytes}
 use Rattle.scene.specs.History.{has_happened}
 

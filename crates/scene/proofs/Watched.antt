@@ -34,7 +34,7 @@ use Rattle.viewer_picture.specs.MessageLemmas.{bytes-read}
 use Rattle.viewer_picture.specs.MarkLemmas.{Shows, uncopied-shows, allowed, asked-shows, forgotten-shows}
 use Rattle.viewer_picture.specs.ComeLemmas.{Comes, Come, phase_after, Following, following}
 use Rattle.scene.specs.declared.Config.{Config}
-use Rattle.viewer.specs.declared.sizes.Size.{Size}
+use Rattle.updates.specs.declared.sizes.Size.{Size}
 use Rattle.viewer.specs.Viewer.{Viewer, area_places, view_by, view_of, in_view, after_item}
 use Rattle.scene.specs.Alone.{hearing}
 use Rattle.viewer.specs.Hearing.{after_items}

@@ -12,7 +12,7 @@ use Rattle.scene.specs.declared.ScreenError.TheVariants as refusals
 use Rattle.scene.specs.declared.Event.{Event}
 use Rattle.scene.specs.declared.Event.TheVariants.{Write, Paint, Mark, ScheduleCopy, DoCopy, Bell, CutText, Resize, Connect, Hear, Cut, Close}
 use Rattle.scene.specs.declared.Answer.{Answer}
-use Rattle.viewer.specs.declared.notices.Notice.TheVariants as notice
+use Rattle.updates.specs.declared.notices.Notice.TheVariants as notice
 use Rattle.framebuffer.specs.Frame.{Frame, blank_frame}
 use Rattle.framebuffer.specs.Picture.{written, copied_colours, places_in}
 use Rattle.viewer.specs.Viewer.{Viewer, new_viewer, is_open_viewer, noticed, viewer_marked, viewer_copied, viewer_resized}

@@ -6,7 +6,8 @@ ghost use Rattle.scene.specs.Alone.{is_size, config_refusal, is_span, is_within,
 ghost use Rattle.scene.specs.Checked.{IsChecked};
 
 use crate::{Config, ScreenError};
-use framebuffer::{Block, Framebuffer, block_of};
+use framebuffer::{Block, block_of};
+use picture::Picture;
 use region::{LONGEST_SIDE, Rect};
 
 /// How many places a screen has at most.
@@ -138,7 +139,7 @@ pub fn unless_refused(refusal: Option<ScreenError>) -> Result<(), ScreenError>
 }
 
 /// The block of a rectangle of a screen whose colours may be replaced by these, or why they may not.
-pub fn checked(picture: &Framebuffer, rect: Rect, colours: &[u32]) -> Result<Block, ScreenError>
+pub fn checked(picture: &Picture, rect: Rect, colours: &[u32]) -> Result<Block, ScreenError>
     ensures { MatchResult result (IsChecked picture.now.width picture.now.height rect colours.now)
         (λ e. pixels_refusal picture.now.width picture.now.height rect colours.now ≡ Some e) }
 {

@@ -22,9 +22,10 @@ use crate::connecting::let_in;
 use crate::drawing::{moves_nothing, owe_rects, owe_region, region_of, region_of_rect, tell};
 use crate::limits::{checked, refusal_of, size_refusal, text_refusal, unless_refused};
 use crate::{Answer, Config, Drawing, Event, History, ScreenError};
-use framebuffer::{Framebuffer, destinations};
+use framebuffer::destinations;
 use listed::Listed;
 use messages::Fault;
+use picture::Picture;
 use region::{Rect, Region};
 use std::alloc::{AllocError, Global};
 use std::marker::Model;
@@ -35,7 +36,7 @@ use viewer_list::ViewerList;
 pub struct Scene {
     alloc: Global,
     config: Config,
-    picture: Framebuffer,
+    picture: Picture,
     viewers: ViewerList,
 }
 
@@ -74,13 +75,20 @@ impl Scene {
         if let Some(error) = refusal_of(&config) {
             return Err(error);
         }
-        let picture = Framebuffer::new(alloc, config.width, config.height)?;
+        let picture = Picture::new(alloc, config.width, config.height)?;
         Ok(Scene {
             alloc,
             config,
             picture,
             viewers: ViewerList::new(alloc),
         })
+    }
+
+    /// From now on the rectangles of viewers that are alike are encoded once; or not, as at first.
+    pub fn share_encodings(&mut self, shares: bool)
+        ensures { self.new ≡ self.old }
+    {
+        self.picture.share(shares);
     }
 
     /// The screen's columns, 1 to 8192.
@@ -461,7 +469,8 @@ impl Scene {
         ensures err { OnErr result (self.new ≡ self.old) }
     {
         unless_refused(size_refusal(width, height))?;
-        let picture = Framebuffer::new(self.alloc, width, height)?;
+        let mut picture = Picture::new(self.alloc, width, height)?;
+        picture.share(self.picture.shares());
         self.viewers.resize(width as u16, height as u16)?;
         self.picture = picture;
         Ok(())
@@ -520,9 +529,32 @@ impl Scene {
         ensures refused { MatchOption (absence (viewer_at self.old number)) (IsOk result) (λ e. result ≡ Err e) }
         ensures err { OnErr result (self.new ≡ self.old) }
     {
+        let removed = self.remove(number);
+        self.let_picture_rest();
+        removed
+    }
+
+    /// A viewer is gone.
+    fn remove(&mut self, number: u64) -> Result<(), ScreenError>
+        ensures step { (config : Config) (list : List Event) → self.old ≡ scene_after config list →
+            self.new ≡ scene_after config (list ++ Event.Close number ∷ []) }
+        ensures answer { (config : Config) (list : List Event) → self.old ≡ scene_after config list →
+            told (λ _. nothing_to_say) result ≡ answer_to config list (Event.Close number) }
+        ensures refused { MatchOption (absence (viewer_at self.old number)) (IsOk result) (λ e. result ≡ Err e) }
+        ensures err { OnErr result (self.new ≡ self.old) }
+    {
         match self.viewers.remove(number) {
             Ok(_) => Ok(()),
             Err(_) => Err(ScreenError::NoViewer),
+        }
+    }
+
+    /// Where no viewer is left, what was encoded for several of them is let go.
+    fn let_picture_rest(&mut self)
+        ensures { self.new ≡ self.old }
+    {
+        if self.viewers.is_empty() {
+            self.picture.rest();
         }
     }
 
@@ -557,6 +589,30 @@ impl Scene {
             return Err(ScreenError::NoViewer);
         };
         Ok(pending)
+    }
+
+    /// Where encodings are shared, and a viewer would be sent next what several are likely to be sent, encodes a piece of what these want.
+    /// None: the viewer is best cut now. Else more is left to be encoded, and its cut better waits; the number is another where what it
+    /// waited for is lost. No byte depends on it.
+    #[inline(always)]
+    pub fn encode_ahead(&mut self, number: u64) -> Option<u64>
+        ensures { self.new ≡ self.old }
+    {
+        if !self.picture.is_expecting() {
+            return None;
+        }
+        self.look_ahead(number)
+    }
+
+    /// The same, where some update is likely to be wanted by several viewers: an update is prepared, of which the picture encodes a piece in
+    /// place of giving it.
+    #[inline(never)]
+    fn look_ahead(&mut self, number: u64) -> Option<u64>
+        ensures { self.new ≡ self.old }
+    {
+        self.picture.look_ahead();
+        let _nothing = self.prepare_cut(number);
+        self.picture.more_ahead()
     }
 
     /// Cuts an update for a viewer: its rectangles, with their colours as they stand; None where there is

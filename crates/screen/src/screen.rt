@@ -65,6 +65,25 @@ impl Screen {
         Ok(Screen { scene, events })
     }
 
+    /// From now on the rectangles of viewers that are alike are encoded once, where `encode_ahead` is called before each cut; or not, as at
+    /// first. No byte that a viewer is sent depends on it.
+    pub fn share_encodings(&mut self, shares: bool)
+        ensures { self.new ≡ self.old }
+    {
+        self.scene.share_encodings(shares);
+    }
+
+    /// Where encodings are shared, and a viewer would be sent next what several viewers are likely to be sent, encodes a piece of what these
+    /// want: some 256 KB, at most 16 rows of tiles in Hextile or 16 rectangles in RRE. None: cut for the viewer now. Else more is left to be
+    /// encoded, and its cut better waits until a further call answers None; the number is another where what it waited for is lost, as by
+    /// drawing, and then it had better be cut all the same. No byte that a viewer is sent depends on it.
+    #[inline(always)]
+    pub fn encode_ahead(&mut self, number: u64) -> Option<u64>
+        ensures { self.new ≡ self.old }
+    {
+        self.scene.encode_ahead(number)
+    }
+
     /// The events that were accepted, in order, where they are kept: a call for one rectangle with the rectangle as it was given,
     /// one for a region with the region's canonical list, and no cut that gave nothing. They are all that the screen stands for.
     pub fn history(&self) -> Option<&[Event]>

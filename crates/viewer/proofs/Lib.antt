@@ -1,4 +1,2 @@
-mod RemainingLemmas
-mod RunLemmas
 mod HearingLemmas
-mod SentLemmas
+mod SizeLemmas

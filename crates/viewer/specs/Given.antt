@@ -1,14 +1,12 @@
 -- What a call that cuts an update gives, and what a viewer takes.
-use Rattle.std.specs.Prelude.{◌≢◌, ℕ, Bool, false, ◌&&◌, nat_lt, length, List, [], ◌++◌, Option, Some, None}
+use Rattle.std.specs.Prelude.{ℕ, Bool, false, ◌&&◌, nat_lt, length, List, [], ◌++◌, Option, Some, None}
 use Rattle.messages.specs.Reading.{is_open_rest}
 use Rattle.copy_schedule.specs.Marks.{Marks}
 use Rattle.viewer.specs.declared.viewer_state.Planned.{Planned}
 use Rattle.viewer.specs.declared.cutting.PreparedUpdate.{PreparedUpdate}
-use Rattle.viewer.specs.declared.parts.Part.{Part}
-use Rattle.viewer.specs.declared.parts.Part.TheVariants.{Nothing}
 use Rattle.viewer.specs.Viewer.{KeptViewer}
 use Rattle.viewer.specs.Sending.{front_bytes}
-use Rattle.viewer.specs.Updates.{part_bytes}
+use Rattle.updates.specs.Updates.{part_bytes}
 
 -- the bytes of an update, or none
 abbrev pub bytes_given : Option (List ℕ) → List ℕ
@@ -35,11 +33,6 @@ prepared_bytes (Some p) = p.update
 abbrev pub after_prepared : KeptViewer → Option PreparedUpdate → KeptViewer
 after_prepared v None = v
 after_prepared v (Some p) = record v { map_owed = false; notices = []; told = p.told; marks = marks_put v.marks p.marks }
-
--- what is sent isn't empty, unless it is nothing
-abbrev pub IsSomething : Part → Type 0
-IsSomething Nothing = Unit {0}
-IsSomething part = part_bytes part ≢ []
 
 -- whether a viewer would keep a notice: it is open, and fewer than 64 wait
 abbrev pub keeps_notices : KeptViewer → Bool

@@ -1,12 +1,6 @@
-pub mod Short
-pub mod Areas
 pub mod Viewer
 pub mod Hearing
 pub mod Sending
-pub mod StoredColours
-pub mod Updates
 pub mod Given
 pub mod ViewerStates
-pub mod Remaining
-pub mod RemainingUpdates
 pub mod Told

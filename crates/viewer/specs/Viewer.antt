@@ -15,8 +15,9 @@ use Rattle.messages.specs.declared.Phase.TheVariants as phase
 use Rattle.messages.specs.Grammar.{End, waiting}
 use Rattle.messages.specs.Reading.{heard, Rest, rest}
 use Rattle.viewer.specs.declared.settings.Settings.{Settings}
-use Rattle.viewer.specs.declared.sizes.Size.{Size}
-use Rattle.viewer.specs.declared.notices.Notice.{Notice}
+use Rattle.updates.specs.declared.sizes.Size.{Size}
+use Rattle.updates.specs.declared.notices.Notice.{Notice}
+use Rattle.updates.specs.Waiting.{with_notice}
 
 -- One viewer. Its bytes so far stand as a list, or as what a screen keeps of them.
 pub record Viewer (Bytes : Type 0) : Type 0 where
@@ -63,15 +64,6 @@ settings_of v = record { shared = v.shared; format = v.format; encoding = v.enco
 -- it asked for places, and no update of places or of a size was cut for it since: a request of its is unanswered (RFC 6143, 7.5.3)
 abbrev pub is_asking : {B : Type 0} → Viewer B → Bool
 is_asking v = has_asked v.marks
-
--- no notice waits
-abbrev pub none_wait : List Notice → Bool
-none_wait [] = true
-none_wait (n ∷ notices) = false
-
--- a notice is kept where fewer than 64 wait
-abbrev pub with_notice : Notice → List Notice → List Notice
-with_notice notice waiting_ones = if nat_lt (length waiting_ones) 64 then waiting_ones ++ notice ∷ [] else waiting_ones
 
 -- an open viewer keeps a notice
 abbrev pub noticed : {B : Type 0} → Notice → Bool → Viewer B → Viewer B

@@ -8,17 +8,16 @@ ghost use Rattle.region.specs.Region.{in_rect};
 ghost use Rattle.region.specs.Places.{longest_side};
 ghost use Rattle.copy_schedule.specs.Marks.{pending, requested, without_copyrect};
 ghost use Rattle.viewer.specs.Hearing.{input_of, after_items, heard_reply};
-ghost use Rattle.viewer.specs.Viewer.{KeptViewer, none_wait, with_request, after_item, new_viewer, kept_viewer};
+ghost use Rattle.updates.specs.Waiting.{none_wait};
+ghost use Rattle.viewer.specs.Viewer.{KeptViewer, with_request, after_item, new_viewer, kept_viewer};
 ghost use Rattle.viewer.specs.Sending.{is_size_owed, tells_size};
 ghost use Rattle.copy_schedule.specs.Log.{logged, IsCutEntry};
 ghost use Rattle.viewer.specs.ViewerStates.{viewer_in, viewer_by};
 ghost use Rattle.viewer.specs.Told.{viewer_told, told_unless};
 ghost use Rattle.viewer.specs.Given.{marks_put};
 
-use crate::notices::Notices;
-use crate::sizes::{Size, clipped, view_by};
-use crate::translation::Translation;
 use crate::viewer_state::{Draft, ViewerState, put_format, put_marks};
+use crate::views::{clipped, view_by};
 use crate::{HeardPiece, Reply};
 use copy_schedule::{LogEntry, Marks, joined_log};
 use listed::Listed;
@@ -26,6 +25,7 @@ use messages::{Desktop, Ear, Encoding, Input, Item, Prepared, greetings};
 use pixel_translate::{Area, PixelFormat};
 use region::Rect;
 use std::alloc::{AllocError, Global};
+use updates::{Notices, Size, Translation};
 
 /// The size of a viewer's screen.
 pub(crate) fn screen_of(state: &ViewerState) -> Size

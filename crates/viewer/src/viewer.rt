@@ -5,27 +5,27 @@ ghost use Rattle.std.specs.Prelude.{OnErr};
 ghost use Rattle.messages.specs.Reading.{rest, new_items, is_open_rest, fault_in_rest};
 ghost use Rattle.copy_schedule.specs.Marks.{Marks, pending};
 ghost use Rattle.copy_schedule.specs.Log.{logged, IsCutEntry};
-ghost use Rattle.viewer.specs.Viewer.{is_asking, settings_of, none_wait, noticed, new_viewer, kept_viewer, viewer_resized};
+ghost use Rattle.updates.specs.Waiting.{none_wait};
+ghost use Rattle.viewer.specs.Viewer.{is_asking, settings_of, noticed, new_viewer, kept_viewer, viewer_resized};
 ghost use Rattle.viewer.specs.Hearing.{after_items, heard_reply};
 ghost use Rattle.viewer.specs.Sending.{tells_size, sending_kept};
 ghost use Rattle.viewer.specs.Given.{bytes_given, prepared_bytes, after_prepared, keeps_notices};
-ghost use Rattle.viewer.specs.Short.{IsShort};
+ghost use Rattle.updates.specs.Short.{IsShort};
 ghost use Rattle.viewer.specs.Told.{viewer_told, told_unless};
 ghost use Rattle.region.specs.Places.{longest_side};
 
 use crate::HeardPiece;
 use crate::cutting::{PreparedUpdate, commit_in, prepare_in};
 use crate::hearing::{hear_in, is_pending, new_state};
-use crate::notices::Notice;
 use crate::settings::{Settings, settings_in};
-use crate::sizes::{Size, view_by, whole};
-use crate::update::Update;
 use crate::viewer_state::ViewerState;
+use crate::views::{view_by, whole};
 use copy_schedule::{LogEntry, Prepared, joined_log};
-use framebuffer::Framebuffer;
 use messages::Fault;
+use picture::Picture;
 use std::alloc::{AllocError, Global};
 use std::marker::Model;
+use updates::{Notice, Size, Update};
 
 /// One viewer of a screen. Contracts see what the RFC's words speak of: where its conversation stands, its pixel format and
 /// encoding, its marks of each place, and the notices that wait.
@@ -126,11 +126,7 @@ impl Viewer {
 
     /// Cuts an update of the picture for the viewer, with at most so many copies and so many rectangles of colours; None where
     /// there is nothing to send. After an `AllocError` the viewer is as it was.
-    pub fn cut(
-        &mut self,
-        picture: &mut Framebuffer,
-        limit: u32,
-    ) -> Result<Option<Update>, AllocError>
+    pub fn cut(&mut self, picture: &mut Picture, limit: u32) -> Result<Option<Update>, AllocError>
         requires limit { limit ≤ 1000 }
         requires width { self.old.marks.width ≡ picture.old.width }
         requires height { self.old.marks.height ≡ picture.old.height }
@@ -154,7 +150,7 @@ impl Viewer {
     /// there is nothing to send. `commit_cut` cuts it.
     pub fn prepare_cut(
         &self,
-        picture: &mut Framebuffer,
+        picture: &mut Picture,
         limit: u32,
     ) -> Result<Option<PreparedUpdate>, AllocError>
         requires limit { limit ≤ 1000 }

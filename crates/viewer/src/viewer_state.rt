@@ -3,12 +3,9 @@
 ghost use Rattle.std.specs.Prelude.{◌≡◌, unwrap_or};
 ghost use Rattle.viewer.specs.Given.{marks_put};
 
-use crate::notices::Notices;
-use crate::parts::Part;
-use crate::sizes::Size;
-use crate::translation::Translation;
 use copy_schedule::Marks;
 use messages::{Ear, Encoding};
+use updates::{Notices, Part, Size, Translation};
 
 /// What is kept of a viewer: of its bytes, what it asked for, its marks, and the notices that wait for it.
 #[derive(Drop)]

@@ -13,7 +13,8 @@ use Rattle.copy_schedule.specs.Marks.{Marks, marked, has_asked, pending}
 use Rattle.copy_schedule.specs.Log.{after_entry, logged, IsCutEntry}
 use Rattle.copy_schedule.specs.LogLemmas.{logged_append, cut_append, front_is_cut}
 use Rattle.messages.specs.Reading.{is_open_rest}
-use Rattle.viewer.specs.Viewer.{KeptViewer, none_wait}
+use Rattle.updates.specs.Waiting.{none_wait}
+use Rattle.viewer.specs.Viewer.{KeptViewer}
 use Rattle.viewer.specs.Sending.{is_size_owed, tells_size}
 use Rattle.viewer_list.specs.declared.lagging.Lagging.{Lagging}
 use Rattle.viewer_list.specs.declared.lagging.CatchUp.{CatchUp}

@@ -17,7 +17,7 @@ use Rattle.copy_schedule.specs.declared.LogEntry.TheVariants.{Mark}
 use Rattle.copy_schedule.specs.Marks.{Marks}
 use Rattle.copy_schedule.specs.Log.{IsCutEntry}
 use Rattle.copy_schedule.specs.LogLemmas.{resized_logged}
-use Rattle.viewer.specs.declared.notices.Notice.{Notice}
+use Rattle.updates.specs.declared.notices.Notice.{Notice}
 use Rattle.viewer.specs.Viewer.{KeptViewer, in_view, viewer_resized}
 use Rattle.viewer_list.specs.declared.lagging.Lagging.{Lagging}
 use Rattle.viewer_list.specs.Lagging.{waiting, caught_up, brought_up, within_end, seen, told_of, resized_of, IsCurrent, Fits, IsJoined, position_within, last_position}

@@ -8,7 +8,7 @@ use Rattle.copy_schedule.specs.declared.LogEntry.TheVariants.{Mark, Copy}
 use Rattle.copy_schedule.specs.Marks.{Marks, marked}
 use Rattle.copy_schedule.specs.Log.{logged, IsCutEntry}
 use Rattle.viewer.specs.Viewer.{KeptViewer, viewer_resized}
-use Rattle.viewer.specs.declared.notices.Notice.{Notice}
+use Rattle.updates.specs.declared.notices.Notice.{Notice}
 use Rattle.viewer_list.specs.Viewers.{viewer_noticed}
 use Rattle.viewer_list.specs.declared.lagging.Lagging.{Lagging}
 use Rattle.viewer_list.specs.declared.lagging.CatchUp.{CatchUp}

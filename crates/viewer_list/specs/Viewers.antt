@@ -6,11 +6,12 @@ use Rattle.copy_schedule.specs.declared.LogEntry.{LogEntry}
 use Rattle.copy_schedule.specs.Marks.{has_asked, pending}
 use Rattle.copy_schedule.specs.Log.{after_entry}
 use Rattle.messages.specs.Reading.{is_open_rest, rest}
-use Rattle.viewer.specs.declared.notices.Notice.{Notice}
-use Rattle.viewer.specs.declared.notices.Notice.TheVariants as notice
+use Rattle.updates.specs.declared.notices.Notice.{Notice}
+use Rattle.updates.specs.declared.notices.Notice.TheVariants as notice
 use Rattle.viewer.specs.Given.{keeps_notices}
 use Rattle.viewer.specs.Sending.{is_size_owed}
-use Rattle.viewer.specs.Viewer.{KeptViewer, noticed, none_wait}
+use Rattle.updates.specs.Waiting.{none_wait}
+use Rattle.viewer.specs.Viewer.{KeptViewer, noticed}
 
 -- the viewers by number, in their order of connecting, each as it would be had it been told of all drawing at once; and for how
 -- many drawing calls there is room

@@ -13,7 +13,7 @@ ghost use Rattle.viewer.specs.Told.{viewer_told};
 ghost use Rattle.viewer_list.specs.Viewers.{is_pending};
 ghost use Rattle.viewer_list.specs.Lagging.{waiting, caught_up, up_to_date, moved_where_known, IsCurrent, Fits, IsCatchUp, IsFor};
 
-use framebuffer::Framebuffer;
+use picture::Picture;
 use std::alloc::{AllocError, Global};
 use viewer::{LogEntry, PreparedUpdate, Reply, Update, Viewer};
 
@@ -208,7 +208,7 @@ pub fn is_pending_one(lagging: &Lagging, log: &[LogEntry]) -> bool
 pub fn prepare_one(
     lagging: &mut Lagging,
     log: &[LogEntry],
-    picture: &mut Framebuffer,
+    picture: &mut Picture,
     limit: u32,
 ) -> Result<Option<PreparedUpdate>, AllocError>
     requires fits { Fits log.now lagging.old }

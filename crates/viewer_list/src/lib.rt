@@ -26,7 +26,7 @@ ghost use Rattle.client_list.specs.Connected.{changed};
 ghost use Rattle.client_list.specs.declared.ConnectError.TheVariants.{NumberInUse, OutOfMemory};
 ghost use Rattle.copy_schedule.specs.Log.{IsCutEntry};
 ghost use Rattle.messages.specs.Reading.{rest, new_items, fault_in_rest, is_open_rest};
-ghost use Rattle.viewer.specs.declared.notices.Notice.{Notice};
+ghost use Rattle.updates.specs.declared.notices.Notice.{Notice};
 ghost use Rattle.viewer.specs.Hearing.{after_items, heard_reply};
 ghost use Rattle.viewer.specs.Sending.{sending_kept};
 ghost use Rattle.viewer.specs.Given.{prepared_bytes, after_prepared};
@@ -41,11 +41,11 @@ mod resizing;
 mod walks;
 
 use client_list::{Clients, ConnectError, NoViewer};
-use framebuffer::Framebuffer;
 use joining::{join_entries, start_anew};
 use lagging::{Lagging, commit_one, hear_one, is_asking_one, is_pending_one, prepare_one};
 use messages::Fault;
 use notices::{keep_texts, ring_all, texts};
+use picture::Picture;
 use resizing::{prepare_all, resize_all};
 use std::alloc::{AllocError, Global};
 use std::marker::Model;
@@ -324,7 +324,7 @@ impl ViewerList {
     pub fn prepare_cut(
         &mut self,
         number: u64,
-        picture: &mut Framebuffer,
+        picture: &mut Picture,
         limit: u32,
     ) -> Result<Option<Option<PreparedUpdate>>, AllocError>
         requires limit { limit ≤ 1000 }

@@ -3,7 +3,7 @@
 ghost use Rattle.std.specs.Prelude.{◌≡◌, ◌≤◌, ◌^◌, map, length, IfOk};
 ghost use Rattle.std.specs.Map.{values_of};
 ghost use Rattle.client_list.specs.Connected.{changed};
-ghost use Rattle.viewer.specs.declared.notices.Notice.{Notice};
+ghost use Rattle.updates.specs.declared.notices.Notice.{Notice};
 ghost use Rattle.viewer_list.specs.Lagging.{told_of};
 ghost use Rattle.viewer_list.specs.Viewers.{text_for};
 

@@ -4,7 +4,7 @@ use Rattle.std.specs.Prelude.{nat_abs, ◌-ℤ◌}
 use Rattle.framebuffer.specs.declared.blocks.Block.{Block}
 use Rattle.framebuffer.specs.Blocks.{block_rect}
 use Rattle.framebuffer.specs.PictureLemmas.{distance}
-use Rattle.viewer.specs.Areas.{area_of}
+use Rattle.updates.specs.Areas.{area_of}
 
 pub area_is : (b : Block) → area_of (block_rect b) ≡ record { x = b.left; y = b.top; w = b.columns; h = b.rows }
 area_is b =

@@ -25,7 +25,7 @@ use Rattle.region.specs.PlaceLemmas.{value_on, is_place}
 use Rattle.copy_schedule.specs.CutLemmas.{copies_on_screen, sources_inside, pixels_on_screen}
 use Rattle.framebuffer.specs.declared.blocks.Block.{Block}
 use Rattle.framebuffer.specs.Blocks.{block_rect}
-use Rattle.viewer.specs.Areas.{area_of}
+use Rattle.updates.specs.Areas.{area_of}
 use Rattle.framebuffer.specs.Picture.{colour_at, colours_of}
 use Rattle.viewer_picture.specs.AreaLemmas.{area_is}
 use Rattle.viewer_picture.specs.Pictures.{dot_at, ShowsColour}

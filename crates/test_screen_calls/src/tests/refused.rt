@@ -14,6 +14,7 @@ macro_rules! again {
     };
 }
 
+mod alike;
 mod many;
 mod marks;
 mod named;

@@ -3,7 +3,8 @@ use Rattle.std.specs.Prelude.{option_map, IfSome}
 use Rattle.copy_schedule.specs.declared.Cut.{Cut}
 use Rattle.copy_schedule.specs.declared.marks.PreparedCut.{PreparedCut}
 use Rattle.copy_schedule.specs.Marks.{Marks, Sent, pending, copies_of, pixels_of, after_sending, cut_of, cut_of_sent, marks_after}
-use Rattle.viewer.specs.Sending.{front_bytes, bytes_of, with_update}
+use Rattle.updates.specs.Bytes.{bytes_of}
+use Rattle.viewer.specs.Sending.{front_bytes, with_update}
 use Rattle.viewer.specs.ViewerStates.{viewer_in}
 use Rattle.viewer.specs.Viewer.{KeptViewer}
 use Rattle.viewer.proofs.cutting.plan_places.Goals as goal
@@ -40,8 +41,7 @@ returns-clause-bytes c =
     let cut = is_sent c.args.limit c.args.state.now.marks c.in-Some.field-0.cut c.in-Some.field-0.marks
     (ap (option_map (λ (q : PreparedCut). q.cut)) (sym c.in-Some.is) ∙ c.in_ok-cut.ensures.sent)
     (subst (λ (o : Option PreparedCut). IfSome o (λ q. q.marks ≡ marks_after c.args.limit c.args.state.now.marks)) c.in-Some.is c.in_ok-cut.ensures.after) in
-    ap (λ l. front_bytes v ++ l) c.in_ok-rectangles.ensures.bytes
-    ∙ ap (λ f. front_bytes v ++ bytes_of w h picture v.encoding f c.in-Some.field-0.cut.copies c.in-Some.field-0.cut.offset c.in-Some.field-0.cut.pixels) c.in_ok-format.ensures
+    ap (λ l. front_bytes v ++ l) c.in_ok-part.ensures.bytes
     ∙ ap (λ (q : Cut). front_bytes v ++ bytes_of w h picture v.encoding v.format q.copies q.offset q.pixels) (sym cut.cut_is)
     ∙ ap (λ o. (with_update w h picture v o).0) (sym cut.is)
 

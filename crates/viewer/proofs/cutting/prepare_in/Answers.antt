@@ -1,13 +1,13 @@
 use Rattle.std.proofs.Common.{◌≡◌, List, [], ◌∷◌, ◌++◌, false, refl, sym, ◌∙◌}
 use Rattle.std.specs.Prelude.{flat_map}
-use Rattle.viewer.specs.declared.parts.Part.{Part}
-use Rattle.viewer.specs.declared.parts.Part.TheVariants.{Nothing, NewSize, Places}
-use Rattle.viewer.specs.Given.{IsSomething}
-use Rattle.viewer.specs.declared.notices.Notice.{Notice}
-use Rattle.viewer.specs.Viewer.{none_wait}
-use Rattle.viewer.specs.Sending.{map_bytes, notice_bytes}
-use Rattle.viewer.specs.Updates.{part_bytes}
-use Rattle.viewer.proofs.SentLemmas.{some_map, some_behind, some_rest}
+use Rattle.updates.specs.declared.parts.Part.{Part}
+use Rattle.updates.specs.declared.parts.Part.TheVariants.{Nothing, NewSize, Places}
+use Rattle.updates.specs.declared.parts.Part.TheVariants as part
+use Rattle.updates.specs.declared.notices.Notice.{Notice}
+use Rattle.updates.specs.Waiting.{none_wait}
+use Rattle.updates.specs.Bytes.{map_bytes, notice_bytes}
+use Rattle.updates.specs.Updates.{part_bytes, IsSomething}
+use Rattle.updates.proofs.SentLemmas.{some_map, some_behind, some_rest}
 use Rattle.viewer.proofs.cutting.prepare_in.Goals as goal
 use Rattle.viewer.proofs.cutting.prepare_in.Goals.{else-is_nothing-via-then-is_nothing+then-is_empty+else-not-state, else-is_nothing-via-then-is_nothing+else-is_empty, else-is_nothing-via-else-is_nothing}
 
@@ -30,3 +30,4 @@ returns-clause-some c = λ e.
     some_of Nothing all some e = some refl
     some_of (NewSize size) all some e = all e
     some_of (Places r) all some e = all e
+    some_of (part.Shared s) all some e = all e

@@ -1,7 +1,7 @@
 use Rattle.std.proofs.Common.{◌∙◌, ℕ, sym, ap, subst, List, All}
 use Rattle.std.specs.Map.{values_of}
 use Rattle.client_list.specs.Connected.{changed}
-use Rattle.viewer.specs.declared.notices.Notice.TheVariants as notice
+use Rattle.updates.specs.declared.notices.Notice.TheVariants as notice
 use Rattle.viewer_list.specs.declared.lagging.Lagging.{Lagging}
 use Rattle.viewer_list.specs.Lagging.{seen, Fits}
 use Rattle.viewer_list.specs.Viewers.{Viewers, viewer_noticed}

@@ -3,7 +3,7 @@ use Rattle.std.specs.Map.{values_of}
 use Rattle.std.proofs.lemmas.Option.{same_Some, none-some}
 use Rattle.client_list.specs.Connected.{Connected}
 use Rattle.client_list.specs.WalkLemmas.{change_step, change_end, take_step, keys-changed}
-use Rattle.viewer.specs.declared.notices.Notice.TheVariants as notice
+use Rattle.updates.specs.declared.notices.Notice.TheVariants as notice
 use Rattle.viewer_list.specs.declared.lagging.Lagging.{Lagging}
 use Rattle.viewer_list.specs.Lagging.{told_of}
 use Rattle.viewer_list.specs.Viewers.{text_for}

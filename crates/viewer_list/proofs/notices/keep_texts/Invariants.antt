@@ -2,7 +2,7 @@ use Rattle.std.proofs.Common.{◌≡◌, ◌-◌, drop, reverse, map, length}
 use Rattle.std.specs.Map.{values_of}
 use Rattle.client_list.specs.Connected.{changed, passed}
 use Rattle.client_list.specs.WalkLemmas.{IsWalk}
-use Rattle.viewer.specs.declared.notices.Notice.TheVariants as notice
+use Rattle.updates.specs.declared.notices.Notice.TheVariants as notice
 use Rattle.viewer_list.specs.declared.lagging.Lagging.{Lagging}
 use Rattle.viewer_list.specs.Lagging.{told_of}
 use Rattle.viewer_list.specs.Viewers.{text_for}

@@ -1,7 +1,7 @@
 use Rattle.std.proofs.Common.{ap}
 use Rattle.viewer.specs.Viewer.{KeptViewer}
 use Rattle.client_list.specs.WalkLemmas.{change_step}
-use Rattle.viewer.specs.declared.notices.Notice.TheVariants as notice
+use Rattle.updates.specs.declared.notices.Notice.TheVariants as notice
 use Rattle.viewer_list.specs.Lagging.{told_of}
 use Rattle.viewer_list.proofs.notices.ring_all.Goals as goal
 

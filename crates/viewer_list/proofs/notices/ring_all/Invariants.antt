@@ -1,7 +1,7 @@
 use Rattle.std.proofs.Common.{◌-◌, length}
 use Rattle.client_list.specs.Connected.{changed, passed}
 use Rattle.client_list.specs.WalkLemmas.{IsWalk}
-use Rattle.viewer.specs.declared.notices.Notice.TheVariants as notice
+use Rattle.updates.specs.declared.notices.Notice.TheVariants as notice
 use Rattle.viewer_list.specs.Lagging.{told_of}
 use Rattle.viewer_list.proofs.notices.ring_all.Given as goal
 

@@ -1,6 +1,6 @@
 use Rattle.std.proofs.Common.{◌∙◌, ap, ◌++◌, ◌∷◌, [], ℕ, List, Option}
 use Rattle.client_list.specs.WalkLemmas.{read_step}
-use Rattle.viewer.specs.declared.notices.Notice.{Notice}
+use Rattle.updates.specs.declared.notices.Notice.{Notice}
 use Rattle.viewer_list.specs.declared.lagging.Lagging.{Lagging}
 use Rattle.viewer_list.specs.Viewers.{text_for}
 use Rattle.viewer_list.proofs.notices.texts.Goals as goal

@@ -13,7 +13,7 @@ returns-in_err-with_capacity-clause-refused g c =
     refused-after r (config_refusal c.args.config) made (rw from.1 from.2)
 
 pub returns-clause-serves : goal.returns-clause-serves
-returns-clause-serves g c = λ began. none-yet c.args.config began _ (c.new-2.ensures.screen ∙ c.in_ok-screen.ensures.made) c.is_kept-is_kept.ensures c.new-3.ensures.empty
+returns-clause-serves g c = λ began. none-yet c.args.config began _ (c.new-2.ensures.screen ∙ c.share_encodings.ensures ∙ c.in_ok-screen.ensures.made) c.is_kept-is_kept.ensures c.new-3.ensures.empty
 
 pub returns-clause-accepted : goal.returns-clause-accepted
 returns-clause-accepted g c = accepted c.new.result (config_refusal c.args.config) _ c.in_ok-screen.was c.new.ensures.refused

@@ -1,6 +1,6 @@
 use Rattle.std.proofs.Common.{ap, ◌∙◌, List, refl}
 use Rattle.scene.specs.declared.Event.TheVariants.{Bell}
-use Rattle.viewer.specs.declared.notices.Notice.TheVariants as notice
+use Rattle.updates.specs.declared.notices.Notice.TheVariants as notice
 use Rattle.viewer_list.specs.Viewers.{viewer_noticed}
 use Rattle.scene.specs.Answers.{SceneState}
 use Rattle.scene.specs.Alone.{at_size}

@@ -1,9 +1,9 @@
 use Rattle.std.proofs.Common.{◌≡◌, ◌∙◌, ap}
 use Rattle.region.specs.Region.{in_rect, on_screen}
-use Rattle.viewer.specs.declared.sizes.Size.{Size}
+use Rattle.updates.specs.declared.sizes.Size.{Size}
 use Rattle.viewer.specs.ViewerStates.{viewer_in}
 use Rattle.viewer.specs.Viewer.{in_view}
-use Rattle.viewer.proofs.SentLemmas.{same_resized}
+use Rattle.viewer.proofs.SizeLemmas.{same_resized}
 use Rattle.viewer.proofs.viewer.Viewer.prepare_resize.Goals as goal
 
 pub returns : goal.returns

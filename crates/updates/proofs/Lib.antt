@@ -1,0 +1,4 @@
+mod RemainingLemmas
+mod RunLemmas
+pub mod SentLemmas
+mod SharedLemmas

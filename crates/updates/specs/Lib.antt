@@ -1,0 +1,9 @@
+pub mod Short
+pub mod Areas
+pub mod Waiting
+pub mod Bytes
+pub mod StoredColours
+pub mod Updates
+pub mod Shared
+pub mod Remaining
+pub mod RemainingUpdates

@@ -1,7 +1,0 @@
-use Rattle.std.proofs.Common.{arith}
-use Rattle.viewer.proofs.RunLemmas.{front_is_run}
-use Rattle.viewer.proofs.colours.Colours.piece_from.Goals as goal
-
-pub returns-clause-part : goal.returns-clause-part
-returns-clause-part c =
-    front_is_run c.args.self.now c.run_from-run.result.now c.args.done c.min.result (omega (arith, c.min.ensures)) c.run_from-run.ensures.part
