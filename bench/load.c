@@ -316,6 +316,9 @@ static int greet_with(struct conn *c, int index, int rcvbuf)
 
 static int greet(struct conn *c, int index) { return greet_with(c, index, 0); }
 
+/* The order of bytes that a format has: the other one for what is measured with --swapped, never where pixels are looked at. */
+static int is_big;
+
 static int set_format(struct conn *c, int bits)
 {
     u8 m[20] = { 0 };
@@ -323,7 +326,7 @@ static int set_format(struct conn *c, int bits)
     if (bits == 32) { m[5] = 24; put16(m + 8, 255); put16(m + 10, 255); put16(m + 12, 255); m[14] = 16; m[15] = 8; m[16] = 0; }
     else if (bits == 16) { m[5] = 16; put16(m + 8, 31); put16(m + 10, 63); put16(m + 12, 31); m[14] = 11; m[15] = 5; m[16] = 0; }
     else { m[5] = 8; put16(m + 8, 7); put16(m + 10, 7); put16(m + 12, 3); m[14] = 5; m[15] = 2; m[16] = 0; }
-    m[6] = (u8)o_swapped;
+    m[6] = (u8)is_big;
     m[7] = 1;
     c->bpp = bits / 8;
     return say(c, m, 20);
@@ -525,7 +528,10 @@ static int prepare(struct conn *c)
 {
     int kind = o_mix && c >= conns && c < conns + MAXV ? (int)((c - conns) % 4) : -1;
     int bits = kind < 0 ? o_format : kind == 1 ? 16 : 32, encoding = kind < 0 ? o_enc : kind < 2 ? RAW : kind == 2 ? RRE : HEXTILE;
-    if (set_format(c, bits) || set_encodings(c, encoding)) return -1;
+    is_big = o_swapped;
+    int refused = set_format(c, bits);
+    is_big = 0;
+    if (refused || set_encodings(c, encoding)) return -1;
     return refresh(c);
 }
 
