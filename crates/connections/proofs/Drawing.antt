@@ -1,5 +1,5 @@
 -- What a call of the screen makes of a canvas.
-use Rattle.std.proofs.Common.{◌≡◌, ℕ, Bool, true, false, List, [], ◌∷◌, ◌++◌, Option, Some, None, Result, Ok, Err, OnOk, OnErr, IfOk, refl, sym, ap, ◌∙◌, append_assoc, subst}
+use Rattle.std.proofs.Common.{◌≡◌, ℕ, Bool, true, false, List, [], ◌∷◌, ◌++◌, Option, Some, None, Result, Ok, Err, OnOk, OnErr, IfOk, refl, sym, ap, ◌∙◌, append_assoc, append-nil, subst}
 use Rattle.std.specs.Prelude.{MatchOption, MatchResult, IsOkUnless, ◌&&◌, ◌||◌}
 use Rattle.std.proofs.lemmas.Bool.{and_from, or_parts, or_from}
 use Rattle.std.proofs.lemmas.List.Folds.{list_all-append, list_any-append}
@@ -16,6 +16,11 @@ use Rattle.screen.specs.declared.Drawing.TheVariants.{Write, Paint, MarkRect, Ma
 use Rattle.screen.specs.State.{State, state}
 use Rattle.source_pixels.specs.declared.pieces.Piece.{Piece}
 use Rattle.screen.specs.Paints.{paints_of}
+use Rattle.scribe.specs.Scribing.{Scribed}
+use Rattle.screen.specs.Happening.{AllHappen}
+use Rattle.connections.specs.Recorded.{PutsWhere, RecordsMore}
+use Rattle.screen.specs.HappeningLemmas.{happen-nothing}
+use Rattle.connections.specs.RecordedLemmas.{PutsLines, records-then, records-lines}
 use Rattle.connections.specs.Drawing.{Surface, Draws, are_drawings, is_notice, has_notice}
 
 -- no bell or text is among more calls
@@ -28,26 +33,30 @@ still-quiet since calls e before after is quiet fine =
 
 -- a drawing call, which is refused or not
 pub draws_by : {X : Type 0} (r : Result X ScreenError) (a b : Surface) (e : Event) → owner_of e ≡ None
-    → ((c : Config) (list : List Event) → a.screen ≡ state c list → OnOk r (b.screen ≡ state c (list ++ e ∷ []))) → OnErr r (b.screen ≡ a.screen) → b.drawn ≡ true → b.noticed ≡ (is_notice e || a.noticed) → Draws a b
-draws_by (Ok x) a b e own steps err drawn noticed c list since d = record {
+    → ((c : Config) (list : List Event) → a.screen ≡ state c list → OnOk r (b.screen ≡ state c (list ++ e ∷ []))) → OnErr r (b.screen ≡ a.screen) → OnErr r (b.scribed ≡ a.scribed)
+    → ((c : Config) (list : List Event) → a.screen ≡ state c list → OnOk r (RecordsMore c list (e ∷ []) a.scribed b.scribed)) → b.drawn ≡ true → b.noticed ≡ (is_notice e || a.noticed) → Draws a b
+draws_by (Ok x) a b e own steps err still recorded drawn noticed c list since d = record {
   calls = d.calls ++ e ∷ [];
   drawings = list_all-append (λ e. is_drawing (owner_of e)) d.calls (e ∷ []) ∙ and_from _ _ d.drawings (ap (λ o. is_drawing o && true) own);
   screen = steps c (list ++ d.calls) d.screen ∙ ap (state c) (append_assoc list d.calls (e ∷ []));
+  recorded = records-then c list d.calls (e ∷ []) since.scribed a.scribed b.scribed d.recorded (recorded c (list ++ d.calls) d.screen);
   none = λ no. let both : true ≡ false = sym drawn ∙ no in absurd cc;
   quiet = still-quiet since.noticed d.calls e a.noticed b.noticed noticed d.quiet;
 }
-draws_by (Err x) a b e own steps err drawn noticed c list since d = record {
+draws_by (Err x) a b e own steps err still recorded drawn noticed c list since d = record {
   calls = d.calls;
   drawings = d.drawings;
   screen = err ∙ d.screen;
+  recorded = subst (λ (s : Option Scribed). RecordsMore c list d.calls since.scribed s) (sym still) d.recorded;
   none = λ no. let both : true ≡ false = sym drawn ∙ no in absurd cc;
   quiet = λ fine. d.quiet (or_parts _ _ (sym noticed ∙ fine)).1;
 }
 
-pub draws_from : {X : Type 0} (r : Result X ScreenError) (a b : Surface) (before : State) (drawn noticed : Bool) (e : Event) → record { screen = before; drawn = drawn; noticed = noticed } ≡ a → owner_of e ≡ None
-    → ((c : Config) (list : List Event) → before ≡ state c list → OnOk r (b.screen ≡ state c (list ++ e ∷ []))) → OnErr r (b.screen ≡ before) → b.drawn ≡ true → b.noticed ≡ (is_notice e || noticed) → Draws a b
-draws_from r a b before drawn noticed e is own steps err now quiet =
-    subst (λ (x : Surface). Draws x b) is (draws_by r (record { screen = before; drawn = drawn; noticed = noticed }) b e own steps err now quiet)
+pub draws_from : {X : Type 0} (r : Result X ScreenError) (a b : Surface) (before : State) (scribed : Option Scribed) (drawn noticed : Bool) (e : Event) → record { screen = before; scribed = scribed; drawn = drawn; noticed = noticed } ≡ a → owner_of e ≡ None
+    → ((c : Config) (list : List Event) → before ≡ state c list → OnOk r (b.screen ≡ state c (list ++ e ∷ []))) → OnErr r (b.screen ≡ before) → OnErr r (b.scribed ≡ scribed)
+    → ((c : Config) (list : List Event) → before ≡ state c list → OnOk r (RecordsMore c list (e ∷ []) scribed b.scribed)) → b.drawn ≡ true → b.noticed ≡ (is_notice e || noticed) → Draws a b
+draws_from r a b before scribed drawn noticed e is own steps err still recorded now quiet =
+    subst (λ (x : Surface). Draws x b) is (draws_by r (record { screen = before; scribed = scribed; drawn = drawn; noticed = noticed }) b e own steps err still recorded now quiet)
 
 -- a drawing call is nobody's
 pub nobodys : (d : Drawing) → owner_of (event_of d) ≡ None
@@ -73,7 +82,8 @@ paints-quiet left top [] = refl
 paints-quiet left top (q ∷ qs) = paints-quiet left top qs
 
 -- a program's own pixels are taken in
-draws-painted : (left top : ℕ) (a b : Surface) → ((c : Config) (list : List Event) → a.screen ≡ state c list → (qs : List Piece) × (b.screen ≡ state c (list ++ paints_of left top qs))) → b.drawn ≡ true → b.noticed ≡ a.noticed → Draws a b
+draws-painted : (left top : ℕ) (a b : Surface)
+    → ((c : Config) (list : List Event) → a.screen ≡ state c list → (qs : List Piece) × (b.screen ≡ state c (list ++ paints_of left top qs)) × PutsLines (paints_of left top qs) a.scribed b.scribed × AllHappen c list (paints_of left top qs)) → b.drawn ≡ true → b.noticed ≡ a.noticed → Draws a b
 draws-painted left top a b paints drawn noticed c list since d =
     let p = paints c (list ++ d.calls) d.screen in
     let more : List Event = paints_of left top p.0 in
@@ -81,16 +91,30 @@ draws-painted left top a b paints drawn noticed c list since d =
       calls = d.calls ++ more;
       drawings = list_all-append (λ e. is_drawing (owner_of e)) d.calls more ∙ and_from _ _ d.drawings (paints-drawings left top p.0);
       screen = p.1 ∙ ap (state c) (append_assoc list d.calls more);
+      recorded = records-then c list d.calls more since.scribed a.scribed b.scribed d.recorded (records-lines c (list ++ d.calls) more a.scribed b.scribed p.3 p.2);
       none = λ no. let both : true ≡ false = sym drawn ∙ no in absurd cc;
       quiet = λ fine.
           let was = d.quiet (sym noticed ∙ fine) in
           (was.0, list_any-append is_notice d.calls more ∙ or_from _ _ was.1 (paints-quiet left top p.0));
     }
 
-pub draws_taken : (left top : ℕ) (a b : Surface) (before : State) (drawn noticed : Bool) → record { screen = before; drawn = drawn; noticed = noticed } ≡ a
-    → ((c : Config) (list : List Event) → before ≡ state c list → (qs : List Piece) × (b.screen ≡ state c (list ++ paints_of left top qs))) → b.drawn ≡ true → b.noticed ≡ noticed → Draws a b
-draws_taken left top a b before drawn noticed is paints now quiet =
-    subst (λ (x : Surface). Draws x b) is (draws-painted left top (record { screen = before; drawn = drawn; noticed = noticed }) b paints now quiet)
+pub draws_taken : (left top : ℕ) (a b : Surface) (before : State) (scribed : Option Scribed) (drawn noticed : Bool) → record { screen = before; scribed = scribed; drawn = drawn; noticed = noticed } ≡ a
+    → ((c : Config) (list : List Event) → before ≡ state c list → (qs : List Piece) × (b.screen ≡ state c (list ++ paints_of left top qs)) × PutsLines (paints_of left top qs) scribed b.scribed × AllHappen c list (paints_of left top qs)) → b.drawn ≡ true → b.noticed ≡ noticed → Draws a b
+draws_taken left top a b before scribed drawn noticed is paints now quiet =
+    subst (λ (x : Surface). Draws x b) is (draws-painted left top (record { screen = before; scribed = scribed; drawn = drawn; noticed = noticed }) b paints now quiet)
+
+-- what waits of a record is written
+pub draws-flushed : (a b : Surface) → b ≡ record a { scribed = b.scribed } → PutsWhere [] a.scribed b.scribed → Draws a b
+draws-flushed a b same puts c list since d =
+    let more : RecordsMore c (list ++ d.calls) [] a.scribed b.scribed = records-lines c (list ++ d.calls) [] a.scribed b.scribed (happen-nothing c (list ++ d.calls)) puts in
+    record {
+      calls = d.calls;
+      drawings = d.drawings;
+      screen = ap (λ (x : Surface). x.screen) same ∙ d.screen;
+      recorded = subst (λ (l : List Event). RecordsMore c list l since.scribed b.scribed) (append-nil d.calls) (records-then c list d.calls [] since.scribed a.scribed b.scribed d.recorded more);
+      none = λ no. d.none (sym (ap (λ (x : Surface). x.drawn) same) ∙ no);
+      quiet = λ fine. d.quiet (sym (ap (λ (x : Surface). x.noticed) same) ∙ fine);
+    }
 
 -- the bytes that a call told
 pub told-bytes : {X : Type 0} (f : X → Answer) (r : Result X ScreenError) (a : Answer) → Tells f r a → IfOk r (λ x. (f x).bytes ≡ a.bytes)
@@ -113,6 +137,11 @@ accepted {X = X} r (Some e) x is h = let two : ◌≡◌ {A = Result X ScreenErr
 pub refused-after : {X : Type 0} (r : Result X ScreenError) (o : Option ScreenError) → o ≡ None → IsOkUnless r OutOfMemory → MatchOption o (IsOkUnless r OutOfMemory) (λ e. r ≡ Err e)
 refused-after r None is h = h
 refused-after r (Some e) is h = absurd cc
+
+-- what a configuration is refused as
+pub refused-as : (X : Type 0) (o : Option ScreenError) (e : ScreenError) → o ≡ Some e → MatchOption o (e ≡ OutOfMemory) (λ f. ◌≡◌ {A = Result X ScreenError} (Err e) (Err f))
+refused-as X None e is = absurd cc
+refused-as X (Some f) e is = cc
 
 -- what was made was not refused
 pub made-unrefused : {X : Type 0} (x : X) (o : Option ScreenError) → o ≡ None → MatchOption o (IsOkUnless (Ok x) OutOfMemory) (λ e. ◌≡◌ {A = Result X ScreenError} (Ok x) (Err e))

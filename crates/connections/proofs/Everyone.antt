@@ -1,6 +1,6 @@
 -- What a step makes of all connections.
 use Rattle.std.proofs.Common.{◌≡◌, ◌≢◌, ◌⊎◌, inl, inr, true≢false, ◌<◌, ◌≤◌, ℕ, zero, suc, Bool, true, false, List, [], ◌∷◌, ◌++◌, Option, Some, None, Result, Ok, Err, refl, sym, ap, ◌∙◌, append_assoc, append-nil, subst, arith, ◌+◌}
-use Rattle.std.specs.Prelude.{◌==◌, ◌&&◌, unwrap_or, length, slice_set}
+use Rattle.std.specs.Prelude.{IfSome, ◌==◌, ◌&&◌, unwrap_or, length, slice_set}
 use Rattle.std.proofs.lemmas.List.{get_or-set_same, get_or-set_other}
 use Rattle.std.specs.Io.KnownBytes.{Appends, Consumes}
 use Rattle.std.proofs.lemmas.Bool.Decides.{Decides-eqb}
@@ -21,7 +21,9 @@ use Rattle.connections.specs.Drawing.{Surface, Draws, IsDrawnFrom}
 use Rattle.connections.specs.Among.{is_among}
 use Rattle.connections.specs.Attending.{asks, IsSettled}
 use Rattle.connections.specs.Telling.{inputs_after, IsTold}
-use Rattle.connections.specs.Serving.{Carried, ViewerConnection, Moves, breaks_off, has_work, IsServed, WasServed, IsOver, IsAttended, Serving, at_key, works_at, may_cut_at, may_ask_at, is_kept, Serves, GoesOn, GoesOnTelling, drawn_is_served}
+use Rattle.connections.specs.Recorded.{IsRecordedBy, RecordsMore}
+use Rattle.connections.specs.RecordedLemmas.{records-same, recorded-same, recorded-more}
+use Rattle.connections.specs.Serving.{Began, Carried, ViewerConnection, Moves, breaks_off, has_work, IsServed, WasServed, IsOver, IsAttended, Serving, at_key, works_at, may_cut_at, may_ask_at, is_kept, Serves, GoesOn, GoesOnTelling, drawn_is_served}
 use Rattle.connections.specs.Turns.{Knows, IsTurnFrom, TakesTurn, TakesTurnTelling}
 use Rattle.connections.specs.TellingLemmas.{inputs-append, inputs-drawings, told-nothing, told-all, told-then, told-ended}
 use Rattle.connections.proofs.Given.{SameFor, bytes-own, heard-same, same-others, same-drawings}
@@ -69,12 +71,13 @@ module _ {A : Type 0} (stands : A → List (ℕ × Input) → Type 0) where
 -- ---- which are to be looked at
 
 -- other lists that have what they are to have
-pub serves-listed : (c : Config) (began : ℕ → Carried) (list : List Event) (a b : Serving) → b.surface ≡ a.surface → b.kept ≡ a.kept → b.next ≡ a.next → b.slots ≡ a.slots
+pub serves-listed : (c : Config) (began : Began) (list : List Event) (a b : Serving) → b.surface ≡ a.surface → b.kept ≡ a.kept → b.next ≡ a.next → b.slots ≡ a.slots
     → ((key : ℕ) → works_at a.slots key ≡ true → is_among key a.agenda ≡ true → is_among key b.agenda ≡ true)
     → ((key : ℕ) → may_ask_at a.slots key ≡ true → is_among key a.asking ≡ true → is_among key b.asking ≡ true)
     → Serves c began list a → Serves c began list b
 serves-listed c began list a b surface kept next slots listed asked s = record {
   screen = ap (λ (x : Surface). x.screen) surface ∙ s.screen;
+  recorded = recorded-same began.held c list a.surface.scribed b.surface.scribed (ap (λ (x : Surface). x.scribed) surface) s.recorded;
   kept = kept ∙ s.kept;
   each = λ key e there. let h = s.each key e (ap (λ l. at_key l key) (sym slots) ∙ there) in (subst (λ (n : ℕ). e.number < n) (sym next) h.0, h.1);
   attended = λ key e there.
@@ -120,14 +123,15 @@ goes-among a surface kept next slots vacant agenda asking later_agenda later_ask
     subst (λ (x : Serving). GoesOn x b) is (goes-listed was b refl refl refl refl listed asked)
 
 -- those were looked at for whom drawing may have left something
-pub goes-settled : (a b : Serving) → b ≡ record a { surface = b.surface } → b.surface.screen ≡ a.surface.screen
+pub goes-settled : (a b : Serving) → b ≡ record a { surface = b.surface } → b.surface.screen ≡ a.surface.screen → b.surface.scribed ≡ a.surface.scribed
     → ((key : ℕ) → may_cut_at a.slots key ≡ false → (a.surface.noticed ≡ false) × (is_among key a.asking ≡ false)) → GoesOn a b
-goes-settled a b same screen looked c began list s =
+goes-settled a b same screen scribed looked c began list s =
     let slots : b.slots ≡ a.slots = ap (λ (x : Serving). x.slots) same in
     let next : b.next ≡ a.next = ap (λ (x : Serving). x.next) same in (
       [],
       subst (λ (l : List Event). Serves c began l b) (sym (append-nil list)) (record {
         screen = screen ∙ s.screen;
+        recorded = recorded-same began.held c list a.surface.scribed b.surface.scribed scribed s.recorded;
         kept = ap (λ (x : Serving). x.kept) same ∙ s.kept;
         each = λ key e there. let h = s.each key e (ap (λ l. at_key l key) (sym slots) ∙ there) in (subst (λ (n : ℕ). e.number < n) (sym next) h.0, h.1);
         attended = λ key e there. one key e (ap (λ l. at_key l key) (sym slots) ∙ there);
@@ -156,16 +160,17 @@ goes-settled a b same screen looked c began list s =
 -- ---- the application draws
 
 -- after calls that were drawn each viewer is served by the list with them behind it
-serves-drawn : (c : Config) (began : ℕ → Carried) (list : List Event) (a b : Serving) (d : IsDrawnFrom c list a.surface b.surface) → b ≡ record a { surface = b.surface } → Serves c began list a → Serves c began (list ++ d.calls) b
+serves-drawn : (c : Config) (began : Began) (list : List Event) (a b : Serving) (d : IsDrawnFrom c list a.surface b.surface) → b ≡ record a { surface = b.surface } → Serves c began list a → Serves c began (list ++ d.calls) b
 serves-drawn c began list a b d same s =
     let next : b.next ≡ a.next = ap (λ (x : Serving). x.next) same in
     let slots : b.slots ≡ a.slots = ap (λ (x : Serving). x.slots) same in
     let stays : (v : ℕ) → SameFor c v list (list ++ d.calls) = λ v. same-drawings c v list d.calls d.drawings in
     record {
       screen = d.screen;
+      recorded = recorded-more began.held c list d.calls a.surface.scribed b.surface.scribed d.recorded s.recorded;
       kept = ap (λ (x : Serving). x.kept) same ∙ s.kept;
       each = λ key e there. let h = s.each key e (ap (λ l. at_key l key) (sym slots) ∙ there) in
-          (subst (λ (n : ℕ). e.number < n) (sym next) h.0, served-same c list (list ++ d.calls) (began e.number) e (stays e.number) h.1);
+          (subst (λ (n : ℕ). e.number < n) (sym next) h.0, served-same c list (list ++ d.calls) (began.carried e.number) e (stays e.number) h.1);
       attended = λ key e there.
           let h = s.attended key e (ap (λ l. at_key l key) (sym slots) ∙ there) in
           record {
@@ -199,7 +204,7 @@ less-apart : (m n v : ℕ) → m < n → n ≤ v → m ≡ v → ⊥
 less-apart m n v less free is = omega (arith, less, free, is)
 
 -- a turn begins
-begun : (c : Config) (began : ℕ → Carried) (list : List Event) (a : Serving) (key : ℕ) (e : ViewerConnection) → at_key a.slots key ≡ Some e → Serves c began list a → IsTurnFrom c list (began e.number) e.number [] a.surface a.surface e
+begun : (c : Config) (began : Began) (list : List Event) (a : Serving) (key : ℕ) (e : ViewerConnection) → at_key a.slots key ≡ Some e → Serves c began list a → IsTurnFrom c list (began.carried e.number) e.number [] a.surface a.surface e
 begun c began list a key e there s =
     let n = e.number in
     let known = s.attended key e there in
@@ -208,21 +213,23 @@ begun c began list a key e there s =
       inputs = refl;
       own = refl;
       screen = s.screen ∙ ap (state c) (sym (append-nil list));
+      recorded = records-same c list a.surface.scribed;
       number = refl;
-      served = subst (λ (l : List Event). IsServed c l (began n) e) (sym (append-nil list)) (s.each key e there).1;
+      served = subst (λ (l : List Event). IsServed c l (began.carried n) e) (sym (append-nil list)) (s.each key e there).1;
       knows = subst (λ (l : List Event). Knows c list l n a.surface a.surface e.known) (sym (append-nil list)) (record { answered = known.answered; settled = known.settled; others = λ u apart h. h });
     }
 
-serves-by-turn : (c : Config) (began : ℕ → Carried) (list : List Event) (a b : Serving) (key : ℕ) (e f : ViewerConnection) (said : List (ℕ × Input)) → at_key a.slots key ≡ Some e → at_key b.slots key ≡ Some f
+serves-by-turn : (c : Config) (began : Began) (list : List Event) (a b : Serving) (key : ℕ) (e f : ViewerConnection) (said : List (ℕ × Input)) → at_key a.slots key ≡ Some e → at_key b.slots key ≡ Some f
     → ((other : ℕ) → other ≢ key → at_key b.slots other ≡ at_key a.slots other) → b.kept ≡ a.kept → b.next ≡ a.next → b.agenda ≡ a.agenda → b.asking ≡ a.asking
     → is_among key a.agenda ≡ true → (f.known.may_ask ≡ true → (e.known.may_ask ≡ true) ⊎ (is_among key a.asking ≡ true))
-    → (t : IsTurnFrom c list (began e.number) e.number said a.surface b.surface f) → Serves c began list a → Serves c began (list ++ t.events) b
+    → (t : IsTurnFrom c list (began.carried e.number) e.number said a.surface b.surface f) → Serves c began list a → Serves c began (list ++ t.events) b
 serves-by-turn c began list a b key e f said there now others kept next agenda asking among asked t s =
     let n = e.number in
     let mine = s.each key e there in
     let stays : (v : ℕ) → (n ≡ v → ⊥) → SameFor c v list (list ++ t.events) = λ v apart. same-others c n v apart list t.events t.own in
     record {
       screen = t.screen;
+      recorded = recorded-more began.held c list t.events a.surface.scribed b.surface.scribed t.recorded s.recorded;
       kept = kept ∙ s.kept;
       each = λ j g at. at-one j g at (j == key) refl t stays;
       attended = λ j g at. known-one j g at (j == key) refl t;
@@ -231,25 +238,25 @@ serves-by-turn c began list a b key e f said there now others kept next agenda a
     }
   where
     Turned : Type 0
-    Turned = IsTurnFrom c list (began e.number) e.number said a.surface b.surface f
+    Turned = IsTurnFrom c list (began.carried e.number) e.number said a.surface b.surface f
 
     same-f : (g : ViewerConnection) → at_key b.slots key ≡ Some g → f ≡ g
     same-f g at = let two : ◌≡◌ {A = Option ViewerConnection} (Some f) (Some g) = sym now ∙ at in cc
 
     at-one : (j : ℕ) (g : ViewerConnection) → at_key b.slots j ≡ Some g → (w : Bool) → (j == key) ≡ w → (t : Turned) → ((v : ℕ) → (e.number ≡ v → ⊥) → SameFor c v list (list ++ t.events))
-        → (g.number < b.next) × IsServed c (list ++ t.events) (began g.number) g
+        → (g.number < b.next) × IsServed c (list ++ t.events) (began.carried g.number) g
     at-one j g at true is t stays =
         let here : f ≡ g = same-f g (ap (at_key b.slots) (sym ((Decides-eqb j key).0 is)) ∙ at) in
         let number : g.number ≡ e.number = ap (λ (x : ViewerConnection). x.number) (sym here) ∙ t.number in (
           subst (λ (m : ℕ). g.number < m) (sym next) (subst (λ (m : ℕ). m < a.next) (sym number) (s.each key e there).0),
-          subst (λ (m : ℕ). IsServed c (list ++ t.events) (began m) g) (sym number) (subst (λ (x : ViewerConnection). IsServed c (list ++ t.events) (began e.number) x) here t.served),
+          subst (λ (m : ℕ). IsServed c (list ++ t.events) (began.carried m) g) (sym number) (subst (λ (x : ViewerConnection). IsServed c (list ++ t.events) (began.carried e.number) x) here t.served),
         )
     at-one j g at false is t stays =
         let away : j ≢ key = λ same. let yes : (j == key) ≡ true = (Decides-eqb j key).1 same in absurd cc in
         let was : at_key a.slots j ≡ Some g = sym (others j away) ∙ at in
         let h = s.each j g was in (
           subst (λ (m : ℕ). g.number < m) (sym next) h.0,
-          served-same c list (list ++ t.events) (began g.number) g (stays g.number (λ same. away (s.apart j key g e was there (sym same)))) h.1,
+          served-same c list (list ++ t.events) (began.carried g.number) g (stays g.number (λ same. away (s.apart j key g e was there (sym same)))) h.1,
         )
 
     known-one : (j : ℕ) (g : ViewerConnection) → at_key b.slots j ≡ Some g → (w : Bool) → (j == key) ≡ w → (t : Turned) → IsAttended c (list ++ t.events) b j g
@@ -296,7 +303,7 @@ pub goes-by-turn : (a b : Serving) (key : ℕ) (e f : ViewerConnection) → at_k
     → ((other : ℕ) → other ≢ key → at_key b.slots other ≡ at_key a.slots other) → b.kept ≡ a.kept → b.next ≡ a.next → b.agenda ≡ a.agenda → b.asking ≡ a.asking
     → is_among key a.agenda ≡ true → (f.known.may_ask ≡ true → (e.known.may_ask ≡ true) ⊎ (is_among key a.asking ≡ true)) → TakesTurn a.surface e b.surface f → GoesOn a b
 goes-by-turn a b key e f there now others kept next agenda asking among asked turn c began list s =
-    let t = turn c list (began e.number) e.number [] a.surface (begun c began list a key e there s) in
+    let t = turn c list (began.carried e.number) e.number [] a.surface (begun c began list a key e there s) in
     (t.events, serves-by-turn c began list a b key e f [] there now others kept next agenda asking among asked t s, t.inputs)
 
 -- the same where an application is told what came
@@ -304,7 +311,7 @@ pub goes-by-telling : {A X E : Type 0} (stands : A → List (ℕ × Input) → T
     → ((other : ℕ) → other ≢ key → at_key b.slots other ≡ at_key a.slots other) → b.kept ≡ a.kept → b.next ≡ a.next → b.agenda ≡ a.agenda → b.asking ≡ a.asking
     → is_among key a.agenda ≡ true → (f.known.may_ask ≡ true → (e.known.may_ask ≡ true) ⊎ (is_among key a.asking ≡ true)) → TakesTurnTelling stands a.surface e b.surface f x y r → GoesOnTelling stands a b x y r
 goes-by-telling stands x y r a b key e f there now others kept next agenda asking among asked turn c began list s =
-    let t = turn c list (began e.number) e.number [] a.surface (begun c began list a key e there s) in
+    let t = turn c list (began.carried e.number) e.number [] a.surface (begun c began list a key e there s) in
     (t.1.events, serves-by-turn c began list a b key e f t.0 there now others kept next agenda asking among asked t.1 s, subst (λ l. IsTold stands l x y r) (sym t.1.inputs) t.2)
 
 -- a key with a connection is one of the slots
@@ -367,17 +374,18 @@ unlooked before after agenda asking noticed looked others listed key none = list
 pub goes-watched : (a b d e : Serving) → b ≡ record a { agenda = b.agenda; asking = b.asking } → GoesOn a b
     → ((key : ℕ) → may_cut_at a.slots key ≡ false → is_among key b.agenda ≡ false → (a.surface.noticed ≡ false) × (is_among key b.asking ≡ false))
     → d ≡ record b { slots = d.slots } → GoesOn b d → ((key : ℕ) → is_among key b.agenda ≡ true → may_cut_at d.slots key ≡ true) → ((key : ℕ) → may_cut_at b.slots key ≡ true → may_cut_at d.slots key ≡ true)
-    → e ≡ record d { surface = e.surface } → e.surface.screen ≡ d.surface.screen → GoesOn a e
-goes-watched a b d e first on listed second then_on looked others third screen =
-    goes-then a d e (goes-then a b d on then_on) (goes-settled d e third screen (λ key none.
+    → e ≡ record d { surface = e.surface } → e.surface.screen ≡ d.surface.screen → e.surface.scribed ≡ d.surface.scribed → GoesOn a e
+goes-watched a b d e first on listed second then_on looked others third screen scribed =
+    goes-then a d e (goes-then a b d on then_on) (goes-settled d e third screen scribed (λ key none.
     let p = unlooked a.slots d.slots b.agenda b.asking a.surface.noticed looked (λ k h. others k (ap (λ (x : Serving). may_cut_at x.slots k) first ∙ h)) listed key none in
     (ap (λ (x : Serving). x.surface.noticed) second ∙ ap (λ (x : Serving). x.surface.noticed) first ∙ p.0, ap (λ (x : Serving). is_among key x.asking) second ∙ p.1)))
 
 -- ---- a viewer comes, or has left
 
-pub none-yet : (c : Config) (began : ℕ → Carried) (s : Serving) → s.surface.screen ≡ state c [] → s.kept ≡ is_kept c.history → s.slots ≡ [] → Serves c began [] s
-none-yet c began s screen kept none = record {
+pub none-yet : (c : Config) (began : Began) (s : Serving) → IfSome began.held (λ h. IsRecordedBy h c [] s.surface.scribed) → s.surface.screen ≡ state c [] → s.kept ≡ is_kept c.history → s.slots ≡ [] → Serves c began [] s
+none-yet c began s recorded screen kept none = record {
   screen = screen;
+  recorded = recorded;
   kept = kept;
   each = λ key e there. let no : ◌≡◌ {A = Option ViewerConnection} None (Some e) = sym (ap (λ l. at_key l key) none) ∙ there in absurd cc;
   attended = λ key e there. let no : ◌≡◌ {A = Option ViewerConnection} None (Some e) = sym (ap (λ l. at_key l key) none) ∙ there in absurd cc;
@@ -393,14 +401,15 @@ Takes key before after = (is_among key after ≡ true) × ((k : ℕ) → is_amon
 abbrev pub Lets : ℕ → List ℕ → List ℕ → Type 0
 Lets key before after = (k : ℕ) → (k == key) ≡ false → is_among k before ≡ true → is_among k after ≡ true
 
-pub one-more : (c : Config) (began : ℕ → Carried) (list : List Event) (a b : Serving) (key : ℕ) (f : ViewerConnection) (bytes : List ℕ)
-    → b.surface.screen ≡ state c (list ++ Connect a.next ∷ []) → bytes ≡ (answer_to c list (Connect a.next)).bytes → b.kept ≡ a.kept → b.next ≡ a.next + 1
+pub one-more : (c : Config) (began : Began) (list : List Event) (a b : Serving) (key : ℕ) (f : ViewerConnection) (bytes : List ℕ)
+    → b.surface.screen ≡ state c (list ++ Connect a.next ∷ []) → RecordsMore c list (Connect a.next ∷ []) a.surface.scribed b.surface.scribed → bytes ≡ (answer_to c list (Connect a.next)).bytes → b.kept ≡ a.kept → b.next ≡ a.next + 1
     → at_key a.slots key ≡ None → at_key b.slots key ≡ Some f → ((other : ℕ) → other ≢ key → at_key b.slots other ≡ at_key a.slots other)
-    → f.number ≡ a.next → began a.next ≡ f.carried → (breaks_off f.ended ≡ false → waiting_bytes f.waiting ≡ bytes) → IsFew f.waiting
+    → f.number ≡ a.next → began.carried a.next ≡ f.carried → (breaks_off f.ended ≡ false → waiting_bytes f.waiting ≡ bytes) → IsFew f.waiting
     → b.surface.drawn ≡ a.surface.drawn → b.surface.noticed ≡ a.surface.noticed → f.known.may_cut ≡ true → f.known.may_ask ≡ true → Takes key a.agenda b.agenda → Takes key a.asking b.asking → Serves c began list a
     → Serves c began (list ++ Connect a.next ∷ []) b
-one-more c began list a b key f bytes screen answered kept next vacant now others number carried waits few drawn noticed cuts asked agenda asking s = record {
+one-more c began list a b key f bytes screen recorded answered kept next vacant now others number carried waits few drawn noticed cuts asked agenda asking s = record {
   screen = screen;
+  recorded = recorded-more began.held c list (Connect a.next ∷ []) a.surface.scribed b.surface.scribed recorded s.recorded;
   kept = kept ∙ s.kept;
   each = λ j g at. at-one j g at (j == key) refl;
   attended = λ j g at. known-one j g at (j == key) refl;
@@ -424,7 +433,7 @@ one-more c began list a b key f bytes screen answered kept next vacant now other
     same-f : (g : ViewerConnection) → at_key b.slots key ≡ Some g → f ≡ g
     same-f g at = let two : ◌≡◌ {A = Option ViewerConnection} (Some f) (Some g) = sym now ∙ at in cc
 
-    first : IsServed c more (began a.next) f
+    first : IsServed c more (began.carried a.next) f
     first =
         let none = s.unused a.next (omega arith) in
         let heard : heard_of a.next more ≡ [] = heard-same a.next list (Connect a.next) refl ∙ none.0 in
@@ -433,24 +442,24 @@ one-more c began list a b key f bytes screen answered kept next vacant now other
           unheard = [];
           written = [];
           unwritten = bytes;
-          moved = subst (λ (m : ℕ). Moves (began a.next) f.carried (heard_of m more ++ []) []) (sym number)
-              (subst (λ (l : List ℕ). Moves (began a.next) f.carried (l ++ []) []) (sym heard)
-              (subst (λ (x : Carried). Moves (began a.next) x [] []) carried (moves-nothing (began a.next))));
+          moved = subst (λ (m : ℕ). Moves (began.carried a.next) f.carried (heard_of m more ++ []) []) (sym number)
+              (subst (λ (l : List ℕ). Moves (began.carried a.next) f.carried (l ++ []) []) (sym heard)
+              (subst (λ (x : Carried). Moves (began.carried a.next) x [] []) carried (moves-nothing (began.carried a.next))));
           due = sym due ∙ ap (λ m. bytes_of c m more) (sym number);
           heard = λ fine. refl;
           waits = λ fine. sym (waits fine);
           few = few;
         }
 
-    at-one : (j : ℕ) (g : ViewerConnection) → at_key b.slots j ≡ Some g → (w : Bool) → (j == key) ≡ w → (g.number < b.next) × IsServed c more (began g.number) g
+    at-one : (j : ℕ) (g : ViewerConnection) → at_key b.slots j ≡ Some g → (w : Bool) → (j == key) ≡ w → (g.number < b.next) × IsServed c more (began.carried g.number) g
     at-one j g at true is =
         let here : f ≡ g = same-f g (ap (at_key b.slots) (sym ((Decides-eqb j key).0 is)) ∙ at) in
         let mine : g.number ≡ a.next = ap (λ (x : ViewerConnection). x.number) (sym here) ∙ number in
-        (omega (arith, mine, next), subst (λ (m : ℕ). IsServed c more (began m) g) (sym mine) (subst (λ (x : ViewerConnection). IsServed c more (began a.next) x) here first))
+        (omega (arith, mine, next), subst (λ (m : ℕ). IsServed c more (began.carried m) g) (sym mine) (subst (λ (x : ViewerConnection). IsServed c more (began.carried a.next) x) here first))
     at-one j g at false is =
         let was : at_key a.slots j ≡ Some g = sym (others j (λ same. let yes : (j == key) ≡ true = (Decides-eqb j key).1 same in absurd cc)) ∙ at in
         let h = s.each j g was in
-        (omega (arith, h.0, next), served-same c list more (began g.number) g (stays g.number (λ is. omega (arith, h.0, is))) h.1)
+        (omega (arith, h.0, next), served-same c list more (began.carried g.number) g (stays g.number (λ is. omega (arith, h.0, is))) h.1)
 
     known-one : (j : ℕ) (g : ViewerConnection) → at_key b.slots j ≡ Some g → (w : Bool) → (j == key) ≡ w → IsAttended c more b j g
     known-one j g at true is =
@@ -491,29 +500,30 @@ one-more c began list a b key f bytes screen answered kept next vacant now other
         (sym (others k (λ same. let yes : (k == key) ≡ true = (Decides-eqb k key).1 same in absurd cc)) ∙ gk) same
 
 -- the same, as it is admitted
-pub admitted : (c : Config) (began : ℕ → Carried) (list : List Event) (a : Serving) (before after : Surface) (kept : Bool) (next following : ℕ) (old new : Slab ViewerConnection) (agenda asking later_agenda later_asking : List ℕ) (key : ℕ)
+pub admitted : (c : Config) (began : Began) (list : List Event) (a : Serving) (before after : Surface) (kept : Bool) (next following : ℕ) (old new : Slab ViewerConnection) (agenda asking later_agenda later_asking : List ℕ) (key : ℕ)
     (f : ViewerConnection) (bytes : List ℕ) (carried : Carried) → record { surface = before; kept = kept; next = next; slots = old.slots; vacant = old.vacant_key; agenda = agenda; asking = asking } ≡ a
-    → (before.screen ≡ state c list → after.screen ≡ state c (list ++ Connect next ∷ [])) → (before.screen ≡ state c list → bytes ≡ (answer_to c list (Connect next)).bytes) → following ≡ next + 1
+    → (before.screen ≡ state c list → after.screen ≡ state c (list ++ Connect next ∷ [])) → (before.screen ≡ state c list → RecordsMore c list (Connect next ∷ []) before.scribed after.scribed) → (before.screen ≡ state c list → bytes ≡ (answer_to c list (Connect next)).bytes) → following ≡ next + 1
     → get old key ≡ None → Updates old new key (Some f) → f.number ≡ next → f.carried ≡ carried → (breaks_off f.ended ≡ false → waiting_bytes f.waiting ≡ bytes)
-    → IsFew f.waiting → after ≡ record before { screen = after.screen } → f.known.may_cut ≡ true → f.known.may_ask ≡ true → Takes key agenda later_agenda → Takes key asking later_asking → Serves c began list a → began a.next ≡ carried
+    → IsFew f.waiting → after ≡ record before { screen = after.screen; scribed = after.scribed } → f.known.may_cut ≡ true → f.known.may_ask ≡ true → Takes key agenda later_agenda → Takes key asking later_asking → Serves c began list a → began.carried a.next ≡ carried
     → Serves c began (list ++ Connect a.next ∷ []) (record { surface = after; kept = kept; next = following; slots = new.slots; vacant = new.vacant_key; agenda = later_agenda; asking = later_asking })
-admitted c began list a before after kept next following old new agenda asking later_agenda later_asking key f bytes carried is steps answered more vacant updates number carries waits few still cuts asked listed asking_too =
+admitted c began list a before after kept next following old new agenda asking later_agenda later_asking key f bytes carried is steps records answered more vacant updates number carries waits few still cuts asked listed asking_too =
     let b : Serving = record { surface = after; kept = kept; next = following; slots = new.slots; vacant = new.vacant_key; agenda = later_agenda; asking = later_asking } in
     let was : Serving = record { surface = before; kept = kept; next = next; slots = old.slots; vacant = old.vacant_key; agenda = agenda; asking = asking } in
-    subst (λ (x : Serving). Serves c began list x → began x.next ≡ carried → Serves c began (list ++ Connect x.next ∷ []) b) is
-    (λ s start. one-more c began list was b key f bytes (steps s.screen) (answered s.screen) refl more vacant updates.changed updates.others number (start ∙ sym carries) waits few
+    subst (λ (x : Serving). Serves c began list x → began.carried x.next ≡ carried → Serves c began (list ++ Connect x.next ∷ []) b) is
+    (λ s start. one-more c began list was b key f bytes (steps s.screen) (records s.screen) (answered s.screen) refl more vacant updates.changed updates.others number (start ∙ sym carries) waits few
     (ap (λ (x : Surface). x.drawn) still) (ap (λ (x : Surface). x.noticed) still) cuts asked listed asking_too s)
 
 -- a viewer that ended is closed, and its connection is gone
-pub one-less : {T : Type 0} (c : Config) (began : ℕ → Carried) (list : List Event) (a b : Serving) (key : ℕ) (e : ViewerConnection) (unread written : T → Option (List ℕ)) (transport : T) (r : Receipt)
-    → b.surface.screen ≡ state c (list ++ Close e.number ∷ []) → (answer_to c list (Close e.number)).bytes ≡ [] → b.kept ≡ a.kept → b.next ≡ a.next
+pub one-less : {T : Type 0} (c : Config) (began : Began) (list : List Event) (a b : Serving) (key : ℕ) (e : ViewerConnection) (unread written : T → Option (List ℕ)) (transport : T) (r : Receipt)
+    → b.surface.screen ≡ state c (list ++ Close e.number ∷ []) → RecordsMore c list (Close e.number ∷ []) a.surface.scribed b.surface.scribed → (answer_to c list (Close e.number)).bytes ≡ [] → b.kept ≡ a.kept → b.next ≡ a.next
     → at_key a.slots key ≡ Some e → at_key b.slots key ≡ None → ((other : ℕ) → other ≢ key → at_key b.slots other ≡ at_key a.slots other)
     → IsOver (Some e) e.number r.ended → r.viewer ≡ e.number → r.sent ≡ unwrap_or e.carried.sent [] → record { unread = unread transport; written = written transport; sent = e.carried.sent } ≡ e.carried
     → b.surface.drawn ≡ a.surface.drawn → b.surface.noticed ≡ a.surface.noticed → Lets key a.agenda b.agenda → Lets key a.asking b.asking → Serves c began list a
-    → Serves c began (list ++ Close e.number ∷ []) b × WasServed c (list ++ Close e.number ∷ []) (began r.viewer) unread written transport r
-one-less {T = T} c began list a b key e unread written transport r screen quiet kept next there gone others over viewer sent carried drawn noticed agenda asking s = (
+    → Serves c began (list ++ Close e.number ∷ []) b × WasServed c (list ++ Close e.number ∷ []) (began.carried r.viewer) unread written transport r
+one-less {T = T} c began list a b key e unread written transport r screen recorded quiet kept next there gone others over viewer sent carried drawn noticed agenda asking s = (
   record {
     screen = screen;
+    recorded = recorded-more began.held c list (Close e.number ∷ []) a.surface.scribed b.surface.scribed recorded s.recorded;
     kept = kept ∙ s.kept;
     each = λ j g at. at-one j g at;
     attended = λ j g at. known-one j g at (j == key) refl;
@@ -524,7 +534,7 @@ one-less {T = T} c began list a b key e unread written transport r screen quiet 
         let w = stays v (less-apart e.number a.next v (s.each key e there).0 f) in
         (w.0 ∙ h.0, w.1 ∙ h.1);
   },
-  subst (λ (m : ℕ). WasServed c more (began m) unread written transport r) (sym viewer) was,
+  subst (λ (m : ℕ). WasServed c more (began.carried m) unread written transport r) (sym viewer) was,
 )
   where
     more : List Event
@@ -536,12 +546,12 @@ one-less {T = T} c began list a b key e unread written transport r screen quiet 
     away : (j : ℕ) (g : ViewerConnection) → at_key b.slots j ≡ Some g → j ≢ key
     away j g at same = let no : ◌≡◌ {A = Option ViewerConnection} None (Some g) = sym gone ∙ ap (at_key b.slots) (sym same) ∙ at in absurd cc
 
-    at-one : (j : ℕ) (g : ViewerConnection) → at_key b.slots j ≡ Some g → (g.number < b.next) × IsServed c more (began g.number) g
+    at-one : (j : ℕ) (g : ViewerConnection) → at_key b.slots j ≡ Some g → (g.number < b.next) × IsServed c more (began.carried g.number) g
     at-one j g at =
         let before : at_key a.slots j ≡ Some g = sym (others j (away j g at)) ∙ at in
         let h = s.each j g before in (
           subst (λ (m : ℕ). g.number < m) (sym next) h.0,
-          served-same c list more (began g.number) g (stays g.number (λ same. away j g at (s.apart j key g e before there (sym same)))) h.1,
+          served-same c list more (began.carried g.number) g (stays g.number (λ same. away j g at (s.apart j key g e before there (sym same)))) h.1,
         )
 
     known-one : (j : ℕ) (g : ViewerConnection) → at_key b.slots j ≡ Some g → (w : Bool) → (j == key) ≡ w → IsAttended c more b j g
@@ -557,7 +567,7 @@ one-less {T = T} c began list a b key e unread written transport r screen quiet 
           settled = λ none. settled-other c list a.surface b.surface e.number g.number (Close e.number) apart refl drawn noticed (h.settled none);
         }
 
-    was : WasServed c more (began e.number) unread written transport r
+    was : WasServed c more (began.carried e.number) unread written transport r
     was =
         let h = (s.each key e there).1 in
         let n = e.number in
@@ -568,8 +578,8 @@ one-less {T = T} c began list a b key e unread written transport r screen quiet 
           unheard = h.unheard;
           given = h.written;
           unwritten = h.unwritten;
-          read = subst (λ (l : List ℕ). Consumes (began n).unread (unread transport) (l ++ h.unheard)) (sym heard) (subst (λ (x : Option (List ℕ)). Consumes (began n).unread x (heard_of n list ++ h.unheard)) (ap (λ (x : Carried). x.unread) is) h.moved.read);
-          taken = subst (λ (x : Option (List ℕ)). Appends (began n).written x h.written) (ap (λ (x : Carried). x.written) is) h.moved.written;
+          read = subst (λ (l : List ℕ). Consumes (began.carried n).unread (unread transport) (l ++ h.unheard)) (sym heard) (subst (λ (x : Option (List ℕ)). Consumes (began.carried n).unread x (heard_of n list ++ h.unheard)) (ap (λ (x : Carried). x.unread) is) h.moved.read);
+          taken = subst (λ (x : Option (List ℕ)). Appends (began.carried n).written x h.written) (ap (λ (x : Carried). x.written) is) h.moved.written;
           sent = sent ∙ ap (λ o. unwrap_or o []) h.moved.sent;
           due = h.due ∙ sym bytes ∙ ap (λ m. bytes_of c m more) (sym viewer);
           heard = λ fine. h.heard (λ is. let two : ◌≡◌ {A = Option Ended} (Some r.ended) (Some Memory) = sym over.1 ∙ is in fine cc);
@@ -577,20 +587,21 @@ one-less {T = T} c began list a b key e unread written transport r screen quiet 
         }
 
 -- the same, as it is parted with
-pub parted : {T : Type 0} (c : Config) (began : ℕ → Carried) (list : List Event) (a : Serving) (before after : Surface) (kept : Bool) (next : ℕ) (old new : Slab ViewerConnection) (agenda asking later_agenda later_asking : List ℕ) (key v : ℕ)
+pub parted : {T : Type 0} (c : Config) (began : Began) (list : List Event) (a : Serving) (before after : Surface) (kept : Bool) (next : ℕ) (old new : Slab ViewerConnection) (agenda asking later_agenda later_asking : List ℕ) (key v : ℕ)
     (e : ViewerConnection) (ended : Ended) (unread written : T → Option (List ℕ)) (transport : T) (r : Receipt) → record { surface = before; kept = kept; next = next; slots = old.slots; vacant = old.vacant_key; agenda = agenda; asking = asking } ≡ a
-    → (before.screen ≡ state c list → after.screen ≡ state c (list ++ Close v ∷ [])) → (before.screen ≡ state c list → (answer_to c list (Close v)).bytes ≡ [])
+    → (before.screen ≡ state c list → after.screen ≡ state c (list ++ Close v ∷ [])) → (before.screen ≡ state c list → RecordsMore c list (Close v ∷ []) before.scribed after.scribed) → (before.screen ≡ state c list → (answer_to c list (Close v)).bytes ≡ [])
     → get old key ≡ Some e → Updates old new key None → IsOver (get old key) v ended → r.viewer ≡ e.number → r.ended ≡ ended → r.sent ≡ unwrap_or e.carried.sent []
-    → record { unread = unread transport; written = written transport; sent = e.carried.sent } ≡ e.carried → after ≡ record before { screen = after.screen } → Lets key agenda later_agenda → Lets key asking later_asking → Serves c began list a
-    → (more : List Event) × Serves c began (list ++ more) (record { surface = after; kept = kept; next = next; slots = new.slots; vacant = new.vacant_key; agenda = later_agenda; asking = later_asking }) × (inputs_after c list more ≡ []) × WasServed c (list ++ more) (began r.viewer) unread written transport r
-parted {T = T} c began list a before after kept next old new agenda asking later_agenda later_asking key v e ended unread written transport r is steps quiet there updates over viewer so sent carried still listed asked =
+    → record { unread = unread transport; written = written transport; sent = e.carried.sent } ≡ e.carried → after ≡ record before { screen = after.screen; scribed = after.scribed } → Lets key agenda later_agenda → Lets key asking later_asking → Serves c began list a
+    → (more : List Event) × Serves c began (list ++ more) (record { surface = after; kept = kept; next = next; slots = new.slots; vacant = new.vacant_key; agenda = later_agenda; asking = later_asking }) × (inputs_after c list more ≡ []) × WasServed c (list ++ more) (began.carried r.viewer) unread written transport r
+parted {T = T} c began list a before after kept next old new agenda asking later_agenda later_asking key v e ended unread written transport r is steps records quiet there updates over viewer so sent carried still listed asked =
     let b : Serving = record { surface = after; kept = kept; next = next; slots = new.slots; vacant = new.vacant_key; agenda = later_agenda; asking = later_asking } in
     let was : Serving = record { surface = before; kept = kept; next = next; slots = old.slots; vacant = old.vacant_key; agenda = agenda; asking = asking } in
     let ended_so : IsOver (Some e) v ended = subst (λ (o : Option ViewerConnection). IsOver o v ended) there over in
     let number : v ≡ e.number = sym ended_so.0 in
-    subst (λ (x : Serving). Serves c began list x → (more : List Event) × Serves c began (list ++ more) b × (inputs_after c list more ≡ []) × WasServed c (list ++ more) (began r.viewer) unread written transport r) is
+    subst (λ (x : Serving). Serves c began list x → (more : List Event) × Serves c began (list ++ more) b × (inputs_after c list more ≡ []) × WasServed c (list ++ more) (began.carried r.viewer) unread written transport r) is
     (λ s.
     let both = one-less c began list was b key e unread written transport r (subst (λ (n : ℕ). after.screen ≡ state c (list ++ Close n ∷ [])) number (steps s.screen))
+    (subst (λ (n : ℕ). RecordsMore c list (Close n ∷ []) before.scribed after.scribed) number (records s.screen))
     (subst (λ (n : ℕ). (answer_to c list (Close n)).bytes ≡ []) number (quiet s.screen)) refl refl there updates.changed updates.others
     (subst (λ (x : Ended). IsOver (Some e) e.number x) (sym so) (subst (λ (n : ℕ). IsOver (Some e) n ended) number ended_so)) viewer sent carried
     (ap (λ (x : Surface). x.drawn) still) (ap (λ (x : Surface). x.noticed) still) listed asked s in

@@ -8,3 +8,4 @@ pub mod Given
 pub mod Turns
 pub mod Everyone
 pub mod Bounds
+pub mod Recorded

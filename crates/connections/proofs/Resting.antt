@@ -9,7 +9,7 @@ use Rattle.screen.specs.Alone.{some_bytes}
 use Rattle.receipts.specs.declared.Ended.{Ended}
 use Rattle.connections.specs.Among.{is_among}
 use Rattle.connections.specs.Waiting.{waiting_bytes}
-use Rattle.connections.specs.Serving.{Carried, ViewerConnection, breaks_off, may_read, may_write, has_waiting, over, can_send, has_work, HasNothingToDo, IsAttended, Serving, Serves, at_key}
+use Rattle.connections.specs.Serving.{Began, ViewerConnection, breaks_off, may_read, may_write, has_waiting, over, can_send, has_work, HasNothingToDo, IsAttended, Serving, Serves, at_key}
 
 no-bytes : (l : List ℕ) → some_bytes l ≡ false → l ≡ []
 no-bytes [] h = refl
@@ -54,7 +54,7 @@ none-listed key (k ∷ agenda) h = go (length (k ∷ agenda) == 0) refl h
     go true is h = let none = (Decides-eqb (length (k ∷ agenda)) 0).0 is in absurd (omega (arith, none))
     go false is h = absurd (true≢false h)
 
-pub idle-rests : (c : Config) (began : ℕ → Carried) (list : List Event) (s : Serving) (busy : Bool) → busy ≡ (not (length s.agenda == 0) || s.surface.drawn) → Serves c began list s → busy ≡ false
+pub idle-rests : (c : Config) (began : Began) (list : List Event) (s : Serving) (busy : Bool) → busy ≡ (not (length s.agenda == 0) || s.surface.drawn) → Serves c began list s → busy ≡ false
     → (key : ℕ) (e : ViewerConnection) → at_key s.slots key ≡ Some e → HasNothingToDo c list e
 idle-rests c began list s busy is serves idle key e there =
     let parts = or_parts _ _ (sym is ∙ idle) in

@@ -17,6 +17,8 @@ use Rattle.receipts.specs.declared.Ended.TheVariants.{Memory}
 use Rattle.receipts.specs.Histories.{heard_of, bytes_of}
 use Rattle.screen.specs.State.{state}
 use Rattle.connections.specs.Waiting.{waiting_bytes, IsFew}
+use Rattle.connections.specs.Recorded.{RecordsMore}
+use Rattle.connections.specs.RecordedLemmas.{records-same, records-then}
 use Rattle.connections.specs.Drawing.{Surface, IsDrawnFrom, Draws, is_asking_on}
 use Rattle.connections.specs.Attending.{Known, next_bytes}
 use Rattle.connections.specs.Serving.{Carried, ViewerConnection, Moves, breaks_off, IsServed}
@@ -92,7 +94,7 @@ own-one v e h = ap (λ o. is_owner v o && true) h ∙ ap (λ b. b && true) ((Dec
 
 -- drawing calls behind a list
 pub drawn-on : (c : Config) (list : List Event) (a b : Surface) → a.screen ≡ state c list → Draws a b → IsDrawnFrom c list a b
-drawn-on c list a b stands draws = draws c list a (record { calls = []; drawings = refl; screen = stands ∙ ap (state c) (sym (append-nil list)); none = λ h. (h, refl); quiet = λ h. (h, refl) })
+drawn-on c list a b stands draws = draws c list a (record { calls = []; drawings = refl; screen = stands ∙ ap (state c) (sym (append-nil list)); recorded = records-same c list a.scribed; none = λ h. (h, refl); quiet = λ h. (h, refl) })
 
 -- the application draws in a viewer's turn
 pub turn-drawn : (a b : Surface) (e : ViewerConnection) → Draws a b → TakesTurn a e b e
@@ -104,6 +106,7 @@ turn-drawn a b e draws c list began v said since t =
       inputs = inputs-append c list t.events d.calls ∙ ap (λ l. l ++ inputs_after c (list ++ t.events) d.calls) t.inputs ∙ ap (λ l. said ++ l) (inputs-drawings c (list ++ t.events) d.calls d.drawings) ∙ append-nil said;
       own = own-then v t.events d.calls t.own (drawings-own v d.calls d.drawings);
       screen = d.screen ∙ ap (state c) far;
+      recorded = records-then c list t.events d.calls since.scribed a.scribed b.scribed t.recorded d.recorded;
       number = t.number;
       served = subst (λ (l : List Event). IsServed c l began e) far
           (served-same c (list ++ t.events) ((list ++ t.events) ++ d.calls) began e (same-drawings c e.number (list ++ t.events) d.calls d.drawings) t.served);
@@ -124,6 +127,7 @@ turn-read c list began v said since a e f known piece live same cut ask moved t 
       inputs = t.inputs;
       own = t.own;
       screen = t.screen;
+      recorded = t.recorded;
       number = number ∙ t.number;
       live = ap (λ (x : ViewerConnection). x.ended) same ∙ live;
       written = s.written;
@@ -149,6 +153,7 @@ turn-unread c list began v said since a e f same h =
       inputs = h.inputs;
       own = h.own;
       screen = h.screen;
+      recorded = h.recorded;
       number = number;
       served = record {
         unheard = [];
@@ -176,6 +181,7 @@ turn-unheard stands x r a b e f piece still same c list began v said since h =
         inputs = h.inputs ∙ sym (append-nil said);
         own = h.own;
         screen = ap (λ (x : Surface). x.screen) still ∙ h.screen;
+        recorded = subst (λ (x : Surface). RecordsMore c list h.events since.scribed x.scribed) (sym still) h.recorded;
         number = number;
         served = record {
           unheard = piece;
@@ -195,10 +201,10 @@ turn-unheard stands x r a b e f piece still same c list began v said since h =
 
 -- a piece is heard and answered
 heard-turn : (c : Config) (list : List Event) (began : Carried) (v : ℕ) (said : List (ℕ × Input)) (since a b : Surface) (e f : ViewerConnection) (piece bytes : List ℕ)
-    → (h : HasRead c list began v said piece since a e) → b.drawn ≡ a.drawn → b.noticed ≡ a.noticed → f.known.may_cut ≡ true → f.known.may_ask ≡ true → b.screen ≡ state c ((list ++ h.events) ++ Hear v piece ∷ []) → bytes ≡ (answer_to c (list ++ h.events) (Hear v piece)).bytes
+    → (h : HasRead c list began v said piece since a e) → b.drawn ≡ a.drawn → b.noticed ≡ a.noticed → f.known.may_cut ≡ true → f.known.may_ask ≡ true → b.screen ≡ state c ((list ++ h.events) ++ Hear v piece ∷ []) → RecordsMore c (list ++ h.events) (Hear v piece ∷ []) a.scribed b.scribed → bytes ≡ (answer_to c (list ++ h.events) (Hear v piece)).bytes
     → f ≡ record e { waiting = f.waiting; ended = f.ended; known = f.known } → (breaks_off f.ended ≡ false → waiting_bytes f.waiting ≡ waiting_bytes e.waiting ++ bytes) → IsFew f.waiting
     → IsTurnFrom c list began v (said ++ said_by v (answer_to c (list ++ h.events) (Hear v piece)).inputs) since b f
-heard-turn c list began v said since a b e f piece bytes h drawn noticed cut ask stands answered same waits few =
+heard-turn c list began v said since a b e f piece bytes h drawn noticed cut ask stands recorded answered same waits few =
     let number : f.number ≡ v = ap (λ (x : ViewerConnection). x.number) same ∙ h.number in
     let carried : f.carried ≡ e.carried = ap (λ (x : ViewerConnection). x.carried) same in
     let es = list ++ h.events in
@@ -209,6 +215,7 @@ heard-turn c list began v said since a b e f piece bytes h drawn noticed cut ask
       inputs = inputs-append c list h.events (Hear v piece ∷ []) ∙ ap (λ l. l ++ inputs_after c es (Hear v piece ∷ [])) h.inputs ∙ ap (λ l. said ++ l) (append-nil (said_by v (answer_to c es (Hear v piece)).inputs));
       own = own-then v h.events (Hear v piece ∷ []) h.own (own-one v (Hear v piece) refl);
       screen = stands ∙ ap (state c) far;
+      recorded = records-then c list h.events (Hear v piece ∷ []) since.scribed a.scribed b.scribed h.recorded recorded;
       number = number;
       served = subst (λ (l : List Event). IsServed c l began f) far (record {
         unheard = [];
@@ -236,11 +243,12 @@ counted-same e p f counted answered =
 pub turn-heard : {A X E : Type 0} (stands : A → List (ℕ × Input) → Type 0) (x y : A) (r : Result X E) (inputs : List Input) (a b d : Surface) (e f : ViewerConnection) (n : ℕ) (piece bytes : List ℕ)
     → n ≡ e.number → b.drawn ≡ a.drawn → b.noticed ≡ a.noticed → f.known.may_cut ≡ true → f.known.may_ask ≡ true
     → ((c : Config) (list : List Event) → a.screen ≡ state c list → b.screen ≡ state c (list ++ Hear n piece ∷ []))
+    → ((c : Config) (list : List Event) → a.screen ≡ state c list → RecordsMore c list (Hear n piece ∷ []) a.scribed b.scribed)
     → ((c : Config) (list : List Event) → a.screen ≡ state c list → bytes ≡ (answer_to c list (Hear n piece)).bytes)
     → ((c : Config) (list : List Event) → a.screen ≡ state c list → inputs ≡ (answer_to c list (Hear n piece)).inputs)
     → f ≡ record e { waiting = f.waiting; ended = f.ended; known = f.known } → (breaks_off f.ended ≡ false → waiting_bytes f.waiting ≡ waiting_bytes e.waiting ++ bytes) → IsFew f.waiting → Draws b d
     → IsTold stands (said_by n inputs) x y r → HearsPiece stands piece a e d f x y r
-turn-heard stands x y r inputs a b d e f n piece bytes its drawn noticed cut ask steps answers hears same waits few draws told c list began v said since h =
+turn-heard stands x y r inputs a b d e f n piece bytes its drawn noticed cut ask steps records answers hears same waits few draws told c list began v said since h =
     let es = list ++ h.events in
     let number : n ≡ v = its ∙ h.number in
     let is : said_by n inputs ≡ said_by v (answer_to c es (Hear v piece)).inputs = ap (λ m. said_by m inputs) number ∙ ap (said_by v) (subst (λ (m : ℕ). inputs ≡ (answer_to c es (Hear m piece)).inputs) number (hears c es h.screen)) in (
@@ -248,6 +256,7 @@ turn-heard stands x y r inputs a b d e f n piece bytes its drawn noticed cut ask
       turn-drawn b d f draws c list began v (said ++ said_by v (answer_to c es (Hear v piece)).inputs) since
           (heard-turn c list began v said since a b e f piece bytes h drawn noticed cut ask
           (subst (λ (m : ℕ). b.screen ≡ state c (es ++ Hear m piece ∷ [])) number (steps c es h.screen))
+          (subst (λ (m : ℕ). RecordsMore c es (Hear m piece ∷ []) a.scribed b.scribed) number (records c es h.screen))
           (subst (λ (m : ℕ). bytes ≡ (answer_to c es (Hear m piece)).bytes) number (answers c es h.screen)) same waits few),
       subst (λ l. IsTold stands l x y r) is told,
     )
@@ -255,10 +264,11 @@ turn-heard stands x y r inputs a b d e f n piece bytes its drawn noticed cut ask
 -- an update is cut for a viewer, or there is none
 cut-turn : (a b : Surface) (e f : ViewerConnection) (m : ℕ) (bytes : List ℕ) → m ≡ e.number
     → ((c : Config) (list : List Event) → a.screen ≡ state c list → b.screen ≡ state c (list ++ Cut m ∷ []))
+    → ((c : Config) (list : List Event) → a.screen ≡ state c list → RecordsMore c list (Cut m ∷ []) a.scribed b.scribed)
     → ((c : Config) (list : List Event) → a.screen ≡ state c list → bytes ≡ (answer_to c list (Cut m)).bytes)
     → f ≡ record e { waiting = f.waiting; known = f.known } → waiting_bytes f.waiting ≡ waiting_bytes e.waiting ++ bytes → (IsFew e.waiting → IsFew f.waiting)
     → ((c : Config) (before list : List Event) (since : Surface) → a.screen ≡ state c list → Knows c before list e.number since a e.known → Knows c before (list ++ Cut e.number ∷ []) e.number since b f.known) → TakesTurn a e b f
-cut-turn a b e f number bytes its steps-at answers-at same waits few knows c list began v said since t =
+cut-turn a b e f m bytes its steps-at records answers-at same waits few knows c list began v said since t =
     let steps : (c : Config) (list : List Event) → a.screen ≡ state c list → b.screen ≡ state c (list ++ Cut e.number ∷ []) = λ c list h. subst (λ (m : ℕ). b.screen ≡ state c (list ++ Cut m ∷ [])) its (steps-at c list h) in
     let answers : (c : Config) (list : List Event) → a.screen ≡ state c list → bytes ≡ (answer_to c list (Cut e.number)).bytes = λ c list h. subst (λ (m : ℕ). bytes ≡ (answer_to c list (Cut m)).bytes) its (answers-at c list h) in
     let number : f.number ≡ e.number = ap (λ (x : ViewerConnection). x.number) same in
@@ -274,6 +284,7 @@ cut-turn a b e f number bytes its steps-at answers-at same waits few knows c lis
       inputs = inputs-append c list t.events (Cut n ∷ []) ∙ append-nil (inputs_after c list t.events) ∙ t.inputs;
       own = own-then v t.events (Cut n ∷ []) t.own (own-one v (Cut n) (ap Some t.number));
       screen = steps c es t.screen ∙ ap (state c) far;
+      recorded = records-then c list t.events (Cut n ∷ []) since.scribed a.scribed b.scribed t.recorded (subst (λ (k : ℕ). RecordsMore c es (Cut k ∷ []) a.scribed b.scribed) its (records c es t.screen));
       number = number ∙ t.number;
       served = subst (λ (l : List Event). IsServed c l began f) far (record {
         unheard = s.unheard;
@@ -295,11 +306,12 @@ cut-turn a b e f number bytes its steps-at answers-at same waits few knows c lis
 -- an update is cut
 pub turn-cut : held_as_alone → (a b : Surface) (e f : ViewerConnection) (m : ℕ) (bytes : List ℕ) → m ≡ e.number
     → ((c : Config) (list : List Event) → a.screen ≡ state c list → b.screen ≡ state c (list ++ Cut m ∷ []))
+    → ((c : Config) (list : List Event) → a.screen ≡ state c list → RecordsMore c list (Cut m ∷ []) a.scribed b.scribed)
     → ((c : Config) (list : List Event) → a.screen ≡ state c list → bytes ≡ (answer_to c list (Cut m)).bytes)
     → f ≡ record e { waiting = f.waiting; known = f.known } → waiting_bytes f.waiting ≡ waiting_bytes e.waiting ++ bytes → (IsFew e.waiting → IsFew f.waiting)
     → b.drawn ≡ a.drawn → b.noticed ≡ a.noticed → f.known.may_cut ≡ is_asking_on b.screen m → f.known.may_ask ≡ (e.known.may_ask && is_asking_on b.screen m) → TakesTurn a e b f
-turn-cut held a b e f m bytes its steps answers same waits few drawn noticed cut ask =
-    cut-turn a b e f m bytes its steps answers same waits few
+turn-cut held a b e f m bytes its steps records answers same waits few drawn noticed cut ask =
+    cut-turn a b e f m bytes its steps records answers same waits few
     (λ c before list since stands k.
     knows-cut held c before list e.number since a b e.known f.known drawn noticed (subst (λ (n : ℕ). b.screen ≡ state c (list ++ Cut n ∷ [])) its (steps c list stands))
     (cut ∙ ap (λ n. is_asking_on b.screen n) its)
@@ -308,11 +320,12 @@ turn-cut held a b e f m bytes its steps answers same waits few drawn noticed cut
 -- there is none to be cut
 pub turn-uncut : (a b : Surface) (e f : ViewerConnection) (m : ℕ) → m ≡ e.number
     → ((c : Config) (list : List Event) → a.screen ≡ state c list → b.screen ≡ state c (list ++ Cut m ∷ []))
+    → ((c : Config) (list : List Event) → a.screen ≡ state c list → RecordsMore c list (Cut m ∷ []) a.scribed b.scribed)
     → ((c : Config) (list : List Event) → a.screen ≡ state c list → [] ≡ (answer_to c list (Cut m)).bytes)
     → f ≡ record e { known = f.known } → b.drawn ≡ a.drawn → b.noticed ≡ a.noticed → f.known.may_ask ≡ e.known.may_ask → TakesTurn a e b f
-turn-uncut a b e f m its steps answers same drawn noticed ask =
+turn-uncut a b e f m its steps records answers same drawn noticed ask =
     let waiting : f.waiting ≡ e.waiting = ap (λ (x : ViewerConnection). x.waiting) same in
-    cut-turn a b e f m [] its steps answers (same ∙ ap (λ w. record e { waiting = w; known = f.known }) (sym waiting)) (ap waiting_bytes waiting ∙ sym (append-nil (waiting_bytes e.waiting))) (subst IsFew (sym waiting))
+    cut-turn a b e f m [] its steps records answers (same ∙ ap (λ w. record e { waiting = w; known = f.known }) (sym waiting)) (ap waiting_bytes waiting ∙ sym (append-nil (waiting_bytes e.waiting))) (subst IsFew (sym waiting))
     (λ c before list since stands k.
     knows-none c before list e.number since a b e.known f.known drawn noticed ask (ap (λ n. next_bytes c n list) (sym its) ∙ sym (answers c list stands)) k)
 
@@ -323,6 +336,7 @@ turn-looked a e f same cut ask c list began v said since t = record {
   inputs = t.inputs;
   own = t.own;
   screen = t.screen;
+  recorded = t.recorded;
   number = ap (λ (x : ViewerConnection). x.number) same ∙ t.number;
   served = served-alike c (list ++ t.events) began e f same t.served;
   knows = knows-looked c list (list ++ t.events) v since a e.known f.known cut ask t.knows;
@@ -335,6 +349,7 @@ turn-noted a e f same cut ask c list began v said since t = record {
   inputs = t.inputs;
   own = t.own;
   screen = t.screen;
+  recorded = t.recorded;
   number = ap (λ (x : ViewerConnection). x.number) same ∙ t.number;
   served = served-alike c (list ++ t.events) began e f same t.served;
   knows = knows-known c list (list ++ t.events) v since a a e.known f.known refl cut ask t.knows;
@@ -354,6 +369,7 @@ turn-written a b e f known added unwritten still whole same cut ask moved parts 
       inputs = t.inputs;
       own = t.own;
       screen = ap (λ (x : Surface). x.screen) still ∙ t.screen;
+      recorded = subst (λ (x : Surface). RecordsMore c list t.events since.scribed x.scribed) (sym still) t.recorded;
       number = number ∙ t.number;
       knows = let is : f.known ≡ known = ap (λ (x : ViewerConnection). x.known) same in
           knows-known c list es v since a b e.known f.known still (ap (λ (x : Known). x.may_cut) is ∙ cut) (ap (λ (x : Known). x.may_ask) is ∙ ask) t.knows;

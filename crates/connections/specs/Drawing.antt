@@ -1,5 +1,5 @@
 -- What an application does to a screen.
-use Rattle.std.specs.Prelude.{◌≡◌, ℕ, Bool, true, false, List, [], ◌++◌, ◌||◌, None, Some}
+use Rattle.std.specs.Prelude.{◌≡◌, ℕ, Bool, true, false, List, [], ◌++◌, ◌||◌, Option, None, Some}
 use Rattle.std.specs.List.{list_all, list_any}
 use Rattle.screen.specs.declared.Config.{Config}
 use Rattle.screen.specs.declared.Event.{Event}
@@ -7,11 +7,14 @@ use Rattle.screen.specs.declared.Event.TheVariants.{Bell, CutText}
 use Rattle.screen.specs.Alone.{owner_of}
 use Rattle.screen.specs.Answers.{is_drawing}
 use Rattle.viewer.specs.Viewer.{is_asking}
+use Rattle.scribe.specs.Scribing.{Scribed}
+use Rattle.connections.specs.Recorded.{RecordsMore}
 use Rattle.screen.specs.State.{State, state, viewer_at}
 
--- a screen, whether it may have been drawn on since its viewers were looked at, and whether a bell or a text may be among that
+-- a screen, what is written of its events, where that is, whether it may have been drawn on since its viewers were looked at, and whether a bell or a text may be among that
 pub record Surface : Type 0 where
   pub screen : State
+  pub scribed : Option Scribed
   pub drawn : Bool
   pub noticed : Bool
 
@@ -41,11 +44,12 @@ pub record IsNotedAfter (e : Event) (before after : Surface) : Type 0 where
   pub drawn : after.drawn ≡ true
   pub noticed : after.noticed ≡ (is_notice e || before.noticed)
 
--- The screen stands for a list with drawing calls behind it. Since another moment nothing was drawn where it says so, and no bell or text.
+-- The screen stands for a list with drawing calls behind it, and so does the record of one that stood for the list. Since another moment nothing was drawn where it says so, and no bell or text.
 pub record IsDrawnFrom (c : Config) (list : List Event) (since surface : Surface) : Type 0 where
   pub calls : List Event
   pub drawings : are_drawings calls ≡ true
   pub screen : surface.screen ≡ state c (list ++ calls)
+  pub recorded : RecordsMore c list calls since.scribed surface.scribed
   pub none : surface.drawn ≡ false → (since.drawn ≡ false) × (calls ≡ [])
   pub quiet : surface.noticed ≡ false → (since.noticed ≡ false) × (has_notice calls ≡ false)
 

@@ -1,4 +1,6 @@
 pub mod Waiting
+pub mod Recorded
+pub mod RecordedLemmas
 pub mod Drawing
 pub mod Among
 pub mod Attending

@@ -1,5 +1,5 @@
 -- What the connections of a screen's viewers hold, and what that is by the events of the screen.
-use Rattle.std.specs.Prelude.{◌≡◌, ◌≢◌, ◌⊎◌, ℕ, ◌≤◌, ◌<◌, Result, Bool, true, false, not, ◌&&◌, ◌||◌, if◌then◌else◌, is_none, is_some, List, [], ◌++◌, Option, Some, None, option_map, unwrap_or, slice_index_or}
+use Rattle.std.specs.Prelude.{IfSome, ◌≡◌, ◌≢◌, ◌⊎◌, ℕ, ◌≤◌, ◌<◌, Result, Bool, true, false, not, ◌&&◌, ◌||◌, if◌then◌else◌, is_none, is_some, List, [], ◌++◌, Option, Some, None, option_map, unwrap_or, slice_index_or}
 use Rattle.std.specs.Io.KnownBytes.{Appends, Consumes}
 use Rattle.screen.specs.declared.Config.{Config}
 use Rattle.screen.specs.declared.Event.{Event}
@@ -18,6 +18,7 @@ use Rattle.screen.specs.State.{State, state, viewer_at}
 use Rattle.connections.specs.declared.connections.Readiness.{Readiness}
 use Rattle.connections.specs.Waiting.{Waiting, waiting_bytes, IsFew}
 use Rattle.connections.specs.Drawing.{Surface, IsDrawnFrom}
+use Rattle.connections.specs.Recorded.{IsRecordedBy}
 use Rattle.connections.specs.Among.{is_among}
 use Rattle.connections.specs.Telling.{inputs_after, IsTold}
 use Rattle.connections.specs.Attending.{Known, noted, asks, next_bytes, IsSettled}
@@ -27,6 +28,11 @@ pub record Carried : Type 0 where
   pub unread : Option (List ℕ)
   pub written : Option (List ℕ)
   pub sent : Option (List ℕ)
+
+-- what each viewer's transport carried when the viewer connected, by its number, and, where there is a record, what its writer held when it began, where that is known
+pub record Began : Type 0 where
+  pub carried : ℕ → Carried
+  pub held : Option (Option (List ℕ))
 
 -- a viewer's connection: what its transport carries, what the viewer was given and is not written yet, why the viewer ended, if it did, and what is known
 pub record ViewerConnection : Type 0 where
@@ -155,23 +161,24 @@ pub record IsAttended (c : Config) (list : List Event) (s : Serving) (key : ℕ)
   pub answered : e.known.may_ask ≡ false → asks (viewer_of c e.number list) ≡ false
   pub settled : e.known.may_cut ≡ false → IsSettled c list s.surface e.number
 
--- The screen stands for a list of events, and each viewer is served by it, or was until it ended, and looked at where something can be done for it. What each transport carried when its viewer connected is given by the viewer's number.
-pub record Serves (c : Config) (began : ℕ → Carried) (list : List Event) (s : Serving) : Type 0 where
+-- The screen stands for a list of events, and each viewer is served by it, or was until it ended, and looked at where something can be done for it. Where there is a record, it is the session of the events that happened.
+pub record Serves (c : Config) (began : Began) (list : List Event) (s : Serving) : Type 0 where
   pub screen : s.surface.screen ≡ state c list
+  pub recorded : IfSome began.held (λ held. IsRecordedBy held c list s.surface.scribed)
   pub kept : s.kept ≡ is_kept c.history
-  pub each : (key : ℕ) (e : ViewerConnection) → at_key s.slots key ≡ Some e → (e.number < s.next) × IsServed c list (began e.number) e
+  pub each : (key : ℕ) (e : ViewerConnection) → at_key s.slots key ≡ Some e → (e.number < s.next) × IsServed c list (began.carried e.number) e
   pub attended : (key : ℕ) (e : ViewerConnection) → at_key s.slots key ≡ Some e → IsAttended c list s key e
   pub apart : (j k : ℕ) (d e : ViewerConnection) → at_key s.slots j ≡ Some d → at_key s.slots k ≡ Some e → d.number ≡ e.number → j ≡ k
   pub unused : (v : ℕ) → s.next ≤ v → (heard_of v list ≡ []) × (bytes_of c v list ≡ [])
 
 -- whatever the connections stood for, they stand for it with more events behind it, none of which has an input
 abbrev pub GoesOn : Serving → Serving → Type 0
-GoesOn old new = (c : Config) (began : ℕ → Carried) (list : List Event) → Serves c began list old → (more : List Event) × Serves c began (list ++ more) new × (inputs_after c list more ≡ [])
+GoesOn old new = (c : Config) (began : Began) (list : List Event) → Serves c began list old → (more : List Event) × Serves c began (list ++ more) new × (inputs_after c list more ≡ [])
 
 -- whatever the connections stood for, they stand for it with more events behind it, and an application is told the inputs of these
 abbrev pub GoesOnTelling : {A X E : Type 0} → (A → List (ℕ × Input) → Type 0) → Serving → Serving → A → A → Result X E → Type 0
-GoesOnTelling stands old new before after result = (c : Config) (began : ℕ → Carried) (list : List Event) → Serves c began list old → (more : List Event) × Serves c began (list ++ more) new × IsTold stands (inputs_after c list more) before after result
+GoesOnTelling stands old new before after result = (c : Config) (began : Began) (list : List Event) → Serves c began list old → (more : List Event) × Serves c began (list ++ more) new × IsTold stands (inputs_after c list more) before after result
 
 -- Viewers that are served by a list of events are served, once their screen was drawn on, by that list with the drawing calls behind it.
 abbrev pub drawn_is_served : Type 0
-drawn_is_served = (c : Config) (began : ℕ → Carried) (list : List Event) (s : Serving) (surface : Surface) (drawn : IsDrawnFrom c list s.surface surface) → Serves c began list s → Serves c began (list ++ drawn.calls) (record s { surface = surface })
+drawn_is_served = (c : Config) (began : Began) (list : List Event) (s : Serving) (surface : Surface) (drawn : IsDrawnFrom c list s.surface surface) → Serves c began list s → Serves c began (list ++ drawn.calls) (record s { surface = surface })

@@ -11,6 +11,7 @@ use Rattle.connections.specs.declared.connection.Got.{Got}
 use Rattle.connections.specs.declared.connection.Got.TheVariants.{Piece}
 use Rattle.connections.specs.Drawing.{Surface}
 use Rattle.connections.specs.Attending.{Known, asks, IsSettled}
+use Rattle.connections.specs.Recorded.{RecordsMore}
 use Rattle.receipts.specs.Histories.{bytes_of, heard_of}
 use Rattle.connections.specs.Telling.{inputs_after, IsTold}
 use Rattle.connections.specs.Waiting.{waiting_bytes, IsFew}
@@ -41,6 +42,7 @@ pub record IsTurnFrom (c : Config) (list : List Event) (began : Carried) (v : �
   pub inputs : inputs_after c list events ≡ said
   pub own : are_of v events ≡ true
   pub screen : surface.screen ≡ state c (list ++ events)
+  pub recorded : RecordsMore c list events since.scribed surface.scribed
   pub number : e.number ≡ v
   pub served : IsServed c (list ++ events) began e
   pub knows : Knows c list (list ++ events) v since surface e.known
@@ -51,6 +53,7 @@ pub record HasRead (c : Config) (list : List Event) (began : Carried) (v : ℕ) 
   pub inputs : inputs_after c list events ≡ said
   pub own : are_of v events ≡ true
   pub screen : surface.screen ≡ state c (list ++ events)
+  pub recorded : RecordsMore c list events since.scribed surface.scribed
   pub number : e.number ≡ v
   pub live : e.ended ≡ None
   pub written : List ℕ

@@ -1,17 +1,19 @@
 //! The screen as an application draws on it.
 
-ghost use Rattle.std.specs.Prelude.{◌≡◌, ◌++◌, ◌∷◌, [], ◌≢◌, List, None, true, false, IfOk, IfSome, IsOkUnless, OnOk, OnErr};
+ghost use Rattle.std.specs.Prelude.{◌≡◌, ◌++◌, ◌∷◌, [], ◌≢◌, List, None, true, false, IfOk, IfSome, IsOkUnless, OnOk, OnErr, option_map};
 ghost use Rattle.screen.specs.declared.Config.{Config};
 ghost use Rattle.screen.specs.declared.Event.{Event};
 ghost use Rattle.screen.specs.Alone.{config_refusal};
 ghost use Rattle.screen.specs.Answers.{answer_to};
 ghost use Rattle.screen.specs.Refusals.{Refuses};
 ghost use Rattle.screen.specs.State.{state, refusal};
-ghost use Rattle.screen.specs.Takes.{Takes};
+ghost use Rattle.screen.specs.Takes.{Takes, TakesTelling};
 ghost use Rattle.viewer.specs.Given.{bytes_given};
 ghost use Rattle.screen.specs.Calls.{event_of};
+ghost use Rattle.connections.specs.Recorded.{PutsWhere, RecordsMore, IsFlushed, held_by, is_broken};
 ghost use Rattle.connections.specs.Drawing.{Draws, full_requests_on, is_asking_on, is_notice, IsNotedAfter};
 
+use crate::record::Record;
 use listed::Listed;
 use screen::{Answer, Drawing, PixelSource, Rect, Region, Screen, ScreenError, Update};
 use std::alloc::Global;
@@ -21,6 +23,8 @@ use std::marker::Model;
 /// same refusals, and leaves the screen as it was where it is refused; its viewers are looked at in the next turn.
 pub struct Canvas {
     screen: Screen,
+    // what is written of its events, where that is
+    recorder: Record,
     has_drawn: bool,
     // a bell or a text is among what was drawn
     has_noticed: bool,
@@ -31,6 +35,7 @@ impl Drop for Canvas {
     fn drop(self) {
         let Canvas {
             screen: _screen,
+            recorder: _recorder,
             has_drawn: _has_drawn,
             has_noticed: _has_noticed,
         } = self;
@@ -42,7 +47,7 @@ impl Model for Canvas {
 
     ghost Value = { Surface };
 
-    ghost view = { λ a. record { screen = a.screen; drawn = a.has_drawn; noticed = a.has_noticed } };
+    ghost view = { λ a. record { screen = a.screen; scribed = a.recorder; drawn = a.has_drawn; noticed = a.has_noticed } };
 }
 
 /// Whether a call is a bell or a text.
@@ -53,14 +58,39 @@ fn is_notice(drawing: &Drawing<'_>) -> bool
 }
 
 impl Canvas {
-    pub(crate) fn new(screen: Screen) -> Canvas
+    pub(crate) fn new(screen: Screen, recorder: Record) -> Canvas
         ensures screen { result.screen ≡ screen }
+        ensures recorded { result.scribed ≡ recorder }
     {
         Canvas {
             screen,
+            recorder,
             has_drawn: false,
             has_noticed: false,
         }
+    }
+
+    /// Writes what waits of the record.
+    pub(crate) fn flush_record(&mut self)
+        ensures same { self.new ≡ record self.old { scribed = self.new.scribed } }
+        ensures puts { PutsWhere [] self.old.scribed self.new.scribed }
+        ensures flushed { IsFlushed self.new.scribed }
+    {
+        self.recorder.flush();
+    }
+
+    /// Returns what was written of the record so far, where it is written to memory.
+    pub(crate) fn record_in_memory(&self) -> Option<&[u8]>
+        ensures { option_map (λ bytes. bytes.now) result ≡ held_by self.now.scribed }
+    {
+        self.recorder.in_memory()
+    }
+
+    /// Returns whether the record has ended before its session.
+    pub(crate) fn is_record_broken(&self) -> bool
+        ensures { result ≡ is_broken self.now.scribed }
+    {
+        self.recorder.is_broken()
     }
 
     /// Whether a request of a viewer is unanswered; false where there is none with the number.
@@ -94,6 +124,9 @@ impl Canvas {
     pub fn draw(&mut self, drawing: &Drawing<'_>) -> Result<(), ScreenError>
         ensures step { (config : Config) (list : List Event) → self.old.screen ≡ state config list →
             OnOk result (self.new.screen ≡ state config (list ++ event_of drawing.now ∷ [])) }
+        ensures recorded { (config : Config) (list : List Event) → self.old.screen ≡ state config list →
+            OnOk result (RecordsMore config list (event_of drawing.now ∷ []) self.old.scribed self.new.scribed) }
+        ensures unrecorded { OnErr result (self.new.scribed ≡ self.old.scribed) }
         ensures refused { Refuses result (refusal self.old.screen (event_of drawing.now)) }
         ensures err { OnErr result (self.new.screen ≡ self.old.screen) }
         ensures draws { Draws self.old self.new }
@@ -101,7 +134,9 @@ impl Canvas {
     {
         self.has_drawn = true;
         self.has_noticed = is_notice(drawing) | self.has_noticed;
-        self.screen.draw(drawing)
+        self.screen.draw(drawing)?;
+        self.recorder.drew(drawing);
+        Ok(())
     }
 
     /// `Screen::paint`.
@@ -270,12 +305,15 @@ impl Canvas {
     ) -> Result<usize, ScreenError>
         ensures takes { (config : Config) (list : List Event) → config_refusal config ≡ None → self.old.screen ≡ state config list →
             Takes source.now left top config list self.old.screen self.new.screen result }
+        ensures recorded { (config : Config) (list : List Event) → config_refusal config ≡ None → self.old.screen ≡ state config list →
+            TakesTelling (λ es. RecordsMore config list es self.old.scribed self.new.scribed) source.now left top config list self.old.screen self.new.screen result }
         ensures draws { Draws self.old self.new }
         ensures drawn { self.new.drawn ≡ true }
         ensures noticed { self.new.noticed ≡ self.old.noticed }
     {
         self.has_drawn = true;
-        self.screen.take(alloc, left, top, source)
+        self.screen
+            .take_told(alloc, left, top, source, &mut self.recorder)
     }
 
     /// Those were looked at that are to be for what was drawn.
@@ -300,30 +338,48 @@ impl Canvas {
         self.has_noticed
     }
 
+    /// Lets viewers that are alike share their encoded rectangles, once there is a second one.
+    fn share_with_second(&mut self)
+        ensures { self.new ≡ self.old }
+    {
+        if self.screen.viewer_count() == 2 {
+            self.screen.share_encodings(true);
+        }
+    }
+
     /// `Screen::connect`.
     pub(crate) fn connect(&mut self, number: u64) -> Result<Listed<u8>, ScreenError>
         ensures step { (config : Config) (list : List Event) → self.old.screen ≡ state config list →
             OnOk result (self.new.screen ≡ state config (list ++ Event.Connect number ∷ [])) }
+        ensures recorded { (config : Config) (list : List Event) → self.old.screen ≡ state config list →
+            OnOk result (RecordsMore config list (Event.Connect number ∷ []) self.old.scribed self.new.scribed) }
         ensures answer { (config : Config) (list : List Event) → self.old.screen ≡ state config list →
             IfOk result (λ bytes. bytes ≡ (answer_to config list (Event.Connect number)).bytes) }
-        ensures same { self.new ≡ record self.old { screen = self.new.screen } }
+        ensures same { self.new ≡ record self.old { screen = self.new.screen; scribed = self.new.scribed } }
         ensures err { OnErr result (self.new ≡ self.old) }
     {
-        self.screen.connect(number)
+        let version = self.screen.connect(number)?;
+        self.recorder.connected(number);
+        self.share_with_second();
+        Ok(version)
     }
 
     /// `Screen::hear`.
     pub(crate) fn hear(&mut self, number: u64, piece: &[u8]) -> Result<Answer, ScreenError>
         ensures step { (config : Config) (list : List Event) → self.old.screen ≡ state config list →
             OnOk result (self.new.screen ≡ state config (list ++ Event.Hear number piece.now ∷ [])) }
+        ensures recorded { (config : Config) (list : List Event) → self.old.screen ≡ state config list →
+            OnOk result (RecordsMore config list (Event.Hear number piece.now ∷ []) self.old.scribed self.new.scribed) }
         ensures answer { (config : Config) (list : List Event) → self.old.screen ≡ state config list →
             IfOk result (λ answer. answer.bytes ≡ (answer_to config list (Event.Hear number piece.now)).bytes) }
         ensures inputs { (config : Config) (list : List Event) → self.old.screen ≡ state config list →
             IfOk result (λ answer. answer.inputs ≡ (answer_to config list (Event.Hear number piece.now)).inputs) }
-        ensures same { self.new ≡ record self.old { screen = self.new.screen } }
+        ensures same { self.new ≡ record self.old { screen = self.new.screen; scribed = self.new.scribed } }
         ensures err { OnErr result (self.new ≡ self.old) }
     {
-        self.screen.hear(number, piece)
+        let answer = self.screen.hear(number, piece)?;
+        self.recorder.heard(number, piece);
+        Ok(answer)
     }
 
     /// `Screen::encode_ahead`.
@@ -338,24 +394,34 @@ impl Canvas {
     pub(crate) fn cut(&mut self, number: u64) -> Result<Option<Update>, ScreenError>
         ensures step { (config : Config) (list : List Event) → self.old.screen ≡ state config list →
             OnOk result (self.new.screen ≡ state config (list ++ Event.Cut number ∷ [])) }
+        ensures recorded { (config : Config) (list : List Event) → self.old.screen ≡ state config list →
+            OnOk result (RecordsMore config list (Event.Cut number ∷ []) self.old.scribed self.new.scribed) }
         ensures answer { (config : Config) (list : List Event) → self.old.screen ≡ state config list →
             IfOk result (λ update. bytes_given update ≡ (answer_to config list (Event.Cut number)).bytes) }
-        ensures same { self.new ≡ record self.old { screen = self.new.screen } }
+        ensures same { self.new ≡ record self.old { screen = self.new.screen; scribed = self.new.scribed } }
         ensures some { IfOk result (λ update. IfSome update (λ bytes. bytes ≢ [])) }
         ensures err { OnErr result (self.new ≡ self.old) }
     {
-        self.screen.cut(number)
+        let Some(update) = self.screen.cut(number)? else {
+            return Ok(None);
+        };
+        self.recorder.cut(number);
+        Ok(Some(update))
     }
 
     /// `Screen::close`.
     pub(crate) fn close(&mut self, number: u64) -> Result<(), ScreenError>
         ensures step { (config : Config) (list : List Event) → self.old.screen ≡ state config list →
             OnOk result (self.new.screen ≡ state config (list ++ Event.Close number ∷ [])) }
+        ensures recorded { (config : Config) (list : List Event) → self.old.screen ≡ state config list →
+            OnOk result (RecordsMore config list (Event.Close number ∷ []) self.old.scribed self.new.scribed) }
         ensures answer { (config : Config) (list : List Event) → self.old.screen ≡ state config list →
             OnOk result ((answer_to config list (Event.Close number)).bytes ≡ []) }
-        ensures same { self.new ≡ record self.old { screen = self.new.screen } }
+        ensures same { self.new ≡ record self.old { screen = self.new.screen; scribed = self.new.scribed } }
         ensures err { OnErr result (self.new ≡ self.old) }
     {
-        self.screen.close(number)
+        self.screen.close(number)?;
+        self.recorder.closed(number);
+        Ok(())
     }
 }

@@ -7,7 +7,8 @@ ghost use Rattle.screen.specs.declared.Config.{Config};
 ghost use Rattle.screen.specs.declared.Event.{Event};
 ghost use Rattle.screen.specs.Alone.{config_refusal};
 ghost use Rattle.connections.specs.Among.{is_among};
-ghost use Rattle.connections.specs.Serving.{Carried, GoesOn, GoesOnTelling, HasNothingToDo, IsOver, Serves, ViewerConnection, WasServed, at_key, is_kept, is_open_on, may_cut_at, noted_by, number_at};
+ghost use Rattle.connections.specs.Recorded.{IsFlushed, IsRecordedBy, bytes_held, held_by, is_broken};
+ghost use Rattle.connections.specs.Serving.{Began, GoesOn, GoesOnTelling, HasNothingToDo, IsOver, Serves, ViewerConnection, WasServed, at_key, is_kept, is_open_on, may_cut_at, noted_by, number_at};
 ghost use Rattle.connections.specs.Recording.{none_yet};
 ghost use Rattle.connections.specs.Telling.{inputs_after, Stays};
 ghost use Rattle.connections.specs.Lending.{lends_canvas};
@@ -18,10 +19,11 @@ use crate::canvas::Canvas;
 use crate::connection::Connection;
 use crate::keys::KeySet;
 use crate::listing::{keep_asking, keep_busy, key_of, list_keys};
+use crate::record::{Record, RecordWriter};
 use crate::transport::Transport;
 use crate::turn::{PIECE, listen, send};
 use receipts::{Ended, Receipt};
-use screen::{Config, History, Screen, ScreenError};
+use screen::{Config, History, Screen, ScreenError, config_refusal};
 use slab::Slab;
 use std::alloc::{AllocError, Global};
 use std::marker::Model;
@@ -125,17 +127,49 @@ impl<T: Transport> Model for Connections<T> {
 impl<T: Transport> Connections<T> {
     /// A screen that is 0 everywhere, with no viewer. Refused as `Screen::new` is.
     pub fn new(alloc: Global, config: Config) -> Result<Connections<T>, ScreenError>
-        ensures serves { (began : ℕ → Carried) → IfOk result (λ connections. Serves config began [] connections) }
+        ensures serves { (began : Began) → began.held ≡ None → IfOk result (λ connections. Serves config began [] connections) }
+        ensures accepted { OnOk result (config_refusal config ≡ None) }
+        ensures refused { MatchOption (config_refusal config) (IsOkUnless result ScreenError.OutOfMemory) (λ e. result ≡ Err e) }
+    {
+        Connections::with(alloc, config, Record::none())
+    }
+
+    /// The same, and what happens to the screen is written as a session: its configuration, and each event that happens, as
+    /// `recorder` says it. Where a write fails the record ends, and nothing else changes. What waits is written by `flush_record`.
+    pub fn recorded(
+        alloc: Global,
+        config: Config,
+        writer: RecordWriter,
+    ) -> Result<Connections<T>, ScreenError>
+        ensures serves { (began : Began) → began.held ≡ Some (bytes_held writer) → IfOk result (λ connections. Serves config began [] connections) }
+        ensures accepted { OnOk result (config_refusal config ≡ None) }
+        ensures refused { MatchOption (config_refusal config) (IsOkUnless result ScreenError.OutOfMemory) (λ e. result ≡ Err e) }
+    {
+        let name = config.name.as_slice();
+        if let Some(refusal) = config_refusal(
+            config.width,
+            config.height,
+            name,
+            config.rects_per_update,
+        ) {
+            return Err(refusal);
+        }
+        let session = Record::of(alloc, &config, writer)?;
+        Connections::with(alloc, config, session)
+    }
+
+    /// The same, with what is written of the screen's events.
+    fn with(alloc: Global, config: Config, session: Record) -> Result<Connections<T>, ScreenError>
+        ensures serves { (began : Began) → IfSome began.held (λ held. IsRecordedBy held config [] session) → IfOk result (λ connections. Serves config began [] connections) }
         ensures accepted { OnOk result (config_refusal config ≡ None) }
         ensures refused { MatchOption (config_refusal config) (IsOkUnless result ScreenError.OutOfMemory) (λ e. result ≡ Err e) }
     {
         let is_kept = is_kept(config.history);
-        let mut screen = Screen::new(alloc, config)?;
-        screen.share_encodings(true);
+        let screen = Screen::new(alloc, config)?;
         Ok(Connections {
             alloc,
             is_kept,
-            canvas: Canvas::new(screen),
+            canvas: Canvas::new(screen, session),
             connections: Slab::new(alloc),
             next: 1,
             agenda: KeySet::new(alloc),
@@ -174,7 +208,7 @@ impl<T: Transport> Connections<T> {
     /// connection until its transport is found ready or something is drawn.
     pub fn is_busy(&self) -> bool
         ensures busy { result ≡ (not (length self.now.agenda == 0) || self.now.surface.drawn) }
-        ensures rests { (config : Config) (began : ℕ → Carried) (list : List Event) → Serves config began list self.now → result ≡ false →
+        ensures rests { (config : Config) (began : Began) (list : List Event) → Serves config began list self.now → result ≡ false →
             (key : ℕ) (connection : ViewerConnection) → at_key self.now.slots key ≡ Some connection → HasNothingToDo config list connection }
     {
         !self.agenda.is_empty() || self.canvas.has_drawn()
@@ -215,6 +249,29 @@ impl<T: Transport> Connections<T> {
         }
     }
 
+    /// Writes what waits of the record. `turn` writes none of it but where the record's buffer is full.
+    pub fn flush_record(&mut self)
+        ensures served { GoesOn self.old self.new }
+        ensures flushed { IsFlushed self.new.surface.scribed }
+    {
+        self.canvas.flush_record();
+    }
+
+    /// Returns what was written of the record so far, where it is written to memory; None without a record, and where it goes to a file.
+    pub fn record_in_memory(&self) -> Option<&[u8]>
+        ensures { option_map (λ bytes. bytes.now) result ≡ held_by self.now.surface.scribed }
+    {
+        self.canvas.record_in_memory()
+    }
+
+    /// Returns whether the record has ended before its session: a write failed, or memory for a region's rectangles was refused. Nothing
+    /// more is written of it then.
+    pub fn is_record_broken(&self) -> bool
+        ensures { result ≡ is_broken self.now.surface.scribed }
+    {
+        self.canvas.is_record_broken()
+    }
+
     /// The screen, to be looked at.
     pub fn screen(&self) -> &Screen
         ensures { result.now ≡ self.now.surface.screen }
@@ -233,8 +290,8 @@ impl<T: Transport> Connections<T> {
     /// Takes in a viewer's transport, whose bytes may be read and written at once. The connection's key. Refused as `NumberInUse`
     /// after 2^64 - 2 viewers; then, and where memory is refused, nothing has changed.
     pub fn admit(&mut self, transport: T) -> Result<usize, ScreenError>
-        ensures serves { (config : Config) (began : ℕ → Carried) (list : List Event) → Serves config began list self.old →
-            began self.old.next ≡ record { unread = T.unread transport; written = T.written transport; sent = none_yet self.old.kept } →
+        ensures serves { (config : Config) (began : Began) (list : List Event) → Serves config began list self.old →
+            began.carried self.old.next ≡ record { unread = T.unread transport; written = T.written transport; sent = none_yet self.old.kept } →
             OnOk result (Serves config began (list ++ Event.Connect self.old.next ∷ []) self.new) }
         ensures key { IfOk result (λ key. key ≡ self.old.vacant) }
         ensures viewer { IfOk result (λ key. number_at self.new.slots key ≡ Some self.old.next) }
@@ -414,9 +471,9 @@ impl<T: Transport> Connections<T> {
     /// A viewer that ended, and for which nothing is left to be done: it is closed, and its transport given back. None where there is
     /// none; where memory is refused to close it, it is given later.
     pub fn take_departed(&mut self) -> Option<Departed<T>>
-        ensures served { (config : Config) (began : ℕ → Carried) (list : List Event) → Serves config began list self.old →
+        ensures served { (config : Config) (began : Began) (list : List Event) → Serves config began list self.old →
             (more : List Event) × Serves config began (list ++ more) self.new × (inputs_after config list more ≡ []) ×
-            IfSome result (λ d. WasServed config (list ++ more) (began d.receipt.viewer) T.unread T.written d.transport d.receipt) }
+            IfSome result (λ d. WasServed config (list ++ more) (began.carried d.receipt.viewer) T.unread T.written d.transport d.receipt) }
     {
         let key = self.find_over()?;
         let (viewer, ended) = self.over_at(key)?;

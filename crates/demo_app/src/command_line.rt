@@ -11,6 +11,7 @@ use crate::serve::ServeOptions;
 use clap::error::ErrorKind;
 use clap::{Arg, ArgAction, ArgMatches, Command, Error, value_parser};
 use listed::Listed;
+use replay::{Asked, Question};
 use std::alloc::{AllocError, Global};
 
 /// What the program is asked to do.
@@ -19,13 +20,29 @@ pub enum Chosen {
     /// A script is read from standard input and answered on standard output.
     Play,
     /// Viewers are served on a port of 127.0.0.1, by two threads each.
-    Serve { port: u16, options: ServeOptions },
-    /// The same, by one thread for all.
-    ServeInOneThread { port: u16, options: ServeOptions },
+    Serve {
+        port: u16,
+        options: ServeOptions,
+    },
+    /// The same, by one thread for all, which may record the session in a new file.
+    ServeInOneThread {
+        port: u16,
+        options: ServeOptions,
+        record: Option<String>,
+    },
     /// A server with threads and so many viewers run in one process.
-    Own { viewers: u32 },
+    Own {
+        viewers: u32,
+    },
     /// The same, with a server in one thread.
-    OwnInOneThread { viewers: u32 },
+    OwnInOneThread {
+        viewers: u32,
+    },
+    /// A recorded session is read from a file.
+    Replay {
+        file: String,
+        asked: Asked,
+    },
 }
 
 /// The version that `--version` prints.
@@ -68,13 +85,17 @@ back. The server ends once so many viewers have connected and left; then it prin
 line for each, and with --check whether each was sent what it was to be sent, or the
 beginning of it where its connection broke.
 
+With --record all that happens to the screen is written to a new file, as a session:
+pictures, keys, pointers and texts. `vncdemo replay` reads it.
+
 In two terminals:
   vncdemo serve --port 5901
   vncviewer 127.0.0.1::5901
 
 Status: 0; 1 after a refused screen; 2 after a refused command line, and after this
 text; 3 after want of memory; 4 after a check that failed; 5 after a network fault, as
-of a port that is in use, and after a write that failed.";
+of a port that is in use, after a write that failed, where FILE can't be made, and where
+the record broke.";
 
 /// What `self --help` says of the run, behind the usage.
 const OWN_HELP: &str = "\
@@ -90,10 +111,29 @@ and after a write that failed.";
 /// What `--help` says of `serve` and `self`, whose options are read by commands of their own.
 const OTHER_HELP: &str =
     "  serve  shows a screen to viewers over TCP; `vncdemo serve --help` tells its options
-  self   serves viewers of its own; `vncdemo self --help` tells its options";
+  self   serves viewers of its own; `vncdemo self --help` tells its options
+  replay reads a recorded session; `vncdemo replay --help` tells its options";
 
 /// What is said to more viewers than threads serve.
 const TOO_MANY: &str = "more than 64 viewers are served by '--one-thread' alone";
+
+/// What is said where threads are to record.
+const NO_THREADS: &str = "a session is recorded with '--one-thread' alone";
+
+/// What `replay --help` says, behind the usage.
+const REPLAY_HELP: &str = "\
+FILE is what `serve --record` wrote. Without an option it prints a line for each viewer,
+with the lines of its first event and of its last one, and how much it was given:
+  viewer V lines A B encoding E bits N heard N updates N sent N END
+With --viewer it writes the very bytes that the viewer was given: it was sent them, but for
+what still waited at its end. With --picture it writes a pixmap (PPM): what the viewer
+shows by these, or what was drawn. What stands behind the last line feed is left out: it
+may be the beginning of a line.
+
+Status: 0; 1 after a line that says nothing that a session may say there, as is told on
+standard error; 2 after a refused command line, and after this text; 3 after want of
+memory; 5 where FILE can't be read, after a write that failed, and after a line of more
+than 2^27 bytes.";
 
 /// An option of `serve`.
 fn option<'a>(alloc: Global, name: &'a str, help: &'a str) -> Arg<'a> {
@@ -138,6 +178,11 @@ fn serve_command<'a>(alloc: Global) -> Result<Command<'a>, AllocError> {
         .long("check")
         .help("keeps what was drawn, heard and sent, and judges it at the end")
         .action(ArgAction::SetTrue);
+    let record = option(
+        alloc,
+        "record",
+        "a new file that the session is recorded in: pictures, and what is typed",
+    );
     Command::new(alloc, "serve")
         .about("shows a screen to viewers over TCP")
         .after_help(SERVE_HELP)
@@ -148,6 +193,7 @@ fn serve_command<'a>(alloc: Global) -> Result<Command<'a>, AllocError> {
         .arg(limit)?
         .arg(viewers)?
         .arg(check)?
+        .arg(record)?
         .arg(one_thread_option(alloc))
 }
 
@@ -180,6 +226,14 @@ fn options_of(
     })
 }
 
+/// The file that the options of `serve` have the session recorded in, if any.
+fn record_of(alloc: Global, matches: &ArgMatches<'_>) -> Result<Option<String>, AllocError> {
+    match matches.get_str("record") {
+        Some(path) => Ok(Some(String::from_str(alloc, path)?)),
+        None => Ok(None),
+    }
+}
+
 /// What the options of `serve` choose. All other numbers of viewers are refused before.
 fn serve_of(alloc: Global, matches: &ArgMatches<'_>) -> Result<Chosen, AllocError>
     ensures { IfOk result HasViewers }
@@ -188,7 +242,12 @@ fn serve_of(alloc: Global, matches: &ArgMatches<'_>) -> Result<Chosen, AllocErro
     let viewers = viewers_of(matches);
     if matches.get_flag("one-thread") {
         let options = options_of(alloc, matches, viewers.clamp(1, MOST_BY_ONE))?;
-        return Ok(Chosen::ServeInOneThread { port, options });
+        let record = record_of(alloc, matches)?;
+        return Ok(Chosen::ServeInOneThread {
+            port,
+            options,
+            record,
+        });
     }
     let options = options_of(alloc, matches, viewers.clamp(1, MOST_BY_THREADS))?;
     Ok(Chosen::Serve { port, options })
@@ -197,6 +256,19 @@ fn serve_of(alloc: Global, matches: &ArgMatches<'_>) -> Result<Chosen, AllocErro
 /// Whether more viewers are asked for than threads serve.
 fn has_too_many(matches: &ArgMatches<'_>) -> bool {
     !matches.get_flag("one-thread") && viewers_of(matches) > MOST_BY_THREADS
+}
+
+/// Whether threads are to record, which they don't.
+fn records_by_threads(matches: &ArgMatches<'_>) -> bool {
+    !matches.get_flag("one-thread") && matches.get_str("record").is_some()
+}
+
+/// What is said to options of `serve` of which each is fine, but not all of them.
+fn objection(matches: &ArgMatches<'_>) -> Option<&'static str> {
+    if has_too_many(matches) {
+        return Some(TOO_MANY);
+    }
+    records_by_threads(matches).then_some(NO_THREADS)
 }
 
 /// What a line that begins with `serve` chooses.
@@ -211,9 +283,9 @@ fn serve_line(alloc: Global, words: &[String]) -> Result<Chosen, Error>
     let Some(matches) = matches.subcommand_matches("serve") else {
         return Err(Error::from(AllocError));
     };
-    if has_too_many(matches) {
+    if let Some(objection) = objection(matches) {
         let mut command = serve_command(alloc)?.bin_name("vncdemo serve")?;
-        return Err(command.error(ErrorKind::ValueValidation, TOO_MANY)?);
+        return Err(command.error(ErrorKind::ValueValidation, objection)?);
     }
     Ok(serve_of(alloc, matches)?)
 }
@@ -253,6 +325,65 @@ fn own_line(alloc: Global, words: &[String]) -> Result<Chosen, Error>
     let matches = command.try_get_matches_from(words)?;
     match matches.subcommand_matches("self") {
         Some(matches) => Ok(own_of(matches)),
+        None => Err(Error::from(AllocError)),
+    }
+}
+
+/// The command `replay`.
+fn replay_command<'a>(alloc: Global) -> Result<Command<'a>, AllocError> {
+    let file = Arg::new(alloc, "FILE")
+        .help("the file of the session")
+        .required(true);
+    let viewer = option(alloc, "viewer", "the number of a viewer").value_parser(value_parser!(u64));
+    let lines = option(alloc, "line", "the last line that is read").value_parser(value_parser!(
+        u64
+    ));
+    let picture = Arg::new(alloc, "picture")
+        .long("picture")
+        .help("writes a picture")
+        .action(ArgAction::SetTrue);
+    Command::new(alloc, "replay")
+        .about("replays a session that was recorded")
+        .after_help(REPLAY_HELP)
+        .arg(file)?
+        .arg(viewer)?
+        .arg(lines)?
+        .arg(picture)
+}
+
+/// What the options of `replay` ask.
+fn question_of(matches: &ArgMatches<'_>) -> Question {
+    match (matches.get_one("viewer"), matches.get_flag("picture")) {
+        (Some(viewer), true) => Question::Seen(viewer),
+        (Some(viewer), false) => Question::Sent(viewer),
+        (None, true) => Question::Drawn,
+        (None, false) => Question::Viewers,
+    }
+}
+
+/// What the options of `replay` choose.
+fn replay_of(alloc: Global, matches: &ArgMatches<'_>) -> Result<Chosen, AllocError>
+    ensures { IfOk result HasViewers }
+{
+    let file = String::from_str(alloc, matches.get_str("FILE").unwrap_or("-"))?;
+    let asked = Asked {
+        question: question_of(matches),
+        lines: matches.get_one("line").unwrap_or(u64::MAX),
+    };
+    Ok(Chosen::Replay { file, asked })
+}
+
+/// What a line that begins with `replay` chooses.
+fn replay_line(alloc: Global, words: &[String]) -> Result<Chosen, Error>
+    ensures { IfOk result HasViewers }
+{
+    let command = Command::new(alloc, "vncdemo")
+        .version(VERSION)
+        .subcommand_required(true)
+        .subcommand(replay_command(alloc)?)?;
+    let matches = command.try_get_matches_from(words)?;
+    match matches.subcommand_matches("replay") {
+        Some(matches) => Ok(replay_of(alloc, matches)?),
         None => Err(Error::from(AllocError)),
     }
 }
@@ -298,6 +429,16 @@ fn is_self(words: &[String]) -> bool
     }
 }
 
+/// Whether it is `replay`.
+fn is_replay(words: &[String]) -> bool
+    ensures { result ≡ option_map_or (λ word. bytes_eq word (codes "replay")) (slice_get (map string_bytes words.now) 1) false }
+{
+    match words.get(1) {
+        Some(word) => word.as_str() == "replay",
+        None => false,
+    }
+}
+
 /// What a command line chooses; its first word is the program's name. An error's text is what is to be printed,
 /// of `--help` and `--version` too.
 pub fn line_of(alloc: Global, words: &[String]) -> Result<Chosen, Error>
@@ -311,6 +452,8 @@ pub fn line_of(alloc: Global, words: &[String]) -> Result<Chosen, Error>
         serve_line(alloc, words)
     } else if is_self(words) {
         own_line(alloc, words)
+    } else if is_replay(words) {
+        replay_line(alloc, words)
     } else {
         other_line(alloc, words)
     }

@@ -1,5 +1,5 @@
-//! What the program `vncdemo` does: `play`, which `play_script` has, `serve`, which shows a screen to viewers over TCP, and
-//! `self`, which runs a server and its viewers in one process.
+//! What the program `vncdemo` does: `play`, which `play_script` has, `serve`, which shows a screen to viewers over TCP, `self`, which
+//! runs a server and its viewers in one process, and `replay`, which the crate of this name has.
 //!
 //! The viewer of `self`, `Shown`, is handed on for tests of other programs.
 //!
@@ -15,10 +15,12 @@ mod serve;
 mod watching;
 
 pub use command_line::{Chosen, line_of};
+pub use event_loop::RecordWriter;
 pub use one_thread::serve_in_one_thread;
 pub use pixel_translate::{BitsPerPixel, Component};
 pub use play_script::{SCRIPT_LIMIT, Steps, play_counted, play_over};
+pub use replay::{Asked, Question, replay_over};
 pub use self_test::self_on;
 pub use self_test_one_thread::self_in_one_thread;
-pub use serve::{ServeOptions, serve_on};
+pub use serve::{ServeOptions, is_refused, serve_on};
 pub use test_viewer::{Area, Fault, FaultKind, PixelFormat, Shown, Version};

@@ -12,7 +12,7 @@ ghost use Rattle.connections.specs.Drawing.{Draws};
 
 use crate::endings::{print_ends, print_judgement, written_out};
 use crate::serve::{Easel, ServeOptions, Stroke, WHITE, config_of, print_refusal};
-use event_loop::{Application, Canvas, EventLoop, Limits, LoopError, WhenFull};
+use event_loop::{Application, Canvas, EventLoop, Limits, LoopError, RecordWriter, WhenFull};
 use messages::Input;
 use mio::net::TcpListener;
 use play_script::trouble::{Trouble, report};
@@ -142,12 +142,56 @@ fn limits_of(options: &ServeOptions) -> Limits {
     }
 }
 
+/// Prints how the viewers ended, and what the run is judged to be, where that is wished. Returns the status.
+fn print_run<W: Write>(
+    alloc: Global,
+    config: &Config,
+    served: &EventLoop,
+    showing: &Showing,
+    options: &ServeOptions,
+    writer: &mut W,
+) -> Result<u8, Trouble>
+    requires { config_refusal config.now ≡ None }
+    ensures status { IfOk result (λ status. (status ≡ 0) ⊎ (status ≡ 1) ⊎ (status ≡ 4)) }
+    ensures judged { options.now.check ≡ true →
+        IfOk result (λ status. (status ≡ 1) ⊎ Judged (W.contents writer.old) (W.contents writer.new) status) }
+{
+    print_ends(alloc, writer, &showing.receipts)?;
+    if options.check {
+        return print_judgement(alloc, writer, judge(alloc, config, served, showing));
+    }
+    Ok(0)
+}
+
+/// Runs the loop to its end, and prints how the viewers ended. Returns the status.
+fn run_and_print<W: Write, R: Net + Clock>(
+    rt: &R,
+    alloc: Global,
+    config: &Config,
+    served: &mut EventLoop,
+    showing: &mut Showing,
+    options: &ServeOptions,
+    writer: &mut W,
+) -> Result<u8, Trouble>
+    requires { config_refusal config.now ≡ None }
+    ensures status { IfOk result (λ status. (status ≡ 0) ⊎ (status ≡ 1) ⊎ (status ≡ 4)) }
+    ensures judged { options.now.check ≡ true →
+        IfOk result (λ status. (status ≡ 1) ⊎ Judged (W.contents writer.old) (W.contents writer.new) status) }
+{
+    served.run(rt, showing).map_err(trouble_of)?;
+    showing
+        .receipts
+        .sort_unstable_by_key(|receipt| receipt.viewer);
+    print_run(alloc, config, served, showing, options, writer)
+}
+
 /// Serves the viewers, and says how they ended. The status.
 fn serve<W: Write, R: Net + Clock>(
     rt: &R,
     alloc: Global,
     listener: TcpListener,
     options: &ServeOptions,
+    record: Option<RecordWriter>,
     writer: &mut W,
 ) -> Result<u8, Trouble>
     ensures status { IfOk result (λ status. (status ≡ 0) ⊎ (status ≡ 1) ⊎ (status ≡ 4)) }
@@ -155,13 +199,13 @@ fn serve<W: Write, R: Net + Clock>(
         IfOk result (λ status. (status ≡ 1) ⊎ Judged (W.contents writer.old) (W.contents writer.new) status) }
 {
     let config = config_of(alloc, options)?;
-    let mut served = match EventLoop::new(
-        rt,
-        alloc,
-        listener,
-        config_of(alloc, options)?,
-        limits_of(options),
-    ) {
+    let asked = config_of(alloc, options)?;
+    let limits = limits_of(options);
+    let opened = match record {
+        Some(record) => EventLoop::recorded(rt, alloc, listener, asked, limits, record),
+        None => EventLoop::new(rt, alloc, listener, asked, limits),
+    };
+    let mut served = match opened {
         Ok(served) => served,
         Err(LoopError::Screen(refusal)) => return print_refusal(alloc, writer, refusal),
         Err(error) => return Err(trouble_of(error)),
@@ -176,31 +220,39 @@ fn serve<W: Write, R: Net + Clock>(
         receipts: Vec::new(alloc),
         viewers: options.viewers as usize,
     };
-    served.run(rt, &mut showing).map_err(trouble_of)?;
-    showing
-        .receipts
-        .sort_unstable_by_key(|receipt| receipt.viewer);
-    print_ends(alloc, writer, &showing.receipts)?;
-    if options.check {
-        print_judgement(alloc, writer, judge(alloc, &config, &served, &showing))
-    } else {
-        Ok(0)
+    let status = run_and_print(
+        rt,
+        alloc,
+        &config,
+        &mut served,
+        &mut showing,
+        options,
+        writer,
+    );
+    if !served.is_record_broken() {
+        return status;
     }
+    if let Err(trouble) = status {
+        let _status = report(writer, trouble);
+    }
+    Err(Trouble::RecordBroken)
 }
 
-/// `serve_on`, with one thread for all viewers. A viewer that has not had its ServerInit after ten seconds is let go, as `Closed`.
+/// `serve_on`, with one thread for all viewers. A viewer that has not had its ServerInit after ten seconds is let go, as `Closed`. With
+/// `record` the session is written there; where that ended before the run, the last line is `record broken` and the status 5.
 pub fn serve_in_one_thread<W: Write, R: Net + Clock>(
     rt: &R,
     alloc: Global,
     listener: TcpListener,
     options: &ServeOptions,
+    record: Option<RecordWriter>,
     writer: &mut W,
 ) -> u8
     ensures status { (result ≡ 0) ⊎ (result ≡ 1) ⊎ (result ≡ 3) ⊎ (result ≡ 4) ⊎ (result ≡ 5) }
     ensures judged { options.now.check ≡ true → ((result ≡ 0) ⊎ (result ≡ 4)) →
         Judged (W.contents writer.old) (W.contents writer.new) result }
 {
-    match serve(rt, alloc, listener, options, writer) {
+    match serve(rt, alloc, listener, options, record, writer) {
         Ok(status) => written_out(writer, status),
         Err(trouble) => report(writer, trouble),
     }

@@ -12,7 +12,7 @@ use messages::Input;
 use play_script::refusal_text;
 use play_script::trouble::{Trouble, print, report};
 use receipts::Receipt;
-use screen::{Config, History, LONGEST_TEXT, Listed, Rect, ScreenError};
+use screen::{Config, History, LONGEST_TEXT, Listed, Rect, ScreenError, config_refusal};
 use serving::{Application, ServeError, Told, serve_viewers};
 use std::alloc::{AllocError, Global};
 use std::io::Write;
@@ -168,6 +168,12 @@ pub(crate) fn config_of(alloc: Global, options: &ServeOptions) -> Result<Config,
         rects_per_update: options.limit,
         history,
     })
+}
+
+/// Whether the screen that the options say is refused, whatever memory there is.
+pub fn is_refused(options: &ServeOptions) -> bool {
+    let name = options.name.as_slice();
+    config_refusal(options.width, options.height, name, options.limit).is_some()
 }
 
 /// Prints a refused configuration. The status.

@@ -1,6 +1,6 @@
 -- Steps of a loop, one after the other.
 use Rattle.std.proofs.Common.{◌≡◌, ℕ, List, [], ◌∷◌, ◌++◌, Option, None, Some, Result, Ok, Err, refl, sym, ap, ◌∙◌, append_assoc, append-nil, subst, inr}
-use Rattle.std.specs.Prelude.{MatchOption, IsOkUnless}
+use Rattle.std.specs.Prelude.{IfOk, MatchOption, IsOkUnless}
 use Rattle.screen.specs.declared.ScreenError.{ScreenError}
 use Rattle.screen.specs.declared.ScreenError.TheVariants.{OutOfMemory}
 use Rattle.event_loop.specs.declared.event_loop.LoopError.{LoopError}
@@ -13,35 +13,35 @@ use Rattle.screen.specs.declared.Input.{Input}
 use Rattle.connections.specs.Telling.{inputs_after, Stays, IsTold}
 use Rattle.connections.specs.TellingLemmas.{inputs-append, told-nothing, told-all, told-then, told-ended}
 use Rattle.connections.specs.Recording.{none_yet}
-use Rattle.connections.specs.Serving.{Carried, Serving, Serves, GoesOn, GoesOnTelling}
-use Rattle.event_loop.specs.Sockets.{sockets, GoesOnServing, GoesOnServingTelling}
+use Rattle.connections.specs.Serving.{Began, Serving, Serves, GoesOn, GoesOnTelling}
+use Rattle.event_loop.specs.Sockets.{sockets_and, GoesOnServing, GoesOnServingTelling}
 
 pub on-then : (a b d : Serving) → GoesOnServing a b → GoesOnServing b d → GoesOnServing a d
-on-then a b d g h c list s =
-    let first = g c list s in
-    let second = h c (list ++ first.0) first.1 in (
+on-then a b d g h held c list s =
+    let first = g held c list s in
+    let second = h held c (list ++ first.0) first.1 in (
       first.0 ++ second.0,
-      subst (λ (l : List Event). Serves c (sockets c) l d) (append_assoc list first.0 second.0) second.1,
+      subst (λ (l : List Event). Serves c (sockets_and held c) l d) (append_assoc list first.0 second.0) second.1,
       inputs-append c list first.0 second.0 ∙ ap (λ l. l ++ inputs_after c (list ++ first.0) second.0) first.2 ∙ second.2,
     )
 
 pub on-same : (a b : Serving) → a ≡ b → GoesOnServing a b
-on-same a b is c list s = ([], subst (λ (l : List Event). Serves c (sockets c) l b) (sym (append-nil list)) (subst (λ (x : Serving). Serves c (sockets c) list x) is s), refl)
+on-same a b is held c list s = ([], subst (λ (l : List Event). Serves c (sockets_and held c) l b) (sym (append-nil list)) (subst (λ (x : Serving). Serves c (sockets_and held c) list x) is s), refl)
 
 -- what goes on for any transports goes on for sockets
 pub on-from : (a before b : Serving) → before ≡ a → GoesOn before b → GoesOnServing a b
-on-from a before b is g c list s = g c (sockets c) list (subst (λ (x : Serving). Serves c (sockets c) list x) (sym is) s)
+on-from a before b is g held c list s = g c (sockets_and held c) list (subst (λ (x : Serving). Serves c (sockets_and held c) list x) (sym is) s)
 
 pub on-by : (a before b : Serving) → before ≡ a → GoesOnServing before b → GoesOnServing a b
-on-by a before b is g c list s = g c list (subst (λ (x : Serving). Serves c (sockets c) list x) (sym is) s)
+on-by a before b is g held c list s = g held c list (subst (λ (x : Serving). Serves c (sockets_and held c) list x) (sym is) s)
 
 -- a socket is admitted
 pub on-admitted : (a before b : Serving) → before ≡ a
-    → ((c : Config) (began : ℕ → Carried) (list : List Event) → Serves c began list before → began before.next ≡ record { unread = None; written = None; sent = none_yet before.kept } → Serves c began (list ++ Connect before.next ∷ []) b)
+    → ((c : Config) (began : Began) (list : List Event) → Serves c began list before → began.carried before.next ≡ record { unread = None; written = None; sent = none_yet before.kept } → Serves c began (list ++ Connect before.next ∷ []) b)
     → GoesOnServing a b
-on-admitted a before b is admits c list s =
-    let t : Serves c (sockets c) list before = subst (λ (x : Serving). Serves c (sockets c) list x) (sym is) s in
-    (Connect before.next ∷ [], admits c (sockets c) list t (ap (λ kept. record { unread = None; written = None; sent = none_yet kept }) (sym t.kept)), refl)
+on-admitted a before b is admits held c list s =
+    let t : Serves c (sockets_and held c) list before = subst (λ (x : Serving). Serves c (sockets_and held c) list x) (sym is) s in
+    (Connect before.next ∷ [], admits c (sockets_and held c) list t (ap (λ kept. record { unread = None; written = None; sent = none_yet kept }) (sym t.kept)), refl)
 
 module _ {A : Type 0} (stands : A → List (ℕ × Input) → Type 0) where
   -- an application was told all
@@ -53,28 +53,43 @@ module _ {A : Type 0} (stands : A → List (ℕ × Input) → Type 0) where
 
   -- it is told nothing
   pub tells-silently : {X E : Type 0} (x y : A) (r : Result X E) (a b : Serving) → Stays stands x y → GoesOnServing a b → GoesOnServingTelling stands a b x y r
-  tells-silently x y r a b stays g c list s = let p = g c list s in (p.0, p.1, subst (λ l. IsTold stands l x y r) (sym p.2) (told-stays x y r stays))
+  tells-silently x y r a b stays g held c list s = let p = g held c list s in (p.0, p.1, subst (λ l. IsTold stands l x y r) (sym p.2) (told-stays x y r stays))
 
   pub tells-all : {X E : Type 0} (x y : A) (r : Result X E) (value : X) (a b : Serving) → r ≡ Ok value → GoesOnServingTelling stands a b x y r → GoesOnServingTelling {X = Unit {0}} {E = LoopError} stands a b x y (Ok tt)
-  tells-all x y r value a b ok g c list s = let p = g c list s in (p.0, p.1, told-all stands x y (inputs_after c list p.0) r value ok p.2)
+  tells-all x y r value a b ok g held c list s = let p = g held c list s in (p.0, p.1, told-all stands x y (inputs_after c list p.0) r value ok p.2)
 
   -- it was told all, and is told more
   pub tells-then : {X E : Type 0} (x y z : A) (r : Result X E) (a b d : Serving) → TellsAll a b x y → GoesOnServingTelling stands b d y z r → GoesOnServingTelling stands a d x z r
-  tells-then x y z r a b d g h c list s =
-      let first = g c list s in
-      let second = h c (list ++ first.0) first.1 in (
+  tells-then x y z r a b d g h held c list s =
+      let first = g held c list s in
+      let second = h held c (list ++ first.0) first.1 in (
         first.0 ++ second.0,
-        subst (λ (l : List Event). Serves c (sockets c) l d) (append_assoc list first.0 second.0) second.1,
+        subst (λ (l : List Event). Serves c (sockets_and held c) l d) (append_assoc list first.0 second.0) second.1,
         subst (λ l. IsTold stands l x z r) (sym (inputs-append c list first.0 second.0)) (told-then stands x y z (inputs_after c list first.0) (inputs_after c (list ++ first.0) second.0) r first.2 second.2),
+      )
+
+  -- it was told, and then nothing more
+  pub tells-before : {X E : Type 0} (x y : A) (r : Result X E) (a b d : Serving) → GoesOnServingTelling stands a b x y r → GoesOnServing b d → GoesOnServingTelling stands a d x y r
+  tells-before x y r a b d g h held c list s =
+      let first = g held c list s in
+      let second = h held c (list ++ first.0) first.1 in (
+        first.0 ++ second.0,
+        subst (λ (l : List Event). Serves c (sockets_and held c) l d) (append_assoc list first.0 second.0) second.1,
+        subst (λ l. IsTold stands l x y r) (sym (inputs-append c list first.0 second.0 ∙ ap (λ l. inputs_after c list first.0 ++ l) second.2 ∙ append-nil (inputs_after c list first.0))) first.2,
       )
 
   -- as an error says that ended it
   pub tells-ended : {X Y E F : Type 0} (x y : A) (q : Result X E) (r : Result Y F) (f : F) (a b : Serving) → r ≡ Err f → GoesOnServingTelling stands a b x y q → GoesOnServingTelling stands a b x y r
-  tells-ended x y q r f a b err g c list s = let p = g c list s in (p.0, p.1, told-ended stands x y (inputs_after c list p.0) q r f err p.2)
+  tells-ended x y q r f a b err g held c list s = let p = g held c list s in (p.0, p.1, told-ended stands x y (inputs_after c list p.0) q r f err p.2)
 
   -- what goes on for any transports goes on for sockets
   pub tells-from : {X E : Type 0} (x y : A) (r : Result X E) (a before b : Serving) → before ≡ a → GoesOnTelling stands before b x y r → GoesOnServingTelling stands a b x y r
-  tells-from x y r a before b is g c list s = g c (sockets c) list (subst (λ (x : Serving). Serves c (sockets c) list x) (sym is) s)
+  tells-from x y r a before b is g held c list s = g c (sockets_and held c) list (subst (λ (x : Serving). Serves c (sockets_and held c) list x) (sym is) s)
+
+-- a loop's connections are those that it was made of
+pub served-same : (c : Config) (began : Began) (list : List Event) (made : Serving) (r : Result Serving LoopError) → IfOk r (λ served. served ≡ made) → Serves c began list made → IfOk r (λ served. Serves c began list served)
+served-same c began list made (Ok served) same s = subst (λ (x : Serving). Serves c began list x) (sym same) s
+served-same c began list made (Err e) same s = tt
 
 -- connections that were refused are no loop
 pub refused-connections : {X : Type 0} (Y : Type 0) (made : Result X ScreenError) (refusal : ScreenError) (due : Option ScreenError) → made ≡ Err refusal → MatchOption due (IsOkUnless made OutOfMemory) (λ e. made ≡ Err e)

@@ -1,22 +1,23 @@
 //! The loop.
 
-ghost use Rattle.std.specs.Prelude.{◌≡◌, ◌≢◌, ℕ, [], None, Some, Ok, Err, false, IfOk, OnOk, MatchOption, is_some, IsSome, count_by};
+ghost use Rattle.std.specs.Prelude.{◌≡◌, ◌≢◌, ℕ, [], None, Some, Ok, Err, false, IfOk, OnOk, MatchOption, is_some, IsSome, count_by, option_map};
 ghost use Rattle.std.specs.Borrow.{sem};
 ghost use Rattle.std.specs.Duration.{as_nanos};
 ghost use Rattle.screen.specs.declared.Config.{Config};
 ghost use Rattle.screen.specs.Alone.{config_refusal};
 ghost use Rattle.connections.specs.Telling.{Stays};
 ghost use Rattle.connections.specs.Serving.{Serves, number_at};
+ghost use Rattle.connections.specs.Recorded.{IsFlushed, bytes_held, held_by, is_broken};
 ghost use Rattle.event_loop.specs.declared.event_loop.WhenFull.TheVariants as when_full;
 ghost use Rattle.event_loop.specs.Lending.{lends_canvas};
 ghost use Rattle.event_loop.specs.declared.event_loop.LoopError.TheVariants as error;
-ghost use Rattle.event_loop.specs.Sockets.{sockets, GoesOnServing, GoesOnServingTelling};
+ghost use Rattle.event_loop.specs.Sockets.{sockets, sockets_and, GoesOnServing, GoesOnServingTelling};
 ghost use Rattle.event_loop.specs.Opening.{IsOpenedOr};
 
 use crate::opening::Newcomers;
 use crate::poller::{Found, Poller, found_in};
 use crate::socket::Socket;
-use connections::{Application, Canvas, Config, Connections, Screen, ScreenError};
+use connections::{Application, Canvas, Config, Connections, RecordWriter, Screen, ScreenError};
 use mio::Waker;
 use mio::event::Event;
 use mio::net::{TcpListener, TcpStream};
@@ -206,7 +207,7 @@ impl EventLoop {
     pub fn new<R: Net>(
         rt: &R,
         alloc: Global,
-        mut listener: TcpListener,
+        listener: TcpListener,
         config: Config,
         limits: Limits,
     ) -> Result<EventLoop, LoopError>
@@ -214,10 +215,42 @@ impl EventLoop {
         ensures accepted { OnOk result (config_refusal config ≡ None) }
         ensures refused { MatchOption (config_refusal config) (IsOpenedOr result) (λ e. result ≡ Err (error.Screen e)) }
     {
-        let connections = match Connections::new(alloc, config) {
-            Ok(connections) => connections,
-            Err(refusal) => return Err(LoopError::Screen(refusal)),
-        };
+        match Connections::new(alloc, config) {
+            Ok(connections) => EventLoop::of(rt, alloc, listener, connections, limits),
+            Err(refusal) => Err(LoopError::Screen(refusal)),
+        }
+    }
+
+    /// The same, and what happens to the screen is written as a session, which `vncdemo replay` reads. What waits of it is written before
+    /// each wait, and by `flush_record`. Where a write fails the record ends, and nothing else changes.
+    pub fn recorded<R: Net>(
+        rt: &R,
+        alloc: Global,
+        listener: TcpListener,
+        config: Config,
+        limits: Limits,
+        writer: RecordWriter,
+    ) -> Result<EventLoop, LoopError>
+        ensures serves { IfOk result (λ served. Serves config (sockets_and (Some (bytes_held writer)) config) [] served) }
+        ensures accepted { OnOk result (config_refusal config ≡ None) }
+        ensures refused { MatchOption (config_refusal config) (IsOpenedOr result) (λ e. result ≡ Err (error.Screen e)) }
+    {
+        match Connections::recorded(alloc, config, writer) {
+            Ok(connections) => EventLoop::of(rt, alloc, listener, connections, limits),
+            Err(refusal) => Err(LoopError::Screen(refusal)),
+        }
+    }
+
+    fn of<R: Net>(
+        rt: &R,
+        alloc: Global,
+        mut listener: TcpListener,
+        connections: Connections<Socket>,
+        limits: Limits,
+    ) -> Result<EventLoop, LoopError>
+        ensures opened { IsOpenedOr result }
+        ensures same { IfOk result (λ served. served ≡ connections) }
+    {
         let poller = Poller::new(rt, alloc).map_err(|_| LoopError::Network)?;
         if poller.add_listener(&mut listener).is_err() {
             return Err(LoopError::Network);
@@ -251,6 +284,29 @@ impl EventLoop {
         ensures value { result.now ≡ self.old.surface }
     {
         self.connections.canvas()
+    }
+
+    /// Writes what waits of the record, where there is one.
+    pub fn flush_record(&mut self)
+        ensures served { GoesOnServing self.old self.new }
+        ensures flushed { IsFlushed self.new.surface.scribed }
+    {
+        self.connections.flush_record();
+    }
+
+    /// Returns what was written of the record so far, where it is written to memory; None without a record, and where it goes to a file.
+    pub fn record_in_memory(&self) -> Option<&[u8]>
+        ensures { option_map (λ bytes. bytes.now) result ≡ held_by self.now.surface.scribed }
+    {
+        self.connections.record_in_memory()
+    }
+
+    /// Returns whether the record has ended before its session: a write failed, or memory for a region's rectangles was refused. Nothing
+    /// more is written of it then.
+    pub fn is_record_broken(&self) -> bool
+        ensures { result ≡ is_broken self.now.surface.scribed }
+    {
+        self.connections.is_record_broken()
     }
 
     /// How many viewers are connected.
@@ -318,8 +374,21 @@ impl EventLoop {
         self.come_and_go(now, application)
     }
 
-    /// Turns until the application is done.
+    /// Turns until the application is done. What waits of the record is written at the end, also after an error.
     pub fn run<C: Clock, A: Application>(
+        &mut self,
+        clock: &C,
+        application: &mut A,
+    ) -> Result<(), LoopError>
+        ensures served { GoesOnServingTelling A.stands self.old self.new application.old application.new result }
+    {
+        let ended = self.run_on(clock, application);
+        self.flush_record();
+        ended
+    }
+
+    /// Turns until the application is done.
+    fn run_on<C: Clock, A: Application>(
         &mut self,
         clock: &C,
         application: &mut A,
@@ -373,6 +442,7 @@ impl EventLoop {
     fn wait<C: Clock>(&mut self, clock: &C, timeout: Option<Duration>) -> Result<Instant, LoopError>
         ensures served { GoesOnServing self.old self.new }
     {
+        self.connections.flush_record();
         let wait = self.wait_for(now_by(clock)?, timeout);
         if self.poller.wait(wait).is_err() {
             return Err(LoopError::Network);

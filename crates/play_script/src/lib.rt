@@ -23,4 +23,4 @@ pub use play::{play_counted, play_over};
 pub use reading::SCRIPT_LIMIT;
 pub use steps::Steps;
 pub use texts::{answer_text, bad_line_text, ok_text, refusal_text};
-pub use words::split_line;
+pub use words::{number, signed, split_line, split_word, word, word_count};

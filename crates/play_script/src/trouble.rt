@@ -13,6 +13,7 @@ pub enum Trouble {
     ReadFault,
     TooLong,
     NetworkFault,
+    RecordBroken,
     WriteFault,
 }
 
@@ -62,6 +63,7 @@ pub fn report<W: Write>(writer: &mut W, trouble: Trouble) -> u8
         Trouble::ReadFault => (b"read fault\n", 5),
         Trouble::TooLong => (b"too long\n", 5),
         Trouble::NetworkFault => (b"network fault\n", 5),
+        Trouble::RecordBroken => (b"record broken\n", 5),
         Trouble::WriteFault => return 5,
     };
     if print(writer, line).is_err() || flush(writer).is_err() {

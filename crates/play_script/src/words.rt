@@ -34,7 +34,15 @@ pub fn split_line(text: &[u8]) -> (&[u8], Option<&[u8]>)
     split_at(text, b'\n')
 }
 
-// A line's word by its number; an empty one where there are not so many.
+/// The first word of a line, and what stands behind its blank, if there is one.
+pub fn split_word(line: &[u8]) -> (&[u8], Option<&[u8]>)
+    ensures words { words_of line.now ≡ result.0.now ∷ option_map_or (λ rest. words_of rest.now) result.1 [] }
+    ensures less { IfSome result.1 (λ rest. length rest.now < length line.now) }
+{
+    split_at(line, b' ')
+}
+
+/// A line's word by its number; an empty one where there are not so many.
 pub fn word(line: &[u8], index: usize) -> &[u8]
     ensures { result.now ≡ word_of (words_of line.now) index }
 {
@@ -48,7 +56,7 @@ pub fn word(line: &[u8], index: usize) -> &[u8]
     }
 }
 
-// How many words a line has.
+/// How many words a line has.
 pub fn word_count(line: &[u8]) -> usize
     ensures { result ≡ length (words_of line.now) }
 {

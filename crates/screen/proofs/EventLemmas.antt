@@ -163,6 +163,10 @@ pictures-painted c list s f left top (q ∷ qs) pieces wide high =
     ∙ ap (painted left top qs) one
 
 -- one more of them
+pub paints-taken : (left top : ℕ) (qs : List Piece) (i : ℕ) (d : Piece) → i < length qs → paints_of left top (take i qs) ++ paint_of left top (get_or qs i d) ∷ [] ≡ paints_of left top (take (i + 1) qs)
+paints-taken left top qs i d below = sym (map_more (paint_of left top) qs i d below)
+
+-- and behind a list
 pub paints-more : (list : List Event) (left top : ℕ) (qs : List Piece) (i : ℕ) (d : Piece) → i < length qs
     → (list ++ paints_of left top (take i qs)) ++ paint_of left top (get_or qs i d) ∷ [] ≡ list ++ paints_of left top (take (i + 1) qs)
 paints-more list left top qs i d below =

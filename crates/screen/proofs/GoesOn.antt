@@ -2,7 +2,7 @@
 use Rattle.std.proofs.Common.{◌≡◌, ◌≢◌, ℕ, Bool, true, false, List, [], ◌∷◌, ◌++◌, Option, Some, None, Result, Ok, Err, refl, sym, subst, ◌∙◌, ap}
 use Rattle.std.specs.Prelude.{is_none, is_some, option_map, if◌then◌else◌, MatchOption, MatchResult, IsErrAnd, is_err, IfSome, ◌&&◌}
 use Rattle.std.proofs.lemmas.Result.{err_from_is_err_and}
-use Rattle.std.proofs.lemmas.List.{append-nil, append_assoc}
+use Rattle.std.proofs.lemmas.List.{append-nil}
 use Rattle.scene.specs.declared.Config.{Config}
 use Rattle.scene.specs.declared.History.{History}
 use Rattle.scene.specs.declared.History.TheVariants.{Kept, NotKept}
@@ -17,33 +17,12 @@ use Rattle.scene.specs.declared.call.Drawing.TheVariants as Drawn
 use Rattle.scene.specs.Calls.{call_refusal, event_of}
 use Rattle.scene.specs.Alone.{Tells, some_bytes, gives}
 use Rattle.scene.specs.Answers.{answer_to, refused_or_nothing, SceneState, scene_after}
-use Rattle.scene.specs.History.{has_happened, accepted_after, accepted, accepted_is_enough, accepted_happens_again}
+use Rattle.scene.specs.History.{has_happened, accepted, accepted_is_enough, accepted_happens_again}
+use Rattle.screen.specs.HappeningLemmas.{accepted-append}
 use Rattle.screen.specs.State.{State, with_history, scene_of, history_by, history_of, state, kept_is_enough}
 
 abbrev if_happened : Bool → Event → List Event → List Event
 if_happened b e rest = if b then e ∷ rest else rest
-
--- the events that happened, with one event more
-accepted-append : (c : Config) (before es : List Event) (e : Event)
-    → accepted_after c before (es ++ e ∷ []) ≡ accepted_after c before es ++ if_happened (has_happened e (answer_to c (before ++ es) e)) e []
-accepted-append c before [] e = ap (λ l. if_happened (has_happened e (answer_to c l e)) e []) (sym (append-nil before))
-accepted-append c before (x ∷ es) e =
-    go (has_happened x (answer_to c before x))
-    (accepted-append c (before ++ x ∷ []) es e
-    ∙ ap (λ l. accepted_after c (before ++ x ∷ []) es ++ if_happened (has_happened e (answer_to c l e)) e []) (append_assoc before (x ∷ []) es))
-  where
-    more : List Event
-    more = accepted_after c (before ++ x ∷ []) (es ++ e ∷ [])
-
-    less : List Event
-    less = accepted_after c (before ++ x ∷ []) es
-
-    last : List Event
-    last = if_happened (has_happened e (answer_to c (before ++ x ∷ es) e)) e []
-
-    go : (b : Bool) → more ≡ less ++ last → if_happened b x more ≡ if_happened b x less ++ last
-    go true h = ap (λ l. x ∷ l) h
-    go false h = h
 
 -- one more that happened is kept last
 history-goes_on : (c : Config) (list : List Event) (e : Event) → has_happened e (answer_to c list e) ≡ true

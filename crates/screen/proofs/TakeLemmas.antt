@@ -51,6 +51,13 @@ partly_taken s left top config list old new qs error accepted stands pieces even
       (partly s (part_from old.picture left top) left top qs old.picture x y accepted pieces wide high);
 }
 
+-- the same, where something holds of what was painted
+pub partly_told : (told : List Event → Type 0) (s : Source) (left top : ℕ) (config : Config) (list : List Event) (old new : State) (qs : List Piece) (error : ScreenError) → source_refusal s ≡ None → old ≡ state config list
+    → All (IsPiece s (part_from old.picture left top)) qs → new ≡ state config (list ++ paints_of left top qs) → error ≡ OutOfMemory → told (paints_of left top qs)
+    → (taken : IsPartlyTaken s left top config list old new error) × told (paints_of left top taken.pieces)
+unfolding partly_taken
+partly_told told s left top config list old new qs error accepted stands pieces events memory holds = (partly_taken s left top config list old new qs error accepted stands pieces events memory, holds)
+
 -- no further piece is refused
 pub accepted_behind : (s : Source) (left top : ℕ) (config : Config) (list : List Event) (old now : State) (qs : List Piece) (q : Piece) → old ≡ state config list → All (IsPiece s (part_from old.picture left top)) qs
     → now ≡ state config (list ++ paints_of left top qs) → IsPiece s (part_from old.picture left top) q → pixels_refusal now.picture.width now.picture.height (piece_rect left top q) q.colours ≡ None

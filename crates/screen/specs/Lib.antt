@@ -1,7 +1,10 @@
 pub mod State
 pub mod Taken
+pub mod Happening
+pub mod HappeningLemmas
 pub mod Paints
 pub mod Takes
+pub mod TakesLemmas
 pub mod TakenExamples
 pub use Rattle.scene.specs.Alone
 pub use Rattle.scene.specs.Answers

@@ -7,6 +7,7 @@ use Rattle.scene.specs.declared.ScreenError.TheVariants.{OutOfMemory}
 use Rattle.scene.specs.declared.Event.{Event}
 use Rattle.scene.specs.declared.Event.TheVariants.{Paint}
 use Rattle.screen.specs.State.{State, state}
+use Rattle.screen.specs.Happening.{AllHappen}
 use Rattle.screen.specs.Taken.{piece_rect}
 
 abbrev pub paint_of : ℕ → ℕ → Piece → Event
@@ -24,3 +25,9 @@ pub record AreFirstPainted (left top : ℕ) (config : Config) (list : List Event
 -- a screen that stood for some events stands for them with the paints of some pieces behind them
 abbrev pub PaintsPieces : ℕ → ℕ → Config → List Event → List Piece → State → Result (Unit {0}) ScreenError → Type 0
 PaintsPieces left top config list pieces new result = MatchResult result (λ _. new ≡ state config (list ++ paints_of left top pieces)) (λ e. AreFirstPainted left top config list pieces new e)
+
+-- the same; these paints happened, and someone was told of just these
+abbrev pub PaintsTold : ℕ → ℕ → Config → List Event → List Piece → (List Event → Type 0) → State → Result (Unit {0}) ScreenError → Type 0
+PaintsTold left top config list pieces told new result =
+    MatchResult result (λ _. (new ≡ state config (list ++ paints_of left top pieces)) × told (paints_of left top pieces) × AllHappen config list (paints_of left top pieces))
+    (λ e. (first : AreFirstPainted left top config list pieces new e) × told (paints_of left top (take first.count pieces)) × AllHappen config list (paints_of left top (take first.count pieces)))

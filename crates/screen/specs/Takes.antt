@@ -28,3 +28,9 @@ pub record IsPartlyTaken (s : Source) (left top : ℕ) (config : Config) (list :
 
 abbrev pub Takes : Source → ℕ → ℕ → Config → List Event → State → State → Result ℕ ScreenError → Type 0
 Takes s left top config list old new result = MatchResult result (λ places. IsTaken s left top config list old new places) (λ e. IsPartlyTaken s left top config list old new e)
+
+-- the same, where something holds of the paints besides
+abbrev pub TakesTelling : (List Event → Type 0) → Source → ℕ → ℕ → Config → List Event → State → State → Result ℕ ScreenError → Type 0
+TakesTelling told s left top config list old new result = MatchResult result
+    (λ places. (taken : IsTaken s left top config list old new places) × told (paints_of left top taken.pieces))
+    (λ e. (taken : IsPartlyTaken s left top config list old new e) × told (paints_of left top taken.pieces))

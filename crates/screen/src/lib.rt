@@ -31,6 +31,7 @@ mod part;
 mod runs;
 mod screen;
 mod taking;
+mod witness;
 
 pub use kept_events::list_for;
 pub use listed::Listed;
@@ -48,6 +49,7 @@ pub use source_pixels::{
 };
 pub use taking::rect_of;
 pub use viewer::{BitsPerPixel, Component, Encoding, PixelFormat, Pixels, Settings, Update};
+pub use witness::{Nobody, Witness};
 
 /// The error of a call that is refused memory.
 pub use std::alloc::AllocError as OutOfMemory;

@@ -16,6 +16,7 @@ ghost use Rattle.scene.specs.Answers.{answer_to};
 ghost use Rattle.scene.specs.Refusals.{absence, presence, Refuses};
 ghost use Rattle.viewer.specs.Given.{bytes_given};
 ghost use Rattle.screen.specs.State.{state, viewer_at, refusal};
+ghost use Rattle.screen.specs.Happening.{AllHappen};
 
 use crate::kept_events::{KeptEvents, has_happened};
 use listed::Listed;
@@ -196,6 +197,7 @@ impl Screen {
     pub fn draw(&mut self, drawing: &Drawing<'_>) -> Result<(), ScreenError>
         ensures step { (config : Config) (list : List Event) → self.old ≡ state config list →
             OnOk result (self.new ≡ state config (list ++ event_of drawing.now ∷ [])) }
+        ensures happened { (config : Config) (list : List Event) → self.old ≡ state config list → OnOk result (AllHappen config list (event_of drawing.now ∷ [])) }
         ensures answer { (config : Config) (list : List Event) → self.old ≡ state config list →
             Tells (λ _. nothing_to_say) result (answer_to config list (event_of drawing.now)) }
         ensures refused { Refuses result (refusal self.old (event_of drawing.now)) }
@@ -218,6 +220,7 @@ impl Screen {
     pub fn paint(&mut self, rect: Rect, colours: &[u32]) -> Result<(), ScreenError>
         ensures step { (config : Config) (list : List Event) → self.old ≡ state config list →
             OnOk result (self.new ≡ state config (list ++ Event.Paint rect colours.now ∷ [])) }
+        ensures happened { (config : Config) (list : List Event) → self.old ≡ state config list → OnOk result (AllHappen config list (Event.Paint rect colours.now ∷ [])) }
         ensures answer { (config : Config) (list : List Event) → self.old ≡ state config list →
             Tells (λ _. nothing_to_say) result (answer_to config list (Event.Paint rect colours.now)) }
         ensures refused { Refuses result (refusal self.old (Event.Paint rect colours.now)) }

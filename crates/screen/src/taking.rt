@@ -10,12 +10,14 @@ ghost use Rattle.source_pixels.specs.declared.pieces.Piece.{Piece};
 ghost use Rattle.source_pixels.specs.Source.{source_refusal};
 ghost use Rattle.source_pixels.specs.Differences.{AreDifferences};
 ghost use Rattle.screen.specs.Taken.{part_from, painted, piece_rect, taken};
+ghost use Rattle.screen.specs.Happening.{AllHappen};
 ghost use Rattle.screen.specs.Paints.{paints_of};
-ghost use Rattle.screen.specs.Takes.{Takes};
+ghost use Rattle.screen.specs.Takes.{Takes, TakesTelling};
 
 use crate::Screen;
 use crate::painting::{paint_bands, rect_at};
 use crate::part::{ScreenPart, end_of_rows};
+use crate::witness::{Nobody, Witness};
 use region::Rect;
 use scene::ScreenError;
 use source_pixels::{Differences, Piece, PixelSource, find_bands, find_differences};
@@ -75,6 +77,24 @@ impl Screen {
             (pieces : List Piece) × (self.new ≡ state config (list ++ paints_of left top pieces)) }
         ensures none { IfOk result (λ places. places ≡ 0 → self.new ≡ self.old) }
     {
+        self.take_told(alloc, left, top, source, &mut Nobody)
+    }
+
+    /// The same, and a witness is told of each rectangle that is painted.
+    pub fn take_told<T: Witness>(
+        &mut self,
+        alloc: Global,
+        left: u32,
+        top: u32,
+        source: &PixelSource<'_>,
+        witness: &mut T,
+    ) -> Result<usize, ScreenError>
+        ensures takes { (config : Config) (list : List Event) → config_refusal config ≡ None → self.old ≡ state config list →
+            TakesTelling (λ es. T.was_told es witness.old witness.new × AllHappen config list es) source.now left top config list self.old self.new result }
+        ensures paints { (config : Config) (list : List Event) → self.old ≡ state config list →
+            (pieces : List Piece) × (self.new ≡ state config (list ++ paints_of left top pieces)) × T.was_told (paints_of left top pieces) witness.old witness.new × AllHappen config list (paints_of left top pieces) }
+        ensures none { IfOk result (λ places. places ≡ 0 → self.new ≡ self.old) }
+    {
         let mut colours = Vec::new(alloc);
         let mut places = 0;
         let mut y = 0;
@@ -91,7 +111,7 @@ impl Screen {
                 end,
             )?;
             let bands = found.bands.as_slice();
-            paint_bands(self, left, top, source, bands, &mut colours)?;
+            paint_bands(self, witness, left, top, source, bands, &mut colours)?;
             places += found.places;
             y = end;
         }

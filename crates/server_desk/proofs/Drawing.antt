@@ -19,6 +19,8 @@ use Rattle.screen.specs.State.{State, state, refusal}
 use Rattle.connections.specs.Drawing.{Surface, IsNotedAfter, IsDrawnFrom}
 use Rattle.connections.specs.Serving.{Serving, Serves, drawn_is_served}
 use Rattle.event_loop.specs.Sockets.{sockets}
+use Rattle.connections.specs.Recorded.{RecordsMore}
+use Rattle.connections.specs.RecordedLemmas.{records-still}
 use Rattle.screen_desk.specs.Codes.{Answers, IsRefusal, code_of, done, shut}
 use Rattle.screen_desk.specs.Desk.{IsListOf, due_by, far_or_none}
 use Rattle.server_desk.specs.declared.visits.Visit.{Visit}
@@ -52,20 +54,22 @@ was_refused (Ok x) code is not_done p = absurd (not_done is)
 was_refused (Err x) code is not_done p = p
 
 -- one call that was noted: it happened, or was refused
-call_drawn : (c : Config) (list : List Event) (e : Event) (a b : Surface) → IsNotedAfter e a b → is_drawing (owner_of e) ≡ true → b.screen ≡ state c (list ++ e ∷ []) → IsDrawnFrom c list a b
-call_drawn c list e a b noted own screen = record {
+call_drawn : (c : Config) (list : List Event) (e : Event) (a b : Surface) → IsNotedAfter e a b → is_drawing (owner_of e) ≡ true → b.screen ≡ state c (list ++ e ∷ []) → RecordsMore c list (e ∷ []) a.scribed b.scribed → IsDrawnFrom c list a b
+call_drawn c list e a b noted own screen recorded = record {
   calls = e ∷ [];
   drawings = and_from _ _ own refl;
   screen = screen;
+  recorded = recorded;
   none = λ no. absurd (true≢false (sym noted.drawn ∙ no));
   quiet = λ fine. let parts = or_parts _ _ (sym noted.noticed ∙ fine) in (parts.1, or_from _ _ parts.0 refl);
 }
 
-call_undrawn : (c : Config) (list : List Event) (e : Event) (a b : Surface) → IsNotedAfter e a b → b.screen ≡ state c list → IsDrawnFrom c list a b
-call_undrawn c list e a b noted screen = record {
+call_undrawn : (c : Config) (list : List Event) (e : Event) (a b : Surface) → IsNotedAfter e a b → b.screen ≡ state c list → b.scribed ≡ a.scribed → IsDrawnFrom c list a b
+call_undrawn c list e a b noted screen still = record {
   calls = [];
   drawings = refl;
   screen = screen ∙ ap (state c) (sym (append-nil list));
+  recorded = records-still c list a.scribed b.scribed still;
   none = λ no. absurd (true≢false (sym noted.drawn ∙ no));
   quiet = λ fine. ((or_parts _ _ (sym noted.noticed ∙ fine)).1, refl);
 }
@@ -73,11 +77,12 @@ call_undrawn c list e a b noted screen = record {
 pub draws : drawn_is_served → (desk : Standing) (before : Option Serving) (s : Serving) (a t : Surface) (e : Event) (result : Result (Unit {0}) ScreenError) (number code : ℤ) (port : ℕ) (inputs : List (ℕ × Input)) (visits : List Visit) (text : List ℕ) (lost full : ℕ)
     → number ≡ code → record { served = before; port = port; inputs = inputs; visits = visits; text = text; lost = lost; full_requests = full } ≡ desk → before ≡ Some s → a ≡ s.surface → is_drawing (owner_of e) ≡ true → IsCodeOf result code
     → ((due : Option ScreenError) → Refuses result due → Answers (option_map code_of due) (λ n. n ≡ done) code)
-    → ((c : Config) (list : List Event) → a.screen ≡ state c list → OnOk result (t.screen ≡ state c (list ++ e ∷ []))) → Refuses result (refusal a.screen e) → OnErr result (t.screen ≡ a.screen) → IsNotedAfter e a t
+    → ((c : Config) (list : List Event) → a.screen ≡ state c list → OnOk result (t.screen ≡ state c (list ++ e ∷ [])))
+    → ((c : Config) (list : List Event) → a.screen ≡ state c list → OnOk result (RecordsMore c list (e ∷ []) a.scribed t.scribed)) → OnErr result (t.scribed ≡ a.scribed) → Refuses result (refusal a.screen e) → OnErr result (t.screen ≡ a.screen) → IsNotedAfter e a t
     → Draws e desk (record { served = Some (record s { surface = t }); port = port; inputs = inputs; visits = visits; text = text; lost = lost; full_requests = full }) number
 unfolding call_drawn call_undrawn
-draws law desk before s a t e result number code port inputs visits text lost full number_is view is same own code_is answers step refuses err noted =
-    rw (sym view) (rw is (rw number_is (subst (λ (x : Surface). ((c : Config) (list : List Event) → x.screen ≡ state c list → OnOk result (t.screen ≡ state c (list ++ e ∷ []))) → Refuses result (refusal x.screen e) → OnErr result (t.screen ≡ x.screen) → IsNotedAfter e x t → Draws e (standing s) (standing later) code) (sym same) drawn step refuses err noted)))
+draws law desk before s a t e result number code port inputs visits text lost full number_is view is same own code_is answers step recorded unrecorded refuses err noted =
+    rw (sym view) (rw is (rw number_is (subst (λ (x : Surface). ((c : Config) (list : List Event) → x.screen ≡ state c list → OnOk result (t.screen ≡ state c (list ++ e ∷ []))) → ((c : Config) (list : List Event) → x.screen ≡ state c list → OnOk result (RecordsMore c list (e ∷ []) x.scribed t.scribed)) → OnErr result (t.scribed ≡ x.scribed) → Refuses result (refusal x.screen e) → OnErr result (t.screen ≡ x.screen) → IsNotedAfter e x t → Draws e (standing s) (standing later) code) (sym same) drawn step recorded unrecorded refuses err noted)))
   where
     standing : Serving → Standing
     standing s = record { served = Some s; port = port; inputs = inputs; visits = visits; text = text; lost = lost; full_requests = full }
@@ -85,17 +90,18 @@ draws law desk before s a t e result number code port inputs visits text lost fu
     later : Serving
     later = record s { surface = t }
 
-    drawn : ((c : Config) (list : List Event) → s.surface.screen ≡ state c list → OnOk result (t.screen ≡ state c (list ++ e ∷ []))) → Refuses result (refusal s.surface.screen e) → OnErr result (t.screen ≡ s.surface.screen) → IsNotedAfter e s.surface t
+    drawn : ((c : Config) (list : List Event) → s.surface.screen ≡ state c list → OnOk result (t.screen ≡ state c (list ++ e ∷ [])))
+        → ((c : Config) (list : List Event) → s.surface.screen ≡ state c list → OnOk result (RecordsMore c list (e ∷ []) s.surface.scribed t.scribed)) → OnErr result (t.scribed ≡ s.surface.scribed) → Refuses result (refusal s.surface.screen e) → OnErr result (t.screen ≡ s.surface.screen) → IsNotedAfter e s.surface t
         → Draws e (standing s) (standing later) code
-    drawn step refuses err noted = record {
+    drawn step recorded unrecorded refuses err noted = record {
       answer = answers (refusal s.surface.screen e) refuses;
-      step = λ c list stands is_done. law c (sockets c) list s t (call_drawn c list e s.surface t noted own (happened result code code_is is_done (step c list stands.screen))) stands;
+      step = λ c list stands is_done. law c (sockets c) list s t (call_drawn c list e s.surface t noted own (happened result code code_is is_done (step c list stands.screen)) (happened result code code_is is_done (recorded c list stands.screen))) stands;
       same = refl;
       refused = λ not_done.
           let as_before = was_refused result code code_is not_done err in
           record {
             screen = ap Some as_before;
-            served = λ c list stands. subst (λ (l : List Event). Serves c (sockets c) l later) (append-nil list) (law c (sockets c) list s t (call_undrawn c list e s.surface t noted (as_before ∙ stands.screen)) stands);
+            served = λ c list stands. subst (λ (l : List Event). Serves c (sockets c) l later) (append-nil list) (law c (sockets c) list s t (call_undrawn c list e s.surface t noted (as_before ∙ stands.screen) (was_refused result code code_is not_done unrecorded)) stands);
             same = refl;
           };
     }

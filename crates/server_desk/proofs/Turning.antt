@@ -1,6 +1,7 @@
 -- Turns, and what begins them.
 use Rattle.std.proofs.Common.{◌≡◌, ◌≢◌, ◌≤◌, ◌<◌, ◌-◌, ◌+◌, ◌^◌, ℕ, zero, suc, ℤ, List, [], ◌++◌, length, take, Option, Some, None, Result, Ok, Err, refl, sym, ap, ◌∙◌, inl, inr, subst, append-nil, arith}
-use Rattle.std.specs.Prelude.{IfErr, OnOk, option_map, min, ◌⊎◌}
+use Rattle.std.specs.declared.alloc.AllocError.{AllocError}
+use Rattle.std.specs.Prelude.{Bool, false, IfErr, OnOk, option_map, min, ◌⊎◌}
 use Rattle.std.proofs.lemmas.List.{length-take}
 use Rattle.screen.specs.declared.Input.{Input}
 use Rattle.screen.specs.declared.Config.{Config}
@@ -9,19 +10,19 @@ use Rattle.screen.specs.declared.ScreenError.{ScreenError}
 use Rattle.screen.specs.declared.ScreenError.TheVariants.{OutOfMemory}
 use Rattle.screen.specs.declared.ScreenError.TheVariants as refusals
 use Rattle.screen.specs.Alone.{config_refusal}
-use Rattle.connections.specs.Serving.{Serving, Serves}
+use Rattle.connections.specs.Serving.{Serving, Serves, number_at}
 use Rattle.connections.specs.Telling.{inputs_after}
-use Rattle.event_loop.specs.Sockets.{sockets}
+use Rattle.event_loop.specs.Sockets.{sockets, GoesOnServing}
 use Rattle.event_loop.specs.declared.event_loop.LoopError.{LoopError}
 use Rattle.event_loop.specs.declared.event_loop.LoopError.TheVariants.{Network, Clock, Screen}
 use Rattle.screen_desk.specs.Codes.{Answers, code_of, done, out_of_memory}
 use Rattle.server_desk.specs.declared.listening.ListenError.{ListenError}
 use Rattle.server_desk.specs.declared.listening.ListenError.TheVariants.{Refused, BadAddress, CannotListen}
 use Rattle.server_desk.specs.declared.visits.Visit.{Visit}
-use Rattle.server_desk.specs.Codes.{bad_address, cannot_listen, turn_code}
+use Rattle.server_desk.specs.Codes.{bad_address, cannot_listen, closed_code, turn_code}
 use Rattle.server_desk.specs.Listening.{IsOfSystem, IsRefusedBy, listen_code}
 use Rattle.server_desk.specs.Desk.{Standing, IsKept, IsPutBehind}
-use Rattle.server_desk.specs.Calls.{Listens, TakesTurn}
+use Rattle.server_desk.specs.Calls.{LetsGo, Listens, TakesTurn}
 use Rattle.server_desk.proofs.Keeping.{part-first}
 
 -- ---- listening
@@ -170,5 +171,17 @@ no-turn desk before s port inputs inputs_kept visits visits_kept text lost full 
       visits = puts-none 1024 visits visits_kept visits_are;
       lost = omega arith;
       full_requests = omega arith;
+      same = refl;
+    })))
+
+-- a viewer is let go, where one has the number
+pub lets_go : (desk : Standing) (before : Option Serving) (s t : Serving) (v : ℕ) (there : Result Bool AllocError) (number code : ℤ) (port : ℕ) (inputs : List (ℕ × Input)) (visits : List Visit) (text : List ℕ) (lost full : ℕ)
+    → number ≡ code → record { served = before; port = port; inputs = inputs; visits = visits; text = text; lost = lost; full_requests = full } ≡ desk → before ≡ Some s → code ≡ closed_code there
+    → (there ≡ Ok false → (key : ℕ) → number_at s.slots key ≢ Some v) → GoesOnServing s t
+    → LetsGo v desk (record { served = Some t; port = port; inputs = inputs; visits = visits; text = text; lost = lost; full_requests = full }) number
+lets_go desk before s t v there number code port inputs visits text lost full number_is view is code_is none goes =
+    rw (sym view) (rw is (rw number_is (record {
+      answer = (there, code_is, none);
+      served = λ c list stands. let p = goes None c list stands in (p.0, p.1);
       same = refl;
     })))

@@ -1,16 +1,19 @@
-//! The program `vncdemo`: its command line, `play` on standard input and output, `serve` on a port of 127.0.0.1, and `self`.
+//! The program `vncdemo`: its command line, `play` on standard input and output, `serve` on a port of 127.0.0.1, `self`, and `replay` of
+//! a file.
 #![tactic(auto)]
 
 use clap::error::ErrorKind;
 use demo_app::{
-    Chosen, ServeOptions, line_of, play_over, self_in_one_thread, self_on, serve_in_one_thread,
-    serve_on,
+    Asked, Chosen, RecordWriter, ServeOptions, is_refused, line_of, play_over, replay_over,
+    self_in_one_thread, self_on, serve_in_one_thread, serve_on,
 };
 use std::alloc::Global;
-use std::io::{BufWriter, Write};
+use std::fs::{File, OpenOptions};
+use std::io::{BufReader, BufWriter, Write};
 use std::net::{Ipv4Addr, Net, SocketAddr, TcpListener, TcpStream};
+use std::os::unix::fs::OpenOptionsExt;
 use std::process::ExitCode;
-use std::rt::Runtime;
+use std::rt::{Files, Runtime};
 use std::sync::Wait;
 use std::thread::Threads;
 use std::time::Clock;
@@ -54,16 +57,47 @@ fn serve_by_threads<
     Some(serve_on(rt, alloc, &listener, options, writer))
 }
 
-fn serve_by_one<W: Write, R: Net + Clock>(
+/// Makes a file that wasn't there, which its owner alone may read.
+fn new_file<R: Files<File = File>>(rt: &R, path: &str) -> io::Result<File> {
+    OpenOptions::new()
+        .write(true)
+        .create_new(true)
+        .mode(0o600)
+        .open(rt, path)
+}
+
+/// Makes the file that the session of `options` is recorded in, where one is wanted. A screen that will be refused gets none.
+fn record_in<R: Files<File = File>>(
+    rt: &R,
+    options: &ServeOptions,
+    path: Option<&str>,
+) -> io::Result<Option<RecordWriter>> {
+    let Some(path) = path else {
+        return Ok(None);
+    };
+    if is_refused(options) {
+        return Ok(None);
+    }
+    Ok(Some(RecordWriter::File(new_file(rt, path)?)))
+}
+
+fn serve_by_one<W: Write, R: Net + Clock + Files<File = File>>(
     rt: &R,
     alloc: Global,
     port: u16,
     options: &ServeOptions,
+    record: Option<&str>,
     writer: &mut W,
 ) -> Option<u8> {
     let address = SocketAddr::from((Ipv4Addr::LOCALHOST, port));
     let listener = mio::net::TcpListener::bind(rt, address).ok()?;
-    Some(serve_in_one_thread(rt, alloc, listener, options, writer))
+    let Ok(record) = record_in(rt, options, record) else {
+        // The status is the same where this can't be written.
+        let _ = writer.write_all(b"cannot record\n");
+        let _ = writer.flush();
+        return Some(5);
+    };
+    Some(serve_in_one_thread(rt, alloc, listener, options, record, writer))
 }
 
 /// How a command works for its viewers.
@@ -73,19 +107,27 @@ enum Way {
     OneThread,
 }
 
-fn serve<R: Runtime + Threads + Wait + Net<Listener = TcpListener, Stream = TcpStream> + Sync>(
-    rt: &R,
-    alloc: Global,
-    way: Way,
-    port: u16,
-    options: &ServeOptions,
-) -> ExitCode {
+/// How `serve` works for them, and where one thread records the session.
+#[derive(Clone, Copy)]
+enum Serving<'a> {
+    ByThreads,
+    ByOne(Option<&'a str>),
+}
+
+fn serve<
+    R: Runtime
+        + Files<File = File>
+        + Threads
+        + Wait
+        + Net<Listener = TcpListener, Stream = TcpStream>
+        + Sync,
+>(rt: &R, alloc: Global, way: Serving<'_>, port: u16, options: &ServeOptions) -> ExitCode {
     let Ok(mut writer) = BufWriter::new(alloc, io::writer(rt)) else {
         return out_of_memory(rt);
     };
     let served = match way {
-        Way::Threads => serve_by_threads(rt, alloc, port, options, &mut writer),
-        Way::OneThread => serve_by_one(rt, alloc, port, options, &mut writer),
+        Serving::ByThreads => serve_by_threads(rt, alloc, port, options, &mut writer),
+        Serving::ByOne(record) => serve_by_one(rt, alloc, port, options, record, &mut writer),
     };
     // After a write fault nothing more is written: what the buffer holds is let go.
     let _ = writer.into_parts();
@@ -113,6 +155,26 @@ fn own<R: Runtime + Threads + Wait + Net<Listener = TcpListener, Stream = TcpStr
     ExitCode::from(status)
 }
 
+fn replay(rt: &HostRuntime, file: &str, asked: Asked) -> ExitCode {
+    let alloc = rt.alloc();
+    let Ok(file) = File::open(rt, file) else {
+        // The status is the same where this can't be printed.
+        let _ = eprintln!(rt; "read fault");
+        return ExitCode::from(5);
+    };
+    let Ok(mut reader) = BufReader::new(alloc, file) else {
+        return out_of_memory(rt);
+    };
+    let Ok(mut writer) = BufWriter::new(alloc, io::writer(rt)) else {
+        return out_of_memory(rt);
+    };
+    let mut errors = rt.stderr();
+    let status = replay_over(alloc, &mut reader, &mut writer, &mut errors, asked);
+    // After a write fault nothing more is written: what the buffer holds is let go.
+    let _ = writer.into_parts();
+    ExitCode::from(status)
+}
+
 fn main(rt: HostRuntime) -> ExitCode {
     let Ok(words) = words(&rt) else {
         return out_of_memory(&rt);
@@ -120,12 +182,25 @@ fn main(rt: HostRuntime) -> ExitCode {
     let alloc = rt.alloc();
     match line_of(alloc, &words) {
         Ok(Chosen::Play) => play(&rt),
-        Ok(Chosen::Serve { port, options }) => serve(&rt, alloc, Way::Threads, port, &options),
-        Ok(Chosen::ServeInOneThread { port, options }) => {
-            serve(&rt, alloc, Way::OneThread, port, &options)
+        Ok(Chosen::Serve { port, options }) => {
+            serve(&rt, alloc, Serving::ByThreads, port, &options)
         }
+        Ok(
+            Chosen::ServeInOneThread {
+                port,
+                options,
+                record,
+            },
+        ) => serve(
+            &rt,
+            alloc,
+            Serving::ByOne(record.as_deref()),
+            port,
+            &options,
+        ),
         Ok(Chosen::Own { viewers }) => own(&rt, alloc, Way::Threads, viewers),
         Ok(Chosen::OwnInOneThread { viewers }) => own(&rt, alloc, Way::OneThread, viewers),
+        Ok(Chosen::Replay { file, asked }) => replay(&rt, &file, asked),
         Err(error) if error.kind() == ErrorKind::OutOfMemory => out_of_memory(&rt),
         Err(error) => {
             // Where standard error fails too, there is nobody left to tell.

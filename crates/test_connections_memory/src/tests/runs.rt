@@ -5,7 +5,7 @@
 use super::line::{Line, Talk, Then};
 use super::steps::{ALL, Counting, End, Step, holds, line, turns, whole};
 use connections::{
-    Both, Config, Connections, Departed, Ended, Fault, History, Listed, ScreenError,
+    Both, Config, Connections, Departed, Ended, Fault, History, Listed, RecordWriter, ScreenError,
 };
 use std::alloc::{AllocError, Global};
 use std::process::Abort;
@@ -80,6 +80,31 @@ fn runs_come_to_what_they_say(rt: HostRuntime) -> Result<(), Fail> {
     for run in &RUNS {
         let wrong = wrong_in(rt.alloc(), run)?;
         assert!(rt; wrong == 0, "{}: step {wrong} is wrong", run.name);
+    }
+    Ok(())
+}
+
+/// Whether a run comes to what it says where its session is recorded, in memory; and to this record, where one is given.
+fn is_recorded(alloc: Global, run: &Run, session: Option<&[u8]>) -> Result<bool, ScreenError> {
+    let flood = flood(alloc, run.flood)?;
+    let config = config(alloc, run.size, run.history)?;
+    let writer = RecordWriter::Memory(Vec::new(alloc));
+    let mut connections = Connections::recorded(alloc, config, writer)?;
+    let wrong = first_wrong(alloc, &mut connections, &flood, run.steps)?;
+    connections.flush_record();
+    let is_session = session.is_none() || connections.record_in_memory() == session;
+    Ok(wrong == 0 && is_session && !connections.is_record_broken())
+}
+
+/// What is recorded of `RUN`: the screen, what it is painted in, and what its viewer does. Each number stands in it as in the run.
+const SESSION: &[u8] = b"screen 4 3 demo 50\npaint 0 0 4 3 00000a\nconnect 1\n\
+    hear 1 524642203030332e3030380a010103000000000000040003\ncut 1\nclose 1\n";
+
+#[test]
+fn sessions_are_recorded_as_they_happen(rt: HostRuntime) -> Result<(), Fail> {
+    assert!(rt; is_recorded(rt.alloc(), &RUN, Some(SESSION))?);
+    for run in &RUNS {
+        assert!(rt; is_recorded(rt.alloc(), run, None)?, "{}", run.name);
     }
     Ok(())
 }

@@ -43,11 +43,20 @@ fn text_of(alloc: Global, chosen: &Chosen) -> Result<String, AllocError> {
     match chosen {
         Chosen::Play => String::from_str(alloc, "play"),
         Chosen::Serve { port, options } => text_of_serve(alloc, "serve", *port, options),
-        Chosen::ServeInOneThread { port, options } => {
-            text_of_serve(alloc, "serve in one thread", *port, options)
+        Chosen::ServeInOneThread {
+            port,
+            options,
+            record,
+        } => {
+            let text = text_of_serve(alloc, "serve in one thread", *port, options)?;
+            match record {
+                Some(file) => format!(in alloc; "{text}, recorded in {file}"),
+                None => Ok(text),
+            }
         }
         Chosen::Own { viewers } => format!(in alloc; "self {viewers}"),
         Chosen::OwnInOneThread { viewers } => format!(in alloc; "self in one thread {viewers}"),
+        Chosen::Replay { file, asked } => format!(in alloc; "replay {file}, {asked:?}"),
     }
 }
 
@@ -110,11 +119,15 @@ const HELP_OF_PLAY: &[&str] = &[
 ];
 
 // The commands whose options are read by commands of their own.
-const OTHER_COMMANDS: &[&str] = &["\n  serve  shows ", "\n  self   serves "];
+const OTHER_COMMANDS: &[&str] = &[
+    "\n  serve  shows ",
+    "\n  self   serves ",
+    "\n  replay reads ",
+];
 
 const VIEWERS_OF_SELF: &str = " how many viewers there are, 1 to 8 [default: 2]\n";
 
-static LINES: [(&str, Outcome); 28] = [
+static LINES: [(&str, Outcome); 38] = [
     ("vncdemo play", Is("play")),
     ("vncdemo", REFUSED),
     ("vncdemo --help", Has("refused: ", OTHER_COMMANDS)),
@@ -161,4 +174,36 @@ static LINES: [(&str, Outcome); 28] = [
     ("vncdemo self --viewers 0", REFUSED),
     ("vncdemo self --viewers 9", REFUSED),
     ("vncdemo self --viewers two", REFUSED),
+    // records
+    (
+        "vncdemo serve --one-thread --record kept.txt",
+        Is("serve in one thread 5900, 640 by 480, demo, 50, 1, check: false, recorded in kept.txt"),
+    ),
+    (
+        "vncdemo serve --record kept.txt",
+        Has(
+            "refused: ",
+            &["a session is recorded with '--one-thread' alone"],
+        ),
+    ),
+    ("vncdemo serve --one-thread --record", REFUSED),
+    (
+        "vncdemo replay kept.txt",
+        Is("replay kept.txt, Asked { question: Viewers, lines: 18446744073709551615 }"),
+    ),
+    (
+        "vncdemo replay kept.txt --viewer 3",
+        Is("replay kept.txt, Asked { question: Sent(3), lines: 18446744073709551615 }"),
+    ),
+    (
+        "vncdemo replay --viewer 3 --picture --line 7 kept.txt",
+        Is("replay kept.txt, Asked { question: Seen(3), lines: 7 }"),
+    ),
+    (
+        "vncdemo replay kept.txt --picture",
+        Is("replay kept.txt, Asked { question: Drawn, lines: 18446744073709551615 }"),
+    ),
+    ("vncdemo replay", REFUSED),
+    ("vncdemo replay kept.txt --viewer -1", REFUSED),
+    ("vncdemo replay kept.txt --line last", REFUSED),
 ];

@@ -3,15 +3,20 @@
 ghost use Rattle.std.specs.Prelude.{◌≡◌, ◌<◌};
 
 use super::clients::{Client, talk_all};
-use demo_app::{ServeOptions, serve_in_one_thread, serve_on};
+use demo_app::{
+    Asked, Question, RecordWriter, ServeOptions, replay_over, serve_in_one_thread, serve_on,
+};
 use listed::Listed;
 use serving::{
     Application, Brush, Config, History, Input, ScreenError, ServeError, Shared, Told,
     serve_viewers,
 };
 use std::alloc::{AllocError, Global};
+use std::fs::{File, OpenOptions};
+use std::io::BufReader;
 use std::marker::Brand;
 use std::net::{Ipv4Addr, Net, SocketAddr, TcpListener, TcpStream};
+use std::rt::Files;
 use std::sync::Wait;
 use std::sync::ledger::{Blank, Ledger};
 use std::test::Fail;
@@ -65,10 +70,17 @@ fn comes_out<R: Threads + Wait + Clock + Net<Listener = TcpListener, Stream = Tc
     Ok(talked? && ended == run.status && is_printed)
 }
 
-// The same of one thread that serves all.
+// The same of one thread that serves all. With a record something may be printed behind it, with another status.
 fn comes_out_of_one_thread<
     R: Threads + Wait + Clock + Net<Listener = TcpListener, Stream = TcpStream> + Sync,
->(rt: &R, alloc: Global, run: &Run) -> io::Result<bool> {
+>(
+    rt: &R,
+    alloc: Global,
+    run: &Run,
+    record: Option<RecordWriter>,
+    behind: &[u8],
+    status: u8,
+) -> io::Result<bool> {
     let options = options(alloc, run)?;
     let address = SocketAddr::from((Ipv4Addr::LOCALHOST, 0));
     let listener = mio::net::TcpListener::bind(rt, address)?;
@@ -77,9 +89,9 @@ fn comes_out_of_one_thread<
     let (talked, ended) = thread::join(
         rt,
         move || talk_all(rt, alloc, address, run.clients, run.together),
-        || serve_in_one_thread(rt, alloc, listener, &options, &mut out),
+        || serve_in_one_thread(rt, alloc, listener, &options, record, &mut out),
     );
-    Ok(talked? && ended == run.status && out.as_slice() == run.by_one)
+    Ok(talked? && ended == status && out.strip_suffix(behind) == Some(run.by_one))
 }
 
 #[test]
@@ -87,11 +99,58 @@ fn viewers_are_served_by_threads_and_by_one(rt: HostRuntime) -> Result<(), Fail>
     for run in &RUNS {
         assert!(rt; comes_out(&rt, rt.alloc(), run)?, "{}", run.name);
         assert!(rt;
-            comes_out_of_one_thread(&rt, rt.alloc(), run)?,
+            comes_out_of_one_thread(&rt, rt.alloc(), run, None, b"", run.status)?,
             "in one thread: {}",
             run.name
         );
     }
+    Ok(())
+}
+
+// Whether a session that was recorded in a new file is replayed: what its viewer was sent.
+fn is_replayed<
+    R: Threads
+        + Wait
+        + Clock
+        + Files<File = File>
+        + Net<Listener = TcpListener, Stream = TcpStream>
+        + Sync,
+>(rt: &R, alloc: Global) -> io::Result<bool> {
+    let file = OpenOptions::new()
+        .write(true)
+        .create_new(true)
+        .open(rt, "session.txt")?;
+    let record = Some(RecordWriter::File(file));
+    let is_served = comes_out_of_one_thread(rt, alloc, &SEES_ALL, record, b"", 0)?;
+    let mut reader = BufReader::new(alloc, File::open(rt, "session.txt")?)?;
+    let (mut out, mut errors) = (Vec::new(alloc), Vec::new(alloc));
+    let asked = Asked {
+        question: Question::Sent(1),
+        lines: u64::MAX,
+    };
+    let status = replay_over(alloc, &mut reader, &mut out, &mut errors, asked);
+    let is_sent = out.strip_prefix(GREETING) == Some(BLACK);
+    Ok(is_served && status == 0 && is_sent && errors.is_empty())
+}
+
+// Whether a record in a file that takes nothing is told as broken, while the viewer is served.
+fn is_told_where_full<
+    R: Threads
+        + Wait
+        + Clock
+        + Files<File = File>
+        + Net<Listener = TcpListener, Stream = TcpStream>
+        + Sync,
+>(rt: &R, alloc: Global) -> io::Result<bool> {
+    let file = OpenOptions::new().write(true).open(rt, "/dev/full")?;
+    let record = Some(RecordWriter::File(file));
+    comes_out_of_one_thread(rt, alloc, &SEES_ALL, record, b"record broken\n", 5)
+}
+
+#[test]
+fn sessions_are_recorded_in_files(rt: HostRuntime) -> Result<(), Fail> {
+    assert!(rt; is_replayed(&rt, rt.alloc())?);
+    assert!(rt; is_told_where_full(&rt, rt.alloc())?);
     Ok(())
 }
 

@@ -28,7 +28,7 @@ returns-clause-heard g c =
     let waiting : p.waiting ≡ e.waiting = ap (λ (x : ViewerConnection). x.waiting) counted in
     turn-heard g.A.Application.stands c.args.application.now c.tell.new.application c.tell.result c.as_slice-2.result.now c.args.canvas.now c.hear.new.self c.tell.new.canvas e f c.number-viewer.result c.args.piece.now bytes c.number-viewer.ensures
     (ap (λ (x : Surface). x.drawn) c.hear.ensures.same) (ap (λ (x : Surface). x.noticed) c.hear.ensures.same) (ap (λ (k : Known). k.may_cut) known) (ap (λ (k : Known). k.may_ask) known)
-    c.in-Ok.ensures.step (λ config list h. c.as_slice.ensures ∙ c.in-Ok.ensures.answer config list h) (λ config list h. c.as_slice-2.ensures ∙ c.in-Ok.ensures.inputs config list h)
+    c.in-Ok.ensures.step c.in-Ok.ensures.recorded (λ config list h. c.as_slice.ensures ∙ c.in-Ok.ensures.answer config list h) (λ config list h. c.as_slice-2.ensures ∙ c.in-Ok.ensures.inputs config list h)
     (counted-same e p f counted c.give.ensures.same)
     (subst (λ (w : Waiting). breaks_off f.ended ≡ false → waiting_bytes f.waiting ≡ waiting_bytes w ++ bytes) waiting c.give.ensures.bytes) c.give.ensures.few c.tell.ensures.draws
     (subst (λ n. IsTold g.A.Application.stands (said_by n c.as_slice-2.result.now) c.args.application.now c.tell.new.application c.tell.result) refl c.tell.ensures.told)

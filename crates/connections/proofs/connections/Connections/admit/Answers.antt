@@ -20,7 +20,7 @@ returns-clause-serves g c = λ config began list s start.
     let known = ap (λ (x : ViewerConnection). x.known) c.give.ensures.same ∙ c.new-connection.ensures.known in
     admitted config began list c.args.self.now inside.canvas c.connect.new.self inside.is_kept inside.next c.in-Some.next c.reserve.new.self c.insert_reserved-key.new.self inside.agenda.list inside.asking.list
     c.insert_reserved.new.self.list c.insert_reserved-2.new.self.list
-    key f c.as_slice.result.now _ (slots ∙ c.self.view_is) (λ h. c.in_ok-version.ensures.step config list h) (λ h. c.as_slice.ensures ∙ c.in_ok-version.ensures.answer config list h) c.in-Some.ensures.1
+    key f c.as_slice.result.now _ (slots ∙ c.self.view_is) (λ h. c.in_ok-version.ensures.step config list h) (λ h. c.in_ok-version.ensures.recorded config list h) (λ h. c.as_slice.ensures ∙ c.in_ok-version.ensures.answer config list h) c.in-Some.ensures.1
     c.insert_reserved-key.ensures.was_vacant c.insert_reserved-key.ensures.updates
     (ap (λ (x : ViewerConnection). x.number) c.give.ensures.same ∙ c.new-connection.ensures.number)
     (ap (λ (x : ViewerConnection). x.carried) c.give.ensures.same ∙ c.new-connection.ensures.carried)

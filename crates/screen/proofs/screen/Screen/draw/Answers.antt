@@ -4,6 +4,7 @@ use Rattle.scene.specs.declared.Event.{Event}
 use Rattle.scene.specs.Alone.{nothing_to_say}
 use Rattle.scene.specs.Answers.{answer_to, SceneState}
 use Rattle.scene.specs.Calls.{call_refusal, event_of}
+use Rattle.screen.specs.HappeningLemmas.{one-happens}
 use Rattle.screen.proofs.GoesOn.{goes_on, scene-is, told-unrefused, tells-memory, drawing-due, drawing-happened}
 use Rattle.screen.proofs.screen.Screen.draw.Goals as goal
 
@@ -19,6 +20,13 @@ returns-clause-step c = λ config list h.
     (drawing-happened c.args.drawing.now (answer_to config list event) (told-unrefused (λ _. nothing_to_say) c.in_ok-draw.field-0 (answer_to config list event) (c.in_ok-draw.ensures.answer config list scene)))
     (c.push.ensures ∙ ap (option_map (λ (es : List Event). es ++ copy ∷ [])) c.in_ok-make_room.ensures.same)
     (λ kept. c.in_ok-event.ensures kept)
+
+pub returns-clause-happened : goal.returns-clause-happened
+returns-clause-happened c = λ config list h.
+    let event = event_of c.args.drawing.now in
+    let scene = scene-is c.self.inside.scene c.self.inside.events.events.items config list (c.self.view_is ∙ h) in
+    one-happens config list event
+    (drawing-happened c.args.drawing.now (answer_to config list event) (told-unrefused (λ _. nothing_to_say) c.in_ok-draw.field-0 (answer_to config list event) (c.in_ok-draw.ensures.answer config list scene)))
 
 pub returns-in_err-make_room-clause-answer : goal.returns-in_err-make_room-clause-answer
 returns-in_err-make_room-clause-answer c = λ config list h.

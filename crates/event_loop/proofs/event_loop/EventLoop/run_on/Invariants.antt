@@ -1,5 +1,5 @@
 use Rattle.event_loop.proofs.Steps.{TellsAll}
-use Rattle.event_loop.proofs.event_loop.EventLoop.run.Given as goal
+use Rattle.event_loop.proofs.event_loop.EventLoop.run_on.Given as goal
 
 -- so far the application was told all
 abbrev pub invariant-loop : goal.invariant-loop

@@ -1,6 +1,6 @@
 use Rattle.std.proofs.Common.{◌≡◌, ◌⊎◌, ℕ, Result, Ok, Err, IfOk, inl, inr}
 use Rattle.demo_app.proofs.JudgedLemmas.{judged_here, judged_last}
-use Rattle.demo_app.proofs.one_thread.serve.Goals as goal
+use Rattle.demo_app.proofs.one_thread.print_run.Goals as goal
 
 -- a judgement's status is one of serving
 widened : {E : Type 0} (r : Result ℕ E) → IfOk r (λ s. (s ≡ 0) ⊎ (s ≡ 4)) → IfOk r (λ s. (s ≡ 0) ⊎ ((s ≡ 1) ⊎ (s ≡ 4)))

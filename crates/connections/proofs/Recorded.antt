@@ -1,0 +1,59 @@
+-- What is written of a call that the screen took.
+use Rattle.std.proofs.Common.{◌≡◌, ◌≢◌, ℕ, Bool, true, false, List, [], ◌∷◌, ◌++◌, Option, Some, None, Result, Ok, Err, OnOk, refl, sym, ap, ◌∙◌, subst}
+use Rattle.std.specs.Prelude.{◌&&◌, is_none, MatchOption}
+use Rattle.std.proofs.lemmas.Bool.{and_from}
+use Rattle.screen.specs.declared.Config.{Config}
+use Rattle.screen.specs.declared.Event.{Event}
+use Rattle.screen.specs.declared.Event.TheVariants.{Cut}
+use Rattle.screen.specs.declared.Answer.{Answer}
+use Rattle.screen.specs.declared.ScreenError.{ScreenError}
+use Rattle.screen.specs.Alone.{Tells, gives, some_bytes}
+use Rattle.screen.specs.Answers.{answer_to}
+use Rattle.screen.specs.History.{has_happened, accepted}
+use Rattle.screen.specs.HappeningLemmas.{one-happens, none-happens, told-accepted}
+use Rattle.viewer.specs.Given.{bytes_given}
+use Rattle.scribe.specs.Scribing.{Scribed}
+use Rattle.recorder.specs.Events.{event_line}
+use Rattle.connections.specs.Recorded.{PutsWhere, RecordsMore}
+use Rattle.connections.specs.RecordedLemmas.{lines-one, records-lines, records-nothing}
+
+-- an event that happened, and its line
+pub records-event : (c : Config) (list : List Event) (e : Event) (old new : Option Scribed) → has_happened e (answer_to c list e) ≡ true → PutsWhere (event_line e) old new → RecordsMore c list (e ∷ []) old new
+records-event c list e old new happened puts = records-lines c list (e ∷ []) old new (one-happens c list e happened) (lines-one e old new puts)
+
+-- a call that answered no error, where it isn't a cut
+pub records-told : {X : Type 0} (f : X → Answer) (x : X) (e : Event) (c : Config) (list : List Event) (old new : Option Scribed) → ((a : Answer) → has_happened e a ≡ is_none a.refused)
+    → Tells f (Ok x) (answer_to c list e) → PutsWhere (event_line e) old new → RecordsMore c list (e ∷ []) old new
+records-told f x e c list old new plain told puts = records-event c list e old new (plain (answer_to c list e) ∙ told-accepted f (Ok x) (answer_to c list e) told) puts
+
+abbrev pub cut_gives : Option (List ℕ) → Answer
+cut_gives update = gives (bytes_given update)
+
+some-bytes : (u : List ℕ) → u ≢ [] → some_bytes u ≡ true
+some-bytes [] h = absurd (h refl)
+some-bytes (b ∷ u) h = refl
+
+cut-happened : (v : ℕ) (u : List ℕ) (a : Answer) → u ≢ [] → Tells cut_gives (Ok (Some u)) a → has_happened (Cut v) a ≡ true
+cut-happened v u a some h = go a.refused refl h
+  where
+    go : (o : Option ScreenError) → a.refused ≡ o → MatchOption o (gives u ≡ a) (λ e. ◌≡◌ {A = Result (Option (List ℕ)) ScreenError} (Ok (Some u)) (Err e)) → has_happened (Cut v) a ≡ true
+    go None is h = and_from _ _ (ap is_none is) (ap (λ (b : Answer). some_bytes b.bytes) (sym h) ∙ some-bytes u some)
+    go (Some e) is h = absurd cc
+
+nothing-cut : (v : ℕ) (a : Answer) → Tells cut_gives (Ok None) a → has_happened (Cut v) a ≡ false
+nothing-cut v a h = go a.refused refl h
+  where
+    no-bytes : (b : Bool) → some_bytes a.bytes ≡ false → (b && some_bytes a.bytes) ≡ false
+    no-bytes true is = is
+    no-bytes false is = refl
+
+    go : (o : Option ScreenError) → a.refused ≡ o → MatchOption o (gives [] ≡ a) (λ e. ◌≡◌ {A = Result (Option (List ℕ)) ScreenError} (Ok None) (Err e)) → has_happened (Cut v) a ≡ false
+    go None is h = no-bytes (is_none a.refused) (ap (λ (b : Answer). some_bytes b.bytes) (sym h))
+    go (Some e) is h = absurd cc
+
+-- a cut that gave an update, and one that gave none
+pub records-cut : (c : Config) (list : List Event) (v : ℕ) (u : List ℕ) (old new : Option Scribed) → u ≢ [] → Tells cut_gives (Ok (Some u)) (answer_to c list (Cut v)) → PutsWhere (event_line (Cut v)) old new → RecordsMore c list (Cut v ∷ []) old new
+records-cut c list v u old new some told puts = records-event c list (Cut v) old new (cut-happened v u (answer_to c list (Cut v)) some told) puts
+
+pub records-uncut : (c : Config) (list : List Event) (v : ℕ) (s : Option Scribed) → Tells cut_gives (Ok None) (answer_to c list (Cut v)) → RecordsMore c list (Cut v ∷ []) s s
+records-uncut c list v s told = records-nothing c list (Cut v ∷ []) s s (none-happens c list (Cut v) (nothing-cut v (answer_to c list (Cut v)) told)) refl

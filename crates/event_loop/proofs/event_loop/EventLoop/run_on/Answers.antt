@@ -1,0 +1,20 @@
+use Rattle.std.proofs.Common.{Ok}
+use Rattle.std.proofs.lemmas.Result.{err_from_is_err_and}
+use Rattle.event_loop.specs.declared.event_loop.LoopError.{LoopError}
+use Rattle.event_loop.proofs.Steps.{tells-all, tells-then, tells-ended}
+use Rattle.event_loop.proofs.event_loop.EventLoop.run_on.Goals as goal
+
+pub returns-in_err-process_events : goal.returns-in_err-process_events
+returns-in_err-process_events g c =
+    let stands = g.A.Application.stands in
+    let error = err_from_is_err_and c.from_residual.result c.from_residual.ensures.1 in
+    record {
+      served = tells-then stands c.args.application.now c.loop.application c.process_events.new.application c.from_residual.result _ _ _ c.loop.invariant
+          (tells-ended stands c.loop.application c.process_events.new.application c.process_events.result c.from_residual.result error.0 _ _ error.1 c.process_events.ensures.served);
+    }
+
+pub loop-preserved : goal.loop-preserved
+loop-preserved g c =
+    let stands = g.A.Application.stands in
+    tells-then stands {X = Unit {0}} {E = LoopError} c.args.application.now c.loop.application c.process_events.new.application (Ok tt) _ _ _ c.loop.invariant
+    (tells-all stands c.loop.application c.process_events.new.application c.process_events.result c.in_ok-process_events.field-0 _ _ c.in_ok-process_events.was c.process_events.ensures.served)

@@ -1,0 +1,14 @@
+use Rattle.std.proofs.Common.{◌≤◌}
+use Rattle.replay.specs.Reading.{ahead}
+use Rattle.replay.proofs.Events.{SameEvents}
+use Rattle.replay.proofs.session.Session.next_event.Given as goal
+
+-- so far lines were skipped
+abbrev pub invariant-loop-line : goal.invariant-loop-line
+invariant-loop-line g l = record {
+  same : SameEvents (ahead l.fn.self.left (g.R.Read.remaining l.fn.self.reader.now)) (ahead l.self.left (g.R.Read.remaining l.self.reader.now));
+  fewer : l.self.left ≤ l.fn.self.left;
+}
+
+abbrev pub decreases-loop-line : goal.decreases-loop-line
+decreases-loop-line g l = l.self.left

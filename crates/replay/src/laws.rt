@@ -1,0 +1,39 @@
+//! What was recorded is read back.
+
+ghost use Rattle.replay.specs.Claims.{lines_are_read, sessions_are_read, beginnings_are_sessions, said_is_answered_alike, accepted_is_sent, accepted_is_sound, recorded_is_replayed};
+
+/// The line of a sound event is one line, and says the event; and so does that of a sound configuration.
+pub fn lines_are_read()
+    ensures { lines_are_read }
+{}
+
+/// What is read of a session's text is the session: all of it, and of its first lines the first events.
+pub fn sessions_are_read()
+    ensures { sessions_are_read }
+{}
+
+/// A session's text that was cut anywhere is read as a session of the first events, or has not the line of its screen.
+pub fn beginnings_are_sessions()
+    ensures { beginnings_are_sessions }
+{}
+
+/// What a session says is answered as what was recorded: the byte above a colour, which isn't said, changes nothing.
+pub fn said_is_answered_alike()
+    ensures { said_is_answered_alike }
+{}
+
+/// What happened sends each viewer what all events send it: a refused event, and a cut that gave nothing, sent nothing.
+pub fn accepted_is_sent()
+    ensures { accepted_is_sent }
+{}
+
+/// What happened is sound, so its lines are read back: of values of their types, a screen refuses what a line can't say.
+pub fn accepted_is_sound()
+    ensures { accepted_is_sound }
+{}
+
+/// What is read of a record sends each viewer what it was sent. Of a record that was cut anywhere, or of its first lines, it sends a
+/// beginning of that.
+pub fn recorded_is_replayed()
+    ensures { recorded_is_replayed }
+{}

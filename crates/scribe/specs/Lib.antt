@@ -1,0 +1,2 @@
+pub mod Scribing
+pub mod ScribingLemmas

@@ -1,0 +1,235 @@
+// Each session with a question, and what is answered; then lines that end a session.
+
+use Question::{Drawn, Seen, Sent, Viewers};
+use replay::{Asked, Question, replay_over};
+use std::alloc::Global;
+use std::test::Fail;
+
+/// A session, what is asked of it and of how many lines, what is written, and the status.
+#[derive(Clone, Copy)]
+struct Case {
+    name: &'static str,
+    session: &'static [u8],
+    question: Question,
+    lines: u64,
+    answer: &'static [u8],
+}
+
+// Whether a session is answered so, with nothing said of errors.
+fn is_answered(alloc: Global, case: &Case) -> bool {
+    let asked = Asked {
+        question: case.question,
+        lines: case.lines,
+    };
+    let mut written = Vec::new(alloc);
+    let mut errors = Vec::new(alloc);
+    let mut reader = case.session;
+    let status = replay_over(alloc, &mut reader, &mut written, &mut errors, asked);
+    status == 0 && written.as_slice() == case.answer && errors.is_empty()
+}
+
+#[test]
+fn sessions_are_answered(rt: HostRuntime) -> Result<(), Fail> {
+    for case in &CASES {
+        assert!(rt; is_answered(rt.alloc(), case), "{}", case.name);
+    }
+    Ok(())
+}
+
+// Whether the fourth line of a session, which is this one, ends it.
+fn ends_session(alloc: Global, line: &str) -> Result<bool, Fail> {
+    let session = format!(in alloc; "{OPENED}{line}\nbell\n")?;
+    let asked = Asked {
+        question: Viewers,
+        lines: u64::MAX,
+    };
+    let mut written = Vec::new(alloc);
+    let mut errors = Vec::new(alloc);
+    let mut reader = session.as_bytes();
+    let status = replay_over(alloc, &mut reader, &mut written, &mut errors, asked);
+    Ok(status == 1 && written.is_empty() && errors.as_slice() == b"bad line 4\n".as_slice())
+}
+
+#[test]
+fn bad_lines_end_a_session(rt: HostRuntime) -> Result<(), Fail> {
+    for line in &BAD_LINES {
+        assert!(rt; ends_session(rt.alloc(), line)?, "{line}");
+    }
+    Ok(())
+}
+
+// A writer with room for 20 bytes takes the first 20 and then fails.
+#[test]
+fn a_write_that_fails(rt: HostRuntime) -> Result<(), Fail> {
+    let asked = Asked {
+        question: Sent(1),
+        lines: u64::MAX,
+    };
+    let mut room = [0; 20];
+    let mut writer = room.as_mut_slice();
+    let mut errors = Vec::new(rt.alloc());
+    let mut reader = OPENED.as_bytes();
+    let status = replay_over(rt.alloc(), &mut reader, &mut writer, &mut errors, asked);
+    assert!(rt; status == 5 && errors.is_empty());
+    Ok(())
+}
+
+// A screen, and a viewer that has opened.
+const OPENED: &str = "\
+screen 4 3 demo
+connect 1
+hear 1 524642203030332e3030380a0101
+";
+
+static BAD_LINES: [&str; 14] = [
+    "pant",
+    "marks 1 2 3",
+    "marks 0 0 1 x",
+    "marks 0 0 1 2147483648",
+    "schedules 1",
+    "docopies",
+    "docopies 0 0 1 1 1",
+    "desktop 4 3 - 50",
+    "screen 4 3 demo",
+    "paint 3 3 2 2 ffffff",
+    "connect 1",
+    "close 2",
+    "hear 1",
+    "desktop",
+];
+
+static CASES: [Case; 19] = [
+    Case {
+        name: "no line",
+        session: b"",
+        question: Sent(1),
+        lines: u64::MAX,
+        answer: b"",
+    },
+    Case {
+        name: "a screen that was cut",
+        session: b"screen 4 3",
+        question: Drawn,
+        lines: u64::MAX,
+        answer: b"",
+    },
+    Case {
+        name: "skipped lines alone",
+        session: b"# a comment\n\n",
+        question: Viewers,
+        lines: u64::MAX,
+        answer: b"",
+    },
+    Case {
+        name: "an update",
+        session: b"screen 4 3 demo\nconnect 1\nhear 1 524642203030332e3030380a0101\nhear 1 03000000000000040003\ncut 1\n",
+        question: Sent(1),
+        lines: u64::MAX,
+        answer: b"RFB 003.008\n\x01\x01\x00\x00\x00\x00\x00\x04\x00\x03 \x18\x00\x01\x00\xff\x00\xff\x00\xff\x10\x08\x00\x00\x00\x00\x00\x00\x00\x04demo\x00\x00\x00\x01\x00\x00\x00\x00\x00\x04\x00\x03\x00\x00\x00\x00\x00\x00\x00\x00\x00\x00\x00\x00\x00\x00\x00\x00\x00\x00\x00\x00\x00\x00\x00\x00\x00\x00\x00\x00\x00\x00\x00\x00\x00\x00\x00\x00\x00\x00\x00\x00\x00\x00\x00\x00\x00\x00\x00\x00\x00\x00\x00\x00",
+    },
+    Case {
+        name: "a last line that was cut",
+        session: b"screen 4 3 demo\nconnect 1\nhear 1 524642203030332e3030380a0101\nhear 1 03000000000000040003\ncut 1\ncut 1",
+        question: Sent(1),
+        lines: u64::MAX,
+        answer: b"RFB 003.008\n\x01\x01\x00\x00\x00\x00\x00\x04\x00\x03 \x18\x00\x01\x00\xff\x00\xff\x00\xff\x10\x08\x00\x00\x00\x00\x00\x00\x00\x04demo\x00\x00\x00\x01\x00\x00\x00\x00\x00\x04\x00\x03\x00\x00\x00\x00\x00\x00\x00\x00\x00\x00\x00\x00\x00\x00\x00\x00\x00\x00\x00\x00\x00\x00\x00\x00\x00\x00\x00\x00\x00\x00\x00\x00\x00\x00\x00\x00\x00\x00\x00\x00\x00\x00\x00\x00\x00\x00\x00\x00\x00\x00\x00\x00",
+    },
+    Case {
+        name: "the first two lines",
+        session: b"screen 4 3 demo\nconnect 1\nhear 1 524642203030332e3030380a0101\nhear 1 03000000000000040003\ncut 1\n",
+        question: Sent(1),
+        lines: 2,
+        answer: b"RFB 003.008\n",
+    },
+    Case {
+        name: "another viewer",
+        session: b"screen 4 3 demo\nconnect 1\nhear 1 524642203030332e3030380a0101\nhear 1 03000000000000040003\ncut 1\n",
+        question: Sent(2),
+        lines: u64::MAX,
+        answer: b"",
+    },
+    Case {
+        name: "a name with a blank",
+        session: b"desktop 4 3 612062 50\nconnect 1\nhear 1 524642203030332e3030380a0101\n",
+        question: Sent(1),
+        lines: u64::MAX,
+        answer: b"RFB 003.008\n\x01\x01\x00\x00\x00\x00\x00\x04\x00\x03 \x18\x00\x01\x00\xff\x00\xff\x00\xff\x10\x08\x00\x00\x00\x00\x00\x00\x00\x03a b",
+    },
+    Case {
+        name: "no name",
+        session: b"desktop 4 3 - 1\nconnect 1\nhear 1 524642203030332e3030380a0101\n",
+        question: Sent(1),
+        lines: u64::MAX,
+        answer: b"RFB 003.008\n\x01\x01\x00\x00\x00\x00\x00\x04\x00\x03 \x18\x00\x01\x00\xff\x00\xff\x00\xff\x10\x08\x00\x00\x00\x00\x00\x00\x00\x00",
+    },
+    Case {
+        name: "a region of no rectangle",
+        session: b"screen 4 3 demo\nconnect 1\nhear 1 524642203030332e3030380a0101\nhear 1 03000000000000040003\ncut 1\nmarks\nhear 1 03010000000000040003\ncut 1\n",
+        question: Sent(1),
+        lines: u64::MAX,
+        answer: b"RFB 003.008\n\x01\x01\x00\x00\x00\x00\x00\x04\x00\x03 \x18\x00\x01\x00\xff\x00\xff\x00\xff\x10\x08\x00\x00\x00\x00\x00\x00\x00\x04demo\x00\x00\x00\x01\x00\x00\x00\x00\x00\x04\x00\x03\x00\x00\x00\x00\x00\x00\x00\x00\x00\x00\x00\x00\x00\x00\x00\x00\x00\x00\x00\x00\x00\x00\x00\x00\x00\x00\x00\x00\x00\x00\x00\x00\x00\x00\x00\x00\x00\x00\x00\x00\x00\x00\x00\x00\x00\x00\x00\x00\x00\x00\x00\x00",
+    },
+    Case {
+        name: "a region of two rectangles",
+        session: b"screen 4 3 demo\nconnect 1\nhear 1 524642203030332e3030380a0101\nhear 1 03000000000000040003\ncut 1\nmarks 0 0 1 1 3 2 4 3\nhear 1 03010000000000040003\ncut 1\n",
+        question: Sent(1),
+        lines: u64::MAX,
+        answer: b"RFB 003.008\n\x01\x01\x00\x00\x00\x00\x00\x04\x00\x03 \x18\x00\x01\x00\xff\x00\xff\x00\xff\x10\x08\x00\x00\x00\x00\x00\x00\x00\x04demo\x00\x00\x00\x01\x00\x00\x00\x00\x00\x04\x00\x03\x00\x00\x00\x00\x00\x00\x00\x00\x00\x00\x00\x00\x00\x00\x00\x00\x00\x00\x00\x00\x00\x00\x00\x00\x00\x00\x00\x00\x00\x00\x00\x00\x00\x00\x00\x00\x00\x00\x00\x00\x00\x00\x00\x00\x00\x00\x00\x00\x00\x00\x00\x00\x00\x00\x00\x02\x00\x00\x00\x00\x00\x01\x00\x01\x00\x00\x00\x00\x00\x00\x00\x00\x00\x03\x00\x02\x00\x01\x00\x01\x00\x00\x00\x00\x00\x00\x00\x00",
+    },
+    Case {
+        name: "the least corner",
+        session: b"screen 4 3 demo\nconnect 1\nhear 1 524642203030332e3030380a0101\nhear 1 03000000000000040003\ncut 1\nmark -2147483648 0 1 1\nhear 1 03010000000000040003\ncut 1\n",
+        question: Sent(1),
+        lines: u64::MAX,
+        answer: b"RFB 003.008\n\x01\x01\x00\x00\x00\x00\x00\x04\x00\x03 \x18\x00\x01\x00\xff\x00\xff\x00\xff\x10\x08\x00\x00\x00\x00\x00\x00\x00\x04demo\x00\x00\x00\x01\x00\x00\x00\x00\x00\x04\x00\x03\x00\x00\x00\x00\x00\x00\x00\x00\x00\x00\x00\x00\x00\x00\x00\x00\x00\x00\x00\x00\x00\x00\x00\x00\x00\x00\x00\x00\x00\x00\x00\x00\x00\x00\x00\x00\x00\x00\x00\x00\x00\x00\x00\x00\x00\x00\x00\x00\x00\x00\x00\x00\x00\x00\x00\x01\x00\x00\x00\x00\x00\x01\x00\x01\x00\x00\x00\x00\x00\x00\x00\x00",
+    },
+    Case {
+        name: "a copy of two rectangles, from the right",
+        session: b"screen 4 3 demo\nconnect 1\nhear 1 524642203030332e3030380a0101\nhear 1 020000020000000100000000\nhear 1 03000000000000040003\ncut 1\npaint 0 0 1 1 ff8000\nhear 1 03010000000000040003\ncut 1\ndocopies 1 0 2 1 3 0 4 1 1 0\nhear 1 03010000000000040003\ncut 1\n",
+        question: Sent(1),
+        lines: u64::MAX,
+        answer: b"RFB 003.008\n\x01\x01\x00\x00\x00\x00\x00\x04\x00\x03 \x18\x00\x01\x00\xff\x00\xff\x00\xff\x10\x08\x00\x00\x00\x00\x00\x00\x00\x04demo\x00\x00\x00\x01\x00\x00\x00\x00\x00\x04\x00\x03\x00\x00\x00\x00\x00\x00\x00\x00\x00\x00\x00\x00\x00\x00\x00\x00\x00\x00\x00\x00\x00\x00\x00\x00\x00\x00\x00\x00\x00\x00\x00\x00\x00\x00\x00\x00\x00\x00\x00\x00\x00\x00\x00\x00\x00\x00\x00\x00\x00\x00\x00\x00\x00\x00\x00\x01\x00\x00\x00\x00\x00\x01\x00\x01\x00\x00\x00\x00\x00\x80\xff\x00\x00\x00\x00\x02\x00\x03\x00\x00\x00\x01\x00\x01\x00\x00\x00\x01\x00\x02\x00\x00\x00\x01\x00\x00\x00\x01\x00\x01\x00\x00\x00\x01\x00\x00\x00\x00",
+    },
+    Case {
+        name: "copies of nothing",
+        session: b"screen 4 3 demo\nconnect 1\nhear 1 524642203030332e3030380a0101\nhear 1 03000000000000040003\ncut 1\ndocopies 1 0\nschedules -1 -2147483648\nhear 1 03010000000000040003\ncut 1\n",
+        question: Sent(1),
+        lines: u64::MAX,
+        answer: b"RFB 003.008\n\x01\x01\x00\x00\x00\x00\x00\x04\x00\x03 \x18\x00\x01\x00\xff\x00\xff\x00\xff\x10\x08\x00\x00\x00\x00\x00\x00\x00\x04demo\x00\x00\x00\x01\x00\x00\x00\x00\x00\x04\x00\x03\x00\x00\x00\x00\x00\x00\x00\x00\x00\x00\x00\x00\x00\x00\x00\x00\x00\x00\x00\x00\x00\x00\x00\x00\x00\x00\x00\x00\x00\x00\x00\x00\x00\x00\x00\x00\x00\x00\x00\x00\x00\x00\x00\x00\x00\x00\x00\x00\x00\x00\x00\x00",
+    },
+    Case {
+        name: "what others do is left out",
+        session: b"screen 4 3 demo\nconnect 1\nhear 1 524642203030332e3030380a0101\ncut 7\nhear 1 03000000000000040003\ncut 1\n",
+        question: Sent(1),
+        lines: u64::MAX,
+        answer: b"RFB 003.008\n\x01\x01\x00\x00\x00\x00\x00\x04\x00\x03 \x18\x00\x01\x00\xff\x00\xff\x00\xff\x10\x08\x00\x00\x00\x00\x00\x00\x00\x04demo\x00\x00\x00\x01\x00\x00\x00\x00\x00\x04\x00\x03\x00\x00\x00\x00\x00\x00\x00\x00\x00\x00\x00\x00\x00\x00\x00\x00\x00\x00\x00\x00\x00\x00\x00\x00\x00\x00\x00\x00\x00\x00\x00\x00\x00\x00\x00\x00\x00\x00\x00\x00\x00\x00\x00\x00\x00\x00\x00\x00\x00\x00\x00\x00",
+    },
+    Case {
+        name: "what was drawn",
+        session: b"screen 4 3 demo\nconnect 1\nhear 1 524642203030332e3030380a0101\npaint 1 0 1 1 ff8000\ncut 7\n",
+        question: Drawn,
+        lines: u64::MAX,
+        answer: b"P6\n4 3\n255\n\x00\x00\x00\xff\x80\x00\x00\x00\x00\x00\x00\x00\x00\x00\x00\x00\x00\x00\x00\x00\x00\x00\x00\x00\x00\x00\x00\x00\x00\x00\x00\x00\x00\x00\x00\x00",
+    },
+    Case {
+        name: "what a viewer saw",
+        session: b"screen 4 3 demo\nconnect 1\nhear 1 524642203030332e3030380a0101\npaint 1 0 1 1 ff8000\nhear 1 03000000000000040003\ncut 1\npaint 0 0 1 1 ffffff\n",
+        question: Seen(1),
+        lines: u64::MAX,
+        answer: b"P6\n4 3\n255\n\x00\x00\x00\xff\x80\x00\x00\x00\x00\x00\x00\x00\x00\x00\x00\x00\x00\x00\x00\x00\x00\x00\x00\x00\x00\x00\x00\x00\x00\x00\x00\x00\x00\x00\x00\x00",
+    },
+    Case {
+        name: "a viewer that saw nothing",
+        session: b"screen 4 3 demo\nconnect 1\nhear 1 524642203030332e3030380a0101\n",
+        question: Seen(2),
+        lines: u64::MAX,
+        answer: b"P6\n0 0\n255\n",
+    },
+    Case {
+        name: "viewers",
+        session: b"screen 4 3 demo\nconnect 1\nhear 1 524642203030332e3030380a0101\nconnect 2\nhear 1 03000000000000040003\ncut 1\nclose 1\nconnect 1\nhear 2 585858585858585858585858\n",
+        question: Viewers,
+        lines: u64::MAX,
+        answer: b"viewer 1 lines 2 7 encoding Raw bits 32 heard 24 updates 1 sent 110 closed\nviewer 2 lines 4 9 encoding Raw bits 32 heard 12 updates 0 sent 12 there after a fault\nviewer 1 lines 8 8 encoding Raw bits 32 heard 0 updates 0 sent 12 there\n",
+    },
+];
