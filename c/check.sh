@@ -50,7 +50,7 @@ fi
 # What a shared object exports is what its header declares, but for what the header has itself.
 same_names() {
     local name=$1
-    grep -oE "\bvnc_(${name#vnc_}|waker|update)_[a-z_]+\(" "$here/$name.h" | tr -d '(' | grep -vE "_(new|free)$" | sort -u >"$room/declared"
+    grep -oE "\bvnc_(${name#vnc_}|waker|update)_[a-z_]+\(" "$here/$name.h" | tr -d '(' | grep -vE "_(new|new_recorded|free)$" | sort -u >"$room/declared"
     nm -D --defined-only "$room/prefix/lib/lib$name.so.1" | awk '{ print $3 }' | sort >"$room/exported"
     diff "$room/declared" "$room/exported"
 }
@@ -110,7 +110,7 @@ run() { # NAME PROGRAM HOW..: each example, as it is to be run
     shift 2
     case $name in
     play) "$@" "$program" | cmp - "$here/../crates/vncdemo/stdout" ;;
-    edges | server_edges | rfb_edges | screen_calls | server_calls | server_viewers | server_visits | server_limits) says_ok "$name" "$@" "$program" ;;
+    edges | server_edges | rfb_edges | screen_calls | server_calls | server_viewers | server_visits | server_limits | server_record) says_ok "$name" "$@" "$program" ;;
     serve) looked_at "640 by 480, . colours, demo" "$@" "$program" PORT 3 ;;
     threads) looked_at "640 by 480, [23] colours, threads" "$@" "$program" PORT 3 ;;
     clock) looked_at "172 by 44, 3 colours, clock" "$@" "$program" PORT 10 ;;
@@ -130,7 +130,7 @@ if ! { $CC $sanitize -o "$room/none" "$room/none.c" && "$room/none"; } 2>/dev/nu
     sanitize=
     left+=("sanitizers: not installed")
 fi
-for source in "$here"/examples/*.c "$here"/tools/{rfb_edges,screen_calls,server_calls,server_viewers,server_visits,server_limits}.c; do
+for source in "$here"/examples/*.c "$here"/tools/{rfb_edges,screen_calls,server_calls,server_viewers,server_visits,server_limits,server_record}.c; do
     name=$(basename "$source" .c)
     for standard in c99 c11 c++17; do
         case $standard in c++*) have "${CXX:-c++}" || continue ;; esac
@@ -186,7 +186,7 @@ refused() { # PROGRAM FIRST LAST ARGUMENT..
 # shellcheck disable=SC2086
 if $CC -Wall -Wextra -Werror -shared -fPIC -o "$room/refuse.so" "$here/tools/refuse.c" -ldl; then
     for name in play edges server_edges rfb_edges screen_calls; do try "$name: each of its first 150 allocations is refused" refused "$name" 1 150; done
-    for name in server_calls server_viewers server_visits server_limits; do
+    for name in server_calls server_viewers server_visits server_limits server_record; do
         try "$name: each of its first 150 allocations is refused" refused "$name" 1 150 soon
     done
     for name in clock sketch own_pixels own_loop; do try "$name: each of its first 40 allocations is refused" refused "$name" 1 40 0 1; done

@@ -27,6 +27,7 @@ struct rfbCompat {
     int64_t asked;      /* how often viewers asked for all */
     sraRect dense;      /* what last differed nearly everywhere; and so many times more it isn't compared */
     int uncompared;
+    const char *record; /* the path of the file to record in, of an argument: NULL for none */
 };
 
 static void lock(rfbScreenInfoPtr s) { pthread_mutex_lock(&s->compat->lock); }
@@ -269,6 +270,7 @@ static void settle(rfbScreenInfoPtr s)
         free(cl);
     }
     if (s->socketState != RFB_SOCKET_SHUTDOWN || s->clientHead) return;
+    if (c->server && vnc_server_record_state(c->server) == VNC_RECORD_BROKEN) rfbErr("the record %s has ended before its session\n", c->record);
     vnc_waker_free(c->waker), c->waker = NULL;
     vnc_server_free(c->server), c->server = NULL;
 }
@@ -394,10 +396,11 @@ void rfbInitServer(rfbScreenInfoPtr s)
     strncpy(name, s->desktopName ? s->desktopName : "", sizeof name - 1);
     inet_ntop(AF_INET, &s->listenInterface, address, sizeof address);
     if (!wants_password(s) && s->port > 0 && s->port < 65536)
-        code = vnc_server_new(address, (uint16_t)s->port, (uint32_t)s->width, (uint32_t)s->height, name, MOST_VIEWERS, &c->server);
+        code = vnc_server_new_recorded(address, (uint16_t)s->port, (uint32_t)s->width, (uint32_t)s->height, name, MOST_VIEWERS, c->record ? c->record : "", &c->server);
     if (code == 0) code = vnc_waker_new(c->server, &c->waker);
     if (code == 0) code = vnc_waker_wake(c->waker); /* which says whether it is one */
     s->socketState = code == 0 ? RFB_SOCKET_READY : RFB_SOCKET_SHUTDOWN;
+    if (code == VNC_CANNOT_RECORD) rfbErr("the record %s is there already, or can't be made\n", c->record);
     if (code < 0) rfbErr("nobody is served on port %d: code %d\n", s->port, (int)code);
     settle(s);
 }
@@ -460,7 +463,9 @@ static char *value_of(const char *name, int *argc, char **argv)
 rfbBool rfbProcessArguments(rfbScreenInfoPtr s, int *argc, char **argv)
 {
     char *port = value_of("-rfbport", argc, argv), *address = value_of("-listen", argc, argv);
-    char *password = value_of("-passwd", argc, argv), *file = value_of("-rfbauth", argc, argv);
+    char *password = value_of("-passwd", argc, argv), *file = value_of("-rfbauth", argc, argv), *record = value_of("-record", argc, argv);
+    if (record && !*record) return FALSE;
+    if (record) s->compat->record = record;
     if (port) s->port = atoi(port);
     if (password || file) s->authPasswdData = password ? password : file; /* which is refused */
     return !address || inet_pton(AF_INET, strcmp(address, "localhost") ? address : "127.0.0.1", &s->listenInterface) == 1 ? TRUE : FALSE;

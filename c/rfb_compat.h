@@ -129,8 +129,9 @@ typedef struct _rfbClientRec {
 } rfbClientRec;
 
 /* The server. 1 to 8192 columns and rows, 1 to 10 bits a sample, and pixels of 1 to 4 bytes: else rfbGetScreen gives NULL. Of arguments it
- * takes out -rfbport, -listen, -passwd and -rfbauth with their values; NULL too where -listen's is neither an IPv4 address in digits nor
- * localhost. */
+ * takes out -rfbport, -listen, -passwd, -rfbauth and -record with their values; NULL too where -listen's is neither an IPv4 address in digits
+ * nor localhost, and where -record has none. What happens is recorded in -record's file, which rfbInitServer makes, and vncdemo replay
+ * reads: vnc_server_record of vnc_server.h. */
 rfbScreenInfoPtr rfbGetScreen(int *argc, char **argv, int width, int height, int bitsPerSample, int samplesPerPixel, int bytesPerPixel);
 
 /* Listens. Where it can't, or a password is wanted, it says so by rfbErr, and nobody is served: socketState is RFB_SOCKET_SHUTDOWN,

@@ -34,7 +34,7 @@ extern "C" {
 #endif
 
 /* Grows with each change that a program made before it can see; vnc_server_abi() is the library's. */
-#define VNC_SERVER_ABI 4
+#define VNC_SERVER_ABI 5
 
 typedef struct vnc_server vnc_server;
 
@@ -73,26 +73,56 @@ void vnc_server_init(vnc_server *server);
  *   port     0: one that the system chooses, see vnc_server_port. VNC_CANNOT_LISTEN where it is taken, or may not be had
  *   width, height  columns and rows, 1 to 8192, and at most 2^24 places: else VNC_BAD_SIZE
  *   name     the desktop's name, with no zero at its end, of at most 255 bytes: else VNC_BAD_NAME
- *   viewers  how many may be connected at once; a further one waits until one has gone */
+ *   viewers  how many may be connected at once; a further one waits until one has gone
+ * VNC_CANNOT_RECORD where vnc_server_record named a file that is there already, or can't be made. */
 int32_t vnc_server_listen(vnc_server *server, const uint8_t *address, size_t address_count, uint16_t port, uint32_t width, uint32_t height,
                           const uint8_t *name, size_t name_count, uint32_t viewers);
 
-/* The port is free again, all connections are closed, and all memory is freed (rfbShutdownServer, rfbScreenCleanup): 0. What was not
- * fetched is gone. */
+/* The picture that vnc_server_listen serves next is recorded in this file, as it happens: what is drawn, and what viewers say. What each
+ * viewer was sent is had from it, byte for byte: vncdemo replay. The file has pictures, keys and copied texts in it.
+ *   path  of at most 4,095 bytes, with no zero at its end; of no bytes: it isn't recorded. The file is made by vnc_server_listen, for its
+ *         owner alone to read: VNC_CANNOT_RECORD there where something of its name is there already, or it can't be made
+ * 0, or VNC_OUT_OF_MEMORY. It holds for one vnc_server_listen that is done, and until vnc_server_close. Each turn writes before it waits, and
+ * vnc_server_close writes the rest. Where a write fails the record ends there for good, and the server goes on: viewers are sent the same
+ * with a record and without one. */
+int32_t vnc_server_record(vnc_server *server, const uint8_t *path, size_t path_count);
+
+enum vnc_record_state {
+    VNC_NOT_RECORDED = 0,
+    VNC_RECORDED = 1,
+    VNC_RECORD_BROKEN = 2 /* it has ended before its session: a write failed, or memory for a region's rectangles was refused */
+};
+
+/* Whether what is served is recorded: a vnc_record_state. */
+int32_t vnc_server_record_state(vnc_server *server);
+
+/* The port is free again, all connections are closed, a record is written to its end, and all memory is freed (rfbShutdownServer,
+ * rfbScreenCleanup): 0. What was not fetched is gone. */
 int32_t vnc_server_close(vnc_server *server);
 
-/* Memory for a server, which listens: 0, or a vnc_code. `address` and `name` end with a zero. */
-static inline int32_t vnc_server_new(const char *address, uint16_t port, uint32_t width, uint32_t height, const char *name, uint32_t viewers,
-                                     vnc_server **out)
+/* Memory for a server, which listens, and records in a file where `path` isn't empty: 0, or a vnc_code. `address`, `name` and `path` end with
+ * a zero. */
+static inline int32_t vnc_server_new_recorded(const char *address, uint16_t port, uint32_t width, uint32_t height, const char *name,
+                                              uint32_t viewers, const char *path, vnc_server **out)
 {
     int32_t code;
     vnc_server *server = (vnc_server *)malloc(vnc_server_size());
     if (!server) return VNC_OUT_OF_MEMORY;
     vnc_server_init(server);
-    code = vnc_server_listen(server, (const uint8_t *)address, strlen(address), port, width, height, (const uint8_t *)name, strlen(name), viewers);
-    if (code < 0) free(server);
-    else *out = server;
+    code = vnc_server_record(server, (const uint8_t *)path, strlen(path));
+    if (code == 0)
+        code = vnc_server_listen(server, (const uint8_t *)address, strlen(address), port, width, height, (const uint8_t *)name, strlen(name), viewers);
+    if (code < 0) {
+        vnc_server_close(server);
+        free(server);
+    } else *out = server;
     return code;
+}
+
+static inline int32_t vnc_server_new(const char *address, uint16_t port, uint32_t width, uint32_t height, const char *name, uint32_t viewers,
+                                     vnc_server **out)
+{
+    return vnc_server_new_recorded(address, port, width, height, name, viewers, "", out);
 }
 
 static inline void vnc_server_free(vnc_server *server)

@@ -26,6 +26,7 @@ enum vnc_code {
     VNC_BAD_FORMAT = -17,     /* a component has no value above 0 or doesn't fit, bytes_per_pixel isn't 1 to 4, or a table of more than 256 */
     VNC_BAD_STRIDE = -18,     /* a row's pixels take more bytes than the stride */
     VNC_TOO_FEW_BYTES = -19,  /* the rows need more bytes than there are */
+    VNC_CANNOT_RECORD = -20,  /* the file of a record is there already, or can't be made */
     VNC_SHUT = -32            /* the screen, or the server, is shut */
 };
 

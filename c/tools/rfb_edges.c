@@ -195,6 +195,34 @@ static int passwords(void)
     return 0;
 }
 
+/* The file of -record is made by rfbInitServer, which refuses one that is there already; and -record wants a file. */
+static int recorded(void)
+{
+    char program[] = "x", option[] = "-record", folder[] = "/tmp/rfb_edges_XXXXXX", path[32], line[64] = "", *args[] = {program, option, path, NULL};
+    int count = 3, k;
+    FILE *file;
+    if (!mkdtemp(folder)) exit(3);
+    snprintf(path, sizeof path, "%s/session", folder);
+    for (k = 0; k < 2; k++) {
+        rfbScreenInfoPtr s = screen(4);
+        args[1] = option, args[2] = path, count = 3;
+        IS(rfbProcessArguments(s, &count, args), TRUE);
+        IS(count, 1);
+        rfbInitServer(s);
+        IS(rfbIsActive(s), k == 0 ? TRUE : FALSE);
+        clean(s);
+    }
+    file = fopen(path, "rb");
+    IS(file != NULL && fgets(line, sizeof line, file) != NULL, 1);
+    IS(strcmp(line, "screen 40 30 LibVNCServer 1000\n"), 0);
+    fclose(file);
+    unlink(path);
+    rmdir(folder);
+    args[1] = option, args[2] = NULL, count = 2;
+    IS(rfbGetScreen(&count, args, W, H, 8, 3, 4) != NULL, 0);
+    return 0;
+}
+
 static int later(void)
 {
     rfbScreenInfoPtr s = screen(4);
@@ -365,7 +393,7 @@ static int background(void)
 
 int main(void)
 {
-    if (passwords() || later() || pictures(4) || pictures(2) || moves() || clients() || background()) return 1;
+    if (passwords() || recorded() || later() || pictures(4) || pictures(2) || moves() || clients() || background()) return 1;
     IS(strangers, 0);
     puts("rfb_edges ok");
     return 0;

@@ -1,5 +1,5 @@
 -- What is written of a call that the screen took.
-use Rattle.std.proofs.Common.{◌≡◌, ◌≢◌, ℕ, Bool, true, false, List, [], ◌∷◌, ◌++◌, Option, Some, None, Result, Ok, Err, OnOk, refl, sym, ap, ◌∙◌, subst}
+use Rattle.std.proofs.Common.{◌≡◌, ◌≢◌, ℕ, Bool, true, false, List, [], ◌∷◌, Option, Some, None, Result, Ok, Err, refl, sym, ap, ◌∙◌}
 use Rattle.std.specs.Prelude.{◌&&◌, is_none, MatchOption}
 use Rattle.std.proofs.lemmas.Bool.{and_from}
 use Rattle.screen.specs.declared.Config.{Config}
@@ -9,7 +9,7 @@ use Rattle.screen.specs.declared.Answer.{Answer}
 use Rattle.screen.specs.declared.ScreenError.{ScreenError}
 use Rattle.screen.specs.Alone.{Tells, gives, some_bytes}
 use Rattle.screen.specs.Answers.{answer_to}
-use Rattle.screen.specs.History.{has_happened, accepted}
+use Rattle.screen.specs.History.{has_happened}
 use Rattle.screen.specs.HappeningLemmas.{one-happens, none-happens, told-accepted}
 use Rattle.viewer.specs.Given.{bytes_given}
 use Rattle.scribe.specs.Scribing.{Scribed}

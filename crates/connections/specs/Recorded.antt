@@ -5,13 +5,6 @@ use Rattle.recorder.specs.Events.{session_text}
 use Rattle.screen.specs.declared.Config.{Config}
 use Rattle.screen.specs.declared.Event.{Event}
 use Rattle.screen.specs.History.{accepted}
-use Rattle.connections.specs.declared.record.RecordWriter.{RecordWriter}
-use Rattle.connections.specs.declared.record.RecordWriter.TheVariants.{File, Memory}
-
--- what a record's writer holds, where that is known: of a file it is not
-abbrev pub bytes_held : RecordWriter → Option (List ℕ)
-bytes_held (File file) = None
-bytes_held (Memory bytes) = Some bytes.items
 
 -- a text was put behind what a writer held
 abbrev pub IsScribedBy : Option (List ℕ) → List ℕ → Option Scribed → Type 0

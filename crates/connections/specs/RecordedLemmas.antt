@@ -2,7 +2,7 @@
 use Rattle.std.proofs.Common.{◌≡◌, ℕ, List, [], ◌∷◌, ◌++◌, Option, Some, None, sym, ap, ◌∙◌, subst, append_assoc, append-nil}
 use Rattle.std.specs.Prelude.{flat_map, IfSome}
 use Rattle.std.proofs.lemmas.List.Concat.{flat_map-append}
-use Rattle.scribe.specs.Scribing.{Scribed, IsScribed, Puts}
+use Rattle.scribe.specs.Scribing.{Scribed, Puts}
 use Rattle.recorder.specs.Events.{event_line, screen_line, session_text}
 use Rattle.screen.specs.declared.Config.{Config}
 use Rattle.screen.specs.declared.Event.{Event}

@@ -31,6 +31,6 @@ pub use canvas::Canvas;
 pub use connections::{Connections, Departed, Readiness};
 pub use laws::drawn_is_served;
 pub use receipts::{Ended, Receipt};
-pub use record::RecordWriter;
+pub use record_writer::{PrivateFile, RecordWriter};
 pub use screen::{Config, Fault, History, Input, Listed, Rect, Region, Screen, ScreenError};
 pub use transport::{Both, Transport};

@@ -1,67 +1,18 @@
 //! What is written of a screen's events, where that is.
 
 ghost use Rattle.std.specs.Prelude.{◌≡◌, ◌∷◌, [], IfOk, option_map};
-ghost use Rattle.std.specs.Io.{WritesAtMost};
-ghost use Rattle.std.specs.Io.KnownBytes.{Keeps, WriteAppends};
 ghost use Rattle.screen.specs.declared.Event.{Event};
 ghost use Rattle.screen.specs.Calls.{event_of};
+ghost use Rattle.record_writer.specs.Held.{bytes_held};
 ghost use Rattle.recorder.specs.Events.{event_line, screen_line};
-ghost use Rattle.connections.specs.Recorded.{IsFlushed, IsScribedBy, PutsWhere, bytes_held, held_by, is_broken};
+ghost use Rattle.connections.specs.Recorded.{IsFlushed, IsScribedBy, PutsWhere, held_by, is_broken};
 ghost use Rattle.connections.specs.RecordedLemmas.{PutsLines, lines-nothing, lines-then};
 
+use record_writer::RecordWriter;
 use recorder::Recorder;
 use screen::{Config, Drawing, Rect, Witness};
 use std::alloc::{AllocError, Global};
-use std::fs::File;
-use std::io;
-use std::io::Write;
 use std::marker::Model;
-
-/// What a record is written to.
-#[derive(Drop)]
-pub enum RecordWriter {
-    /// A file of the system, or a pipe.
-    File(File),
-    /// Memory.
-    Memory(Vec<u8>),
-}
-
-impl RecordWriter {
-    /// Returns the bytes that it holds, where it is memory.
-    pub fn in_memory(&self) -> Option<&[u8]>
-        ensures { option_map (λ bytes. bytes.now) result ≡ bytes_held self.now }
-    {
-        match self {
-            RecordWriter::File(_) => None,
-            RecordWriter::Memory(memory) => Some(memory.as_slice()),
-        }
-    }
-}
-
-impl Write for RecordWriter {
-    ghost use Rattle.connections.specs.Recorded.{bytes_held};
-
-    ghost contents = { bytes_held };
-
-    fn write(&mut self, bytes: &[u8]) -> io::Result<usize>
-        ensures bound { WritesAtMost result bytes.now }
-        ensures bytes { WriteAppends (bytes_held self.old) (bytes_held self.new) result bytes.now }
-    {
-        match self {
-            RecordWriter::File(file) => file.write(bytes),
-            RecordWriter::Memory(memory) => memory.write(bytes),
-        }
-    }
-
-    fn flush(&mut self) -> io::Result<()>
-        ensures bytes { Keeps (bytes_held self.old) (bytes_held self.new) }
-    {
-        match self {
-            RecordWriter::File(file) => file.flush(),
-            RecordWriter::Memory(memory) => memory.flush(),
-        }
-    }
-}
 
 /// Tells a recorder of events, where there is one.
 #[derive(Drop)]

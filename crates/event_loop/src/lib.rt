@@ -19,8 +19,8 @@ mod poller;
 mod socket;
 
 pub use connections::{
-    Application, Canvas, Config, Ended, Fault, History, Input, Listed, RecordWriter, Rect, Region,
-    Screen, ScreenError, drawn_is_served,
+    Application, Canvas, Config, Ended, Fault, History, Input, Listed, PrivateFile, RecordWriter,
+    Rect, Region, Screen, ScreenError, drawn_is_served,
 };
 pub use event_loop::{EventLoop, Limits, LoopError, WhenFull};
 pub use mio::Waker;

@@ -2,9 +2,8 @@
 use Rattle.std.proofs.Common.{◌≡◌, ℕ, zero, suc, ◌+◌, ◌<◌, ◌≤◌, Bool, true, false, not, cond, ◌||◌, eqb, ltb, List, [], ◌∷◌, ◌++◌, length, get_or, take, refl, sym, ap, subst, ◌∙◌, arith, append_assoc, Option, Some, None}
 use Rattle.std.proofs.lemmas.List.{append-nil, take_all, take_more, length-append}
 use Rattle.std.proofs.lemmas.Bool.Decides.{nat_tests}
-use Rattle.std.proofs.lemmas.List.Quantifiers.{position-Some}
-use Rattle.std.specs.List.{position, position_or_len}
-use Rattle.std.specs.Io.KnownBytes.{Consumes, IsAtEnd}
+use Rattle.memchr.specs.Find.{IsFirstByte, is_byte}
+use Rattle.std.specs.Io.KnownBytes.{Consumes, IsAtEnd, Keeps}
 use Rattle.play_script.specs.Words.{parts}
 use Rattle.play_script.proofs.WordLemmas.{length-parts}
 use Rattle.replay.specs.Sessions.{whole_of, whole_lines}
@@ -31,36 +30,47 @@ no_feed-take (x ∷ xs) (suc n) h before =
     let rest : has_feed (take n xs) ≡ false = no_feed-take xs n (omega arith) (λ k l. before (suc k) (omega arith)) in
     rw (first, rest) refl
 
-not_at_first : (t : Bool) (n m : ℕ) → suc m ≤ cond (not t) (1 + n) 0 → (t ≡ false) × (m ≤ n)
-not_at_first true n m h = absurd (omega arith)
-not_at_first false n m h = (refl, omega arith)
-
-no_feed_in : (xs : List ℕ) → length xs ≤ position_or_len (λ b. eqb b 10) xs → has_feed xs ≡ false
-no_feed_in [] h = refl
-no_feed_in (x ∷ xs) h =
-    let later = not_at_first (eqb x 10) (position_or_len (λ b. eqb b 10) xs) (length xs) h in
-    let rest : has_feed xs ≡ false = no_feed_in xs later.1 in
-    rw (later.0, rest) refl
-
-past_all : (p n : ℕ) → cond (ltb p n) (Some p) None ≡ None → n ≤ p
-past_all p n e = grind (arith, nat_tests)
-
 equal_from : (a b : ℕ) → eqb a b ≡ true → a ≡ b
 equal_from a b h = grind (arith, nat_tests)
 
+not_true : (b : Bool) → ¬ (b ≡ true) → b ≡ false
+not_true true h = absurd (h refl)
+not_true false h = refl
+
 -- a line feed at a place
-pub piece_found : (xs : List ℕ) (end : ℕ) → position (λ b. eqb b 10) xs ≡ Some end → IsPiece xs end (end + 1) LineFeed
+pub piece_found : (xs : List ℕ) (end : ℕ) → IsFirstByte (is_byte 10) xs (Some end) → IsPiece xs end (end + 1) LineFeed
 piece_found xs end e =
-    let found = position-Some (λ b. eqb b 10) xs end 0 e in (
-      omega (arith, found.0),
-      omega (arith, found.0),
-      no_feed-take xs end (omega (arith, found.0)) found.2,
-      take_more xs end 0 found.0 ∙ ap (λ b. take end xs ++ b ∷ []) (equal_from _ _ found.1),
+    let within : end < length xs = e.0.high in (
+      omega arith,
+      omega arith,
+      no_feed-take xs end (omega arith) (λ k l. not_true _ (e.0.before k (omega arith) l)),
+      take_more xs end 0 within ∙ ap (λ b. take end xs ++ b ∷ []) (equal_from _ _ e.1),
     )
 
 -- none
-pub piece_open : (xs : List ℕ) → position (λ b. eqb b 10) xs ≡ None → 0 < length xs → IsPiece xs (length xs) (length xs) Room
-piece_open xs e some = (refl, refl, ap has_feed (take_all (length xs) xs (omega arith)) ∙ no_feed_in xs (past_all _ _ e), some)
+pub piece_open : (xs : List ℕ) → IsFirstByte (is_byte 10) xs None → 0 < length xs → IsPiece xs (length xs) (length xs) Room
+piece_open xs e some = (refl, refl, no_feed-take xs (length xs) (omega arith) (λ k l. not_true _ (e k (omega arith) l)), some)
+
+-- a read that was interrupted took nothing
+pub takes_kept : (a b rest : Option (List ℕ)) (before old new : List ℕ) (end : PieceEnd) → Keeps a b → old ≡ before → TakesPiece b rest old new end → TakesPiece a rest before new end
+takes_kept a b rest before old new end k e p = subst (λ l. TakesPiece a rest l new end) e (at a b end k p)
+  where
+    at : (x y : Option (List ℕ)) (f : PieceEnd) → Keeps x y → TakesPiece y rest old new f → TakesPiece x rest old new f
+    at None y LineFeed k p = (p.0, p.1, p.2, tt)
+    at None y Room k p = (p.0, p.1, p.2, tt, p.4)
+    at None y Input k p = (p.0, tt)
+    at (Some xs) None f k p = absurd k
+    at (Some xs) (Some ys) f k p = subst (λ z. TakesPiece (Some z) rest old new f) k p
+
+pub kept_itself : (a : Option (List ℕ)) → Keeps a a
+kept_itself None = tt
+kept_itself (Some xs) = refl
+
+pub kept_again : (a b c : Option (List ℕ)) (before old new : List ℕ) → Keeps a b → old ≡ before → Keeps b c × (new ≡ old) → Keeps a c × (new ≡ before)
+kept_again None b c before old new h e p = (tt, p.1 ∙ e)
+kept_again (Some x) None c before old new h e p = absurd h
+kept_again (Some x) (Some y) None before old new h e p = absurd p.0
+kept_again (Some x) (Some y) (Some z) before old new h e p = (p.0 ∙ h, p.1 ∙ e)
 
 -- a line, and what stands behind its line feed
 line_first : (line rest : List ℕ) → has_feed line ≡ false → parts 10 (line ++ 10 ∷ rest) ≡ line ∷ parts 10 rest

@@ -1,10 +1,12 @@
 //! The whole lines of a reader.
 
-ghost use Rattle.std.specs.Prelude.{◌≡◌, ◌==◌, position, true, IfOk};
+ghost use Rattle.std.specs.Prelude.{◌≡◌, true, IfOk, MatchOption};
+ghost use Rattle.std.specs.Io.KnownBytes.{Keeps};
 ghost use Rattle.replay.specs.Reading.{IsPiece, TakesLine, TakesPiece};
 
+use memchr::memchr;
 use play_script::trouble::Trouble;
-use std::io::BufRead;
+use std::io::{BufRead, ErrorKind};
 
 /// The longest line that is read, in bytes, without its line feed.
 pub const LINE_LIMIT: usize = 1 << 27;
@@ -28,17 +30,12 @@ struct Piece {
     end: PieceEnd,
 }
 
-fn place_of_feed(available: &[u8]) -> Option<usize>
-    ensures { result ≡ position (λ byte. byte == 10) available.now }
-{
-    available.iter().position(|byte| *byte == b'\n')
-}
-
+/// Finds the end of a line in what the reader has at hand.
 fn piece_of(available: &[u8]) -> Piece
     ensures { IsPiece available.now result.count result.taken result.end }
 {
     let count = available.len();
-    match place_of_feed(available) {
+    match memchr(b'\n', available) {
         Some(end) => Piece {
             count: end,
             taken: end + 1,
@@ -56,18 +53,33 @@ fn piece_of(available: &[u8]) -> Piece
     }
 }
 
-/// Takes what the reader has at hand of a line, and appends it without its line feed.
-fn take_piece<R: BufRead>(reader: &mut R, line: &mut Vec<u8>) -> Result<PieceEnd, Trouble>
-    ensures { IfOk result (TakesPiece (R.remaining reader.old) (R.remaining reader.new) line.old.items line.new.items) }
+/// Takes what the reader has at hand of a line, and appends it without its line feed. Takes nothing where the read was interrupted.
+fn try_piece<R: BufRead>(reader: &mut R, line: &mut Vec<u8>) -> Result<Option<PieceEnd>, Trouble>
+    ensures { IfOk result (λ found. MatchOption found
+        (Keeps (R.remaining reader.old) (R.remaining reader.new) × (line.new.items ≡ line.old.items))
+        (TakesPiece (R.remaining reader.old) (R.remaining reader.new) line.old.items line.new.items)) }
 {
     let available = match reader.fill_buf() {
         Ok(available) => available,
+        Err(error) if error.kind() == ErrorKind::Interrupted => return Ok(None),
         Err(_) => return Err(Trouble::ReadFault),
     };
     let piece = piece_of(available);
     line.extend_from_slice(&available[..piece.count])?;
     reader.consume(piece.taken);
-    Ok(piece.end)
+    Ok(Some(piece.end))
+}
+
+/// Takes a piece of a line. A read that was interrupted is tried again.
+fn take_piece<R: BufRead>(reader: &mut R, line: &mut Vec<u8>) -> Result<PieceEnd, Trouble>
+    ensures { IfOk result (TakesPiece (R.remaining reader.old) (R.remaining reader.new) line.old.items line.new.items) }
+{
+    for _ in 0..u64::MAX {
+        if let Some(end) = try_piece(reader, line)? {
+            return Ok(end);
+        }
+    }
+    Err(Trouble::ReadFault)
 }
 
 /// Reads the next whole line into `line`, without its line feed, and says whether there was one. What stands behind the last line feed is

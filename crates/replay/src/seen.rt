@@ -1,29 +1,46 @@
 //! What a viewer saw.
 
-ghost use Rattle.std.specs.Prelude.{◌≡◌, OnOk, IfSome};
+ghost use Rattle.std.specs.Prelude.{◌≡◌, true, OnOk, IfSome};
+ghost use Rattle.messages.specs.Grammar.{version_of};
+ghost use Rattle.messages.specs.Reading.{is_version, major_of, minor_of};
 ghost use Rattle.replay.specs.Reading.{Grows};
 
 use crate::pictures::{NOTHING, Row, write_head};
 use crate::sent::is_own;
 use crate::session::{Session, perform};
 use crate::stop::Stop;
-use messages::{Ear, Item};
-use pixel_translate::{Component, Pixels};
+use messages::Version;
+use pixel_translate::{Component, PixelFormat, Pixels};
 use play_script::trouble::print;
-use screen::{Answer, Event};
+use screen::{Answer, Event, Settings};
 use std::alloc::{AllocError, Global};
 use std::io::{BufRead, Write};
-use test_viewer::{PixelFormat, Shown};
+use test_viewer::Shown;
+
+/// How many bytes a version has (RFC 6143 section 7.1.1).
+const VERSION_LENGTH: usize = 12;
 
 /// A viewer by RFC 6143, which is told what it said, and what it was sent.
 #[derive(Drop)]
 struct Watcher {
     alloc: Global,
-    ear: Ear,
     /// What it shows, once its version is known.
     shown: Option<Shown>,
-    /// What it was sent before.
+    /// What it said until then.
+    said: Vec<u8>,
+    /// What it was sent until then.
     early: Vec<u8>,
+}
+
+/// Reads a viewer's version: every one but 3.7 and 3.8 is served as 3.3 (RFC 6143 section 7.1.1 and appendix A).
+fn version_of(text: &[u8]) -> Version
+    ensures { is_version text.now ≡ true → result ≡ version_of (major_of text.now) (minor_of text.now) }
+{
+    match text {
+        b"RFB 003.007\n" => Version::V37,
+        b"RFB 003.008\n" => Version::V38,
+        _ => Version::V33,
+    }
 }
 
 /// A component of a pixel, as a byte.
@@ -86,33 +103,31 @@ impl Watcher {
     fn new(alloc: Global) -> Watcher {
         Watcher {
             alloc,
-            ear: Ear::new(alloc),
             shown: None,
+            said: Vec::new(alloc),
             early: Vec::new(alloc),
         }
     }
 
-    /// Takes what a whole message said.
-    fn take(&mut self, item: &Item) {
-        if let Item::Version(version) = item {
-            let mut shown = Shown::new(self.alloc, *version);
+    /// Hears a piece that may end the viewer's version. Where its first bytes are no version, it is sent nothing more.
+    fn open(&mut self, piece: &[u8]) -> Result<(), AllocError> {
+        self.said.extend_from_slice(piece)?;
+        if self.said.len() >= VERSION_LENGTH {
+            let mut shown = Shown::new(self.alloc, version_of(&self.said[..VERSION_LENGTH]));
             let _fault = shown.told(&self.early);
             self.shown = Some(shown);
         }
-        let Some(shown) = &mut self.shown else {
-            return;
-        };
-        // a request changes nothing that it shows: real viewers keep the picture until the answer comes
-        if let Item::Format(format) = item {
-            let _bytes = shown.format(format);
-        }
+        Ok(())
     }
 
-    /// Hears a piece of what the viewer said.
-    fn hear(&mut self, piece: &[u8]) -> Result<(), AllocError> {
-        let heard = self.ear.feed(piece)?;
-        for item in heard.items.as_slice() {
-            self.take(item);
+    /// Hears a piece of what the viewer said, behind which it has set this.
+    fn hear(&mut self, piece: &[u8], settings: &Settings) -> Result<(), AllocError> {
+        if self.shown.is_none() {
+            self.open(piece)?;
+        }
+        // a request changes nothing that it shows: real viewers keep the picture until the answer comes
+        if let Some(shown) = &mut self.shown {
+            let _bytes = shown.format(&settings.format);
         }
         Ok(())
     }
@@ -128,11 +143,19 @@ impl Watcher {
         Ok(())
     }
 
-    /// Takes an event, which was answered. A viewer that comes has neither said nor seen anything.
-    fn watch(&mut self, event: &Event, answer: &Answer) -> Result<(), AllocError> {
-        match event {
-            Event::Connect { .. } => *self = Watcher::new(self.alloc),
-            Event::Hear { piece, .. } => self.hear(piece.as_slice())?,
+    /// Takes an event, which was answered, and behind which the viewer has set this, if it is there. A viewer that comes has neither said nor
+    /// seen anything.
+    fn watch(
+        &mut self,
+        event: &Event,
+        answer: &Answer,
+        settings: Option<Settings>,
+    ) -> Result<(), AllocError> {
+        match (event, settings) {
+            (Event::Connect { .. }, _) => *self = Watcher::new(self.alloc),
+            (Event::Hear { piece, .. }, Some(settings)) => {
+                self.hear(piece.as_slice(), &settings)?;
+            }
             _ => {}
         }
         self.receive(answer.bytes.as_slice())
@@ -163,7 +186,7 @@ pub(crate) fn write_seen<R: BufRead, W: Write>(
         while let Some(event) = session.next_event()? {
             if is_own(viewer, &event) {
                 let answer = perform(&mut screen, &event)?;
-                watcher.watch(&event, &answer)?;
+                watcher.watch(&event, &answer, screen.settings(viewer).ok())?;
             }
         }
     }

@@ -1,5 +1,5 @@
 -- Calls that draw.
-use Rattle.std.proofs.Common.{◌≡◌, ◌≢◌, ℕ, ℤ, true, true≢false, List, [], ◌∷◌, ◌++◌, append-nil, Option, Some, None, Result, Ok, Err, refl, sym, ap, ◌∙◌, inl, inr, subst}
+use Rattle.std.proofs.Common.{◌≡◌, ◌≢◌, ℕ, ℤ, Bool, true, true≢false, List, [], ◌∷◌, ◌++◌, append-nil, Option, Some, None, Result, Ok, Err, refl, sym, ap, ◌∙◌, inl, inr, subst}
 use Rattle.std.proofs.lemmas.Bool.{and_from, or_parts, or_from}
 use Rattle.std.specs.Prelude.{OnOk, OnErr, MatchResult, option_map, not}
 use Rattle.std.specs.List.{list_any}
@@ -18,13 +18,12 @@ use Rattle.screen.specs.Refusals.{Refuses}
 use Rattle.screen.specs.State.{State, state, refusal}
 use Rattle.connections.specs.Drawing.{Surface, IsNotedAfter, IsDrawnFrom}
 use Rattle.connections.specs.Serving.{Serving, Serves, drawn_is_served}
-use Rattle.event_loop.specs.Sockets.{sockets}
 use Rattle.connections.specs.Recorded.{RecordsMore}
 use Rattle.connections.specs.RecordedLemmas.{records-still}
 use Rattle.screen_desk.specs.Codes.{Answers, IsRefusal, code_of, done, shut}
 use Rattle.screen_desk.specs.Desk.{IsListOf, due_by, far_or_none}
 use Rattle.server_desk.specs.declared.visits.Visit.{Visit}
-use Rattle.server_desk.specs.Desk.{Standing, StandsFor, region_due}
+use Rattle.server_desk.specs.Desk.{Standing, StandsFor, desk_sockets, region_due}
 use Rattle.server_desk.specs.Calls.{Draws, DrawsRegion}
 
 -- a drawing call is nobody's
@@ -74,18 +73,18 @@ call_undrawn c list e a b noted screen still = record {
   quiet = λ fine. ((or_parts _ _ (sym noted.noticed ∙ fine)).1, refl);
 }
 
-pub draws : drawn_is_served → (desk : Standing) (before : Option Serving) (s : Serving) (a t : Surface) (e : Event) (result : Result (Unit {0}) ScreenError) (number code : ℤ) (port : ℕ) (inputs : List (ℕ × Input)) (visits : List Visit) (text : List ℕ) (lost full : ℕ)
-    → number ≡ code → record { served = before; port = port; inputs = inputs; visits = visits; text = text; lost = lost; full_requests = full } ≡ desk → before ≡ Some s → a ≡ s.surface → is_drawing (owner_of e) ≡ true → IsCodeOf result code
+pub draws : drawn_is_served → (desk : Standing) (before : Option Serving) (s : Serving) (a t : Surface) (e : Event) (result : Result (Unit {0}) ScreenError) (number code : ℤ) (port : ℕ) (inputs : List (ℕ × Input)) (visits : List Visit) (text : List ℕ) (lost full : ℕ) (path : List ℕ) (on : Bool)
+    → number ≡ code → record { served = before; port = port; inputs = inputs; visits = visits; text = text; lost = lost; full_requests = full; record_path = path; recorded = on } ≡ desk → before ≡ Some s → a ≡ s.surface → is_drawing (owner_of e) ≡ true → IsCodeOf result code
     → ((due : Option ScreenError) → Refuses result due → Answers (option_map code_of due) (λ n. n ≡ done) code)
     → ((c : Config) (list : List Event) → a.screen ≡ state c list → OnOk result (t.screen ≡ state c (list ++ e ∷ [])))
     → ((c : Config) (list : List Event) → a.screen ≡ state c list → OnOk result (RecordsMore c list (e ∷ []) a.scribed t.scribed)) → OnErr result (t.scribed ≡ a.scribed) → Refuses result (refusal a.screen e) → OnErr result (t.screen ≡ a.screen) → IsNotedAfter e a t
-    → Draws e desk (record { served = Some (record s { surface = t }); port = port; inputs = inputs; visits = visits; text = text; lost = lost; full_requests = full }) number
+    → Draws e desk (record { served = Some (record s { surface = t }); port = port; inputs = inputs; visits = visits; text = text; lost = lost; full_requests = full; record_path = path; recorded = on }) number
 unfolding call_drawn call_undrawn
-draws law desk before s a t e result number code port inputs visits text lost full number_is view is same own code_is answers step recorded unrecorded refuses err noted =
+draws law desk before s a t e result number code port inputs visits text lost full path on number_is view is same own code_is answers step recorded unrecorded refuses err noted =
     rw (sym view) (rw is (rw number_is (subst (λ (x : Surface). ((c : Config) (list : List Event) → x.screen ≡ state c list → OnOk result (t.screen ≡ state c (list ++ e ∷ []))) → ((c : Config) (list : List Event) → x.screen ≡ state c list → OnOk result (RecordsMore c list (e ∷ []) x.scribed t.scribed)) → OnErr result (t.scribed ≡ x.scribed) → Refuses result (refusal x.screen e) → OnErr result (t.screen ≡ x.screen) → IsNotedAfter e x t → Draws e (standing s) (standing later) code) (sym same) drawn step recorded unrecorded refuses err noted)))
   where
     standing : Serving → Standing
-    standing s = record { served = Some s; port = port; inputs = inputs; visits = visits; text = text; lost = lost; full_requests = full }
+    standing s = record { served = Some s; port = port; inputs = inputs; visits = visits; text = text; lost = lost; full_requests = full; record_path = path; recorded = on }
 
     later : Serving
     later = record s { surface = t }
@@ -95,13 +94,13 @@ draws law desk before s a t e result number code port inputs visits text lost fu
         → Draws e (standing s) (standing later) code
     drawn step recorded unrecorded refuses err noted = record {
       answer = answers (refusal s.surface.screen e) refuses;
-      step = λ c list stands is_done. law c (sockets c) list s t (call_drawn c list e s.surface t noted own (happened result code code_is is_done (step c list stands.screen)) (happened result code code_is is_done (recorded c list stands.screen))) stands;
+      step = λ c list stands is_done. law c (desk_sockets on c) list s t (call_drawn c list e s.surface t noted own (happened result code code_is is_done (step c list stands.screen)) (happened result code code_is is_done (recorded c list stands.screen))) stands;
       same = refl;
       refused = λ not_done.
           let as_before = was_refused result code code_is not_done err in
           record {
             screen = ap Some as_before;
-            served = λ c list stands. subst (λ (l : List Event). Serves c (sockets c) l later) (append-nil list) (law c (sockets c) list s t (call_undrawn c list e s.surface t noted (as_before ∙ stands.screen) (was_refused result code code_is not_done unrecorded)) stands);
+            served = λ c list stands. subst (λ (l : List Event). Serves c (desk_sockets on c) l later) (append-nil list) (law c (desk_sockets on c) list s t (call_undrawn c list e s.surface t noted (as_before ∙ stands.screen) (was_refused result code code_is not_done unrecorded)) stands);
             same = refl;
           };
     }

@@ -12,23 +12,20 @@ use Rattle.screen.specs.declared.ScreenError.TheVariants as refusals
 use Rattle.screen.specs.Alone.{config_refusal}
 use Rattle.connections.specs.Serving.{Serving, Serves, number_at}
 use Rattle.connections.specs.Telling.{inputs_after}
-use Rattle.event_loop.specs.Sockets.{sockets, GoesOnServing}
+use Rattle.event_loop.specs.Sockets.{GoesOnServing}
 use Rattle.event_loop.specs.declared.event_loop.LoopError.{LoopError}
 use Rattle.event_loop.specs.declared.event_loop.LoopError.TheVariants.{Network, Clock, Screen}
 use Rattle.screen_desk.specs.Codes.{Answers, code_of, done, out_of_memory}
 use Rattle.server_desk.specs.declared.listening.ListenError.{ListenError}
-use Rattle.server_desk.specs.declared.listening.ListenError.TheVariants.{Refused, BadAddress, CannotListen}
+use Rattle.server_desk.specs.declared.listening.ListenError.TheVariants.{Refused, BadAddress, CannotListen, CannotRecord}
 use Rattle.server_desk.specs.declared.visits.Visit.{Visit}
-use Rattle.server_desk.specs.Codes.{bad_address, cannot_listen, closed_code, turn_code}
+use Rattle.server_desk.specs.Codes.{closed_code, turn_code}
 use Rattle.server_desk.specs.Listening.{IsOfSystem, IsRefusedBy, listen_code}
-use Rattle.server_desk.specs.Desk.{Standing, IsKept, IsPutBehind}
-use Rattle.server_desk.specs.Calls.{LetsGo, Listens, TakesTurn}
+use Rattle.server_desk.specs.Desk.{Standing, IsKept, IsPutBehind, desk_sockets, held_where, is_named}
+use Rattle.server_desk.specs.Calls.{IsListenCode, LetsGo, Listens, TakesTurn}
 use Rattle.server_desk.proofs.Keeping.{part-first}
 
 -- ---- listening
-
-abbrev IsListenCode : ℤ → Type 0
-IsListenCode n = (n ≡ done) ⊎ ((n ≡ bad_address) ⊎ (n ≡ cannot_listen))
 
 never_done : (e : ScreenError) → code_of e ≢ done
 never_done refusals.BadSize = λ same. absurd (cc)
@@ -45,33 +42,38 @@ never-listens : (e : ListenError) → listen_code e ≢ done
 never-listens (Refused e) = never_done e
 never-listens BadAddress = λ same. absurd (cc)
 never-listens CannotListen = λ same. absurd (cc)
+never-listens CannotRecord = λ same. absurd (cc)
 
-pub refused-so : {X : Type 0} (result : Result X ListenError) (o : Option ScreenError) (r : ScreenError) → o ≡ Some r → result ≡ Err (Refused r) → IsRefusedBy o result
-refused-so result o r is so = rw is so
+pub refused-so : {X : Type 0} (path : List ℕ) (result : Result X ListenError) (o : Option ScreenError) (r : ScreenError) → o ≡ Some r → result ≡ Err (Refused r) → IsRefusedBy path o result
+refused-so path result o r is so = rw is so
 
-pub unrefused-so : {X : Type 0} (result : Result X ListenError) (o : Option ScreenError) → o ≡ None → IfErr result IsOfSystem → IsRefusedBy o result
-unrefused-so result o is so = rw is so
+pub unrefused-so : {X : Type 0} (path : List ℕ) (result : Result X ListenError) (o : Option ScreenError) → o ≡ None → IfErr result (IsOfSystem path) → IsRefusedBy path o result
+unrefused-so path result o is so = rw is so
 
 -- what was made was not refused
-listens-ok : {X : Type 0} (result : Result X ListenError) (x : X) (o : Option ScreenError) → result ≡ Ok x → IsRefusedBy o result → Answers (option_map code_of o) IsListenCode done
-listens-ok result x None is h = inl (inl refl)
-listens-ok result x (Some e) is h = absurd (cc)
+listens-ok : {X : Type 0} (path : List ℕ) (result : Result X ListenError) (x : X) (o : Option ScreenError) → result ≡ Ok x → IsRefusedBy path o result → Answers (option_map code_of o) (IsListenCode path) done
+listens-ok path result x None is h = inl (inl refl)
+listens-ok path result x (Some e) is h = absurd (cc)
 
-of-system : (e : ListenError) → IsOfSystem e → IsListenCode (listen_code e) ⊎ (listen_code e ≡ out_of_memory)
-of-system (Refused e) h = inr (ap code_of h)
-of-system BadAddress h = inl (inr (inl refl))
-of-system CannotListen h = inl (inr (inr refl))
+of-system : (path : List ℕ) (e : ListenError) → IsOfSystem path e → IsListenCode path (listen_code e) ⊎ (listen_code e ≡ out_of_memory)
+of-system path (Refused e) h = inr (ap code_of h)
+of-system path BadAddress h = inl (inr (inl refl))
+of-system path CannotListen h = inl (inr (inr (inl refl)))
+of-system path CannotRecord h = inl (inr (inr (inr (refl, h))))
 
-listens-err : {X : Type 0} (result : Result X ListenError) (e : ListenError) (o : Option ScreenError) → result ≡ Err e → IsRefusedBy o result → Answers (option_map code_of o) IsListenCode (listen_code e)
-listens-err {X = X} result e None is h = of-system e (subst (λ (r : Result X ListenError). IfErr r IsOfSystem) is h)
-listens-err result e (Some r) is h = let same : e ≡ Refused r = cc in ap listen_code same
+listens-err : {X : Type 0} (path : List ℕ) (result : Result X ListenError) (e : ListenError) (o : Option ScreenError) → result ≡ Err e → IsRefusedBy path o result → Answers (option_map code_of o) (IsListenCode path) (listen_code e)
+listens-err {X = X} path result e None is h = of-system path e (subst (λ (r : Result X ListenError). IfErr r (IsOfSystem path)) is h)
+listens-err path result e (Some r) is h = let same : e ≡ Refused r = cc in ap listen_code same
 
 -- it listens
-pub listens : {X : Type 0} (result : Result X ListenError) (x : X) (c : Config) (desk new : Standing) (s : Serving) (port : ℕ) → new ≡ record { served = Some s; port = port; inputs = []; visits = []; text = []; lost = 0; full_requests = 0 }
-    → Serves c (sockets c) [] s → result ≡ Ok x → IsRefusedBy (config_refusal c) result → Listens c desk new done
-listens result x c desk new s port so serves is h = rw so (record {
-  answer = listens-ok result x (config_refusal c) is h;
-  serves = λ is_done. serves;
+pub listens : {X : Type 0} (result : Result X ListenError) (x : X) (c : Config) (desk new : Standing) (s : Serving) (port : ℕ) (path : List ℕ) → path ≡ desk.record_path
+    → new ≡ record { served = Some s; port = port; inputs = []; visits = []; text = []; lost = 0; full_requests = 0; record_path = []; recorded = is_named desk.record_path }
+    → Serves c (desk_sockets (is_named path) c) [] s → result ≡ Ok x → IsRefusedBy path (config_refusal c) result → Listens c desk new done
+listens result x c desk new s port path same so serves is h = rw so (record {
+  answer = subst (λ (p : List ℕ). Answers (option_map code_of (config_refusal c)) (IsListenCode p) done) same (listens-ok path result x (config_refusal c) is h);
+  serves = λ is_done. subst (λ (p : List ℕ). Serves c (desk_sockets (is_named p) c) [] s) same serves;
+  recorded = λ is_done. refl;
+  unnamed = λ is_done. refl;
   inputs = λ is_done. refl;
   visits = λ is_done. refl;
   text = λ is_done. refl;
@@ -81,10 +83,12 @@ listens result x c desk new s port so serves is h = rw so (record {
 })
 
 -- it does not
-pub listens-not : {X : Type 0} (result : Result X ListenError) (e : ListenError) (c : Config) (desk : Standing) (code : ℤ) → code ≡ listen_code e → result ≡ Err e → IsRefusedBy (config_refusal c) result → Listens c desk desk code
-listens-not result e c desk code code_is is h = rw code_is (record {
-  answer = listens-err result e (config_refusal c) is h;
+pub listens-not : {X : Type 0} (result : Result X ListenError) (e : ListenError) (c : Config) (desk : Standing) (code : ℤ) (path : List ℕ) → path ≡ desk.record_path → code ≡ listen_code e → result ≡ Err e → IsRefusedBy path (config_refusal c) result → Listens c desk desk code
+listens-not result e c desk code path same code_is is h = rw code_is (record {
+  answer = subst (λ (p : List ℕ). Answers (option_map code_of (config_refusal c)) (IsListenCode p) (listen_code e)) same (listens-err path result e (config_refusal c) is h);
   serves = λ is_done. absurd (never-listens e is_done);
+  recorded = λ is_done. absurd (never-listens e is_done);
+  unnamed = λ is_done. absurd (never-listens e is_done);
   inputs = λ is_done. absurd (never-listens e is_done);
   visits = λ is_done. absurd (never-listens e is_done);
   text = λ is_done. absurd (never-listens e is_done);
@@ -113,14 +117,14 @@ done-all (Err (Screen e)) P h is_done = absurd (never_done e is_done)
 all-counted : (told came came_lost room kept_lost lost now : ℕ) → told ≤ came + came_lost → came_lost + (came - room) ≤ kept_lost → now ≡ min (lost + kept_lost) (2 ^ 64 - 1) → now < 2 ^ 64 - 1 → told ≤ min room came + (now - lost)
 all-counted told came came_lost room kept_lost lost now missing put is few = omega (missing, put, is, few, arith)
 
-pub turns : (desk : Standing) (before : Option Serving) (s t : Serving) (answer : Result (Unit {0}) LoopError) (code : ℤ) (port : ℕ) (inputs inputs_kept inputs_put came : List (ℕ × Input)) (visits visits_kept visits_put : List Visit) (text : List ℕ) (lost lost_now came_lost kept_lost full full_now : ℕ)
-    → record { served = before; port = port; inputs = inputs; visits = visits; text = text; lost = lost; full_requests = full } ≡ desk → before ≡ Some s → code ≡ turn_code answer
-    → ((c : Config) (list : List Event) → Serves c (sockets c) list s → (more : List Event) × Serves c (sockets c) (list ++ more) t
+pub turns : (desk : Standing) (before : Option Serving) (s t : Serving) (answer : Result (Unit {0}) LoopError) (code : ℤ) (port : ℕ) (inputs inputs_kept inputs_put came : List (ℕ × Input)) (visits visits_kept visits_put : List Visit) (text : List ℕ) (lost lost_now came_lost kept_lost full full_now : ℕ) (path : List ℕ) (on : Bool)
+    → record { served = before; port = port; inputs = inputs; visits = visits; text = text; lost = lost; full_requests = full; record_path = path; recorded = on } ≡ desk → before ≡ Some s → code ≡ turn_code answer
+    → ((c : Config) (list : List Event) → Serves c (desk_sockets on c) list s → (more : List Event) × Serves c (desk_sockets on c) (list ++ more) t
     × ((told rest : List (ℕ × Input)) × (told ++ rest ≡ inputs_after c list more) × OnOk answer (rest ≡ []) × IsKept told came came_lost))
     → inputs_kept ≡ inputs → visits_kept ≡ visits → inputs_put ≡ inputs_kept ++ take (4096 - length inputs_kept) came → (kept_lost < 2 ^ 64 - 1 → came_lost + (length came - (4096 - length inputs_kept)) ≤ kept_lost) → IsPutBehind 1024 visits_kept visits_put
     → lost_now ≡ min (lost + kept_lost) (2 ^ 64 - 1) → lost ≤ lost_now → full ≤ full_now
-    → TakesTurn desk (record { served = Some t; port = port; inputs = inputs_put; visits = visits_put; text = text; lost = lost_now; full_requests = full_now }) code
-turns desk before s t answer code port inputs inputs_kept inputs_put came visits visits_kept visits_put text lost lost_now came_lost kept_lost full full_now view is code_is goes inputs_are visits_are inputs_come none visits_come lost_is more more_full =
+    → TakesTurn desk (record { served = Some t; port = port; inputs = inputs_put; visits = visits_put; text = text; lost = lost_now; full_requests = full_now; record_path = path; recorded = on }) code
+turns desk before s t answer code port inputs inputs_kept inputs_put came visits visits_kept visits_put text lost lost_now came_lost kept_lost full full_now path on view is code_is goes inputs_are visits_are inputs_come none visits_come lost_is more more_full =
     rw (sym view) (rw is (record {
       answer = (answer, code_is);
       served = λ c list stands.
@@ -149,10 +153,10 @@ turns desk before s t answer code port inputs inputs_kept inputs_put came visits
     }))
 
 -- memory is refused before it begins
-pub no-turn : (desk : Standing) (before : Option Serving) (s : Serving) (port : ℕ) (inputs inputs_kept : List (ℕ × Input)) (visits visits_kept : List Visit) (text : List ℕ) (lost full : ℕ) (code : ℤ)
-    → record { served = before; port = port; inputs = inputs; visits = visits; text = text; lost = lost; full_requests = full } ≡ desk → before ≡ Some s → code ≡ out_of_memory → inputs_kept ≡ inputs → visits_kept ≡ visits
-    → TakesTurn desk (record { served = Some s; port = port; inputs = inputs_kept; visits = visits_kept; text = text; lost = lost; full_requests = full }) code
-no-turn desk before s port inputs inputs_kept visits visits_kept text lost full code view is code_is inputs_are visits_are =
+pub no-turn : (desk : Standing) (before : Option Serving) (s : Serving) (port : ℕ) (inputs inputs_kept : List (ℕ × Input)) (visits visits_kept : List Visit) (text : List ℕ) (lost full : ℕ) (path : List ℕ) (on : Bool) (code : ℤ)
+    → record { served = before; port = port; inputs = inputs; visits = visits; text = text; lost = lost; full_requests = full; record_path = path; recorded = on } ≡ desk → before ≡ Some s → code ≡ out_of_memory → inputs_kept ≡ inputs → visits_kept ≡ visits
+    → TakesTurn desk (record { served = Some s; port = port; inputs = inputs_kept; visits = visits_kept; text = text; lost = lost; full_requests = full; record_path = path; recorded = on }) code
+no-turn desk before s port inputs inputs_kept visits visits_kept text lost full path on code view is code_is inputs_are visits_are =
     rw (sym view) (rw is (rw code_is (record {
       answer = (Err (Screen OutOfMemory), refl);
       served = λ c list stands. record {
@@ -175,13 +179,13 @@ no-turn desk before s port inputs inputs_kept visits visits_kept text lost full 
     })))
 
 -- a viewer is let go, where one has the number
-pub lets_go : (desk : Standing) (before : Option Serving) (s t : Serving) (v : ℕ) (there : Result Bool AllocError) (number code : ℤ) (port : ℕ) (inputs : List (ℕ × Input)) (visits : List Visit) (text : List ℕ) (lost full : ℕ)
-    → number ≡ code → record { served = before; port = port; inputs = inputs; visits = visits; text = text; lost = lost; full_requests = full } ≡ desk → before ≡ Some s → code ≡ closed_code there
+pub lets_go : (desk : Standing) (before : Option Serving) (s t : Serving) (v : ℕ) (there : Result Bool AllocError) (number code : ℤ) (port : ℕ) (inputs : List (ℕ × Input)) (visits : List Visit) (text : List ℕ) (lost full : ℕ) (path : List ℕ) (on : Bool)
+    → number ≡ code → record { served = before; port = port; inputs = inputs; visits = visits; text = text; lost = lost; full_requests = full; record_path = path; recorded = on } ≡ desk → before ≡ Some s → code ≡ closed_code there
     → (there ≡ Ok false → (key : ℕ) → number_at s.slots key ≢ Some v) → GoesOnServing s t
-    → LetsGo v desk (record { served = Some t; port = port; inputs = inputs; visits = visits; text = text; lost = lost; full_requests = full }) number
-lets_go desk before s t v there number code port inputs visits text lost full number_is view is code_is none goes =
+    → LetsGo v desk (record { served = Some t; port = port; inputs = inputs; visits = visits; text = text; lost = lost; full_requests = full; record_path = path; recorded = on }) number
+lets_go desk before s t v there number code port inputs visits text lost full path on number_is view is code_is none goes =
     rw (sym view) (rw is (rw number_is (record {
       answer = (there, code_is, none);
-      served = λ c list stands. let p = goes None c list stands in (p.0, p.1);
+      served = λ c list stands. let p = goes (held_where on) c list stands in (p.0, p.1);
       same = refl;
     })))

@@ -1,5 +1,5 @@
 -- What the calls of a server's desk do: the number that each answers, and the desk before and after it.
-use Rattle.std.specs.Prelude.{◌≡◌, ◌≢◌, ◌⊎◌, ℕ, ◌^◌, ◌+◌, ◌-◌, ◌<◌, ◌≤◌, min, ℤ, pos, Bool, true, false, ◌<ℤ◌, ◌≤ℤ◌, List, [], ◌∷◌, ◌++◌, length, drop, take, Option, Some, None, Result, Ok, MatchOption, option_map}
+use Rattle.std.specs.Prelude.{◌≡◌, ◌≢◌, ◌⊎◌, ℕ, ◌^◌, ◌+◌, ◌-◌, ◌<◌, ◌≤◌, min, ℤ, pos, Bool, true, false, if◌then◌else◌, ◌<ℤ◌, ◌≤ℤ◌, List, [], ◌∷◌, ◌++◌, length, drop, take, Option, Some, None, Result, Ok, MatchOption, option_map}
 use Rattle.std.specs.declared.alloc.AllocError.{AllocError}
 use Rattle.region.specs.declared.Rect.{Rect}
 use Rattle.screen.specs.declared.Config.{Config}
@@ -9,7 +9,7 @@ use Rattle.screen.specs.declared.ScreenError.TheVariants.{OutOfMemory}
 use Rattle.screen.specs.Alone.{config_refusal}
 use Rattle.connections.specs.Telling.{inputs_after}
 use Rattle.connections.specs.Serving.{Serving, Serves, number_at}
-use Rattle.event_loop.specs.Sockets.{sockets}
+use Rattle.connections.specs.Recorded.{is_broken}
 use Rattle.source_pixels.specs.Source.{Source}
 use Rattle.screen.specs.Takes.{IsTaken, IsPartlyTaken}
 use Rattle.screen.specs.Paints.{paints_of}
@@ -21,20 +21,36 @@ use Rattle.screen_desk.specs.Inputs.{IsFetched}
 use Rattle.screen_desk.specs.declared.settings.ViewerSettings.{ViewerSettings}
 use Rattle.screen_desk.specs.declared.told.Told.{Told}
 use Rattle.server_desk.specs.declared.visits.Visit.{Visit}
-use Rattle.server_desk.specs.Codes.{bad_address, cannot_listen, network_failed, closed_code, turn_code}
+use Rattle.server_desk.specs.Codes.{bad_address, cannot_listen, cannot_record, network_failed, closed_code, turn_code}
 use Rattle.screen_desk.specs.Pixels.{source_due}
-use Rattle.server_desk.specs.Desk.{Standing, StandsFor, IsAsBefore, IsPartOf, IsPutBehind, due, region_due}
+use Rattle.server_desk.specs.Desk.{Standing, StandsFor, IsAsBefore, IsPartOf, IsPutBehind, desk_sockets, due, is_named, region_due}
 
--- the desk listens, and serves a screen with nothing on it to no viewer yet; or it is as it was
+-- what a call of `listen` answers where the screen is none that is refused, by the path of the file in which it is to be recorded
+abbrev pub IsListenCode : List ℕ → ℤ → Type 0
+IsListenCode path code = (code ≡ done) ⊎ ((code ≡ bad_address) ⊎ ((code ≡ cannot_listen) ⊎ ((code ≡ cannot_record) × (is_named path ≡ true))))
+
+-- the desk listens, and serves a screen with nothing on it to no viewer yet, which is recorded where a file was named; or it is as it was
 pub record Listens (c : Config) (old new : Standing) (code : ℤ) : Type 0 where
-  pub answer : Answers (option_map code_of (config_refusal c)) (λ n. (n ≡ done) ⊎ ((n ≡ bad_address) ⊎ (n ≡ cannot_listen))) code
+  pub answer : Answers (option_map code_of (config_refusal c)) (IsListenCode old.record_path) code
   pub serves : code ≡ done → StandsFor c [] new
+  pub recorded : code ≡ done → new.recorded ≡ is_named old.record_path
+  pub unnamed : code ≡ done → new.record_path ≡ []
   pub inputs : code ≡ done → new.inputs ≡ []
   pub visits : code ≡ done → new.visits ≡ []
   pub text : code ≡ done → new.text ≡ []
   pub lost : code ≡ done → new.lost ≡ 0
   pub full_requests : code ≡ done → new.full_requests ≡ 0
   pub refused : code ≢ done → new ≡ old
+
+-- the next screen is recorded in the file of this path, or in none; or memory for the path is refused
+pub record NamesRecord (path : List ℕ) (old new : Standing) (code : ℤ) : Type 0 where
+  pub answer : (code ≡ done) ⊎ (code ≡ out_of_memory)
+  pub named : code ≡ done → new ≡ record old { record_path = path }
+  pub refused : code ≢ done → new ≡ old
+
+-- whether what is served is recorded: 0 for no, 1 for yes, 2 where the record has ended before its session
+abbrev pub record_state : Bool → Serving → ℤ
+record_state recorded s = if recorded then (if is_broken s.surface.scribed then pos 2 else pos 1) else pos 0
 
 -- The screen stands for a list with more events behind it. Of the inputs of these, or of the first ones where the turn ended by an error, some wait behind those that waited, in order; no more are missing than are counted as lost.
 pub record IsTurnBy (c : Config) (list : List Event) (old new : Standing) (code : ℤ) : Type 0 where
@@ -130,26 +146,26 @@ take_due None source = Some shut
 take_due (Some served) source = source_due source
 
 -- they are taken in: so many places changed, what differed is painted, and by that each viewer is served
-pub record IsTakenIn (s : Source) (left top : ℕ) (c : Config) (list : List Event) (old new : Serving) (code : ℤ) : Type 0 where
+pub record IsTakenIn (s : Source) (left top : ℕ) (recorded : Bool) (c : Config) (list : List Event) (old new : Serving) (code : ℤ) : Type 0 where
   pub places : ℕ
   pub number : code ≡ pos (min places (2 ^ 62))
   pub taken : IsTaken s left top c list old.surface.screen new.surface.screen places
-  pub served : Serves c (sockets c) (list ++ paints_of left top taken.pieces) new
+  pub served : Serves c (desk_sockets recorded c) (list ++ paints_of left top taken.pieces) new
 
 -- for want of memory only some of what differed is painted
-pub record IsTakenInPart (s : Source) (left top : ℕ) (c : Config) (list : List Event) (old new : Serving) : Type 0 where
+pub record IsTakenInPart (s : Source) (left top : ℕ) (recorded : Bool) (c : Config) (list : List Event) (old new : Serving) : Type 0 where
   pub taken : IsPartlyTaken s left top c list old.surface.screen new.surface.screen OutOfMemory
-  pub served : Serves c (sockets c) (list ++ paints_of left top taken.pieces) new
+  pub served : Serves c (desk_sockets recorded c) (list ++ paints_of left top taken.pieces) new
 
 -- a program's own pixels are taken into the picture, with their corner at a place of it
-abbrev pub TakesIn : ℕ → ℕ → ℤ → Option Source → Option Serving → Option Serving → Type 0
-TakesIn left top code (Some s) (Some a) (Some b) = (c : Config) (list : List Event) → config_refusal c ≡ None → Serves c (sockets c) list a → IsTakenIn s left top c list a b code ⊎ ((code ≡ out_of_memory) × IsTakenInPart s left top c list a b)
-TakesIn left top code (Some s) (Some a) None = ⊥
-TakesIn left top code source old new = Unit {0}
+abbrev pub TakesIn : ℕ → ℕ → ℤ → Bool → Option Source → Option Serving → Option Serving → Type 0
+TakesIn left top code recorded (Some s) (Some a) (Some b) = (c : Config) (list : List Event) → config_refusal c ≡ None → Serves c (desk_sockets recorded c) list a → IsTakenIn s left top recorded c list a b code ⊎ ((code ≡ out_of_memory) × IsTakenInPart s left top recorded c list a b)
+TakesIn left top code recorded (Some s) (Some a) None = ⊥
+TakesIn left top code recorded source old new = Unit {0}
 
 pub record TakesPixels (source : Option Source) (left top : ℕ) (old new : Standing) (code : ℤ) : Type 0 where
   pub refused : (refusal : ℤ) → take_due old.served source ≡ Some refusal → (code ≡ refusal) × (new ≡ old)
-  pub taken : take_due old.served source ≡ None → TakesIn left top code source old.served new.served
+  pub taken : take_due old.served source ≡ None → TakesIn left top code old.recorded source old.served new.served
   pub same : new ≡ record old { served = new.served }
 
 -- a call changes nothing, and answers some number, or shut

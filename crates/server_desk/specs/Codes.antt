@@ -19,6 +19,9 @@ network_failed = minus 15
 abbrev pub clock_failed : ℤ
 clock_failed = minus 16
 
+abbrev pub cannot_record : ℤ
+cannot_record = minus 20
+
 -- why a turn ended, or 0
 abbrev pub turn_code : Result (Unit {0}) LoopError → ℤ
 turn_code (Ok x) = done

@@ -1,5 +1,5 @@
 -- What a server's desk holds.
-use Rattle.std.specs.Prelude.{◌≡◌, ◌⊎◌, ℕ, ◌+◌, ◌-◌, ◌^◌, ◌<◌, ◌≤◌, ℤ, List, [], ◌∷◌, ◌++◌, length, take, Option, Some, None, option_map, not}
+use Rattle.std.specs.Prelude.{◌≡◌, ◌⊎◌, ℕ, ◌+◌, ◌-◌, ◌^◌, ◌<◌, ◌≤◌, nat_lt, ℤ, Bool, false, if◌then◌else◌, List, [], ◌∷◌, ◌++◌, length, take, Option, Some, None, option_map, not}
 use Rattle.std.specs.List.{list_any}
 use Rattle.region.specs.declared.Rect.{Rect}
 use Rattle.region.specs.RegionView.{in_range}
@@ -7,13 +7,13 @@ use Rattle.screen.specs.declared.Input.{Input}
 use Rattle.screen.specs.declared.Config.{Config}
 use Rattle.screen.specs.declared.Event.{Event}
 use Rattle.screen.specs.State.{State}
-use Rattle.connections.specs.Serving.{Serving, Serves}
-use Rattle.event_loop.specs.Sockets.{sockets}
+use Rattle.connections.specs.Serving.{Began, Serving, Serves}
+use Rattle.event_loop.specs.Sockets.{sockets_and}
 use Rattle.screen_desk.specs.Codes.{shut}
 use Rattle.screen_desk.specs.Desk.{due_by, far_or_none}
 use Rattle.server_desk.specs.declared.visits.Visit.{Visit}
 
--- the screen and its viewers' connections, unless the desk is shut; the port; what came and wasn't fetched, the inputs with their viewers' numbers; the text that was fetched last; how much was lost; and how many full requests were told
+-- the screen and its viewers' connections, unless the desk is shut; the port; what came and wasn't fetched, the inputs with their viewers' numbers; the text that was fetched last; how much was lost; how many full requests were told; the path of the file in which the next screen is recorded, empty for none; and whether this one is recorded
 pub record Standing : Type 0 where
   pub served : Option Serving
   pub port : ℕ
@@ -22,21 +22,35 @@ pub record Standing : Type 0 where
   pub text : List ℕ
   pub lost : ℕ
   pub full_requests : ℕ
+  pub record_path : List ℕ
+  pub recorded : Bool
 
 -- how many copies, and how many rectangles of pixels, an update has at most
 abbrev pub rects_per_update : ℕ
 rects_per_update = 1000
 
 abbrev pub nothing_there : Standing
-nothing_there = record { served = None; port = 0; inputs = []; visits = []; text = []; lost = 0; full_requests = 0 }
+nothing_there = record { served = None; port = 0; inputs = []; visits = []; text = []; lost = 0; full_requests = 0; record_path = []; recorded = false }
 
--- the screen stands for a list of events, and by that list each viewer is served
-abbrev pub IsServedBy : Config → List Event → Option Serving → Type 0
-IsServedBy c list None = ⊥
-IsServedBy c list (Some s) = Serves c (sockets c) list s
+-- a path names a file
+abbrev pub is_named : List ℕ → Bool
+is_named path = nat_lt 0 (length path)
+
+-- what a record's file is known to hold before: nothing is; and None without a record
+abbrev pub held_where : Bool → Option (Option (List ℕ))
+held_where recorded = if recorded then Some None else None
+
+-- what the sockets of a desk carried when it began to listen
+abbrev pub desk_sockets : Bool → Config → Began
+desk_sockets recorded c = sockets_and (held_where recorded) c
+
+-- the screen stands for a list of events, and by that list each viewer is served, and the record is written, where there is one
+abbrev pub IsServedBy : Bool → Config → List Event → Option Serving → Type 0
+IsServedBy recorded c list None = ⊥
+IsServedBy recorded c list (Some s) = Serves c (desk_sockets recorded c) list s
 
 abbrev pub StandsFor : Config → List Event → Standing → Type 0
-StandsFor c list desk = IsServedBy c list desk.served
+StandsFor c list desk = IsServedBy desk.recorded c list desk.served
 
 abbrev pub screen_of : Standing → Option State
 screen_of desk = option_map (λ s. s.surface.screen) desk.served

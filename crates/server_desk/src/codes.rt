@@ -20,6 +20,9 @@ pub const NETWORK_FAILED: i32 = -15;
 /// The system failed to say what time it is.
 pub const CLOCK_FAILED: i32 = -16;
 
+/// The file of a record is there already, or can't be made.
+pub const CANNOT_RECORD: i32 = -20;
+
 /// 0, or why a turn ended.
 pub(crate) fn turn_code(answer: Result<(), LoopError>) -> i32
     ensures { result ≡ code.turn_code answer }

@@ -1,6 +1,6 @@
 //! The desk: the calls of a server, and what waits to be fetched.
 
-ghost use Rattle.std.specs.Prelude.{◌≡◌, ◌≤◌, ◌<◌, ◌+◌, ◌-◌, ◌∷◌, ◌++◌, [], ◌^◌, take, pos, map, min, length, None, IfOk, IfErr, OnOk, is_some, count_by};
+ghost use Rattle.std.specs.Prelude.{◌≡◌, ◌≤◌, ◌<◌, ◌+◌, ◌-◌, ◌∷◌, ◌++◌, [], ◌^◌, take, pos, map, min, length, None, Some, IfOk, IfErr, OnOk, is_some, count_by};
 ghost use Rattle.screen.specs.declared.Event.{Event};
 ghost use Rattle.screen.specs.Alone.{config_refusal};
 ghost use Rattle.screen.specs.Calls.{event_of};
@@ -9,14 +9,14 @@ ghost use Rattle.screen_desk.specs.Codes.{IsRefusal};
 ghost use Rattle.screen_desk.specs.Calls.{colour_at};
 ghost use Rattle.screen_desk.specs.Desk.{rect_of, config_of, IsListOf};
 ghost use Rattle.std.specs.VecDeque.{deque_capacity};
-ghost use Rattle.server_desk.specs.Desk.{nothing_there, rects_per_update, IsPutBehind, region_due};
-ghost use Rattle.server_desk.specs.Calls.{Listens, TakesTurn, Draws, DrawsRegion, FetchesInputs, FetchesVisits, ShowsText, ShowsSettings, Tells, TellsAddress, TellsSome, LetsGo, TakesPixels};
+ghost use Rattle.server_desk.specs.Desk.{is_named, nothing_there, rects_per_update, IsPutBehind, region_due};
+ghost use Rattle.server_desk.specs.Calls.{Listens, NamesRecord, record_state, TakesTurn, Draws, DrawsRegion, FetchesInputs, FetchesVisits, ShowsText, ShowsSettings, Tells, TellsAddress, TellsSome, LetsGo, TakesPixels};
 ghost use Rattle.screen_desk.specs.Pixels.{format_of, source_from};
 ghost use Rattle.source_pixels.specs.declared.formats.SourceFormat.TheVariants as format;
 
 use crate::codes::{CLOCK_FAILED, NETWORK_FAILED, closed_code, turn_code};
 use crate::gathering::Gathering;
-use crate::listening::{Listening, listen_on};
+use crate::listening::{Address, Listening, listen_on};
 use crate::news::{
     MOST_INPUTS, MOST_TEXT, MOST_VISITS, fetch_inputs, fetch_visits, is_text_at, make_room, put_all,
 };
@@ -52,6 +52,10 @@ pub struct ServerDesk {
     text_room: usize,
     lost: u64,
     full_requests: u64,
+    // the file in which the screen that is served next is recorded, empty for none
+    record_path: Listed<u8>,
+    // what is served now is recorded
+    is_recorded: bool,
 }
 
 // Written out, so that who holds one proves one call here, and not the drop of each field.
@@ -67,6 +71,8 @@ impl Drop for ServerDesk {
             text_room: _text_room,
             lost: _lost,
             full_requests: _full_requests,
+            record_path: _record_path,
+            is_recorded: _is_recorded,
         } = self;
     }
 }
@@ -76,7 +82,7 @@ impl Model for ServerDesk {
 
     ghost Value = { Standing };
 
-    ghost view = { λ a. record { served = a.events; port = a.port; inputs = a.inputs.items; visits = a.visits.items; text = a.text; lost = a.lost; full_requests = a.full_requests } };
+    ghost view = { λ a. record { served = a.events; port = a.port; inputs = a.inputs.items; visits = a.visits.items; text = a.text; lost = a.lost; full_requests = a.full_requests; record_path = a.record_path; recorded = a.is_recorded } };
 }
 
 /// Makes room for as much as may wait.
@@ -123,14 +129,44 @@ impl ServerDesk {
             text_room: MOST_TEXT,
             lost: 0,
             full_requests: 0,
+            record_path: Listed::new(alloc),
+            is_recorded: false,
         }
+    }
+
+    /// Names the file in which the screen that `listen` serves next is recorded, by its path of at most 4,095 bytes; none by a path of no
+    /// bytes. The file is made by `listen`, and `vncdemo replay` reads it. `OutOfMemory`'s code where memory for the path is refused.
+    pub fn record_next(&mut self, path: &[u8]) -> i32
+        ensures { NamesRecord path.now self.old self.new result }
+    {
+        match Listed::from_slice(self.alloc, path) {
+            Ok(path) => {
+                self.record_path = path;
+                0
+            }
+            Err(_) => code_of(ScreenError::OutOfMemory),
+        }
+    }
+
+    /// Whether what is served is recorded: 0 for no, 1 for yes, and 2 where the record has ended before its session, since a write of it
+    /// failed, or memory for a region's rectangles was refused.
+    pub fn record_state(&mut self) -> i32
+        ensures { Tells (record_state self.old.recorded) self.old self.new result }
+    {
+        let Some(events) = &self.events else {
+            return SHUT;
+        };
+        if !self.is_recorded {
+            return 0;
+        }
+        if events.is_record_broken() { 2 } else { 1 }
     }
 
     /// Listens on a port of an address, and serves a black screen to as many viewers at once as `viewers` says (`rfbGetScreen` and
     /// `rfbInitServer` of `rfb.h`); a further one waits until one has left. What was open is closed. `address` is an IP address in
     /// digits, as `127.0.0.1`, `0.0.0.0` for all of the machine's, or `::1`; of port 0 the system chooses one, which `port` tells.
-    /// `name` is the desktop's (RFC 6143, 7.3.2), of at most 255 bytes. `BAD_ADDRESS` where the address isn't one, and
-    /// `CANNOT_LISTEN` where the system refuses it.
+    /// `name` is the desktop's (RFC 6143, 7.3.2), of at most 255 bytes. `BAD_ADDRESS` where the address isn't one, `CANNOT_LISTEN`
+    /// where the system refuses it, and `CANNOT_RECORD` where `record_next` named a file that is there already, or can't be made.
     pub fn listen(
         &mut self,
         address: &[u8],
@@ -142,15 +178,47 @@ impl ServerDesk {
     ) -> i32
         ensures { Listens (config_of width height name.now rects_per_update) self.old self.new result }
     {
-        match listen_on(self.alloc, address, port, width, height, name, viewers) {
+        let digits = address;
+        let path = self.record_path.as_slice();
+        match listen_on(
+            self.alloc,
+            Address { digits, port },
+            width,
+            height,
+            name,
+            viewers,
+            path,
+        ) {
             Ok(Listening { events, port }) => {
-                self.events = Some(events);
-                self.port = port;
-                self.clear();
+                self.serve(events, port);
                 0
             }
             Err(e) => e.code(),
         }
+    }
+
+    /// Serves by a loop that was made, in place of another. A file for the next record isn't named any more.
+    fn serve(&mut self, events: EventLoop, port: u16)
+        ensures { self.new ≡ record { served = Some events; port = port; inputs = []; visits = []; text = []; lost = 0; full_requests = 0; record_path = []; recorded = is_named self.old.record_path } }
+    {
+        self.end();
+        self.is_recorded = !self.record_path.is_empty();
+        self.record_path = Listed::new(self.alloc);
+        self.events = Some(events);
+        self.port = port;
+    }
+
+    /// Nothing is served and nothing waits any more. What waits of a record is written.
+    fn end(&mut self)
+        ensures { self.new ≡ record nothing_there { record_path = self.old.record_path } }
+    {
+        if let Some(events) = &mut self.events {
+            events.flush_record();
+        }
+        self.events = None;
+        self.port = 0;
+        self.is_recorded = false;
+        self.clear();
     }
 
     /// Nothing waits any more.
@@ -165,14 +233,13 @@ impl ServerDesk {
         self.full_requests = 0;
     }
 
-    /// The server is gone: its port is free, and its viewers' connections are closed (`rfbShutdownServer` and `rfbScreenCleanup` of
-    /// `rfb.h`). It answers 0, also where the desk is shut.
+    /// The server is gone: its port is free, its viewers' connections are closed, and its record is written to its end
+    /// (`rfbShutdownServer` and `rfbScreenCleanup` of `rfb.h`). It answers 0, also where the desk is shut.
     pub fn close(&mut self) -> i32
         ensures { (self.new ≡ nothing_there) × (result ≡ codes.done) }
     {
-        self.events = None;
-        self.port = 0;
-        self.clear();
+        self.end();
+        self.record_path = Listed::new(self.alloc);
         0
     }
 

@@ -1,16 +1,18 @@
 //! How a server begins.
 
-ghost use Rattle.std.specs.Prelude.{◌≡◌, [], IfOk, IfErr};
+ghost use Rattle.std.specs.Prelude.{◌≡◌, ℕ, List, [], true, IfOk, IfErr};
 ghost use Rattle.connections.specs.Serving.{Serves};
-ghost use Rattle.event_loop.specs.Sockets.{sockets};
 ghost use Rattle.screen.specs.Alone.{config_refusal};
 ghost use Rattle.screen_desk.specs.Desk.{config_of};
-ghost use Rattle.server_desk.specs.Desk.{rects_per_update};
+ghost use Rattle.server_desk.specs.Desk.{desk_sockets, is_named, rects_per_update};
 ghost use Rattle.server_desk.specs.Listening.{IsOfSystem, IsRefusedBy, listen_code};
 
-use crate::codes::{BAD_ADDRESS, CANNOT_LISTEN};
+use crate::codes::{BAD_ADDRESS, CANNOT_LISTEN, CANNOT_RECORD};
 use crate::system::{Network, address_of};
-use event_loop::{Config, EventLoop, History, Limits, Listed, LoopError, ScreenError, WhenFull};
+use event_loop::{
+    Config, EventLoop, History, Limits, Listed, LoopError, PrivateFile, RecordWriter, ScreenError,
+    WhenFull,
+};
 use mio::net::TcpListener;
 use screen::{MOST_RECTS, config_refusal};
 use screen_desk::code_of;
@@ -29,6 +31,8 @@ pub(crate) enum ListenError {
     BadAddress,
     /// The system doesn't let it listen there, or has no more handles.
     CannotListen,
+    /// The file of its record is there already, or can't be made.
+    CannotRecord,
 }
 
 impl ListenError {
@@ -40,8 +44,16 @@ impl ListenError {
             ListenError::Refused(e) => code_of(e),
             ListenError::BadAddress => BAD_ADDRESS,
             ListenError::CannotListen => CANNOT_LISTEN,
+            ListenError::CannotRecord => CANNOT_RECORD,
         }
     }
+}
+
+/// An IP address in digits, as `127.0.0.1` or `::1`, and a port, 0 for one that the system chooses.
+#[derive(Clone, Copy)]
+pub(crate) struct Address<'a> {
+    pub digits: &'a [u8],
+    pub port: u16,
 }
 
 /// A loop, and the port on which it listens.
@@ -52,10 +64,10 @@ pub(crate) struct Listening {
 }
 
 /// A socket that listens, and its port.
-fn bind(address: &[u8], port: u16) -> Result<(TcpListener, u16), ListenError>
-    ensures { IfErr result IsOfSystem }
+fn bind(at: Address<'_>) -> Result<(TcpListener, u16), ListenError>
+    ensures { IfErr result (IsOfSystem []) }
 {
-    let Some(address) = address_of(address, port) else {
+    let Some(address) = address_of(at.digits, at.port) else {
         return Err(ListenError::BadAddress);
     };
     let Ok(listener) = TcpListener::bind(&Network, address) else {
@@ -75,27 +87,62 @@ fn limits_of(viewers: u32) -> Limits {
     limits
 }
 
-/// A loop that serves a screen, whose configuration is within the limits.
+/// Why a screen isn't served whose configuration is within the limits.
+fn refused(error: LoopError) -> ListenError
+    ensures { (path : List ℕ) → IsOfSystem path result }
+{
+    match error {
+        LoopError::Screen(_) => ListenError::Refused(ScreenError::OutOfMemory),
+        _ => ListenError::CannotListen,
+    }
+}
+
+/// A loop that serves a screen, whose configuration is within the limits, and records it in a file that is made.
+fn serve_recorded(
+    alloc: Global,
+    listener: TcpListener,
+    config: Config,
+    limits: Limits,
+    record_path: &[u8],
+) -> Result<EventLoop, ListenError>
+    ensures serves { IfOk result (λ events. Serves config (desk_sockets true config) [] events) }
+    ensures err { IfErr result (λ e. (path : List ℕ) → is_named path ≡ true → IsOfSystem path e) }
+{
+    let Ok(file) = PrivateFile::create(record_path) else {
+        return Err(ListenError::CannotRecord);
+    };
+    let writer = RecordWriter::PrivateFile(file);
+    match EventLoop::recorded(&Network, alloc, listener, config, limits, writer) {
+        Ok(events) => Ok(events),
+        Err(e) => Err(refused(e)),
+    }
+}
+
+/// A loop that serves a screen, whose configuration is within the limits, and records it where a path names a file.
 fn serve(
     alloc: Global,
     listener: TcpListener,
     config: Config,
     viewers: u32,
+    record_path: &[u8],
 ) -> Result<EventLoop, ListenError>
-    ensures serves { IfOk result (λ events. Serves config (sockets config) [] events) }
-    ensures err { IfErr result IsOfSystem }
+    ensures serves { IfOk result (λ events. Serves config (desk_sockets (is_named record_path.now) config) [] events) }
+    ensures err { IfErr result (IsOfSystem record_path.now) }
 {
-    match EventLoop::new(&Network, alloc, listener, config, limits_of(viewers)) {
+    let limits = limits_of(viewers);
+    if !record_path.is_empty() {
+        return serve_recorded(alloc, listener, config, limits, record_path);
+    }
+    match EventLoop::new(&Network, alloc, listener, config, limits) {
         Ok(events) => Ok(events),
-        Err(LoopError::Screen(_)) => Err(ListenError::Refused(ScreenError::OutOfMemory)),
-        Err(_) => Err(ListenError::CannotListen),
+        Err(e) => Err(refused(e)),
     }
 }
 
 /// A screen that keeps no events, named `name`.
 fn config_of(alloc: Global, width: u32, height: u32, name: &[u8]) -> Result<Config, ListenError>
     ensures ok { IfOk result (λ config. config ≡ config_of width height name.now rects_per_update) }
-    ensures err { IfErr result IsOfSystem }
+    ensures err { IfErr result (IsOfSystem []) }
 {
     let Ok(name) = Listed::from_slice(alloc, name) else {
         return Err(ListenError::Refused(ScreenError::OutOfMemory));
@@ -112,37 +159,37 @@ fn config_of(alloc: Global, width: u32, height: u32, name: &[u8]) -> Result<Conf
 /// A loop that serves a black screen to no viewer yet, whose configuration is within the limits.
 fn open(
     alloc: Global,
-    address: &[u8],
-    port: u16,
+    at: Address<'_>,
     width: u32,
     height: u32,
     name: &[u8],
     viewers: u32,
+    record_path: &[u8],
 ) -> Result<Listening, ListenError>
-    ensures serves { IfOk result (λ made. Serves (config_of width height name.now rects_per_update) (sockets (config_of width height name.now rects_per_update)) [] made.events) }
-    ensures err { IfErr result IsOfSystem }
+    ensures serves { IfOk result (λ made. Serves (config_of width height name.now rects_per_update) (desk_sockets (is_named record_path.now) (config_of width height name.now rects_per_update)) [] made.events) }
+    ensures err { IfErr result (IsOfSystem record_path.now) }
 {
-    let (listener, port) = bind(address, port)?;
+    let (listener, port) = bind(at)?;
     let config = config_of(alloc, width, height, name)?;
-    let events = serve(alloc, listener, config, viewers)?;
+    let events = serve(alloc, listener, config, viewers, record_path)?;
     Ok(Listening { events, port })
 }
 
-/// A loop that serves a black screen to no viewer yet, on a port of an address.
+/// A loop that serves a black screen to no viewer yet, on a port of an address. It is recorded where a path names a file.
 pub(crate) fn listen_on(
     alloc: Global,
-    address: &[u8],
-    port: u16,
+    at: Address<'_>,
     width: u32,
     height: u32,
     name: &[u8],
     viewers: u32,
+    record_path: &[u8],
 ) -> Result<Listening, ListenError>
-    ensures serves { IfOk result (λ made. Serves (config_of width height name.now rects_per_update) (sockets (config_of width height name.now rects_per_update)) [] made.events) }
-    ensures refused { IsRefusedBy (config_refusal (config_of width height name.now rects_per_update)) result }
+    ensures serves { IfOk result (λ made. Serves (config_of width height name.now rects_per_update) (desk_sockets (is_named record_path.now) (config_of width height name.now rects_per_update)) [] made.events) }
+    ensures refused { IsRefusedBy record_path.now (config_refusal (config_of width height name.now rects_per_update)) result }
 {
     match config_refusal(width, height, name, RECTS_PER_UPDATE) {
         Some(refusal) => Err(ListenError::Refused(refusal)),
-        None => open(alloc, address, port, width, height, name, viewers),
+        None => open(alloc, at, width, height, name, viewers, record_path),
     }
 }

@@ -2,7 +2,9 @@
 
 use Question::{Drawn, Seen, Sent, Viewers};
 use replay::{Asked, Question, replay_over};
-use std::alloc::Global;
+use std::alloc::{AllocError, Global};
+use std::io;
+use std::io::{BufReader, ErrorKind, Read};
 use std::test::Fail;
 
 /// A session, what is asked of it and of how many lines, what is written, and the status.
@@ -71,6 +73,67 @@ fn a_write_that_fails(rt: HostRuntime) -> Result<(), Fail> {
     let mut reader = OPENED.as_bytes();
     let status = replay_over(rt.alloc(), &mut reader, &mut writer, &mut errors, asked);
     assert!(rt; status == 5 && errors.is_empty());
+    Ok(())
+}
+
+// Hands out at most three bytes a read. Each read is interrupted first; at the end the next one may fail.
+#[derive(Drop)]
+struct Reading<'a> {
+    rest: &'a [u8],
+    is_interrupted: bool,
+    fails: bool,
+}
+
+impl Read for Reading<'_> {
+    fn read(&mut self, buf: &mut [u8]) -> io::Result<usize> {
+        self.is_interrupted = !self.is_interrupted;
+        if self.is_interrupted {
+            return Err(io::Error::from(ErrorKind::Interrupted));
+        }
+        if self.rest.is_empty() && self.fails {
+            return Err(io::Error::from(ErrorKind::BrokenPipe));
+        }
+        let count = self.rest.len().min(buf.len()).min(3);
+        let (piece, rest) = self.rest.split_at(count);
+        buf[..count].copy_from_slice(piece);
+        self.rest = rest;
+        Ok(count)
+    }
+}
+
+// Whether a session that is read with interruptions is answered so, of what a viewer was sent, with this status.
+fn is_sent(
+    alloc: Global,
+    fails: bool,
+    status: u8,
+    answer: &[u8],
+    said: &[u8],
+) -> Result<bool, AllocError> {
+    let asked = Asked {
+        question: Sent(1),
+        lines: u64::MAX,
+    };
+    let session = Reading {
+        rest: OPENED.as_bytes(),
+        is_interrupted: false,
+        fails,
+    };
+    let Ok(mut reader) = BufReader::new(alloc, session) else {
+        return Err(AllocError);
+    };
+    let mut written = Vec::new(alloc);
+    let mut errors = Vec::new(alloc);
+    let ended = replay_over(alloc, &mut reader, &mut written, &mut errors, asked);
+    Ok(ended == status && written.as_slice() == answer && errors.as_slice() == said)
+}
+
+#[test]
+fn reads_that_are_interrupted_are_tried_again(rt: HostRuntime) -> Result<(), Fail> {
+    let alloc = rt.alloc();
+    let whole =
+        b"RFB 003.008\n\x01\x01\x00\x00\x00\x00\x00\x04\x00\x03 \x18\x00\x01\x00\xff\x00\xff\x00\xff\x10\x08\x00\x00\x00\x00\x00\x00\x00\x04demo";
+    assert!(rt; is_sent(alloc, false, 0, whole, b"")?);
+    assert!(rt; is_sent(alloc, true, 5, whole, b"read fault\n")?);
     Ok(())
 }
 

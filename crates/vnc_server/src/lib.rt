@@ -14,7 +14,7 @@ ghost use Rattle.screen_desk.specs.Codes as codes;
 ghost use Rattle.screen_desk.specs.Calls.{colour_at};
 ghost use Rattle.screen_desk.specs.Desk.{rect_of, config_of};
 ghost use Rattle.server_desk.specs.Desk.{nothing_there, rects_per_update};
-ghost use Rattle.server_desk.specs.Calls.{Listens, TakesTurn, Draws, DrawsRegion, FetchesInputs, FetchesVisits, ShowsText, ShowsSettings, Tells, TellsAddress, TellsSome, LetsGo, TakesPixels, Wakes};
+ghost use Rattle.server_desk.specs.Calls.{Listens, NamesRecord, record_state, TakesTurn, Draws, DrawsRegion, FetchesInputs, FetchesVisits, ShowsText, ShowsSettings, Tells, TellsAddress, TellsSome, LetsGo, TakesPixels, Wakes};
 ghost use Rattle.screen_desk.specs.Pixels.{format_of, source_from};
 ghost use Rattle.source_pixels.specs.declared.formats.SourceFormat.TheVariants as format;
 
@@ -40,7 +40,7 @@ pub struct WakerPlace {
 /// The number of this interface: `VNC_SERVER_ABI` of the header.
 #[unsafe(no_mangle)]
 pub extern "C" fn vnc_server_abi() -> u32 {
-    4
+    5
 }
 
 /// How many bytes of memory C has to give for a server; their address is a multiple of 16.
@@ -56,6 +56,26 @@ pub unsafe extern "C" fn vnc_server_init(at: *mut Place, alloc: Global)
     ensures* { sem 𝓛 (leaves at (λ desk. desk ≡ nothing_there)) }
 {
     ptr::write(at as *mut ServerDesk, ServerDesk::new(alloc))
+}
+
+/// `ServerDesk::record_next`.
+#[unsafe(no_mangle)]
+pub unsafe extern "C" fn vnc_server_record(at: *mut Place, path: &[u8]) -> i32
+    ghost before: { desk_row.Denot }
+    requires* { sem 𝓛 (holds at before) }
+    ensures* { sem 𝓛 (leaves at (λ after. NamesRecord path.now before after result)) }
+{
+    ServerDesk::record_next(&mut *(at as *mut ServerDesk), path)
+}
+
+/// `ServerDesk::record_state`.
+#[unsafe(no_mangle)]
+pub unsafe extern "C" fn vnc_server_record_state(at: *mut Place) -> i32
+    ghost before: { desk_row.Denot }
+    requires* { sem 𝓛 (holds at before) }
+    ensures* { sem 𝓛 (leaves at (λ after. Tells (record_state before.recorded) before after result)) }
+{
+    ServerDesk::record_state(&mut *(at as *mut ServerDesk))
 }
 
 /// `ServerDesk::listen`.

@@ -4,7 +4,7 @@ use Rattle.server_desk.proofs.Turning.{refused-so, unrefused-so}
 use Rattle.server_desk.proofs.listening.listen_on.Goals as goal
 
 pub returns-in-Some-clause-refused : goal.returns-in-Some-clause-refused
-returns-in-Some-clause-refused c = refused-so _ _ c.in-Some.refusal (sym (c.config_refusal.ensures NotKept) ∙ c.in-Some.is) refl
+returns-in-Some-clause-refused c = refused-so c.args.record_path.now _ _ c.in-Some.refusal (sym (c.config_refusal.ensures NotKept) ∙ c.in-Some.is) refl
 
 pub returns-in-None-clause-refused : goal.returns-in-None-clause-refused
-returns-in-None-clause-refused c = unrefused-so _ _ (sym (c.config_refusal.ensures NotKept) ∙ c.in-None.is) c.open.ensures.err
+returns-in-None-clause-refused c = unrefused-so c.args.record_path.now _ _ (sym (c.config_refusal.ensures NotKept) ∙ c.in-None.is) c.open.ensures.err

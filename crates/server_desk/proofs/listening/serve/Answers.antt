@@ -1,4 +1,4 @@
 use Rattle.server_desk.proofs.listening.serve.Goals as goal
 
-pub returns-in-Ok-clause-serves : goal.returns-in-Ok-clause-serves
-returns-in-Ok-clause-serves c = c.in-Ok.ensures.serves
+pub returns-in-Err-clause-err : goal.returns-in-Err-clause-err
+returns-in-Err-clause-err c = c.refused.ensures c.args.record_path.now

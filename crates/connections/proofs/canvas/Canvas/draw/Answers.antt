@@ -1,7 +1,6 @@
 use Rattle.std.proofs.Common.{Ok, Err, refl, ap, ◌∙◌, subst, ◌∷◌, []}
 use Rattle.std.specs.Prelude.{◌||◌}
 use Rattle.screen.specs.Calls.{event_of}
-use Rattle.screen.specs.declared.ScreenError.{ScreenError}
 use Rattle.connections.specs.Drawing.{Surface}
 use Rattle.connections.specs.Recorded.{RecordsMore}
 use Rattle.connections.specs.RecordedLemmas.{lines-one, records-lines}

@@ -1,5 +1,4 @@
 use Rattle.std.proofs.Common.{refl, ap, ◌∙◌, subst, List}
-use Rattle.screen.specs.State.{State}
 use Rattle.screen.specs.declared.Event.{Event}
 use Rattle.screen.specs.Happening.{AllHappen}
 use Rattle.screen.specs.Takes.{Takes, TakesTelling}

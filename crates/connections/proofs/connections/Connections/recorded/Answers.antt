@@ -1,9 +1,8 @@
-use Rattle.std.proofs.Common.{◌≡◌, [], Option, None, Some, List, ℕ, sym, ap, ◌∙◌}
+use Rattle.std.proofs.Common.{◌≡◌, [], None, List, ℕ, sym, ap, ◌∙◌}
 use Rattle.std.proofs.lemmas.Result.{err_from_is_err_and}
-use Rattle.screen.specs.declared.ScreenError.{ScreenError}
 use Rattle.screen.specs.Alone.{config_refusal}
 use Rattle.connections.specs.RecordedLemmas.{one-recorded, records-began}
-use Rattle.connections.specs.Recorded.{bytes_held}
+use Rattle.record_writer.specs.Held.{bytes_held}
 use Rattle.connections.proofs.Drawing.{refused-after, refused-as}
 use Rattle.connections.proofs.connections.Connections.recorded.Goals as goal
 

@@ -1,5 +1,5 @@
 use Rattle.std.proofs.Common.{[], Some, refl}
-use Rattle.connections.specs.Recorded.{bytes_held}
+use Rattle.record_writer.specs.Held.{bytes_held}
 use Rattle.event_loop.specs.Sockets.{sockets_and}
 use Rattle.event_loop.proofs.Steps.{refused-connections, served-same}
 use Rattle.event_loop.proofs.event_loop.EventLoop.recorded.Goals as goal

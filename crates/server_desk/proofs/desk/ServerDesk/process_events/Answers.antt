@@ -1,16 +1,17 @@
-use Rattle.std.proofs.Common.{[], None, rules}
+use Rattle.std.proofs.Common.{[], rules}
+use Rattle.server_desk.specs.Desk.{held_where}
 use Rattle.server_desk.proofs.Keeping.{nothing-kept}
 use Rattle.server_desk.proofs.Turning.{no-turn, turns}
 use Rattle.server_desk.proofs.desk.ServerDesk.process_events.Goals as goal
 
 pub returns-then-is_err : goal.returns-then-is_err
-returns-then-is_err c = no-turn _ _ c.in-Some.events _ _ _ _ _ _ _ _ _ c.self.view_is c.in-Some.is (search rules) c.make_all_room.ensures.inputs c.make_all_room.ensures.visits
+returns-then-is_err c = no-turn _ _ c.in-Some.events _ _ _ _ _ _ _ _ _ _ _ c.self.view_is c.in-Some.is (search rules) c.make_all_room.ensures.inputs c.make_all_room.ensures.visits
 
 pub returns : goal.returns
 returns c =
-    turns _ _ c.in-Some.events _ c.process_events-answer.result _ _ _ c.make_all_room.new.inputs.items _ c.process_events-answer.new.application.inputs.items _ c.make_all_room.new.visits.items _ _ _ _ c.process_events-answer.new.application.lost c.keep-lost.result _ _
+    turns _ _ c.in-Some.events _ c.process_events-answer.result _ _ _ c.make_all_room.new.inputs.items _ c.process_events-answer.new.application.inputs.items _ c.make_all_room.new.visits.items _ _ _ _ c.process_events-answer.new.application.lost c.keep-lost.result _ _ _ _
     c.self.view_is c.in-Some.is (search rules)
     (λ config list s.
-    let p = c.process_events-answer.ensures.served None config list s in
+    let p = c.process_events-answer.ensures.served (held_where _) config list s in
     (p.0, p.1, p.2 [] (nothing-kept c.new-came.result.inputs.items c.new-came.result.lost c.new-came.ensures.inputs)))
     c.make_all_room.ensures.inputs c.make_all_room.ensures.visits c.keep-lost.ensures.inputs c.keep-lost.ensures.lost c.keep-lost.ensures.visits c.saturating_add-self-inside-2.ensures (search rules) (search rules)

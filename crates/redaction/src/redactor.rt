@@ -1,0 +1,152 @@
+//! The viewers of a session that is redacted.
+ghost use Rattle.std.specs.Prelude.{◌≡◌, ◌∷◌, ◌++◌, [], List, length, replicate, IfOk, OnOk, OnErr};
+ghost use Rattle.scene.specs.declared.Event.{Event};
+ghost use Rattle.scene.specs.declared.Event.TheVariants as event;
+ghost use Rattle.redaction.specs.Sessions.{conversation_of, redacted_piece, redacted_event};
+ghost use Rattle.redaction.specs.Following.{Follows};
+
+use crate::place::Place;
+use listed::Listed;
+use messages::Phase;
+use scene::Event;
+use std::alloc::{AllocError, Global};
+use std::collections::BTreeMap;
+use std::marker::Model;
+
+/// What is kept of a session's events so far: where the bytes of each viewer that is there stand. It knows no more of a
+/// viewer than 20 bytes of a message that hasn't ended.
+///
+/// Contracts see it as a list of the viewers with what is kept of their bytes, which `Follows` the events.
+#[derive(Drop)]
+pub struct Redactor {
+    places: BTreeMap<u64, Place>,
+}
+
+impl Model for Redactor {
+    ghost use Rattle.std.specs.Prelude.{ℕ, List};
+    ghost use Rattle.redaction.specs.Places.{Spot};
+
+    ghost Value = { List (ℕ × Spot) };
+
+    ghost view = { λ r. r.places.entries };
+}
+
+/// Leaves zeros of a piece.
+fn clear(piece: &mut [u8])
+    ensures { piece.new ≡ replicate (length piece.old) 0 }
+{
+    piece.fill(0);
+}
+
+impl Redactor {
+    /// Nothing has happened yet.
+    pub fn new(alloc: Global) -> Redactor
+        ensures { Follows result [] }
+    {
+        Redactor {
+            places: BTreeMap::new(alloc),
+        }
+    }
+
+    /// A viewer connects. Where it is there already, nothing changes. An error is want of memory, and changes nothing.
+    pub fn connected(&mut self, viewer: u64) -> Result<(), AllocError>
+        ensures follows { (es : List Event) → Follows self.old es →
+            OnOk result (Follows self.new (es ++ event.Connect viewer ∷ [])) }
+        ensures err { OnErr result (self.new ≡ self.old) }
+    {
+        if !self.places.contains_key(&viewer) {
+            self.places.insert(viewer, Place::begin(Phase::Version))?;
+        }
+        Ok(())
+    }
+
+    /// A viewer is closed.
+    pub fn closed(&mut self, viewer: u64)
+        ensures { (es : List Event) → Follows self.old es → Follows self.new (es ++ event.Close viewer ∷ []) }
+    {
+        self.places.remove(&viewer);
+    }
+
+    /// A piece of a viewer's bytes is heard: leaves zeros in the place of its secret bytes, and of all where the viewer isn't
+    /// there.
+    pub fn redact(&mut self, viewer: u64, piece: &mut [u8])
+        ensures piece { (es : List Event) → Follows self.old es →
+            piece.new ≡ redacted_piece (conversation_of viewer es) piece.old }
+        ensures follows { (es : List Event) → Follows self.old es →
+            Follows self.new (es ++ event.Hear viewer piece.old ∷ []) }
+    {
+        match self.places.get_mut(&viewer) {
+            Some(place) => place.redact(piece),
+            None => clear(piece),
+        }
+    }
+
+    /// The next event of the session, without what is secret. An error is want of memory for a viewer that connects, and
+    /// changes nothing.
+    pub fn redacted(&mut self, event: Event) -> Result<Event, AllocError>
+        ensures event { (es : List Event) → Follows self.old es → IfOk result (λ e. e ≡ redacted_event es event) }
+        ensures follows { (es : List Event) → Follows self.old es → OnOk result (Follows self.new (es ++ event ∷ [])) }
+        ensures err { OnErr result (self.new ≡ self.old) }
+    {
+        match event {
+            Event::Connect { viewer } => {
+                self.connected(viewer)?;
+                Ok(Event::Connect { viewer })
+            }
+            Event::Close { viewer } => {
+                self.closed(viewer);
+                Ok(Event::Close { viewer })
+            }
+            Event::Hear { viewer, piece } => {
+                let mut piece = piece.into_vec();
+                self.redact(viewer, &mut piece);
+                Ok(Event::Hear {
+                    viewer,
+                    piece: Listed::from_vec(piece),
+                })
+            }
+            event => Ok(event),
+        }
+    }
+}
+
+#[cfg(test)]
+mod tests {
+    use super::*;
+    use std::test::Fail;
+
+    /// An opening in 3.8, a request, a key, a pointer, a text of two bytes, and a request.
+    const SAID: &[u8] =
+        b"RFB 003.008\n\x01\x01\x03\x01\0\0\0\0\0\x04\0\x03\x04\x01\0\0\0\0\xff\x0d\x05\x01\0\x02\0\x01\x06\0\0\0\0\0\0\x02hi\x03\0\0\0\0\0\0\x04\0\x03";
+
+    /// The same with zeros.
+    const LEFT: &[u8] =
+        b"RFB 003.008\n\x01\x01\x03\x01\0\0\0\0\0\x04\0\x03\x04\0\0\0\0\0\0\0\x05\0\0\0\0\0\x06\0\0\0\0\0\0\x02\0\0\x03\0\0\0\0\0\0\x04\0\x03";
+
+    /// What is left of a viewer's bytes in pieces of this length, between those of another.
+    fn left_of(alloc: Global, length: usize) -> Result<Vec<u8>, AllocError> {
+        let mut redactor = Redactor::new(alloc);
+        redactor.redacted(Event::Connect { viewer: 0 })?;
+        redactor.redacted(Event::Connect { viewer: 1 })?;
+        let mut left = Vec::new(alloc);
+        for piece in SAID.chunks(length.max(1)) {
+            for viewer in 0..2 {
+                let piece = Listed::from_slice(alloc, piece)?;
+                let event = redactor.redacted(Event::Hear { viewer, piece })?;
+                if let Event::Hear { viewer: 1, piece } = event {
+                    left.extend_from_slice(piece.as_slice())?;
+                }
+            }
+        }
+        Ok(left)
+    }
+
+    #[test]
+    fn inputs_are_zeros(rt: HostRuntime) -> Result<(), Fail> {
+        for length in [1, 3, 7, 64] {
+            let left = left_of(rt.alloc(), length)?;
+            assert_eq!(rt; left.as_slice(), LEFT);
+        }
+        Ok(())
+    }
+}
