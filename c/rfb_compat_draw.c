@@ -1,12 +1,15 @@
 /* rfb_compat_draw.c: drawing in frameBuffer, fonts, a box to select from, cursors and regions of rfb_compat.h. */
 #include "rfb_compat.h"
+#include <limits.h>
 
 static void put(rfbScreenInfoPtr s, int x, int y, rfbPixel colour)
 {
     const size_t bytes = s->serverFormat.bitsPerPixel / 8u;
-    if (x < 0 || y < 0 || x >= s->width || y >= s->height) return;
+    if (!s->frameBuffer || x < 0 || y < 0 || x >= s->width || y >= s->height) return;
     memcpy(s->frameBuffer + (size_t)y * (size_t)s->paddedWidthInBytes + (size_t)x * bytes, &colour, bytes); /* the lowest bytes come first */
 }
+
+static int behind(int at) { return at < INT_MAX ? at + 1 : INT_MAX; }
 
 void rfbFillRect(rfbScreenInfoPtr s, int x1, int y1, int x2, int y2, rfbPixel colour)
 {
@@ -15,14 +18,25 @@ void rfbFillRect(rfbScreenInfoPtr s, int x1, int y1, int x2, int y2, rfbPixel co
     rfbMarkRectAsModified(s, x1, y1, x2, y2);
 }
 
-void rfbDrawPixel(rfbScreenInfoPtr s, int x, int y, rfbPixel colour) { rfbFillRect(s, x, y, x + 1, y + 1, colour); }
+void rfbDrawPixel(rfbScreenInfoPtr s, int x, int y, rfbPixel colour) { rfbFillRect(s, x, y, behind(x), behind(y), colour); }
 
+/* a coordinate that goes from one to another in so many steps, behind some of them */
+static int behind_steps(int from, int to, unsigned long long step, unsigned long long steps)
+{
+    const long long way = (long long)to - from;
+    const unsigned long long far = (unsigned long long)(way < 0 ? -way : way), gone = steps ? far * step / steps : 0;
+    return (int)(way < 0 ? from - (long long)gone : from + (long long)gone);
+}
+
+/* of a line only those steps are taken at which the coordinate that moves by one at each is on the screen */
 void rfbDrawLine(rfbScreenInfoPtr s, int x1, int y1, int x2, int y2, rfbPixel colour)
 {
-    const int wide = abs(x2 - x1), high = abs(y2 - y1), n = wide > high ? wide : high;
-    put(s, x1, y1, colour);
-    for (int i = 1; i <= n; i++) put(s, x1 + (int)((long)(x2 - x1) * i / n), y1 + (int)((long)(y2 - y1) * i / n), colour);
-    rfbMarkRectAsModified(s, x1 < x2 ? x1 : x2, y1 < y2 ? y1 : y2, (x1 > x2 ? x1 : x2) + 1, (y1 > y2 ? y1 : y2) + 1);
+    const long long wide = llabs((long long)x2 - x1), high = llabs((long long)y2 - y1), steps = wide > high ? wide : high;
+    const int from = wide > high ? x1 : y1, to = wide > high ? x2 : y2, size = wide > high ? s->width : s->height;
+    const long long first = to < from ? (long long)from - (size - 1) : -(long long)from, last = to < from ? from : size - 1 - (long long)from;
+    for (long long i = first < 0 ? 0 : first; i <= last && i <= steps; i++)
+        put(s, behind_steps(x1, x2, (unsigned long long)i, (unsigned long long)steps), behind_steps(y1, y2, (unsigned long long)i, (unsigned long long)steps), colour);
+    rfbMarkRectAsModified(s, x1 < x2 ? x1 : x2, y1 < y2 ? y1 : y2, behind(x1 > x2 ? x1 : x2), behind(y1 > y2 ? y1 : y2));
 }
 
 /* ---- fonts: a character's rows are whole bytes, the leftmost place in a byte's highest bit; it stands on the row y ---- */
@@ -37,19 +51,19 @@ void rfbFontBBox(rfbFontDataPtr font, unsigned char c, int *x1, int *y1, int *x2
 int rfbDrawCharWithClip(rfbScreenInfoPtr s, rfbFontDataPtr font, int x, int y, unsigned char c, int x1, int y1, int x2, int y2, rfbPixel colour, rfbPixel back)
 {
     const int *m = font->metaData + 5 * c;
-    int right, bottom;
-    rfbFontBBox(font, c, &x, &y, &right, &bottom), s->isWritten = TRUE;
+    const long long left = (long long)x + m[3], top = (long long)y + 1 - m[2] - m[4];
+    s->isWritten = TRUE;
     for (int i = 0; i < m[1] * m[2]; i++) {
         const int column = i % m[1], row = i / m[1], isLit = font->data[m[0] + row * ((m[1] + 7) / 8) + column / 8] & 0x80 >> column % 8;
-        const int isIn = x + column >= x1 && x + column < x2 && y + row >= y1 && y + row < y2;
-        if (isIn && (isLit || colour != back)) put(s, x + column, y + row, isLit ? colour : back);
+        const int isIn = left + column >= x1 && left + column < x2 && top + row >= y1 && top + row < y2;
+        if (isIn && (isLit || colour != back)) put(s, (int)(left + column), (int)(top + row), isLit ? colour : back);
     }
     return m[1];
 }
 
 void rfbDrawStringWithClip(rfbScreenInfoPtr s, rfbFontDataPtr font, int x, int y, const char *text, int x1, int y1, int x2, int y2, rfbPixel colour, rfbPixel back)
 {
-    for (; *text; text++) x += rfbDrawCharWithClip(s, font, x, y, (unsigned char)*text, x1, y1, x2, y2, colour, back);
+    for (long long at = x; *text && at <= INT_MAX; text++) at += rfbDrawCharWithClip(s, font, (int)at, y, (unsigned char)*text, x1, y1, x2, y2, colour, back);
 }
 
 void rfbDrawString(rfbScreenInfoPtr s, rfbFontDataPtr font, int x, int y, const char *text, rfbPixel colour)

@@ -2,6 +2,7 @@
  * here, and each viewer's picture, put together from changes and copies, is frameBuffer. */
 #define _POSIX_C_SOURCE 200809L
 #include "rfb_compat.h"
+#include <limits.h>
 #include <time.h>
 
 #define IS(call, want) do { long got = (long)(call); if (got != (long)(want)) { printf("line %d: %s gives %ld\n", __LINE__, #call, got); return 1; } } while (0)
@@ -365,6 +366,44 @@ static int clients(void)
     return 0;
 }
 
+/* How many places have a colour. */
+static int places_with(rfbScreenInfoPtr s, uint32_t colour)
+{
+    const uint32_t *at = (const uint32_t *)(const void *)s->frameBuffer;
+    int found = 0;
+    for (int i = 0; i < W * H; i++) found += at[i] == colour;
+    return found;
+}
+
+/* The ends of an int, and a screen that has no picture yet. */
+static int ends_of_int(void)
+{
+    rfbScreenInfoPtr s = screen(4);
+    char *picture = s->frameBuffer;
+    s->frameBuffer = NULL;
+    rfbFillRect(s, 0, 0, W, H, 1);
+    rfbDrawPixel(s, 1, 1, 1);
+    rfbDrawLine(s, 0, 0, 4, 4, 1);
+    s->frameBuffer = picture;
+    memset(picture, 0, W * H * 4);
+    rfbDrawPixel(s, INT_MAX, INT_MAX, 1);
+    rfbDrawPixel(s, INT_MIN, 3, 1);
+    rfbDrawLine(s, INT_MAX, 3, INT_MAX, INT_MIN, 1);
+    IS(places_with(s, 0), W * H);
+    rfbDrawLine(s, INT_MIN, INT_MIN, INT_MAX, INT_MAX, 2);
+    IS(places_with(s, 2), H);
+    rfbDrawLine(s, INT_MAX, 3, INT_MIN, 3, 3);
+    IS(places_with(s, 3), W);
+    rfbDrawLine(s, 5, INT_MAX, 5, INT_MIN, 4);
+    IS(places_with(s, 4), H);
+    rfbFillRect(s, INT_MIN, INT_MIN, INT_MAX, INT_MAX, 5);
+    IS(places_with(s, 5), W * H);
+    rfbFillRect(s, INT_MAX, INT_MAX, INT_MIN, INT_MIN, 6);
+    IS(places_with(s, 5), W * H);
+    clean(s);
+    return 0;
+}
+
 /* The loop is in another thread, while this one draws. */
 static int background(void)
 {
@@ -393,7 +432,7 @@ static int background(void)
 
 int main(void)
 {
-    if (passwords() || recorded() || later() || pictures(4) || pictures(2) || moves() || clients() || background()) return 1;
+    if (passwords() || recorded() || later() || pictures(4) || pictures(2) || moves() || clients() || ends_of_int() || background()) return 1;
     IS(strangers, 0);
     puts("rfb_edges ok");
     return 0;

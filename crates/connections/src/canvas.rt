@@ -107,8 +107,8 @@ impl Canvas {
     pub(crate) fn full_requests(&self, viewer: u64) -> u64
         ensures { result ≡ full_requests_on self.now.screen viewer }
     {
-        match self.screen.settings(viewer) {
-            Ok(settings) => settings.full_requests,
+        match self.screen.full_requests(viewer) {
+            Ok(count) => count,
             Err(_) => 0,
         }
     }

@@ -224,13 +224,6 @@ impl<T: Transport> Connection<T> {
         self.flow.level > LONG
     }
 
-    /// Whether nothing can be done for it at once but to hear more, and it said more than 64 KB of late.
-    pub fn only_floods(&self) -> bool
-        ensures { result ≡ true → (may_read self.now ≡ true) × (can_send self.now ≡ false) }
-    {
-        self.says_much() && self.may_read() && !self.can_send()
-    }
-
     /// Whether a write may take something.
     pub fn may_write(&self) -> bool
         ensures { result ≡ may_write self.now }

@@ -224,33 +224,6 @@ impl<T: Transport> Connections<T> {
         self.time = milliseconds;
     }
 
-    /// Whether nothing can be done in a turn at once but to hear viewers that said more than 64 KB of late, or to part with some. A program
-    /// may wait a little then, so that floods take less from others.
-    pub fn only_floods(&self) -> bool
-        ensures { result ≡ true → self.now.surface.drawn ≡ false }
-    {
-        if self.canvas.has_drawn() {
-            return false;
-        }
-        for place in 0..self.agenda.len() {
-            if let Some(key) = self.listed(place)
-                && !self.only_floods_at(key)
-            {
-                return false;
-            }
-        }
-        true
-    }
-
-    /// Whether nothing can be done at once for a connection but to hear more, and it said more than 64 KB of late; or but to part with
-    /// it, which is tried at the end of each turn.
-    fn only_floods_at(&self, key: usize) -> bool {
-        match self.connections.get(key) {
-            Some(connection) => connection.only_floods() || connection.over().is_some(),
-            None => true,
-        }
-    }
-
     /// Writes what waits of the record. `turn` writes none of it but where the record's buffer is full.
     pub fn flush_record(&mut self)
         ensures served { GoesOn self.old self.new }

@@ -24,11 +24,12 @@ pub enum Chosen {
         port: u16,
         options: ServeOptions,
     },
-    /// The same, by one thread for all, which may record the session in a new file.
+    /// The same, by one thread for all, which may record the session in a new file, and may take viewers without end.
     ServeInOneThread {
         port: u16,
         options: ServeOptions,
         record: Option<String>,
+        forever: bool,
     },
     /// A server with threads and so many viewers run in one process.
     Own {
@@ -83,7 +84,9 @@ Viewers connect to 127.0.0.1, with security type None. A pointer whose first but
 down paints its place white, a key that goes down rings the bell, and a text is sent
 back. The server ends once so many viewers have connected and left; then it prints a
 line for each, and with --check whether each was sent what it was to be sent, or the
-beginning of it where its connection broke.
+beginning of it where its connection broke. With --forever it goes on, and prints none.
+What is served, and on which port, stands on standard error at the start. A connection
+too many is told so and closed, and one that takes 10 seconds for its opening is closed.
 
 With --record all that happens to the screen is written to a new file, as a session:
 pictures, keys, pointers and texts. `vncdemo replay` reads it.
@@ -120,6 +123,12 @@ const TOO_MANY: &str = "more than 64 viewers are served by '--one-thread' alone"
 /// What is said where threads are to record.
 const NO_THREADS: &str = "a session is recorded with '--one-thread' alone";
 
+/// What is said where threads are to serve without end.
+const NOT_FOREVER: &str = "viewers are taken without end with '--one-thread' alone";
+
+/// What is said where a run without end is to be judged at its end.
+const NO_END: &str = "what '--check' judges at the end, '--forever' doesn't come to";
+
 /// What `replay --help` says, behind the usage.
 const REPLAY_HELP: &str = "\
 FILE is what `serve --record` wrote. Without an option it prints a line for each viewer,
@@ -127,8 +136,10 @@ with the lines of its first event and of its last one, and how much it was given
   viewer V lines A B encoding E bits N heard N updates N sent N END
 With --viewer it writes the very bytes that the viewer was given: it was sent them, but for
 what still waited at its end. With --picture it writes a pixmap (PPM): what the viewer
-shows by these, or what was drawn. What stands behind the last line feed is left out: it
-may be the beginning of a line.
+shows by these, or what was drawn. With --redacted it writes the session again, with zeros
+for what viewers typed, pointed at and copied: each viewer is given the same by it. What
+the application drew stays, also what it drew for an input, and so do its own texts. What
+stands behind the last line feed is left out: it may be the beginning of a line.
 
 Status: 0; 1 after a line that says nothing that a session may say there, as is told on
 standard error; 2 after a refused command line, and after this text; 3 after want of
@@ -178,6 +189,10 @@ fn serve_command<'a>(alloc: Global) -> Result<Command<'a>, AllocError> {
         .long("check")
         .help("keeps what was drawn, heard and sent, and judges it at the end")
         .action(ArgAction::SetTrue);
+    let forever = Arg::new(alloc, "forever")
+        .long("forever")
+        .help("takes viewers without end, at most --viewers at once; with --one-thread")
+        .action(ArgAction::SetTrue);
     let record = option(
         alloc,
         "record",
@@ -193,6 +208,7 @@ fn serve_command<'a>(alloc: Global) -> Result<Command<'a>, AllocError> {
         .arg(limit)?
         .arg(viewers)?
         .arg(check)?
+        .arg(forever)?
         .arg(record)?
         .arg(one_thread_option(alloc))
 }
@@ -247,28 +263,27 @@ fn serve_of(alloc: Global, matches: &ArgMatches<'_>) -> Result<Chosen, AllocErro
             port,
             options,
             record,
+            forever: matches.get_flag("forever"),
         });
     }
     let options = options_of(alloc, matches, viewers.clamp(1, MOST_BY_THREADS))?;
     Ok(Chosen::Serve { port, options })
 }
 
-/// Whether more viewers are asked for than threads serve.
-fn has_too_many(matches: &ArgMatches<'_>) -> bool {
-    !matches.get_flag("one-thread") && viewers_of(matches) > MOST_BY_THREADS
-}
-
-/// Whether threads are to record, which they don't.
-fn records_by_threads(matches: &ArgMatches<'_>) -> bool {
-    !matches.get_flag("one-thread") && matches.get_str("record").is_some()
-}
-
 /// What is said to options of `serve` of which each is fine, but not all of them.
 fn objection(matches: &ArgMatches<'_>) -> Option<&'static str> {
-    if has_too_many(matches) {
+    let by_threads = !matches.get_flag("one-thread");
+    let forever = matches.get_flag("forever");
+    if by_threads && viewers_of(matches) > MOST_BY_THREADS {
         return Some(TOO_MANY);
     }
-    records_by_threads(matches).then_some(NO_THREADS)
+    if by_threads && matches.get_str("record").is_some() {
+        return Some(NO_THREADS);
+    }
+    if by_threads && forever {
+        return Some(NOT_FOREVER);
+    }
+    (forever && matches.get_flag("check")).then_some(NO_END)
 }
 
 /// What a line that begins with `serve` chooses.
@@ -342,17 +357,27 @@ fn replay_command<'a>(alloc: Global) -> Result<Command<'a>, AllocError> {
         .long("picture")
         .help("writes a picture")
         .action(ArgAction::SetTrue);
+    let redacted = Arg::new(alloc, "redacted")
+        .long("redacted")
+        .help("writes the session without what was typed, pointed at and copied")
+        .action(ArgAction::SetTrue)
+        .conflicts_with("viewer")?
+        .conflicts_with("picture")?;
     Command::new(alloc, "replay")
         .about("replays a session that was recorded")
         .after_help(REPLAY_HELP)
         .arg(file)?
         .arg(viewer)?
         .arg(lines)?
-        .arg(picture)
+        .arg(picture)?
+        .arg(redacted)
 }
 
 /// What the options of `replay` ask.
 fn question_of(matches: &ArgMatches<'_>) -> Question {
+    if matches.get_flag("redacted") {
+        return Question::Redacted;
+    }
     match (matches.get_one("viewer"), matches.get_flag("picture")) {
         (Some(viewer), true) => Question::Seen(viewer),
         (Some(viewer), false) => Question::Sent(viewer),

@@ -26,14 +26,24 @@ use std::time::{Clock, Duration};
 /// How long a viewer may take for its opening, in seconds.
 const OPENING_SECONDS: u64 = 10;
 
-/// The application, what it drew, where that is kept, and the receipts of the viewers that left.
+/// What a server in one thread does besides.
+#[derive(Drop)]
+pub struct OneThread {
+    /// Where the session is recorded.
+    pub record: Option<RecordWriter>,
+    /// Whether viewers are taken without end, as many at once as the options say, and a further one is turned away.
+    pub forever: bool,
+}
+
+/// The application, what it drew, where that is kept, and the receipts of the viewers that left, where these come to an end.
 #[derive(Drop)]
 struct Showing {
     alloc: Global,
     easel: Easel,
     drawn: Option<Vec<Event>>,
     receipts: Vec<Receipt>,
-    viewers: usize,
+    // how many viewers come in all
+    viewers: Option<usize>,
 }
 
 /// The drawing call that a stroke is.
@@ -99,12 +109,17 @@ impl Application for Showing {
     }
 
     fn left(&mut self, _canvas: &mut Canvas, receipt: Receipt) -> Result<(), ScreenError> {
-        self.receipts.push(receipt)?;
+        if self.viewers.is_some() {
+            self.receipts.push(receipt)?;
+        }
         Ok(())
     }
 
     fn is_done(&self) -> bool {
-        self.receipts.len() >= self.viewers
+        match self.viewers {
+            Some(viewers) => self.receipts.len() >= viewers,
+            None => false,
+        }
     }
 }
 
@@ -133,11 +148,12 @@ fn judge(
 }
 
 /// What a loop grants the viewers that the options tell.
-fn limits_of(options: &ServeOptions) -> Limits {
+fn limits_of(options: &ServeOptions, forever: bool) -> Limits {
+    let viewers = u64::from(options.viewers);
     Limits {
         live_viewers: options.viewers as usize,
-        when_full: WhenFull::Wait,
-        all_viewers: u64::from(options.viewers),
+        when_full: WhenFull::LetGo,
+        all_viewers: if forever { u64::MAX } else { viewers },
         opening_time: Duration::from_secs(OPENING_SECONDS),
     }
 }
@@ -191,7 +207,7 @@ fn serve<W: Write, R: Net + Clock>(
     alloc: Global,
     listener: TcpListener,
     options: &ServeOptions,
-    record: Option<RecordWriter>,
+    besides: OneThread,
     writer: &mut W,
 ) -> Result<u8, Trouble>
     ensures status { IfOk result (λ status. (status ≡ 0) ⊎ (status ≡ 1) ⊎ (status ≡ 4)) }
@@ -200,7 +216,8 @@ fn serve<W: Write, R: Net + Clock>(
 {
     let config = config_of(alloc, options)?;
     let asked = config_of(alloc, options)?;
-    let limits = limits_of(options);
+    let OneThread { record, forever } = besides;
+    let limits = limits_of(options, forever);
     let opened = match record {
         Some(record) => EventLoop::recorded(rt, alloc, listener, asked, limits, record),
         None => EventLoop::new(rt, alloc, listener, asked, limits),
@@ -218,7 +235,7 @@ fn serve<W: Write, R: Net + Clock>(
         },
         drawn: options.check.then(|| Vec::new(alloc)),
         receipts: Vec::new(alloc),
-        viewers: options.viewers as usize,
+        viewers: (!forever).then_some(options.viewers as usize),
     };
     let status = run_and_print(
         rt,
@@ -238,21 +255,22 @@ fn serve<W: Write, R: Net + Clock>(
     Err(Trouble::RecordBroken)
 }
 
-/// `serve_on`, with one thread for all viewers. A viewer that has not had its ServerInit after ten seconds is let go, as `Closed`. With
-/// `record` the session is written there; where that ended before the run, the last line is `record broken` and the status 5.
+/// `serve_on`, with one thread for all viewers. A viewer that has not had its ServerInit after ten seconds is let go, as `Closed`, and a
+/// connection too many is told so and closed at once. With `record` the session is written there; where that ended before the run, the last
+/// line is `record broken` and the status 5. With `forever` the server ends by a failure alone, and prints no viewer's line.
 pub fn serve_in_one_thread<W: Write, R: Net + Clock>(
     rt: &R,
     alloc: Global,
     listener: TcpListener,
     options: &ServeOptions,
-    record: Option<RecordWriter>,
+    besides: OneThread,
     writer: &mut W,
 ) -> u8
     ensures status { (result ≡ 0) ⊎ (result ≡ 1) ⊎ (result ≡ 3) ⊎ (result ≡ 4) ⊎ (result ≡ 5) }
     ensures judged { options.now.check ≡ true → ((result ≡ 0) ⊎ (result ≡ 4)) →
         Judged (W.contents writer.old) (W.contents writer.new) result }
 {
-    match serve(rt, alloc, listener, options, record, writer) {
+    match serve(rt, alloc, listener, options, besides, writer) {
         Ok(status) => written_out(writer, status),
         Err(trouble) => report(writer, trouble),
     }

@@ -17,7 +17,7 @@ ghost use Rattle.event_loop.specs.Opening.{IsOpenedOr};
 
 use crate::opening::Newcomers;
 use crate::poller::{Found, Poller, found_in};
-use crate::socket::Socket;
+use crate::socket::{Socket, set_up, turn_away};
 use connections::{Application, Canvas, Config, Connections, RecordWriter, Screen, ScreenError};
 use mio::Waker;
 use mio::event::Event;
@@ -35,9 +35,6 @@ const ACCEPTED: u32 = 32;
 
 /// After how many milliseconds the listener is asked again where the system had no room for a connection.
 const RETRY: u64 = 100;
-
-/// How many milliseconds a turn waits for something else where only viewers that flood can be heard.
-const FLOOD_PAUSE: u64 = 1;
 
 /// Why a loop ended.
 #[derive(Clone, Copy, Debug, PartialEq, Eq)]
@@ -67,7 +64,7 @@ impl From<AllocError> for LoopError {
 pub enum WhenFull {
     /// It waits until a viewer has left.
     Wait,
-    /// It is closed at once.
+    /// It is told that there are too many (RFC 6143, 7.1.2), and closed at once.
     LetGo,
 }
 
@@ -78,7 +75,7 @@ pub struct Limits {
     pub live_viewers: usize,
     /// What becomes of a further one.
     pub when_full: WhenFull,
-    /// How many viewers are served in all.
+    /// How many viewers are served in all. A connection that comes behind them is told that there are too many, and closed at once.
     pub all_viewers: u64,
     /// How long a viewer may take until it had its ServerInit (RFC 6143, 7.3.2). Then it is let go.
     pub opening_time: Duration,
@@ -405,15 +402,24 @@ impl EventLoop {
         Ok(())
     }
 
-    /// Whether one viewer more may be live.
-    fn has_room(&self) -> bool {
-        self.connections.len() < self.limits.live_viewers
+    /// Whether all viewers that are served have come.
+    fn have_all_come(&self) -> bool {
+        self.came >= self.limits.all_viewers
     }
 
-    /// Whether a connection that waits is accepted.
+    /// Whether one viewer more may be live.
+    fn has_room(&self) -> bool {
+        !self.have_all_come() && self.connections.len() < self.limits.live_viewers
+    }
+
+    /// Whether a connection for which there is no room is turned away. Else it waits.
+    fn turns_away(&self) -> bool {
+        self.have_all_come() || self.limits.when_full == WhenFull::LetGo
+    }
+
+    /// Whether a connection that waits is accepted, be it to be turned away.
     fn accepts(&self) -> bool {
-        let takes = self.has_room() || self.limits.when_full == WhenFull::LetGo;
-        self.may_accept && self.came < self.limits.all_viewers && takes
+        self.may_accept && (self.has_room() || self.turns_away())
     }
 
     /// How long a turn may wait.
@@ -425,18 +431,7 @@ impl EventLoop {
         let mut wait = shorter(timeout, self.newcomers.next_after(now));
         wait = shorter(wait, self.next_tick.map(until));
         wait = shorter(wait, self.retry.map(until));
-        shorter(wait, self.pause())
-    }
-
-    /// How long a turn may wait at most for what can be done at once: a little where that is to hear floods alone.
-    fn pause(&self) -> Option<Duration> {
-        if !self.connections.is_busy() {
-            return None;
-        }
-        if self.connections.only_floods() {
-            return Some(Duration::from_millis(FLOOD_PAUSE));
-        }
-        Some(Duration::ZERO)
+        shorter(wait, self.connections.is_busy().then_some(Duration::ZERO))
     }
 
     /// Waits until something is ready, the application's time comes, or the time is up, and notes what was found. The time that it is.
@@ -573,7 +568,7 @@ impl EventLoop {
         Ok(())
     }
 
-    /// Takes in a connection, or closes it where there is no room for it.
+    /// Takes in a connection, or turns it away where there is no room for it.
     fn admit<A: Application>(
         &mut self,
         now: Instant,
@@ -583,12 +578,15 @@ impl EventLoop {
         ensures served { GoesOnServing self.old self.new }
         ensures stands { Stays A.stands application.old application.new }
     {
-        let key = self.connections.next_key();
-        if !self.has_room() || self.poller.add(&mut stream, key).is_err() {
+        if !self.has_room() {
+            turn_away(&mut stream);
             return Ok(());
         }
-        // Without this an answer may wait for the next one. Where the system refuses it, all else stays.
-        let _set = stream.set_nodelay(true);
+        let key = self.connections.next_key();
+        if self.poller.add(&mut stream, key).is_err() {
+            return Ok(());
+        }
+        set_up(&stream);
         let Ok(key) = self.connections.admit(Socket::new(stream)) else {
             return Ok(());
         };

@@ -1,21 +1,21 @@
--- Events of a session, one after the other.
-use Rattle.std.proofs.Common.{◌≡◌, ℕ, zero, suc, List, [], ◌∷◌, ◌++◌, take, map, refl, sym, ap, subst, ◌∙◌, append_assoc, Option, Some, None, true, false, Bool, cond}
-use Rattle.std.proofs.lemmas.List.{append-nil}
-use Rattle.std.specs.Prelude.{option_map, flat_map, IfSome}
-use Rattle.std.specs.List.{list_all}
-use Rattle.std.proofs.lemmas.Bool.{and_from}
-use Rattle.std.specs.Io.KnownBytes.{Appends}
+-- Lines that are read, one after the other.
+use Rattle.std.proofs.Common.{◌≡◌, ℕ, suc, zero, List, [], ◌∷◌, ◌++◌, take, map, refl, ap, subst, ◌∙◌, sym, Option, Some, None, true, false, Bool, cond, Result, Ok, Err, ◌+◌}
+use Rattle.std.specs.Prelude.{is_some, IsErrAnd}
 use Rattle.screen.specs.declared.Config.{Config}
 use Rattle.screen.specs.declared.Event.{Event}
-use Rattle.screen.specs.declared.Answer.{Answer}
+use Rattle.screen.specs.declared.ScreenError.{ScreenError}
 use Rattle.screen.specs.State.{State, state}
-use Rattle.scene.specs.Alone.{owner_of, alone}
-use Rattle.scene.specs.Answers.{own, is_owner, answer_to, answers, answers_after}
+use Rattle.screen.specs.Alone.{config_refusal}
 use Rattle.play_script.specs.declared.lines.Line.{Line}
-use Rattle.play_script.specs.declared.lines.Line.TheVariants.{Skipped, Start, Do}
+use Rattle.play_script.specs.declared.lines.Line.TheVariants.{Skipped, Start}
 use Rattle.replay.specs.Lines.{session_line}
-use Rattle.replay.specs.Sessions.{Session, whole_lines, events_of, said_by, sent_in}
-use Rattle.replay.specs.Reading.{TakesLine, ahead, NextLine, NextEvent, Opens, SentFor}
+use Rattle.replay.specs.Sessions.{whole_lines, said_by}
+use Rattle.replay.specs.BadLines.{needed_of, bad_behind, bad_from}
+use Rattle.replay.specs.Reading.{TakesLine, ahead, lines_ahead, NextLine, NextText, Both, Opens, Steps, GoesOn}
+use Rattle.replay.specs.declared.answered.Answered.{Answered}
+use Rattle.replay.specs.declared.replaying.Question.{Question}
+use Rattle.replay.specs.declared.stop.Stop.{Stop}
+use Rattle.replay.specs.declared.stop.Stop.TheVariants.{BadLine, Trouble}
 
 -- a line more
 pub next_line : (left n : ℕ) (old new : Option (List ℕ)) (line : List ℕ) (found : Bool) (said : Line) → left ≡ suc n → found ≡ true → said ≡ session_line line → TakesLine old new line found → NextLine (ahead left old) (ahead n new) (Some said)
@@ -41,204 +41,130 @@ pub no_line_left : (n : ℕ) (old new : Option (List ℕ)) → NextLine (ahead 0
 no_line_left n None new = tt
 no_line_left n (Some text) new = refl
 
--- lines before that are skipped change nothing of what is said
-abbrev pub SameEvents : Option (List Line) → Option (List Line) → Type 0
-SameEvents None new = Unit {0}
-SameEvents (Some ls) None = ⊥
-SameEvents (Some ls) (Some rest) = events_of ls ≡ events_of rest
+-- Up to the screen.
 
-abbrev pub SameSession : Option (List Line) → Option (List Line) → Type 0
-SameSession None new = Unit {0}
-SameSession (Some ls) None = ⊥
-SameSession (Some ls) (Some rest) = said_by ls ≡ said_by rest
+-- lines before that are skipped change nothing of what is said, nor of what is bad
+abbrev pub SameSession : Question → Option (List Line) → Option (List Line) → ℕ → ℕ → Type 0
+SameSession q a b n m = Both a b (λ ls rest. (said_by ls ≡ said_by rest) × (bad_from q n ls ≡ bad_from q m rest))
 
-pub same_events : (a : Option (List Line)) → SameEvents a a
-same_events None = tt
-same_events (Some ls) = refl
+pub same_session : (q : Question) (a : Option (List Line)) (n : ℕ) → SameSession q a a n n
+same_session q None n = tt
+same_session q (Some ls) n = (refl, refl)
 
-pub same_session : (a : Option (List Line)) → SameSession a a
-same_session None = tt
-same_session (Some ls) = refl
+pub session_skipped : (q : Question) (a b d : Option (List Line)) (n m k : ℕ) → SameSession q a b n m → NextLine b d (Some Skipped) → k ≡ m + 1 → SameSession q a d n k
+session_skipped q None b d n m k h x e = tt
+session_skipped q (Some y) None d n m k h x e = absurd h
+session_skipped q (Some y) (Some z) None n m k h x e = absurd x
+session_skipped q (Some y) (Some z) (Some w) n m k h x e = (h.0 ∙ ap said_by x, h.1 ∙ ap (bad_from q m) x ∙ ap (λ i. bad_from q i w) (sym e))
 
-pub events_skipped : (a b c : Option (List Line)) → SameEvents a b → NextLine b c (Some Skipped) → SameEvents a c
-events_skipped None b c h n = tt
-events_skipped (Some x) None c h n = absurd h
-events_skipped (Some x) (Some y) None h n = absurd n
-events_skipped (Some x) (Some y) (Some z) h n = h ∙ ap events_of n
+abbrev if_refused : Option ScreenError → ℕ → Option ℕ → Option ℕ
+if_refused o n rest = cond (is_some o) (Some n) rest
 
-pub session_skipped : (a b c : Option (List Line)) → SameSession a b → NextLine b c (Some Skipped) → SameSession a c
-session_skipped None b c h n = tt
-session_skipped (Some x) None c h n = absurd h
-session_skipped (Some x) (Some y) None h n = absurd n
-session_skipped (Some x) (Some y) (Some z) h n = h ∙ ap said_by n
+pub screen_made : (q : Question) (a b d : Option (List Line)) (n m k : ℕ) (c : Config) (s : State) → SameSession q a b n m → NextLine b d (Some (Start c)) → k ≡ m + 1 → s ≡ state c [] → config_refusal c ≡ None → Opens q a d n k (Ok (Some s))
+screen_made q None b d n m k c s h x e is fine = tt
+screen_made q (Some y) None d n m k c s h x e is fine = absurd h
+screen_made q (Some y) (Some z) None n m k c s h x e is fine = absurd x
+screen_made q (Some y) (Some z) (Some w) n m k c s h x e is fine = (
+  c,
+  is,
+  h.0 ∙ ap said_by x,
+  h.1 ∙ ap (bad_from q m) x ∙ ap (λ o. if_refused o (m + 1) (bad_behind q c [] (m + 1) w)) fine ∙ ap (λ i. bad_behind q c [] i w) (sym e),
+)
 
-pub event_read : (a b c : Option (List Line)) (e : Event) → SameEvents a b → NextLine b c (Some (Do e)) → NextEvent a c (Some e)
-event_read None b c e h n = tt
-event_read (Some x) None c e h n = absurd h
-event_read (Some x) (Some y) None e h n = absurd n
-event_read (Some x) (Some y) (Some z) e h n = h ∙ ap events_of n
+pub screen_refused : (q : Question) (a b d : Option (List Line)) (n m k : ℕ) (c : Config) (t : Stop) → SameSession q a b n m → NextLine b d (Some (Start c)) → k ≡ m + 1 → (t ≡ BadLine → is_some (config_refusal c) ≡ true) → Opens q a d n k (Err t)
+screen_refused q a b d n m k c (Trouble t) h x e is = tt
+screen_refused q None b d n m k c BadLine h x e is = tt
+screen_refused q (Some y) None d n m k c BadLine h x e is = absurd h
+screen_refused q (Some y) (Some z) None n m k c BadLine h x e is = absurd x
+screen_refused q (Some y) (Some z) (Some w) n m k c BadLine h x e is = h.1 ∙ ap (bad_from q m) x ∙ ap (λ r. cond r (Some (m + 1)) (bad_behind q c [] (m + 1) w)) (is refl) ∙ ap (λ i. Some i) (sym e)
 
-pub events_over : (a b c : Option (List Line)) → SameEvents a b → NextLine b c None → NextEvent a c None
-events_over None b c h n = tt
-events_over (Some x) None c h n = absurd h
-events_over (Some x) (Some y) c h n = h ∙ ap events_of n
+-- a line that says nothing, or an event before the screen
+pub line_refused : (q : Question) (a b d : Option (List Line)) (n m k : ℕ) (l : Line) → SameSession q a b n m → NextLine b d (Some l) → k ≡ m + 1 → ((rest : List Line) → bad_from q m (l ∷ rest) ≡ Some (m + 1)) → Opens q a d n k (Err BadLine)
+line_refused q None b d n m k l h x e is = tt
+line_refused q (Some y) None d n m k l h x e is = absurd h
+line_refused q (Some y) (Some z) None n m k l h x e is = absurd x
+line_refused q (Some y) (Some z) (Some w) n m k l h x e is = h.1 ∙ ap (bad_from q m) x ∙ is w ∙ ap (λ i. Some i) (sym e)
 
-pub screen_read : (a b d : Option (List Line)) (c : Config) (s : State) → SameSession a b → NextLine b d (Some (Start c)) → s ≡ state c [] → Opens a d (Some s)
-screen_read None b d c s h n is = (c, is)
-screen_read (Some x) None d c s h n is = absurd h
-screen_read (Some x) (Some y) None c s h n is = absurd n
-screen_read (Some x) (Some y) (Some z) c s h n is = (c, is, h ∙ ap said_by n)
+pub no_screen : (q : Question) (a b d f : Option (List Line)) (n m k : ℕ) → SameSession q a b n m → NextLine b d None → Opens q a f n k (Ok None)
+no_screen q None b d f n m k h x = tt
+no_screen q (Some y) None d f n m k h x = absurd h
+no_screen q (Some y) (Some z) d f n m k h x = (h.0 ∙ ap said_by x, h.1 ∙ ap (bad_from q m) x)
 
-pub no_screen : (a b c : Option (List Line)) → SameSession a b → NextLine b c None → Opens a c None
-no_screen None b c h n = tt
-no_screen (Some x) None c h n = absurd h
-no_screen (Some x) (Some y) c h n = h ∙ ap said_by n
+pub screen_unread : (q : Question) (a d : Option (List Line)) (n k : ℕ) (t : Stop) → (t ≡ BadLine → ⊥) → Opens q a d n k (Err t)
+screen_unread q a d n k (Trouble t) h = tt
+screen_unread q a d n k BadLine h = absurd (h refl)
 
--- What a viewer was sent so far.
+-- Up to the next event.
 
-abbrev pub bytes_so_far : Config → ℕ → List Event → List ℕ
-bytes_so_far c v front = flat_map (λ a. a.bytes) (answers c (own v front))
+-- lines whose events the question doesn't need change nothing of what it needs, nor of what is bad
+abbrev pub SameEvents : Question → Config → List Event → Option (List Line) → Option (List Line) → ℕ → ℕ → Type 0
+SameEvents q c before a b n m = Both a b (λ ls rest. (needed_of q ls ≡ needed_of q rest) × (bad_behind q c before n ls ≡ bad_behind q c before m rest))
 
-abbrev session : Config → List Event → Session
-session c es = record { config = c; events = es }
+pub same_events : (q : Question) (c : Config) (before : List Event) (a : Option (List Line)) (n : ℕ) → SameEvents q c before a a n n
+same_events q c before None n = tt
+same_events q c before (Some ls) n = (refl, refl)
 
--- a session of these events, and of those behind them
-abbrev pub behind : Config → List Event → Option (List Event) → Option Session
-behind c front es = option_map (λ (l : List Event). record { config = c; events = front ++ l }) es
+pub events_skipped : (q : Question) (c : Config) (before : List Event) (a b d : Option (List Line)) (n m k : ℕ) (l : Line) (s : State) → SameEvents q c before a b n m → NextLine b d (Some l) → k ≡ m + 1 → Steps q c before l s (Ok None) → SameEvents q c before a d n k
+events_skipped q c before None b d n m k l s h x e did = tt
+events_skipped q c before (Some y) None d n m k l s h x e did = absurd h
+events_skipped q c before (Some y) (Some z) None n m k l s h x e did = absurd x
+events_skipped q c before (Some y) (Some z) (Some w) n m k l s h x e did = (
+  h.0 ∙ ap (needed_of q) x ∙ (did w).0,
+  h.1 ∙ ap (bad_behind q c before m) x ∙ (did w).1 m ∙ ap (λ i. bad_behind q c before i w) (sym e),
+)
 
--- of what was said these events are done
-abbrev pub Done : Option (List Line) → Option (List Line) → Config → List Event → Type 0
-Done None new c front = Unit {0}
-Done (Some ls) None c front = ⊥
-Done (Some ls) (Some rest) c front = said_by ls ≡ behind c front (events_of rest)
+pub event_done : (q : Question) (c : Config) (before : List Event) (a b d : Option (List Line)) (n m k : ℕ) (l : Line) (s : State) (r : Answered) → SameEvents q c before a b n m → NextLine b d (Some l) → k ≡ m + 1 → Steps q c before l s (Ok (Some r)) → GoesOn q c before s a d n k (Ok (Some r))
+event_done q c before None b d n m k l s r h x e did = tt
+event_done q c before (Some y) None d n m k l s r h x e did = absurd h
+event_done q c before (Some y) (Some z) None n m k l s r h x e did = absurd x
+event_done q c before (Some y) (Some z) (Some w) n m k l s r h x e did = (
+  did.0,
+  h.0 ∙ ap (needed_of q) x ∙ (did.1 w).0,
+  h.1 ∙ ap (bad_behind q c before m) x ∙ (did.1 w).1 m ∙ ap (λ i. bad_behind q c (before ++ r.event ∷ []) i w) (sym e),
+)
 
-pub record Sends (v : ℕ) (began now : Option (List Line)) (before after : Option (List ℕ)) (s : State) : Type 0 where
-  pub config : Config
-  pub front : List Event
-  pub holds : s ≡ state config (own v front)
-  pub done : Done began now config front
-  pub sent : Appends before after (bytes_so_far config v front)
+pub event_refused : (q : Question) (c : Config) (before : List Event) (a b d : Option (List Line)) (n m k : ℕ) (l : Line) (s : State) (t : Stop) → SameEvents q c before a b n m → NextLine b d (Some l) → k ≡ m + 1 → Steps q c before l s (Err t) → GoesOn q c before s a d n k (Err t)
+event_refused q c before a b d n m k l s (Trouble t) h x e did = tt
+event_refused q c before None b d n m k l s BadLine h x e did = tt
+event_refused q c before (Some y) None d n m k l s BadLine h x e did = absurd h
+event_refused q c before (Some y) (Some z) None n m k l s BadLine h x e did = absurd x
+event_refused q c before (Some y) (Some z) (Some w) n m k l s BadLine h x e did = h.1 ∙ ap (bad_behind q c before m) x ∙ did w m ∙ ap (λ i. Some i) (sym e)
 
-appends_nothing : (a : Option (List ℕ)) → Appends a a []
-appends_nothing None = tt
-appends_nothing (Some xs) = sym (append-nil xs)
+pub events_over : (q : Question) (c : Config) (before : List Event) (a b d f : Option (List Line)) (n m k : ℕ) (s : State) → SameEvents q c before a b n m → NextLine b d None → GoesOn q c before s a f n k (Ok None)
+events_over q c before None b d f n m k s h x = tt
+events_over q c before (Some y) None d f n m k s h x = absurd h
+events_over q c before (Some y) (Some z) d f n m k s h x = (h.0 ∙ ap (needed_of q) x, h.1 ∙ ap (bad_behind q c before m) x)
 
-appends_more : (a b c : Option (List ℕ)) (xs ys : List ℕ) → Appends a b xs → Appends b c ys → Appends a c (xs ++ ys)
-appends_more None b c xs ys h g = tt
-appends_more (Some x) None c xs ys h g = absurd h
-appends_more (Some x) (Some y) None xs ys h g = absurd g
-appends_more (Some x) (Some y) (Some z) xs ys h g = g ∙ ap (λ r. r ++ ys) h ∙ append_assoc x xs ys
+pub events_unread : (q : Question) (c : Config) (before : List Event) (a d : Option (List Line)) (n k : ℕ) (s : State) (t : Stop) → (t ≡ BadLine → ⊥) → GoesOn q c before s a d n k (Err t)
+events_unread q c before a d n k s (Trouble t) h = tt
+events_unread q c before a d n k s BadLine h = absurd (h refl)
 
-begins : (a b : Option (List Line)) (s : State) (o : Opens a b (Some s)) → (c : Config) × (s ≡ state c []) × Done a b c []
-begins None b s o = (o.0, o.1, tt)
-begins (Some x) None s o = absurd o
-begins (Some x) (Some y) s o = (o.0, o.1, o.2)
+-- what `?` hands on
+pub handed_on : {X : Type 0} (P : Result X Stop → Type 0) (r : Result X Stop) (e : Stop) → IsErrAnd r (λ y. y ≡ e) → P (Err e) → P r
+handed_on P (Ok x) e h p = absurd h
+handed_on P (Err y) e h p = subst (λ z. P (Err z)) (sym h) p
 
-pub sends_begin : (v : ℕ) (a b : Option (List Line)) (w : Option (List ℕ)) (s : State) → Opens a b (Some s) → Sends v a b w w s
-sends_begin v a b w s o =
-    let h = begins a b s o in
-    record { config = h.0; front = []; holds = h.1; done = h.2; sent = appends_nothing w }
+-- The lines themselves.
 
-own_more : (v : ℕ) (front : List Event) (e : Event) → own v (front ++ e ∷ []) ≡ own v front ++ cond (is_owner v (owner_of e)) (e ∷ []) []
-own_more v [] e = at (is_owner v (owner_of e))
+pub next_text : (left n : ℕ) (old new : Option (List ℕ)) (line : List ℕ) (found : Bool) (said : Line) → left ≡ suc n → found ≡ true → said ≡ session_line line → TakesLine old new line found → NextText (lines_ahead left old) (lines_ahead n new) line (Some said)
+next_text left n None new line found said l f s h = tt
+next_text left n (Some text) new line found said l f s h = at new (subst (TakesLine (Some text) new line) f h)
   where
-    at : (b : Bool) → cond b (e ∷ []) [] ≡ cond b (e ∷ []) []
-    at b = refl
-own_more v (x ∷ xs) e = at (is_owner v (owner_of x)) (own_more v xs e)
+    at : (o : Option (List ℕ)) → TakesLine (Some text) o line true → NextText (lines_ahead left (Some text)) (lines_ahead n o) line (Some said)
+    at None t = absurd t
+    at (Some rest) t = (ap (λ k. take k (whole_lines text)) l ∙ ap (take (suc n)) t, s)
+
+pub no_text : (left n : ℕ) (old new : Option (List ℕ)) (line : List ℕ) → TakesLine old new line false → NextText (lines_ahead left old) (lines_ahead n new) line None
+no_text left n None new line h = tt
+no_text left n (Some text) new line h = ap (take left) h ∙ none left
   where
-    at : (b : Bool) → own v (xs ++ e ∷ []) ≡ own v xs ++ cond (is_owner v (owner_of e)) (e ∷ []) []
-        → cond b (x ∷ own v (xs ++ e ∷ [])) (own v (xs ++ e ∷ [])) ≡ cond b (x ∷ own v xs) (own v xs) ++ cond (is_owner v (owner_of e)) (e ∷ []) []
-    at true h = ap (λ es. x ∷ es) h
-    at false h = h
+    the_none : List (List ℕ)
+    the_none = []
 
-done_more : (a b d : Option (List Line)) (c : Config) (front : List Event) (e : Event) → Done a b c front → NextEvent b d (Some e) → Done a d c (front ++ e ∷ [])
-done_more None b d c front e h n = tt
-done_more (Some x) None d c front e h n = absurd h
-done_more (Some x) (Some y) None c front e h n = absurd n
-done_more (Some x) (Some y) (Some z) c front e h n = h ∙ ap (behind c front) n ∙ joined (events_of z)
-  where
-    joined : (o : Option (List Event)) → behind c front (option_map (λ es. e ∷ es) o) ≡ behind c (front ++ e ∷ []) o
-    joined None = refl
-    joined (Some es) = ap (λ (l : List Event). Some (session c l)) (sym (append_assoc front (e ∷ []) es))
+    none : (k : ℕ) → take k the_none ≡ the_none
+    none zero = refl
+    none (suc k) = refl
 
--- the answers to one event more
-answers-more : (c : Config) (before es : List Event) (e : Event) → answers_after c before (es ++ e ∷ []) ≡ answers_after c before es ++ answer_to c (before ++ es) e ∷ []
-answers-more c before [] e = ap (λ l. answer_to c l e ∷ []) (sym (append-nil before))
-answers-more c before (x ∷ es) e =
-    ap (λ l. answer_to c before x ∷ l) (answers-more c (before ++ x ∷ []) es e ∙ ap (λ l. answers_after c (before ++ x ∷ []) es ++ answer_to c l e ∷ []) (append_assoc before (x ∷ []) es))
-
-bytes-append : (xs : List Answer) (a : Answer) → flat_map (λ x. x.bytes) (xs ++ a ∷ []) ≡ flat_map (λ x. x.bytes) xs ++ a.bytes
-bytes-append [] a = append-nil a.bytes
-bytes-append (x ∷ xs) a = ap (λ l. x.bytes ++ l) (bytes-append xs a) ∙ sym (append_assoc x.bytes (flat_map (λ y. y.bytes) xs) a.bytes)
-
-bytes_more : (c : Config) (es : List Event) (e : Event) → flat_map (λ a. a.bytes) (answers c (es ++ e ∷ [])) ≡ flat_map (λ a. a.bytes) (answers c es) ++ (answer_to c es e).bytes
-bytes_more c es e = ap (flat_map (λ a. a.bytes)) (answers-more c [] es e) ∙ bytes-append (answers c es) (answer_to c es e)
-
-own_by : (v : ℕ) (front : List Event) (e : Event) (b : Bool) → is_owner v (owner_of e) ≡ b → own v (front ++ e ∷ []) ≡ own v front ++ cond b (e ∷ []) []
-own_by v front e b h = own_more v front e ∙ ap (λ t. own v front ++ cond t (e ∷ []) []) h
-
--- an event of the viewer, or a drawing call
-pub sends_own : (v : ℕ) (a b d : Option (List Line)) (w x y : Option (List ℕ)) (s t : State) (e : Event) (answer : Answer) → (h : Sends v a b w x s) → NextEvent b d (Some e) → is_owner v (owner_of e) ≡ true
-    → t ≡ state h.config (own v h.front ++ e ∷ []) → answer ≡ answer_to h.config (own v h.front) e → Appends x y answer.bytes → Sends v a d w y t
-sends_own v a b d w x y s t e answer h n is step told wrote =
-    let now = own_by v h.front e true is in
-    record {
-      config = h.config;
-      front = h.front ++ e ∷ [];
-      holds = step ∙ ap (state h.config) (sym now);
-      done = done_more a b d h.config h.front e h.done n;
-      sent = subst (Appends w y) (ap (λ z. bytes_so_far h.config v h.front ++ z.bytes) told ∙ sym (bytes_more h.config (own v h.front) e) ∙ ap (λ es. flat_map (λ z. z.bytes) (answers h.config es)) (sym now)) (appends_more w x y _ answer.bytes h.sent wrote);
-    }
-
--- an event of another one
-pub sends_other : (v : ℕ) (a b d : Option (List Line)) (w x : Option (List ℕ)) (s : State) (e : Event) → (h : Sends v a b w x s) → NextEvent b d (Some e) → is_owner v (owner_of e) ≡ false → Sends v a d w x s
-sends_other v a b d w x s e h n is =
-    let now = own_by v h.front e false is ∙ append-nil (own v h.front) in
-    record {
-      config = h.config;
-      front = h.front ++ e ∷ [];
-      holds = h.holds ∙ ap (state h.config) (sym now);
-      done = done_more a b d h.config h.front e h.done n;
-      sent = subst (Appends w x) (ap (λ es. flat_map (λ z. z.bytes) (answers h.config es)) (sym now)) h.sent;
-    }
-
--- either
-pub sends_next : (v : ℕ) (a b d : Option (List Line)) (w x y : Option (List ℕ)) (s t : State) (e : Event) → Sends v a b w x s → NextEvent b d (Some e)
-    → (is_owner v (owner_of e) ≡ true → (c : Config) (list : List Event) → s ≡ state c list → SentFor c list e t x y)
-    → (is_owner v (owner_of e) ≡ false → (t ≡ s) × (y ≡ x)) → Sends v a d w y t
-sends_next v a b d w x y s t e h n own_one other = at (is_owner v (owner_of e)) refl
-  where
-    at : (o : Bool) → is_owner v (owner_of e) ≡ o → Sends v a d w y t
-    at true is =
-        let did = own_one is h.config (own v h.front) h.holds in
-        sends_own v a b d w x y s t e (answer_to h.config (own v h.front) e) h n is did.0 refl did.1
-    at false is =
-        let did = other is in
-        subst (λ z. Sends v a d w z t) (sym did.1) (subst (λ z. Sends v a d w x z) (sym did.0) (sends_other v a b d w x s e h n is))
-
-own_are_own : (v : ℕ) (es : List Event) → list_all (λ e. is_owner v (owner_of e)) (own v es) ≡ true
-own_are_own v [] = refl
-own_are_own v (e ∷ es) = go (is_owner v (owner_of e)) refl (own_are_own v es)
-  where
-    go : (b : Bool) → is_owner v (owner_of e) ≡ b → list_all (λ x. is_owner v (owner_of x)) (own v es) ≡ true → list_all (λ x. is_owner v (owner_of x)) (cond b (e ∷ own v es) (own v es)) ≡ true
-    go true h rest = and_from _ _ h rest
-    go false h rest = rest
-
-abbrev pub IsAllSent : ℕ → Option (List Line) → Option (List ℕ) → Option (List ℕ) → Type 0
-IsAllSent v a before after = IfSome a (λ ls. Appends before after (sent_in v (said_by ls)))
-
-abbrev pub AreAlone : Type 0
-AreAlone = (c : Config) (v : ℕ) (es : List Event) → list_all (λ e. is_owner v (owner_of e)) es ≡ true → answers c es ≡ alone c es
-
--- no event more
-pub all_sent : (v : ℕ) (a b d : Option (List Line)) (w x : Option (List ℕ)) (s : State) → AreAlone → Sends v a b w x s → NextEvent b d None → IsAllSent v a w x
-all_sent v None b d w x s law h n = tt
-all_sent v (Some y) None d w x s law h n = absurd h.done
-all_sent v (Some y) (Some z) d w x s law h n =
-    let c = h.config in
-    let said : said_by y ≡ Some (session c h.front) = h.done ∙ ap (behind c h.front) n ∙ ap (λ (l : List Event). Some (session c l)) (append-nil h.front) in
-    subst (Appends w x) (ap (flat_map (λ r. r.bytes)) (law c v (own v h.front) (own_are_own v h.front)) ∙ ap (sent_in v) (sym said)) h.sent
-
-pub none_sent : (v : ℕ) (a b : Option (List Line)) (w : Option (List ℕ)) → Opens a b None → IsAllSent v a w w
-none_sent v None b w o = tt
-none_sent v (Some y) b w o = subst (Appends w w) (ap (sent_in v) (sym o)) (appends_nothing w)
+pub no_text_left : (n : ℕ) (old new : Option (List ℕ)) (line : List ℕ) → NextText (lines_ahead 0 old) (lines_ahead n new) line None
+no_text_left n None new line = tt
+no_text_left n (Some text) new line = refl

@@ -1,5 +1,7 @@
 mod Feeds
 mod Events
+pub mod Replays
+pub mod Redacting
 mod Corners
 pub mod Growing
 mod ReadsWords
@@ -16,3 +18,6 @@ mod ReadsAccepted
 mod ReadsSound
 mod ReadsReplayed
 mod ReadsTests
+mod RedactedLines
+mod RedactedTexts
+mod GoodLines

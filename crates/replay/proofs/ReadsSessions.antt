@@ -52,7 +52,7 @@ whole_first line rest h = ap whole_of (line_first line rest h) ∙ whole_more li
 line_then : (text rest : List ℕ) (said : Line) (h : IsLine text said) → whole_lines (text ++ rest) ≡ h.line ∷ whole_lines rest
 line_then text rest said h = ap (λ t. whole_lines (t ++ rest)) h.text_is ∙ ap whole_lines (append_assoc h.line (codes "\n") rest) ∙ whole_first h.line rest h.is_one
 
-says_then : (text rest : List ℕ) (said : Line) → IsLine text said → map session_line (whole_lines (text ++ rest)) ≡ said ∷ map session_line (whole_lines rest)
+pub says_then : (text rest : List ℕ) (said : Line) → IsLine text said → map session_line (whole_lines (text ++ rest)) ≡ said ∷ map session_line (whole_lines rest)
 says_then text rest said h = ap (map session_line) (line_then text rest said h) ∙ ap (λ l. l ∷ map session_line (whole_lines rest)) h.says
 
 -- ---- what a session's text says

@@ -1,5 +1,14 @@
 -- What was recorded is read back.
-use Rattle.std.specs.Prelude.{◌≡◌, ℕ, ◌+◌, ◌<◌, ◌⊎◌, false, Some, None, List, [], ◌++◌, length, take, map, codes}
+use Rattle.std.specs.Prelude.{◌≡◌, ℕ, ◌+◌, ◌<◌, ◌⊎◌, true, false, Some, None, List, [], ◌∷◌, ◌++◌, length, take, map, codes, option_map}
+use Rattle.messages.specs.Reading.{Conversation, hear}
+use Rattle.redaction.specs.Redaction.{is_secret}
+use Rattle.redaction.specs.Sessions.{conversation_of}
+use Rattle.screen.specs.declared.Event.TheVariants as event
+use Rattle.std.specs.List.{AllByRecursion}
+use Rattle.replay.specs.declared.replaying.Asked.{Asked}
+use Rattle.replay.specs.BadLines.{first_bad_line}
+use Rattle.replay.specs.Pictures.{drawn_in}
+use Rattle.replay.specs.Redacted.{redacted_text, redacted_session, events_behind}
 use Rattle.screen.specs.declared.Config.{Config}
 use Rattle.screen.specs.declared.Event.{Event}
 use Rattle.scene.specs.Answers.{picture_of}
@@ -7,10 +16,10 @@ use Rattle.scene.specs.History.{accepted}
 use Rattle.receipts.specs.Histories.{bytes_of}
 use Rattle.recorder.specs.Events.{screen_line, event_line, session_text}
 use Rattle.play_script.specs.declared.lines.Line.{Line}
-use Rattle.play_script.specs.declared.lines.Line.TheVariants.{Start, Do}
+use Rattle.play_script.specs.declared.lines.Line.TheVariants.{Skipped, Start, Do}
 use Rattle.replay.specs.Lines.{session_line}
 use Rattle.replay.specs.Reading.{has_feed}
-use Rattle.replay.specs.Sessions.{whole_lines, session_of, sent_in}
+use Rattle.replay.specs.Sessions.{Session, whole_lines, lines_said, session_of, sent_in}
 use Rattle.replay.specs.Said.{said_event, said_config, said_session, IsSound, IsSoundConfig, AreSound, IsRun}
 
 -- a text is one line, with its line feed, and says this
@@ -56,3 +65,32 @@ pub record recorded_is_replayed : Type 0 where
       → sent_in v (session_of lines (session_text c (accepted c list))) ≡ bytes_of c v list
   pub beginning : (c : Config) (list : List Event) (v lines n : ℕ) → IsRun c list
       → (rest : List ℕ) × (sent_in v (session_of lines (take n (session_text c (accepted c list)))) ++ rest ≡ bytes_of c v list)
+
+-- What a redacted text says is the redacted session, whatever the text: so each viewer is sent the same bytes, and the same is drawn.
+pub record redacted_is_read : Type 0 where
+  pub session : (lines : ℕ) (text : List ℕ) → session_of lines (redacted_text lines text) ≡ option_map redacted_session (session_of lines text)
+  pub sent : (lines : ℕ) (text : List ℕ) (v : ℕ) → sent_in v (session_of lines (redacted_text lines text)) ≡ sent_in v (session_of lines text)
+  pub drawn : (lines : ℕ) (text : List ℕ) → drawn_in (session_of lines (redacted_text lines text)) ≡ drawn_in (session_of lines text)
+
+-- two lines let a piece be heard of a viewer, and the pieces differ in a byte that is secret behind these events
+pub record DifferInSecret (events : List Event) (one other : List ℕ) : Type 0 where
+  pub viewer : ℕ
+  pub heard : Conversation
+  pub front : List ℕ
+  pub back : List ℕ
+  pub byte : ℕ
+  pub byte_of_other : ℕ
+  pub is_there : conversation_of viewer events ≡ Some heard
+  pub is_secret : is_secret (hear heard front) ≡ true
+  pub one_says : session_line one ≡ Do (event.Hear viewer (front ++ byte ∷ back))
+  pub other_says : session_line other ≡ Do (event.Hear viewer (front ++ byte_of_other ∷ back))
+
+-- Texts whose lines are the same but for one such line have the same redacted text.
+abbrev pub secrets_are_not_written : Type 0
+secrets_are_not_written = (lines : ℕ) (text other : List ℕ) (front back : List (List ℕ)) (l m : List ℕ) → take lines (whole_lines text) ≡ front ++ l ∷ back → take lines (whole_lines other) ≡ front ++ m ∷ back
+    → DifferInSecret (events_behind [] front) l m → redacted_text lines text ≡ redacted_text lines other
+
+-- Where no line is bad, the lines say a session, or nothing: there is no screen yet.
+abbrev pub good_lines_are_read : Type 0
+good_lines_are_read = (asked : Asked) (text : List ℕ) → first_bad_line asked text ≡ None
+    → AllByRecursion (λ l. l ≡ Skipped) (lines_said asked.lines text) ⊎ ((s : Session) × (session_of asked.lines text ≡ Some s))

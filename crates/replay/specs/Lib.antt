@@ -1,5 +1,8 @@
 pub mod Lines
 pub mod Sessions
+pub mod BadLines
+pub mod Redacted
+pub mod Pictures
 pub mod Reading
 pub mod Said
 pub mod Claims

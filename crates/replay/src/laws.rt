@@ -1,6 +1,6 @@
 //! What was recorded is read back.
 
-ghost use Rattle.replay.specs.Claims.{lines_are_read, sessions_are_read, beginnings_are_sessions, said_is_answered_alike, accepted_is_sent, accepted_is_sound, recorded_is_replayed};
+ghost use Rattle.replay.specs.Claims.{good_lines_are_read, lines_are_read, sessions_are_read, beginnings_are_sessions, said_is_answered_alike, accepted_is_sent, accepted_is_sound, recorded_is_replayed, redacted_is_read, secrets_are_not_written};
 
 /// The line of a sound event is one line, and says the event; and so does that of a sound configuration.
 pub fn lines_are_read()
@@ -36,4 +36,19 @@ pub fn accepted_is_sound()
 /// beginning of that.
 pub fn recorded_is_replayed()
     ensures { recorded_is_replayed }
+{}
+
+/// What is read of a redacted text is the redacted session. So each viewer is sent the same bytes by it, and the same is drawn.
+pub fn redacted_is_read()
+    ensures { redacted_is_read }
+{}
+
+/// Whichever a secret byte of a line is, the redacted text is the same.
+pub fn secrets_are_not_written()
+    ensures { secrets_are_not_written }
+{}
+
+/// Where no line is bad for a question, what was read is a session, or there is no screen yet.
+pub fn good_lines_are_read()
+    ensures { good_lines_are_read }
 {}

@@ -1,12 +1,19 @@
 //! Pictures, as portable pixmaps (PPM, P6).
 
-ghost use Rattle.std.specs.Prelude.{◌≡◌, OnOk, IfSome};
-ghost use Rattle.replay.specs.Reading.{Grows};
+ghost use Rattle.std.specs.Prelude.{◌≡◌, ◌++◌, IfOk, IfSome, OnOk, flat_map, ◌<◌};
+ghost use Rattle.std.specs.Io.KnownBytes.{Appends};
+ghost use Rattle.recorder.specs.Words.{colour_bytes};
+ghost use Rattle.replay.specs.declared.replaying.Question.TheVariants as question;
+ghost use Rattle.replay.specs.Pictures.{Draws, drawn_in, pixmap, pixmap_head, row_of};
+ghost use Rattle.replay.specs.Reading.{ahead, Judged};
+ghost use Rattle.replay.specs.Sessions.{said_by};
 
-use crate::session::{Session, perform};
+use crate::replaying::Question;
+use crate::session::Session;
 use crate::stop::Stop;
-use play_script::trouble::print;
-use screen::{Event, Screen};
+use crate::texts::put_number;
+use play_script::trouble::{Trouble, print};
+use screen::Screen;
 use std::alloc::{AllocError, Global};
 use std::io::{BufRead, Write};
 
@@ -16,67 +23,106 @@ pub(crate) const NOTHING: [u8; 3] = [0xff, 0, 0xff];
 /// A row of a picture: three bytes for each place.
 pub(crate) type Row = Vec<u8>;
 
+/// What stands before a picture's rows.
+fn head_of(alloc: Global, columns: u32, rows: u32) -> Result<Vec<u8>, AllocError>
+    ensures { IfOk result (λ head. head.items ≡ pixmap_head columns rows) }
+{
+    let mut head = Vec::new(alloc);
+    head.extend_from_slice(b"P6\n")?;
+    put_number(alloc, &mut head, u64::from(columns))?;
+    head.extend_from_slice(b" ")?;
+    put_number(alloc, &mut head, u64::from(rows))?;
+    head.extend_from_slice(b"\n255\n")?;
+    Ok(head)
+}
+
 /// Writes what stands before a picture's rows.
 pub(crate) fn write_head<W: Write>(
     alloc: Global,
     writer: &mut W,
     columns: u32,
     rows: u32,
-) -> Result<(), Stop>
-    ensures { OnOk result (Grows (W.contents writer.old) (W.contents writer.new)) }
+) -> Result<(), Trouble>
+    ensures { OnOk result (Appends (W.contents writer.old) (W.contents writer.new) (pixmap_head columns rows)) }
 {
-    let head = format!(in alloc; "P6\n{columns} {rows}\n255\n")?;
-    print(writer, head.as_bytes())?;
-    Ok(())
+    print(writer, &head_of(alloc, columns, rows)?)
 }
 
-/// Puts a row of what was drawn.
-fn put_row(screen: &Screen, y: u32, row: &mut Row) -> Result<(), AllocError> {
-    for colour in screen.row(y).unwrap_or(&[]) {
-        let [_, red, green, blue] = colour.to_be_bytes();
-        row.extend_from_slice(&[red, green, blue])?;
+/// The red, green and blue of a colour.
+fn colour_bytes(colour: u32) -> [u8; 3]
+    ensures { result ≡ colour_bytes colour }
+{
+    [
+        (colour / 0x1_0000 % 256) as u8,
+        (colour / 256 % 256) as u8,
+        (colour % 256) as u8,
+    ]
+}
+
+/// Puts a row of colours.
+fn put_colours(colours: &[u32], row: &mut Row) -> Result<(), AllocError>
+    ensures { OnOk result (row.new.items ≡ row.old.items ++ flat_map colour_bytes colours.now) }
+{
+    for colour in colours {
+        row.extend_from_slice(&colour_bytes(*colour))?;
     }
     Ok(())
 }
 
+/// Writes a row of what was drawn, and takes `row` for its bytes.
+fn write_row<W: Write>(
+    writer: &mut W,
+    screen: &Screen,
+    y: u32,
+    row: &mut Row,
+) -> Result<(), Trouble>
+    requires { y < screen.now.picture.height }
+    ensures { OnOk result (Appends (W.contents writer.old) (W.contents writer.new) (flat_map colour_bytes (row_of screen.now.picture y))) }
+{
+    let Some(colours) = screen.row(y) else {
+        return Ok(());
+    };
+    row.clear();
+    put_colours(colours, row)?;
+    print(writer, row)
+}
+
 /// Writes what was drawn.
-fn write_screen<W: Write>(alloc: Global, writer: &mut W, screen: &Screen) -> Result<(), Stop>
-    ensures { OnOk result (Grows (W.contents writer.old) (W.contents writer.new)) }
+fn write_screen<W: Write>(alloc: Global, writer: &mut W, screen: &Screen) -> Result<(), Trouble>
+    ensures { OnOk result (Appends (W.contents writer.old) (W.contents writer.new) (pixmap screen.now.picture)) }
 {
     write_head(alloc, writer, screen.width(), screen.height())?;
     let mut row = Vec::new(alloc);
     for y in 0..screen.height() {
-        row.clear();
-        put_row(screen, y, &mut row)?;
-        print(writer, &row)?;
+        write_row(writer, screen, y, &mut row)?;
     }
     Ok(())
 }
 
-/// Whether an event is a drawing call.
-fn is_drawing(event: &Event) -> bool {
-    !matches!(
-        event,
-        Event::Connect { .. } | Event::Hear { .. } | Event::Cut { .. } | Event::Close { .. }
-    )
+/// Draws to the end of a session. None where there is no screen.
+fn drawn<R: BufRead>(session: &mut Session<'_, R>) -> Result<Option<Screen>, Stop>
+    ensures draws { IfOk result (λ screen. IfSome (ahead session.old.left (R.remaining session.old.reader.now)) (Draws screen)) }
+    ensures judged { Judged question.Drawn (ahead session.old.left (R.remaining session.old.reader.now)) session.old.number session.new.number result }
+{
+    let Some(mut screen) = session.open()? else {
+        return Ok(None);
+    };
+    while let Some(_answered) = session.next_answered(&mut screen, Question::Drawn)? {}
+    Ok(Some(screen))
 }
 
 /// Writes a picture of what was drawn, and nothing where there is no screen.
-#[tactic(auto, using(crate::proofs::Growing::grows_none))]
 pub(crate) fn write_drawn<R: BufRead, W: Write>(
     alloc: Global,
     session: &mut Session<'_, R>,
     writer: &mut W,
 ) -> Result<(), Stop>
-    ensures { OnOk result (Grows (W.contents writer.old) (W.contents writer.new)) }
+    ensures drawn { OnOk result (IfSome (ahead session.old.left (R.remaining session.old.reader.now)) (λ lines.
+        Appends (W.contents writer.old) (W.contents writer.new) (drawn_in (said_by lines)))) }
+    ensures judged { Judged question.Drawn (ahead session.old.left (R.remaining session.old.reader.now)) session.old.number session.new.number result }
 {
-    let Some(mut screen) = session.open()? else {
-        return Ok(());
-    };
-    while let Some(event) = session.next_event()? {
-        if is_drawing(&event) {
-            let _answer = perform(&mut screen, &event)?;
-        }
+    if let Some(screen) = drawn(session)? {
+        write_screen(alloc, writer, &screen)?;
     }
-    write_screen(alloc, writer, &screen)
+    Ok(())
 }

@@ -1,18 +1,20 @@
 //! What a viewer saw.
 
-ghost use Rattle.std.specs.Prelude.{◌≡◌, true, OnOk, IfSome};
+ghost use Rattle.std.specs.Prelude.{◌≡◌, true, OnOk};
 ghost use Rattle.messages.specs.Grammar.{version_of};
 ghost use Rattle.messages.specs.Reading.{is_version, major_of, minor_of};
-ghost use Rattle.replay.specs.Reading.{Grows};
+ghost use Rattle.replay.specs.declared.replaying.Question.TheVariants as question;
+ghost use Rattle.replay.specs.Reading.{ahead, Grows, Judged};
 
+use crate::answered::Answered;
 use crate::pictures::{NOTHING, Row, write_head};
-use crate::sent::is_own;
-use crate::session::{Session, perform};
+use crate::replaying::Question;
+use crate::session::Session;
 use crate::stop::Stop;
 use messages::Version;
 use pixel_translate::{Component, PixelFormat, Pixels};
-use play_script::trouble::print;
-use screen::{Answer, Event, Settings};
+use play_script::trouble::{Trouble, print};
+use screen::{Event, Settings};
 use std::alloc::{AllocError, Global};
 use std::io::{BufRead, Write};
 use test_viewer::Shown;
@@ -85,7 +87,7 @@ fn put_row(shown: &Shown, columns: u32, y: u32, row: &mut Row) -> Result<(), All
 }
 
 /// Writes what a viewer shows.
-fn write_shown<W: Write>(alloc: Global, writer: &mut W, shown: &Shown) -> Result<(), Stop>
+fn write_shown<W: Write>(alloc: Global, writer: &mut W, shown: &Shown) -> Result<(), Trouble>
     ensures { OnOk result (Grows (W.contents writer.old) (W.contents writer.new)) }
 {
     let (columns, rows) = shown.size();
@@ -145,24 +147,19 @@ impl Watcher {
 
     /// Takes an event, which was answered, and behind which the viewer has set this, if it is there. A viewer that comes has neither said nor
     /// seen anything.
-    fn watch(
-        &mut self,
-        event: &Event,
-        answer: &Answer,
-        settings: Option<Settings>,
-    ) -> Result<(), AllocError> {
-        match (event, settings) {
+    fn watch(&mut self, answered: &Answered, settings: Option<Settings>) -> Result<(), AllocError> {
+        match (&answered.event, settings) {
             (Event::Connect { .. }, _) => *self = Watcher::new(self.alloc),
             (Event::Hear { piece, .. }, Some(settings)) => {
                 self.hear(piece.as_slice(), &settings)?;
             }
             _ => {}
         }
-        self.receive(answer.bytes.as_slice())
+        self.receive(answered.answer.bytes.as_slice())
     }
 
     /// Writes what it sees: an empty picture where its version isn't known.
-    fn write<W: Write>(&self, writer: &mut W) -> Result<(), Stop>
+    fn write<W: Write>(&self, writer: &mut W) -> Result<(), Trouble>
         ensures { OnOk result (Grows (W.contents writer.old) (W.contents writer.new)) }
     {
         match &self.shown {
@@ -172,6 +169,24 @@ impl Watcher {
     }
 }
 
+/// Watches a viewer to the end of a session.
+fn watched<R: BufRead>(
+    alloc: Global,
+    session: &mut Session<'_, R>,
+    viewer: u64,
+) -> Result<Watcher, Stop>
+    ensures { Judged (question.Seen viewer) (ahead session.old.left (R.remaining session.old.reader.now)) session.old.number session.new.number result }
+{
+    let mut watcher = Watcher::new(alloc);
+    let Some(mut screen) = session.open()? else {
+        return Ok(watcher);
+    };
+    while let Some(answered) = session.next_answered(&mut screen, Question::Seen(viewer))? {
+        watcher.watch(&answered, screen.settings(viewer).ok())?;
+    }
+    Ok(watcher)
+}
+
 /// Writes a picture of what a viewer saw.
 pub(crate) fn write_seen<R: BufRead, W: Write>(
     alloc: Global,
@@ -179,16 +194,10 @@ pub(crate) fn write_seen<R: BufRead, W: Write>(
     writer: &mut W,
     viewer: u64,
 ) -> Result<(), Stop>
-    ensures { OnOk result (Grows (W.contents writer.old) (W.contents writer.new)) }
+    ensures grows { OnOk result (Grows (W.contents writer.old) (W.contents writer.new)) }
+    ensures judged { Judged (question.Seen viewer) (ahead session.old.left (R.remaining session.old.reader.now)) session.old.number session.new.number result }
 {
-    let mut watcher = Watcher::new(alloc);
-    if let Some(mut screen) = session.open()? {
-        while let Some(event) = session.next_event()? {
-            if is_own(viewer, &event) {
-                let answer = perform(&mut screen, &event)?;
-                watcher.watch(&event, &answer, screen.settings(viewer).ok())?;
-            }
-        }
-    }
-    watcher.write(writer)
+    let watcher = watched(alloc, session, viewer)?;
+    watcher.write(writer)?;
+    Ok(())
 }

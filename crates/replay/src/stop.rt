@@ -1,7 +1,7 @@
 //! Why a replay ends early.
 
 use play_script::trouble::Trouble;
-use std::alloc::{AllocError, AllocFailed};
+use std::alloc::AllocError;
 
 /// Why a replay ends early.
 #[derive(Clone, Copy)]
@@ -13,19 +13,24 @@ pub(crate) enum Stop {
 }
 
 impl From<Trouble> for Stop {
+    ghost use Rattle.std.specs.Prelude.{◌≡◌};
+    ghost use Rattle.replay.specs.declared.stop.Stop.TheVariants as stop;
+
+    ghost from_gives = { λ trouble s. s ≡ stop.Trouble trouble };
+
     fn from(trouble: Trouble) -> Stop {
         Stop::Trouble(trouble)
     }
 }
 
 impl From<AllocError> for Stop {
-    fn from(_error: AllocError) -> Stop {
-        Stop::Trouble(Trouble::OutOfMemory)
-    }
-}
+    ghost use Rattle.std.specs.Prelude.{◌≡◌};
+    ghost use Rattle.play_script.specs.declared.trouble.Trouble.TheVariants.{OutOfMemory};
+    ghost use Rattle.replay.specs.declared.stop.Stop.TheVariants as stop;
 
-impl<T: Drop> From<AllocFailed<T>> for Stop {
-    fn from(_error: AllocFailed<T>) -> Stop {
+    ghost from_gives = { λ _ s. s ≡ stop.Trouble OutOfMemory };
+
+    fn from(_error: AllocError) -> Stop {
         Stop::Trouble(Trouble::OutOfMemory)
     }
 }

@@ -1,12 +1,15 @@
 //! Who was there.
 
-ghost use Rattle.std.specs.Prelude.{OnOk, IfSome};
-ghost use Rattle.replay.specs.Reading.{Grows};
+ghost use Rattle.std.specs.Prelude.{OnOk};
+ghost use Rattle.replay.specs.declared.replaying.Question.TheVariants as question;
+ghost use Rattle.replay.specs.Reading.{ahead, Grows, Judged};
 
-use crate::session::{Session, perform};
+use crate::answered::Answered;
+use crate::replaying::Question;
+use crate::session::Session;
 use crate::stop::Stop;
-use play_script::trouble::print;
-use screen::{Answer, BitsPerPixel, Encoding, Event, Screen, Settings};
+use play_script::trouble::{Trouble, print};
+use screen::{BitsPerPixel, Encoding, Event, Screen, Settings};
 use std::alloc::{AllocError, Global};
 use std::collections::BTreeMap;
 use std::io::{BufRead, Write};
@@ -43,7 +46,8 @@ impl Visit {
     }
 
     /// Counts an event of the viewer, which was answered.
-    fn count(&mut self, line: u64, event: &Event, answer: &Answer) {
+    fn count(&mut self, line: u64, answered: &Answered) {
+        let Answered { event, answer } = answered;
         self.last = line;
         self.sent = self.sent.saturating_add(answer.bytes.len() as u64);
         match event {
@@ -121,21 +125,15 @@ impl Visits {
     }
 
     /// Adds a viewer that came.
-    fn add(&mut self, viewer: u64, line: u64) -> Result<(), Stop> {
+    fn add(&mut self, viewer: u64, line: u64) -> Result<(), Trouble> {
         self.places.insert(viewer, self.all.len())?;
         self.all.push(Visit::new(viewer, line))?;
         Ok(())
     }
 
     /// Counts an event of a viewer, if it is one.
-    fn count(
-        &mut self,
-        line: u64,
-        event: &Event,
-        answer: &Answer,
-        screen: &Screen,
-    ) -> Result<(), Stop> {
-        let viewer = match event {
+    fn count(&mut self, line: u64, answered: &Answered, screen: &Screen) -> Result<(), Trouble> {
+        let viewer = match &answered.event {
             Event::Connect { viewer } => {
                 self.add(*viewer, line)?;
                 *viewer
@@ -147,12 +145,12 @@ impl Visits {
             return Ok(());
         };
         if let Some(visit) = self.all.get_mut(*place) {
-            visit.count(line, event, answer);
+            visit.count(line, answered);
             if let Ok(settings) = screen.settings(viewer) {
                 visit.settings = Some(settings);
             }
         }
-        if matches!(event, Event::Close { .. }) {
+        if matches!(answered.event, Event::Close { .. }) {
             let _place = self.places.remove(&viewer);
         }
         Ok(())
@@ -160,7 +158,7 @@ impl Visits {
 
     /// Writes a line for each viewer.
     #[tactic(auto, using(crate::proofs::Growing::grows_none))]
-    fn write<W: Write>(&self, alloc: Global, writer: &mut W) -> Result<(), Stop>
+    fn write<W: Write>(&self, alloc: Global, writer: &mut W) -> Result<(), Trouble>
         ensures { OnOk result (Grows (W.contents writer.old) (W.contents writer.new)) }
     {
         for visit in &self.all {
@@ -170,6 +168,20 @@ impl Visits {
     }
 }
 
+/// Counts what happens to each viewer, to the end of a session.
+fn visits_of<R: BufRead>(alloc: Global, session: &mut Session<'_, R>) -> Result<Visits, Stop>
+    ensures { Judged question.Viewers (ahead session.old.left (R.remaining session.old.reader.now)) session.old.number session.new.number result }
+{
+    let mut visits = Visits::new(alloc);
+    let Some(mut screen) = session.open()? else {
+        return Ok(visits);
+    };
+    while let Some(answered) = session.next_answered(&mut screen, Question::Viewers)? {
+        visits.count(session.number(), &answered, &screen)?;
+    }
+    Ok(visits)
+}
+
 /// Writes a line for each viewer that was there: in which lines it came and had its last event, what it asked for, how many bytes of it were
 /// heard, how many updates and bytes it was sent, and how it ended.
 pub(crate) fn write_viewers<R: BufRead, W: Write>(
@@ -177,14 +189,10 @@ pub(crate) fn write_viewers<R: BufRead, W: Write>(
     session: &mut Session<'_, R>,
     writer: &mut W,
 ) -> Result<(), Stop>
-    ensures { OnOk result (Grows (W.contents writer.old) (W.contents writer.new)) }
+    ensures grows { OnOk result (Grows (W.contents writer.old) (W.contents writer.new)) }
+    ensures judged { Judged question.Viewers (ahead session.old.left (R.remaining session.old.reader.now)) session.old.number session.new.number result }
 {
-    let mut visits = Visits::new(alloc);
-    if let Some(mut screen) = session.open()? {
-        while let Some(event) = session.next_event()? {
-            let answer = perform(&mut screen, &event)?;
-            visits.count(session.number(), &event, &answer, &screen)?;
-        }
-    }
-    visits.write(alloc, writer)
+    let visits = visits_of(alloc, session)?;
+    visits.write(alloc, writer)?;
+    Ok(())
 }

@@ -205,6 +205,17 @@ impl Scene {
         }
     }
 
+    /// How many requests of a viewer were not incremental. Refused as `NoViewer` where there is none with the number.
+    pub fn full_requests(&self, number: u64) -> Result<u64, ScreenError>
+        ensures { MatchOption (viewer_at self.now number) (result ≡ Err ScreenError.NoViewer) (λ viewer. result ≡
+            Ok viewer.full_requests) }
+    {
+        match self.viewers.full_requests(number) {
+            Some(count) => Ok(count),
+            None => Err(ScreenError::NoViewer),
+        }
+    }
+
     /// Nothing, or why colours `0x00RRGGBB`, row by row, may not replace those of a rectangle: `BadRect` unless
     /// 0 <= x1 <= x2 <= width and 0 <= y1 <= y2 <= height, then `BadPixelCount` unless there are as many as places.
     pub fn check_pixels(&self, rect: Rect, colours: &[u32]) -> Result<(), ScreenError>

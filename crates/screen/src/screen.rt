@@ -193,6 +193,15 @@ impl Screen {
         self.scene.settings(number)
     }
 
+    /// How many requests of a viewer were not incremental (RFC 6143, 7.5.3): `full_requests` of its settings. Refused as `NoViewer` where
+    /// there is none with the number.
+    pub fn full_requests(&self, number: u64) -> Result<u64, ScreenError>
+        ensures { MatchOption (viewer_at self.now number) (result ≡ Err ScreenError.NoViewer) (λ viewer. result ≡
+            Ok viewer.full_requests) }
+    {
+        self.scene.full_requests(number)
+    }
+
     /// One drawing call: one of the calls below, as a value. Refused as that call is.
     pub fn draw(&mut self, drawing: &Drawing<'_>) -> Result<(), ScreenError>
         ensures step { (config : Config) (list : List Event) → self.old ≡ state config list →

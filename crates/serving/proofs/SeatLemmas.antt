@@ -1,11 +1,12 @@
--- Seats that are taken from behind, and threads that come to them.
-use Rattle.std.proofs.Common.{◌≡◌, ℕ, ◌<◌, ◌+◌, List, [], ◌∷◌, ◌++◌, length, get_or}
-use Rattle.std.proofs.Common.{arith}
+-- Seats that are taken from behind, and services that come to them.
+use Rattle.std.proofs.Common.{◌≡◌, ℕ, ◌<◌, ◌+◌, List, [], ◌∷◌, ◌++◌, length, get_or, map, ap, arith}
+use Rattle.std.proofs.lemmas.List.{get_or-map, length-map}
 use Rattle.std.proofs.lemmas.Grind.{elements}
-use Rattle.std.specs.declared.thread.PromisedHandle.{PromisedHandle}
 use Rattle.input_queue.specs.Ends.{Putting}
 use Rattle.receipts.specs.declared.Receipt.{Receipt}
-use Rattle.serving.specs.declared.accepting.ReceiptOf.{ReceiptOf}
+use Rattle.serving.specs.declared.service.Service.{Service}
+use Rattle.serving.specs.Services.{viewer_of, AreInOrder}
+use Rattle.serving.specs.Serving.{AreNumbered}
 
 -- the last seat's viewer has the next number
 pub taken_is : (n : ℕ) (xs ys : List Putting) (s : Putting) → xs ≡ ys ++ s ∷ [] → ((k : ℕ) (d : Putting) → k < length xs → (get_or xs k d).viewer + k ≡ n) → s.viewer + length ys ≡ n
@@ -15,6 +16,30 @@ taken_is n xs ys s e h = grind (elements, arith)
 pub left_are : (n : ℕ) (xs ys : List Putting) (s : Putting) → xs ≡ ys ++ s ∷ [] → ((k : ℕ) (d : Putting) → k < length xs → (get_or xs k d).viewer + k ≡ n) → (k : ℕ) (d : Putting) → k < length ys → (get_or ys k d).viewer + k ≡ n
 left_are n xs ys s e h k d below = grind (elements, arith)
 
--- a thread that comes behind the others has the next number
-pub more_are : (hs new : List (PromisedHandle Receipt ReceiptOf)) (h : PromisedHandle Receipt ReceiptOf) (n m : ℕ) → new ≡ hs ++ h ∷ [] → length hs ≡ n → m ≡ n + 1 → h.promise.0 ≡ m → ((k : ℕ) (d : PromisedHandle Receipt ReceiptOf) → k < n → (get_or hs k d).promise.0 ≡ k + 1) → (k : ℕ) (d : PromisedHandle Receipt ReceiptOf) → k < m → (get_or new k d).promise.0 ≡ k + 1
-more_are hs new h n m e count next last all k d below = grind (elements, arith)
+-- a service that comes behind the others is of the next viewer
+pub more_are : (xs ys : List Service) (s : Service) (l n m : ℕ) → ys ≡ xs ++ s ∷ [] → l ≡ n → m ≡ n + 1 → viewer_of s ≡ m → AreInOrder l xs → AreInOrder m ys
+more_are xs ys s l n m e same next last (count, all) = (grind (elements, arith), λ k d below. grind (elements, arith))
+
+-- the viewer of one of the receipts that came of services
+viewer_at : (services : List Service) (receipts : List Receipt) (k : ℕ) (d : Receipt) (s : Service) → AreInOrder (length services) services → map (λ r. r.viewer) receipts ≡ map viewer_of services → k < length services → k < length receipts → (get_or receipts k d).viewer ≡ k + 1
+viewer_at services receipts k d s order e below there =
+    let own : get_or (map viewer_of services) k 0 ≡ viewer_of (get_or services k s) = get_or-map viewer_of services k s 0 below in
+    let given : get_or (map (λ (r : Receipt). r.viewer) receipts) k 0 ≡ (get_or receipts k d).viewer = get_or-map (λ (r : Receipt). r.viewer) receipts k d 0 there in
+    let next : viewer_of (get_or services k s) ≡ k + 1 = order.1 k s below in
+    let same : get_or (map (λ (r : Receipt). r.viewer) receipts) k 0 ≡ get_or (map viewer_of services) k 0 = ap (λ (xs : List ℕ). get_or xs k 0) e in
+    cc
+
+-- as many receipts as services
+count_is : (services : List Service) (receipts : List Receipt) → map (λ r. r.viewer) receipts ≡ map viewer_of services → length receipts ≡ length services
+count_is services receipts e =
+    let given : length (map (λ (r : Receipt). r.viewer) receipts) ≡ length receipts = length-map receipts (λ (r : Receipt). r.viewer) in
+    let own : length (map viewer_of services) ≡ length services = length-map services viewer_of in
+    let same : length (map (λ (r : Receipt). r.viewer) receipts) ≡ length (map viewer_of services) = ap length e in
+    cc
+
+-- receipts of services, each in its place, are numbered as these are
+pub numbered : (services : List Service) (receipts : List Receipt) → AreInOrder (length services) services → map (λ r. r.viewer) receipts ≡ map viewer_of services → AreNumbered (length services) receipts
+numbered [] receipts order e = (count_is [] receipts e, λ k d below. absurd (omega arith))
+numbered (s ∷ services) receipts order e =
+    let count : length receipts ≡ length (s ∷ services) = count_is (s ∷ services) receipts e in
+    (count, λ k d below. viewer_at (s ∷ services) receipts k d s order e below (omega arith))

@@ -1,1 +1,3 @@
+pub mod Reasons
+pub mod Services
 pub mod Serving

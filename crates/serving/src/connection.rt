@@ -1,18 +1,20 @@
 //! One viewer, from its connection to its receipt.
 
 ghost use Rattle.std.specs.Prelude.{◌≡◌};
+ghost use Rattle.serving.specs.Reasons.{ended_late};
 
 use crate::open_connections::shut;
+use crate::opening_time::OpeningStream;
 use crate::serving::Server;
 use input_queue::{InputHub, InputSeat};
-use receipts::Receipt;
+use receipts::{Ended, Receipt};
 use screen::ScreenError;
 use std::net::TcpStream;
 use std::sync::Wait;
 use std::sync::ledger::Ledger;
 use std::thread;
 use std::thread::{Promise, Scope, Threads};
-use std::time::{Clock, Duration};
+use std::time::{Clock, Duration, Instant};
 use update_sender::{
     Line, Listener, OpenGate, Opened, ReadHalf, Shared, Speaker, WriteHalf, receipt, serve_opening,
     serve_reader, serve_sender,
@@ -33,12 +35,13 @@ fn close_at_last<L: Ledger, R: Wait + Clock>(rt: &R, shared: &Shared<L>, viewer:
     }
 }
 
-/// Opens a viewer, and serves it by a reader and a sender thread until both have ended. The connection is shut then.
+/// Opens a viewer, and serves it by a reader and a sender thread until both have ended. The connection is shut then. An opening that
+/// took 10 seconds is over: its viewer is closed, with `Closed` for its reason unless an answer was still being written.
 pub(crate) fn serve_connection<L: Ledger + Send + Sync, R: Threads + Wait + Clock + Sync>(
     rt: &R,
     server: &Server<'_, L>,
     line: Line,
-    stream: TcpStream,
+    stream: &TcpStream,
     seat: InputSeat,
 ) -> Receipt
     requires queue { seat.queue ≡ server.now.hub.now.queue }
@@ -47,17 +50,36 @@ pub(crate) fn serve_connection<L: Ledger + Send + Sync, R: Threads + Wait + Cloc
 {
     // Without this an answer may wait for the next one. Where the system refuses it, all else stays.
     let _set = stream.set_nodelay(true);
-    let (mut reader, mut writer) = (&stream, &stream);
+    let began = Instant::now(rt).ok();
+    let mut reader = OpeningStream::new(rt, stream, began);
+    let mut writer = OpeningStream::new(rt, stream, began);
     match serve_opening(rt, server.shared, line, &mut reader, &mut writer) {
         Opened::Ready(listener, speaker) => {
-            serve_open(rt, server, listener, speaker, &stream, seat)
+            wait_without_end(stream);
+            serve_open(rt, server, listener, speaker, stream, seat)
         }
         Opened::Over(receipt) => {
             close_at_last(rt, server.shared, receipt.viewer);
-            shut(&stream);
-            receipt
+            shut(stream);
+            ended_late(receipt, reader.is_late())
         }
     }
+}
+
+/// Lets a viewer that is open take its time.
+fn wait_without_end(stream: &TcpStream) {
+    let _set = stream.set_read_timeout(None);
+    let _set = stream.set_write_timeout(None);
+}
+
+/// The receipt of an opening that is over: one whose reader had no time left was closed by the server.
+fn ended_late(mut receipt: Receipt, is_late: bool) -> Receipt
+    ensures { result ≡ record receipt { ended = ended_late is_late receipt.ended } }
+{
+    if is_late && receipt.ended == Ended::ReadFailed {
+        receipt.ended = Ended::Closed;
+    }
+    receipt
 }
 
 /// A sender's thread gives the half of the viewer with this number.

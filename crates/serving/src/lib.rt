@@ -15,8 +15,12 @@
 mod accepting;
 mod application;
 mod connection;
+mod doorbell;
 mod open_connections;
+mod opening_time;
+mod service;
 mod serving;
+mod turning_away;
 
 pub use application::Application;
 pub use input_queue::Told;

@@ -1,20 +1,21 @@
-//! The connections that are served, so that all can be shut at once.
+//! The connections that are served: all can be shut at once, and each one's end is noted.
 
-ghost use Rattle.std.specs.Prelude.{◌≡◌, true, false, IsOkUnless};
-ghost use Rattle.serving.specs.declared.serving.ServeError.TheVariants as error;
-ghost use Rattle.screen.specs.declared.ScreenError.TheVariants as refusal;
+ghost use Rattle.std.specs.Prelude.{◌≡◌, true};
 
-use crate::serving::ServeError;
-use screen::ScreenError;
+use crate::doorbell::{Doorbell, Woken};
 use slab::Slab;
-use std::alloc::Global;
-use std::net::{Shutdown, TcpStream};
-use std::sync::{Mutex, Wait};
+use std::alloc::{AllocError, Global};
+use std::net::{Shutdown, TcpListener, TcpStream};
+use std::sync::{Arc, Mutex, Wait};
 
-/// Handles of the connections that are served.
+/// A connection that its threads and `OpenConnections` share.
+pub(crate) type SharedStream = Arc<TcpStream, Global>;
+
+/// The connections that are served, and the numbers of viewers that ended since somebody asked.
 #[derive(Drop)]
 struct Streams {
-    streams: Slab<TcpStream>,
+    streams: Slab<SharedStream>,
+    ended: Vec<u64>,
     are_shut: bool,
 }
 
@@ -22,9 +23,10 @@ struct Streams {
 #[derive(Drop)]
 pub(crate) struct OpenConnections {
     streams: Mutex<Streams>,
+    bell: Doorbell,
 }
 
-/// Where a connection's handle is kept.
+/// Where a connection is kept.
 #[derive(Clone, Copy)]
 pub(crate) struct Slot {
     key: usize,
@@ -37,29 +39,42 @@ pub(crate) fn shut(stream: &TcpStream) {
 }
 
 impl Streams {
-    /// Keeps a handle of a connection. Refused where all are shut.
-    fn admit(&mut self, stream: TcpStream) -> Result<Slot, ServeError>
-        ensures shut { self.old.are_shut ≡ true → result ≡ Err error.Network }
-        ensures open { self.old.are_shut ≡ false → IsOkUnless result (error.Screen refusal.OutOfMemory) }
-        ensures same { self.new.are_shut ≡ self.old.are_shut }
+    /// Keeps a connection, with room for a note of its end. It is shut where all are.
+    fn admit(&mut self, stream: &SharedStream) -> Result<Slot, AllocError>
+        ensures { self.new.are_shut ≡ self.old.are_shut }
     {
+        self.ended.reserve(self.streams.len().saturating_add(1))?;
+        let key = self.streams.insert(Arc::try_clone(stream)?)?;
         if self.are_shut {
-            return Err(ServeError::Network);
+            shut(stream);
         }
-        match self.streams.insert(stream) {
-            Ok(key) => Ok(Slot { key }),
-            Err(_) => Err(ServeError::Screen(ScreenError::OutOfMemory)),
-        }
+        Ok(Slot { key })
     }
 
-    /// A handle is kept no longer.
+    /// Keeps a connection no longer.
     fn leave(&mut self, slot: Slot)
         ensures { self.new.are_shut ≡ self.old.are_shut }
     {
         let _stream = self.streams.try_remove(slot.key);
     }
 
-    /// Shuts all that are served, and lets in no other.
+    /// The same of a viewer's that has ended, which is noted.
+    fn end(&mut self, slot: Slot, viewer: u64)
+        ensures { self.new.are_shut ≡ self.old.are_shut }
+    {
+        self.leave(slot);
+        // There is room since the connection was admitted.
+        let _noted = self.ended.push(viewer);
+    }
+
+    /// Shuts one connection.
+    fn shut_one(&self, slot: Slot) {
+        if let Some(stream) = self.streams.get(slot.key) {
+            shut(stream);
+        }
+    }
+
+    /// Shuts all that are served, and each that comes later.
     fn shut_all(&mut self)
         ensures { self.new.are_shut ≡ true }
     {
@@ -71,31 +86,65 @@ impl Streams {
 }
 
 impl OpenConnections {
-    /// No connection was let in yet.
-    pub fn new(alloc: Global) -> OpenConnections {
-        OpenConnections {
-            streams: Mutex::new(Streams {
-                streams: Slab::new(alloc),
-                are_shut: false,
-            }),
-        }
-    }
-
-    /// A connection is let in. Refused where all were shut, and where the system has no room for a further handle.
-    pub fn admit<R: Wait>(&self, rt: &R, stream: &TcpStream) -> Result<Slot, ServeError> {
-        let Ok(handle) = stream.try_clone() else {
-            return Err(ServeError::Network);
+    /// No connection was let in yet. None where the system has no descriptor for the bell.
+    pub fn new(alloc: Global) -> Option<OpenConnections> {
+        let bell = Doorbell::new()?;
+        let streams = Streams {
+            streams: Slab::new(alloc),
+            ended: Vec::new(alloc),
+            are_shut: false,
         };
-        self.streams.lock(rt).admit(handle)
+        Some(OpenConnections {
+            streams: Mutex::new(streams),
+            bell,
+        })
     }
 
-    /// A connection has ended.
+    /// Waits until a listener has a connection, or a viewer has ended, or all connections were shut.
+    pub fn wait(&self, listener: &TcpListener) -> Woken {
+        self.bell.wait(listener)
+    }
+
+    /// A connection is let in.
+    pub fn admit<R: Wait>(&self, rt: &R, stream: &SharedStream) -> Result<Slot, AllocError> {
+        self.streams.lock(rt).admit(stream)
+    }
+
+    /// A connection that was let in becomes no viewer.
     pub fn leave<R: Wait>(&self, rt: &R, slot: Slot) {
         self.streams.lock(rt).leave(slot);
     }
 
-    /// Shuts all connections, and lets in no other.
+    /// A viewer has ended, and its thread has nothing left to do.
+    pub fn end<R: Wait>(&self, rt: &R, slot: Slot, viewer: u64) {
+        self.streams.lock(rt).end(slot, viewer);
+        self.bell.ring();
+    }
+
+    /// A viewer that has ended since, each once.
+    pub fn take_ended<R: Wait>(&self, rt: &R) -> Option<u64> {
+        self.streams.lock(rt).ended.pop()
+    }
+
+    /// Whether no connection is served, or all were shut.
+    pub fn are_over<R: Wait>(&self, rt: &R) -> bool {
+        let streams = self.streams.lock(rt);
+        streams.are_shut || streams.streams.is_empty()
+    }
+
+    /// Whether all were shut.
+    pub fn are_shut<R: Wait>(&self, rt: &R) -> bool {
+        self.streams.lock(rt).are_shut
+    }
+
+    /// Shuts one connection.
+    pub fn shut_one<R: Wait>(&self, rt: &R, slot: Slot) {
+        self.streams.lock(rt).shut_one(slot);
+    }
+
+    /// Shuts all connections, and each that is let in later.
     pub fn shut_all<R: Wait>(&self, rt: &R) {
         self.streams.lock(rt).shut_all();
+        self.bell.ring();
     }
 }

@@ -10,7 +10,7 @@ use input_queue::{InputHub, InputSeat, Taker};
 use receipts::Receipt;
 use screen::ScreenError;
 use std::alloc::{AllocError, AllocFailed, Global};
-use std::net::{Net, TcpListener, TcpStream};
+use std::net::{Net, TcpListener};
 use std::sync::Wait;
 use std::sync::ledger::Ledger;
 use std::thread;
@@ -24,7 +24,7 @@ pub const INPUTS: usize = 1024;
 /// Why a server ended before its viewers did.
 #[derive(Clone, Copy, Debug, PartialEq, Eq)]
 pub enum ServeError {
-    /// The listener failed, or no thread could be started.
+    /// No thread that accepts could be started, or there was no descriptor to wake it by.
     Network,
     /// A call of the screen was refused.
     Screen(ScreenError),
@@ -84,13 +84,6 @@ fn seating_for(alloc: Global, viewers: u64) -> Result<Seating, AllocError>
         viewer -= 1;
     }
     Ok(Seating { hub, taker, seats })
-}
-
-/// A thread that waits for a connection is given one.
-fn wake_accept<R: Net>(rt: &R, listener: &TcpListener) {
-    if let Ok(address) = listener.local_addr() {
-        let _woken = rt.connect(address);
-    }
 }
 
 /// The thread that accepts gives receipts of so many viewers.
@@ -155,7 +148,6 @@ where
     let drawn = run_application(rt, shared, brush, hub, &mut taker, application);
     if drawn.is_err() {
         end_all(rt, server);
-        wake_accept(rt, listener);
     }
     let receipts = accepting.join(rt);
     drawn?;
@@ -163,8 +155,16 @@ where
 }
 
 /// Accepts so many connections, and serves each as a viewer until it ends; they are numbered from 1 on. The application is told
-/// their inputs, in this thread. The viewers' receipts by number, once all have ended. Where the listener fails, or a call of
-/// the screen is refused, or no thread can be started for a viewer's connection, all connections are shut, and everything ends.
+/// their inputs, in this thread. The viewers' receipts by number, once all have ended. A viewer has 10 seconds for its opening, and
+/// keepalive tells where one's machine is gone. Connections that come after the last, while viewers are served, are told that there
+/// are too many.
+///
+/// What the system refuses costs at most the connection that it is refused for. Where it has no descriptor, connections wait to be
+/// accepted. One for which there is no memory is closed, and doesn't count. One for which no thread can be started is shut, and
+/// counts. Accepting then rests for a tenth of a second, so a listener that is broken for good is tried ten times a second until the
+/// application ends the server.
+///
+/// Where a call of the screen is refused, as one of the application's, all connections are shut, and everything ends.
 pub fn serve_viewers<L, A, R>(
     rt: &R,
     alloc: Global,
@@ -181,7 +181,9 @@ where
     ensures { IfOk result (λ receipts. AreNumbered viewers receipts.items) }
 {
     let Seating { hub, taker, seats } = seating_for(alloc, viewers)?;
-    let connections = OpenConnections::new(alloc);
+    let Some(connections) = OpenConnections::new(alloc) else {
+        return Err(ServeError::Network);
+    };
     let (hub, connections) = (&hub, &connections);
     thread::scope(
         thread::scope_env(),

@@ -1,6 +1,6 @@
 // Each session with a question, and what is answered; then lines that end a session.
 
-use Question::{Drawn, Seen, Sent, Viewers};
+use Question::{Drawn, Redacted, Seen, Sent, Viewers};
 use replay::{Asked, Question, replay_over};
 use std::alloc::{AllocError, Global};
 use std::io;
@@ -34,6 +34,31 @@ fn is_answered(alloc: Global, case: &Case) -> bool {
 fn sessions_are_answered(rt: HostRuntime) -> Result<(), Fail> {
     for case in &CASES {
         assert!(rt; is_answered(rt.alloc(), case), "{}", case.name);
+    }
+    Ok(())
+}
+
+// What a session answers; None where it isn't answered.
+fn answer_of(alloc: Global, session: &[u8], question: Question) -> Option<Vec<u8>> {
+    let asked = Asked {
+        question,
+        lines: u64::MAX,
+    };
+    let mut written = Vec::new(alloc);
+    let mut errors = Vec::new(alloc);
+    let mut reader = session;
+    let status = replay_over(alloc, &mut reader, &mut written, &mut errors, asked);
+    (status == 0).then_some(written)
+}
+
+// A viewer is sent the same bytes by a session without what is secret, and such a session has nothing more to leave out.
+#[test]
+fn a_redacted_session_sends_the_same(rt: HostRuntime) -> Result<(), Fail> {
+    let alloc = rt.alloc();
+    for question in [Sent(1), Drawn, Redacted] {
+        let by_all = answer_of(alloc, SECRETS, question);
+        let by_rest = answer_of(alloc, REDACTED, question);
+        assert!(rt; by_all.is_some() && by_all == by_rest);
     }
     Ok(())
 }
@@ -144,6 +169,13 @@ connect 1
 hear 1 524642203030332e3030380a0101
 ";
 
+// A session with a key, a pointer and a text, cut in two, and a piece of a viewer that isn't there; and what is left of it.
+const SECRETS: &[u8] =
+    b"# by hand\nscreen 4 3 demo\n\nconnect 1\nhear 1 524642203030332e3030380a0101\nhear 1 03000000000000040003\ncut 1\nhear 1 040100000000FF0D\npaint 0 0 1 1 FF8000\nhear 1 050100020001060000000000000268\nhear 1 6903010000000000040003\ncut 1\nhear 7 0301\nclose 1\nhear 1";
+
+const REDACTED: &[u8] =
+    b"# by hand\nscreen 4 3 demo\n\nconnect 1\nhear 1 524642203030332e3030380a0101\nhear 1 03000000000000040003\ncut 1\nhear 1 0400000000000000\npaint 0 0 1 1 FF8000\nhear 1 050000000000060000000000000200\nhear 1 0003010000000000040003\ncut 1\nhear 7 0000\nclose 1\n";
+
 static BAD_LINES: [&str; 14] = [
     "pant",
     "marks 1 2 3",
@@ -161,7 +193,7 @@ static BAD_LINES: [&str; 14] = [
     "desktop",
 ];
 
-static CASES: [Case; 19] = [
+static CASES: [Case; 22] = [
     Case {
         name: "no line",
         session: b"",
@@ -294,5 +326,26 @@ static CASES: [Case; 19] = [
         question: Viewers,
         lines: u64::MAX,
         answer: b"viewer 1 lines 2 7 encoding Raw bits 32 heard 24 updates 1 sent 110 closed\nviewer 2 lines 4 9 encoding Raw bits 32 heard 12 updates 0 sent 12 there after a fault\nviewer 1 lines 8 8 encoding Raw bits 32 heard 0 updates 0 sent 12 there\n",
+    },
+    Case {
+        name: "a session without what is secret",
+        session: SECRETS,
+        question: Redacted,
+        lines: u64::MAX,
+        answer: REDACTED,
+    },
+    Case {
+        name: "the first lines without what is secret",
+        session: b"desktop 4 3 - 1\nhear 3 ff\nhear 3 -\nconnect 3\n",
+        question: Redacted,
+        lines: 3,
+        answer: b"desktop 4 3 - 1\nhear 3 00\nhear 3 -\n",
+    },
+    Case {
+        name: "no screen yet, without what is secret",
+        session: b"# a comment\n\nscreen 4 3",
+        question: Redacted,
+        lines: u64::MAX,
+        answer: b"# a comment\n\n",
     },
 ];

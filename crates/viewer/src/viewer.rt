@@ -117,6 +117,13 @@ impl Viewer {
         settings_in(&self.state)
     }
 
+    /// How many of its requests were not incremental (RFC 6143, 7.5.3).
+    pub fn full_requests(&self) -> u64
+        ensures { result ≡ self.now.full_requests }
+    {
+        self.state.full_requests
+    }
+
     /// Why the viewer is heard no further, if a fault was met.
     pub fn fault(&self) -> Option<Fault>
         ensures { result ≡ fault_in_rest self.now.heard }

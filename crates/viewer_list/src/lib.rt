@@ -185,6 +185,16 @@ impl ViewerList {
         }
     }
 
+    /// How many requests of the viewer with a number were not incremental (RFC 6143, 7.5.3); None where there is none.
+    pub fn full_requests(&self, number: u64) -> Option<u64>
+        ensures { result ≡ option_map (λ viewer. viewer.full_requests) (viewer_of self.now number) }
+    {
+        match self.viewers.get(number) {
+            Some(lagging) => Some(lagging.viewer.full_requests()),
+            None => None,
+        }
+    }
+
     /// Whether a request of the viewer with a number is unanswered (RFC 6143, 7.5.3); None where there is none.
     pub fn is_asking(&self, number: u64) -> Option<bool>
         ensures { result ≡ option_map is_asking (viewer_of self.now number) }

@@ -4,8 +4,8 @@
 
 use clap::error::ErrorKind;
 use demo_app::{
-    Asked, Chosen, RecordWriter, ServeOptions, is_refused, line_of, play_over, replay_over,
-    self_in_one_thread, self_on, serve_in_one_thread, serve_on,
+    Asked, Chosen, OneThread, RecordWriter, ServeOptions, is_refused, line_of, play_over,
+    replay_over, self_in_one_thread, self_on, serve_in_one_thread, serve_on,
 };
 use std::alloc::Global;
 use std::fs::{File, OpenOptions};
@@ -26,10 +26,31 @@ fn out_of_memory<R: Runtime>(rt: &R) -> ExitCode {
     }
 }
 
-fn network_fault<R: Runtime>(rt: &R) -> ExitCode {
+/// Says why a port can't be had.
+fn no_port<R: Runtime>(rt: &R, port: u16, error: &io::Error) -> ExitCode {
+    let why = match error.kind() {
+        io::ErrorKind::AddrInUse => "is in use",
+        io::ErrorKind::PermissionDenied => "is not for this user",
+        _ => "can't be had",
+    };
     // The status is the same where this can't be printed.
+    let _ = eprintln!(rt; "127.0.0.1:{port} {why}");
     let _ = println!(rt; "network fault");
     ExitCode::from(5)
+}
+
+/// Says what is served, and where, unless the screen will be refused.
+fn say_where<R: Runtime>(rt: &R, options: &ServeOptions, address: io::Result<SocketAddr>) {
+    if is_refused(options) {
+        return;
+    }
+    if let Ok(address) = address {
+        // Where this can't be printed, viewers are served all the same.
+        let _ = eprintln!(rt;
+            "{} by {} is served on {address}",
+            options.width, options.height
+        );
+    }
 }
 
 fn words(rt: &HostRuntime) -> io::Result<Vec<String>> {
@@ -51,10 +72,11 @@ fn play(rt: &HostRuntime) -> ExitCode {
 
 fn serve_by_threads<
     W: Write,
-    R: Threads + Wait + Clock + Net<Listener = TcpListener, Stream = TcpStream> + Sync,
->(rt: &R, alloc: Global, port: u16, options: &ServeOptions, writer: &mut W) -> Option<u8> {
-    let listener = TcpListener::bind(rt, (Ipv4Addr::LOCALHOST, port)).ok()?;
-    Some(serve_on(rt, alloc, &listener, options, writer))
+    R: Runtime + Threads + Wait + Net<Listener = TcpListener, Stream = TcpStream> + Sync,
+>(rt: &R, alloc: Global, port: u16, options: &ServeOptions, writer: &mut W) -> io::Result<u8> {
+    let listener = TcpListener::bind(rt, (Ipv4Addr::LOCALHOST, port))?;
+    say_where(rt, options, listener.local_addr());
+    Ok(serve_on(rt, alloc, &listener, options, writer))
 }
 
 /// Makes a file that wasn't there, which its owner alone may read.
@@ -81,23 +103,28 @@ fn record_in<R: Files<File = File>>(
     Ok(Some(RecordWriter::File(new_file(rt, path)?)))
 }
 
-fn serve_by_one<W: Write, R: Net + Clock + Files<File = File>>(
+fn serve_by_one<W: Write, R: Runtime + Net + Files<File = File>>(
     rt: &R,
     alloc: Global,
     port: u16,
     options: &ServeOptions,
-    record: Option<&str>,
+    besides: Besides<'_>,
     writer: &mut W,
-) -> Option<u8> {
+) -> io::Result<u8> {
     let address = SocketAddr::from((Ipv4Addr::LOCALHOST, port));
-    let listener = mio::net::TcpListener::bind(rt, address).ok()?;
-    let Ok(record) = record_in(rt, options, record) else {
+    let listener = mio::net::TcpListener::bind(rt, address)?;
+    let Ok(record) = record_in(rt, options, besides.record) else {
         // The status is the same where this can't be written.
         let _ = writer.write_all(b"cannot record\n");
         let _ = writer.flush();
-        return Some(5);
+        return Ok(5);
     };
-    Some(serve_in_one_thread(rt, alloc, listener, options, record, writer))
+    say_where(rt, options, listener.local_addr());
+    let besides = OneThread {
+        record,
+        forever: besides.forever,
+    };
+    Ok(serve_in_one_thread(rt, alloc, listener, options, besides, writer))
 }
 
 /// How a command works for its viewers.
@@ -107,11 +134,18 @@ enum Way {
     OneThread,
 }
 
-/// How `serve` works for them, and where one thread records the session.
+/// In which file one thread records the session, and whether it takes viewers without end.
+#[derive(Clone, Copy)]
+struct Besides<'a> {
+    record: Option<&'a str>,
+    forever: bool,
+}
+
+/// How `serve` works for its viewers.
 #[derive(Clone, Copy)]
 enum Serving<'a> {
     ByThreads,
-    ByOne(Option<&'a str>),
+    ByOne(Besides<'a>),
 }
 
 fn serve<
@@ -127,13 +161,13 @@ fn serve<
     };
     let served = match way {
         Serving::ByThreads => serve_by_threads(rt, alloc, port, options, &mut writer),
-        Serving::ByOne(record) => serve_by_one(rt, alloc, port, options, record, &mut writer),
+        Serving::ByOne(besides) => serve_by_one(rt, alloc, port, options, besides, &mut writer),
     };
     // After a write fault nothing more is written: what the buffer holds is let go.
     let _ = writer.into_parts();
     match served {
-        Some(status) => ExitCode::from(status),
-        None => network_fault(rt),
+        Ok(status) => ExitCode::from(status),
+        Err(error) => no_port(rt, port, &error),
     }
 }
 
@@ -190,14 +224,13 @@ fn main(rt: HostRuntime) -> ExitCode {
                 port,
                 options,
                 record,
+                forever,
             },
-        ) => serve(
-            &rt,
-            alloc,
-            Serving::ByOne(record.as_deref()),
-            port,
-            &options,
-        ),
+        ) => {
+            let record = record.as_deref();
+            let besides = Besides { record, forever };
+            serve(&rt, alloc, Serving::ByOne(besides), port, &options)
+        }
         Ok(Chosen::Own { viewers }) => own(&rt, alloc, Way::Threads, viewers),
         Ok(Chosen::OwnInOneThread { viewers }) => own(&rt, alloc, Way::OneThread, viewers),
         Ok(Chosen::Replay { file, asked }) => replay(&rt, &file, asked),

@@ -47,8 +47,14 @@ fn text_of(alloc: Global, chosen: &Chosen) -> Result<String, AllocError> {
             port,
             options,
             record,
+            forever,
         } => {
-            let text = text_of_serve(alloc, "serve in one thread", *port, options)?;
+            let command = if *forever {
+                "serve in one thread without end"
+            } else {
+                "serve in one thread"
+            };
+            let text = text_of_serve(alloc, command, *port, options)?;
             match record {
                 Some(file) => format!(in alloc; "{text}, recorded in {file}"),
                 None => Ok(text),
@@ -127,7 +133,7 @@ const OTHER_COMMANDS: &[&str] = &[
 
 const VIEWERS_OF_SELF: &str = " how many viewers there are, 1 to 8 [default: 2]\n";
 
-static LINES: [(&str, Outcome); 38] = [
+static LINES: [(&str, Outcome); 44] = [
     ("vncdemo play", Is("play")),
     ("vncdemo", REFUSED),
     ("vncdemo --help", Has("refused: ", OTHER_COMMANDS)),
@@ -187,6 +193,25 @@ static LINES: [(&str, Outcome); 38] = [
         ),
     ),
     ("vncdemo serve --one-thread --record", REFUSED),
+    // without end
+    (
+        "vncdemo serve --one-thread --forever --viewers 9",
+        Is("serve in one thread without end 5900, 640 by 480, demo, 50, 9, check: false"),
+    ),
+    (
+        "vncdemo serve --forever",
+        Has(
+            "refused: ",
+            &["viewers are taken without end with '--one-thread' alone"],
+        ),
+    ),
+    (
+        "vncdemo serve --one-thread --forever --check",
+        Has(
+            "refused: ",
+            &["what '--check' judges at the end, '--forever' doesn't come to"],
+        ),
+    ),
     (
         "vncdemo replay kept.txt",
         Is("replay kept.txt, Asked { question: Viewers, lines: 18446744073709551615 }"),
@@ -203,6 +228,12 @@ static LINES: [(&str, Outcome); 38] = [
         "vncdemo replay kept.txt --picture",
         Is("replay kept.txt, Asked { question: Drawn, lines: 18446744073709551615 }"),
     ),
+    (
+        "vncdemo replay kept.txt --redacted --line 7",
+        Is("replay kept.txt, Asked { question: Redacted, lines: 7 }"),
+    ),
+    ("vncdemo replay kept.txt --redacted --viewer 3", REFUSED),
+    ("vncdemo replay kept.txt --redacted --picture", REFUSED),
     ("vncdemo replay", REFUSED),
     ("vncdemo replay kept.txt --viewer -1", REFUSED),
     ("vncdemo replay kept.txt --line last", REFUSED),

@@ -4,7 +4,8 @@ ghost use Rattle.std.specs.Prelude.{◌≡◌, ◌<◌};
 
 use super::clients::{Client, talk_all};
 use demo_app::{
-    Asked, Question, RecordWriter, ServeOptions, replay_over, serve_in_one_thread, serve_on,
+    Asked, OneThread, Question, RecordWriter, ServeOptions, replay_over, serve_in_one_thread,
+    serve_on,
 };
 use listed::Listed;
 use serving::{
@@ -24,14 +25,15 @@ use std::thread::Threads;
 use std::time::Clock;
 use std::{io, thread};
 
-// A server: the screen's size, whether the history is kept, its clients, whether all connect before the first one talks, and what is
-// printed once they have gone, one of these, with which status.
+// A server: the screen's size, whether the history is kept, its clients, of which the last ones are too many, whether all connect before the
+// first one talks, and what is printed once they have gone, one of these, with which status.
 #[derive(Clone, Copy)]
 struct Run {
     name: &'static str,
     size: (u32, u32),
     check: bool,
     clients: &'static [Client],
+    too_many: usize,
     together: bool,
     printed: &'static [&'static [u8]],
     // what is printed where one thread serves all: it knows why a viewer that was open left
@@ -46,28 +48,38 @@ fn options(alloc: Global, run: &Run) -> Result<ServeOptions, AllocError> {
         height,
         name: Listed::from_slice(alloc, b"demo")?,
         limit: 50,
-        viewers: u32::try_from(run.clients.len()).unwrap_or(0),
+        viewers: u32::try_from(run.clients.len().saturating_sub(run.too_many)).unwrap_or(0),
         check: run.check,
     })
 }
 
 // Whether the clients read what they say, and what is printed is as it says, with its status.
-fn comes_out<R: Threads + Wait + Clock + Net<Listener = TcpListener, Stream = TcpStream> + Sync>(
+fn serves<R: Threads + Wait + Clock + Net<Listener = TcpListener, Stream = TcpStream> + Sync>(
     rt: &R,
     alloc: Global,
     run: &Run,
+    listener: &TcpListener,
 ) -> io::Result<bool> {
     let options = options(alloc, run)?;
-    let listener = rt.bind(SocketAddr::from((Ipv4Addr::LOCALHOST, 0)))?;
     let address = listener.local_addr()?;
     let mut out = Vec::new(alloc);
     let (talked, ended) = thread::join(
         rt,
         move || talk_all(rt, alloc, address, run.clients, run.together),
-        || serve_on(rt, alloc, &listener, &options, &mut out),
+        || serve_on(rt, alloc, listener, &options, &mut out),
     );
     let is_printed = run.printed.iter().any(|printed| *printed == out.as_slice());
     Ok(talked? && ended == run.status && is_printed)
+}
+
+// The same by a listener of its own.
+fn comes_out<R: Threads + Wait + Clock + Net<Listener = TcpListener, Stream = TcpStream> + Sync>(
+    rt: &R,
+    alloc: Global,
+    run: &Run,
+) -> io::Result<bool> {
+    let listener = rt.bind(SocketAddr::from((Ipv4Addr::LOCALHOST, 0)))?;
+    serves(rt, alloc, run, &listener)
 }
 
 // The same of one thread that serves all. With a record something may be printed behind it, with another status.
@@ -86,10 +98,14 @@ fn comes_out_of_one_thread<
     let listener = mio::net::TcpListener::bind(rt, address)?;
     let address = listener.local_addr()?;
     let mut out = Vec::new(alloc);
+    let besides = OneThread {
+        record,
+        forever: false,
+    };
     let (talked, ended) = thread::join(
         rt,
         move || talk_all(rt, alloc, address, run.clients, run.together),
-        || serve_in_one_thread(rt, alloc, listener, &options, record, &mut out),
+        || serve_in_one_thread(rt, alloc, listener, &options, besides, &mut out),
     );
     Ok(talked? && ended == status && out.strip_suffix(behind) == Some(run.by_one))
 }
@@ -154,15 +170,18 @@ fn sessions_are_recorded_in_files(rt: HostRuntime) -> Result<(), Fail> {
     Ok(())
 }
 
-// A listener that doesn't wait counts as one that fails.
-#[test]
-fn a_listener_that_fails(rt: HostRuntime) -> Result<(), Fail> {
-    let options = options(rt.alloc(), &SEES_ALL)?;
+// Whether viewers are served of a listener that doesn't wait.
+fn is_waited_for<
+    R: Threads + Wait + Clock + Net<Listener = TcpListener, Stream = TcpStream> + Sync,
+>(rt: &R, alloc: Global) -> io::Result<bool> {
     let listener = rt.bind(SocketAddr::from((Ipv4Addr::LOCALHOST, 0)))?;
     listener.set_nonblocking(true)?;
-    let mut out = Vec::new(rt.alloc());
-    let ended = serve_on(&rt, rt.alloc(), &listener, &options, &mut out);
-    assert!(rt; ended == 5 && out.as_slice() == b"network fault\n".as_slice());
+    serves(rt, alloc, &SEES_ALL, &listener)
+}
+
+#[test]
+fn a_listener_that_does_not_wait(rt: HostRuntime) -> Result<(), Fail> {
+    assert!(rt; is_waited_for(&rt, rt.alloc())?);
     Ok(())
 }
 
@@ -286,14 +305,28 @@ const SEES_ALL: Run = Run {
     size: (4, 3),
     check: true,
     clients: &[SEES],
+    too_many: 0,
     together: false,
     printed: &[b"viewer 1 Closed\nfinish ok\n"],
     by_one: b"viewer 1 EndOfInput\nfinish ok\n",
     status: 0,
 };
 
-static RUNS: [Run; 10] = [
+// It is one too many, and told so: version 3.3, the security type 0, and why (7.1.2 and appendix A).
+const TURNED_AWAY: Client = Client {
+    steps: &[(b"", b"RFB 003.003\n\0\0\0\0\0\0\0\x10too many viewers")],
+    shut: Some(0),
+};
+
+static RUNS: [Run; 11] = [
     SEES_ALL,
+    Run {
+        name: "one is too many",
+        clients: &[SEES, TURNED_AWAY],
+        too_many: 1,
+        together: true,
+        ..SEES_ALL
+    },
     Run {
         name: "two viewers, and no history",
         check: false,
