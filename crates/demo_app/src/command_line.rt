@@ -24,12 +24,13 @@ pub enum Chosen {
         port: u16,
         options: ServeOptions,
     },
-    /// The same, by one thread for all, which may record the session in a new file, and may take viewers without end.
+    /// The same, by one thread for all, which may record the session in a new file, take viewers without end, and end with standard input.
     ServeInOneThread {
         port: u16,
         options: ServeOptions,
         record: Option<String>,
         forever: bool,
+        ends_with_input: bool,
     },
     /// A server with threads and so many viewers run in one process.
     Own {
@@ -85,6 +86,8 @@ down paints its place white, a key that goes down rings the bell, and a text is 
 back. The server ends once so many viewers have connected and left; then it prints a
 line for each, and with --check whether each was sent what it was to be sent, or the
 beginning of it where its connection broke. With --forever it goes on, and prints none.
+With --end-with-input it lets its viewers go and ends once standard input does, as by
+Ctrl-D; no signal does that.
 What is served, and on which port, stands on standard error at the start. A connection
 too many is told so and closed, and one that takes 10 seconds for its opening is closed.
 
@@ -125,6 +128,9 @@ const NO_THREADS: &str = "a session is recorded with '--one-thread' alone";
 
 /// What is said where threads are to serve without end.
 const NOT_FOREVER: &str = "viewers are taken without end with '--one-thread' alone";
+
+/// What is said where threads are to end with standard input.
+const NOT_BY_INPUT: &str = "a server ends with its input with '--one-thread' alone";
 
 /// What is said where a run without end is to be judged at its end.
 const NO_END: &str = "what '--check' judges at the end, '--forever' doesn't come to";
@@ -193,6 +199,10 @@ fn serve_command<'a>(alloc: Global) -> Result<Command<'a>, AllocError> {
         .long("forever")
         .help("takes viewers without end, at most --viewers at once; with --one-thread")
         .action(ArgAction::SetTrue);
+    let ends_with_input = Arg::new(alloc, "end-with-input")
+        .long("end-with-input")
+        .help("ends once standard input does; with --one-thread")
+        .action(ArgAction::SetTrue);
     let record = option(
         alloc,
         "record",
@@ -209,6 +219,7 @@ fn serve_command<'a>(alloc: Global) -> Result<Command<'a>, AllocError> {
         .arg(viewers)?
         .arg(check)?
         .arg(forever)?
+        .arg(ends_with_input)?
         .arg(record)?
         .arg(one_thread_option(alloc))
 }
@@ -264,6 +275,7 @@ fn serve_of(alloc: Global, matches: &ArgMatches<'_>) -> Result<Chosen, AllocErro
             options,
             record,
             forever: matches.get_flag("forever"),
+            ends_with_input: matches.get_flag("end-with-input"),
         });
     }
     let options = options_of(alloc, matches, viewers.clamp(1, MOST_BY_THREADS))?;
@@ -282,6 +294,9 @@ fn objection(matches: &ArgMatches<'_>) -> Option<&'static str> {
     }
     if by_threads && forever {
         return Some(NOT_FOREVER);
+    }
+    if by_threads && matches.get_flag("end-with-input") {
+        return Some(NOT_BY_INPUT);
     }
     (forever && matches.get_flag("check")).then_some(NO_END)
 }

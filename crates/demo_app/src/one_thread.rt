@@ -21,6 +21,8 @@ use screen::{Config, Event, Listed, ScreenError};
 use std::alloc::{AllocError, Global};
 use std::io::Write;
 use std::net::Net;
+use std::sync::Arc;
+use std::sync::atomic::{AtomicBool, Ordering};
 use std::time::{Clock, Duration};
 
 /// How long a viewer may take for its opening, in seconds.
@@ -33,6 +35,8 @@ pub struct OneThread {
     pub record: Option<RecordWriter>,
     /// Whether viewers are taken without end, as many at once as the options say, and a further one is turned away.
     pub forever: bool,
+    /// What another thread makes true to have the server end: it is looked at five times a second.
+    pub stop: Option<Arc<AtomicBool, Global>>,
 }
 
 /// The application, what it drew, where that is kept, and the receipts of the viewers that left, where these come to an end.
@@ -44,7 +48,14 @@ struct Showing {
     receipts: Vec<Receipt>,
     // how many viewers come in all
     viewers: Option<usize>,
+    stop: Option<Arc<AtomicBool, Global>>,
 }
+
+/// After how many milliseconds it is looked again whether the server is to end.
+const LOOK: u64 = 200;
+
+/// In how many turns viewers are let go at the end, at most, of which one or two are needed unless more keep coming.
+const LAST_TURNS: u32 = 1000;
 
 /// The drawing call that a stroke is.
 fn event_of(alloc: Global, stroke: Stroke<'_>) -> Result<Event, AllocError>
@@ -76,6 +87,14 @@ fn draw(canvas: &mut Canvas, stroke: Stroke<'_>) -> Result<(), ScreenError>
 }
 
 impl Showing {
+    /// Whether the server is to end.
+    fn is_stopped(&self) -> bool {
+        match &self.stop {
+            Some(stop) => stop.load(Ordering::SeqCst),
+            None => false,
+        }
+    }
+
     /// A stroke is kept, where what is drawn is.
     fn keep(&mut self, stroke: Stroke<'_>) -> Result<(), AllocError>
         ensures { OnOk result (kept_in self.new.drawn ≡ option_map (λ events. events ++ stroke_event stroke.entry ∷ []) (kept_in self.old.drawn)) }
@@ -116,9 +135,17 @@ impl Application for Showing {
     }
 
     fn is_done(&self) -> bool {
-        match self.viewers {
+        let have_all_left = match self.viewers {
             Some(viewers) => self.receipts.len() >= viewers,
             None => false,
+        };
+        have_all_left || self.is_stopped()
+    }
+
+    fn tick(&mut self, _canvas: &mut Canvas) -> Result<Option<Duration>, ScreenError> {
+        match &self.stop {
+            Some(_) => Ok(Some(Duration::from_millis(LOOK))),
+            None => Ok(None),
         }
     }
 }
@@ -179,6 +206,31 @@ fn print_run<W: Write>(
     Ok(0)
 }
 
+/// Lets all viewers go that are there.
+fn let_go(served: &mut EventLoop) -> Result<(), LoopError> {
+    let numbers = served.screen().numbers()?;
+    for viewer in numbers.as_slice() {
+        served.close_viewer(*viewer)?;
+    }
+    Ok(())
+}
+
+/// The same, and parts with them.
+fn let_all_go<R: Net + Clock>(
+    rt: &R,
+    served: &mut EventLoop,
+    showing: &mut Showing,
+) -> Result<(), LoopError> {
+    for _ in 0..LAST_TURNS {
+        if served.viewer_count() == 0 {
+            return Ok(());
+        }
+        let_go(served)?;
+        served.process_events(rt, Some(Duration::ZERO), showing)?;
+    }
+    Ok(())
+}
+
 /// Runs the loop to its end, and prints how the viewers ended. Returns the status.
 fn run_and_print<W: Write, R: Net + Clock>(
     rt: &R,
@@ -195,6 +247,7 @@ fn run_and_print<W: Write, R: Net + Clock>(
         IfOk result (λ status. (status ≡ 1) ⊎ Judged (W.contents writer.old) (W.contents writer.new) status) }
 {
     served.run(rt, showing).map_err(trouble_of)?;
+    let_all_go(rt, served, showing).map_err(trouble_of)?;
     showing
         .receipts
         .sort_unstable_by_key(|receipt| receipt.viewer);
@@ -216,7 +269,11 @@ fn serve<W: Write, R: Net + Clock>(
 {
     let config = config_of(alloc, options)?;
     let asked = config_of(alloc, options)?;
-    let OneThread { record, forever } = besides;
+    let OneThread {
+        record,
+        forever,
+        stop,
+    } = besides;
     let limits = limits_of(options, forever);
     let opened = match record {
         Some(record) => EventLoop::recorded(rt, alloc, listener, asked, limits, record),
@@ -236,6 +293,7 @@ fn serve<W: Write, R: Net + Clock>(
         drawn: options.check.then(|| Vec::new(alloc)),
         receipts: Vec::new(alloc),
         viewers: (!forever).then_some(options.viewers as usize),
+        stop,
     };
     let status = run_and_print(
         rt,
@@ -257,7 +315,8 @@ fn serve<W: Write, R: Net + Clock>(
 
 /// `serve_on`, with one thread for all viewers. A viewer that has not had its ServerInit after ten seconds is let go, as `Closed`, and a
 /// connection too many is told so and closed at once. With `record` the session is written there; where that ended before the run, the last
-/// line is `record broken` and the status 5. With `forever` the server ends by a failure alone, and prints no viewer's line.
+/// line is `record broken` and the status 5. With `forever` no number of viewers ends
+/// the server, and no viewer's line is printed. Once `stop` is true, viewers that are there are let go within a second, as `Gate`.
 pub fn serve_in_one_thread<W: Write, R: Net + Clock>(
     rt: &R,
     alloc: Global,

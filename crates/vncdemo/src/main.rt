@@ -14,10 +14,17 @@ use std::net::{Ipv4Addr, Net, SocketAddr, TcpListener, TcpStream};
 use std::os::unix::fs::OpenOptionsExt;
 use std::process::ExitCode;
 use std::rt::{Files, Runtime};
-use std::sync::Wait;
+use std::sync::atomic::{AtomicBool, Ordering};
+use std::sync::{Arc, Wait};
 use std::thread::Threads;
 use std::time::Clock;
-use std::{env, io};
+use std::{env, io, thread};
+
+/// Standard input's descriptor.
+const STDIN: i32 = 0;
+
+/// What the system says of a read that a signal interrupted (EINTR).
+const INTERRUPTED: i32 = 4;
 
 fn out_of_memory<R: Runtime>(rt: &R) -> ExitCode {
     match println!(rt; "out of memory") {
@@ -103,7 +110,33 @@ fn record_in<R: Files<File = File>>(
     Ok(Some(RecordWriter::File(new_file(rt, path)?)))
 }
 
-fn serve_by_one<W: Write, R: Runtime + Net + Files<File = File>>(
+/// Reads standard input to its end.
+fn read_to_end() {
+    let mut room = [0; 512];
+    for _ in 0..u64::MAX {
+        match libc::read(STDIN, &mut room) {
+            0 => return,
+            count if count < 0 && os::errno() != INTERRUPTED => return,
+            _ => {}
+        }
+    }
+}
+
+/// Starts a thread that reads standard input to its end, and makes this true then. Nobody waits for the thread.
+fn stop_at_end<R: Threads>(rt: &R, alloc: Global) -> io::Result<Arc<AtomicBool, Global>> {
+    let stop = Arc::new(alloc, AtomicBool::new(false))?;
+    let theirs = Arc::try_clone(&stop)?;
+    let started = thread::spawn(rt, move || {
+        read_to_end();
+        theirs.store(true, Ordering::SeqCst);
+    });
+    match started {
+        Ok(_reading) => Ok(stop),
+        Err(_) => Err(io::Error::from(io::ErrorKind::OutOfMemory)),
+    }
+}
+
+fn serve_by_one<W: Write, R: Runtime + Threads + Net + Files<File = File>>(
     rt: &R,
     alloc: Global,
     port: u16,
@@ -120,9 +153,15 @@ fn serve_by_one<W: Write, R: Runtime + Net + Files<File = File>>(
         return Ok(5);
     };
     say_where(rt, options, listener.local_addr());
+    let stop = if besides.ends_with_input {
+        Some(stop_at_end(rt, alloc)?)
+    } else {
+        None
+    };
     let besides = OneThread {
         record,
         forever: besides.forever,
+        stop,
     };
     Ok(serve_in_one_thread(rt, alloc, listener, options, besides, writer))
 }
@@ -134,11 +173,12 @@ enum Way {
     OneThread,
 }
 
-/// In which file one thread records the session, and whether it takes viewers without end.
+/// In which file one thread records the session, whether it takes viewers without end, and whether it ends with standard input.
 #[derive(Clone, Copy)]
 struct Besides<'a> {
     record: Option<&'a str>,
     forever: bool,
+    ends_with_input: bool,
 }
 
 /// How `serve` works for its viewers.
@@ -225,10 +265,14 @@ fn main(rt: HostRuntime) -> ExitCode {
                 options,
                 record,
                 forever,
+                ends_with_input,
             },
         ) => {
-            let record = record.as_deref();
-            let besides = Besides { record, forever };
+            let besides = Besides {
+                record: record.as_deref(),
+                forever,
+                ends_with_input,
+            };
             serve(&rt, alloc, Serving::ByOne(besides), port, &options)
         }
         Ok(Chosen::Own { viewers }) => own(&rt, alloc, Way::Threads, viewers),

@@ -48,11 +48,13 @@ fn text_of(alloc: Global, chosen: &Chosen) -> Result<String, AllocError> {
             options,
             record,
             forever,
+            ends_with_input,
         } => {
-            let command = if *forever {
-                "serve in one thread without end"
-            } else {
-                "serve in one thread"
+            let command = match (forever, ends_with_input) {
+                (false, false) => "serve in one thread",
+                (true, false) => "serve in one thread without end",
+                (false, true) => "serve in one thread with input",
+                (true, true) => "serve in one thread without end with input",
             };
             let text = text_of_serve(alloc, command, *port, options)?;
             match record {
@@ -133,7 +135,7 @@ const OTHER_COMMANDS: &[&str] = &[
 
 const VIEWERS_OF_SELF: &str = " how many viewers there are, 1 to 8 [default: 2]\n";
 
-static LINES: [(&str, Outcome); 44] = [
+static LINES: [(&str, Outcome); 46] = [
     ("vncdemo play", Is("play")),
     ("vncdemo", REFUSED),
     ("vncdemo --help", Has("refused: ", OTHER_COMMANDS)),
@@ -197,6 +199,19 @@ static LINES: [(&str, Outcome); 44] = [
     (
         "vncdemo serve --one-thread --forever --viewers 9",
         Is("serve in one thread without end 5900, 640 by 480, demo, 50, 9, check: false"),
+    ),
+    (
+        "vncdemo serve --one-thread --forever --end-with-input",
+        Is(
+            "serve in one thread without end with input 5900, 640 by 480, demo, 50, 1, check: false",
+        ),
+    ),
+    (
+        "vncdemo serve --end-with-input",
+        Has(
+            "refused: ",
+            &["a server ends with its input with '--one-thread' alone"],
+        ),
     ),
     (
         "vncdemo serve --forever",

@@ -101,6 +101,7 @@ fn comes_out_of_one_thread<
     let besides = OneThread {
         record,
         forever: false,
+        stop: None,
     };
     let (talked, ended) = thread::join(
         rt,
