@@ -213,7 +213,7 @@ def visit(soak, dice):
 
 class Soak:
     def __init__(self, program, visitors):
-        words = [program, "serve", "--one-thread", "--forever", "--port", "0", "--viewers", str(visitors + 4)]
+        words = [program, "serve", "--one-thread", "--forever", "--port", "0", "--viewers", str(min(4 * visitors, 1024))]
         words += ["--width", str(WIDTH), "--height", str(HEIGHT)]
         self.server = subprocess.Popen(words, stdin=subprocess.DEVNULL, stdout=subprocess.DEVNULL, stderr=subprocess.PIPE, text=True)
         said = re.search(r"is served on 127\.0\.0\.1:(\d+)", self.server.stderr.readline())

@@ -1,8 +1,10 @@
 #!/bin/bash
 # check.sh: compiles the C examples against vnc_screen and vnc_server, and LibVNCServer's names (rfb_compat) with programs that use them,
 # and runs them, plain, under valgrind, with the sanitizers for the C that is ours, and with each allocation refused, where these are
-# installed. With LIBVNCSERVER_SOURCE, a folder of LibVNCServer's source, its example programs too. The archives that `rt lib` makes are
-# wanted, as for install.sh. It prints a line for each thing that it tried or left out, and why; the status is 0 where nothing failed.
+# installed. Programs of others run over LibVNCServer's names where a folder of their source is named: LIBVNCSERVER_SOURCE (its examples),
+# LIBNSFB_SOURCE (its surface for VNC) and LCD4LINUX_SOURCE (its driver). The archives that c/archives.sh makes are wanted, or with UNPROVED
+# a folder in which c/unproved.sh left some that nobody proved. It prints a line for each thing that it tried or left out, and why; the
+# status is 0 where nothing failed.
 set -u
 here=$(cd "$(dirname "$0")" && pwd)
 room=$(mktemp -d)
@@ -30,7 +32,12 @@ try() {
     fi
 }
 
-try "install.sh" "$here/install.sh" "$room/prefix"
+from=()
+if [ -n "${UNPROVED:-}" ]; then
+    UNPROVED=$(cd "$UNPROVED" && pwd) || exit 1
+    from=(--unproved "$UNPROVED")
+fi
+try "install.sh" "$here/install.sh" "${from[@]}" "$room/prefix"
 [ -f "$room/prefix/lib/libvnc_server.a" ] || exit 1
 export PKG_CONFIG_PATH=$room/prefix/lib/pkgconfig LD_LIBRARY_PATH=$room/prefix/lib
 flags="-I$room/prefix/include"
@@ -47,11 +54,17 @@ if have "${CXX:-c++}"; then
 else
     left+=("C++: no compiler")
 fi
-# What a shared object exports is what its header declares, but for what the header has itself.
+numbers() {
+    # shellcheck disable=SC2046
+    $CC -o "$room/both" "$room/both.c" $(pkg-config --cflags --libs vnc_screen vnc_server) && "$room/both"
+}
+try "both headers have the numbers of the libraries" numbers
+# What a shared object exports is what its header declares, but for what the header has itself, each in the interface's version.
 same_names() {
     local name=$1
     grep -oE "\bvnc_(${name#vnc_}|waker|update)_[a-z_]+\(" "$here/$name.h" | tr -d '(' | grep -vE "_(new|new_recorded|free)$" | sort -u >"$room/declared"
-    nm -D --defined-only "$room/prefix/lib/lib$name.so.1" | awk '{ print $3 }' | sort >"$room/exported"
+    nm -D --defined-only "$room/prefix/lib/lib$name.so" | sed -n "s/.* T \(.*\)@@$(tr a-z A-Z <<<"$name")_[0-9]*\$/\1/p" | sort >"$room/exported"
+    nm -D --defined-only "$room/prefix/lib/lib$name.so" | grep -vE ' T .*@@| A VNC_' >>"$room/exported"
     diff "$room/declared" "$room/exported"
 }
 for name in vnc_screen vnc_server; do try "$name.h declares what the library exports" same_names $name; done
@@ -151,10 +164,71 @@ for source in "$here"/examples/*.c "$here"/tools/{rfb_edges,screen_calls,server_
     try "$name: runs with the shared object" run "$name" "$room/$name-so"
 done
 
-# ---- the program in the README
+# ---- the program in the README, by what pkg-config says alone; it never ends by itself
 sed -n '/^```c$/,/^```$/p' "$here/../README.md" | grep -v '^```' >"$room/readme.c"
-# shellcheck disable=SC2046,SC2086
-try "the README's program compiles as its command line says" $CC -std=c99 $strict $(pkg-config --cflags vnc_server) -o "$room/readme" "$room/readme.c" $(pkg-config --libs vnc_server)
+readme() { # PORT
+    sed "s/5900/$1/" "$room/readme.c" >"$room/dots.c"
+    # shellcheck disable=SC2046,SC2086
+    $CC -std=c99 $strict -o "$room/dots" "$room/dots.c" $(pkg-config --cflags --libs vnc_server) || return 1
+    env -u LD_LIBRARY_PATH timeout 5 "$room/dots"
+    [ $? = 124 ]
+}
+try "the README's program compiles as its command line says, and runs" looked_at "640 by 480, [12] colours, dots" readme PORT
+
+printf '#include <rfb_compat.h>\nint main(void) { rfbScreenCleanup(rfbGetScreen(0, 0, 8, 8, 8, 3, 4)); return 0; }\n' >"$room/names.c"
+names() {
+    # shellcheck disable=SC2046
+    $CC -std=c99 -o "$room/names" "$room/names.c" $(pkg-config --variable=sources rfb_compat) $(pkg-config --cflags --libs rfb_compat) &&
+        env -u LD_LIBRARY_PATH "$room/names"
+}
+try "LibVNCServer's names compile as rfb_compat.pc says, and run" names
+
+# ---- install.sh: for a package, and below a relative prefix
+staged() {
+    DESTDIR=$room/stage "$here/install.sh" "${from[@]}" /opt/vnc || return 1
+    diff <(cd "$room/stage/opt/vnc" && find . | sort) <(cd "$room/prefix" && find . | sort) && ! grep -rl "$room/stage" "$room/stage"
+}
+try "install.sh: below DESTDIR are the same files, which don't name it" staged
+relative() {
+    (cd "$room" && "$here/install.sh" "${from[@]}" relative/ vnc_screen) || return 1
+    [ "$(PKG_CONFIG_PATH=$room/relative/lib/pkgconfig pkg-config --variable=prefix vnc_screen)" = "$room/relative" ]
+}
+try "install.sh: a relative prefix is made absolute" relative
+# What it refuses, in a copy of this repository where an archive may be a wrong one: nothing is installed, and it says why.
+copy=$room/copy
+made=$copy/crates/vnc_screen/out
+mkdir -p "$made"
+cp -R "$here" "$copy/c"
+cp "$here/../crates.txt" "$copy/"
+for it in "$here"/../crates/*/; do
+    [ "$(basename "$it")" = vnc_screen ] || ln -s "$(cd "$it" && pwd)" "$copy/crates/"
+done
+cp -R "$here"/../crates/vnc_screen/{src,specs,proofs} "$copy/crates/vnc_screen/"
+refused_as() { # WORDS CHANGE ARGUMENT..
+    local words=$1 change=$2 status=1
+    shift 2
+    cp "${UNPROVED:-$here/../crates/vnc_screen/out}"/libvnc_screen.{a,stamp} "$made/" || return 1
+    (cd "$copy/crates/vnc_screen" && eval "$change")
+    "$copy/c/install.sh" "$@" "$room/refused" vnc_screen >"$room/errors" 2>&1 || status=0
+    cat "$room/errors"
+    [ "$status" = 0 ] && grep -q "$words" "$room/errors" && [ ! -e "$room/refused" ]
+}
+try "install.sh: no archive" refused_as "is not there" "rm out/*.a"
+try "install.sh: no stamp" refused_as "has no stamp" "rm out/*.stamp"
+try "install.sh: another archive" refused_as "is not the file that its stamp speaks of" "echo >>out/libvnc_screen.a"
+try "install.sh: another toolchain" refused_as "goes with another" "sed -i 's/^with: ./with: x/' out/libvnc_screen.stamp"
+try "install.sh: an archive that nobody proved" refused_as "is not proved" "sed -i 's/^verdict: .*/verdict: none: not proved/' out/libvnc_screen.stamp"
+try "install.sh: unproved.sh's, but of another" refused_as "has no file UNPROVED" true --unproved "$made"
+try "install.sh: another source" refused_as "is not made of this source" "echo >>src/lib.rt"
+
+# ---- packages to try, which release.sh makes twice and compares; a release wants a gate's log
+if git -C "$here" rev-parse HEAD >/dev/null 2>&1 && have dpkg-gensymbols; then
+    try "release.sh: packages to try" "$here/release.sh" --trial --no-licence "${from[@]}" "$(cat "$here/VERSION")" "$room/packages"
+    no_release() { ! "$here/release.sh" --no-licence "$(cat "$here/VERSION")" "$room/no_packages" && [ ! -e "$room/no_packages" ]; }
+    try "release.sh: no release without a gate's log" no_release
+else
+    left+=("packages: no git checkout, or no dpkg-dev")
+fi
 
 # ---- callers in other languages
 try "sketch.py: runs" looked_at "640 by 480, [1-4] colours, sketch" python3 "$here/examples/sketch.py" PORT 5
@@ -165,16 +239,43 @@ else
     left+=("clock.rs: no rustc")
 fi
 
-# ---- LibVNCServer's example programs
+# ---- the names of keys: X11's numbers, and all of LibVNCServer's names
+numbers_of() { $CC -dM -E -x c "$@" | grep -E '^#define XK_[A-Za-z0-9_]+ 0x' | while read -r _ name number; do echo "$name $((number))"; done | LC_ALL=C sort; }
+lacks_none() { # OURS THEIRS: each line of theirs is a line of ours
+    [ -s "$2" ] && [ -z "$(LC_ALL=C comm -13 "$1" "$2")" ]
+}
+numbers_of "$here/rfb/keysym.h" >"$room/keysyms"
+printf '#define XK_MISCELLANY\n#define XK_XKB_KEYS\n#define XK_LATIN1\n#define XK_LATIN2\n#define XK_LATIN3\n#define XK_LATIN4\n#define XK_GREEK\n#define XK_CURRENCY\n#include <X11/keysymdef.h>\n' >"$room/x11.c"
+if $CC -E "$room/x11.c" >/dev/null 2>&1; then
+    numbers_of "$room/x11.c" >"$room/of_x11"
+    try "rfb/keysym.h has X11's numbers" lacks_none "$room/of_x11" "$room/keysyms"
+else
+    left+=("X11's numbers of keys: no X11/keysymdef.h")
+fi
+
+# ---- programs of others over LibVNCServer's names, where a folder of their source is named: LIBVNCSERVER_SOURCE, its examples;
+# LIBNSFB_SOURCE, its surface for VNC; LCD4LINUX_SOURCE, its driver for VNC
+pkg-config --exists libvncserver || left+=("programs of others beside LibVNCServer: it is not installed")
 rfb_examples() { python3 "$here/tools/rfb_examples.py" "$LIBVNCSERVER_SOURCE" "$room/prefix" "$room/rfb_examples" "$@"; }
 if [ -n "${LIBVNCSERVER_SOURCE:-}" ]; then
     mkdir "$room/rfb_examples"
-    pkg-config --exists libvncserver || left+=("LibVNCServer's examples beside LibVNCServer: it is not installed")
+    numbers_of "$LIBVNCSERVER_SOURCE/rfb/keysym.h" >"$room/of_libvncserver"
+    try "rfb/keysym.h has LibVNCServer's names" lacks_none "$room/keysyms" "$room/of_libvncserver"
     try "LibVNCServer's examples" rfb_examples && sed 's/^/        /' "$room/log"
     have valgrind && try "LibVNCServer's examples under valgrind" rfb_examples valgrind -q --leak-check=full && sed 's/^/        /' "$room/log"
 else
     left+=("LibVNCServer's examples: LIBVNCSERVER_SOURCE names no folder of its source")
 fi
+rfb_program() { # NAME VARIABLE
+    if [ -n "${!2:-}" ]; then
+        mkdir "$room/rfb_$1"
+        try "$1 over LibVNCServer's names" python3 "$here/tools/rfb_programs.py" "$1" "${!2}" "$room/prefix" "$room/rfb_$1" && sed 's/^/        /' "$room/log"
+    else
+        left+=("$1: $2 names no folder of its source")
+    fi
+}
+rfb_program nsfb LIBNSFB_SOURCE
+rfb_program lcd4linux LCD4LINUX_SOURCE
 
 # ---- memory that is refused: whichever call of malloc, calloc or realloc it is, the program goes on to its end, or ends by itself
 refused() { # PROGRAM FIRST LAST ARGUMENT..
@@ -186,6 +287,7 @@ refused() { # PROGRAM FIRST LAST ARGUMENT..
 # shellcheck disable=SC2086
 if $CC -Wall -Wextra -Werror -shared -fPIC -o "$room/refuse.so" "$here/tools/refuse.c" -ldl; then
     for name in play edges server_edges rfb_edges screen_calls; do try "$name: each of its first 150 allocations is refused" refused "$name" 1 150; done
+    try "rfb_edges, its second half first: each of its first 150 allocations is refused" refused rfb_edges 1 150 second
     for name in server_calls server_viewers server_visits server_limits server_record; do
         try "$name: each of its first 150 allocations is refused" refused "$name" 1 150 soon
     done
@@ -212,5 +314,6 @@ fi
 try "install.sh --uninstall" "$here/install.sh" --uninstall "$room/prefix"
 try "nothing of it is left" test -z "$(find "$room/prefix" -type f -o -type l)"
 for what in "${left[@]}"; do echo "left out: $what"; done
+[ -z "${UNPROVED:-}" ] || echo "the archives were not proved"
 echo "$passed ok, $failed failed, ${#left[@]} left out"
 [ "$failed" = 0 ]

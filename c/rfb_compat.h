@@ -1,6 +1,7 @@
 /* rfb_compat.h: names of LibVNCServer's rfb.h over vnc_server.h, so that a program written for LibVNCServer runs on the proved server
  * with this in place of <rfb/rfb.h>. Written from the names and their meaning. Neither this nor the C behind it is proved.
  * cc program.c rfb_compat.c rfb_compat_draw.c $(pkg-config --cflags --libs vnc_server) -lpthread
+ * <rfb/keysym.h> is in the folder of this file too: -I.
  *
  * As there    The program draws in frameBuffer, in its own format, and marks what it changed. What stands there as the next turn begins,
  *             deferUpdateTime milliseconds later at most, is sent where it differs from what was there. Hooks run in the loop.
@@ -20,6 +21,7 @@
 #include <stdio.h>
 #include <stdlib.h>
 #include <string.h>
+#include <sys/select.h>
 #include <sys/socket.h>
 #include <sys/time.h>
 #include <sys/types.h>
@@ -42,6 +44,9 @@ extern "C" {
 #ifndef TRUE
 #define TRUE (-1)
 #define FALSE 0
+#endif
+#ifndef RFB_INVALID_SOCKET
+#define RFB_INVALID_SOCKET (-1)
 #endif
 
 typedef int8_t rfbBool;
@@ -83,7 +88,8 @@ typedef struct rfbCursor {
     unsigned char *source, *mask;
     unsigned short width, height, xhot, yhot;
     unsigned short foreRed, foreGreen, foreBlue, backRed, backGreen, backBlue;
-    unsigned char *richSource;
+    unsigned char *richSource, *alphaSource;
+    rfbBool alphaPreMultiplied; /* not read */
 } rfbCursor, *rfbCursorPtr;
 
 typedef struct _rfbScreenInfo {
@@ -95,9 +101,15 @@ typedef struct _rfbScreenInfo {
     rfbColourMap colourMap;         /* of pixels of one byte, where serverFormat.trueColour is FALSE */
     const char *desktopName;        /* its first 255 bytes, as rfbInitServer finds it */
     int port;                       /* 1 to 65535 */
+    rfbBool autoPort;               /* the first port from 5900 to 5999 that is free is taken, and is in port then */
+    int ipv6port;                   /* where this is above 0 and listenInterface is any, port is served by IPv6 too; else by IPv4 alone */
     in_addr_t listenInterface;      /* all of the machine's, unless it is set before rfbInitServer */
+    rfbSocket listenSock;           /* a descriptor to wait on: see rfbProcessEvents. -1 where nobody is served */
+    int maxFd;                      /* the same, for select with allFds, which has no other; 0 where it is none for select */
+    fd_set allFds;
     enum rfbSocketState socketState;
     int deferUpdateTime;            /* in milliseconds, 5 at first */
+    rfbBool handleEventsEagerly;    /* a turn tells the hooks all inputs that wait; else one, and where others wait the next turn doesn't */
     rfbBool alwaysShared, neverShared, dontDisconnect; /* who doesn't share has the others closed as it asks for all first, or is closed */
     struct _rfbClientRec *clientHead, *pointerClient;
     char *frameBuffer;              /* the program's */
@@ -110,6 +122,7 @@ typedef struct _rfbScreenInfo {
     int cursorX, cursorY;
     rfbCursorPtr cursor;            /* kept and freed, not shown */
     char *httpDir;                  /* not read */
+    int httpPort;                   /* not read */
     rfbBool httpEnableProxyConnect; /* not read */
     rfbBool isWritten;              /* characters stand in frameBuffer, maybe not marked; not the program's, nor is what follows */
     struct rfbCompat *compat;
@@ -122,20 +135,24 @@ typedef struct _rfbClientRec {
     rfbSocket sock;   /* -1: the server has the socket */
     char *host;       /* its address in digits; "unknown" where the system doesn't tell */
     rfbBool viewOnly; /* its inputs go to no hook */
+    rfbBool newFBSizePending; /* not read: where the program changes the screen's width or height, the next turn tells every viewer */
     struct _rfbClientRec *next;
     uint64_t number;           /* the server's number of it */
     rfbBool isOpen, isClosing, isLetGo, isGone; /* not the program's, nor is what follows */
+    int holds;                 /* the iterators that stand at it */
     char address[48];
 } rfbClientRec;
 
-/* The server. 1 to 8192 columns and rows, 1 to 10 bits a sample, and pixels of 1 to 4 bytes: else rfbGetScreen gives NULL. Of arguments it
- * takes out -rfbport, -listen, -passwd, -rfbauth and -record with their values; NULL too where -listen's is neither an IPv4 address in digits
- * nor localhost, and where -record has none. What happens is recorded in -record's file, which rfbInitServer makes, and vncdemo replay
- * reads: vnc_server_record of vnc_server.h. */
+/* The server. 1 to 8192 columns and rows, 1 to 10 bits a sample, and pixels of 1 to 4 bytes: else rfbGetScreen gives NULL. It takes out of
+ * the arguments all words that LibVNCServer takes out, with their values, and -record; rfbErr says of each that has no effect that it has
+ * none, and rfbUsage lists them. NULL too for -help, for a word whose value is missing, and where -listen's is neither an IPv4 address in
+ * digits nor localhost nor any. What happens is recorded in -record's file, which rfbInitServer makes, and vncdemo replay reads:
+ * vnc_server_record of vnc_server.h. */
 rfbScreenInfoPtr rfbGetScreen(int *argc, char **argv, int width, int height, int bitsPerSample, int samplesPerPixel, int bytesPerPixel);
 
-/* Listens. Where it can't, or a password is wanted, it says so by rfbErr, and nobody is served: socketState is RFB_SOCKET_SHUTDOWN,
- * rfbIsActive is FALSE, and rfbRunEventLoop returns at once. A screen that wants a password later is shut in the next turn. */
+/* Listens. Where it can't, or protection is wanted that isn't here (a password, or -sslkeyfile or -sslcertfile of the arguments), it says so
+ * by rfbErr, and nobody is served: socketState is RFB_SOCKET_SHUTDOWN, rfbIsActive is FALSE, and rfbRunEventLoop returns at once. A screen
+ * that wants a password later is shut in the next turn. One that has ended is not served again. */
 void rfbInitServer(rfbScreenInfoPtr s);
 
 /* Another frameBuffer, also of another size. Viewers that can't be told a new size see the part of it within their own. Where it is refused,
@@ -147,10 +164,15 @@ void rfbShutdownServer(rfbScreenInfoPtr s, rfbBool disconnectClients);
 void rfbScreenCleanup(rfbScreenInfoPtr s); /* not from a hook */
 rfbBool rfbIsActive(rfbScreenInfoPtr s);
 
-/* A turn, which waits so many microseconds at most, below 0 deferUpdateTime. TRUE where the server had something to do. */
+/* A turn, which waits so many microseconds at most, below 0 deferUpdateTime. TRUE where a viewer that has asked for places was there, and
+ * something was marked or to be sent, or a socket was ready; and where a viewer went. But FALSE where it told an input: there are programs
+ * that look for their inputs after FALSE alone.
+ * A program that waits by itself takes a turn of 0 once listenSock can be read, and deferUpdateTime after it drew. That is one descriptor of
+ * the library's for all sockets, on which no accept, read or close is to be called: a select loop sees it alone, and no client's. */
 rfbBool rfbProcessEvents(rfbScreenInfoPtr s, long usec);
 void rfbRunEventLoop(rfbScreenInfoPtr s, long usec, rfbBool runInBackground); /* it waits without end where usec is below 0 */
 rfbBool rfbProcessArguments(rfbScreenInfoPtr s, int *argc, char **argv);
+void rfbUsage(void); /* the words of the arguments, to stderr */
 rfbBool rfbProcessSizeArguments(int *width, int *height, int *bpp, int *argc, char **argv);
 
 /* What changed, and what is said to all. rfbDo.. also moves frameBuffer; before rfbSchedule.. the program has moved it. A copy takes the
@@ -167,8 +189,16 @@ void rfbSendBell(rfbScreenInfoPtr s);
 void rfbSendServerCutText(rfbScreenInfoPtr s, char *text, int len); /* at most 65536 bytes */
 
 /* Clients. */
-void rfbCloseClient(rfbClientPtr cl); /* once what waits for it is written */
+void rfbCloseClient(rfbClientPtr cl); /* in the next turn; its inputs are told no more */
 void rfbDefaultPtrAddEvent(int buttonMask, int x, int y, rfbClientPtr cl);
+rfbBool rfbCheckPasswordByList(rfbClientPtr cl, const char *response, int len); /* FALSE; a screen that names it is not served */
+
+/* The clients that are neither gone nor closed, the newest first, and NULL behind them. The one that was given last stays until the next is
+ * asked for, or the iterator is released. NULL where memory is refused, which has no clients. */
+typedef struct rfbClientIterator *rfbClientIteratorPtr;
+rfbClientIteratorPtr rfbGetClientIterator(rfbScreenInfoPtr s);
+rfbClientPtr rfbClientIteratorNext(rfbClientIteratorPtr iterator);
+void rfbReleaseClientIterator(rfbClientIteratorPtr iterator); /* before rfbScreenCleanup */
 
 /* Regions: the places of any of their rectangles. Where memory is refused the first gives NULL, the second NULL or a region with no
  * rectangle, and the last says so by rfbErr and changes nothing. */
@@ -197,8 +227,13 @@ void rfbFreeFont(rfbFontDataPtr font);
 /* A box to select from, by the arrows or the first button; Return takes, Escape leaves. It takes turns until then. -1 where none is. */
 int rfbSelectBox(rfbScreenInfoPtr s, rfbFontDataPtr font, char **list, int x1, int y1, int x2, int y2, rfbPixel fore, rfbPixel back,
                  int border, SelectionChangedHookPtr changed);
-rfbCursorPtr rfbMakeXCursor(int width, int height, char *source, char *mask); /* NULL where memory is refused */
+
+/* Cursors, which no viewer is sent. A mask has a bit for each place, the leftmost in a byte's highest bit. NULL where memory is refused. */
+rfbCursorPtr rfbMakeXCursor(int width, int height, char *source, char *mask); /* of strings, in which a blank is no bit */
+char *rfbMakeMaskForXCursor(int width, int height, char *source);             /* the bits of source, and those beside them */
+char *rfbMakeMaskFromAlphaSource(int width, int height, unsigned char *alphaSource); /* dithered */
 void rfbFreeCursor(rfbCursorPtr c);
+void rfbSetCursor(rfbScreenInfoPtr s, rfbCursorPtr c); /* the one before is freed, where its cleanup is set */
 
 /* Both write to stderr, unless the program sets another. */
 extern rfbLogProc rfbLog, rfbErr;

@@ -149,17 +149,84 @@ int rfbSelectBox(rfbScreenInfoPtr s, rfbFontDataPtr font, char **list, int x1, i
     return box.isOver ? box.at : -1;
 }
 
-/* ---- cursors: no viewer is sent one, so that of what they look like nothing is kept ---- */
+/* ---- cursors: no viewer is sent one. A row of a mask is whole bytes ---- */
+
+static int mask_stride(int width) { return (width + 7) / 8; }
+static int bit_of(const unsigned char *mask, int stride, int x, int y) { return mask[y * stride + x / 8] & 0x80 >> x % 8; }
+
+/* The places of a string that are not blank, as a mask; a place behind its end is. */
+static unsigned char *mask_of(int width, int height, const char *drawn)
+{
+    const int stride = mask_stride(width);
+    unsigned char *mask = (unsigned char *)calloc((size_t)stride, (size_t)height);
+    for (int i = 0; mask && i < width * height && drawn[i]; i++)
+        if (drawn[i] != ' ') mask[i / width * stride + i % width / 8] |= (unsigned char)(0x80 >> i % width % 8);
+    return mask;
+}
+
+char *rfbMakeMaskForXCursor(int width, int height, char *source)
+{
+    const int stride = mask_stride(width);
+    char *mask = (char *)calloc((size_t)stride, (size_t)height);
+    for (int i = 0; mask && i < width * height; i++) {
+        const int x = i % width, y = i / width;
+        int isNear = 0;
+        for (int dy = y > 0 ? -1 : 0; dy <= 1 && y + dy < height; dy++)
+            for (int dx = x > 0 ? -1 : 0; dx <= 1 && x + dx < width; dx++) isNear |= bit_of((unsigned char *)source, stride, x + dx, y + dy);
+        if (isNear) mask[y * stride + x / 8] = (char)(mask[y * stride + x / 8] | 0x80 >> x % 8);
+    }
+    return mask;
+}
+
+/* Floyd and Steinberg's: what a bit is off by goes to the places right of it and below it. */
+char *rfbMakeMaskFromAlphaSource(int width, int height, unsigned char *alphaSource)
+{
+    const int stride = mask_stride(width);
+    char *mask = (char *)calloc((size_t)stride, (size_t)height);
+    int *below = (int *)calloc((size_t)width + 2, sizeof *below); /* of the places one to the left of each, in sixteenths */
+    for (int y = 0; mask && below && y < height; y++) {
+        int right = 0, corner = 0;
+        for (int x = 0; x < width; x++) {
+            const int value = 16 * alphaSource[y * width + x] + right + below[x + 1], isSet = value >= 16 * 128, off = (isSet ? value - 16 * 255 : value) / 16;
+            if (isSet) mask[y * stride + x / 8] = (char)(mask[y * stride + x / 8] | 0x80 >> x % 8);
+            below[x] += 3 * off, below[x + 1] = 5 * off + corner;
+            corner = off, right = 7 * off;
+        }
+    }
+    if (!below) { free(mask); mask = NULL; }
+    free(below);
+    return mask;
+}
 
 rfbCursorPtr rfbMakeXCursor(int width, int height, char *source, char *mask)
 {
     rfbCursorPtr c = (rfbCursorPtr)calloc(1, sizeof *c);
-    (void)source, (void)mask;
-    if (c) c->cleanup = TRUE, c->width = (unsigned short)width, c->height = (unsigned short)height;
-    return c;
+    if (!c) return NULL;
+    c->cleanup = c->cleanupSource = c->cleanupMask = TRUE, c->width = (unsigned short)width, c->height = (unsigned short)height;
+    c->foreRed = c->foreGreen = c->foreBlue = 0xffff;
+    c->source = mask_of(width, height, source);
+    if (c->source) c->mask = mask ? mask_of(width, height, mask) : (unsigned char *)rfbMakeMaskForXCursor(width, height, (char *)c->source);
+    if (c->mask) return c;
+    rfbFreeCursor(c);
+    return NULL;
 }
 
-void rfbFreeCursor(rfbCursorPtr c) { if (c && c->cleanupRichSource) free(c->richSource); if (c && c->cleanup) free(c); }
+void rfbFreeCursor(rfbCursorPtr c)
+{
+    if (!c) return;
+    if (c->cleanupSource) free(c->source);
+    if (c->cleanupMask) free(c->mask);
+    if (c->cleanupRichSource) { free(c->richSource); free(c->alphaSource); }
+    if (c->cleanup) { free(c); return; }
+    c->cleanupSource = c->cleanupMask = c->cleanupRichSource = FALSE;
+    c->source = c->mask = c->richSource = c->alphaSource = NULL;
+}
+
+rfbBool rfbCheckPasswordByList(rfbClientPtr cl, const char *response, int len)
+{
+    (void)cl, (void)response, (void)len;
+    return FALSE;
+}
 
 void rfbDefaultPtrAddEvent(int buttonMask, int x, int y, rfbClientPtr cl)
 {

@@ -5,7 +5,7 @@ import ctypes
 import sys
 import time
 
-LIBRARY = ctypes.CDLL("libvnc_server.so.1")
+LIBRARY = ctypes.CDLL("libvnc_server.so.5")
 WIDTH, HEIGHT, THICK = 640, 480, 3
 POINTER = 2  # VNC_POINTER
 

@@ -3,19 +3,19 @@
 
 SOURCE is the folder of LibVNCServer's source, and vnc_server is installed below PREFIX. Each example is compiled with its line
 `#include <rfb/rfb.h>` changed to `#include "rfb_compat.h"` and nothing else, and with LibVNCServer too, where that is installed. A viewer
-looks at each, with the same keys and pointer, and the pictures are compared place by place. A COMMAND, valgrind's, stands before ours
-alone; then nothing is compared, and an error that it finds counts. A line for each; the status is not 0 where one isn't as it should be."""
+looks at each, with the same keys and pointer. The pictures are compared place by place, and so is how many inputs the program's hooks
+were told (rfb_count.h). A COMMAND, valgrind's, stands before ours alone; then nothing is compared, and an error that it finds counts. A line
+for each; the status is not 0 where one isn't as it should be."""
+import glob
 import os
 import re
 import shutil
-import socket
-import struct
 import subprocess
 import sys
-import time
+
+from rfb_viewer import HERE, Viewer, await_told, changed, compiles, counted, differing, flags_of_real, free_port, layer
 
 SOURCE, PREFIX, ROOM, COMMAND = sys.argv[1], sys.argv[2], sys.argv[3], sys.argv[4:]
-HERE = os.path.dirname(os.path.dirname(os.path.abspath(__file__)))
 UP, DOWN, ENTER, F11, F12 = 0xFF52, 0xFF54, 0xFF0D, 0xFFC8, 0xFFC9
 # reads no font but the one of default8x16.h, as console fonts are seldom there
 FONTS = """#define _GNU_SOURCE
@@ -32,15 +32,12 @@ FILE *fopen64(const char *name, const char *mode) { return fopen(name, mode); }
 """
 
 
-def compiles(*arguments):
-    return subprocess.run([os.environ.get("CC", "cc"), "-g", "-O1", *arguments], check=False).returncode == 0
-
-
 def prepare():
     for folder in ("ours", "real", "source", "rfb"):
         os.makedirs(f"{ROOM}/{folder}", exist_ok=True)
-    for name in ("keysym.h", "default8x16.h"):
-        shutil.copy(f"{SOURCE}/rfb/{name}", f"{ROOM}/rfb")
+    shutil.copy(f"{SOURCE}/rfb/default8x16.h", f"{ROOM}/rfb")
+    for path in glob.glob(f"{SOURCE}/examples/*.c"):
+        changed(path, f"{ROOM}/source/{os.path.basename(path)}")
     with open(f"{ROOM}/rfb/rfbconfig.h", "w", encoding="utf-8") as out:
         out.write("#define LIBVNCSERVER_HAVE_SYS_SOCKET_H 1\n")
     shutil.copy(f"{SOURCE}/examples/radon.h", f"{ROOM}/source")
@@ -56,104 +53,13 @@ def prepare():
 
 def build(name, source, flags):
     """The example over rfb_compat.h; and over LibVNCServer, where it is installed: whether that is there too."""
-    with open(f"{SOURCE}/examples/{source}.c", encoding="utf-8") as it:
-        text = it.read()
-    with open(f"{ROOM}/source/{name}.c", "w", encoding="utf-8") as out:
-        out.write(text.replace("#include <rfb/rfb.h>", '#include "rfb_compat.h"'))
-    ours = [f"{HERE}/rfb_compat.c", f"{HERE}/rfb_compat_draw.c", f"-I{HERE}", f"-I{ROOM}", f"{PREFIX}/lib/libvnc_server.a", "-lpthread"]
-    if not compiles("-w", *flags, "-o", f"{ROOM}/ours/{name}", f"{ROOM}/source/{name}.c", *ours):
+    counts = ["-w", "-include", f"{HERE}/tools/rfb_count.h"]
+    if not compiles(*flags, *counts, "-o", f"{ROOM}/ours/{name}", f"{ROOM}/source/{source}.c", "-idirafter", ROOM, *layer(PREFIX, ROOM)):
         raise OSError("does not compile")
-    real = subprocess.run(["pkg-config", "--cflags", "--libs", "libvncserver"], check=False, capture_output=True, text=True)
-    if COMMAND or real.returncode != 0:
+    real = [] if COMMAND else flags_of_real()
+    if not real:
         return False
-    return compiles("-w", *flags, "-o", f"{ROOM}/real/{name}", f"{SOURCE}/examples/{source}.c", "-idirafter", ROOM, *real.stdout.split())
-
-
-class Viewer:
-    """A viewer of version 3.8, with Raw and CopyRect, that draws the cursor itself (RFC 6143)."""
-
-    def __init__(self, port):
-        for _ in range(600):
-            try:
-                self.socket = socket.create_connection(("127.0.0.1", port), 20)
-                break
-            except OSError:
-                time.sleep(0.05)
-        self.read(12)
-        self.socket.sendall(b"RFB 003.008\n")
-        self.read(self.read(1)[0])
-        self.socket.sendall(b"\1")
-        self.read(4)
-        self.socket.sendall(b"\1")
-        self.width, self.height = struct.unpack(">HH", self.read(4))
-        self.read(16)
-        self.name = self.read(struct.unpack(">I", self.read(4))[0]).decode()
-        self.places = bytearray(self.width * self.height * 4)
-        self.updates = self.copies = 0
-        self.socket.sendall(struct.pack(">B3xBBBBHHHBBB3x", 0, 32, 24, 0, 1, 255, 255, 255, 16, 8, 0) + struct.pack(">BxH4i", 2, 4, 1, 0, -239, -223))
-        self.ask(0)
-
-    def read(self, count):
-        got = b""
-        while len(got) < count:
-            piece = self.socket.recv(count - len(got))
-            if not piece:
-                raise EOFError
-            got += piece
-        return got
-
-    def ask(self, incremental):
-        self.socket.sendall(struct.pack(">BBHHHH", 3, incremental, 0, 0, self.width, self.height))
-
-    def key(self, *keys):
-        for key in keys:
-            self.socket.sendall(struct.pack(">BBHI", 4, 1, 0, key) + struct.pack(">BBHI", 4, 0, 0, key))
-            self.watch(0.3)
-
-    def point(self, buttons, x, y):
-        self.socket.sendall(struct.pack(">BBHH", 5, buttons, x, y))
-
-    def watch(self, seconds):
-        """Takes what comes for so long. Whether the connection stays."""
-        end = time.time() + seconds
-        try:
-            while (left := end - time.time()) > 0:
-                self.socket.settimeout(left)
-                try:
-                    kind = self.read(1)[0]
-                except socket.timeout:
-                    return True
-                self.socket.settimeout(20)
-                if kind == 0:
-                    self.update()
-                elif kind == 3:
-                    self.read(3)
-                    self.read(struct.unpack(">I", self.read(4))[0])
-            return True
-        except (EOFError, ConnectionError):
-            return False
-
-    def update(self):
-        self.updates += 1
-        for _ in range(struct.unpack(">xH", self.read(3))[0]):
-            x, y, columns, rows, encoding = struct.unpack(">HHHHi", self.read(12))
-            if encoding == -223:
-                self.width, self.height, self.places = columns, rows, bytearray(columns * rows * 4)
-                continue
-            if encoding == -239:
-                self.read(columns * rows * 4 + (columns + 7) // 8 * rows)
-                continue
-            pitch = 4 * self.width
-            if encoding == 1:
-                self.copies += 1
-                from_x, from_y = struct.unpack(">HH", self.read(4))
-                taken = b"".join(self.places[(from_y + row) * pitch + 4 * from_x :][: 4 * columns] for row in range(rows))
-            else:
-                taken = self.read(columns * rows * 4)
-            for row in range(rows):
-                at = (y + row) * pitch + 4 * x
-                self.places[at : at + 4 * columns] = taken[row * 4 * columns : (row + 1) * 4 * columns]
-        self.ask(1)
+    return compiles(*flags, "-DRFB_COUNT_REAL", *counts, "-o", f"{ROOM}/real/{name}", f"{SOURCE}/examples/{source}.c", "-idirafter", ROOM, *real)
 
 
 def image(kind):
@@ -198,6 +104,17 @@ def zippy(viewer):
     viewer.point(0, 5, 6)
 
 
+def cursors(viewer):
+    for k in range(8):
+        viewer.point(1, 100 + 20 * k, 150 + 10 * k)
+        viewer.point(0, 100 + 20 * k, 150 + 10 * k)
+        viewer.watch(0.1)
+
+
+def rotate(viewer):
+    viewer.key(*b"rfRFr")
+
+
 # name, source, flags, argument, what is done, the last key, whether that ends the program, and how many places may differ from LibVNCServer's
 RUNS = [
     ("simple", "simple", [], None, None, None, False, 0),
@@ -215,7 +132,10 @@ RUNS = [
     ("vncev", "vncev", [], None, vncev, None, False, 0),
     ("camera", "camera", [], None, lambda viewer: viewer.watch(1), None, False, 1280),  # a line that moves: two rows of 640
     ("fontsel", "fontsel", [], None, fontsel, ENTER, True, 4000),  # its box has no buttons here
+    ("cursors", "cursors", [], None, cursors, None, False, 0),
+    ("rotate", "rotate", [], "P6", rotate, ord("q"), False, 0),
 ]
+OWN_HOOKS = ["fontsel"]  # whose keys go to the hooks of its box, which LibVNCServer has
 
 
 # what valgrind finds of these programs themselves
@@ -223,18 +143,14 @@ LEFT_OUT = {
     "simple": "it never writes its framebuffer",
     "vncev": "it prints an address although its getpeername fails, as no viewer's socket is told",
     "pnmshow P5": "it leaves the end of its framebuffer unwritten where it pads its rows",
+    "cursors": "it never frees its cursors' colours",
+    "rotate P6": "it never releases its iterators",
     "pnmshow P4": "it writes up to 7 bytes behind its framebuffer",
     "example_background": "it is ended while its thread runs, whose memory is then held still",
 }
 
 
-def free_port():
-    with socket.socket() as it:
-        it.bind(("127.0.0.1", 0))
-        return it.getsockname()[1]
-
-
-def run(command, argument, does, last, ends):
+def run(name, command, argument, does, last, ends):
     """What a viewer saw: the viewer, and what was not as it should be."""
     port = free_port()
     arguments = [*command, *([image(argument)] if argument else []), "-rfbport", str(port), "-listen", "127.0.0.1"]
@@ -246,8 +162,10 @@ def run(command, argument, does, last, ends):
             if does:
                 does(viewer)
                 viewer.watch(0.5)
+                if name not in OWN_HOOKS:
+                    await_told(viewer, lambda: counted(f"{ROOM}/log"))
             if last:
-                viewer.socket.sendall(struct.pack(">BBHI", 4, 1, 0, last))
+                viewer.tell((last, 1))
                 if viewer.watch(3):
                     return viewer, "the viewer is not let go"
             viewer.socket.close()
@@ -270,28 +188,44 @@ def look(name, source, flags, argument, does, last, ends, most):
     if COMMAND and shown in LEFT_OUT:
         return f"left out: {LEFT_OUT[shown]}"
     has_real = build(name, source, flags)
-    ours, wrong = run([*COMMAND, f"{ROOM}/ours/{name}"], argument, does, last, ends)
+    ours, wrong = run(name, [*COMMAND, f"{ROOM}/ours/{name}"], argument, does, last, ends)
     if wrong or found():
         raise OSError(wrong or found())
-    said = f"{ours.width} by {ours.height}, {ours.updates} updates, {ours.copies} copies"
+    told = counted(f"{ROOM}/log")
+    said = f"{ours.width} by {ours.height}, {ours.updates} updates, {ours.copies} copies, {told} of {ours.sent} inputs"
+    if told != ours.sent and not COMMAND and name not in OWN_HOOKS:
+        raise OSError(said)
     if not has_real:
         return said
-    real, _ = run([f"{ROOM}/real/{name}"], argument, does, last, ends)
+    real, _ = run(name, [f"{ROOM}/real/{name}"], argument, does, last, ends)
+    if told != counted(f"{ROOM}/log"):
+        raise OSError(f"{said}; LibVNCServer told {counted(f'{ROOM}/log')}")
     if (ours.width, ours.height, ours.name) != (real.width, real.height, real.name):
         raise OSError(f"{said}; LibVNCServer's is {real.width} by {real.height}")
-    differ = sum(ours.places[k : k + 3] != real.places[k : k + 3] for k in range(0, len(ours.places), 4))
+    differ = differing(ours, real)
     if differ > most:
         raise OSError(f"{said}; {differ} places differ from LibVNCServer's")
     return f"{said}; {differ or 'no'} places differ from LibVNCServer's"
 
 
+def words():
+    """LibVNCServer's own test of what it takes out of the arguments."""
+    changed(f"{SOURCE}/test/cargstest.c", f"{ROOM}/source/cargstest.c")
+    if not compiles("-w", "-o", f"{ROOM}/ours/cargstest", f"{ROOM}/source/cargstest.c", *layer(PREFIX, ROOM)):
+        raise OSError("does not compile")
+    done = subprocess.run([f"{ROOM}/ours/cargstest"], check=False, capture_output=True, text=True)
+    if done.returncode:
+        raise OSError(done.stderr)
+    return "its checks hold"
+
+
 def main():
     prepare()
     failed = 0
-    for name, source, flags, argument, *rest in RUNS:
-        shown = f"{name} {argument}" if argument else name
+    runs = [(f"{name} {argument}" if argument else name, look, (name, source, flags, argument, *rest)) for name, source, flags, argument, *rest in RUNS]
+    for shown, how, what in [("cargstest", words, ()), *runs]:
         try:
-            print(f"{shown}: {look(name, source, flags, argument, *rest)}", flush=True)
+            print(f"{shown}: {how(*what)}", flush=True)
         except (OSError, EOFError, subprocess.TimeoutExpired) as error:
             failed += 1
             print(f"{shown}: WRONG: {error or 'the server closed the connection'}", flush=True)

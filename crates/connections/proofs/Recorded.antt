@@ -1,10 +1,10 @@
 -- What is written of a call that the screen took.
-use Rattle.std.proofs.Common.{◌≡◌, ◌≢◌, ℕ, Bool, true, false, List, [], ◌∷◌, Option, Some, None, Result, Ok, Err, refl, sym, ap, ◌∙◌}
-use Rattle.std.specs.Prelude.{◌&&◌, is_none, MatchOption}
+use Rattle.std.proofs.Common.{◌≡◌, ◌≢◌, ℕ, Bool, true, false, List, [], ◌∷◌, Option, Some, None, Result, Ok, Err, refl, sym, ap, ◌∙◌, subst}
+use Rattle.std.specs.Prelude.{◌&&◌, is_none, MatchOption, IfSome}
 use Rattle.std.proofs.lemmas.Bool.{and_from}
 use Rattle.screen.specs.declared.Config.{Config}
 use Rattle.screen.specs.declared.Event.{Event}
-use Rattle.screen.specs.declared.Event.TheVariants.{Cut}
+use Rattle.screen.specs.declared.Event.TheVariants.{Cut, Hear}
 use Rattle.screen.specs.declared.Answer.{Answer}
 use Rattle.screen.specs.declared.ScreenError.{ScreenError}
 use Rattle.screen.specs.Alone.{Tells, gives, some_bytes}
@@ -14,7 +14,8 @@ use Rattle.screen.specs.HappeningLemmas.{one-happens, none-happens, told-accepte
 use Rattle.viewer.specs.Given.{bytes_given}
 use Rattle.scribe.specs.Scribing.{Scribed}
 use Rattle.recorder.specs.Events.{event_line}
-use Rattle.connections.specs.Recorded.{PutsWhere, RecordsMore}
+use Rattle.connections.specs.Drawing.{Surface}
+use Rattle.connections.specs.Recorded.{cut_gives, PutsWhere, RecordsMore}
 use Rattle.connections.specs.RecordedLemmas.{lines-one, records-lines, records-nothing}
 
 -- an event that happened, and its line
@@ -25,9 +26,6 @@ records-event c list e old new happened puts = records-lines c list (e ∷ []) o
 pub records-told : {X : Type 0} (f : X → Answer) (x : X) (e : Event) (c : Config) (list : List Event) (old new : Option Scribed) → ((a : Answer) → has_happened e a ≡ is_none a.refused)
     → Tells f (Ok x) (answer_to c list e) → PutsWhere (event_line e) old new → RecordsMore c list (e ∷ []) old new
 records-told f x e c list old new plain told puts = records-event c list e old new (plain (answer_to c list e) ∙ told-accepted f (Ok x) (answer_to c list e) told) puts
-
-abbrev pub cut_gives : Option (List ℕ) → Answer
-cut_gives update = gives (bytes_given update)
 
 some-bytes : (u : List ℕ) → u ≢ [] → some_bytes u ≡ true
 some-bytes [] h = absurd (h refl)
@@ -57,3 +55,22 @@ records-cut c list v u old new some told puts = records-event c list (Cut v) old
 
 pub records-uncut : (c : Config) (list : List Event) (v : ℕ) (s : Option Scribed) → Tells cut_gives (Ok None) (answer_to c list (Cut v)) → RecordsMore c list (Cut v ∷ []) s s
 records-uncut c list v s told = records-nothing c list (Cut v ∷ []) s s (none-happens c list (Cut v) (nothing-cut v (answer_to c list (Cut v)) told)) refl
+
+-- a piece that was heard, and then recorded
+pub heard-more : (c : Config) (list : List Event) (n : ℕ) (piece : List ℕ) (x : Answer) (a b d : Surface) → Tells (λ (q : Answer). q) (Ok x) (answer_to c list (Hear n piece)) → b.scribed ≡ a.scribed → PutsWhere (event_line (Hear n piece)) b.scribed d.scribed
+    → RecordsMore c list (Hear n piece ∷ []) a.scribed d.scribed
+heard-more c list n piece x a b d told same puts =
+    subst (λ (s : Option Scribed). RecordsMore c list (Hear n piece ∷ []) s d.scribed) same (records-told (λ (q : Answer). q) x (Hear n piece) c list b.scribed d.scribed (λ q. refl) told puts)
+
+-- an update that was cut, and then recorded
+pub cut-more : (c : Config) (list : List Event) (n : ℕ) (o : Option (List ℕ)) (u : List ℕ) (a b d : Surface) → o ≡ Some u → IfSome o (λ w. w ≢ []) → Tells cut_gives (Ok o) (answer_to c list (Cut n)) → b.scribed ≡ a.scribed
+    → PutsWhere (event_line (Cut n)) b.scribed d.scribed → RecordsMore c list (Cut n ∷ []) a.scribed d.scribed
+cut-more c list n o u a b d is full told same puts =
+    subst (λ (s : Option Scribed). RecordsMore c list (Cut n ∷ []) s d.scribed) same
+    (records-cut c list n u b.scribed d.scribed (subst (λ (q : Option (List ℕ)). IfSome q (λ w. w ≢ [])) is full) (subst (λ (q : Option (List ℕ)). Tells cut_gives (Ok q) (answer_to c list (Cut n))) is told) puts)
+
+-- none was cut
+pub uncut-more : (c : Config) (list : List Event) (n : ℕ) (o : Option (List ℕ)) (a b : Surface) → o ≡ None → Tells cut_gives (Ok o) (answer_to c list (Cut n)) → b.scribed ≡ a.scribed → RecordsMore c list (Cut n ∷ []) a.scribed b.scribed
+uncut-more c list n o a b is told same =
+    subst (λ (s : Option Scribed). RecordsMore c list (Cut n ∷ []) a.scribed s) (sym same)
+    (records-uncut c list n a.scribed (subst (λ (q : Option (List ℕ)). Tells cut_gives (Ok q) (answer_to c list (Cut n))) is told))

@@ -4,6 +4,9 @@ use Rattle.scribe.specs.Scribing.{Scribed, IsScribed}
 use Rattle.recorder.specs.Events.{session_text}
 use Rattle.screen.specs.declared.Config.{Config}
 use Rattle.screen.specs.declared.Event.{Event}
+use Rattle.screen.specs.declared.Answer.{Answer}
+use Rattle.screen.specs.Alone.{gives}
+use Rattle.viewer.specs.Given.{bytes_given}
 use Rattle.screen.specs.History.{accepted}
 
 -- a text was put behind what a writer held
@@ -37,3 +40,7 @@ IsRecordedBy began c list s = IsScribedBy began (session_text c (accepted c list
 -- a record that stood for a list stands for it with more events behind it
 abbrev pub RecordsMore : Config → List Event → List Event → Option Scribed → Option Scribed → Type 0
 RecordsMore c list more old new = (began : Option (List ℕ)) → IsRecordedBy began c list old → IsRecordedBy began c (list ++ more) new
+
+-- what a cut gives, where it gives an update
+abbrev pub cut_gives : Option (List ℕ) → Answer
+cut_gives update = gives (bytes_given update)

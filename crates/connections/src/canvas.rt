@@ -3,14 +3,15 @@
 ghost use Rattle.std.specs.Prelude.{◌≡◌, ◌++◌, ◌∷◌, [], ◌≢◌, List, None, true, false, IfOk, IfSome, IsOkUnless, OnOk, OnErr, option_map};
 ghost use Rattle.screen.specs.declared.Config.{Config};
 ghost use Rattle.screen.specs.declared.Event.{Event};
-ghost use Rattle.screen.specs.Alone.{config_refusal};
+ghost use Rattle.screen.specs.Alone.{Tells, config_refusal};
+ghost use Rattle.recorder.specs.Events.{event_line};
 ghost use Rattle.screen.specs.Answers.{answer_to};
 ghost use Rattle.screen.specs.Refusals.{Refuses};
 ghost use Rattle.screen.specs.State.{state, refusal};
 ghost use Rattle.screen.specs.Takes.{Takes, TakesTelling};
 ghost use Rattle.viewer.specs.Given.{bytes_given};
 ghost use Rattle.screen.specs.Calls.{event_of};
-ghost use Rattle.connections.specs.Recorded.{PutsWhere, RecordsMore, IsFlushed, held_by, is_broken};
+ghost use Rattle.connections.specs.Recorded.{cut_gives, PutsWhere, RecordsMore, IsFlushed, held_by, is_broken};
 ghost use Rattle.connections.specs.Drawing.{Draws, full_requests_on, is_asking_on, is_notice, IsNotedAfter};
 
 use crate::record::Record;
@@ -364,22 +365,28 @@ impl Canvas {
         Ok(version)
     }
 
-    /// `Screen::hear`.
+    /// `Screen::hear`. `record_heard` goes with it.
     pub(crate) fn hear(&mut self, number: u64, piece: &[u8]) -> Result<Answer, ScreenError>
         ensures step { (config : Config) (list : List Event) → self.old.screen ≡ state config list →
             OnOk result (self.new.screen ≡ state config (list ++ Event.Hear number piece.now ∷ [])) }
-        ensures recorded { (config : Config) (list : List Event) → self.old.screen ≡ state config list →
-            OnOk result (RecordsMore config list (Event.Hear number piece.now ∷ []) self.old.scribed self.new.scribed) }
+        ensures told { (config : Config) (list : List Event) → self.old.screen ≡ state config list →
+            Tells (λ answer. answer) result (answer_to config list (Event.Hear number piece.now)) }
         ensures answer { (config : Config) (list : List Event) → self.old.screen ≡ state config list →
             IfOk result (λ answer. answer.bytes ≡ (answer_to config list (Event.Hear number piece.now)).bytes) }
         ensures inputs { (config : Config) (list : List Event) → self.old.screen ≡ state config list →
             IfOk result (λ answer. answer.inputs ≡ (answer_to config list (Event.Hear number piece.now)).inputs) }
-        ensures same { self.new ≡ record self.old { screen = self.new.screen; scribed = self.new.scribed } }
+        ensures same { self.new ≡ record self.old { screen = self.new.screen } }
         ensures err { OnErr result (self.new ≡ self.old) }
     {
-        let answer = self.screen.hear(number, piece)?;
+        self.screen.hear(number, piece)
+    }
+
+    /// Records a piece that was heard, where the session is recorded.
+    pub(crate) fn record_heard(&mut self, number: u64, piece: &[u8])
+        ensures puts { PutsWhere (event_line (Event.Hear number piece.now)) self.old.scribed self.new.scribed }
+        ensures same { self.new ≡ record self.old { scribed = self.new.scribed } }
+    {
         self.recorder.heard(number, piece);
-        Ok(answer)
     }
 
     /// `Screen::encode_ahead`.
@@ -390,23 +397,27 @@ impl Canvas {
         self.screen.encode_ahead(number)
     }
 
-    /// `Screen::cut`.
+    /// `Screen::cut`. `record_cut` goes with it, where there is an update.
     pub(crate) fn cut(&mut self, number: u64) -> Result<Option<Update>, ScreenError>
         ensures step { (config : Config) (list : List Event) → self.old.screen ≡ state config list →
             OnOk result (self.new.screen ≡ state config (list ++ Event.Cut number ∷ [])) }
-        ensures recorded { (config : Config) (list : List Event) → self.old.screen ≡ state config list →
-            OnOk result (RecordsMore config list (Event.Cut number ∷ []) self.old.scribed self.new.scribed) }
+        ensures told { (config : Config) (list : List Event) → self.old.screen ≡ state config list →
+            Tells cut_gives result (answer_to config list (Event.Cut number)) }
         ensures answer { (config : Config) (list : List Event) → self.old.screen ≡ state config list →
             IfOk result (λ update. bytes_given update ≡ (answer_to config list (Event.Cut number)).bytes) }
-        ensures same { self.new ≡ record self.old { screen = self.new.screen; scribed = self.new.scribed } }
+        ensures same { self.new ≡ record self.old { screen = self.new.screen } }
         ensures some { IfOk result (λ update. IfSome update (λ bytes. bytes ≢ [])) }
         ensures err { OnErr result (self.new ≡ self.old) }
     {
-        let Some(update) = self.screen.cut(number)? else {
-            return Ok(None);
-        };
+        self.screen.cut(number)
+    }
+
+    /// Records that an update was cut, where the session is recorded.
+    pub(crate) fn record_cut(&mut self, number: u64)
+        ensures puts { PutsWhere (event_line (Event.Cut number)) self.old.scribed self.new.scribed }
+        ensures same { self.new ≡ record self.old { scribed = self.new.scribed } }
+    {
         self.recorder.cut(number);
-        Ok(Some(update))
     }
 
     /// `Screen::close`.

@@ -67,6 +67,7 @@ fn hear<T: Transport, A: Application>(
         connection.end(Ended::Memory);
         return Ok(());
     };
+    canvas.record_heard(viewer, piece);
     connection.count_piece(piece);
     connection.give(answer.bytes.as_slice(), answer.closed);
     tell(
@@ -166,6 +167,7 @@ fn cut<T: Transport>(canvas: &mut Canvas, connection: &mut Connection<T>) -> boo
     held_as_alone();
     match canvas.cut(viewer) {
         Ok(Some(update)) => {
+            canvas.record_cut(viewer);
             connection.start(update, canvas.is_asking(viewer));
             true
         }

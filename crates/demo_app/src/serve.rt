@@ -13,7 +13,7 @@ use play_script::refusal_text;
 use play_script::trouble::{Trouble, print, report};
 use receipts::Receipt;
 use screen::{Config, History, LONGEST_TEXT, Listed, Rect, ScreenError, config_refusal};
-use serving::{Application, ServeError, Told, serve_viewers};
+use serving::{Application, ServeError, Told, serve_viewers_with_queue};
 use std::alloc::{AllocError, Global};
 use std::io::Write;
 use std::marker::Brand;
@@ -59,6 +59,9 @@ pub(crate) enum Stroke<'a> {
     /// A text is sent back.
     Text(&'a [u8]),
 }
+
+/// How many inputs may wait for the application.
+const INPUTS: usize = 1024;
 
 /// The colour of a place that is painted.
 pub(crate) const WHITE: u32 = 0xff_ffff;
@@ -217,8 +220,8 @@ fn serve<L: Ledger + Send + Sync, W: Write, R: Threads + Wait + Clock + Net + Sy
         height: options.height,
     };
     let viewers = u64::from(options.viewers);
-    let receipts = serve_viewers(
-        rt, alloc, listener, &shared, &mut brush, viewers, &mut easel,
+    let receipts = serve_viewers_with_queue(
+        rt, alloc, listener, &shared, &mut brush, viewers, INPUTS, &mut easel,
     )
     .map_err(trouble_of)?;
     print_ends(alloc, writer, &receipts)?;

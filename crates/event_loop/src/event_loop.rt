@@ -615,10 +615,26 @@ impl EventLoop {
         Ok(())
     }
 
+    /// Forgets newcomers that are open or gone, up to the first one that is neither.
+    fn forget_opened(&mut self)
+        ensures served { GoesOnServing self.old self.new }
+    {
+        for _ in 0..self.newcomers.len() {
+            let Some((key, viewer)) = self.newcomers.first() else {
+                return;
+            };
+            if self.is_opening(key, viewer) {
+                return;
+            }
+            self.newcomers.pop_first();
+        }
+    }
+
     /// Viewers that took too long for their opening are let go.
     fn let_go(&mut self, now: Instant) -> Result<(), LoopError>
         ensures served { GoesOnServing self.old self.new }
     {
+        self.forget_opened();
         for _ in 0..self.newcomers.len() {
             let Some((key, viewer)) = self.newcomers.pop_late(now) else {
                 return Ok(());
@@ -628,11 +644,16 @@ impl EventLoop {
         Ok(())
     }
 
+    /// Whether a viewer is there that has not had its ServerInit.
+    fn is_opening(&self, key: usize, viewer: u64) -> bool {
+        self.connections.viewer(key) == Some(viewer) && !self.connections.is_open(key)
+    }
+
     /// A viewer is let go, unless it had its ServerInit.
     fn let_go_unopened(&mut self, key: usize, viewer: u64) -> Result<(), LoopError>
         ensures served { GoesOnServing self.old self.new }
     {
-        if self.connections.viewer(key) != Some(viewer) || self.connections.is_open(key) {
+        if !self.is_opening(key, viewer) {
             return Ok(());
         }
         self.connections.close(key)?;

@@ -1,6 +1,6 @@
 //! Which viewers have not had their ServerInit, and until when they may take for it.
 
-ghost use Rattle.std.specs.Prelude.{◌≡◌, ◌≤◌, ◌-◌, ◌++◌, ◌∷◌, [], None, OnOk, OnErr, IfSome, MatchOption, length, slice_get};
+ghost use Rattle.std.specs.Prelude.{◌≡◌, ◌≤◌, ◌-◌, ◌++◌, ◌∷◌, [], drop, None, Some, OnOk, OnErr, IfSome, MatchOption, length, slice_get};
 ghost use Rattle.std.specs.Duration.{as_nanos};
 ghost use Rattle.std.specs.Time.{instant_nanos};
 ghost use Rattle.event_loop.specs.declared.opening.Newcomer.{Newcomer};
@@ -52,6 +52,22 @@ impl Newcomers {
     {
         self.waiting.push_back(Newcomer { key, viewer, since })?;
         Ok(())
+    }
+
+    /// Returns the key and the number of the first.
+    pub fn first(&self) -> Option<(usize, u64)>
+        ensures { MatchOption (slice_get self.now.waiting.items 0) (result ≡ None) (λ first. result ≡ Some (first.key, first.viewer)) }
+    {
+        let first = self.waiting.front()?;
+        Some((first.key, first.viewer))
+    }
+
+    /// Takes out the first, if there is one.
+    pub fn pop_first(&mut self)
+        ensures patience { self.new.patience ≡ self.old.patience }
+        ensures rest { self.new.waiting.items ≡ drop 1 self.old.waiting.items }
+    {
+        self.waiting.pop_front();
     }
 
     /// The key and the number of the first, where its time is up; it is taken out.

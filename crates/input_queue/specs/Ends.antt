@@ -1,7 +1,9 @@
 -- What contracts see of a queue's ends.
-use Rattle.std.specs.Prelude.{◌≡◌, ℕ, ◌==◌, nat_eq, List, ◌++◌, map}
+use Rattle.std.specs.Prelude.{◌≡◌, ℕ, ◌==◌, nat_eq, List, [], ◌∷◌, ◌++◌, map, Some}
 use Rattle.std.specs.List.{IsDistinct, filter}
 use Rattle.atomic_table.specs.Seated.{TableId}
+use Rattle.messages.specs.declared.Input.{Input}
+use Rattle.held_inputs.specs.Held.{Held, nothing, after, owed}
 use Rattle.input_queue.specs.declared.Told.{Told}
 use Rattle.input_queue.specs.declared.rule.Note.{Note}
 use Rattle.input_queue.specs.Rule.{Interleaves}
@@ -43,3 +45,21 @@ AllTaken taken = (lists : ℕ → List Told) × Interleaves lists taken
 -- what the taker notes of a seat
 abbrev pub note_of : Putting → Note
 note_of s = record { number = s.number; accepted = s.accepted }
+
+-- an input more is accepted at a seat
+abbrev pub accepting : Input → Putting → Putting
+accepting input seat = record seat { accepted = seat.accepted ++ record { viewer = seat.viewer; input = input } ∷ [] }
+
+-- what is held behind inputs
+abbrev pub held_behind : Held → List Told → Held
+held_behind held [] = held
+held_behind held (t ∷ ts) = held_behind (after held t.input) ts
+
+-- what is down for an application that was told these
+abbrev pub held_by : List Told → Held
+held_by ts = held_behind nothing ts
+
+-- What an application was not told of what is held was put, one after the other: each is what was owed then.
+abbrev pub Settles : Held → List Input → Putting → Putting → Type 0
+Settles held [] before now = now ≡ before
+Settles held (input ∷ inputs) before now = (owed (held_by before.accepted) held ≡ Some input) × Settles held inputs (accepting input before) now

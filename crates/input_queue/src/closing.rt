@@ -7,10 +7,11 @@ use crate::{InputHub, Taker, Told};
 use std::sync::Wait;
 use std::sync::atomic::{AtomicBool, Ordering};
 
-/// Whether a hub is closed. Once it is, it stays so.
+/// Whether a hub is closed, which it then stays, and whether its taker was woken since it looked.
 #[derive(Drop)]
 pub(crate) struct Closing {
     is_closed: AtomicBool,
+    is_woken: AtomicBool,
 }
 
 /// The hub was seen closed.
@@ -25,11 +26,21 @@ impl Closing {
     pub(crate) fn new() -> Closing {
         Closing {
             is_closed: AtomicBool::new(false),
+            is_woken: AtomicBool::new(false),
         }
     }
 
     pub(crate) fn close(&self) {
         self.is_closed.store(true, Ordering::SeqCst);
+    }
+
+    pub(crate) fn wake(&self) {
+        self.is_woken.store(true, Ordering::SeqCst);
+    }
+
+    /// Whether the taker was woken since this was asked.
+    pub(crate) fn take_wake(&self) -> bool {
+        self.is_woken.swap(false, Ordering::SeqCst)
     }
 
     pub(crate) fn seen(&self) -> Option<SeenClosed> {

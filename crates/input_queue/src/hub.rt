@@ -1,7 +1,9 @@
 //! The queue's ends.
 ghost use Rattle.std.specs.Prelude.{◌≡◌, ◌≤◌, ◌<◌, ◌+◌, ◌-◌, ◌^◌, [], ◌++◌, ◌∷◌, ℕ, List, length, map, All, min, IfOk, MatchResult};
-ghost use Rattle.std.specs.Prelude.{MatchOption, IsOkUnless, nat_le, ◌&&◌, MatchBool, sum_by};
-ghost use Rattle.input_queue.specs.Ends.{Putting, of_viewer, ViewersApart, QueuedBeside, AllTaken, note_of};
+ghost use Rattle.std.specs.Prelude.{true, MatchOption, IsOkUnless, nat_le, ◌&&◌, MatchBool, sum_by};
+ghost use Rattle.messages.specs.declared.Input.{Input};
+ghost use Rattle.held_inputs.specs.Held.{HoldsNoMore, let_go};
+ghost use Rattle.input_queue.specs.Ends.{Putting, of_viewer, ViewersApart, QueuedBeside, AllTaken, note_of, accepting, held_by, Settles};
 ghost use Rattle.input_queue.specs.declared.Told.{Told};
 ghost use Rattle.crossbeam_queue.specs.Passes.{view as known, IsPassOf};
 ghost use Rattle.crossbeam_queue.specs.Fifo.{Held};
@@ -11,6 +13,7 @@ ghost use Rattle.input_queue.specs.Rule.{Reached, Closed};
 use crate::closing::Closing;
 use crate::rule::{Puts, Queue, SeatBack, SeatMade, TakerBack, TakerMade, Takes, Ticket, Whole};
 use crate::{AtEnd, Full, Left, QueueError, Told};
+use held_inputs::{Change, HeldInputs};
 use listed::Listed;
 use messages::Input;
 use std::alloc::{AllocError, Global};
@@ -69,10 +72,12 @@ impl Model for Taker {
 pub struct InputSeat {
     viewer: u64,
     pass: Ticket,
+    // what is down by what was accepted
+    held: HeldInputs,
 }
 
 impl Model for InputSeat {
-    ghost use Rattle.input_queue.specs.Ends.{Putting};
+    ghost use Rattle.input_queue.specs.Ends.{Putting, held_by};
     ghost use Rattle.std.specs.Prelude.{◌≡◌, [], All};
     ghost use Rattle.crossbeam_queue.specs.Passes.{view as known};
     ghost use Rattle.input_queue.specs.Views.{seat};
@@ -88,7 +93,7 @@ impl Model for InputSeat {
     } };
 
     ghost invariant = { λ a. (a.pass.me.1 ≡ []) × (known a.pass ≡ seat (known a.pass).number (known a.pass).accepted) ×
-        All (λ t. t.viewer ≡ a.viewer) (known a.pass).accepted };
+        All (λ t. t.viewer ≡ a.viewer) (known a.pass).accepted × (a.held ≡ held_by (known a.pass).accepted) };
 }
 
 impl InputHub {
@@ -126,7 +131,11 @@ impl InputHub {
     {
         let pass = self.queue.another::<SeatMade>(&mut self.pass);
         self.seats = self.seats.saturating_add(1);
-        InputSeat { viewer, pass }
+        InputSeat {
+            viewer,
+            pass,
+            held: HeldInputs::new(),
+        }
     }
 
     /// Puts an input behind the others, and wakes the taker where it waits. The input comes back where the
@@ -134,23 +143,55 @@ impl InputHub {
     /// clause can tell. After 2^62 accepted inputs this waits for ever.
     pub fn put<R: Wait>(&self, rt: &R, seat: &mut InputSeat, input: Input) -> Result<(), Full>
         requires { seat.old.queue ≡ self.now.queue }
-        ensures accepted { IfOk result (λ _. seat.new ≡
-            record seat.old { accepted = seat.old.accepted ++ record { viewer = seat.old.viewer; input = input } ∷ [] }) }
+        ensures accepted { IfOk result (λ _. seat.new ≡ accepting input seat.old) }
         ensures back { MatchResult result (λ _. Unit {0}) (λ full. (full.0 ≡ input) × (seat.new ≡ seat.old)) }
         ensures full { MatchResult result (λ _. Unit {0}) (λ _. (items : List Told) × (length items ≡ self.now.capacity) ×
             QueuedBeside seat.old.number seat.old.accepted items) }
     {
+        let change = Change::of(&input);
         let told = Told {
             viewer: seat.viewer,
             input,
         };
         match self.queue.push_as::<Puts, R>(rt, &mut seat.pass, told) {
             Ok(()) => {
+                seat.held.change(change);
                 self.arrival.unpark();
                 Ok(())
             }
             Err(told) => Err(Full(told.input)),
         }
+    }
+
+    /// Puts what the application has to be told at this seat, so that no key is down for it that the viewer doesn't hold, and the same
+    /// buttons are: releases, and the pointer, as long as there is room. Returns whether nothing is left of it; else the queue held as many
+    /// inputs as it can.
+    pub fn settle<R: Wait>(&self, rt: &R, seat: &mut InputSeat, held: &HeldInputs) -> bool
+        requires { seat.old.queue ≡ self.now.queue }
+        ensures put { (inputs : List Input) × Settles held.now inputs seat.old seat.new }
+        ensures seat { seat.new ≡ record seat.old { accepted = seat.new.accepted } }
+        ensures settled { result ≡ true → HoldsNoMore (held_by seat.new.accepted) held.now }
+    {
+        for _ in rt.forever() {
+            let Some(input) = seat.held.owed(held) else {
+                return true;
+            };
+            if self.put(rt, seat, input).is_err() {
+                return false;
+            }
+        }
+        unreachable!()
+    }
+
+    /// The same for a viewer that has left, and holds nothing.
+    pub fn let_go<R: Wait>(&self, rt: &R, seat: &mut InputSeat) -> bool
+        requires { seat.old.queue ≡ self.now.queue }
+        ensures put { (inputs : List Input) × Settles (let_go (held_by seat.old.accepted)) inputs seat.old seat.new }
+        ensures seat { seat.new ≡ record seat.old { accepted = seat.new.accepted } }
+        ensures settled { result ≡ true → HoldsNoMore (held_by seat.new.accepted) (let_go (held_by seat.old.accepted)) }
+    {
+        let held = seat.held.let_go();
+        self.settle(rt, seat, &held)
     }
 
     /// Takes the input in front. None where the queue was empty at some moment of the call: that it comes
@@ -180,6 +221,39 @@ impl InputHub {
             self.arrival.park(rt);
         }
         unreachable!()
+    }
+
+    /// Takes the input in front, and sleeps until there is one, or the taker is woken by `wake`, or the hub is closed. None where it was
+    /// woken, once what had been put before is taken. A closed hub gives what it still holds, and then tells `AtEnd`, as often as it is asked.
+    pub fn take_or_woken<R: Wait>(&self, rt: &R, taker: &mut Taker) -> Result<Option<Told>, AtEnd>
+        requires { taker.old.queue ≡ self.now.queue }
+        ensures { MatchResult result (λ front. MatchOption front ((taker.new ≡ taker.old) × AllTaken taker.old.taken)
+            (λ told. taker.new ≡ record taker.old { taken = taker.old.taken ++ told ∷ [] }))
+            (λ _. (taker.new ≡ taker.old) × AllTaken taker.old.taken) }
+    {
+        for _ in rt.forever() {
+            if let Some(seen) = self.closing.seen() {
+                return Ok(Some(seen.then_take(rt, self, taker)?));
+            }
+            let is_woken = self.closing.take_wake();
+            if let Some(told) = self.take(rt, taker) {
+                if is_woken {
+                    self.closing.wake();
+                }
+                return Ok(Some(told));
+            }
+            if is_woken {
+                return Ok(None);
+            }
+            self.arrival.park(rt);
+        }
+        unreachable!()
+    }
+
+    /// Wakes the taker, now or when it next sleeps.
+    pub fn wake(&self) {
+        self.closing.wake();
+        self.arrival.unpark();
     }
 
     /// No input is put any more: the taker waits for none. To be called once every seat has put its last.

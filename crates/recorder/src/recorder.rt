@@ -45,7 +45,7 @@ struct Offset {
 
 impl<W: Write + Drop> Recorder<W> {
     /// Makes a recorder of a screen with this configuration, and puts its line. This takes memory for a buffer; later none is taken but
-    /// for the rectangles of a region that hasn't just one.
+    /// for the rectangles of a region.
     pub fn new(alloc: Global, writer: W, config: &Config) -> Result<Recorder<W>, AllocError>
         ensures { IfOk result (λ r. IsScribed (W.contents writer) (screen_line config.now) r) }
     {
@@ -57,6 +57,7 @@ impl<W: Write + Drop> Recorder<W> {
     }
 
     /// Puts the line of a drawing call that happened.
+    #[inline(never)]
     pub fn drew(&mut self, drawing: &Drawing<'_>)
         ensures { Puts (event_line (event_of drawing.now)) self.old self.new }
     {
@@ -89,6 +90,7 @@ impl<W: Write + Drop> Recorder<W> {
     }
 
     /// Puts the line of a viewer that connected.
+    #[inline(never)]
     pub fn connected(&mut self, viewer: u64)
         ensures { Puts (event_line (Event.Connect viewer)) self.old self.new }
     {
@@ -98,6 +100,7 @@ impl<W: Write + Drop> Recorder<W> {
     }
 
     /// Puts the line of a piece of a viewer's bytes that was heard.
+    #[inline(never)]
     pub fn heard(&mut self, viewer: u64, piece: &[u8])
         ensures { Puts (event_line (Event.Hear viewer piece.now)) self.old self.new }
     {
@@ -108,6 +111,7 @@ impl<W: Write + Drop> Recorder<W> {
     }
 
     /// Puts the line of an update that was cut for a viewer.
+    #[inline(never)]
     pub fn cut(&mut self, viewer: u64)
         ensures { Puts (event_line (Event.Cut viewer)) self.old self.new }
     {
@@ -117,6 +121,7 @@ impl<W: Write + Drop> Recorder<W> {
     }
 
     /// Puts the line of a viewer's connection that was closed.
+    #[inline(never)]
     pub fn closed(&mut self, viewer: u64)
         ensures { Puts (event_line (Event.Close viewer)) self.old self.new }
     {
@@ -246,16 +251,22 @@ impl<W: Write + Drop> Recorder<W> {
         self.end_line();
     }
 
+    /// Puts the line of rectangles that were marked at once.
+    fn put_mark_line(&mut self, rects: &[Rect])
+        ensures { Puts (mark_line rects.now) self.old self.new }
+    {
+        match rects {
+            [rect] => self.put_mark(*rect),
+            _ => self.put_marks(rects),
+        }
+    }
+
     /// Puts the line of a region that was marked.
     fn put_marked(&mut self, region: &Region)
         ensures { Puts (mark_line region.now.list) self.old self.new }
     {
-        if let Some(rect) = region.only_rect() {
-            self.put_mark(rect);
-            return;
-        }
         match region.rects(false, false) {
-            Ok(rects) => self.put_marks(rects.as_slice()),
+            Ok(rects) => self.put_mark_line(rects.as_slice()),
             Err(_) => self.scribe.break_off(),
         }
     }
@@ -287,16 +298,22 @@ impl<W: Write + Drop> Recorder<W> {
         self.end_line();
     }
 
-    /// Puts the line of a region that was copied, by one command for a rectangle alone and by another for others.
+    /// Puts the line of rectangles that were copied at once, by one command for a rectangle alone and by another for others.
+    fn put_copy_line(&mut self, one: &[u8], many: &[u8], rects: &[Rect], offset: Offset)
+        ensures { Puts (copy_line one.now many.now rects.now offset.dx offset.dy) self.old self.new }
+    {
+        match rects {
+            [rect] => self.put_copy(one, *rect, offset),
+            _ => self.put_copies(many, rects, offset),
+        }
+    }
+
+    /// Puts the line of a region that was copied.
     fn put_copied(&mut self, one: &[u8], many: &[u8], region: &Region, offset: Offset)
         ensures { Puts (copy_line one.now many.now region.now.list offset.dx offset.dy) self.old self.new }
     {
-        if let Some(rect) = region.only_rect() {
-            self.put_copy(one, rect, offset);
-            return;
-        }
         match region.rects(false, false) {
-            Ok(rects) => self.put_copies(many, rects.as_slice(), offset),
+            Ok(rects) => self.put_copy_line(one, many, rects.as_slice(), offset),
             Err(_) => self.scribe.break_off(),
         }
     }

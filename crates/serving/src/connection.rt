@@ -3,7 +3,8 @@
 ghost use Rattle.std.specs.Prelude.{◌≡◌};
 ghost use Rattle.serving.specs.Reasons.{ended_late};
 
-use crate::open_connections::shut;
+use crate::application::Departed;
+use crate::open_connections::{OpenConnections, shut};
 use crate::opening_time::OpeningStream;
 use crate::serving::Server;
 use input_queue::{InputHub, InputSeat};
@@ -104,7 +105,7 @@ fn serve_open<L: Ledger + Send + Sync, R: Threads + Wait + Clock + Sync>(
     requires viewer { listener.viewer ≡ speaker.viewer }
     ensures { result.viewer ≡ speaker.viewer }
 {
-    let (shared, hub) = (server.shared, server.hub);
+    let (shared, hub, connections) = (server.shared, server.hub, server.connections);
     let (read, write) = thread::scope(
         thread::scope_env(),
         rt,
@@ -113,7 +114,19 @@ fn serve_open<L: Ledger + Send + Sync, R: Threads + Wait + Clock + Sync>(
             requires viewer { seat.viewer ≡ listener.viewer }
             ensures read { result.0.viewer ≡ listener.viewer }
             ensures write { result.1.viewer ≡ speaker.viewer }
-        { serve_halves(rt, shared, listener, speaker, stream, hub, seat, scope) },
+        {
+            serve_halves(
+                rt,
+                shared,
+                listener,
+                speaker,
+                stream,
+                hub,
+                connections,
+                seat,
+                scope,
+            )
+        },
     );
     receipt(Some(read), None, write).0
 }
@@ -127,6 +140,7 @@ fn serve_halves<'s, E, L: Ledger + Send + Sync + 's, R: Threads + Wait + Clock +
     speaker: Speaker,
     stream: &'s TcpStream,
     hub: &InputHub,
+    connections: &OpenConnections,
     seat: InputSeat,
     scope: &Scope<'s, E>,
 ) -> (ReadHalf, WriteHalf)
@@ -143,15 +157,34 @@ fn serve_halves<'s, E, L: Ledger + Send + Sync + 's, R: Threads + Wait + Clock +
     );
     match sender {
         Ok(sender) => {
-            let read = read_half(rt, shared, listener, stream, hub, seat);
+            let read = read_half(rt, shared, listener, stream, hub, connections, seat);
             (read, sender.join(rt))
         }
         Err(refused) => {
             shut(stream);
-            let read = read_half(rt, shared, listener, stream, hub, seat);
+            let read = read_half(rt, shared, listener, stream, hub, connections, seat);
             (read, (refused.value)())
         }
     }
+}
+
+/// Has the application told that what a viewer held is let go. Where its queue is full, this is tried again after a little while, until
+/// there is room, or all connections were shut.
+fn let_go<R: Wait + Clock>(
+    rt: &R,
+    hub: &InputHub,
+    connections: &OpenConnections,
+    seat: &mut InputSeat,
+)
+    requires { seat.old.queue ≡ hub.now.queue }
+{
+    for _ in rt.forever() {
+        if hub.let_go(rt, seat) || connections.are_shut(rt) {
+            return;
+        }
+        thread::sleep(rt, Duration::from_millis(RETRY));
+    }
+    unreachable!()
 }
 
 /// The reader's thread.
@@ -161,6 +194,7 @@ fn read_half<L: Ledger, R: Wait + Clock>(
     listener: Listener,
     stream: &TcpStream,
     hub: &InputHub,
+    connections: &OpenConnections,
     seat: InputSeat,
 ) -> ReadHalf
     requires queue { seat.queue ≡ hub.now.queue }
@@ -168,9 +202,16 @@ fn read_half<L: Ledger, R: Wait + Clock>(
     ensures { result.viewer ≡ listener.viewer }
 {
     let mut reader = stream;
-    let half = serve_reader(rt, shared, listener, &mut reader, hub, seat);
+    let mut half = serve_reader(rt, shared, listener, &mut reader, hub, seat);
     shut(stream);
     close_at_last(rt, shared, half.viewer);
+    let_go(rt, hub, connections, &mut half.seat);
+    let departed = Departed {
+        viewer: half.viewer,
+        dropped: half.dropped,
+    };
+    connections.depart(rt, departed);
+    hub.wake();
     half
 }
 

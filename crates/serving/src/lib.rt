@@ -22,11 +22,11 @@ mod service;
 mod serving;
 mod turning_away;
 
-pub use application::Application;
+pub use application::{Application, Departed};
 pub use input_queue::Told;
 pub use listed::Listed;
 pub use messages::Input;
-pub use serving::{INPUTS, ServeError, serve_viewers};
+pub use serving::{INPUTS, ServeError, serve_viewers, serve_viewers_with_queue};
 pub use update_sender::{
     Brush, Config, Ended, FinishError, History, Rect, Region, Report, ScreenError, Sent, Shared,
     finish,

@@ -2,6 +2,7 @@
 
 ghost use Rattle.std.specs.Prelude.{◌≡◌, true};
 
+use crate::application::Departed;
 use crate::doorbell::{Doorbell, Woken};
 use slab::Slab;
 use std::alloc::{AllocError, Global};
@@ -11,11 +12,13 @@ use std::sync::{Arc, Mutex, Wait};
 /// A connection that its threads and `OpenConnections` share.
 pub(crate) type SharedStream = Arc<TcpStream, Global>;
 
-/// The connections that are served, and the numbers of viewers that ended since somebody asked.
+/// The connections that are served, the numbers of viewers that ended since somebody asked, and those that left since the application
+/// was told.
 #[derive(Drop)]
 struct Streams {
     streams: Slab<SharedStream>,
     ended: Vec<u64>,
+    departed: Vec<Departed>,
     are_shut: bool,
 }
 
@@ -39,11 +42,13 @@ pub(crate) fn shut(stream: &TcpStream) {
 }
 
 impl Streams {
-    /// Keeps a connection, with room for a note of its end. It is shut where all are.
+    /// Keeps a connection, with room for notes of its end. It is shut where all are.
     fn admit(&mut self, stream: &SharedStream) -> Result<Slot, AllocError>
         ensures { self.new.are_shut ≡ self.old.are_shut }
     {
-        self.ended.reserve(self.streams.len().saturating_add(1))?;
+        let further = self.streams.len().saturating_add(1);
+        self.ended.reserve(further)?;
+        self.departed.reserve(further)?;
         let key = self.streams.insert(Arc::try_clone(stream)?)?;
         if self.are_shut {
             shut(stream);
@@ -65,6 +70,24 @@ impl Streams {
         self.leave(slot);
         // There is room since the connection was admitted.
         let _noted = self.ended.push(viewer);
+    }
+
+    /// A viewer that was open is noted as gone.
+    fn depart(&mut self, departed: Departed)
+        ensures { self.new.are_shut ≡ self.old.are_shut }
+    {
+        // There is room since the connection was admitted.
+        let _noted = self.departed.push(departed);
+    }
+
+    /// The earliest of those that left, which is noted no longer.
+    fn take_departed(&mut self) -> Option<Departed>
+        ensures { self.new.are_shut ≡ self.old.are_shut }
+    {
+        if self.departed.is_empty() {
+            return None;
+        }
+        Some(self.departed.remove(0))
     }
 
     /// Shuts one connection.
@@ -92,6 +115,7 @@ impl OpenConnections {
         let streams = Streams {
             streams: Slab::new(alloc),
             ended: Vec::new(alloc),
+            departed: Vec::new(alloc),
             are_shut: false,
         };
         Some(OpenConnections {
@@ -124,6 +148,16 @@ impl OpenConnections {
     /// A viewer that has ended since, each once.
     pub fn take_ended<R: Wait>(&self, rt: &R) -> Option<u64> {
         self.streams.lock(rt).ended.pop()
+    }
+
+    /// A viewer that was open has left, and its last input was put.
+    pub fn depart<R: Wait>(&self, rt: &R, departed: Departed) {
+        self.streams.lock(rt).depart(departed);
+    }
+
+    /// A viewer that has left since, the earliest first, each once.
+    pub fn take_departed<R: Wait>(&self, rt: &R) -> Option<Departed> {
+        self.streams.lock(rt).take_departed()
     }
 
     /// Whether no connection is served, or all were shut.

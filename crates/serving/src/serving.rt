@@ -1,6 +1,6 @@
 //! The whole server: a thread that accepts, threads for each viewer, and the application's.
 
-ghost use Rattle.std.specs.Prelude.{◌≡◌, All, IfOk, length};
+ghost use Rattle.std.specs.Prelude.{◌≡◌, All, IfOk, length, max, min};
 ghost use Rattle.serving.specs.Serving.{AreNumbered, AreSeated};
 
 use crate::accepting::{accept_all, end_all};
@@ -18,8 +18,8 @@ use std::thread::{Promise, Scope, Threads};
 use std::time::Clock;
 use update_sender::{Brush, Shared};
 
-/// How many inputs may wait for the application. One that comes while so many wait is dropped.
-pub const INPUTS: usize = 1024;
+/// How many inputs may wait for the application where nothing else is said. One that comes while so many wait is dropped.
+pub const INPUTS: usize = 65_536;
 
 /// Why a server ended before its viewers did.
 #[derive(Clone, Copy, Debug, PartialEq, Eq)]
@@ -66,15 +66,15 @@ struct Seating {
     seats: Vec<InputSeat>,
 }
 
-/// A queue for so many viewers.
-fn seating_for(alloc: Global, viewers: u64) -> Result<Seating, AllocError>
+/// A queue for so many viewers, of so many inputs, 1 to 65,536.
+fn seating_for(alloc: Global, viewers: u64, inputs: usize) -> Result<Seating, AllocError>
     ensures taker { IfOk result (λ q. q.taker.queue ≡ q.hub.queue) }
     ensures seats { IfOk result (λ q. All (λ s. s.queue ≡ q.hub.queue) q.seats.items) }
     ensures seated { IfOk result (λ q. AreSeated viewers q.seats.items) }
-    ensures capacity { IfOk result (λ q. q.hub.capacity ≡ 1024) }
+    ensures capacity { IfOk result (λ q. q.hub.capacity ≡ min (max inputs 1) 65536) }
 {
     // the capacity is one that a hub may have
-    let Ok((mut hub, taker)) = InputHub::new(alloc, INPUTS) else {
+    let Ok((mut hub, taker)) = InputHub::new(alloc, inputs.max(1).min(INPUTS)) else {
         return Err(AllocError);
     };
     let mut seats = Vec::new(alloc);
@@ -145,7 +145,7 @@ where
     let Ok(accepting) = accepting else {
         return Err(ServeError::Network);
     };
-    let drawn = run_application(rt, shared, brush, hub, &mut taker, application);
+    let drawn = run_application(rt, shared, brush, hub, connections, &mut taker, application);
     if drawn.is_err() {
         end_all(rt, server);
     }
@@ -165,6 +165,8 @@ where
 /// application ends the server.
 ///
 /// Where a call of the screen is refused, as one of the application's, all connections are shut, and everything ends.
+///
+/// 65,536 inputs may wait for the application. It is told when a viewer left, and how many of its inputs were dropped.
 pub fn serve_viewers<L, A, R>(
     rt: &R,
     alloc: Global,
@@ -180,7 +182,37 @@ where
     R: Threads + Wait + Net + Clock + Sync,
     ensures { IfOk result (λ receipts. AreNumbered viewers receipts.items) }
 {
-    let Seating { hub, taker, seats } = seating_for(alloc, viewers)?;
+    serve_viewers_with_queue(
+        rt,
+        alloc,
+        listener,
+        shared,
+        brush,
+        viewers,
+        INPUTS,
+        application,
+    )
+}
+
+/// `serve_viewers`, where so many inputs may wait for the application, at least 1 and at most 65,536. One takes 112 bytes, which are taken
+/// for all at the start.
+pub fn serve_viewers_with_queue<L, A, R>(
+    rt: &R,
+    alloc: Global,
+    listener: &TcpListener,
+    shared: &Shared<L>,
+    brush: &mut Brush<L>,
+    viewers: u64,
+    inputs: usize,
+    application: &mut A,
+) -> Result<Vec<Receipt>, ServeError>
+where
+    L: Ledger + Send + Sync,
+    A: Application<L>,
+    R: Threads + Wait + Net + Clock + Sync,
+    ensures { IfOk result (λ receipts. AreNumbered viewers receipts.items) }
+{
+    let Seating { hub, taker, seats } = seating_for(alloc, viewers, inputs)?;
     let Some(connections) = OpenConnections::new(alloc) else {
         return Err(ServeError::Network);
     };

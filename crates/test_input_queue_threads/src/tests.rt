@@ -30,14 +30,14 @@ fn inputs_come_in_the_order_of_the_puts(rt: HostRuntime) -> Result<(), Fail> {
     let (mut hub, mut taker) = InputHub::new(rt.alloc(), 2)?;
     let mut one = hub.seat(1);
     let mut two = hub.seat(2);
-    assert!(rt; hub.take(&rt, &mut taker).is_none());
+    assert!(rt; take_next(&rt, &hub, &mut taker, false).is_none());
     assert!(rt; hub.put(&rt, &mut one, key(1)).is_ok());
     assert!(rt; hub.put(&rt, &mut two, key(2)).is_ok());
     let back = hub.put(&rt, &mut one, key(3));
     assert!(rt; matches!(back, Err(Full(Input::Key { down: true, key: 3 }))));
-    let first = hub.take(&rt, &mut taker);
-    let second = hub.take(&rt, &mut taker);
-    let third = hub.take(&rt, &mut taker);
+    let first = take_next(&rt, &hub, &mut taker, false);
+    let second = take_next(&rt, &hub, &mut taker, false);
+    let third = take_next(&rt, &hub, &mut taker, false);
     assert!(rt; is_key(first.as_ref(), 1, 1) && is_key(second.as_ref(), 2, 2) && third.is_none());
     assert!(rt; hub.put(&rt, &mut two, key(4)).is_ok());
     assert!(rt; hub.put(&rt, &mut one, key(5)).is_ok());
@@ -47,6 +47,78 @@ fn inputs_come_in_the_order_of_the_puts(rt: HostRuntime) -> Result<(), Fail> {
     let left = hub.join(&rt, taker, seats)?;
     let left = left.items.as_slice();
     assert!(rt; left.len() == 2 && is_key(left.first(), 2, 4) && is_key(left.last(), 1, 5));
+    Ok(())
+}
+
+// What a viewer holds is let go, as far as there is room, and then the rest: a key's release, and the pointer where it was.
+#[test]
+fn what_is_held_is_let_go(rt: HostRuntime) -> Result<(), Fail> {
+    let (mut hub, mut taker) = InputHub::new(rt.alloc(), 2)?;
+    let mut seat = hub.seat(7);
+    let pointer = Input::Pointer {
+        mask: 5,
+        x: 2,
+        y: 3,
+    };
+    assert!(rt; hub.put(&rt, &mut seat, key(1)).is_ok());
+    assert!(rt; hub.put(&rt, &mut seat, pointer).is_ok());
+    assert!(rt; !hub.let_go(&rt, &mut seat));
+    assert!(rt; is_key(take_next(&rt, &hub, &mut taker, false).as_ref(), 7, 1));
+    assert!(rt; !hub.let_go(&rt, &mut seat));
+    let pressed = take_next(&rt, &hub, &mut taker, false);
+    assert!(rt;
+        matches!(
+            pressed,
+            Some(Told {
+                input: Input::Pointer { mask: 5, .. },
+                ..
+            })
+        )
+    );
+    assert!(rt; hub.let_go(&rt, &mut seat));
+    let up = take_next(&rt, &hub, &mut taker, false);
+    assert!(rt;
+        matches!(
+            up,
+            Some(Told {
+                viewer: 7,
+                input: Input::Key {
+                    down: false,
+                    key: 1
+                }
+            })
+        )
+    );
+    let free = take_next(&rt, &hub, &mut taker, false);
+    assert!(rt;
+        matches!(
+            free,
+            Some(Told {
+                viewer: 7,
+                input: Input::Pointer {
+                    mask: 0,
+                    x: 2,
+                    y: 3
+                }
+            })
+        )
+    );
+    assert!(rt; hub.let_go(&rt, &mut seat) && take_next(&rt, &hub, &mut taker, false).is_none());
+    Ok(())
+}
+
+// A taker that is woken finds nothing, after what was put before; a closed hub is at its end.
+#[test]
+fn a_taker_is_woken(rt: HostRuntime) -> Result<(), Fail> {
+    let (mut hub, mut taker) = InputHub::new(rt.alloc(), 2)?;
+    let mut seat = hub.seat(7);
+    assert!(rt; hub.put(&rt, &mut seat, key(1)).is_ok());
+    hub.wake();
+    let first = hub.take_or_woken(&rt, &mut taker);
+    assert!(rt; matches!(&first, Ok(Some(told)) if is_key(Some(told), 7, 1)));
+    assert!(rt; matches!(hub.take_or_woken(&rt, &mut taker), Ok(None)));
+    hub.close();
+    assert!(rt; hub.take_or_woken(&rt, &mut taker).is_err());
     Ok(())
 }
 

@@ -5,13 +5,15 @@ ghost use Rattle.messages.specs.declared.Input.{Input};
 ghost use Rattle.receipts.specs.declared.Ended.TheVariants as ended;
 ghost use Rattle.update_sender.specs.Ends.{all_of};
 ghost use Rattle.update_sender.specs.Ends.{Listening, counted};
-ghost use Rattle.update_sender.specs.Inputs.{Puts};
+ghost use Rattle.held_inputs.specs.Held.{after, roomy};
+ghost use Rattle.update_sender.specs.Inputs.{Puts, PutsBetween};
 ghost use Rattle.update_sender.specs.Serving.{Hears, ReadingEnds};
 
 use crate::hearing::hear_piece;
 use crate::line::Listener;
 use crate::reasons::no_fault;
 use crate::shared::Shared;
+use held_inputs::{Change, HeldInputs};
 use input_queue::{InputHub, InputSeat};
 use listed::Listed;
 use messages::Input;
@@ -39,7 +41,8 @@ pub struct ReadHalf {
 }
 
 /// Reads pieces of at most 4,096 bytes, hears each, and puts its inputs at the seat, the listener's waiting ones first. An
-/// input that meets a full queue is dropped and counted. It ends, and closes the viewer, where the reader is at its end, a
+/// input that meets a full queue is dropped and counted. Where a release was dropped, or a press or a release of a button, that is made
+/// good with what is heard next of the viewer: the application is told the key's release, or the pointer as it is. It ends, and closes the viewer, where the reader is at its end, a
 /// read fails, memory is refused, the viewer was closed by somebody else, or it says what no message says. Where the closing is
 /// refused for memory, it ends all the same, and the viewer stays (`Shared::close`).
 pub fn serve_reader<L: Ledger, Rd: Read, R: Wait>(
@@ -62,8 +65,9 @@ pub fn serve_reader<L: Ledger, Rd: Read, R: Wait>(
     ensures seat { result.seat ≡ record seat { accepted = result.seat.accepted } }
 {
     let waiting = listener.take_waiting();
-    let dropped = put_all(rt, hub, &mut seat, waiting);
-    let (ended, more) = hear_all(rt, shared, &mut listener, reader, hub, &mut seat);
+    let mut held = HeldInputs::new();
+    let dropped = put_all(rt, hub, &mut seat, &mut held, waiting);
+    let (ended, more) = hear_all(rt, shared, &mut listener, reader, hub, &mut seat, &mut held);
     let _closed = shared.close(rt, listener.viewer);
     ReadHalf {
         viewer: listener.viewer,
@@ -88,34 +92,101 @@ fn put_one<R: Wait>(rt: &R, hub: &InputHub, seat: &mut InputSeat, input: Input) 
     }
 }
 
-/// Puts inputs in order. How many met a full queue.
-fn put_all<R: Wait>(rt: &R, hub: &InputHub, seat: &mut InputSeat, inputs: Listed<Input>) -> u64
+/// Puts inputs in order. How many met a full queue. What their viewer holds is known behind them.
+fn put_all<R: Wait>(
+    rt: &R,
+    hub: &InputHub,
+    seat: &mut InputSeat,
+    held: &mut HeldInputs,
+    inputs: Listed<Input>,
+) -> u64
     requires { seat.old.queue ≡ hub.now.queue }
     ensures puts { (dropped : ℕ) × Puts inputs seat.old seat.new dropped × (result ≡ counted dropped) }
     ensures seat { seat.new ≡ record seat.old { accepted = seat.new.accepted } }
 {
     let mut dropped = 0u64;
     for input in inputs.into_vec() {
+        held.change(Change::of(&input));
         dropped = dropped.saturating_add(put_one(rt, hub, seat, input));
     }
     dropped
 }
 
-/// Puts the inputs of a piece that was heard, and adds how many met a full queue. Why reading ends with it, if it does.
+/// Puts an input of a viewer behind what is left to be told of what it held before. How many met a full queue, 0 or 1.
+fn put_behind<R: Wait>(
+    rt: &R,
+    hub: &InputHub,
+    seat: &mut InputSeat,
+    held: &HeldInputs,
+    input: Input,
+) -> u64
+    requires { seat.old.queue ≡ hub.now.queue }
+    ensures puts { PutsBetween (input ∷ []) seat.old seat.new result }
+    ensures few { result ≤ 1 }
+{
+    if hub.settle(rt, seat, held) {
+        put_one(rt, hub, seat, input)
+    } else {
+        1
+    }
+}
+
+/// The same, and what the viewer holds is known behind it. So that another key can go down, its earliest is let go before, where it holds
+/// as many as are known.
+fn put_next<R: Wait>(
+    rt: &R,
+    hub: &InputHub,
+    seat: &mut InputSeat,
+    held: &mut HeldInputs,
+    input: Input,
+) -> u64
+    requires { seat.old.queue ≡ hub.now.queue }
+    ensures puts { PutsBetween (input ∷ []) seat.old seat.new result }
+    ensures held { held.new ≡ after (roomy held.old) input }
+    ensures few { result ≤ 1 }
+{
+    let change = Change::of(&input);
+    held.make_room();
+    let dropped = put_behind(rt, hub, seat, held, input);
+    held.change(change);
+    dropped
+}
+
+/// The same of inputs in order.
+fn put_each<R: Wait>(
+    rt: &R,
+    hub: &InputHub,
+    seat: &mut InputSeat,
+    held: &mut HeldInputs,
+    inputs: Listed<Input>,
+) -> u64
+    requires { seat.old.queue ≡ hub.now.queue }
+    ensures { (dropped : ℕ) × PutsBetween inputs seat.old seat.new dropped × (result ≡ counted dropped) }
+{
+    let mut dropped = 0u64;
+    for input in inputs.into_vec() {
+        dropped = dropped.saturating_add(put_next(rt, hub, seat, held, input));
+    }
+    dropped
+}
+
+/// Puts the inputs of a piece that was heard, and what is left to be told, and adds how many met a full queue. Why reading ends with it,
+/// if it does.
 fn take_in<R: Wait>(
     rt: &R,
     hub: &InputHub,
     seat: &mut InputSeat,
+    held: &mut HeldInputs,
     dropped: &mut u64,
     answer: Answer,
 ) -> Result<(), Ended>
     requires { seat.old.queue ≡ hub.now.queue }
-    ensures puts { (more : ℕ) × Puts answer.inputs seat.old seat.new more ×
+    ensures puts { (more : ℕ) × PutsBetween answer.inputs seat.old seat.new more ×
         (dropped.new ≡ counted (dropped.old + counted more)) }
-    ensures seat { seat.new ≡ record seat.old { accepted = seat.new.accepted } }
     ensures fault { MatchOption answer.closed (IsOk result) (λ fault. result ≡ Err (ended.Fault fault)) }
 {
-    *dropped = dropped.saturating_add(put_all(rt, hub, seat, answer.inputs));
+    *dropped = dropped.saturating_add(put_each(rt, hub, seat, held, answer.inputs));
+    hub.settle(rt, seat, held);
     no_fault(answer.closed)
 }
 
@@ -127,6 +198,7 @@ fn hear_all<L: Ledger, Rd: Read, R: Wait>(
     reader: &mut Rd,
     hub: &InputHub,
     seat: &mut InputSeat,
+    held: &mut HeldInputs,
 ) -> (Ended, u64)
     requires { seat.old.queue ≡ hub.now.queue }
     ensures heard { (unheard : List ℕ) ×
@@ -142,7 +214,7 @@ fn hear_all<L: Ledger, Rd: Read, R: Wait>(
             Ok(heard) => heard.answer,
             Err(ended) => return (ended, dropped),
         };
-        if let Err(ended) = take_in(rt, hub, seat, &mut dropped, answer) {
+        if let Err(ended) = take_in(rt, hub, seat, held, &mut dropped, answer) {
             return (ended, dropped);
         }
     }

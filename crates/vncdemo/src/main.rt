@@ -136,6 +136,25 @@ fn stop_at_end<R: Threads>(rt: &R, alloc: Global) -> io::Result<Arc<AtomicBool, 
     }
 }
 
+/// The same, where it is wanted.
+fn stop_if<R: Threads>(
+    rt: &R,
+    alloc: Global,
+    ends_with_input: bool,
+) -> io::Result<Option<Arc<AtomicBool, Global>>> {
+    if !ends_with_input {
+        return Ok(None);
+    }
+    Ok(Some(stop_at_end(rt, alloc)?))
+}
+
+/// Says why viewers aren't served, and gives the status. It is the same where this can't be written.
+fn not_served<W: Write>(writer: &mut W, why: &[u8], status: u8) -> u8 {
+    let _ = writer.write_all(why);
+    let _ = writer.flush();
+    status
+}
+
 fn serve_by_one<W: Write, R: Runtime + Threads + Net + Files<File = File>>(
     rt: &R,
     alloc: Global,
@@ -146,18 +165,13 @@ fn serve_by_one<W: Write, R: Runtime + Threads + Net + Files<File = File>>(
 ) -> io::Result<u8> {
     let address = SocketAddr::from((Ipv4Addr::LOCALHOST, port));
     let listener = mio::net::TcpListener::bind(rt, address)?;
+    let Ok(stop) = stop_if(rt, alloc, besides.ends_with_input) else {
+        return Ok(not_served(writer, b"out of memory\n", 3));
+    };
     let Ok(record) = record_in(rt, options, besides.record) else {
-        // The status is the same where this can't be written.
-        let _ = writer.write_all(b"cannot record\n");
-        let _ = writer.flush();
-        return Ok(5);
+        return Ok(not_served(writer, b"cannot record\n", 5));
     };
     say_where(rt, options, listener.local_addr());
-    let stop = if besides.ends_with_input {
-        Some(stop_at_end(rt, alloc)?)
-    } else {
-        None
-    };
     let besides = OneThread {
         record,
         forever: besides.forever,

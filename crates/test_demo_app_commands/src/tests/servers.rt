@@ -9,7 +9,7 @@ use demo_app::{
 };
 use listed::Listed;
 use serving::{
-    Application, Brush, Config, History, Input, ScreenError, ServeError, Shared, Told,
+    Application, Brush, Config, Departed, History, Input, ScreenError, ServeError, Shared, Told,
     serve_viewers,
 };
 use std::alloc::{AllocError, Global};
@@ -233,6 +233,16 @@ fn ends_on<
     Ok(talked? && matches!(served, Err(ServeError::Screen(ScreenError::TextTooLong))))
 }
 
+fn small_screen(alloc: Global) -> Result<Config, AllocError> {
+    Ok(Config {
+        width: 4,
+        height: 3,
+        name: Listed::from_slice(alloc, b"demo")?,
+        rects_per_update: 50,
+        history: History::NotKept,
+    })
+}
+
 fn ends_with_ledger<
     L: Ledger + Send + Sync,
     R: Threads + Wait + Clock + Net<Listener = TcpListener, Stream = TcpStream> + Sync,
@@ -241,14 +251,7 @@ fn ends_with_ledger<
     requires parts { blank.parts ≡ L.parts }
     requires some { 0 < L.parts }
 {
-    let config = Config {
-        width: 4,
-        height: 3,
-        name: Listed::from_slice(alloc, b"demo")?,
-        rects_per_update: 50,
-        history: History::NotKept,
-    };
-    let (shared, mut brush) = Shared::<L>::new(alloc, blank, config)?;
+    let (shared, mut brush) = Shared::<L>::new(alloc, blank, small_screen(alloc)?)?;
     Ok(ends_on(rt, alloc, &shared, &mut brush)?)
 }
 
@@ -262,6 +265,110 @@ fn ends<R: Threads + Wait + Clock + Net<Listener = TcpListener, Stream = TcpStre
 #[test]
 fn a_refusal_ends_everything(rt: HostRuntime) -> Result<(), Fail> {
     assert!(rt; ends(&rt, rt.alloc())?);
+    Ok(())
+}
+
+/// An application that notes what it is told.
+#[derive(Drop)]
+struct Noting {
+    noted: Vec<u8>,
+}
+
+impl<L: Ledger> Application<L> for Noting {
+    fn on_input<R: Wait>(
+        &mut self,
+        _rt: &R,
+        _shared: &Shared<L>,
+        _brush: &mut Brush<L>,
+        told: &Told,
+    ) -> Result<(), ScreenError> {
+        let word: &[u8] = match &told.input {
+            Input::Key { down: true, .. } => b"down ",
+            Input::Key { down: false, .. } => b"up ",
+            Input::Pointer {
+                mask: 0,
+                x: 2,
+                y: 1,
+            } => b"free ",
+            Input::Pointer { .. } => b"pressed ",
+            Input::Text { .. } => b"text ",
+        };
+        self.noted.extend_from_slice(word)?;
+        Ok(())
+    }
+
+    fn left<R: Wait>(
+        &mut self,
+        _rt: &R,
+        _shared: &Shared<L>,
+        _brush: &mut Brush<L>,
+        departed: Departed,
+    ) -> Result<(), ScreenError> {
+        let word: &[u8] = match departed {
+            Departed {
+                viewer: 1,
+                dropped: 0,
+            } => b"left",
+            _ => b"another left",
+        };
+        self.noted.extend_from_slice(word)?;
+        Ok(())
+    }
+}
+
+// A client that goes away with a key and a button down (7.5.4 and 7.5.5).
+const HOLDING: &[Client] = &[Client {
+    steps: &[
+        (OPENING, GREETING),
+        (b"\x04\x01\0\0\0\0\xff\x0d\x05\x01\0\x02\0\x01", b""),
+    ],
+    shut: None,
+}];
+
+// Whether the application is told what the client held as let go, and then that it left.
+fn is_let_go<
+    L: Ledger + Send + Sync,
+    R: Threads + Wait + Clock + Net<Listener = TcpListener, Stream = TcpStream> + Sync,
+>(rt: &R, alloc: Global, shared: &Shared<L>, brush: &mut Brush<L>) -> io::Result<bool> {
+    let listener = rt.bind(SocketAddr::from((Ipv4Addr::LOCALHOST, 0)))?;
+    let address = listener.local_addr()?;
+    let mut noting = Noting {
+        noted: Vec::new(alloc),
+    };
+    let (talked, served) = thread::join(
+        rt,
+        move || talk_all(rt, alloc, address, HOLDING, true),
+        || serve_viewers(rt, alloc, &listener, shared, brush, 1, &mut noting),
+    );
+    Ok(
+        talked?
+            && served.is_ok()
+            && noting.noted.as_slice() == b"down pressed up free left".as_slice(),
+    )
+}
+
+fn is_let_go_with_ledger<
+    L: Ledger + Send + Sync,
+    R: Threads + Wait + Clock + Net<Listener = TcpListener, Stream = TcpStream> + Sync,
+>(rt: &R, alloc: Global, blank: Blank) -> Result<bool, Fail>
+    requires name { blank.name ≡ L.name }
+    requires parts { blank.parts ≡ L.parts }
+    requires some { 0 < L.parts }
+{
+    let (shared, mut brush) = Shared::<L>::new(alloc, blank, small_screen(alloc)?)?;
+    Ok(is_let_go(rt, alloc, &shared, &mut brush)?)
+}
+
+fn lets_go<R: Threads + Wait + Clock + Net<Listener = TcpListener, Stream = TcpStream> + Sync>(
+    rt: &R,
+    alloc: Global,
+) -> Result<bool, Fail> {
+    is_let_go_with_ledger::<Brand, R>(rt, alloc, Blank::new(1))
+}
+
+#[test]
+fn what_a_viewer_held_is_let_go(rt: HostRuntime) -> Result<(), Fail> {
+    assert!(rt; lets_go(&rt, rt.alloc())?);
     Ok(())
 }
 
