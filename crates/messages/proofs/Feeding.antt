@@ -14,7 +14,7 @@ use Rattle.messages.specs.declared.ear.Prepared.{Prepared}
 use Rattle.messages.specs.declared.text.Text.{Text}
 use Rattle.messages.specs.Grammar.{text_limit}
 use Rattle.messages.specs.Partial.{rest_at, unfinished_text}
-use Rattle.messages.specs.Progress.{Progress, becomes, text_goes_on, advanced, CanAdvance}
+use Rattle.messages.specs.Progress.{Progress, text_goes_on, advanced, CanAdvance}
 use Rattle.messages.proofs.Bulk.{text_waits, fault_stays}
 use Rattle.messages.proofs.Telling.{heard_tells}
 
@@ -76,16 +76,6 @@ keeping_foretells r p t piece e more short q f =
       items = ap (λ (x : Prepared). x.heard.items) f ∙ sym (ap (λ (u : Told). u.items) told);
       fault = ap (λ (x : Prepared). x.heard.fault) f ∙ sym (ap (λ (u : Told). fault_in_rest u.rest) told);
       rest = ap (λ (x : Prepared). advanced r x.change) f ∙ ap (λ (s : Rest). advanced s (text_goes_on piece)) e ∙ sym (ap (λ (u : Told). u.rest) told);
-    }
-
--- what was read
-pub reading_foretells : (r s : Rest) (piece : List ℕ) → r ≡ s
-    → (q : Prepared) → q ≡ record { heard = record { items = (tells s piece).items; fault = fault_in_rest (tells s piece).rest }; change = becomes (tells s piece).rest } → Foretells r piece q
-reading_foretells r s piece e q f =
-    record {
-      items = ap (λ (x : Prepared). x.heard.items) f ∙ sym (ap (λ (u : Rest). (tells u piece).items) e);
-      fault = ap (λ (x : Prepared). x.heard.fault) f ∙ sym (ap (λ (u : Rest). fault_in_rest (tells u piece).rest) e);
-      rest = ap (λ (x : Prepared). advanced r x.change) f ∙ sym (ap (λ (u : Rest). (tells u piece).rest) e);
     }
 
 pub foretold_items : (s piece : List ℕ) (r : Rest) → r ≡ rest s → (p : Prepared) → Foretells r piece p → p.heard.items ≡ new_items s piece

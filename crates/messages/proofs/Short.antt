@@ -1,5 +1,6 @@
 -- Messages of few bytes that are whole tell their item.
-use Rattle.std.proofs.Common.{◌≡◌, ℕ, ◌≤◌, List, [], ◌∷◌, ◌++◌, length, drop, slice_index, refl, sym, ap, ◌∙◌, arith, append_assoc}
+use Rattle.std.proofs.Common.{◌≡◌, ℕ, ◌≤◌, List, [], ◌∷◌, ◌++◌, ◌-◌, length, take, drop, slice_index, refl, sym, ap, ◌∙◌, arith, append_assoc}
+use Rattle.std.proofs.lemmas.List.{take_rest}
 use Rattle.messages.specs.declared.Version.{Version}
 use Rattle.messages.specs.declared.Item.{Item}
 use Rattle.messages.specs.declared.Phase.TheVariants as phase
@@ -64,3 +65,11 @@ request_tells items others i bytes h k e g =
       | ten_cells x m a b c d p q r s t f ↦
           tell items others (request_in bytes) i bytes (drop 10 bytes) (λ v. rw f (request_cells v x m a b c d p q r s t (rw f at k))) e g
     ]
+
+-- items and what is left of a piece, once a message more is read
+pub one_more : (first items new others : List Item) (piece left : List ℕ) (used n : ℕ) → others ≡ new → used ≡ n → TellSame first piece items left → TellSame items left new (drop n left)
+    → TellSame first piece others (take (length left - used) (drop used left))
+one_more first items new others piece left used n e f before told =
+    λ v. ap (λ (bytes : List ℕ). adds others (tells (fresh (phase.Open v)) bytes)) (take_rest left used ∙ ap (λ (k : ℕ). drop k left) f)
+    ∙ ap (λ (is : List Item). adds is (tells (fresh (phase.Open v)) (drop n left))) e
+    ∙ told v ∙ before v

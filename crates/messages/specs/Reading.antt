@@ -19,7 +19,7 @@ use Rattle.messages.specs.declared.Fault.TheVariants as fault
 use Rattle.messages.specs.Grammar.{version_text, version_of, first_encoding, lists_copyrect, lists_desktop_size, text_limit, after, End, waiting, faulty, Stream}
 
 -- 7.5: how many bytes a message has, by its type and by the count or the length in it
-abbrev pub length_by : ℕ → ℕ → ℕ → ℕ
+abbrev pub length_by : (kind count long : ℕ) → ℕ
 length_by kind count long =
     if kind == 0 then 20
     else (if kind == 2 then 4 + 4 * count

@@ -111,20 +111,20 @@ number_in bytes = cast_signed w32 (be32_at bytes 0)
 abbrev pub with_number : Given → ℤ → Given
 with_number given number = record { first = option_or given.first (encoding_of number); copyrect = given.copyrect || is_copyrect number; resize = given.resize || is_desktop_size number }
 
--- so many numbers have come, of so many
-abbrev pub numbers_tell : Phase → ℕ → ℕ → Given → Told
+-- of `count` numbers `come` have come
+abbrev pub numbers_tell : Phase → (count come : ℕ) → Given → Told
 numbers_tell p count come given =
     if come == count then says p (item.Encodings (unwrap_or given.first Raw) given.copyrect given.resize)
     else keeps p (encodings count come given [])
 
 -- the bytes of the next number
-abbrev pub number_tells : Phase → ℕ → ℕ → Given → List ℕ → Told
+abbrev pub number_tells : Phase → (count come : ℕ) → Given → (number : List ℕ) → Told
 number_tells p count come given bytes =
     if nat_lt (length bytes) 4 then keeps p (encodings count come given bytes)
     else numbers_tell p count (come + 1) (with_number given (number_in bytes))
 
--- 7.5.6: so many bytes of a text have come, of so many
-abbrev pub text_tells : Phase → ℕ → List ℕ → ℕ → Told
+-- 7.5.6: of the `long` bytes of a text `come` have come
+abbrev pub text_tells : Phase → (long : ℕ) (text : List ℕ) (come : ℕ) → Told
 text_tells p long kept come =
     if come == long then says p (item.Input (input.Text kept (nat_lt text_limit long)))
     else keeps p (cut_text long kept come)

@@ -1,12 +1,10 @@
 //! The reader of a viewer's bytes.
 ghost use Rattle.std.specs.Prelude.{◌≡◌, ℕ, List, [], ◌++◌, IfOk, IfSome, OnOk, OnErr};
 ghost use Rattle.messages.specs.Reading.{rest, fault_in_rest, is_open_rest, fault_of, new_items, heard};
-ghost use Rattle.messages.specs.Steps.{IsShort, tells};
-ghost use Rattle.messages.specs.Progress.{becomes, text_goes_on, advanced, CanAdvance};
-ghost use Rattle.messages.specs.Partial.{unfinished_in, rest_in};
+ghost use Rattle.messages.specs.Progress.{text_goes_on, advanced, CanAdvance};
 
 use crate::partial::Partial;
-use crate::reading::{Reading, hear};
+use crate::reading::Reading;
 use crate::{Fault, Heard, Phase};
 use arrayvec::ArrayVec;
 use listed::Listed;
@@ -73,7 +71,7 @@ pub struct Prepared {
     pub change: Change,
 }
 
-/// A text goes on by a piece that doesn't end it.
+/// Prepares a text to go on by `piece`, which doesn't end it.
 fn keep_on(alloc: Global, piece: &[u8]) -> Result<Prepared, AllocError>
     ensures { IfOk result (λ p. p ≡ record { heard = record { items = []; fault = None }; change = text_goes_on piece.now }) }
 {
@@ -88,37 +86,8 @@ fn keep_on(alloc: Global, piece: &[u8]) -> Result<Prepared, AllocError>
     })
 }
 
-/// A piece is read behind what is kept.
-fn read_on(
-    alloc: Global,
-    phase: Phase,
-    partial: &Partial,
-    piece: &[u8],
-) -> Result<Prepared, AllocError>
-    requires { IsShort phase (unfinished_in partial.now) }
-    ensures { let told = tells (rest_in phase partial.now) piece.now in
-        IfOk result (λ p. p ≡ record
-        { heard = record { items = told.items; fault = fault_in_rest told.rest }; change = becomes told.rest }) }
-{
-    let Reading {
-        phase,
-        partial,
-        items,
-    } = hear(alloc, phase, partial, piece)?;
-    let fault = partial.fault();
-    Ok(Prepared {
-        heard: Heard {
-            items: Listed::from_vec(items),
-            fault,
-        },
-        change: Change {
-            kind: Kind::Becomes(phase, partial),
-        },
-    })
-}
-
 impl Ear {
-    /// An ear that has heard nothing.
+    /// Returns an ear that has heard nothing.
     pub fn new(alloc: Global) -> Ear
         ensures { result ≡ rest [] }
     {
@@ -129,7 +98,7 @@ impl Ear {
         }
     }
 
-    /// An ear that has heard the same. An error is want of memory, which only a part of a text takes.
+    /// Returns an ear that has heard the same. `AllocError` where memory is refused, which only a part of a text takes.
     pub fn try_clone(&self) -> Result<Ear, AllocError>
         ensures { IfOk result (λ ear. ear ≡ self.now) }
     {
@@ -140,32 +109,32 @@ impl Ear {
         })
     }
 
-    /// Where the conversation stands.
+    /// Returns where the conversation stands.
     pub fn phase(&self) -> Phase
         ensures { result ≡ self.now.phase }
     {
         self.phase
     }
 
-    /// The fault behind which nothing is heard, if there is one.
+    /// Returns the fault behind which nothing is heard, if there is one.
     pub fn fault(&self) -> Option<Fault>
         ensures { result ≡ fault_in_rest self.now }
     {
         self.partial.fault()
     }
 
-    /// Whether the ServerInit has been earned, and there is no fault (RFC 6143 section 7.3.2).
+    /// Tells whether the ServerInit has been earned, and there is no fault (RFC 6143 section 7.3.2).
     pub fn is_open(&self) -> bool
         ensures { result ≡ is_open_rest self.now }
     {
         self.partial.fault().is_none() && matches!(self.phase, Phase::Open(_))
     }
 
-    /// What a piece of the viewer's bytes would tell, and what the ear would become: the items that end in the piece, and
-    /// the fault that the viewer has then. Behind a fault nothing is read, and each further piece gives that fault again. It
-    /// doesn't matter how the bytes are cut into pieces.
+    /// Prepares to hear a piece of the viewer's bytes: returns the items that end in it, the fault that the viewer has then, and what the
+    /// ear would become. Behind a fault nothing is read, and each further piece gives that fault again. It doesn't matter how the bytes
+    /// are cut into pieces.
     ///
-    /// An error is want of memory. What is kept of a text that the piece doesn't end is not copied.
+    /// `AllocError` where memory is refused. What is kept of a text that the piece doesn't end is not copied.
     pub fn prepare(&self, piece: &[u8]) -> Result<Prepared, AllocError>
         ensures items { (s : List ℕ) → self.now ≡ rest s → IfOk result (λ p. p.heard.items ≡ new_items s piece.now) }
         ensures fault { (s : List ℕ) → self.now ≡ rest s →
@@ -177,12 +146,26 @@ impl Ear {
     {
         match &self.partial {
             Partial::Text(text) if piece.len() < text.missing() => keep_on(self.alloc, piece),
-            partial => read_on(self.alloc, self.phase, partial, piece),
+            partial => {
+                let Reading {
+                    phase,
+                    partial,
+                    items,
+                } = Reading::read(self.alloc, self.phase, partial, piece)?;
+                let heard = Heard {
+                    items: Listed::from_vec(items),
+                    fault: partial.fault(),
+                };
+                let change = Change {
+                    kind: Kind::Becomes(phase, partial),
+                };
+                Ok(Prepared { heard, change })
+            }
         }
     }
 
-    /// Becomes what was prepared. Right after `prepare` of this ear it may: no more is asked than that a text that goes on
-    /// still lacks more bytes than the change has. This takes no memory.
+    /// Becomes what was prepared. Right after `prepare` of this ear it may: no more is asked than that a text that goes on still lacks
+    /// more bytes than `change` has. Takes no memory.
     pub fn commit(&mut self, change: Change)
         requires { CanAdvance self.old change }
         ensures { self.new ≡ advanced self.old change }
@@ -202,7 +185,7 @@ impl Ear {
 
     /// Hears a piece of the viewer's bytes: prepares what it would become, and becomes it.
     ///
-    /// An error is want of memory, and leaves the ear as it was: the piece wasn't heard.
+    /// After an `AllocError` the ear is as it was: the piece wasn't heard.
     pub fn feed(&mut self, piece: &[u8]) -> Result<Heard, AllocError>
         ensures items { (s : List ℕ) → self.old ≡ rest s → IfOk result (λ h. h.items ≡ new_items s piece.now) }
         ensures fault { (s : List ℕ) → self.old ≡ rest s → IfOk result (λ h. h.fault ≡ fault_of (heard (s ++ piece.now)).end) }

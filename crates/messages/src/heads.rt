@@ -27,7 +27,7 @@ pub enum Head {
     Text(u32),
 }
 
-/// How many bytes the front of a message has, by its type.
+/// Returns how many bytes the front of a message of type `kind` has.
 fn front_length(kind: u8) -> usize
     ensures { result ≡ front_length kind }
 {
@@ -41,7 +41,7 @@ fn front_length(kind: u8) -> usize
     }
 }
 
-/// How many bytes come next, by where the conversation stands and by the first of them.
+/// Returns how many bytes come next where the conversation stands at `phase`, by the `first` of them.
 pub fn head_length(phase: Phase, first: u8) -> usize
     ensures { result ≡ head_length phase first }
 {
@@ -52,7 +52,7 @@ pub fn head_length(phase: Phase, first: u8) -> usize
     }
 }
 
-/// What a whole front says.
+/// Returns what a whole front says.
 pub fn head_of(alloc: Global, phase: Phase, bytes: &[u8]) -> Head
     requires { length bytes.now ≡ head_length phase (slice_index bytes.now 0) }
     ensures { result ≡ head_of phase bytes.now }
@@ -73,14 +73,14 @@ pub fn head_of(alloc: Global, phase: Phase, bytes: &[u8]) -> Head
     }
 }
 
-/// Whether all bytes are ASCII digits.
+/// Tells whether all bytes are ASCII digits.
 fn is_number(digits: &[u8]) -> bool
     ensures { result ≡ list_all is_ascii_digit digits.now }
 {
     digits.iter().all(|digit| digit.is_ascii_digit())
 }
 
-/// Whether twelve bytes are a version but for its digits.
+/// Tells whether twelve bytes are a version but for its digits.
 fn has_form(bytes: &[u8]) -> bool
     requires { length bytes.now ≡ 12 }
     ensures { result ≡ has_form bytes.now }
@@ -88,7 +88,7 @@ fn has_form(bytes: &[u8]) -> bool
     bytes[..4] == b"RFB "[..] && bytes[7] == b'.' && bytes[11] == b'\n'
 }
 
-/// Whether twelve bytes are a version.
+/// Tells whether twelve bytes are a version.
 #[tactic(auto, using(crate::proofs::Versions::is_version_by_parts))]
 fn is_version(bytes: &[u8]) -> bool
     requires { length bytes.now ≡ 12 }
@@ -99,7 +99,7 @@ fn is_version(bytes: &[u8]) -> bool
     has_form(bytes) && major && minor
 }
 
-/// The version that is served to the digits of two numbers.
+/// Returns the version that is served to a viewer of version `major`.`minor`, in digits.
 fn version_of(major: &[u8], minor: &[u8]) -> Version
     ensures { result ≡ version_of major.now minor.now }
 {
@@ -113,7 +113,7 @@ fn version_of(major: &[u8], minor: &[u8]) -> Version
     }
 }
 
-/// What the viewer's first twelve bytes say.
+/// Returns what the viewer's first twelve bytes say.
 fn version_head(bytes: &[u8]) -> Head
     requires { length bytes.now ≡ 12 }
     ensures { result ≡ head_meaning (meaning phase.Version bytes.now) }
@@ -125,7 +125,7 @@ fn version_head(bytes: &[u8]) -> Head
     }
 }
 
-/// What sixteen bytes of a pixel format say.
+/// Returns what sixteen bytes of a pixel format say.
 fn format_head(bytes: &[u8]) -> Head
     requires { length bytes.now ≡ 16 }
     ensures { result ≡ head_meaning (format_meaning (format_of bytes.now)) }
@@ -138,7 +138,7 @@ fn format_head(bytes: &[u8]) -> Head
     }
 }
 
-/// What the count of a list of encodings says.
+/// Returns what the count of a list of encodings says.
 fn encodings_head(count: u16) -> Head
     ensures { result ≡ encodings_head count }
 {
@@ -153,7 +153,7 @@ fn encodings_head(count: u16) -> Head
     }
 }
 
-/// What the length of a text says.
+/// Returns what the length of a text says.
 fn text_head(alloc: Global, length: u32) -> Head
     ensures { result ≡ text_head length }
 {
@@ -167,7 +167,7 @@ fn text_head(alloc: Global, length: u32) -> Head
     }
 }
 
-/// What a FramebufferUpdateRequest says.
+/// Returns what a FramebufferUpdateRequest says.
 #[inline(always)]
 pub fn request(bytes: &[u8]) -> Item
     requires { 10 ≤ length bytes.now }
@@ -184,7 +184,7 @@ pub fn request(bytes: &[u8]) -> Item
     }
 }
 
-/// What a KeyEvent says.
+/// Returns what a KeyEvent says.
 #[inline(always)]
 pub fn key(bytes: &[u8]) -> Item
     requires { 8 ≤ length bytes.now }
@@ -196,7 +196,7 @@ pub fn key(bytes: &[u8]) -> Item
     })
 }
 
-/// What a PointerEvent says.
+/// Returns what a PointerEvent says.
 #[inline(always)]
 pub fn pointer(bytes: &[u8]) -> Item
     requires { 6 ≤ length bytes.now }
@@ -209,7 +209,7 @@ pub fn pointer(bytes: &[u8]) -> Item
     })
 }
 
-/// What the whole front of a message says.
+/// Returns what the whole front of a message says.
 fn message_head(alloc: Global, bytes: &[u8]) -> Head
     requires { length bytes.now ≡ front_length (slice_index bytes.now 0) }
     ensures { result ≡ message_head bytes.now }

@@ -1,23 +1,23 @@
 //! Laws of the reading.
 ghost use Rattle.messages.specs.Reading.{ReadsTheStream, ReadsInPieces, KeepsEnough, KeepsTheFault};
 
-/// A viewer's bytes are a stream of exactly one list of items, with exactly one end, and the reading finds both.
+/// Proves that a viewer's bytes are a stream of exactly one list of items, with exactly one end, and that the reading finds both.
 pub fn reads_the_stream()
     ensures { ReadsTheStream }
 {}
 
-/// A piece read behind others is their whole read.
+/// Proves that a piece read behind others is their whole read.
 #[tactic(auto, using(crate::specs::PieceLemmas::reads_in_pieces))]
 pub fn reads_in_pieces()
     ensures { ReadsInPieces }
 {}
 
-/// What is kept of a viewer's bytes tells all that a further piece adds: the items, and what is kept then.
+/// Proves that what is kept of a viewer's bytes tells all that a further piece adds: the items, and what is kept then.
 pub fn keeps_enough()
     ensures { KeepsEnough }
 {}
 
-/// What is kept of a viewer's bytes tells its fault.
+/// Proves that what is kept of a viewer's bytes tells its fault.
 pub fn keeps_the_fault()
     ensures { KeepsTheFault }
 {}

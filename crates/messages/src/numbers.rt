@@ -5,7 +5,7 @@ ghost use Rattle.messages.specs.Steps.{number_in};
 
 use byteorder::{BigEndian, ByteOrder};
 
-/// The number in the two bytes from a place on.
+/// Returns the number in the two bytes at index `at`.
 #[inline(always)]
 pub fn be16_at(bytes: &[u8], at: usize) -> u16
     requires { at + 2 ≤ length bytes.now }
@@ -14,7 +14,7 @@ pub fn be16_at(bytes: &[u8], at: usize) -> u16
     BigEndian::read_u16(&bytes[at..])
 }
 
-/// The number in the four bytes from a place on.
+/// Returns the number in the four bytes at index `at`.
 #[inline(always)]
 pub fn be32_at(bytes: &[u8], at: usize) -> u32
     requires { at + 4 ≤ length bytes.now }
@@ -23,7 +23,7 @@ pub fn be32_at(bytes: &[u8], at: usize) -> u32
     BigEndian::read_u32(&bytes[at..])
 }
 
-/// The signed number in the first four bytes.
+/// Returns the signed number in the first four bytes.
 pub fn number_in(bytes: &[u8]) -> i32
     requires { 4 ≤ length bytes.now }
     ensures { result ≡ number_in bytes.now }

@@ -17,9 +17,8 @@ pub struct Desktop<'a> {
     pub name: &'a [u8],
 }
 
-/// Appends what an item is answered, by where the conversation stood: the security type to a version, in 3.8 the result to
-/// the choice, ServerInit to ClientInit, and nothing to a message. An error is want of memory, and leaves the vector's
-/// elements as they were.
+/// Appends what `item` is answered, by where the conversation stood, `phase`: the security type to a version, in 3.8 the result to
+/// the choice, ServerInit to ClientInit, and nothing to a message. After an `AllocError` the vector's elements are as they were.
 pub fn put_greeting(
     out: &mut Vec<u8>,
     desktop: &Desktop<'_>,
@@ -41,7 +40,8 @@ pub fn put_greeting(
     }
 }
 
-/// What items are answered, one after the other, from where the conversation stood. An error is want of memory.
+/// Returns what `items` are answered, one after the other, from where the conversation stood, `phase`. `AllocError` where memory is
+/// refused.
 pub fn greetings(
     alloc: Global,
     desktop: &Desktop<'_>,

@@ -43,7 +43,7 @@ pub enum Partial {
     Faulted(Fault),
 }
 
-/// The encoding of pixels that a number names.
+/// Returns the encoding of pixels that `number` names.
 fn encoding_named(number: i32) -> Option<Encoding>
     ensures { result ≡ encoding_of number }
 {
@@ -56,7 +56,7 @@ fn encoding_named(number: i32) -> Option<Encoding>
 }
 
 impl Numbers {
-    /// A list of so many numbers, of which none has come.
+    /// Returns a list of `count` numbers, of which none has come.
     pub fn new(count: u16) -> Numbers
         ensures { unfinished_numbers result ≡ encodings count 0 nothing_given [] }
     {
@@ -83,8 +83,7 @@ impl Numbers {
         self.next.clear();
     }
 
-    /// Takes bytes of the next number from the front of a piece. Says how many where they end it, and takes all of them
-    /// where they don't.
+    /// Takes bytes of the next number from the front of `piece`. Returns how many, if they end it, and takes all of them if they don't.
     pub fn take(&mut self, piece: &[u8]) -> Option<usize>
         requires more { self.old.come < self.old.count }
         requires short { length self.old.next.items < 4 }
@@ -107,7 +106,7 @@ impl Numbers {
         Some(missing)
     }
 
-    /// What the list says.
+    /// Returns what the list says.
     pub fn item(&self) -> Item
         ensures { result ≡ item.Encodings (unwrap_or self.now.first Raw) self.now.copyrect self.now.resize }
     {
@@ -120,7 +119,7 @@ impl Numbers {
 }
 
 impl Partial {
-    /// The fault that is kept.
+    /// Returns the fault that is kept.
     pub fn fault(&self) -> Option<Fault>
         ensures { result ≡ fault_in (unfinished_in self.now) }
     {
@@ -130,7 +129,7 @@ impl Partial {
         }
     }
 
-    /// The same again. Only a text takes memory.
+    /// Returns a copy. Only a text takes memory.
     pub fn try_clone(&self, alloc: Global) -> Result<Partial, AllocError>
         ensures { IfOk result (λ h. unfinished_in h ≡ unfinished_in self.now) }
     {
@@ -150,7 +149,7 @@ impl Partial {
     }
 }
 
-/// The same bytes again.
+/// Returns a copy of bytes.
 fn copied_bytes<const N: usize>(bytes: &ArrayVec<u8, N>) -> ArrayVec<u8, N>
     ensures { result.items ≡ bytes.now.items }
 {

@@ -1,8 +1,8 @@
 //! The reading of a piece: by the fronts of messages, by numbers and by texts.
-ghost use Rattle.std.specs.Prelude.{◌≡◌, ◌+◌, ◌<◌, ◌≤◌, [], ◌∷◌, ◌++◌, length, drop, slice_index, IfOk, OnOk, IfSome, IfNone};
+ghost use Rattle.std.specs.Prelude.{◌≡◌, ◌+◌, ◌<◌, ◌≤◌, [], ◌∷◌, ◌++◌, length, slice_index, IfOk, OnOk, IfSome, IfNone};
 ghost use Rattle.messages.specs.Grammar.{after};
 ghost use Rattle.messages.specs.Steps.{fresh, head_length, head_tells, IsHead, tells, IsBegun, IsShort};
-ghost use Rattle.messages.specs.Partial.{unfinished_in, rest_in, reads, told_of, TellSame};
+ghost use Rattle.messages.specs.Partial.{unfinished_in, rest_in, reads, told_of};
 
 use crate::heads::{Head, head_length, head_of, key, pointer, request};
 use crate::partial::{Numbers, Partial};
@@ -22,8 +22,8 @@ pub struct Reading {
     pub items: Vec<Item>,
 }
 
-/// Where a conversation stands behind an item (RFC 6143 sections 7.1 to 7.3 and appendix A): version 3.3 has no choice, and
-/// an item that the phase doesn't expect changes nothing.
+/// Returns where a conversation stands behind `item` (RFC 6143 sections 7.1 to 7.3 and appendix A): version 3.3 has no choice, and an
+/// item that the phase doesn't expect changes nothing.
 pub fn phase_after(phase: Phase, item: &Item) -> Phase
     ensures { result ≡ after phase item.now }
 {
@@ -36,7 +36,7 @@ pub fn phase_after(phase: Phase, item: &Item) -> Phase
     }
 }
 
-/// How many bytes a front lacks, of which these have come and a piece follows.
+/// Returns how many bytes a front lacks of which `partial` has come, and `piece` follows.
 fn missing(phase: Phase, partial: &[u8], piece: &[u8]) -> usize
     requires short { length partial.now < head_length phase (slice_index partial.now 0) }
     requires more { 0 < length piece.now }
@@ -49,8 +49,8 @@ fn missing(phase: Phase, partial: &[u8], piece: &[u8]) -> usize
     }
 }
 
-/// Takes bytes of a front from the front of a piece. Where they end it, says what the front says, and how many they are;
-/// where they don't, takes all of them.
+/// Takes bytes of a front from the front of `piece`. Returns what the front says and how many bytes were taken, if they end it, and takes
+/// all of them if they don't.
 fn complete(
     alloc: Global,
     phase: Phase,
@@ -74,47 +74,6 @@ fn complete(
     }
     partial.try_extend_from_slice(&piece[..missing]).unwrap();
     Some((head_of(alloc, phase, partial), missing))
-}
-
-/// Reads a request, a key or a pointer from the front of an open conversation's bytes, and says how many bytes it has: 0
-/// where another message stands there.
-#[inline(always)]
-fn short_message(items: &mut Vec<Item>, bytes: &[u8]) -> Result<usize, AllocError>
-    requires { SHORT_MESSAGE ≤ length bytes.now }
-    ensures tells { IfOk result (λ used. TellSame items.old.items bytes.now items.new.items (drop used bytes.now)) }
-    ensures within { IfOk result (λ used. used ≤ length bytes.now) }
-{
-    match bytes[0] {
-        3 => {
-            items.push(request(bytes))?;
-            Ok(10)
-        }
-        4 => {
-            items.push(key(bytes))?;
-            Ok(8)
-        }
-        5 => {
-            items.push(pointer(bytes))?;
-            Ok(6)
-        }
-        _ => Ok(0),
-    }
-}
-
-/// Reads the requests, keys and pointers at the front of an open conversation's bytes, and gives what is left.
-fn short_messages<'a>(items: &mut Vec<Item>, bytes: &'a [u8]) -> Result<&'a [u8], AllocError>
-    ensures tells { IfOk result (λ left. TellSame items.old.items bytes.now items.new.items left.now) }
-    ensures within { IfOk result (λ left. length left.now ≤ length bytes.now) }
-{
-    let mut left = bytes;
-    while left.len() >= SHORT_MESSAGE {
-        let used = short_message(items, left)?;
-        if used == 0 {
-            break;
-        }
-        left = &left[used..];
-    }
-    Ok(left)
 }
 
 impl Reading {
@@ -146,7 +105,7 @@ impl Reading {
         Ok(())
     }
 
-    /// Takes bytes from the front of a piece, and gives what is left of it.
+    /// Takes bytes from the front of `piece`, and returns what is left of it.
     fn step<'a>(&mut self, alloc: Global, piece: &'a [u8]) -> Result<&'a [u8], AllocError>
         requires more { 0 < length piece.now }
         requires short { IsShort self.old.phase (unfinished_in self.old.partial) }
@@ -188,53 +147,64 @@ impl Reading {
         }
     }
 
-    /// Reads the short messages at the front of a piece, where a message begins there, and gives what is left.
-    fn skim<'a>(&mut self, piece: &'a [u8]) -> Result<&'a [u8], AllocError>
+    /// Reads the requests, keys and pointers at the front of `piece`, where a message of an open conversation begins there, and returns
+    /// what is left.
+    fn short_messages<'a>(&mut self, piece: &'a [u8]) -> Result<&'a [u8], AllocError>
         requires { IsShort self.old.phase (unfinished_in self.old.partial) }
         ensures reads { IfOk result (λ left. reads self.new.items.items self.new.phase self.new.partial left.now
             ≡ reads self.old.items.items self.old.phase self.old.partial piece.now) }
         ensures short { OnOk result (IsShort self.new.phase (unfinished_in self.new.partial)) }
         ensures within { IfOk result (λ left. length left.now ≤ length piece.now) }
     {
-        match (self.phase, &self.partial) {
-            (Phase::Open(_), Partial::Plain(partial)) if partial.is_empty() => {
-                short_messages(&mut self.items, piece)
-            }
-            _ => Ok(piece),
+        let (Phase::Open(_), Partial::Plain(begun)) = (self.phase, &self.partial) else {
+            return Ok(piece);
+        };
+        if !begun.is_empty() {
+            return Ok(piece);
         }
+        let mut left = piece;
+        while left.len() >= SHORT_MESSAGE {
+            let used = match left[0] {
+                3 => {
+                    self.items.push(request(left))?;
+                    10
+                }
+                4 => {
+                    self.items.push(key(left))?;
+                    8
+                }
+                5 => {
+                    self.items.push(pointer(left))?;
+                    6
+                }
+                _ => break,
+            };
+            left = &left[used..];
+        }
+        Ok(left)
     }
 
-    /// Reads a piece.
-    pub fn read(&mut self, alloc: Global, piece: &[u8]) -> Result<(), AllocError>
-        requires { IsShort self.old.phase (unfinished_in self.old.partial) }
-        ensures told { OnOk result (told_of self.new ≡ reads self.old.items.items self.old.phase self.old.partial piece.now) }
-        ensures short { OnOk result (IsShort self.new.phase (unfinished_in self.new.partial)) }
+    /// Reads `piece` behind what is kept of a message, `partial`, which stays.
+    pub fn read(
+        alloc: Global,
+        phase: Phase,
+        partial: &Partial,
+        piece: &[u8],
+    ) -> Result<Reading, AllocError>
+        requires { IsShort phase (unfinished_in partial.now) }
+        ensures told { IfOk result (λ reading. told_of reading ≡ tells (rest_in phase partial.now) piece.now) }
+        ensures short { IfOk result (λ reading. IsShort reading.phase (unfinished_in reading.partial)) }
     {
-        let mut left = self.skim(piece)?;
+        let mut reading = Reading {
+            phase,
+            partial: partial.try_clone(alloc)?,
+            items: Vec::new(alloc),
+        };
+        let mut left = reading.short_messages(piece)?;
         while !left.is_empty() {
-            let behind = self.step(alloc, left)?;
-            left = self.skim(behind)?;
+            let behind = reading.step(alloc, left)?;
+            left = reading.short_messages(behind)?;
         }
-        Ok(())
+        Ok(reading)
     }
-}
-
-/// What a piece tells behind what is kept, which stays.
-pub fn hear(
-    alloc: Global,
-    phase: Phase,
-    partial: &Partial,
-    piece: &[u8],
-) -> Result<Reading, AllocError>
-    requires { IsShort phase (unfinished_in partial.now) }
-    ensures told { IfOk result (λ reading. told_of reading ≡ tells (rest_in phase partial.now) piece.now) }
-    ensures short { IfOk result (λ reading. IsShort reading.phase (unfinished_in reading.partial)) }
-{
-    let mut reading = Reading {
-        phase,
-        partial: partial.try_clone(alloc)?,
-        items: Vec::new(alloc),
-    };
-    reading.read(alloc, piece)?;
-    Ok(reading)
 }

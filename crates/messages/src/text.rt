@@ -19,8 +19,8 @@ pub struct Text {
     pub come: u32,
     /// The first of them.
     pub bytes: Vec<u8>,
-    // While bytes are to come, there is room for those that will be kept.
-    ghost room: { come < length → min length text_limit ≤ vec_capacity bytes },
+    // While bytes are to come, there is capacity for those that will be kept.
+    ghost capacity: { come < length → min length text_limit ≤ vec_capacity bytes },
     ghost within: { vec_len bytes ≤ come },
 }
 
@@ -30,19 +30,19 @@ impl Text {
     ghost use Rattle.messages.specs.Reading.{cut_text};
     ghost use Rattle.messages.specs.Partial.{unfinished_text};
 
-    /// A text of so many bytes, of which none has come. Takes memory for what is kept of it.
+    /// Returns a text of `length` bytes, of which none has come. Takes memory for what is kept of it.
     pub fn new(alloc: Global, length: u32) -> Result<Text, AllocError>
         ensures { IfOk result (λ t. unfinished_text t ≡ cut_text length [] 0) }
     {
-        let room = (length as usize).min(TEXT_LIMIT);
+        let capacity = (length as usize).min(TEXT_LIMIT);
         Ok(Text {
             length,
             come: 0,
-            bytes: Vec::with_capacity(alloc, room)?,
+            bytes: Vec::with_capacity(alloc, capacity)?,
         })
     }
 
-    /// Takes bytes of the text. There is room for what is kept of them.
+    /// Takes bytes of the text, and keeps those of the first 262,144, for which there is capacity.
     pub fn take(&mut self, bytes: &[u8])
         requires more { self.old.come < self.old.length }
         requires fits { self.old.come + length bytes.now ≤ self.old.length }
@@ -50,14 +50,14 @@ impl Text {
         ensures { unfinished_text self.new
             ≡ cut_text self.old.length (take text_limit (self.old.bytes.items ++ bytes.now)) (self.old.come + length bytes.now) }
     {
-        let room = TEXT_LIMIT - self.bytes.len();
+        let missing = TEXT_LIMIT - self.bytes.len();
         self.bytes
-            .extend_from_slice(&bytes[..room.min(bytes.len())])
+            .extend_from_slice(&bytes[..missing.min(bytes.len())])
             .unwrap();
         self.come += bytes.len() as u32;
     }
 
-    /// How many bytes are still to come.
+    /// Returns how many bytes are still to come.
     pub fn missing(&self) -> usize
         requires { self.now.come ≤ self.now.length }
         ensures { self.now.come + result ≡ self.now.length }
@@ -65,7 +65,7 @@ impl Text {
         (self.length - self.come) as usize
     }
 
-    /// What the text says, whose bytes are taken out of it.
+    /// Returns what the text says, whose bytes it gives away.
     pub fn finish(&mut self, alloc: Global) -> Item
         requires { self.old.length ≤ self.old.come }
         ensures { result ≡ item.Input (input.Text self.old.bytes.items (nat_lt text_limit self.old.length)) }
@@ -77,7 +77,7 @@ impl Text {
         })
     }
 
-    /// The same text.
+    /// Returns a copy.
     pub fn try_clone(&self, alloc: Global) -> Result<Text, AllocError>
         ensures { IfOk result (λ t. unfinished_text t ≡ unfinished_text self.now) }
     {

@@ -40,7 +40,7 @@ pub fn put_result(out: &mut Vec<u8>) -> Result<(), AllocError>
     out.extend_from_slice(&0u32.to_be_bytes())
 }
 
-/// Appends bytes for which there is room.
+/// Appends bytes, for which there is capacity.
 fn append(out: &mut Vec<u8>, bytes: &[u8])
     requires { vec_len out.old + length bytes.now ≤ vec_capacity out.old }
     ensures items { out.new.items ≡ out.old.items ++ bytes.now }
@@ -81,7 +81,7 @@ pub fn put_update_head(out: &mut Vec<u8>, count: u16) -> Result<(), AllocError>
     out.extend_from_slice(&[0, 0, high, low])
 }
 
-/// The entry of the colour map for a pixel of eight bits: red, green and blue, each from 0 to 65535.
+/// Returns the entry of the colour map for `pixel`, of eight bits: red, green and blue, each from 0 to 65535.
 fn entry_of(pixel: u8) -> [u16; 3]
     ensures { map_entry pixel ≡ (slice_index result 0, slice_index result 1, slice_index result 2) }
 {
@@ -91,7 +91,7 @@ fn entry_of(pixel: u8) -> [u16; 3]
     [red as u16, green as u16, blue as u16]
 }
 
-/// The six bytes of an entry.
+/// Returns the six bytes of `entry`.
 fn entry_bytes(entry: [u16; 3]) -> [u8; 6]
     ensures { result ≡ entry_bytes (slice_index entry 0, slice_index entry 1, slice_index entry 2) }
 {
@@ -103,7 +103,7 @@ fn entry_bytes(entry: [u16; 3]) -> [u8; 6]
     ]
 }
 
-/// Appends the entries of the colour map, for which there is room.
+/// Appends the entries of the colour map, for which there is capacity.
 fn append_entries(out: &mut Vec<u8>)
     requires { vec_len out.old + 1536 ≤ vec_capacity out.old }
     ensures { out.new.items ≡ out.old.items ++ flat_map entry_bytes (map map_entry (range_with_len 0 256)) }

@@ -1,7 +1,6 @@
 //! What is kept of rectangles that were encoded for several viewers, or are being encoded.
 
 ghost use Rattle.std.specs.Prelude.{◌≡◌, ◌++◌, [], IfOk, OnOk, true};
-ghost use Rattle.std.specs.Arc.{arc_value};
 ghost use Rattle.std.specs.Cmp.Lexicographic.{pointwise};
 ghost use Rattle.framebuffer.specs.Frame.{Frame};
 ghost use Rattle.updates.specs.Shared.{pixels_of};
@@ -46,14 +45,14 @@ pub struct Growing {
     pub remaining: RemainingRectangles,
 }
 
-/// Whether rectangles are equal, one by one.
+/// Tells whether rectangles are equal, one by one.
 fn are_same(rects: &[Rect], others: &[Rect]) -> bool
     ensures { result ≡ pointwise same_rect rects.now others.now }
 {
     rects == others
 }
 
-/// How many parts of an encoding are encoded at once at most.
+/// Returns how many parts of an encoding are encoded at once at most.
 fn most_parts(encoding: Encoding) -> u32 {
     match encoding {
         Encoding::Raw => MOST_PARTS_IN_RAW,
@@ -62,7 +61,7 @@ fn most_parts(encoding: Encoding) -> u32 {
 }
 
 impl Wanted {
-    /// These rectangles. `AllocError` where their room is refused.
+    /// Returns these rectangles. `AllocError` where memory is refused.
     pub fn new(
         alloc: Global,
         encoding: Encoding,
@@ -80,7 +79,7 @@ impl Wanted {
         })
     }
 
-    /// Whether they are these.
+    /// Tells whether they are these.
     pub fn is(&self, encoding: Encoding, format: &PixelFormat, rects: &[Rect]) -> bool
         ensures encoding { result ≡ true → self.now.encoding ≡ encoding }
         ensures format { result ≡ true → self.now.format ≡ format.now }
@@ -107,7 +106,7 @@ impl Growing {
         Ok(())
     }
 
-    /// What they are encoded as, where nothing is left. `AllocError` where its room is refused.
+    /// Returns what they are encoded as, where nothing is left. `AllocError` where memory is refused.
     pub fn into_encoded(self, alloc: Global) -> Result<Encoded, AllocError>
         requires { self.remaining ≡ [] }
         ensures { IfOk result (λ encoded. (p : Frame) → GrowsTo p self → IsOf p encoded) }

@@ -6,7 +6,7 @@ use region::Rect;
 use std::alloc::{AllocError, Global};
 
 /// How many kinds of viewers are remembered.
-const MOST: usize = 8;
+const MOST_KINDS: usize = 8;
 
 /// For how many updates no viewer waits for what is encoded, once the picture changed before that was done.
 const HURRIED: u32 = 64;
@@ -43,11 +43,12 @@ pub struct Kinds {
 }
 
 impl Kind {
+    /// Tells whether its viewers have this encoding and this format.
     fn is_of(&self, encoding: Encoding, format: &PixelFormat) -> bool {
         self.encoding == encoding && self.format == *format
     }
 
-    /// Whether others are likely to have an update of such rectangles.
+    /// Tells whether others are likely to have an update of `count` rectangles, of which this is the `first`.
     fn is_likely(&self, first: Rect, count: usize) -> bool {
         if self.updates == 0 {
             return self.was_shared;
@@ -55,7 +56,7 @@ impl Kind {
         self.first == first && self.count == count
     }
 
-    /// An update is counted.
+    /// Counts an update of `count` rectangles, of which this is the `first`.
     fn count(&mut self, first: Rect, count: usize) {
         let is_same = self.updates > 0 && self.first == first && self.count == count;
         self.updates = if is_same {
@@ -67,7 +68,7 @@ impl Kind {
         self.count = count;
     }
 
-    /// The picture changes.
+    /// Notes that the picture changes.
     fn start_anew(&mut self) {
         self.was_shared = self.updates > 1;
         self.updates = 0;
@@ -75,7 +76,7 @@ impl Kind {
 }
 
 impl Kinds {
-    /// None yet. This takes no memory.
+    /// Returns none. Takes no memory.
     pub fn new(alloc: Global) -> Kinds {
         Kinds {
             kinds: Vec::new(alloc),
@@ -88,13 +89,13 @@ impl Kinds {
         }
     }
 
-    /// Whether some update is likely to be wanted by several viewers, so that one may wait for what is encoded for all.
+    /// Tells whether some update is likely to be wanted by several viewers, so that one may wait for what is encoded for all.
     pub fn is_expecting(&self) -> bool {
         self.is_expecting && !self.gave_up && self.hurried == 0
     }
 
-    /// Whether several viewers are likely to have an update of these rectangles: one had it since the picture changed, or several had the
-    /// same while the picture was as it was before.
+    /// Tells whether several viewers are likely to have an update of these rectangles: one had it since the picture changed, or several
+    /// had the same while the picture was as it was before.
     pub fn are_likely(&self, encoding: Encoding, format: &PixelFormat, rects: &[Rect]) -> bool {
         if rects.is_empty() {
             return false;
@@ -107,7 +108,7 @@ impl Kinds {
         false
     }
 
-    /// An update of these rectangles is counted.
+    /// Counts an update of these rectangles.
     pub fn count(&mut self, encoding: Encoding, format: &PixelFormat, rects: &[Rect]) {
         if rects.is_empty() {
             return;
@@ -132,38 +133,39 @@ impl Kinds {
         let _refused = self.remember(kind);
     }
 
+    /// Adds a kind, or replaces the oldest where as many as are remembered are there.
     fn remember(&mut self, kind: Kind) -> Result<(), AllocError> {
-        if self.kinds.len() < MOST {
+        if self.kinds.len() < MOST_KINDS {
             self.kinds.push(kind)?;
             return Ok(());
         }
-        let next = self.next % MOST;
+        let next = self.next % MOST_KINDS;
         self.kinds[next] = kind;
         self.next = next + 1;
         Ok(())
     }
 
-    /// What was begun was not done when the picture changed.
+    /// Lets no viewer wait for the next updates: what was begun was not done when the picture changed.
     pub fn hurry(&mut self) {
         self.hurried = HURRIED;
     }
 
-    /// What was encoded, or was begun, is let go.
+    /// Counts that what was encoded, or begun, is dropped.
     pub fn count_loss(&mut self) {
         self.losses = self.losses.wrapping_add(1);
     }
 
-    /// How often that was.
+    /// Returns how often that was.
     pub fn losses(&self) -> u64 {
         self.losses
     }
 
-    /// Nobody is to wait while the picture is as it is.
+    /// Lets nobody wait while the picture is as it is.
     pub fn give_up(&mut self) {
         self.gave_up = true;
     }
 
-    /// The picture changes.
+    /// Notes that the picture changes.
     pub fn start_anew(&mut self) {
         self.gave_up = false;
         if !self.is_counting {

@@ -30,16 +30,16 @@ use updates::{Part, Translation, pixels_to_encode, places_of, shared_places_of};
 const FEW: u32 = 64;
 
 /// How many updates' rectangles are kept at most.
-const MOST: usize = 8;
+const MOST_ENCODED: usize = 8;
 
-/// What was encoded is let go once so many updates in a row, which were worth it, didn't find their bytes there.
+/// What was encoded is dropped once so many updates in a row, which were worth it, didn't find their bytes there.
 const UNUSED: u32 = 64;
 
 /// A picture of 1 to 8192 columns and rows, as `Framebuffer`, and rectangles of it that were encoded for several viewers since it was
 /// drawn in last. Contracts see it as the picture.
 ///
-/// What is kept has at most the bytes of the whole picture in Raw of 32 bits, and 64 KB. While more is encoded its room is at most twice
-/// that, and a rectangle in RRE. All is let go when the picture is drawn in, and once 64 updates in a row that were worth it didn't find
+/// What is kept has at most the bytes of the whole picture in Raw of 32 bits, and 64 KB. While more is encoded its capacity is at most twice
+/// that, and a rectangle in RRE. All is dropped when the picture is drawn in, and once 64 updates in a row that were worth it didn't find
 /// their bytes there.
 pub struct Picture {
     alloc: Global,
@@ -84,7 +84,7 @@ impl Model for Picture {
     ghost invariant = { λ p. All (IsOf p.frame) p.encoded.items × IfSome p.growing (GrowsTo p.frame) };
 }
 
-/// Whether rectangles have so many places in all that they are encoded once for viewers that are alike.
+/// Tells whether rectangles have so many places in all that they are encoded once for viewers that are alike.
 fn are_many(rects: &[Rect]) -> bool {
     let mut places = 0u32;
     for rect in rects {
@@ -95,12 +95,13 @@ fn are_many(rects: &[Rect]) -> bool {
     FEW <= places
 }
 
-/// Whether rectangles are worth to be encoded once for viewers that are alike: they have some places, and aren't copied as they stand.
+/// Tells whether rectangles are worth to be encoded once for viewers that are alike: they have some places, and aren't copied as they
+/// stand.
 fn are_worth_it(encoding: Encoding, format: &PixelFormat, rects: &[Rect]) -> bool {
     are_many(rects) && !(encoding == Encoding::Raw && format.has_server_components())
 }
 
-/// The picture changes: what was encoded of it is let go.
+/// Drops what was encoded of the picture, which changes.
 fn let_go(encoded: &mut Vec<Encoded>, growing: &mut Option<Growing>, kinds: &mut Kinds)
     ensures encoded { encoded.new.items ≡ [] }
     ensures growing { growing.new ≡ None }
@@ -117,7 +118,7 @@ fn let_go(encoded: &mut Vec<Encoded>, growing: &mut Option<Growing>, kinds: &mut
     }
 }
 
-/// How many bytes are kept.
+/// Returns how many bytes are kept.
 fn size_of(encoded: &[Encoded]) -> usize {
     let mut size = 0usize;
     for one in encoded {
@@ -127,7 +128,7 @@ fn size_of(encoded: &[Encoded]) -> usize {
 }
 
 impl Picture {
-    /// A picture that is 0 everywhere.
+    /// Returns a picture that is 0 everywhere.
     pub fn new(alloc: Global, width: u32, height: u32) -> Result<Picture, AllocError>
         requires some_columns { 1 ≤ width }
         requires columns { width ≤ longest_side }
@@ -149,7 +150,7 @@ impl Picture {
         })
     }
 
-    /// From now on the rectangles of viewers that are alike are encoded once; or not, as at first.
+    /// Sets whether the rectangles of viewers that are alike are encoded once. At first they aren't.
     pub fn share(&mut self, shares: bool)
         ensures { self.new ≡ self.old }
     {
@@ -157,12 +158,12 @@ impl Picture {
         self.rest();
     }
 
-    /// Whether they are.
+    /// Tells whether they are.
     pub fn shares(&self) -> bool {
         self.shares
     }
 
-    /// How many columns the picture has.
+    /// Returns how many columns the picture has.
     pub fn width(&self) -> u32
         ensures value { result ≡ self.now.width }
         ensures picture { IsPicture self.now }
@@ -170,7 +171,7 @@ impl Picture {
         self.frame.width()
     }
 
-    /// How many rows the picture has.
+    /// Returns how many rows the picture has.
     pub fn height(&self) -> u32
         ensures value { result ≡ self.now.height }
         ensures picture { IsPicture self.now }
@@ -178,7 +179,7 @@ impl Picture {
         self.frame.height()
     }
 
-    /// The colour of the place in column x of row y, or None off the picture.
+    /// Returns the colour of the place in column `x` of row `y`, or None off the picture.
     pub fn colour(&self, x: u32, y: u32) -> Option<u32>
         ensures inside { IsSome result ↔ ((x < self.now.width) × (y < self.now.height)) }
         ensures colour { IfSome result (λ c. c ≡ slice_index self.now.colours (y * self.now.width + x)) }
@@ -186,7 +187,7 @@ impl Picture {
         self.frame.colour(x, y)
     }
 
-    /// The colours of row y from the left, of which none is copied, or None off the picture.
+    /// Returns the colours of row `y` from the left, of which none is copied, or None off the picture.
     pub fn row(&self, y: u32) -> Option<&[u32]>
         ensures inside { IsSome result ↔ (y < self.now.height) }
         ensures colours { IfSome result (λ row. row.now ≡ take self.now.width (drop (y * self.now.width) self.now.colours)) }
@@ -194,7 +195,7 @@ impl Picture {
         self.frame.row(y)
     }
 
-    /// `Framebuffer::write`. What was encoded is let go.
+    /// Writes a block, as `Framebuffer::write`, and drops what was encoded.
     pub fn write(&mut self, block: Block, colours: &[u32]) -> Result<(), AllocError>
         requires wide { block.left + block.columns ≤ self.old.width }
         requires high { block.top + block.rows ≤ self.old.height }
@@ -207,7 +208,7 @@ impl Picture {
         self.frame.write(block, colours)
     }
 
-    /// `Framebuffer::move_colours`. What was encoded is let go.
+    /// Moves colours, as `Framebuffer::move_colours`, and drops what was encoded.
     pub fn move_colours(&mut self, pieces: &[Rect], offset: (i32, i32)) -> Result<(), AllocError>
         requires inside { All (IsOnScreen self.old.width self.old.height) pieces.now }
         requires sources { All (λ r. IsOnScreen self.old.width self.old.height (source_rect offset r)) pieces.now }
@@ -220,7 +221,7 @@ impl Picture {
         self.frame.move_colours(pieces, offset)
     }
 
-    /// What was encoded is let go: nobody is there to want it.
+    /// Drops what was encoded: nobody is there to want it.
     pub fn rest(&mut self)
         ensures { self.new ≡ self.old }
     {
@@ -228,14 +229,14 @@ impl Picture {
         let_go(&mut self.encoded, &mut self.growing, &mut self.kinds);
     }
 
-    /// Whether some update is likely to be wanted by several viewers, so that one may wait for what is encoded for all.
+    /// Tells whether some update is likely to be wanted by several viewers, so that one may wait for what is encoded for all.
     #[inline(always)]
     pub fn is_expecting(&self) -> bool {
         self.shares && self.kinds.is_expecting()
     }
 
-    /// The places that are asked for next are for no viewer: where several are likely to want them, a piece of what they want is encoded, and
-    /// nothing is given.
+    /// Looks ahead: the places that are asked for next are for no viewer. Where several are likely to want them, a piece of what they
+    /// want is encoded, and nothing is given.
     pub fn look_ahead(&mut self)
         ensures { self.new ≡ self.old }
     {
@@ -243,7 +244,8 @@ impl Picture {
         self.has_more = false;
     }
 
-    /// From now on places are for viewers again. Where more is left to be encoded, how often what was encoded, or begun, was let go so far.
+    /// Ends looking ahead: places are for viewers again. Where more is left to be encoded, returns how often what was encoded, or begun,
+    /// was dropped so far.
     pub fn more_ahead(&mut self) -> Option<u64>
         ensures { self.new ≡ self.old }
     {
@@ -255,8 +257,8 @@ impl Picture {
         }
     }
 
-    /// Encodes a piece of what several viewers are likely to want, where these rectangles are that, or are likely to be wanted so. Whether more
-    /// is left to be encoded.
+    /// Encodes a piece of what several viewers are likely to want, where these rectangles are that, or are likely to be wanted so. Tells
+    /// whether more is left to be encoded.
     #[inline(never)]
     fn encode_ahead(&mut self, encoding: Encoding, format: &Translation, rects: &[Rect]) -> bool
         requires inside { All (IsOnScreen self.old.width self.old.height) rects.now }
@@ -282,7 +284,7 @@ impl Picture {
         }
     }
 
-    /// Whether these rectangles are being encoded.
+    /// Tells whether these rectangles are being encoded.
     fn is_growing(&self, encoding: Encoding, format: &PixelFormat, rects: &[Rect]) -> bool {
         match &self.growing {
             Some(growing) => growing.wanted.is(encoding, format, rects),
@@ -290,15 +292,15 @@ impl Picture {
         }
     }
 
-    /// Whether rectangles are to be encoded once for several viewers, and are not yet.
+    /// Tells whether rectangles are to be encoded once for several viewers, and are not yet.
     fn are_wanted(&self, encoding: Encoding, format: &PixelFormat, rects: &[Rect]) -> bool {
-        self.encoded.len() < MOST
+        self.encoded.len() < MOST_ENCODED
             && are_worth_it(encoding, format, rects)
             && self.kinds.are_likely(encoding, format, rects)
             && self.find(encoding, format, rects).is_none()
     }
 
-    /// Rectangles are to be encoded, piece by piece.
+    /// Begins to encode rectangles, piece by piece.
     fn begin(
         &mut self,
         encoding: Encoding,
@@ -320,14 +322,14 @@ impl Picture {
         Ok(())
     }
 
-    /// The bytes that may be kept: those of the picture in Raw of 32 bits, and 64 KB.
+    /// Returns how many bytes may be kept: those of the picture in Raw of 32 bits, and 64 KB.
     fn most(&self) -> usize {
         let places = self.frame.width().saturating_mul(self.frame.height());
         (places as usize).saturating_mul(4).saturating_add(65_536)
     }
 
-    /// Goes on with what is being encoded, by a piece, and keeps it once all is encoded. Whether more is left. Where memory is refused,
-    /// or more would be kept than may be, it is let go.
+    /// Goes on with what is being encoded, by a piece, and keeps it once all is encoded. Tells whether more is left. Where memory is
+    /// refused, or more would be kept than may be, it is dropped.
     fn grow(&mut self) -> Result<bool, AllocError>
         ensures { self.new ≡ self.old }
     {
@@ -359,7 +361,7 @@ impl Picture {
         Ok(())
     }
 
-    /// The bytes of rectangles that were encoded since the picture changed.
+    /// Returns the bytes of rectangles that were encoded since the picture changed.
     fn find(&self, encoding: Encoding, format: &PixelFormat, rects: &[Rect]) -> Option<Arc<Vec<u8>>>
         ensures { IfSome result (λ bytes. (arc_value bytes).items ≡ pixels_of self.now encoding format.now rects.now) }
     {
@@ -374,7 +376,7 @@ impl Picture {
         None
     }
 
-    /// An update is cut: the bytes of its rectangles, where they are encoded already. What nobody wants is let go.
+    /// Counts an update that is cut, and returns the bytes of its rectangles, if they are encoded already. Drops what nobody wants.
     fn shared(
         &mut self,
         encoding: Encoding,
@@ -403,8 +405,8 @@ impl Picture {
         found
     }
 
-    /// The rectangles of a cut, for a viewer's encoding and format, as they are sent: with bytes that were encoded for several viewers, or
-    /// with colours that are encoded for this one. `AllocError` where their room is refused, and while the picture looks ahead.
+    /// Takes the rectangles of a cut out of the picture, for a viewer's encoding and format: with bytes that were encoded for several
+    /// viewers, or with colours that are encoded for this one. `AllocError` where memory is refused, and while the picture looks ahead.
     pub fn places_of(
         &mut self,
         encoding: Encoding,

@@ -35,14 +35,14 @@ abbrev pub copy_bytes : ℤ × ℤ → Rect → List ℕ
 copy_bytes by r = copyrect (area_of r) (nat_abs (r.x1 -ℤ by.0)) (nat_abs (r.y1 -ℤ by.1))
 
 -- the colours of a rectangle of the picture
-abbrev pub pixel_rectangle : ℕ → ℕ → List ℕ → Encoding → PixelFormat → Rect → List ℕ
+abbrev pub pixel_rectangle : (width height : ℕ) (picture : List ℕ) → Encoding → PixelFormat → Rect → List ℕ
 pixel_rectangle w h picture e f r = encoded e f (area_of r) (colours_of w h picture r)
 
 -- 7.6.1: the copies, then the pixels
-abbrev pub bytes_of : ℕ → ℕ → List ℕ → Encoding → PixelFormat → List Rect → ℤ × ℤ → List Rect → List ℕ
+abbrev pub bytes_of : (width height : ℕ) (picture : List ℕ) → Encoding → PixelFormat → (copies : List Rect) (offset : ℤ × ℤ) (pixels : List Rect) → List ℕ
 bytes_of w h picture e f copies by pixels =
     update_head (length copies + length pixels) ++ flat_map (copy_bytes by) copies ++ flat_map (pixel_rectangle w h picture e f) pixels
 
 -- 7.8.2: an update with one rectangle, which tells a size
-abbrev pub size_bytes : ℕ → ℕ → List ℕ
+abbrev pub size_bytes : (width height : ℕ) → List ℕ
 size_bytes w h = update_head 1 ++ head (record { x = 0; y = 0; w = w; h = h }) desktop_size

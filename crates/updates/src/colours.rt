@@ -39,7 +39,7 @@ impl Model for Colours {
     ghost view = { λ c. stored_colours c.storage };
 }
 
-/// The colours of a snapshot from a place on, to the end of that place's row.
+/// Returns the colours of a snapshot from index `done` on, to the end of that row.
 fn rest_of_row(snapshot: &Snapshot, done: usize) -> &[u32]
     requires { done < length snapshot.now.colours }
     ensures part { result.now ≡ take (length result.now) (drop done snapshot.now.colours) }
@@ -50,7 +50,7 @@ fn rest_of_row(snapshot: &Snapshot, done: usize) -> &[u32]
     &snapshot.row(done / columns)[done % columns..]
 }
 
-/// Whether a snapshot has as many columns and rows as an area.
+/// Tells whether a snapshot has as many columns and rows as `area`.
 fn is_of_size(snapshot: &Snapshot, area: Area) -> bool
     ensures width { result ≡ true → snapshot.now.width ≡ area.w }
     ensures height { result ≡ true → snapshot.now.height ≡ area.h }
@@ -79,7 +79,7 @@ fn put_shared(
 }
 
 impl Colours {
-    /// The colours of a block of the picture, as they stand.
+    /// Takes the colours of a block out of the picture, as they stand.
     pub fn of_block(picture: &mut Framebuffer, block: Block) -> Result<Colours, AllocError>
         requires wide { block.left + block.columns ≤ picture.old.width }
         requires high { block.top + block.rows ≤ picture.old.height }
@@ -94,7 +94,7 @@ impl Colours {
         Ok(Colours { storage })
     }
 
-    /// Whether there are colours from a place on, which are so many before it.
+    /// Tells whether there are colours from index `done` on.
     pub fn goes_on(&self, done: usize) -> bool
         ensures { IsTrue result ↔ (done < length self.now) }
     {
@@ -104,7 +104,7 @@ impl Colours {
         }
     }
 
-    /// The colours from a place on: shared ones to the end of a row, copied ones to their end.
+    /// Returns the colours from index `done` on: shared ones to the end of a row, copied ones to their end.
     fn run_from(&self, done: usize) -> &[u32]
         requires { done < length self.now }
         ensures part { result.now ≡ take (length result.now) (drop done self.now) }
@@ -117,7 +117,7 @@ impl Colours {
         }
     }
 
-    /// The colours from a place on that are encoded at once in Raw: at most 2,048, and of shared ones none behind their row.
+    /// Returns the colours from index `done` on that are encoded at once in Raw: at most 2,048, and of shared ones none behind their row.
     pub fn piece_from(&self, done: usize) -> &[u32]
         requires { done < length self.now }
         ensures part { result.now ≡ take (length result.now) (drop done self.now) }
@@ -129,7 +129,7 @@ impl Colours {
         &run[..run.len().min(AT_ONCE)]
     }
 
-    /// So many of the colours, from a place on.
+    /// Copies `count` of the colours, from index `from` on.
     pub fn part(&self, alloc: Global, from: usize, count: usize) -> Result<Vec<u32>, AllocError>
         requires inside { from + count ≤ length self.now }
         requires small { from + count < 2 ^ 64 }

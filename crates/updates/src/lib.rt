@@ -19,7 +19,7 @@ pub use notices::{Notice, Notices, Text};
 pub use parts::Part;
 pub use remaining::RemainingRectangles;
 pub use sizes::Size;
-pub use stream::Stream;
+pub use stream::{STREAM_BUFFER, STREAM_PIECE, Stream};
 pub use taking::{pixels_to_encode, places_of, shared_places_of};
 pub use translation::Translation;
 pub use update::Update;

@@ -26,7 +26,7 @@ impl Model for Text {
 }
 
 impl Text {
-    /// A copy of a text. `AllocError` where its room is refused.
+    /// Copies a text. `AllocError` where memory is refused.
     pub fn new(alloc: Global, bytes: &[u8]) -> Result<Text, AllocError>
         ensures { IfOk result (λ text. text ≡ bytes.now) }
     {
@@ -34,7 +34,7 @@ impl Text {
         Ok(Text { bytes })
     }
 
-    /// The same text, for one more. This takes no memory; `AllocError` where 2^64 - 1 share it.
+    /// Returns the same text, for one more. Takes no memory; `AllocError` where 2^64 - 1 share it.
     pub fn share(&self) -> Result<Text, AllocError>
         ensures { IfOk result (λ text. text ≡ self.now) }
     {
@@ -42,7 +42,7 @@ impl Text {
         Ok(Text { bytes })
     }
 
-    /// Its bytes.
+    /// Returns its bytes.
     pub fn as_slice(&self) -> &[u8]
         ensures { result.now ≡ self.now }
     {
@@ -60,7 +60,7 @@ pub enum Notice {
 }
 
 impl Notice {
-    /// The same notice, for one more. This takes no memory; `AllocError` where 2^64 - 1 share its text.
+    /// Returns the same notice, for one more. Takes no memory; `AllocError` where 2^64 - 1 share its text.
     fn share(&self) -> Result<Notice, AllocError>
         ensures { IfOk result (λ notice. notice ≡ self.now) }
     {
@@ -72,9 +72,9 @@ impl Notice {
 }
 
 /// How many notices wait at most; a further one is not kept.
-const MOST: usize = 64;
+const MOST_NOTICES: usize = 64;
 
-/// At most 64 notices, in room that is made with it.
+/// At most 64 notices, with the capacity for them.
 #[derive(Drop)]
 pub struct Notices {
     waiting: Vec<Notice>,
@@ -93,12 +93,12 @@ impl Model for Notices {
 }
 
 impl Notices {
-    /// None yet. `AllocError` where the room for 64 is refused.
+    /// Returns none, with capacity for 64. `AllocError` where memory is refused.
     pub fn new(alloc: Global) -> Result<Notices, AllocError>
         ensures { IfOk result (λ notices. notices ≡ []) }
     {
         Ok(Notices {
-            waiting: Vec::with_capacity(alloc, MOST)?,
+            waiting: Vec::with_capacity(alloc, MOST_NOTICES)?,
         })
     }
 
@@ -107,33 +107,33 @@ impl Notices {
         requires { IsShort notice }
         ensures { self.new ≡ with_notice notice self.old }
     {
-        if self.waiting.len() < MOST {
+        if self.waiting.len() < MOST_NOTICES {
             self.waiting.push_reserved(notice);
         }
     }
 
-    /// Whether a further notice would be kept: fewer than 64 wait.
+    /// Tells whether a further notice would be kept: fewer than 64 wait.
     pub fn has_room(&self) -> bool
         ensures { result ≡ nat_lt (length self.now) 64 }
     {
-        self.waiting.len() < MOST
+        self.waiting.len() < MOST_NOTICES
     }
 
-    /// Whether none waits.
+    /// Tells whether none waits.
     pub fn is_empty(&self) -> bool
         ensures { result ≡ none_wait self.now }
     {
         self.waiting.is_empty()
     }
 
-    /// No notice waits from now on.
+    /// Drops all.
     pub fn clear(&mut self)
         ensures { self.new ≡ [] }
     {
         self.waiting.clear();
     }
 
-    /// All that wait, shared with an update.
+    /// Returns all that wait, which an update shares.
     pub fn share(&self, alloc: Global) -> Result<Vec<Notice>, AllocError>
         ensures items { IfOk result (λ shared. shared.items ≡ self.now) }
         ensures short { IfOk result (λ shared. All IsShort shared.items) }

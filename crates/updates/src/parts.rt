@@ -1,4 +1,4 @@
-//! What an update is made of: rectangles that the viewer copy_rects, and rectangles of colours.
+//! The parts of an update: rectangles that the viewer copies itself, and rectangles of colours.
 
 ghost use Rattle.std.specs.Prelude.{◌≡◌, ◌↔◌, IsTrue, ◌≤◌, ◌<◌, ◌+◌, ◌*◌, ◌^◌, length};
 
@@ -9,7 +9,7 @@ use messages::Encoding;
 use pixel_translate::Area;
 use std::sync::Arc;
 
-/// A rectangle whose pixels the viewer copy_rects from a source of the same size.
+/// A rectangle whose pixels the viewer copies from a source of the same size (RFC 6143, 7.7.2).
 #[derive(Drop)]
 pub struct CopyRect {
     pub area: Area,
@@ -58,7 +58,7 @@ pub enum Part {
 }
 
 impl Part {
-    /// Whether nothing is said.
+    /// Tells whether nothing is said.
     pub fn is_nothing(&self) -> bool
         ensures { IsTrue result ↔ (self.now ≡ Part.Nothing) }
     {

@@ -59,7 +59,7 @@ impl Model for RemainingRectangles {
     ghost invariant = { λ a. IsWithin a.rectangles.coloured.items a.reached };
 }
 
-/// Begins a rectangle in Raw, by its head of 12 bytes: how far it is encoded then. Where memory is refused, nothing is appended.
+/// Begins a rectangle in Raw, by its head of 12 bytes. Returns how far it is encoded then. Where memory is refused, nothing is appended.
 fn begin_in_raw(out: &mut Vec<u8>, rectangle: &Coloured) -> Result<Begun, AllocError>
     ensures bytes { IfOk result (λ begun. (f : PixelFormat) → out.new.items ++ rest_of f rectangle.now (Some begun) ≡
         out.old.items ++ coloured_bytes Encoding.Raw f rectangle.now) }
@@ -71,7 +71,7 @@ fn begin_in_raw(out: &mut Vec<u8>, rectangle: &Coloured) -> Result<Begun, AllocE
     Ok(Begun::Colours(0))
 }
 
-/// Begins a rectangle: in Raw and Hextile its head, else all of it. How far it is encoded, where not all of it is.
+/// Begins a rectangle: in Raw and Hextile its head, else all of it. Returns how far it is encoded, if not all of it is.
 fn begin_rectangle(
     out: &mut Vec<u8>,
     rectangle: &Coloured,
@@ -99,7 +99,7 @@ fn begin_rectangle(
     }
 }
 
-/// Goes on with a rectangle in Raw, by one piece of its colours: at most 8,192 bytes. How far it is encoded then, where not all of
+/// Goes on with a rectangle in Raw, by one piece of its colours: at most 8,192 bytes. Returns how far it is encoded then, if not all of
 /// it is. Where memory is refused, nothing is appended.
 fn go_on_in_raw(
     out: &mut Vec<u8>,
@@ -125,7 +125,7 @@ fn go_on_in_raw(
     }
 }
 
-/// How many columns an area has: fewer than 2^16.
+/// Returns how many columns `area` has: fewer than 2^16.
 fn columns_of(area: Area) -> usize
     ensures columns { result ≡ area.w }
     ensures few { result < 2 ^ 16 }
@@ -133,7 +133,7 @@ fn columns_of(area: Area) -> usize
     usize::from(area.w)
 }
 
-/// Goes on with a rectangle in Hextile, by one row of tiles. How far it is encoded then, where not all of it is.
+/// Goes on with a rectangle in Hextile, by one row of tiles. Returns how far it is encoded then, if not all of it is.
 fn go_on_in_hextile(
     alloc: Global,
     out: &mut Vec<u8>,
@@ -167,7 +167,7 @@ fn go_on_in_hextile(
     }
 }
 
-/// Goes on with a rectangle of which some is encoded. How far it is encoded then, where not all of it is.
+/// Goes on with a rectangle of which some is encoded. Returns how far it is encoded then, if not all of it is.
 fn go_on(
     alloc: Global,
     out: &mut Vec<u8>,
@@ -189,7 +189,7 @@ fn go_on(
     }
 }
 
-/// How far the rectangles are encoded once some of one is, or all of it.
+/// Returns how far the rectangles are encoded once some of rectangle `next` is, or all of it.
 fn reached_after(next: usize, begun: Option<Begun>) -> Reached
     requires { next < usize.MAX }
     ensures { result ≡ reached_after next begun }
@@ -200,8 +200,8 @@ fn reached_after(next: usize, begun: Option<Begun>) -> Reached
     }
 }
 
-/// Appends the next part of rectangles, behind what is reached: the head with the copies, a rectangle in RRE, the head of
-/// another, some of the pixels of one in Raw, or a row of tiles of one in Hextile. What is reached then.
+/// Appends the next part of rectangles, behind what is reached: the head with the copies, a rectangle in RRE, the head of another, some
+/// of the pixels of one in Raw, or a row of tiles of one in Hextile. Returns what is reached then.
 pub fn put_next(
     alloc: Global,
     out: &mut Vec<u8>,
@@ -236,7 +236,7 @@ pub fn put_next(
     }
 }
 
-/// Whether nothing of rectangles is left behind what is reached.
+/// Tells whether nothing of rectangles is left behind what is reached.
 pub fn is_nothing_left(rectangles: &Rectangles, reached: Reached) -> bool
     requires { IsWithin rectangles.now.coloured.items reached }
     ensures { IsTrue result ↔ (left_of rectangles.now reached ≡ []) }
@@ -248,64 +248,8 @@ pub fn is_nothing_left(rectangles: &Rectangles, reached: Reached) -> bool
     }
 }
 
-/// Appends the next piece of the pixels of a rectangle in Raw, of which so many are encoded: at most 8,192 bytes. What is reached
-/// then. Where memory is refused, nothing is appended.
-fn put_run(
-    out: &mut Vec<u8>,
-    rectangles: &Rectangles,
-    next: usize,
-    done: usize,
-) -> Result<Reached, AllocError>
-    requires { IsWithin rectangles.now.coloured.items (so_far.Within next (begun.Colours done)) }
-    ensures bytes { IfOk result (λ r. out.new.items ++ left_of rectangles.now r ≡
-        out.old.items ++ left_of rectangles.now (so_far.Within next (begun.Colours done))) }
-    ensures more { OnOk result (length out.old.items < length out.new.items) }
-    ensures bound { OnOk result (length out.new.items ≤ length out.old.items + 8192) }
-    ensures within { IfOk result (λ r. IsWithin rectangles.now.coloured.items r) }
-    ensures err { OnErr result (out.new.items ≡ out.old.items) }
-{
-    let table = rectangles.format.table();
-    let begun = go_on_in_raw(out, &rectangles.coloured[next], table, done)?;
-    Ok(reached_after(next, begun))
-}
-
-/// Appends the next part of rectangles, behind what is reached, where it has at most 8,192 bytes for certain: the head where there are
-/// no copies, and of a rectangle in Raw its head, or some of its pixels. What is reached then; None where another part comes next. Then,
-/// and where memory is refused, nothing is appended.
-fn put_short(
-    out: &mut Vec<u8>,
-    rectangles: &Rectangles,
-    reached: Reached,
-) -> Result<Option<Reached>, AllocError>
-    requires { IsWithin rectangles.now.coloured.items reached }
-    ensures bytes { IfOk result (λ next. IfSome next (λ r. out.new.items ++ left_of rectangles.now r ≡
-        out.old.items ++ left_of rectangles.now reached)) }
-    ensures more { IfOk result (λ next. IfSome next (λ _. length out.old.items < length out.new.items)) }
-    ensures bound { OnOk result (length out.new.items ≤ length out.old.items + 8192) }
-    ensures within { IfOk result (λ next. IfSome next (IsWithin rectangles.now.coloured.items)) }
-    ensures other { result ≡ Ok None → out.new.items ≡ out.old.items }
-    ensures err { OnErr result (out.new.items ≡ out.old.items) }
-{
-    match reached {
-        Reached::Nothing if rectangles.copy_rects.is_empty() => {
-            put_head(out, rectangles)?;
-            Ok(Some(Reached::Before(0)))
-        }
-        Reached::Before(next)
-            if next < rectangles.coloured.len() && rectangles.encoding == Encoding::Raw => {
-            let begun = begin_in_raw(out, &rectangles.coloured[next])?;
-            Ok(Some(Reached::Within(next, begun)))
-        }
-        Reached::Within(next, Begun::Colours(done)) => {
-            let reached = put_run(out, rectangles, next, done)?;
-            Ok(Some(reached))
-        }
-        _ => Ok(None),
-    }
-}
-
 impl RemainingRectangles {
-    /// All of an update's rectangles.
+    /// Returns all of an update's rectangles.
     pub fn new(alloc: Global, rectangles: Rectangles) -> RemainingRectangles
         ensures { result ≡ rectangles_bytes rectangles }
     {
@@ -316,7 +260,7 @@ impl RemainingRectangles {
         }
     }
 
-    /// The rectangles of colours alone: behind the head, and without copies.
+    /// Returns the rectangles of colours alone: behind the head, and without copies.
     pub(crate) fn of_pixels(alloc: Global, rectangles: Rectangles) -> RemainingRectangles
         ensures { result ≡ flat_map (coloured_bytes rectangles.encoding rectangles.format) rectangles.coloured.items }
     {
@@ -327,7 +271,7 @@ impl RemainingRectangles {
         }
     }
 
-    /// Whether all is encoded.
+    /// Tells whether all is encoded.
     pub fn is_ended(&self) -> bool
         ensures { IsTrue result ↔ (self.now ≡ []) }
     {
@@ -344,7 +288,8 @@ impl RemainingRectangles {
         Ok(())
     }
 
-    /// Appends the next part where it has at most 8,192 bytes for certain. Whether it has.
+    /// Appends the next part if it has at most 8,192 bytes for certain, and tells whether it has: the head where there are no copies, and
+    /// of a rectangle in Raw its head, or some of its pixels.
     pub fn put_short(&mut self, out: &mut Vec<u8>) -> Result<bool, AllocError>
         ensures bytes { OnOk result (out.new.items ++ self.new ≡ out.old.items ++ self.old) }
         ensures more { result ≡ Ok true → length out.old.items < length out.new.items }
@@ -354,16 +299,34 @@ impl RemainingRectangles {
         ensures err { OnErr result (out.new.items ≡ out.old.items) }
         ensures kept { OnErr result (self.new ≡ self.old) }
     {
-        let Some(reached) = put_short(out, &self.rectangles, self.reached)? else {
-            return Ok(false);
-        };
-        self.reached = reached;
-        Ok(true)
+        let reached = self.reached;
+        match reached {
+            Reached::Nothing if self.rectangles.copy_rects.is_empty() => {
+                put_head(out, &self.rectangles)?;
+                self.reached = Reached::Before(0);
+                Ok(true)
+            }
+            Reached::Before(next)
+                if next < self.rectangles.coloured.len()
+                    && self.rectangles.encoding == Encoding::Raw => {
+                let begun = begin_in_raw(out, &self.rectangles.coloured[next])?;
+                self.reached = Reached::Within(next, begun);
+                Ok(true)
+            }
+            Reached::Within(next, Begun::Colours(done)) => {
+                let rectangles = &self.rectangles;
+                let table = rectangles.format.table();
+                let begun = go_on_in_raw(out, &rectangles.coloured[next], table, done)?;
+                self.reached = reached_after(next, begun);
+                Ok(true)
+            }
+            _ => Ok(false),
+        }
     }
 }
 
 /// How many bytes of those that were encoded for several viewers are given at once, at most.
-const AT_ONCE: usize = 8192;
+const SHARED_PIECE: usize = 8192;
 
 /// An update's rectangles that were encoded for several viewers, of which some bytes are given. Contracts see the others.
 #[derive(Drop)]
@@ -386,8 +349,8 @@ impl Model for RemainingShared {
     ghost invariant = { λ a. a.given ≤ length (arc_value a.shared.pixels).items };
 }
 
-/// Appends the next piece of bytes of which so many are given: at most 8,192. How many are given then. Where memory is refused, nothing
-/// is appended.
+/// Appends the next piece of bytes of which `given` are given: at most 8,192. Returns how many are given then. Where memory is refused,
+/// nothing is appended.
 fn put_given(out: &mut Vec<u8>, bytes: &[u8], given: usize) -> Result<usize, AllocError>
     requires { given ≤ length bytes.now }
     ensures bytes { IfOk result (λ next. out.new.items ++ drop next bytes.now ≡ out.old.items ++ drop given bytes.now) }
@@ -396,13 +359,13 @@ fn put_given(out: &mut Vec<u8>, bytes: &[u8], given: usize) -> Result<usize, All
     ensures within { IfOk result (λ next. next ≤ length bytes.now) }
     ensures err { OnErr result (out.new.items ≡ out.old.items) }
 {
-    let end = bytes.len().min(given.saturating_add(AT_ONCE));
+    let end = bytes.len().min(given.saturating_add(SHARED_PIECE));
     out.extend_from_slice(&bytes[given..end])?;
     Ok(end)
 }
 
 impl RemainingShared {
-    /// All of them.
+    /// Returns all of them.
     pub fn new(shared: Shared) -> RemainingShared
         ensures { result ≡ shared_bytes shared }
     {
@@ -413,7 +376,7 @@ impl RemainingShared {
         }
     }
 
-    /// Whether all are given.
+    /// Tells whether all are given.
     pub fn is_ended(&self) -> bool
         ensures { IsTrue result ↔ (self.now ≡ []) }
     {
@@ -437,7 +400,7 @@ impl RemainingShared {
         Ok(())
     }
 
-    /// The same, where that has at most 8,192 bytes for certain. Whether it has, and there was something left.
+    /// Appends the next of these if it has at most 8,192 bytes for certain, and tells whether it has, and there was something left.
     pub fn put_short(&mut self, out: &mut Vec<u8>) -> Result<bool, AllocError>
         ensures bytes { OnOk result (out.new.items ++ self.new ≡ out.old.items ++ self.old) }
         ensures more { result ≡ Ok true → length out.old.items < length out.new.items }
@@ -447,7 +410,7 @@ impl RemainingShared {
         ensures err { OnErr result (out.new.items ≡ out.old.items) }
         ensures kept { OnErr result (self.new ≡ self.old) }
     {
-        if self.is_ended() || !self.is_opened && self.shared.front.len() > AT_ONCE {
+        if self.is_ended() || !self.is_opened && self.shared.front.len() > SHARED_PIECE {
             return Ok(false);
         }
         if self.is_opened {
@@ -494,7 +457,7 @@ impl Model for RemainingUpdate {
 }
 
 impl RemainingUpdate {
-    /// All of an update of the colour map where it is owed, of notices, and of what is said of the screen.
+    /// Returns all of an update of the colour map where it is owed, of notices, and of what is said of the screen.
     pub fn new(alloc: Global, map_owed: bool, notices: Vec<Notice>, part: Part) -> RemainingUpdate
         requires { All IsShort notices.items }
         ensures { result ≡ all_bytes map_owed notices.items part }
@@ -515,7 +478,7 @@ impl RemainingUpdate {
         }
     }
 
-    /// Whether all is encoded.
+    /// Tells whether all is encoded.
     pub fn is_ended(&self) -> bool
         ensures { IsTrue result ↔ (self.now ≡ []) }
     {
@@ -558,7 +521,7 @@ impl RemainingUpdate {
         }
     }
 
-    /// Appends the next part where it has at most 8,192 bytes for certain. Whether it has.
+    /// Appends the next part if it has at most 8,192 bytes for certain, and tells whether it has.
     pub fn put_short(&mut self, out: &mut Vec<u8>) -> Result<bool, AllocError>
         ensures bytes { OnOk result (out.new.items ++ self.new ≡ out.old.items ++ self.old) }
         ensures more { result ≡ Ok true → length out.old.items < length out.new.items }

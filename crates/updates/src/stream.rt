@@ -6,8 +6,11 @@ use crate::remaining::RemainingUpdate;
 use std::alloc::{AllocError, Global};
 use std::marker::Model;
 
-/// How many bytes a piece has at most. So little is left of a buffer of 64 KB where no further piece fits for certain.
-pub const PIECE: usize = 8192;
+/// How many bytes `Stream::fill` puts in a buffer at most: 64 KB.
+pub const STREAM_BUFFER: usize = 65_536;
+
+/// How many bytes `Stream::put` appends at most: 8 KB.
+pub const STREAM_PIECE: usize = 8192;
 
 /// An update on its way to a viewer, piece by piece. Contracts see it as the bytes that are still to come.
 ///
@@ -56,7 +59,7 @@ fn make_part(made: &mut Vec<u8>, remaining: &mut RemainingUpdate) -> Result<(), 
 }
 
 impl Stream {
-    /// All of an update.
+    /// Returns all of an update.
     pub fn new(alloc: Global, remaining: RemainingUpdate) -> Stream
         ensures { result ≡ remaining }
     {
@@ -67,7 +70,7 @@ impl Stream {
         }
     }
 
-    /// Whether all of the update was given.
+    /// Tells whether all of the update was given.
     pub fn is_ended(&self) -> bool
         ensures { IsTrue result ↔ (self.now ≡ []) }
     {
@@ -90,9 +93,24 @@ impl Stream {
             self.given = 0;
             make_part(&mut self.made, &mut self.remaining)?;
         }
-        let end = self.made.len().min(self.given.saturating_add(PIECE));
+        let end = self.made.len().min(self.given.saturating_add(STREAM_PIECE));
         out.extend_from_slice(&self.made[self.given..end])?;
         self.given = end;
+        Ok(())
+    }
+
+    /// Replaces what `buffer` has by the next bytes of the update: all that are to come, or as many as leave no capacity for a further
+    /// piece in 64 KB. Where memory is refused, those in `buffer` and those still to come are what was to come.
+    pub fn fill(&mut self, buffer: &mut Vec<u8>) -> Result<(), AllocError>
+        ensures bytes { buffer.new.items ++ self.new ≡ self.old }
+        ensures more { OnOk result (self.old ≢ [] → 0 < length buffer.new.items) }
+        ensures full { OnOk result (self.new ≢ [] → 57344 < length buffer.new.items) }
+        ensures bound { length buffer.new.items ≤ 65536 }
+    {
+        buffer.clear();
+        while buffer.len() <= STREAM_BUFFER - STREAM_PIECE && !self.is_ended() {
+            self.put(buffer)?;
+        }
         Ok(())
     }
 }

@@ -8,7 +8,6 @@ ghost use Rattle.messages.specs.declared.Encoding.{Encoding};
 ghost use Rattle.messages.specs.Server.{update_head};
 ghost use Rattle.std.specs.Arc.{arc_value};
 ghost use Rattle.framebuffer.specs.Picture.{colours_of};
-ghost use Rattle.framebuffer.specs.Blocks.{block_rect, FitsIn};
 ghost use Rattle.updates.specs.Areas.{area_of};
 ghost use Rattle.updates.specs.Bytes.{copy_bytes, pixel_rectangle, bytes_of};
 ghost use Rattle.updates.specs.Shared.{pixels_of};
@@ -20,14 +19,14 @@ use crate::remaining::RemainingRectangles;
 use crate::translation::Translation;
 use crate::update::front_of;
 use copy_schedule::Cut;
-use framebuffer::{Block, Framebuffer, block_within};
+use framebuffer::{Framebuffer, block_within};
 use messages::Encoding;
 use pixel_translate::Area;
 use region::Rect;
 use std::alloc::{AllocError, Global};
 use std::sync::Arc;
 
-/// The area of a rectangle of a screen.
+/// Returns the area of a rectangle of a screen.
 fn area_of(rect: Rect) -> Area
     requires inside { IsOnScreen longest_side longest_side rect }
     ensures { result ≡ area_of rect }
@@ -40,7 +39,7 @@ fn area_of(rect: Rect) -> Area
     }
 }
 
-/// A copy, with its source.
+/// Returns the copy to `rect`, with its source.
 fn copy_rect_of(rect: Rect, offset: (i32, i32)) -> CopyRect
     requires inside { IsOnScreen longest_side longest_side rect }
     requires source { IsOnScreen longest_side longest_side (source_rect offset rect) }
@@ -55,7 +54,7 @@ fn copy_rect_of(rect: Rect, offset: (i32, i32)) -> CopyRect
     }
 }
 
-/// The copies, with their sources.
+/// Returns the copies, with their sources.
 #[inline(always)]
 fn copy_rects_of(
     alloc: Global,
@@ -74,27 +73,23 @@ fn copy_rects_of(
     Ok(copy_rects)
 }
 
-/// A block of the screen, with its colours.
-fn coloured_of(picture: &mut Framebuffer, block: Block) -> Result<Coloured, AllocError>
-    requires fits { FitsIn picture.old.width picture.old.height block }
-    requires width { picture.old.width ≤ longest_side }
-    requires height { picture.old.height ≤ longest_side }
+/// Takes the colours of `rect` out of the picture.
+fn coloured_of(picture: &mut Framebuffer, rect: Rect) -> Result<Coloured, AllocError>
+    requires inside { IsOnScreen picture.old.width picture.old.height rect }
     ensures same { picture.new ≡ picture.old }
-    ensures area { IfOk result (λ c. c.area ≡ area_of (block_rect block)) }
+    ensures area { IfOk result (λ c. c.area ≡ area_of rect) }
     ensures colours { IfOk result (λ c. c.colours ≡
-        colours_of picture.old.width picture.old.height picture.old.colours (block_rect block)) }
+        colours_of picture.old.width picture.old.height picture.old.colours rect) }
 {
+    let block = block_within(rect, picture.width(), picture.height());
     let colours = Colours::of_block(picture, block)?;
-    let area = Area {
-        x: block.left as u16,
-        y: block.top as u16,
-        w: block.columns as u16,
-        h: block.rows as u16,
-    };
-    Ok(Coloured { area, colours })
+    Ok(Coloured {
+        area: area_of(rect),
+        colours,
+    })
 }
 
-/// The rectangles of pixels, with their colours.
+/// Takes the colours of rectangles out of the picture.
 #[inline(always)]
 fn coloured_rectangles(
     alloc: Global,
@@ -108,16 +103,14 @@ fn coloured_rectangles(
         flat_map (pixel_rectangle picture.old.width picture.old.height picture.old.colours encoding format) rects.now) }
     ensures count { IfOk result (λ parts. length parts.items ≡ length rects.now) }
 {
-    let (width, height) = (picture.width(), picture.height());
     let mut parts = Vec::with_capacity(alloc, rects.len())?;
     for rect in rects {
-        let block = block_within(*rect, width, height);
-        parts.push(coloured_of(picture, block)?)?;
+        parts.push(coloured_of(picture, *rect)?)?;
     }
     Ok(parts)
 }
 
-/// Rectangles of the picture in an encoding and a format, none of which is encoded yet. `AllocError` where their room is refused.
+/// Takes rectangles out of the picture, to be encoded in an encoding and a format. `AllocError` where memory is refused.
 pub fn pixels_to_encode(
     alloc: Global,
     picture: &mut Framebuffer,
@@ -140,7 +133,7 @@ pub fn pixels_to_encode(
     Ok(RemainingRectangles::of_pixels(alloc, rectangles))
 }
 
-/// The rectangles of a cut, for a viewer's encoding and format, as they are sent. `AllocError` where their room is refused.
+/// Takes the rectangles of a cut out of the picture, for a viewer's encoding and format. `AllocError` where memory is refused.
 pub fn places_of(
     alloc: Global,
     picture: &mut Framebuffer,
@@ -169,7 +162,7 @@ pub fn places_of(
     }))
 }
 
-/// The same, whose rectangles of pixels are encoded already.
+/// Returns the rectangles of a cut, of which `pixels` are encoded already.
 pub fn shared_places_of(alloc: Global, cut: &Cut, pixels: Arc<Vec<u8>>) -> Result<Part, AllocError>
     requires inside { All (IsOnScreen longest_side longest_side) cut.now.copies }
     requires sources { All (λ r. IsOnScreen longest_side longest_side (source_rect cut.now.offset r)) cut.now.copies }

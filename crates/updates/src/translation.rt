@@ -23,7 +23,7 @@ impl Model for Translation {
 }
 
 impl Translation {
-    /// The translations of a format. `AllocError` where their room is refused.
+    /// Works out the translations of a format. `AllocError` where memory is refused.
     pub fn new(alloc: Global, format: &PixelFormat) -> Result<Translation, AllocError>
         ensures { IfOk result (λ translation. translation ≡ format.now) }
     {
@@ -31,7 +31,7 @@ impl Translation {
         Ok(Translation { table })
     }
 
-    /// The same translations, for one more that uses them. This takes no memory; `AllocError` where 2^64 - 1 use them.
+    /// Returns the same translations, for one more that uses them. Takes no memory; `AllocError` where 2^64 - 1 use them.
     pub fn share(&self) -> Result<Translation, AllocError>
         ensures { IfOk result (λ translation. translation ≡ self.now) }
     {
@@ -39,7 +39,7 @@ impl Translation {
         Ok(Translation { table })
     }
 
-    /// The translations.
+    /// Returns the translations.
     pub fn table(&self) -> &Table
         ensures { result.now ≡ self.now }
     {

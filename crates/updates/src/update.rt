@@ -62,7 +62,7 @@ fn put_copy_rects(out: &mut Vec<u8>, copy_rects: &[CopyRect]) -> Result<(), Allo
     Ok(())
 }
 
-/// How many bytes rectangles have in Raw, or more.
+/// Returns how many bytes rectangles have in Raw, or more.
 fn size_of(rectangles: &[Coloured]) -> usize {
     let mut size = 0usize;
     for rectangle in rectangles {
@@ -92,7 +92,7 @@ pub fn put_opening(out: &mut Vec<u8>, rectangles: &Rectangles) -> Result<(), All
     put_copy_rects(out, &rectangles.copy_rects)
 }
 
-/// Appends a FramebufferUpdate, one part after the other. The room for all of it in Raw is made at once.
+/// Appends a FramebufferUpdate, one part after the other. Reserves the capacity for all of it in Raw at once.
 fn put_rectangles(
     alloc: Global,
     out: &mut Vec<u8>,
@@ -120,7 +120,7 @@ fn put_shared(out: &mut Vec<u8>, shared: &Shared) -> Result<(), AllocError>
     out.extend_from_slice(&shared.pixels)
 }
 
-/// The head of a FramebufferUpdate with copies and so many rectangles of pixels, and the copies.
+/// Returns the head of a FramebufferUpdate with copies and `pixels` rectangles of pixels, and the copies.
 pub fn front_of(
     alloc: Global,
     copy_rects: &[CopyRect],
@@ -176,7 +176,7 @@ fn put_part(alloc: Global, out: &mut Vec<u8>, part: &Part) -> Result<(), AllocEr
 }
 
 impl Update {
-    /// An update of the colour map where it is owed, of notices, and of what is said of the screen.
+    /// Returns an update of the colour map where it is owed, of notices, and of what is said of the screen.
     pub fn new(alloc: Global, map_owed: bool, notices: Vec<Notice>, part: Part) -> Update
         requires { All IsShort notices.items }
         ensures { result ≡ all_bytes map_owed notices.items part }
@@ -189,8 +189,7 @@ impl Update {
         }
     }
 
-    /// The bytes that the viewer is sent. This needs no screen and never waits; `AllocError` where
-    /// their room is refused.
+    /// Returns the bytes that the viewer is sent. Needs no screen and never waits; `AllocError` where memory is refused.
     pub fn encode(&self) -> Result<Vec<u8>, AllocError>
         ensures { IfOk result (λ bytes. bytes.items ≡ self.now) }
     {
@@ -201,8 +200,8 @@ impl Update {
         Ok(out)
     }
 
-    /// The same bytes, to be given in pieces: no more is encoded at once than a row in Raw, a row of tiles in
-    /// Hextile, or a rectangle in RRE.
+    /// Returns the same bytes, to be given in pieces: no more is encoded at once than a row in Raw, a row of tiles in Hextile, or a
+    /// rectangle in RRE.
     pub fn into_stream(self) -> Stream
         ensures { result ≡ self }
     {

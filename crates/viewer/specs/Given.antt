@@ -2,7 +2,7 @@
 use Rattle.std.specs.Prelude.{ℕ, Bool, false, ◌&&◌, nat_lt, length, List, [], ◌++◌, Option, Some, None}
 use Rattle.messages.specs.Reading.{is_open_rest}
 use Rattle.copy_schedule.specs.Marks.{Marks}
-use Rattle.viewer.specs.declared.viewer_state.Planned.{Planned}
+use Rattle.viewer.specs.declared.cutting.Planned.{Planned}
 use Rattle.viewer.specs.declared.cutting.PreparedUpdate.{PreparedUpdate}
 use Rattle.viewer.specs.Viewer.{KeptViewer}
 use Rattle.viewer.specs.Sending.{front_bytes}

@@ -14,12 +14,12 @@ input_of (item.Input input) = Some input
 input_of _ = None
 
 -- a viewer on a w by h screen, after messages
-abbrev pub after_items : {B : Type 0} → ℕ → ℕ → List Item → Viewer B → Viewer B
+abbrev pub after_items : {B : Type 0} (width height : ℕ) → List Item → Viewer B → Viewer B
 after_items w h [] v = v
 after_items w h (i ∷ is) v = after_items w h is (after_item w h i v)
 
 -- what a viewer of a w by h screen with a name is answered to a piece that comes behind its bytes so far
-abbrev pub heard_reply : ℕ → ℕ → List ℕ → List ℕ → List ℕ → Reply
+abbrev pub heard_reply : (width height : ℕ) (name before piece : List ℕ) → Reply
 heard_reply w h name before piece =
     let items = new_items before piece in record {
       bytes = greetings (server_init w h name) (heard before).phase items;

@@ -46,10 +46,10 @@ abbrev pub kept_viewer : Viewer (List ℕ) → KeptViewer
 kept_viewer v = record { heard = rest v.heard; shared = v.shared; format = v.format; map_owed = v.map_owed; encoding = v.encoding; uses_copyrect = v.uses_copyrect; takes_sizes = v.takes_sizes; full_requests = v.full_requests; told = v.told; marks = v.marks; notices = v.notices }
 
 -- at connecting
-abbrev pub new_viewer : ℕ → ℕ → Viewer (List ℕ)
+abbrev pub new_viewer : (width height : ℕ) → Viewer (List ℕ)
 new_viewer w h = record { heard = []; shared = false; format = server_format; map_owed = false; encoding = encoding.Raw; uses_copyrect = false; takes_sizes = false; full_requests = 0; told = None; marks = new_marks w h; notices = [] }
 
--- the ServerInit is sent, and there is no fault
+-- 7.3.2: the ServerInit is sent, and there is no fault
 abbrev pub is_open : Phase → End → Bool
 is_open (phase.Open v) waiting = true
 is_open _ _ = false
@@ -72,43 +72,43 @@ noticed notice open_now v = record v { notices = if open_now then with_notice no
 abbrev pub viewer_marked : {B : Type 0} → (ℤ → ℤ → Bool) → Viewer B → Viewer B
 viewer_marked set v = record v { marks = marked set v.marks }
 
--- a copy by (0, 0), or of no place that is on the screen with its source, does nothing
-abbrev pub does_nothing : ℕ → ℕ → (ℤ → ℤ → Bool) → ℤ × ℤ → Bool
+-- 7.7.2: a copy by (0, 0), or of no place that is on the screen with its source, does nothing
+abbrev pub does_nothing : (width height : ℕ) (set : ℤ → ℤ → Bool) (by : ℤ × ℤ) → Bool
 does_nothing w h set by = same_offset by (pos 0, pos 0) || not (some_place w h (cut_destination w h set by))
 
-abbrev pub viewer_copied : {B : Type 0} → ℕ → ℕ → (ℤ → ℤ → Bool) → ℤ × ℤ → Viewer B → Viewer B
+abbrev pub viewer_copied : {B : Type 0} (width height : ℕ) (set : ℤ → ℤ → Bool) (by : ℤ × ℤ) → Viewer B → Viewer B
 viewer_copied w h set by v =
     record v { marks = if does_nothing w h set by then v.marks else copied_by (cut_destination w h set by) by v.uses_copyrect v.marks }
 
--- A viewer's size is that of a w by h screen until its ServerInit, and then what it was told last.
-abbrev pub size_by : ℕ → ℕ → Option Size → Size
+-- 7.3.2, 7.8.2: a viewer's size is that of a w by h screen until its ServerInit, and then what it was told last
+abbrev pub size_by : (width height : ℕ) (told : Option Size) → Size
 size_by w h told = unwrap_or told (record { width = w; height = h })
 
 -- its view: the columns and rows that are within both its size and the screen
-abbrev pub view_by : ℕ → ℕ → Option Size → Size
+abbrev pub view_by : (width height : ℕ) (told : Option Size) → Size
 view_by w h told = record { width = min (size_by w h told).width w; height = min (size_by w h told).height h }
 
-abbrev pub view_of : {B : Type 0} → ℕ → ℕ → Viewer B → Size
+abbrev pub view_of : {B : Type 0} (width height : ℕ) → Viewer B → Size
 view_of w h v = view_by w h v.told
 
-abbrev pub in_view : {B : Type 0} → ℕ → ℕ → Viewer B → ℤ → ℤ → Bool
+abbrev pub in_view : {B : Type 0} (width height : ℕ) → Viewer B → (x y : ℤ) → Bool
 in_view w h v x y = on_screen (view_of w h v).width (view_of w h v).height x y
 
--- the screen has w columns and h rows from now on
-abbrev pub viewer_resized : {B : Type 0} → ℕ → ℕ → Viewer B → Viewer B
+-- 7.8.2: the screen has w columns and h rows from now on
+abbrev pub viewer_resized : {B : Type 0} (width height : ℕ) → Viewer B → Viewer B
 viewer_resized w h v = record v { marks = resized w h (in_view w h v) v.marks }
 
--- the places of an area that are in a view
-abbrev pub area_places : ℕ → ℕ → Area → ℤ → ℤ → Bool
+-- 7.5.3: the places of an area that are in a view
+abbrev pub area_places : (width height : ℕ) → Area → (x y : ℤ) → Bool
 area_places w h a x y = in_rect (record { x1 = pos a.x; y1 = pos a.y; x2 = pos (a.x + a.w); y2 = pos (a.y + a.h) }) x y && on_screen w h x y
 
--- one request more, which is counted where it isn't incremental
+-- 7.5.3: one request more, which is counted where it isn't incremental
 abbrev pub with_request : Bool → ℕ → ℕ
 with_request true n = n
 with_request false n = min (n + 1) (2 ^ 64 - 1)
 
 -- RFC 6143, 7.5: what a viewer's message does on a w by h screen. Its ClientInit is answered with the screen's size.
-abbrev pub after_item : {B : Type 0} → ℕ → ℕ → Item → Viewer B → Viewer B
+abbrev pub after_item : {B : Type 0} (width height : ℕ) → Item → Viewer B → Viewer B
 after_item w h (item.Format f) v = record v { format = f; map_owed = is_colour_map f }
 after_item w h (item.Encodings preferred copyrect resize) v = record v {
   encoding = preferred;

@@ -1,15 +1,14 @@
 //! One viewer of a screen: what is kept of its bytes, what it asked for, what it is owed, the notices that wait for it, and
 //! what it is sent.
 //!
-//! `viewer_state` is what is kept of a viewer, `hearing` what its messages do to it, `cutting` what it is sent next, `settings` what it
-//! has set, and `views` what of the screen it sees. `updates` has what one update is made of, and its bytes.
+//! `viewer` is what is kept of a viewer, `hearing` what its messages do to it, `cutting` what it is sent next, `settings` what it has
+//! set, and `views` what of the screen it sees. `updates` has what one update is made of, and its bytes.
 #![tactic(auto)]
 
 mod cutting;
 mod hearing;
 mod settings;
 mod viewer;
-mod viewer_state;
 mod views;
 
 pub use copy_schedule::{LogEntry, Prepared};
@@ -19,7 +18,7 @@ pub use messages::Encoding;
 use messages::{Fault, Input};
 pub use pixel_translate::{BitsPerPixel, Component, PixelFormat, Pixels};
 pub use settings::Settings;
-pub use updates::{Notice, Size, Stream, Text, Update};
+pub use updates::{Notice, STREAM_BUFFER, STREAM_PIECE, Size, Stream, Text, Update};
 pub use viewer::Viewer;
 
 /// What a viewer's bytes give (RFC 6143, 7.1 to 7.5).

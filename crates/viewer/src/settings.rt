@@ -2,9 +2,8 @@
 
 ghost use Rattle.std.specs.Prelude.{◌≡◌};
 ghost use Rattle.viewer.specs.Viewer.{settings_of};
-ghost use Rattle.viewer.specs.ViewerStates.{viewer_in};
 
-use crate::viewer_state::ViewerState;
+use crate::viewer::Viewer;
 use messages::Encoding;
 use pixel_translate::PixelFormat;
 
@@ -26,16 +25,18 @@ pub struct Settings {
     pub full_requests: u64,
 }
 
-/// What a viewer has set.
-pub(crate) fn settings_in(state: &ViewerState) -> Settings
-    ensures { result ≡ settings_of (viewer_in state.now) }
-{
-    Settings {
-        shared: state.shared,
-        format: state.format.table().format(),
-        encoding: state.encoding,
-        uses_copyrect: state.uses_copyrect,
-        takes_sizes: state.takes_sizes,
-        full_requests: state.full_requests,
+impl Viewer {
+    /// Returns what the viewer has set.
+    pub fn settings(&self) -> Settings
+        ensures { result ≡ settings_of self.now }
+    {
+        Settings {
+            shared: self.shared,
+            format: self.format.table().format(),
+            encoding: self.encoding,
+            uses_copyrect: self.uses_copyrect,
+            takes_sizes: self.takes_sizes,
+            full_requests: self.full_requests,
+        }
     }
 }

@@ -1,37 +1,45 @@
 //! A viewer, as the screen keeps it.
 
-ghost use Rattle.std.specs.Prelude.{◌≡◌, ◌≢◌, ◌&&◌, ◌||◌, not, ℕ, List, ◌++◌, ◌≤◌, ◌<◌, ◌^◌, [], length, All, IfOk, IfSome, OnOk};
-ghost use Rattle.std.specs.Prelude.{OnErr};
-ghost use Rattle.messages.specs.Reading.{rest, new_items, is_open_rest, fault_in_rest};
+ghost use Rattle.std.specs.Prelude.{◌≡◌, ◌&&◌, ◌||◌, not, ℕ, ◌≤◌, All, IfOk};
+ghost use Rattle.messages.specs.Reading.{is_open_rest, fault_in_rest};
 ghost use Rattle.copy_schedule.specs.Marks.{Marks, pending};
 ghost use Rattle.copy_schedule.specs.Log.{logged, IsCutEntry};
 ghost use Rattle.updates.specs.Waiting.{none_wait};
-ghost use Rattle.viewer.specs.Viewer.{is_asking, settings_of, noticed, new_viewer, kept_viewer, viewer_resized};
-ghost use Rattle.viewer.specs.Hearing.{after_items, heard_reply};
-ghost use Rattle.viewer.specs.Sending.{tells_size, sending_kept};
-ghost use Rattle.viewer.specs.Given.{bytes_given, prepared_bytes, after_prepared, keeps_notices};
 ghost use Rattle.updates.specs.Short.{IsShort};
-ghost use Rattle.viewer.specs.Told.{viewer_told, told_unless};
+ghost use Rattle.viewer.specs.Viewer.{is_asking, noticed, new_viewer, kept_viewer, viewer_resized};
+ghost use Rattle.viewer.specs.Sending.{is_size_owed, tells_size};
+ghost use Rattle.viewer.specs.Given.{keeps_notices, marks_put};
+ghost use Rattle.viewer.specs.Told.{viewer_told};
 ghost use Rattle.region.specs.Places.{longest_side};
 
-use crate::HeardPiece;
-use crate::cutting::{PreparedUpdate, commit_in, prepare_in};
-use crate::hearing::{hear_in, is_pending, new_state};
-use crate::settings::{Settings, settings_in};
-use crate::viewer_state::ViewerState;
 use crate::views::{view_by, whole};
-use copy_schedule::{LogEntry, Prepared, joined_log};
-use messages::Fault;
-use picture::Picture;
+use copy_schedule::{LogEntry, Marks, Prepared, joined_log};
+use messages::{Ear, Encoding, Fault};
+use pixel_translate::PixelFormat;
 use std::alloc::{AllocError, Global};
 use std::marker::Model;
-use updates::{Notice, Size, Update};
+use updates::{Notice, Notices, Size, Translation};
 
 /// One viewer of a screen. Contracts see what the RFC's words speak of: where its conversation stands, its pixel format and
 /// encoding, its marks of each place, and the notices that wait.
 pub struct Viewer {
-    alloc: Global,
-    state: ViewerState,
+    pub(crate) alloc: Global,
+    pub(crate) ear: Ear,
+    /// Its ClientInit asked that others stay connected (RFC 6143, 7.3.1).
+    pub(crate) shared: bool,
+    pub(crate) format: Translation,
+    /// The colour map that its format needs has not been sent yet (RFC 6143, 7.6.2).
+    pub(crate) map_owed: bool,
+    pub(crate) encoding: Encoding,
+    pub(crate) uses_copyrect: bool,
+    /// It lists DesktopSize (RFC 6143, 7.8.2).
+    pub(crate) takes_sizes: bool,
+    /// How many of its requests were not incremental (RFC 6143, 7.5.3).
+    pub(crate) full_requests: u64,
+    /// The size that it was sent last; None before its ServerInit (RFC 6143, 7.3.2).
+    pub(crate) told: Option<Size>,
+    pub(crate) marks: Marks,
+    pub(crate) notices: Notices,
 }
 
 // Written out, so that who holds one proves one call here, and not the drop of each field.
@@ -39,7 +47,17 @@ impl Drop for Viewer {
     fn drop(self) {
         let Viewer {
             alloc: _alloc,
-            state: _state,
+            ear: _ear,
+            shared: _shared,
+            format: _format,
+            map_owed: _map_owed,
+            encoding: _encoding,
+            uses_copyrect: _uses_copyrect,
+            takes_sizes: _takes_sizes,
+            full_requests: _full_requests,
+            told: _told,
+            marks: _marks,
+            notices: _notices,
         } = self;
     }
 }
@@ -51,11 +69,11 @@ impl Model for Viewer {
 
     ghost use Rattle.viewer.specs.ViewerStates.{viewer_in};
 
-    ghost view = { λ a. viewer_in a.state };
+    ghost view = { viewer_in };
 }
 
 impl Viewer {
-    /// A viewer that has just connected to a screen of so many columns and rows, 1 to 8192 each: every place is owed to it.
+    /// Returns a viewer that has just connected to a screen of `width` by `height`, each 1 to 8192: every place is owed to it.
     /// `AllocError` where memory is refused.
     pub fn new(alloc: Global, width: u32, height: u32) -> Result<Viewer, AllocError>
         requires some_columns { 1 ≤ width }
@@ -64,195 +82,160 @@ impl Viewer {
         requires rows { height ≤ longest_side }
         ensures { IfOk result (λ viewer. viewer ≡ kept_viewer (new_viewer width height)) }
     {
-        let state = new_state(alloc, width, height)?;
-        Ok(Viewer { alloc, state })
+        Ok(Viewer {
+            alloc,
+            ear: Ear::new(alloc),
+            shared: false,
+            format: Translation::new(alloc, &PixelFormat::server())?,
+            map_owed: false,
+            encoding: Encoding::Raw,
+            uses_copyrect: false,
+            takes_sizes: false,
+            full_requests: 0,
+            told: None,
+            marks: Marks::new(alloc, width, height),
+            notices: Notices::new(alloc)?,
+        })
     }
 
-    /// The viewer is told of the drawing that stands in a log, the first entry's first, and then a piece of its bytes is heard
-    /// (RFC 6143, 7.1 to 7.5): what it is answered, what it tells the application, and why it is heard no further. The desktop's
-    /// name is what its ServerInit tells it (7.3.2). After an `AllocError` the viewer is as it was. Its marks are made anew once,
-    /// for the log and the piece. Where the piece is inputs alone, the drawing is left to be told later.
-    pub fn hear_after(
-        &mut self,
-        log: &[LogEntry],
-        name: &[u8],
-        piece: &[u8],
-    ) -> Result<HeardPiece, AllocError>
-        requires cut { All (IsCutEntry self.old.marks.width self.old.marks.height) log.now }
-        requires name { length name.now ≤ u32.MAX }
-        ensures reply { (before : List ℕ) → self.old.heard ≡ rest before →
-            IfOk result (λ heard. heard.reply ≡ heard_reply self.old.marks.width self.old.marks.height name.now before piece.now) }
-        ensures viewer { (before : List ℕ) → self.old.heard ≡ rest before →
-            IfOk result (λ heard. told_unless heard.knows_log log.now self.new ≡
-            after_items self.old.marks.width self.old.marks.height (new_items before piece.now)
-            (record (viewer_told log.now self.old) { heard = rest (before ++ piece.now) })) }
-        ensures width { self.new.marks.width ≡ self.old.marks.width }
-        ensures height { self.new.marks.height ≡ self.old.marks.height }
-        ensures err { OnErr result (self.new ≡ self.old) }
+    /// Returns the size of its screen.
+    pub(crate) fn screen(&self) -> Size
+        ensures { result ≡ record { width = self.now.marks.width; height = self.now.marks.height } }
     {
-        hear_in(self.alloc, &mut self.state, log, name, piece)
+        Size {
+            width: self.marks.width() as u16,
+            height: self.marks.height() as u16,
+        }
     }
 
-    /// Whether an update would have something to send (`FB_UPDATE_PENDING` of `rfb.h`, the colour map, the notices, and a size), if it
-    /// were cut once the viewer is told of the drawing that stands in a log, the first entry's first. This takes no memory.
+    /// Tells whether it lists DesktopSize and has another size than the screen (RFC 6143, 7.8.2).
+    fn is_size_owed(&self) -> bool
+        ensures { result ≡ is_size_owed self.now.marks.width self.now.marks.height self.now }
+    {
+        let screen = self.screen();
+        let size = self.told.unwrap_or(screen);
+        self.takes_sizes && !(size.width == screen.width && size.height == screen.height)
+    }
+
+    /// Tells whether an update would tell it the size.
+    pub(crate) fn tells_size(&self) -> bool
+        ensures { result ≡ tells_size self.now.marks.width self.now.marks.height self.now }
+    {
+        self.marks.has_asked() && self.is_size_owed()
+    }
+
+    /// Tells whether an update would have something to send (`FB_UPDATE_PENDING` of `rfb.h`, the colour map, the notices, and a size),
+    /// if it were cut once the viewer is told of the drawing of `log`, the first entry's first. Takes no memory.
     pub fn is_pending_after(&self, log: &[LogEntry]) -> bool
         ensures { result ≡ (is_open_rest self.now.heard && (self.now.map_owed || (not (none_wait self.now.notices) ||
             (tells_size self.now.marks.width self.now.marks.height self.now || pending (viewer_told log.now self.now).marks)))) }
     {
-        is_pending(&self.state, log)
+        self.ear.is_open()
+            && (self.map_owed
+                || !self.notices.is_empty()
+                || self.tells_size()
+                || self.marks.pending_after(log))
     }
 
-    /// Whether it asked for places since an update of places, or of a size, was cut for it: a FramebufferUpdateRequest (RFC 6143,
+    /// Tells whether it asked for places since an update of places, or of a size, was cut for it: a FramebufferUpdateRequest (RFC 6143,
     /// 7.5.3) of its is unanswered.
     pub fn is_asking(&self) -> bool
         ensures { result ≡ is_asking self.now }
     {
-        self.state.marks.has_asked()
+        self.marks.has_asked()
     }
 
-    /// What the viewer has set.
-    pub fn settings(&self) -> Settings
-        ensures { result ≡ settings_of self.now }
-    {
-        settings_in(&self.state)
-    }
-
-    /// How many of its requests were not incremental (RFC 6143, 7.5.3).
+    /// Returns how many of its requests were not incremental (RFC 6143, 7.5.3).
     pub fn full_requests(&self) -> u64
         ensures { result ≡ self.now.full_requests }
     {
-        self.state.full_requests
+        self.full_requests
     }
 
-    /// Why the viewer is heard no further, if a fault was met.
+    /// Returns why the viewer is heard no further, if a fault was met.
     pub fn fault(&self) -> Option<Fault>
         ensures { result ≡ fault_in_rest self.now.heard }
     {
-        self.state.ear.fault()
+        self.ear.fault()
     }
 
-    /// Cuts an update of the picture for the viewer, with at most so many copies and so many rectangles of colours; None where
-    /// there is nothing to send. After an `AllocError` the viewer is as it was.
-    pub fn cut(&mut self, picture: &mut Picture, limit: u32) -> Result<Option<Update>, AllocError>
-        requires limit { limit ≤ 1000 }
-        requires width { self.old.marks.width ≡ picture.old.width }
-        requires height { self.old.marks.height ≡ picture.old.height }
-        ensures same { picture.new ≡ picture.old }
-        ensures bytes { IfOk result (λ update. bytes_given update ≡
-            (sending_kept picture.old.width picture.old.height limit picture.old.colours self.old).0) }
-        ensures viewer { OnOk result (self.new ≡
-            (sending_kept picture.old.width picture.old.height limit picture.old.colours self.old).1) }
-        ensures some { IfOk result (λ update. IfSome update (λ u. u ≢ [])) }
-        ensures width { self.new.marks.width ≡ self.old.marks.width }
-        ensures height { self.new.marks.height ≡ self.old.marks.height }
-        ensures err { OnErr result (self.new ≡ self.old) }
-    {
-        match self.prepare_cut(picture, limit)? {
-            None => Ok(None),
-            Some(prepared) => Ok(Some(self.commit_cut(prepared))),
-        }
-    }
-
-    /// Prepares an update of the picture for the viewer, with at most so many copies and so many rectangles of colours; None where
-    /// there is nothing to send. `commit_cut` cuts it.
-    pub fn prepare_cut(
-        &self,
-        picture: &mut Picture,
-        limit: u32,
-    ) -> Result<Option<PreparedUpdate>, AllocError>
-        requires limit { limit ≤ 1000 }
-        requires width { self.now.marks.width ≡ picture.old.width }
-        requires height { self.now.marks.height ≡ picture.old.height }
-        ensures same { picture.new ≡ picture.old }
-        ensures bytes { IfOk result (λ prepared. prepared_bytes prepared ≡
-            (sending_kept picture.old.width picture.old.height limit picture.old.colours self.now).0) }
-        ensures viewer { IfOk result (λ prepared. after_prepared self.now prepared ≡
-            (sending_kept picture.old.width picture.old.height limit picture.old.colours self.now).1) }
-        ensures some { IfOk result (λ prepared. IfSome prepared (λ p. p.update ≢ [])) }
-        ensures width { IfOk result (λ prepared. (after_prepared self.now prepared).marks.width ≡ self.now.marks.width) }
-        ensures height { IfOk result (λ prepared. (after_prepared self.now prepared).marks.height ≡ self.now.marks.height) }
-    {
-        prepare_in(self.alloc, picture, limit, &self.state)
-    }
-
-    /// Cuts the update that was prepared. This takes no memory.
-    pub fn commit_cut(&mut self, prepared: PreparedUpdate) -> Update
-        ensures update { result ≡ prepared_bytes (Some prepared) }
-        ensures viewer { self.new ≡ after_prepared self.old (Some prepared) }
-    {
-        commit_in(&mut self.state, prepared)
-    }
-
-    /// Whether the viewer had its ServerInit (RFC 6143, 7.3.2) and met no fault.
+    /// Tells whether the viewer had its ServerInit (RFC 6143, 7.3.2) and met no fault.
     pub fn is_open(&self) -> bool
         ensures { result ≡ is_open_rest self.now.heard }
     {
-        self.state.ear.is_open()
+        self.ear.is_open()
     }
 
-    /// Whether the viewer would keep a notice now.
+    /// Tells whether the viewer would keep a notice now.
     pub fn keeps_notices(&self) -> bool
         ensures { result ≡ keeps_notices self.now }
     {
-        self.state.ear.is_open() && self.state.notices.has_room()
+        self.ear.is_open() && self.notices.has_room()
     }
 
-    /// The viewer keeps a notice for its next update, where it is open and fewer than 64 wait. This takes no memory.
+    /// Keeps `notice` for its next update, if the viewer is open and fewer than 64 wait. Takes no memory.
     pub fn keep(&mut self, notice: Notice)
         requires { IsShort notice }
         ensures { self.new ≡ noticed notice (is_open_rest self.old.heard) self.old }
     {
-        if self.state.ear.is_open() {
-            self.state.notices.keep(notice);
+        if self.ear.is_open() {
+            self.notices.keep(notice);
         }
     }
 
-    /// The drawing of a log in fewer entries, as it is for this viewer and for each that uses CopyRect as it does: neighbouring
+    /// Returns the drawing of `log` in fewer entries, as it is for this viewer and for each that uses CopyRect as it does: neighbouring
     /// marks are one region. `AllocError` where memory is refused.
     pub fn joined_log(&self, log: &[LogEntry]) -> Result<Vec<LogEntry>, AllocError>
         ensures same { IfOk result (λ joined. (m : Marks) →
             logged self.now.uses_copyrect joined.items m ≡ logged self.now.uses_copyrect log.now m) }
         ensures cut { IfOk result (λ joined. (w h : ℕ) → All (IsCutEntry w h) log.now → All (IsCutEntry w h) joined.items) }
     {
-        joined_log(self.alloc, log, self.state.uses_copyrect)
+        joined_log(self.alloc, log, self.uses_copyrect)
     }
 
-    /// Whether the viewer uses CopyRect (RFC 6143, 7.7.2).
+    /// Tells whether the viewer uses CopyRect (RFC 6143, 7.7.2).
     pub fn uses_copyrect(&self) -> bool
         ensures { result ≡ self.now.uses_copyrect }
     {
-        self.state.uses_copyrect
+        self.uses_copyrect
     }
 
-    /// The marks as they are once the drawing is known that stands in a log, the first entry's first; `commit` puts them in
+    /// Prepares the marks as they are once the drawing of `entries` is known, the first entry's first; `commit` puts them in
     /// place. Each entry makes new regions, so a long log is first made shorter by `joined_log`. `AllocError` where memory is
     /// refused.
     pub fn prepare_log(&self, entries: &[LogEntry]) -> Result<Prepared, AllocError>
         requires cut { All (IsCutEntry self.now.marks.width self.now.marks.height) entries.now }
         ensures { IfOk result (λ prepared. prepared ≡ logged self.now.uses_copyrect entries.now self.now.marks) }
     {
-        let state = &self.state;
-        state.marks.prepare_log(entries, state.uses_copyrect)
+        self.marks.prepare_log(entries, self.uses_copyrect)
     }
 
-    /// The marks as they are once the screen has another size, 1 to 8192 columns and rows: every place is owed, and of the places
-    /// that were asked for those stay so that the viewer sees; `commit` puts them in place. Drawing that the viewer was not told of
+    /// Prepares the marks as they are once the screen is `width` by `height`, each 1 to 8192: every place is owed, and of the places
+    /// that were asked for those stay that the viewer sees; `commit` puts them in place. Drawing that the viewer was not told of
     /// makes no difference. `AllocError` where memory is refused.
     pub fn prepare_resize(&self, width: u16, height: u16) -> Result<Prepared, AllocError>
         requires columns { width ≤ longest_side }
         requires rows { height ≤ longest_side }
         ensures { IfOk result (λ prepared. prepared ≡ (viewer_resized width height self.now).marks) }
     {
-        let view = view_by(Size { width, height }, self.state.told);
-        self.state
-            .marks
+        let view = view_by(Size { width, height }, self.told);
+        self.marks
             .prepare_resize(u32::from(width), u32::from(height), whole(view))
     }
 
-    /// The viewer's marks are the prepared ones from now on. This takes no memory.
+    /// Puts the prepared marks in place of its own. Takes no memory.
     pub fn commit(&mut self, prepared: Prepared)
         ensures { self.new ≡ record self.old { marks = prepared } }
     {
-        self.state.marks.commit(prepared);
+        self.marks.commit(prepared);
+    }
+
+    /// Puts `marks` in place of its own, if there are any.
+    pub(crate) fn put_marks(&mut self, marks: Option<Marks>)
+        ensures { self.new ≡ record self.old { marks = marks_put self.old.marks marks } }
+    {
+        if let Some(marks) = marks {
+            self.marks = marks;
+        }
     }
 }

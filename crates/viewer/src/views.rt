@@ -8,8 +8,8 @@ use pixel_translate::Area;
 use region::Rect;
 use updates::Size;
 
-/// What a viewer sees of a screen: the columns and rows that are the screen's, and within the size that it was told last. Until it
-/// is told one, its size is the screen's.
+/// Returns what a viewer sees of `screen`: the columns and rows that are the screen's, and within the size that it was told last. Until
+/// it is told one, its size is the screen's.
 pub(crate) fn view_by(screen: Size, told: Option<Size>) -> Size
     ensures { result ≡ view_by screen.width screen.height told }
 {
@@ -20,7 +20,7 @@ pub(crate) fn view_by(screen: Size, told: Option<Size>) -> Size
     }
 }
 
-/// The rectangle of an area's places that are in a view.
+/// Returns the rectangle of the places of `area` that are in a view.
 pub(crate) fn clipped(view: Size, area: Area) -> Rect
     ensures { in_rect result ≡ area_places view.width view.height area }
 {
@@ -34,7 +34,7 @@ pub(crate) fn clipped(view: Size, area: Area) -> Rect
     }
 }
 
-/// The rectangle of all places of a view.
+/// Returns the rectangle of all places of a view.
 pub(crate) fn whole(view: Size) -> Rect
     ensures { in_rect result ≡ on_screen view.width view.height }
 {

@@ -7,7 +7,7 @@ use Rattle.viewer.proofs.hearing.inputs_of.Given as goal
 abbrev pub invariant-loop-item : goal.invariant-loop-item
 invariant-loop-item l = record {
   given : filter_map input_of l.items.items ++ reverse l.inputs.items ≡ filter_map input_of l.fn.items.items;
-  room : vec_len l.inputs + vec_len l.items ≤ vec_capacity l.inputs;
+  capacity : vec_len l.inputs + vec_len l.items ≤ vec_capacity l.inputs;
 }
 
 abbrev pub decreases-loop-item : goal.decreases-loop-item

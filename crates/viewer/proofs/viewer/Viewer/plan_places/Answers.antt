@@ -7,7 +7,7 @@ use Rattle.updates.specs.Bytes.{bytes_of}
 use Rattle.viewer.specs.Sending.{front_bytes, with_update}
 use Rattle.viewer.specs.ViewerStates.{viewer_in}
 use Rattle.viewer.specs.Viewer.{KeptViewer}
-use Rattle.viewer.proofs.cutting.plan_places.Goals as goal
+use Rattle.viewer.proofs.viewer.Viewer.plan_places.Goals as goal
 
 -- what was cut is what the marks send, and the marks after it
 record IsSent (limit : ℕ) (marks : Marks) (cut : Cut) (after : Marks) : Type 0 where
@@ -34,36 +34,36 @@ is_sent limit marks cut after found becomes = go (pending marks) refl
 
 pub returns-clause-bytes : goal.returns-clause-bytes
 returns-clause-bytes c =
-    let v = viewer_in c.args.state.now in
+    let v = viewer_in c.self.inside in
     let w = c.args.picture.now.width in
     let h = c.args.picture.now.height in
     let picture = c.args.picture.now.colours in
-    let cut = is_sent c.args.limit c.args.state.now.marks c.in-Some.field-0.cut c.in-Some.field-0.marks
+    let cut = is_sent c.args.limit c.self.inside.marks c.in-Some.field-0.cut c.in-Some.field-0.marks
     (ap (option_map (λ (q : PreparedCut). q.cut)) (sym c.in-Some.is) ∙ c.in_ok-cut.ensures.sent)
-    (subst (λ (o : Option PreparedCut). IfSome o (λ q. q.marks ≡ marks_after c.args.limit c.args.state.now.marks)) c.in-Some.is c.in_ok-cut.ensures.after) in
-    ap (λ l. front_bytes v ++ l) c.in_ok-part.ensures.bytes
+    (subst (λ (o : Option PreparedCut). IfSome o (λ q. q.marks ≡ marks_after c.args.limit c.self.inside.marks)) c.in-Some.is c.in_ok-cut.ensures.after) in
+    rw (← c.self.view_is) (ap (λ l. front_bytes v ++ l) c.in_ok-part.ensures.bytes
     ∙ ap (λ (q : Cut). front_bytes v ++ bytes_of w h picture v.encoding v.format q.copies q.offset q.pixels) (sym cut.cut_is)
-    ∙ ap (λ o. (with_update w h picture v o).0) (sym cut.is)
+    ∙ ap (λ o. (with_update w h picture v o).0) (sym cut.is))
 
 pub returns-clause-viewer : goal.returns-clause-viewer
 returns-clause-viewer c =
-    let v = viewer_in c.args.state.now in
-    let cut = is_sent c.args.limit c.args.state.now.marks c.in-Some.field-0.cut c.in-Some.field-0.marks
+    let v = viewer_in c.self.inside in
+    let cut = is_sent c.args.limit c.self.inside.marks c.in-Some.field-0.cut c.in-Some.field-0.marks
     (ap (option_map (λ (q : PreparedCut). q.cut)) (sym c.in-Some.is) ∙ c.in_ok-cut.ensures.sent)
-    (subst (λ (o : Option PreparedCut). IfSome o (λ q. q.marks ≡ marks_after c.args.limit c.args.state.now.marks)) c.in-Some.is c.in_ok-cut.ensures.after) in
-    ap (λ m. let u : KeptViewer = record v { map_owed = false; notices = []; marks = m } in u) (c.into_marks.ensures ∙ sym cut.after_is)
-    ∙ ap (λ o. (with_update c.args.picture.now.width c.args.picture.now.height c.args.picture.now.colours v o).1) (sym cut.is)
+    (subst (λ (o : Option PreparedCut). IfSome o (λ q. q.marks ≡ marks_after c.args.limit c.self.inside.marks)) c.in-Some.is c.in_ok-cut.ensures.after) in
+    rw (← c.self.view_is) (ap (λ m. let u : KeptViewer = record v { map_owed = false; notices = []; marks = m } in u) (c.into_marks.ensures ∙ sym cut.after_is)
+    ∙ ap (λ o. (with_update c.args.picture.now.width c.args.picture.now.height c.args.picture.now.colours v o).1) (sym cut.is))
 
 pub returns-clause-width : goal.returns-clause-width
 returns-clause-width c =
-    ap (λ (m : Marks). m.width) c.into_marks.ensures
-    ∙ (is_sent c.args.limit c.args.state.now.marks c.in-Some.field-0.cut c.in-Some.field-0.marks
+    rw (← c.self.view_is) (ap (λ (m : Marks). m.width) c.into_marks.ensures
+    ∙ (is_sent c.args.limit c.self.inside.marks c.in-Some.field-0.cut c.in-Some.field-0.marks
     (ap (option_map (λ (q : PreparedCut). q.cut)) (sym c.in-Some.is) ∙ c.in_ok-cut.ensures.sent)
-    (subst (λ (o : Option PreparedCut). IfSome o (λ q. q.marks ≡ marks_after c.args.limit c.args.state.now.marks)) c.in-Some.is c.in_ok-cut.ensures.after)).width
+    (subst (λ (o : Option PreparedCut). IfSome o (λ q. q.marks ≡ marks_after c.args.limit c.self.inside.marks)) c.in-Some.is c.in_ok-cut.ensures.after)).width)
 
 pub returns-clause-height : goal.returns-clause-height
 returns-clause-height c =
-    ap (λ (m : Marks). m.height) c.into_marks.ensures
-    ∙ (is_sent c.args.limit c.args.state.now.marks c.in-Some.field-0.cut c.in-Some.field-0.marks
+    rw (← c.self.view_is) (ap (λ (m : Marks). m.height) c.into_marks.ensures
+    ∙ (is_sent c.args.limit c.self.inside.marks c.in-Some.field-0.cut c.in-Some.field-0.marks
     (ap (option_map (λ (q : PreparedCut). q.cut)) (sym c.in-Some.is) ∙ c.in_ok-cut.ensures.sent)
-    (subst (λ (o : Option PreparedCut). IfSome o (λ q. q.marks ≡ marks_after c.args.limit c.args.state.now.marks)) c.in-Some.is c.in_ok-cut.ensures.after)).height
+    (subst (λ (o : Option PreparedCut). IfSome o (λ q. q.marks ≡ marks_after c.args.limit c.self.inside.marks)) c.in-Some.is c.in_ok-cut.ensures.after)).height)
