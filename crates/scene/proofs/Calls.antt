@@ -212,3 +212,7 @@ tells-answer {X = X} view r m a = go r a.refused
     go (Err e) None is told = rw is told
     go (Ok x) (Some e) is told = absurd cc
     go (Err k) (Some e) is told = rw is (ap (λ (r : Result X ScreenError). elim r [ Ok x ↦ Err k | Err q ↦ Err q ]) told)
+
+-- the refusal that is due
+pub tells-due : {X : Type 0} (view : X → Answer) (r : Result X ScreenError) (a : Answer) (e : ScreenError) → r ≡ Err e → a.refused ≡ Some e → Tells view r a
+tells-due view r a e is due = rw (is, due) refl

@@ -1,10 +1,15 @@
 -- Whether a viewer was there, by what a call of the list of viewers gave.
-use Rattle.std.proofs.Common.{◌≡◌, ◌≢◌, true, false, Option, Some, None, Result, Ok, Err, true≢false, refl, sym, ap, ◌∙◌}
+use Rattle.std.proofs.Common.{◌≡◌, ◌≢◌, ℕ, ◌==◌, List, true, false, Option, Some, None, Result, Ok, Err, true≢false, refl, sym, ap, ◌∙◌}
 use Rattle.std.specs.Prelude.{is_some}
+use Rattle.std.specs.Map.{lookup}
 use Rattle.std.specs.Option.{option_map}
 use Rattle.std.proofs.lemmas.Option.{same_Some}
 use Rattle.std.specs.declared.alloc.AllocError.{AllocError}
 use Rattle.viewer.specs.Viewer.{KeptViewer}
+use Rattle.framebuffer.specs.Frame.{Frame}
+use Rattle.scene.specs.declared.Config.{Config}
+use Rattle.scene.specs.Answers.{SceneState}
+use Rattle.scene.specs.Refusals.{viewer_at, absence}
 
 -- by a test
 pub test-some : (o : Option KeptViewer) → is_some o ≡ true → (v : KeptViewer) × (Some v ≡ o)
@@ -14,6 +19,15 @@ test-some (Some v) is = (v, refl)
 pub test-none : (o : Option KeptViewer) → is_some o ≡ false → o ≡ None
 test-none None is = refl
 test-none (Some v) is = absurd (true≢false is)
+
+-- by the refusal that is due where it isn't there
+pub present : (o : Option KeptViewer) → absence o ≡ None → (v : KeptViewer) × (Some v ≡ o)
+present None is = absurd (cc)
+present (Some v) is = (v, refl)
+
+pub present-seen : (c : Config) (p : Frame) (pairs : List (ℕ × KeptViewer)) (number : ℕ) (s : SceneState) → record { config = c; picture = p; viewers = pairs } ≡ s → absence (viewer_at s number) ≡ None
+    → (v : KeptViewer) × (Some v ≡ lookup (λ n. n == number) pairs)
+present-seen c p pairs number s is there = present (lookup (λ n. n == number) pairs) (ap (λ (t : SceneState). absence (viewer_at t number)) is ∙ there)
 
 pub not-none : (o : Option KeptViewer) → o ≢ None → (v : KeptViewer) × (Some v ≡ o)
 not-none None far = absurd (far refl)

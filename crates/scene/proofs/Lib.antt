@@ -11,7 +11,6 @@ mod Sent
 mod Drawn
 mod Copies
 mod Calls
-mod Next
 mod Refused
 mod Owing
 mod Watched

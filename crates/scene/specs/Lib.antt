@@ -1,7 +1,6 @@
 pub mod Alone
 pub mod Answers
 pub mod Refusals
-pub mod Next
 pub mod Calls
 pub mod Claims
 pub mod Shown

@@ -1,15 +1,14 @@
 //! What calls answered, as answers to events.
 
-ghost use Rattle.std.specs.Prelude.{◌≡◌, IfOk, MatchResult};
-ghost use Rattle.viewer.specs.Given.{prepared_bytes};
+ghost use Rattle.std.specs.Prelude.{◌≡◌, MatchResult};
 ghost use Rattle.scene.specs.Alone.{nothing_to_say, gives, refuses, settled, answer_of};
 
 use crate::{Answer, ScreenError};
 use listed::Listed;
 use std::alloc::{AllocError, Global};
-use viewer::{PreparedUpdate, Reply};
+use viewer::Reply;
 
-/// Bytes for the viewer, and nothing else.
+/// Returns the answer of bytes for the viewer, and nothing else.
 pub fn with_bytes(
     alloc: Global,
     given: Result<Listed<u8>, ScreenError>,
@@ -25,17 +24,7 @@ pub fn with_bytes(
     })
 }
 
-/// The bytes of an update that is prepared; none where there is nothing to send.
-pub fn encoded(alloc: Global, prepared: &Option<PreparedUpdate>) -> Result<Vec<u8>, AllocError>
-    ensures { IfOk result (λ bytes. bytes.items ≡ prepared_bytes prepared.now) }
-{
-    match prepared {
-        None => Ok(Vec::new(alloc)),
-        Some(prepared) => prepared.encode(),
-    }
-}
-
-/// What a viewer's bytes gave.
+/// Returns the answer to a piece of a viewer's bytes.
 pub fn with_reply(reply: Reply) -> Answer
     ensures { result ≡ answer_of reply }
 {
@@ -47,7 +36,7 @@ pub fn with_reply(reply: Reply) -> Answer
     }
 }
 
-/// Nothing to say.
+/// Returns the answer that says nothing.
 pub fn with_nothing(alloc: Global, given: Result<(), ScreenError>) -> Result<Answer, ScreenError>
     ensures { MatchResult given (λ _. result ≡ Ok nothing_to_say) (λ e. result ≡ Err e) }
 {
@@ -60,7 +49,7 @@ pub fn with_nothing(alloc: Global, given: Result<(), ScreenError>) -> Result<Ans
     })
 }
 
-/// What was given, with a refusal as an answer, but for want of memory.
+/// Returns what was given, with a refusal as an answer, but for want of memory.
 pub fn settled(alloc: Global, given: Result<Answer, ScreenError>) -> Result<Answer, AllocError>
     ensures { MatchResult given (λ answer. result ≡ Ok answer) (λ e. result ≡ settled e) }
 {
@@ -71,7 +60,7 @@ pub fn settled(alloc: Global, given: Result<Answer, ScreenError>) -> Result<Answ
     }
 }
 
-/// A refusal, and nothing else.
+/// Returns the answer of a refusal, and nothing else.
 fn refusal(alloc: Global, error: ScreenError) -> Answer
     ensures { result ≡ refuses error }
 {

@@ -9,14 +9,14 @@ use listed::Listed;
 use region::{Rect, Region};
 use std::alloc::{AllocError, Global};
 
-/// A rectangle as a list.
+/// Returns a rectangle as a list.
 fn list_of(alloc: Global, rect: Rect) -> Result<Listed<Rect>, AllocError>
     ensures { IfOk result (λ rects. rects ≡ rect ∷ []) }
 {
     Listed::from_slice(alloc, &[rect])
 }
 
-/// A region's canonical list.
+/// Returns a region's canonical list.
 fn rects_of(region: &Region) -> Result<Listed<Rect>, AllocError>
     ensures { IfOk result (λ rects. rects ≡ region.now.list) }
 {
@@ -65,7 +65,7 @@ pub enum Drawing<'a> {
 }
 
 impl<'a> Drawing<'a> {
-    /// Whether a viewer that waits may have something to be sent after the call: no viewer is told of colours that are only
+    /// Returns whether a viewer that waits may have something to be sent after the call: no viewer is told of colours that are only
     /// written.
     pub fn may_be_sent(&self) -> bool
         ensures { result ≡ may_be_sent self.now }
@@ -73,7 +73,7 @@ impl<'a> Drawing<'a> {
         !matches!(self, Drawing::Write { .. })
     }
 
-    /// Why the call is refused on a screen of so many columns and rows, if it is.
+    /// Returns why the call is refused on a screen of `width` columns and `height` rows, if it is.
     pub fn refusal(&self, width: u32, height: u32) -> Option<ScreenError>
         ensures { result ≡ call_refusal width height self.now }
     {
@@ -87,7 +87,7 @@ impl<'a> Drawing<'a> {
         }
     }
 
-    /// The event that the call is: with a rectangle as it was given, with a region's canonical list.
+    /// Returns the event that the call is: with a rectangle as it was given, with a region's canonical list.
     pub fn to_event(&self, alloc: Global) -> Result<Event, AllocError>
         ensures { IfOk result (λ event. event ≡ event_of self.now) }
     {

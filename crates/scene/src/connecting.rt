@@ -13,8 +13,8 @@ use std::alloc::{AllocError, Global};
 use viewer::Viewer;
 use viewer_list::ViewerList;
 
-/// A viewer that connects comes last; it is given the server's version. `AllocError` where memory is refused, since the number
-/// is no viewer's yet.
+/// Inserts a viewer that connects behind all others, and returns the server's version for it. `AllocError` where memory is refused,
+/// since the number is no viewer's yet.
 pub fn let_in(
     alloc: Global,
     width: u32,

@@ -20,7 +20,7 @@ use std::alloc::{AllocError, Global};
 use viewer::LogEntry;
 use viewer_list::ViewerList;
 
-/// Whether a copy by (dx, dy) to these rectangles, which each have places, does nothing: it moves no place, or none far.
+/// Returns whether a copy by (dx, dy) to these rectangles, which each have places, does nothing: it moves no place, or none far.
 pub fn moves_nothing(rects: &[Rect], offset: (i32, i32)) -> bool
     ensures yes { result ≡ true → (same_offset offset (pos 0, pos 0) ≡ true) ⊎ (rects.now ≡ []) }
     ensures no { result ≡ false → (same_offset offset (pos 0, pos 0) ≡ false) × (rects.now ≢ []) }
@@ -28,7 +28,7 @@ pub fn moves_nothing(rects: &[Rect], offset: (i32, i32)) -> bool
     (offset.0 == 0 && offset.1 == 0) || rects.is_empty()
 }
 
-/// The region of rectangles of a screen.
+/// Returns the region of rectangles of a screen.
 pub fn region_of(alloc: Global, rects: &[Rect]) -> Result<Region, AllocError>
     requires { All (IsOnScreen longest_side longest_side) rects.now }
     ensures { IfOk result (λ region. covers region.list ≡ covers rects.now) }
@@ -36,7 +36,7 @@ pub fn region_of(alloc: Global, rects: &[Rect]) -> Result<Region, AllocError>
     Region::from_rects_in_range(alloc, rects)
 }
 
-/// The region of a rectangle of a screen.
+/// Returns the region of a rectangle of a screen.
 pub fn region_of_rect(alloc: Global, rect: Rect) -> Region
     requires { in_range rect ≡ true }
     ensures { covers result.list ≡ in_rect rect }
@@ -44,7 +44,7 @@ pub fn region_of_rect(alloc: Global, rect: Rect) -> Region
     Region::from_rect_in_range(alloc, rect)
 }
 
-/// Each viewer is told of a drawing call, whose copy is on its screen with its sources.
+/// Tells each viewer of a drawing call, whose copy is on its screen with its sources.
 pub fn tell(viewers: &mut ViewerList, call: LogEntry) -> Result<(), AllocError>
     requires cut { All (λ v. IsCutEntry v.marks.width v.marks.height call) (values_of viewers.old.pairs) }
     ensures ok { OnOk result (viewers.new.pairs ≡ changed (drawn call) viewers.old.pairs) }
@@ -55,7 +55,7 @@ pub fn tell(viewers: &mut ViewerList, call: LogEntry) -> Result<(), AllocError>
     Ok(())
 }
 
-/// The places of a region are owed to each viewer. Where it has none, nothing changes.
+/// Owes the places of a region to each viewer. Where it has none, nothing changes.
 fn owe(viewers: &mut ViewerList, region: Region) -> Result<(), AllocError>
     requires whole { All IsWhole (values_of viewers.old.pairs) }
     ensures ok { OnOk result (viewers.new.pairs ≡ changed (viewer_marked (covers region.list)) viewers.old.pairs) }
@@ -67,8 +67,7 @@ fn owe(viewers: &mut ViewerList, region: Region) -> Result<(), AllocError>
     tell(viewers, LogEntry::Mark(region))
 }
 
-/// The places of rectangles, as far as they are on the screen, are owed to each viewer. Corners may stand in the wrong order,
-/// anywhere.
+/// Owes the places of rectangles that are on the screen to each viewer. Corners may stand in the wrong order, anywhere.
 pub fn owe_rects(
     alloc: Global,
     width: u32,
@@ -91,7 +90,7 @@ pub fn owe_rects(
     owe(viewers, region)
 }
 
-/// Whether no place of a region is off the screen, for certain.
+/// Returns whether no place of a region is off the screen, for certain.
 fn is_on_screen(width: u32, height: u32, region: &Region) -> bool
     requires columns { width ≤ longest_side }
     requires rows { height ≤ longest_side }
@@ -104,7 +103,7 @@ fn is_on_screen(width: u32, height: u32, region: &Region) -> bool
     }
 }
 
-/// A region with the places of another that are on the screen. It is a plain copy where its box is on the screen.
+/// Returns a region with the places of another that are on the screen. It is a plain copy where its box is on the screen.
 fn clip_to_screen(
     alloc: Global,
     width: u32,
@@ -129,7 +128,7 @@ fn clip_to_screen(
     region.intersection(&screen)
 }
 
-/// The places of a region, as far as they are on the screen, are owed to each viewer.
+/// Owes the places of a region that are on the screen to each viewer.
 pub fn owe_region(
     alloc: Global,
     width: u32,

@@ -45,7 +45,7 @@ pub struct Config {
 }
 
 impl Config {
-    /// The same configuration once more. `AllocError` where the room for its name is refused.
+    /// Returns a copy of the configuration. `AllocError` where memory for its name is refused.
     pub fn try_clone(&self, alloc: Global) -> Result<Config, AllocError>
         ensures { IfOk result (λ config. config ≡ self.now) }
     {

@@ -22,7 +22,7 @@ pub const MOST_RECTS: u32 = 1000;
 /// How many bytes a text has at most.
 pub const LONGEST_TEXT: usize = 65_536;
 
-/// Whether a screen may have so many columns and rows: 1 to 8192 each, with at most 2^24 places.
+/// Returns whether a screen may have `width` columns and `height` rows: 1 to 8192 each, with at most 2^24 places.
 fn is_size(width: u32, height: u32) -> bool
     ensures { result ≡ is_size width height }
 {
@@ -34,7 +34,7 @@ fn is_size(width: u32, height: u32) -> bool
         && width * height <= MOST_PLACES
 }
 
-/// Why a screen can't have so many columns and rows, if it can't: `BadSize` unless each is 1 to 8192, with at most 2^24 places.
+/// Checks a size: `BadSize` unless `width` and `height` are 1 to 8192 each, with at most 2^24 places.
 pub fn size_refusal(width: u32, height: u32) -> Option<ScreenError>
     ensures { result ≡ size_refusal width height }
 {
@@ -45,8 +45,8 @@ pub fn size_refusal(width: u32, height: u32) -> Option<ScreenError>
     }
 }
 
-/// Why no screen is made with so many columns and rows, a name, and so many rectangles an update, if none is: `BadSize`, then
-/// `BadName` above 255 bytes, then `BadRectLimit` unless there are 1 to 1000.
+/// Checks a configuration: `BadSize` as `size_refusal`, then `BadName` above 255 bytes, then `BadRectLimit` unless `rects_per_update` is
+/// 1 to 1000.
 pub fn config_refusal(
     width: u32,
     height: u32,
@@ -73,7 +73,7 @@ pub fn config_refusal(
     None
 }
 
-/// Why no screen is made of a configuration.
+/// Checks a configuration as `config_refusal` does.
 pub fn refusal_of(config: &Config) -> Option<ScreenError>
     ensures { result ≡ config_refusal config.now }
 {
@@ -81,21 +81,21 @@ pub fn refusal_of(config: &Config) -> Option<ScreenError>
     config_refusal(config.width, config.height, name, config.rects_per_update)
 }
 
-/// Whether 0 <= from <= to <= limit.
+/// Returns whether 0 <= from <= to <= limit.
 fn is_span(from: i32, to: i32, limit: u32) -> bool
     ensures { result ≡ is_span from to limit }
 {
     0 <= from && from <= to && to as u32 <= limit
 }
 
-/// Whether a rectangle with its corners in order is on a screen of so many columns and rows.
+/// Returns whether a rectangle with its corners in order is on a screen of `width` columns and `height` rows.
 fn is_within(width: u32, height: u32, rect: Rect) -> bool
     ensures { result ≡ is_within width height rect }
 {
     is_span(rect.x1, rect.x2, width) && is_span(rect.y1, rect.y2, height)
 }
 
-/// How many places are between a rectangle's corners.
+/// Returns how many places are between a rectangle's corners.
 fn places_of(rect: Rect) -> u64
     ensures { result ≡ nat_abs (rect.x2 -ℤ rect.x1) * nat_abs (rect.y2 -ℤ rect.y1) }
 {
@@ -104,8 +104,8 @@ fn places_of(rect: Rect) -> u64
     columns * rows
 }
 
-/// Why a rectangle's colours are not replaced by these on a screen of so many columns and rows, if they are not: `BadRect` unless its
-/// corners are in order and on the screen, then `BadPixelCount` unless there is a colour for each place.
+/// Checks a paint on a screen of `width` columns and `height` rows: `BadRect` unless the rectangle's corners are in order and on the
+/// screen, then `BadPixelCount` unless there is a colour for each place.
 pub fn pixels_refusal(width: u32, height: u32, rect: Rect, colours: &[u32]) -> Option<ScreenError>
     ensures { result ≡ pixels_refusal width height rect colours.now }
 {
@@ -118,7 +118,7 @@ pub fn pixels_refusal(width: u32, height: u32, rect: Rect, colours: &[u32]) -> O
     None
 }
 
-/// Why a text is not sent, if it is not: `TextTooLong` above 65,536 bytes.
+/// Checks a text: `TextTooLong` above 65,536 bytes.
 pub fn text_refusal(text: &[u8]) -> Option<ScreenError>
     ensures { result ≡ text_refusal text.now }
 {
@@ -128,7 +128,7 @@ pub fn text_refusal(text: &[u8]) -> Option<ScreenError>
     None
 }
 
-/// Nothing, or the refusal.
+/// Returns the refusal, if there is one, as an error.
 pub fn unless_refused(refusal: Option<ScreenError>) -> Result<(), ScreenError>
     ensures { MatchResult result (λ _. refusal ≡ None) (λ e. refusal ≡ Some e) }
 {
@@ -138,7 +138,7 @@ pub fn unless_refused(refusal: Option<ScreenError>) -> Result<(), ScreenError>
     }
 }
 
-/// The block of a rectangle of a screen whose colours may be replaced by these, or why they may not.
+/// Returns the block of a rectangle of a screen whose colours may be replaced by these, or why they may not.
 pub fn checked(picture: &Picture, rect: Rect, colours: &[u32]) -> Result<Block, ScreenError>
     ensures { MatchResult result (IsChecked picture.now.width picture.now.height rect colours.now)
         (λ e. pixels_refusal picture.now.width picture.now.height rect colours.now ≡ Some e) }

@@ -1,7 +1,7 @@
 //! The scene: each call is one event, and leaves it standing for the list of events so far with its own behind it.
 
 ghost use Rattle.std.specs.Prelude.{◌≡◌, ◌≢◌, ◌++◌, ◌∷◌, [], List, IfSome, IfOk, OnOk, OnErr, MatchOption, MatchResult, IsOk};
-ghost use Rattle.std.specs.Prelude.{IsOkUnless, IsSome, None, Some, length, take, drop, slice_index, is_some, ◌↔◌, ◌<◌, ◌≤◌, ◌+◌, ◌*◌};
+ghost use Rattle.std.specs.Prelude.{IsOkUnless, IsErr, IsSome, None, Some, length, take, drop, slice_index, is_some, ◌↔◌, ◌<◌, ◌≤◌, ◌+◌, ◌*◌};
 ghost use Rattle.std.specs.Map.{keys_of};
 ghost use Rattle.std.specs.Option.{option_map};
 ghost use Rattle.viewer.specs.Viewer.{is_asking, settings_of};
@@ -11,13 +11,13 @@ ghost use Rattle.scene.specs.declared.Config.{Config};
 ghost use Rattle.scene.specs.declared.Event.{Event};
 ghost use Rattle.scene.specs.Alone.{config_refusal, pixels_refusal, size_refusal, text_refusal, nothing_to_say, gives, something_to_send, told};
 ghost use Rattle.scene.specs.Alone.{Tells};
-ghost use Rattle.viewer.specs.Given.{bytes_given};
+ghost use Rattle.viewer.specs.Given.{bytes_given, prepared_bytes};
 ghost use Rattle.scene.specs.Answers.{scene_after, answer_to};
 ghost use Rattle.scene.specs.Calls.{event_of};
-ghost use Rattle.scene.specs.Next.{IsNext};
+ghost use Rattle.viewer_list.specs.Viewers.{IsMadeBefore};
 ghost use Rattle.scene.specs.Refusals.{viewer_at, absence, presence, refusal, Refuses};
 
-use crate::answers::{encoded, settled, with_bytes, with_nothing, with_reply};
+use crate::answers::{settled, with_bytes, with_nothing, with_reply};
 use crate::connecting::let_in;
 use crate::drawing::{moves_nothing, owe_rects, owe_region, region_of, region_of_rect, tell};
 use crate::limits::{checked, refusal_of, size_refusal, text_refusal, unless_refused};
@@ -66,8 +66,8 @@ impl Model for Scene {
 }
 
 impl Scene {
-    /// A picture that is 0 everywhere, with no viewer. It is refused as `BadSize`, `BadName` or
-    /// `BadRectLimit`, in this order, where the configuration is outside its limits.
+    /// Returns a picture that is 0 everywhere, with no viewer. Refuses a configuration outside its limits as `BadSize`, `BadName` or
+    /// `BadRectLimit`, in this order.
     pub fn new(alloc: Global, config: Config) -> Result<Scene, ScreenError>
         ensures made { IfOk result (λ scene. scene ≡ scene_after config []) }
         ensures refused { MatchOption (config_refusal config) (IsOkUnless result ScreenError.OutOfMemory) (λ e. result ≡ Err e) }
@@ -84,35 +84,35 @@ impl Scene {
         })
     }
 
-    /// From now on the rectangles of viewers that are alike are encoded once; or not, as at first.
+    /// Sets whether the rectangles of viewers that are alike are encoded once; at first they aren't.
     pub fn share_encodings(&mut self, shares: bool)
         ensures { self.new ≡ self.old }
     {
         self.picture.share(shares);
     }
 
-    /// The screen's columns, 1 to 8192.
+    /// Returns the screen's columns, 1 to 8192.
     pub fn width(&self) -> u32
         ensures { result ≡ self.now.picture.width }
     {
         self.picture.width()
     }
 
-    /// The screen's rows, 1 to 8192.
+    /// Returns the screen's rows, 1 to 8192.
     pub fn height(&self) -> u32
         ensures { result ≡ self.now.picture.height }
     {
         self.picture.height()
     }
 
-    /// Whether the events are to be kept.
+    /// Returns whether the events are to be kept.
     pub fn history(&self) -> History
         ensures { result ≡ self.now.config.history }
     {
         self.config.history
     }
 
-    /// The colour `0x00RRGGBB` of the place in column x of row y; None off the screen.
+    /// Returns the colour `0x00RRGGBB` of the place in column `x` of row `y`, unless that is off the screen.
     pub fn colour(&self, x: u32, y: u32) -> Option<u32>
         ensures inside { IsSome result ↔ ((x < self.now.picture.width) × (y < self.now.picture.height)) }
         ensures colour { IfSome result (λ colour. colour ≡ slice_index self.now.picture.colours (y * self.now.picture.width + x)) }
@@ -120,7 +120,7 @@ impl Scene {
         self.picture.colour(x, y)
     }
 
-    /// The colours `0x00RRGGBB` of the places of row y, from the left, of which none is copied; None off the screen.
+    /// Lends the colours `0x00RRGGBB` of the places of row `y`, from the left, unless that is off the screen.
     pub fn row(&self, y: u32) -> Option<&[u32]>
         ensures inside { IsSome result ↔ (y < self.now.picture.height) }
         ensures colours { IfSome result (λ row. row.now ≡
@@ -129,15 +129,15 @@ impl Scene {
         self.picture.row(y)
     }
 
-    /// How many viewers are live: connected, and not closed. A viewer that met a fault is live until it is closed.
+    /// Returns how many viewers are live: connected, and not closed. A viewer that met a fault is live until it is closed.
     pub fn viewer_count(&self) -> usize
         ensures { result ≡ length self.now.viewers }
     {
         self.viewers.len()
     }
 
-    /// How many entries of drawing stand in the log that the viewers share, besides those that were joined: at most 256, and 0 where
-    /// no viewer lacks one.
+    /// Returns how many entries of drawing stand in the log that the viewers share, besides those that were joined: at most 256, and 0
+    /// where no viewer lacks one.
     pub fn log_len(&self) -> usize
         ensures few { result ≤ 256 }
         ensures none { length self.now.viewers ≡ 0 → result ≡ 0 }
@@ -145,21 +145,21 @@ impl Scene {
         self.viewers.log_len()
     }
 
-    /// The live viewers' numbers, in the order in which they connected.
+    /// Returns the live viewers' numbers, in the order in which they connected.
     pub fn numbers(&self) -> Result<Listed<u64>, AllocError>
         ensures { IfOk result (λ numbers. numbers ≡ keys_of self.now.viewers) }
     {
         Ok(Listed::from_vec(self.viewers.numbers()?))
     }
 
-    /// Whether a live viewer has the number.
+    /// Returns whether a live viewer has the number.
     pub fn is_live(&self, number: u64) -> bool
         ensures { result ≡ is_some (viewer_at self.now number) }
     {
         self.viewers.has(number)
     }
 
-    /// Why a viewer is heard no further, if it met a fault. Refused as `NoViewer` where there is none with the number.
+    /// Returns why a viewer is heard no further, if it met a fault. Refused as `NoViewer` where there is none with the number.
     pub fn fault(&self, number: u64) -> Result<Option<Fault>, ScreenError>
         ensures { MatchOption (viewer_at self.now number) (result ≡ Err ScreenError.NoViewer) (λ viewer. result ≡
             Ok (fault_in_rest viewer.heard)) }
@@ -170,7 +170,7 @@ impl Scene {
         }
     }
 
-    /// Whether a viewer had its ServerInit (RFC 6143, 7.3.2) and met no fault. Refused as `NoViewer` where there is none with the
+    /// Returns whether a viewer had its ServerInit (RFC 6143, 7.3.2) and met no fault. Refused as `NoViewer` where there is none with the
     /// number.
     pub fn is_open(&self, number: u64) -> Result<bool, ScreenError>
         ensures { MatchOption (viewer_at self.now number) (result ≡ Err ScreenError.NoViewer) (λ viewer. result ≡
@@ -182,8 +182,8 @@ impl Scene {
         }
     }
 
-    /// Whether a viewer asked for places, and no update of places or of a size was cut for it since: a FramebufferUpdateRequest
-    /// (RFC 6143, 7.5.3) of its is unanswered. Refused as `NoViewer` where there is none with the number.
+    /// Returns whether a viewer asked for places, and no update of places or of a size was cut for it since: a
+    /// FramebufferUpdateRequest (RFC 6143, 7.5.3) of its is unanswered. Refused as `NoViewer` where there is none with the number.
     pub fn is_asking(&self, number: u64) -> Result<bool, ScreenError>
         ensures { MatchOption (viewer_at self.now number) (result ≡ Err ScreenError.NoViewer) (λ viewer. result ≡
             Ok (is_asking viewer)) }
@@ -194,7 +194,7 @@ impl Scene {
         }
     }
 
-    /// What a viewer has set by its messages. Refused as `NoViewer` where there is none with the number.
+    /// Returns what a viewer has set by its messages. Refused as `NoViewer` where there is none with the number.
     pub fn settings(&self, number: u64) -> Result<Settings, ScreenError>
         ensures { MatchOption (viewer_at self.now number) (result ≡ Err ScreenError.NoViewer) (λ viewer. result ≡
             Ok (settings_of viewer)) }
@@ -205,7 +205,7 @@ impl Scene {
         }
     }
 
-    /// How many requests of a viewer were not incremental. Refused as `NoViewer` where there is none with the number.
+    /// Returns how many requests of a viewer were not incremental. Refused as `NoViewer` where there is none with the number.
     pub fn full_requests(&self, number: u64) -> Result<u64, ScreenError>
         ensures { MatchOption (viewer_at self.now number) (result ≡ Err ScreenError.NoViewer) (λ viewer. result ≡
             Ok viewer.full_requests) }
@@ -216,8 +216,8 @@ impl Scene {
         }
     }
 
-    /// Nothing, or why colours `0x00RRGGBB`, row by row, may not replace those of a rectangle: `BadRect` unless
-    /// 0 <= x1 <= x2 <= width and 0 <= y1 <= y2 <= height, then `BadPixelCount` unless there are as many as places.
+    /// Checks a paint: `BadRect` unless 0 <= x1 <= x2 <= width and 0 <= y1 <= y2 <= height, then `BadPixelCount` unless there are as many
+    /// colours `0x00RRGGBB`, row by row, as places.
     pub fn check_pixels(&self, rect: Rect, colours: &[u32]) -> Result<(), ScreenError>
         ensures { MatchResult result (λ _. pixels_refusal self.now.picture.width self.now.picture.height rect colours.now ≡ None)
             (λ e. pixels_refusal self.now.picture.width self.now.picture.height rect colours.now ≡ Some e) }
@@ -226,21 +226,21 @@ impl Scene {
         Ok(())
     }
 
-    /// Nothing, or why a text can't be sent: `TextTooLong` above 65,536 bytes.
+    /// Checks a text: `TextTooLong` above 65,536 bytes.
     pub fn check_text(&self, text: &[u8]) -> Result<(), ScreenError>
         ensures { MatchResult result (λ _. text_refusal text.now ≡ None) (λ e. text_refusal text.now ≡ Some e) }
     {
         unless_refused(text_refusal(text))
     }
 
-    /// Nothing, or why the screen can't have so many columns and rows: `BadSize` unless each is 1 to 8192, with at most 2^24 places.
+    /// Checks a size: `BadSize` unless `width` and `height` are 1 to 8192 each, with at most 2^24 places.
     pub fn check_size(&self, width: u32, height: u32) -> Result<(), ScreenError>
         ensures { MatchResult result (λ _. size_refusal width height ≡ None) (λ e. size_refusal width height ≡ Some e) }
     {
         unless_refused(size_refusal(width, height))
     }
 
-    /// Nothing, or why no viewer may connect with a number: `NumberInUse` where a live viewer has it.
+    /// Checks that no live viewer has the number: `NumberInUse`.
     pub fn check_free(&self, number: u64) -> Result<(), ScreenError>
         ensures { MatchResult result (λ _. presence (viewer_at self.now number) ≡ None) (λ e. presence (viewer_at self.now number) ≡
             Some e) }
@@ -252,7 +252,7 @@ impl Scene {
         }
     }
 
-    /// Nothing, or why a call for a viewer is refused: `NoViewer` where no live viewer has the number.
+    /// Checks that a live viewer has the number: `NoViewer`.
     pub fn check_live(&self, number: u64) -> Result<(), ScreenError>
         ensures { MatchResult result (λ _. absence (viewer_at self.now number) ≡ None) (λ e. absence (viewer_at self.now number) ≡
             Some e) }
@@ -264,7 +264,7 @@ impl Scene {
         }
     }
 
-    /// The same. The call for that viewer that follows needs no further look-up.
+    /// Checks that a live viewer has the number: `NoViewer`. The call for that viewer that follows needs no further look-up.
     pub fn find(&mut self, number: u64) -> Result<(), ScreenError>
         ensures found { MatchResult result (λ _. absence (viewer_at self.old number) ≡ None) (λ e. absence (viewer_at self.old number) ≡
             Some e) }
@@ -277,7 +277,7 @@ impl Scene {
         }
     }
 
-    /// Nothing, or why an event would be refused now, but for want of memory.
+    /// Checks an event: why it would be refused now, but for want of memory.
     pub fn check(&self, event: &Event) -> Result<(), ScreenError>
         ensures { MatchResult result (λ _. refusal self.now event.now ≡ None) (λ e. refusal self.now event.now ≡ Some e) }
     {
@@ -335,7 +335,7 @@ impl Scene {
         Ok(())
     }
 
-    /// The rectangles' places on the screen are owed to every viewer. Corners may stand in the wrong order, anywhere.
+    /// Owes the rectangles' places on the screen to every viewer. Corners may stand in the wrong order, anywhere.
     pub fn mark_rects(&mut self, rects: &[Rect]) -> Result<(), ScreenError>
         ensures step { (config : Config) (list : List Event) → self.old ≡ scene_after config list →
             OnOk result (self.new ≡ scene_after config (list ++ Event.Mark rects.now ∷ [])) }
@@ -349,8 +349,7 @@ impl Scene {
         Ok(())
     }
 
-    /// The places of a region, as far as they are on the screen, are owed to every viewer
-    /// (`rfbMarkRegionAsModified` of `rfb.h`). Refused for want of memory alone.
+    /// Owes the places of a region that are on the screen to every viewer (`rfbMarkRegionAsModified` of `rfb.h`).
     pub fn mark_region(&mut self, region: &Region) -> Result<(), ScreenError>
         ensures step { (config : Config) (list : List Event) → self.old ≡ scene_after config list →
             OnOk result (self.new ≡ scene_after config (list ++ Event.Mark region.now.list ∷ [])) }
@@ -365,8 +364,7 @@ impl Scene {
         Ok(())
     }
 
-    /// Each viewer is told that the rectangles' places get the colours of the places (dx, dy) before them;
-    /// the picture stays.
+    /// Tells each viewer that the rectangles' places get the colours of the places (dx, dy) before them; the picture stays.
     pub fn schedule_copy(&mut self, rects: &[Rect], dx: i32, dy: i32) -> Result<(), ScreenError>
         ensures step { (config : Config) (list : List Event) → self.old ≡ scene_after config list →
             OnOk result (self.new ≡ scene_after config (list ++ Event.ScheduleCopy rects.now dx dy ∷ [])) }
@@ -388,7 +386,7 @@ impl Scene {
         Ok(())
     }
 
-    /// The rectangles' places get the colours of the places (dx, dy) before them, and each viewer is told.
+    /// Gives the rectangles' places the colours of the places (dx, dy) before them, and tells each viewer.
     pub fn do_copy(&mut self, rects: &[Rect], dx: i32, dy: i32) -> Result<(), ScreenError>
         ensures step { (config : Config) (list : List Event) → self.old ≡ scene_after config list →
             OnOk result (self.new ≡ scene_after config (list ++ Event.DoCopy rects.now dx dy ∷ [])) }
@@ -413,7 +411,7 @@ impl Scene {
         Ok(())
     }
 
-    /// `schedule_copy` for the places of a region.
+    /// Does what `schedule_copy` does for the places of a region.
     fn schedule_copy_region(&mut self, region: &Region, dx: i32, dy: i32) -> Result<(), ScreenError>
         ensures step { (config : Config) (list : List Event) → self.old ≡ scene_after config list →
             OnOk result (self.new ≡ scene_after config (list ++ Event.ScheduleCopy region.now.list dx dy ∷ [])) }
@@ -426,7 +424,7 @@ impl Scene {
         self.schedule_copy(rects.as_slice(), dx, dy)
     }
 
-    /// `do_copy` for the places of a region.
+    /// Does what `do_copy` does for the places of a region.
     fn do_copy_region(&mut self, region: &Region, dx: i32, dy: i32) -> Result<(), ScreenError>
         ensures step { (config : Config) (list : List Event) → self.old ≡ scene_after config list →
             OnOk result (self.new ≡ scene_after config (list ++ Event.DoCopy region.now.list dx dy ∷ [])) }
@@ -439,8 +437,7 @@ impl Scene {
         self.do_copy(rects.as_slice(), dx, dy)
     }
 
-    /// A bell for every open viewer for which fewer than 64 notices wait (`rfbSendBell` of `rfb.h`). Refused
-    /// for want of memory alone.
+    /// Keeps a bell for every open viewer for which fewer than 64 notices wait (`rfbSendBell` of `rfb.h`).
     pub fn bell(&mut self) -> Result<(), ScreenError>
         ensures step { (config : Config) (list : List Event) → self.old ≡ scene_after config list →
             OnOk result (self.new ≡ scene_after config (list ++ Event.Bell ∷ [])) }
@@ -453,8 +450,8 @@ impl Scene {
         Ok(())
     }
 
-    /// A text for every open viewer for which fewer than 64 notices wait (`rfbSendServerCutText` of `rfb.h`).
-    /// Refused as `TextTooLong` above 65,536 bytes.
+    /// Keeps a text for every open viewer for which fewer than 64 notices wait (`rfbSendServerCutText` of `rfb.h`). Refused as
+    /// `TextTooLong` above 65,536 bytes.
     pub fn cut_text(&mut self, text: &[u8]) -> Result<(), ScreenError>
         ensures step { (config : Config) (list : List Event) → self.old ≡ scene_after config list →
             OnOk result (self.new ≡ scene_after config (list ++ Event.CutText text.now ∷ [])) }
@@ -468,9 +465,9 @@ impl Scene {
         Ok(())
     }
 
-    /// The screen has so many columns and rows from now on, and is 0 everywhere (`rfbNewFramebuffer` of `rfb.h`). Every place is owed
-    /// to every viewer; those that list DesktopSize are told the size where they ask next. Refused as `BadSize` unless each is 1 to
-    /// 8192, with at most 2^24 places.
+    /// Replaces the picture by one of `width` columns and `height` rows that is 0 everywhere (`rfbNewFramebuffer` of `rfb.h`). Every
+    /// place is owed to every viewer; those that list DesktopSize are told the size where they ask next. Refused as `BadSize` unless
+    /// each is 1 to 8192, with at most 2^24 places.
     pub fn new_framebuffer(&mut self, width: u32, height: u32) -> Result<(), ScreenError>
         ensures step { (config : Config) (list : List Event) → self.old ≡ scene_after config list →
             OnOk result (self.new ≡ scene_after config (list ++ Event.Resize width height ∷ [])) }
@@ -487,7 +484,7 @@ impl Scene {
         Ok(())
     }
 
-    /// One of the drawing calls above.
+    /// Does a drawing call: one of the calls above, as a value.
     pub fn draw(&mut self, drawing: &Drawing<'_>) -> Result<(), ScreenError>
         ensures step { (config : Config) (list : List Event) → self.old ≡ scene_after config list →
             OnOk result (self.new ≡ scene_after config (list ++ event_of drawing.now ∷ [])) }
@@ -513,8 +510,8 @@ impl Scene {
         }
     }
 
-    /// A viewer connects; it is given the server's version (RFC 6143, 7.1.1). Refused as
-    /// `NumberInUse` where a live viewer has the number.
+    /// Lets a viewer connect, and returns the server's version for it (RFC 6143, 7.1.1). Refused as `NumberInUse` where a live viewer has
+    /// the number.
     pub fn connect(&mut self, number: u64) -> Result<Listed<u8>, ScreenError>
         ensures step { (config : Config) (list : List Event) → self.old ≡ scene_after config list →
             OnOk result (self.new ≡ scene_after config (list ++ Event.Connect number ∷ [])) }
@@ -545,7 +542,7 @@ impl Scene {
         removed
     }
 
-    /// A viewer is gone.
+    /// Removes a viewer. Refused as `NoViewer` where there is none with the number.
     fn remove(&mut self, number: u64) -> Result<(), ScreenError>
         ensures step { (config : Config) (list : List Event) → self.old ≡ scene_after config list →
             self.new ≡ scene_after config (list ++ Event.Close number ∷ []) }
@@ -560,7 +557,7 @@ impl Scene {
         }
     }
 
-    /// Where no viewer is left, what was encoded for several of them is let go.
+    /// Lets go what was encoded for several viewers, where no viewer is left.
     fn let_picture_rest(&mut self)
         ensures { self.new ≡ self.old }
     {
@@ -569,9 +566,8 @@ impl Scene {
         }
     }
 
-    /// A piece of a viewer's bytes is heard (RFC 6143, 7.1 to 7.5): what it is answered, what it
-    /// tells the application, and why it is heard no further. Refused as `NoViewer` where there is
-    /// none with the number.
+    /// Hears a piece of a viewer's bytes (RFC 6143, 7.1 to 7.5), and returns what it is answered, what it tells the application, and why
+    /// it is heard no further. Refused as `NoViewer` where there is none with the number.
     pub fn hear(&mut self, number: u64, piece: &[u8]) -> Result<Answer, ScreenError>
         ensures step { (config : Config) (list : List Event) → self.old ≡ scene_after config list →
             OnOk result (self.new ≡ scene_after config (list ++ Event.Hear number piece.now ∷ [])) }
@@ -581,16 +577,13 @@ impl Scene {
         ensures accepted { IfOk result (λ answer. answer.refused ≡ None) }
         ensures err { OnErr result (self.new ≡ self.old) }
     {
+        self.find(number)?;
         let name = self.config.name.as_slice();
-        let heard = self.viewers.hear(number, name, piece)?;
-        let Some(reply) = heard else {
-            return Err(ScreenError::NoViewer);
-        };
+        let reply = self.viewers.hear(number, name, piece)?;
         Ok(with_reply(reply))
     }
 
-    /// Whether a cut now would give something. Refused as `NoViewer` where there is no viewer with
-    /// the number.
+    /// Returns whether a cut now would give something. Refused as `NoViewer` where there is no viewer with the number.
     pub fn pending(&self, number: u64) -> Result<bool, ScreenError>
         ensures answer { (config : Config) (list : List Event) → self.now ≡ scene_after config list →
             result ≡ something_to_send (answer_to config list (Event.Cut number)) }
@@ -602,9 +595,9 @@ impl Scene {
         Ok(pending)
     }
 
-    /// Where encodings are shared, and a viewer would be sent next what several are likely to be sent, encodes a piece of what these want.
-    /// None: the viewer is best cut now. Else more is left to be encoded, and its cut better waits; the number is another where what it
-    /// waited for is lost. No byte depends on it.
+    /// Encodes a piece of what several viewers want, where encodings are shared and the viewer would be sent that next. Returns None where
+    /// the viewer is best cut now. Else more is left to be encoded, and its cut better waits; the number is another where what it waited
+    /// for is lost. No byte depends on it.
     #[inline(always)]
     pub fn encode_ahead(&mut self, number: u64) -> Option<u64>
         ensures { self.new ≡ self.old }
@@ -615,33 +608,48 @@ impl Scene {
         self.look_ahead(number)
     }
 
-    /// The same, where some update is likely to be wanted by several viewers: an update is prepared, of which the picture encodes a piece in
-    /// place of giving it.
+    /// Looks ahead for a viewer, where some update is likely to be wanted by several: an update is prepared, of which the picture
+    /// encodes a piece in place of giving it, and which is refused before the viewer changes.
     #[inline(never)]
     fn look_ahead(&mut self, number: u64) -> Option<u64>
         ensures { self.new ≡ self.old }
     {
+        let Ok(()) = self.find(number) else {
+            return None;
+        };
         self.picture.look_ahead();
-        let _nothing = self.prepare_cut(number);
+        let refuse = |_prepared: &PreparedUpdate| -> Result<(), AllocError>
+            ensures { IsErr result }
+        { Err(AllocError) };
+        let _nothing = self.cut_with(number, refuse);
         self.picture.more_ahead()
     }
 
-    /// Cuts an update for a viewer: its rectangles, with their colours as they stand; None where there is
-    /// nothing to send. Refused as `NoViewer` where there is none with the number.
-    pub fn cut(&mut self, number: u64) -> Result<Option<Update>, ScreenError>
+    /// Cuts an update for a live viewer: its rectangles, with their colours as they stand, with what `before` made of it before the
+    /// viewer changed; None where there is nothing to send. After an `AllocError`, also of `before`, nothing has changed.
+    pub fn cut_with<T, F: FnOnce(&PreparedUpdate) -> Result<T, AllocError>>(
+        &mut self,
+        number: u64,
+        before: F,
+    ) -> Result<Option<(Update, T)>, AllocError>
+        requires there { absence (viewer_at self.old number) ≡ None }
+        requires callable { F.IsAlwaysCallable before }
         ensures step { (config : Config) (list : List Event) → self.old ≡ scene_after config list →
             OnOk result (self.new ≡ scene_after config (list ++ Event.Cut number ∷ [])) }
         ensures answer { (config : Config) (list : List Event) → self.old ≡ scene_after config list →
-            Tells (λ update. gives (bytes_given update)) result (answer_to config list (Event.Cut number)) }
-        ensures some { IfOk result (λ update. IfSome update (λ u. u ≢ [])) }
-        ensures refused { Refuses result (absence (viewer_at self.old number)) }
+            IfOk result (λ cut. gives (bytes_given (option_map (λ c. c.0) cut)) ≡ answer_to config list (Event.Cut number)) }
+        ensures some { IfOk result (λ cut. IfSome cut (λ c. c.0 ≢ [])) }
+        ensures made { IfOk result (λ cut. IfSome cut (IsMadeBefore F.FnOnce before)) }
+        ensures none { IfOk result (λ cut. cut ≡ None → self.new ≡ self.old) }
         ensures err { OnErr result (self.new ≡ self.old) }
     {
-        let prepared = self.prepare_cut(number)?;
-        Ok(self.commit_cut(number, prepared))
+        let limit = self.config.rects_per_update;
+        self.viewers
+            .cut_with(number, &mut self.picture, limit, before)
     }
 
-    /// The same, encoded before the viewer changes.
+    /// Cuts an update for a viewer, and returns its bytes, which are encoded before the viewer changes; none where there is nothing
+    /// to send. Refused as `NoViewer` where there is none with the number.
     fn cut_bytes(&mut self, number: u64) -> Result<Listed<u8>, ScreenError>
         ensures step { (config : Config) (list : List Event) → self.old ≡ scene_after config list →
             OnOk result (self.new ≡ scene_after config (list ++ Event.Cut number ∷ [])) }
@@ -650,39 +658,17 @@ impl Scene {
         ensures refused { Refuses result (absence (viewer_at self.old number)) }
         ensures err { OnErr result (self.new ≡ self.old) }
     {
-        let prepared = self.prepare_cut(number)?;
-        let bytes = encoded(self.alloc, &prepared)?;
-        self.commit_cut(number, prepared);
-        Ok(Listed::from_vec(bytes))
+        self.find(number)?;
+        let encode = |prepared: &PreparedUpdate| -> Result<Vec<u8>, AllocError>
+            ensures { IfOk result (λ bytes. bytes.items ≡ prepared_bytes (Some prepared.now)) }
+        { prepared.encode() };
+        match self.cut_with(number, encode)? {
+            Some((_, bytes)) => Ok(Listed::from_vec(bytes)),
+            None => Ok(Listed::new(self.alloc)),
+        }
     }
 
-    /// Prepares an update for a viewer; None where there is nothing to send. Refused as `NoViewer` where there is none with the
-    /// number. Nothing changes.
-    fn prepare_cut(&mut self, number: u64) -> Result<Option<PreparedUpdate>, ScreenError>
-        ensures next { IfOk result (IsNext self.new number) }
-        ensures some { IfOk result (λ prepared. IfSome prepared (λ p. p.update ≢ [])) }
-        ensures refused { Refuses result (absence (viewer_at self.old number)) }
-        ensures same { self.new ≡ self.old }
-    {
-        let limit = self.config.rects_per_update;
-        let given = self.viewers.prepare_cut(number, &mut self.picture, limit)?;
-        let Some(prepared) = given else {
-            return Err(ScreenError::NoViewer);
-        };
-        Ok(prepared)
-    }
-
-    /// Cuts what was prepared for a viewer.
-    fn commit_cut(&mut self, number: u64, prepared: Option<PreparedUpdate>) -> Option<Update>
-        requires { IsNext self.old number prepared }
-        ensures step { (config : Config) (list : List Event) → self.old ≡ scene_after config list →
-            self.new ≡ scene_after config (list ++ Event.Cut number ∷ []) }
-        ensures update { result ≡ option_map (λ p. p.update) prepared }
-    {
-        self.viewers.commit_cut(number, prepared)
-    }
-
-    /// One event, or why it is refused.
+    /// Does an event, or returns why it is refused.
     fn step(&mut self, event: &Event) -> Result<Answer, ScreenError>
         ensures step { (config : Config) (list : List Event) → self.old ≡ scene_after config list →
             OnOk result (self.new ≡ scene_after config (list ++ event.now ∷ [])) }
@@ -742,8 +728,8 @@ impl Scene {
         }
     }
 
-    /// One event. A refusal of another kind than want of memory stands in the answer, and then
-    /// nothing has changed; a Cut gives the encoded bytes, or none.
+    /// Does an event. A refusal of another kind than want of memory stands in the answer, and then nothing has changed; a Cut gives the
+    /// encoded bytes, or none.
     pub fn apply(&mut self, event: &Event) -> Result<Answer, AllocError>
         ensures step { (config : Config) (list : List Event) → self.old ≡ scene_after config list →
             OnOk result (self.new ≡ scene_after config (list ++ event.now ∷ [])) }

@@ -3,6 +3,7 @@ use Rattle.std.proofs.Common.{◌≡◌, ◌≢◌, ℕ, Bool, true, false, List
 use Rattle.std.specs.Prelude.{is_none, is_some, option_map, if◌then◌else◌, MatchOption, MatchResult, IsErrAnd, is_err, IfSome, ◌&&◌}
 use Rattle.std.proofs.lemmas.Result.{err_from_is_err_and}
 use Rattle.std.proofs.lemmas.List.{append-nil}
+use Rattle.viewer.specs.Given.{bytes_given}
 use Rattle.scene.specs.declared.Config.{Config}
 use Rattle.scene.specs.declared.History.{History}
 use Rattle.scene.specs.declared.History.TheVariants.{Kept, NotKept}
@@ -180,20 +181,16 @@ answers-memory Q (Err e) P o h err = h
 
 -- ---- a cut, which happened just where it gave something
 
-pub cut-nothing : {X : Type 0} (answer : X → Answer) (x : X) (v : ℕ) (a : Answer) → Tells answer (Ok x) a → answer x ≡ gives [] → has_happened (Cut v) a ≡ false
-cut-nothing {X = X} answer x v a told empty = go a.refused told
-  where
-    go : (o : Option ScreenError) → MatchOption o (answer x ≡ a) (λ e. ◌≡◌ {A = Result X ScreenError} (Ok x) (Err e)) → has_happened (Cut v) a ≡ false
-    go None h = ap (has_happened (Cut v)) (sym h ∙ empty)
-    go (Some e) h = absurd cc
-
 some-bytes : (bytes : List ℕ) → bytes ≢ [] → some_bytes bytes ≡ true
 some-bytes [] h = absurd (h refl)
 some-bytes (b ∷ bytes) h = refl
 
-pub cut-something : {X : Type 0} (answer : X → Answer) (x : X) (v : ℕ) (a : Answer) (bytes : List ℕ) → Tells answer (Ok x) a → answer x ≡ gives bytes → bytes ≢ [] → has_happened (Cut v) a ≡ true
-cut-something {X = X} answer x v a bytes told given some = go a.refused told
-  where
-    go : (o : Option ScreenError) → MatchOption o (answer x ≡ a) (λ e. ◌≡◌ {A = Result X ScreenError} (Ok x) (Err e)) → has_happened (Cut v) a ≡ true
-    go None h = ap (has_happened (Cut v)) (sym h ∙ given) ∙ some-bytes bytes some
-    go (Some e) h = absurd cc
+module _ (v : ℕ) (a : Answer) {X : Type 0} (cut : Option (List ℕ × X)) (answer : gives (bytes_given (option_map (λ x. x.0) cut)) ≡ a) where
+  given-as : (was : Option (List ℕ × X)) → cut ≡ was → gives (bytes_given (option_map (λ x. x.0) was)) ≡ a
+  given-as was is = ap (λ (o : Option (List ℕ × X)). gives (bytes_given (option_map (λ x. x.0) o))) (sym is) ∙ answer
+
+  pub cut-nothing : cut ≡ None → has_happened (Cut v) a ≡ false
+  cut-nothing is = ap (has_happened (Cut v)) (sym (given-as None is))
+
+  pub cut-something : (given : List ℕ × X) → cut ≡ Some given → IfSome cut (λ x. x.0 ≢ []) → has_happened (Cut v) a ≡ true
+  cut-something given is some = ap (has_happened (Cut v)) (sym (given-as (Some given) is)) ∙ some-bytes given.0 (subst (λ o. IfSome o (λ x. x.0 ≢ [])) is some)

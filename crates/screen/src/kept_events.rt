@@ -1,6 +1,6 @@
 //! The events that a screen keeps, in order, where it keeps any.
 
-ghost use Rattle.std.specs.Prelude.{◌≡◌, ◌≤◌, true, ◌∷◌, ◌++◌, [], List, IfOk, OnOk, is_some, option_map};
+ghost use Rattle.std.specs.Prelude.{◌≡◌, ◌≤◌, true, false, ◌∷◌, ◌++◌, [], List, IfOk, OnOk, is_some, option_map};
 ghost use Rattle.kept_list.specs.Kept.{HasRoom};
 ghost use Rattle.screen.specs.State.{history_by};
 ghost use Rattle.scene.specs.Calls.{event_of};
@@ -29,7 +29,19 @@ impl Drop for KeptEvents {
     }
 }
 
-/// A list of nothing yet, which is kept where the history is. This takes no memory.
+/// Returns the event that a drawing call is, for a list that is kept; else `Bell`, since the list drops it. `AllocError` where memory
+/// for a list that is kept is refused.
+pub fn event_in(kept: &KeptList<Event>, drawing: &Drawing<'_>) -> Result<Event, AllocError>
+    ensures kept { is_some kept.now.items ≡ true → IfOk result (λ event. event ≡ event_of drawing.now) }
+    ensures dropped { is_some kept.now.items ≡ false → result ≡ Ok Event.Bell }
+{
+    if !kept.is_kept() {
+        return Ok(Event::Bell);
+    }
+    drawing.to_event(kept.allocator())
+}
+
+/// Returns a list of nothing yet, which is kept where the history is. This takes no memory.
 pub fn list_for<T>(alloc: Global, history: History) -> KeptList<T>
     ensures { result.items ≡ history_by history [] }
 {
@@ -40,7 +52,7 @@ pub fn list_for<T>(alloc: Global, history: History) -> KeptList<T>
 }
 
 impl KeptEvents {
-    /// None yet.
+    /// Returns a history of no events yet.
     pub fn new(alloc: Global, history: History) -> KeptEvents
         ensures { result.events.items ≡ history_by history [] }
     {
@@ -50,21 +62,14 @@ impl KeptEvents {
         }
     }
 
-    /// The events, if they are kept.
+    /// Lends the events, if they are kept.
     pub fn as_slice(&self) -> Option<&[Event]>
         ensures { option_map (λ events. events.now) result ≡ self.now.events.items }
     {
         self.events.as_slice()
     }
 
-    /// Whether they are kept.
-    pub fn is_kept(&self) -> bool
-        ensures { result ≡ is_some self.now.events.items }
-    {
-        self.events.is_kept()
-    }
-
-    /// Makes room for so many more, at least one, where they are kept.
+    /// Makes room for `count` more, at least one, where they are kept.
     fn reserve(&mut self, count: usize) -> Result<(), AllocError>
         requires { 1 ≤ count }
         ensures same { self.new.events.items ≡ self.old.events.items }
@@ -93,7 +98,7 @@ impl KeptEvents {
         }
     }
 
-    /// How many viewers are open once an event has happened.
+    /// Returns how many viewers are open once an event has happened.
     fn open_after(&self, event: &Event) -> usize {
         match event {
             Event::Connect { .. } => self.open.saturating_add(1),
@@ -111,25 +116,21 @@ impl KeptEvents {
         self.events.push(event);
     }
 
-    /// A copy of what an event holds, for keeping; nothing where none are kept.
+    /// Returns a copy of what an event holds, for keeping; nothing where none are kept.
     pub fn copied<T: Copy>(&self, items: &[T]) -> Result<Listed<T>, AllocError>
         ensures { is_some self.now.events.items ≡ true → IfOk result (λ copy. copy ≡ items.now) }
     {
         self.events.copy_of(items)
     }
 
-    /// The event that a drawing call is, where events are kept; else any, which is dropped.
+    /// Returns the event that a drawing call is, where events are kept; else any, which is dropped.
     pub fn event_of(&self, drawing: &Drawing<'_>) -> Result<Event, AllocError>
         ensures { is_some self.now.events.items ≡ true → IfOk result (λ event. event ≡ event_of drawing.now) }
     {
-        if self.is_kept() {
-            drawing.to_event(self.events.allocator())
-        } else {
-            Ok(Event::Bell)
-        }
+        event_in(&self.events, drawing)
     }
 
-    /// A copy of an event, for keeping; without its lists where none are kept.
+    /// Returns a copy of an event, for keeping; without its lists where none are kept.
     pub fn copied_event(&self, event: &Event) -> Result<Event, AllocError>
         ensures { is_some self.now.events.items ≡ true → IfOk result (λ copy. copy ≡ event.now) }
     {
@@ -174,7 +175,7 @@ impl KeptEvents {
     }
 }
 
-/// Whether something happened, by what an event was answered: not where it was refused, nor where a cut gave nothing.
+/// Returns whether something happened, by what an event was answered: not where it was refused, nor where a cut gave nothing.
 pub fn has_happened(event: &Event, answer: &Answer) -> bool
     ensures { result ≡ has_happened event.now answer.now }
 {

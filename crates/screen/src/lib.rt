@@ -33,7 +33,7 @@ mod screen;
 mod taking;
 mod witness;
 
-pub use kept_events::list_for;
+pub use kept_events::{event_in, list_for};
 pub use listed::Listed;
 pub use messages::{Fault, Input};
 pub use region::{Rect, Region, RegionError};

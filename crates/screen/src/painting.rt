@@ -17,7 +17,7 @@ use region::Rect;
 use scene::ScreenError;
 use source_pixels::{Band, PixelSource};
 
-/// The rectangle of so many columns and rows from a place on.
+/// Returns the rectangle of `columns` columns and `rows` rows from a place on.
 pub(crate) fn rect_at(x: usize, y: usize, columns: usize, rows: usize) -> Rect
     requires right { x + columns < 2 ^ 31 }
     requires bottom { y + rows < 2 ^ 31 }

@@ -18,7 +18,7 @@ pub(crate) struct ScreenPart<'a> {
     pub top: u32,
 }
 
-/// How many of a screen's columns, or rows, are left from one on.
+/// Returns how many of a screen's columns, or rows, are left from one on.
 fn count_from(all: u32, first: u32) -> usize
     ensures { result ≡ min all longest_side - first }
 {
@@ -44,16 +44,16 @@ impl<'a> Beside for ScreenPart<'a> {
     }
 }
 
-/// How many rows of so many columns are taken at a time: as many as have `MOST_PLACES`, so that pixels that are found to differ are still
-/// in a processor's cache when they are painted, and at least one.
+/// Returns how many rows of `columns` columns are taken at a time: as many as have `MOST_PLACES`, so that pixels that are found to differ
+/// are still in a processor's cache when they are painted, and at least one.
 fn rows_at_a_time(columns: usize) -> usize
     ensures { 1 ≤ result }
 {
     (MOST_PLACES / columns.max(1)).max(1)
 }
 
-/// The end of the next rows to be taken of a program's pixels, whose corner is at column `left` of row `top`, where those above row y are
-/// taken; None where no further row lies beside the picture.
+/// Returns the end of the next rows to be taken of a program's pixels, whose corner is at column `left` of row `top`, where those above row
+/// `y` are taken; None where no further row lies beside the picture.
 pub(crate) fn end_of_rows(
     screen: &Screen,
     left: u32,

@@ -14,7 +14,7 @@ use scene::{
 };
 use std::alloc::Global;
 
-/// The answers to events, each as if its viewer were alone. Each viewer that is there could read all that it was sent, by
+/// Returns the answers to events, each as if its viewer were alone. Each viewer that is there could read all that it was sent, by
 /// RFC 6143 and what it said: no rectangle was beyond the screen, and none in an encoding that it didn't list, but for Raw. One
 /// that is open, and whose format has a colour map, has the server's, but where it is owed the map. Where the viewers are told of
 /// all that is drawn, each shows what is drawn: at each clean place the place's colour, and at the source of each place that

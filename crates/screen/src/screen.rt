@@ -55,8 +55,8 @@ impl Model for Screen {
 }
 
 impl Screen {
-    /// A screen that is 0 everywhere, with no viewer. It is refused as `BadSize`, `BadName` or
-    /// `BadRectLimit`, in this order, where the configuration is outside its limits.
+    /// Returns a screen that is 0 everywhere, with no viewer. Refuses a configuration outside its limits as `BadSize`, `BadName` or
+    /// `BadRectLimit`, in this order.
     pub fn new(alloc: Global, config: Config) -> Result<Screen, ScreenError>
         ensures made { IfOk result (λ screen. screen ≡ state config []) }
         ensures refused { MatchOption (config_refusal config) (IsOkUnless result ScreenError.OutOfMemory) (λ e. result ≡ Err e) }
@@ -66,18 +66,18 @@ impl Screen {
         Ok(Screen { scene, events })
     }
 
-    /// From now on the rectangles of viewers that are alike are encoded once, where `encode_ahead` is called before each cut; or not, as at
-    /// first. No byte that a viewer is sent depends on it.
+    /// Sets whether the rectangles of viewers that are alike are encoded once, where `encode_ahead` is called before each cut; at first
+    /// they aren't. No byte that a viewer is sent depends on it.
     pub fn share_encodings(&mut self, shares: bool)
         ensures { self.new ≡ self.old }
     {
         self.scene.share_encodings(shares);
     }
 
-    /// Where encodings are shared, and a viewer would be sent next what several viewers are likely to be sent, encodes a piece of what these
-    /// want: some 256 KB, at most 16 rows of tiles in Hextile or 16 rectangles in RRE. None: cut for the viewer now. Else more is left to be
-    /// encoded, and its cut better waits until a further call answers None; the number is another where what it waited for is lost, as by
-    /// drawing, and then it had better be cut all the same. No byte that a viewer is sent depends on it.
+    /// Encodes a piece of what several viewers want, where encodings are shared and the viewer would be sent that next: some 256 KB, at
+    /// most 16 rows of tiles in Hextile or 16 rectangles in RRE. Returns None where the viewer is best cut now. Else more is left to be
+    /// encoded, and its cut better waits until a further call answers None; the number is another where what it waited for is lost, as
+    /// by drawing, and then it had better be cut all the same. No byte that a viewer is sent depends on it.
     #[inline(always)]
     pub fn encode_ahead(&mut self, number: u64) -> Option<u64>
         ensures { self.new ≡ self.old }
@@ -85,7 +85,7 @@ impl Screen {
         self.scene.encode_ahead(number)
     }
 
-    /// The events that were accepted, in order, where they are kept: a call for one rectangle with the rectangle as it was given,
+    /// Lends the events that were accepted, in order, where they are kept: a call for one rectangle with the rectangle as it was given,
     /// one for a region with the region's canonical list, and no cut that gave nothing. They are all that the screen stands for.
     pub fn history(&self) -> Option<&[Event]>
         ensures kept { option_map (λ events. events.now) result ≡ self.now.history }
@@ -97,21 +97,21 @@ impl Screen {
         self.events.as_slice()
     }
 
-    /// The screen's columns, 1 to 8192.
+    /// Returns the screen's columns, 1 to 8192.
     pub fn width(&self) -> u32
         ensures { result ≡ self.now.picture.width }
     {
         self.scene.width()
     }
 
-    /// The screen's rows, 1 to 8192.
+    /// Returns the screen's rows, 1 to 8192.
     pub fn height(&self) -> u32
         ensures { result ≡ self.now.picture.height }
     {
         self.scene.height()
     }
 
-    /// The colour `0x00RRGGBB` of the place in column x of row y; None off the screen.
+    /// Returns the colour `0x00RRGGBB` of the place in column `x` of row `y`, unless that is off the screen.
     pub fn colour(&self, x: u32, y: u32) -> Option<u32>
         ensures inside { IsSome result ↔ ((x < self.now.picture.width) × (y < self.now.picture.height)) }
         ensures colour { IfSome result (λ colour. colour ≡ slice_index self.now.picture.colours (y * self.now.picture.width + x)) }
@@ -119,7 +119,7 @@ impl Screen {
         self.scene.colour(x, y)
     }
 
-    /// The colours `0x00RRGGBB` of the places of row y, from the left, of which none is copied; None off the screen.
+    /// Lends the colours `0x00RRGGBB` of the places of row `y`, from the left, unless that is off the screen.
     pub fn row(&self, y: u32) -> Option<&[u32]>
         ensures inside { IsSome result ↔ (y < self.now.picture.height) }
         ensures colours { IfSome result (λ row. row.now ≡
@@ -128,15 +128,15 @@ impl Screen {
         self.scene.row(y)
     }
 
-    /// How many viewers are live: connected, and not closed. A viewer that met a fault is live until it is closed.
+    /// Returns how many viewers are live: connected, and not closed. A viewer that met a fault is live until it is closed.
     pub fn viewer_count(&self) -> usize
         ensures { result ≡ length self.now.viewers }
     {
         self.scene.viewer_count()
     }
 
-    /// How many entries of drawing stand in the log that the viewers share, besides those that were joined: at most 256, and 0 where
-    /// no viewer lacks one.
+    /// Returns how many entries of drawing stand in the log that the viewers share, besides those that were joined: at most 256, and 0
+    /// where no viewer lacks one.
     pub fn log_len(&self) -> usize
         ensures few { result ≤ 256 }
         ensures none { length self.now.viewers ≡ 0 → result ≡ 0 }
@@ -144,21 +144,21 @@ impl Screen {
         self.scene.log_len()
     }
 
-    /// The live viewers' numbers, in the order in which they connected.
+    /// Returns the live viewers' numbers, in the order in which they connected.
     pub fn numbers(&self) -> Result<Listed<u64>, AllocError>
         ensures { IfOk result (λ numbers. numbers ≡ keys_of self.now.viewers) }
     {
         self.scene.numbers()
     }
 
-    /// Whether a live viewer has the number.
+    /// Returns whether a live viewer has the number.
     pub fn is_live(&self, number: u64) -> bool
         ensures { result ≡ is_some (viewer_at self.now number) }
     {
         self.scene.is_live(number)
     }
 
-    /// Why a viewer is heard no further, if it met a fault. Refused as `NoViewer` where there is none with the number.
+    /// Returns why a viewer is heard no further, if it met a fault. Refused as `NoViewer` where there is none with the number.
     pub fn fault(&self, number: u64) -> Result<Option<Fault>, ScreenError>
         ensures { MatchOption (viewer_at self.now number) (result ≡ Err ScreenError.NoViewer) (λ viewer. result ≡
             Ok (fault_in_rest viewer.heard)) }
@@ -166,7 +166,7 @@ impl Screen {
         self.scene.fault(number)
     }
 
-    /// Whether a viewer had its ServerInit (RFC 6143, 7.3.2) and met no fault. Refused as `NoViewer` where there is none with the
+    /// Returns whether a viewer had its ServerInit (RFC 6143, 7.3.2) and met no fault. Refused as `NoViewer` where there is none with the
     /// number.
     pub fn is_open(&self, number: u64) -> Result<bool, ScreenError>
         ensures { MatchOption (viewer_at self.now number) (result ≡ Err ScreenError.NoViewer) (λ viewer. result ≡
@@ -175,8 +175,8 @@ impl Screen {
         self.scene.is_open(number)
     }
 
-    /// Whether a viewer asked for places, and no update of places or of a size was cut for it since: a FramebufferUpdateRequest
-    /// (RFC 6143, 7.5.3) of its is unanswered. Refused as `NoViewer` where there is none with the number.
+    /// Returns whether a viewer asked for places, and no update of places or of a size was cut for it since: a
+    /// FramebufferUpdateRequest (RFC 6143, 7.5.3) of its is unanswered. Refused as `NoViewer` where there is none with the number.
     pub fn is_asking(&self, number: u64) -> Result<bool, ScreenError>
         ensures { MatchOption (viewer_at self.now number) (result ≡ Err ScreenError.NoViewer) (λ viewer. result ≡
             Ok (is_asking viewer)) }
@@ -184,7 +184,7 @@ impl Screen {
         self.scene.is_asking(number)
     }
 
-    /// What a viewer has set by its messages: whether it would share the screen, its pixel format, its encoding (RFC 6143, 7.3.1,
+    /// Returns what a viewer has set by its messages: whether it would share the screen, its pixel format, its encoding (RFC 6143, 7.3.1,
     /// 7.5.1 and 7.5.2; `format` and the like of `rfbClientRec`). Refused as `NoViewer` where there is none with the number.
     pub fn settings(&self, number: u64) -> Result<Settings, ScreenError>
         ensures { MatchOption (viewer_at self.now number) (result ≡ Err ScreenError.NoViewer) (λ viewer. result ≡
@@ -193,8 +193,8 @@ impl Screen {
         self.scene.settings(number)
     }
 
-    /// How many requests of a viewer were not incremental (RFC 6143, 7.5.3): `full_requests` of its settings. Refused as `NoViewer` where
-    /// there is none with the number.
+    /// Returns how many requests of a viewer were not incremental (RFC 6143, 7.5.3): `full_requests` of its settings. Refused as
+    /// `NoViewer` where there is none with the number.
     pub fn full_requests(&self, number: u64) -> Result<u64, ScreenError>
         ensures { MatchOption (viewer_at self.now number) (result ≡ Err ScreenError.NoViewer) (λ viewer. result ≡
             Ok viewer.full_requests) }
@@ -202,7 +202,7 @@ impl Screen {
         self.scene.full_requests(number)
     }
 
-    /// One drawing call: one of the calls below, as a value. Refused as that call is.
+    /// Does a drawing call: one of the calls below, as a value. Refused as that call is.
     pub fn draw(&mut self, drawing: &Drawing<'_>) -> Result<(), ScreenError>
         ensures step { (config : Config) (list : List Event) → self.old ≡ state config list →
             OnOk result (self.new ≡ state config (list ++ event_of drawing.now ∷ [])) }
@@ -251,9 +251,8 @@ impl Screen {
         self.draw(&Drawing::Write { rect, colours })
     }
 
-    /// The places of a rectangle, as far as they are on the screen, are owed to every viewer
-    /// (`rfbMarkRectAsModified` of `rfb.h`). Corners in the wrong order are swapped. Refused for want of
-    /// memory alone.
+    /// Owes the places of a rectangle that are on the screen to every viewer (`rfbMarkRectAsModified` of `rfb.h`). Corners in the wrong
+    /// order are swapped. Refused for want of memory alone.
     pub fn mark_rect(&mut self, x1: i32, y1: i32, x2: i32, y2: i32) -> Result<(), ScreenError>
         ensures step { (config : Config) (list : List Event) → self.old ≡ state config list →
             OnOk result (self.new ≡ state config (list ++ Event.Mark (record { x1 = x1; y1 = y1; x2 = x2; y2 = y2 } ∷ []) ∷ [])) }
@@ -266,8 +265,8 @@ impl Screen {
         self.draw(&Drawing::MarkRect(Rect { x1, y1, x2, y2 }))
     }
 
-    /// The places of a region, as far as they are on the screen, are owed to every viewer
-    /// (`rfbMarkRegionAsModified` of `rfb.h`). Refused for want of memory alone.
+    /// Owes the places of a region that are on the screen to every viewer (`rfbMarkRegionAsModified` of `rfb.h`). Refused for want of
+    /// memory alone.
     pub fn mark_region(&mut self, region: &Region) -> Result<(), ScreenError>
         ensures step { (config : Config) (list : List Event) → self.old ≡ state config list →
             OnOk result (self.new ≡ state config (list ++ Event.Mark region.now.list ∷ [])) }
@@ -279,7 +278,7 @@ impl Screen {
         self.draw(&Drawing::MarkRegion(region))
     }
 
-    /// Every viewer is told that the places of a rectangle that are on the screen with their sources get the
+    /// Tells every viewer that the places of a rectangle that are on the screen with their sources get the
     /// colours of the places (dx, dy) before them (`rfbScheduleCopyRect` of `rfb.h`); the picture stays, since
     /// the application moves them itself. A viewer that uses CopyRect may make the copy on its own side.
     /// Corners in the wrong order are swapped; corners and offsets are any `i32`. A copy by (0, 0), or of no
@@ -306,7 +305,7 @@ impl Screen {
         self.draw(&Drawing::ScheduleCopyRect { rect, dx, dy })
     }
 
-    /// The same for the places of a region (`rfbScheduleCopyRegion` of `rfb.h`).
+    /// Does what `schedule_copy_rect` does for the places of a region (`rfbScheduleCopyRegion` of `rfb.h`).
     pub fn schedule_copy_region(
         &mut self,
         region: &Region,
@@ -323,8 +322,8 @@ impl Screen {
         self.draw(&Drawing::ScheduleCopyRegion { region, dx, dy })
     }
 
-    /// The places of a rectangle that are on the screen with their sources get the colours that the places
-    /// (dx, dy) before them had, all at once, and every viewer is told (`rfbDoCopyRect` of `rfb.h`). A viewer
+    /// Gives the places of a rectangle that are on the screen with their sources the colours that the places
+    /// (dx, dy) before them had, all at once, and tells every viewer (`rfbDoCopyRect` of `rfb.h`). A viewer
     /// that uses CopyRect may make the copy on its own side. Corners in the wrong order are swapped; corners
     /// and offsets are any `i32`. A copy by (0, 0), or of no place, does nothing. Refused for want of memory
     /// alone.
@@ -362,8 +361,8 @@ impl Screen {
         self.draw(&Drawing::DoCopyRegion { region, dx, dy })
     }
 
-    /// A bell for every open viewer for which fewer than 64 notices wait (`rfbSendBell` of `rfb.h`). Refused
-    /// for want of memory alone.
+    /// Keeps a bell for every open viewer for which fewer than 64 notices wait (`rfbSendBell` of `rfb.h`). Refused for want of memory
+    /// alone.
     pub fn bell(&mut self) -> Result<(), ScreenError>
         ensures step { (config : Config) (list : List Event) → self.old ≡ state config list →
             OnOk result (self.new ≡ state config (list ++ Event.Bell ∷ [])) }
@@ -375,8 +374,8 @@ impl Screen {
         self.draw(&Drawing::Bell)
     }
 
-    /// A text for every open viewer for which fewer than 64 notices wait (`rfbSendServerCutText` of `rfb.h`).
-    /// Refused as `TextTooLong` above 65,536 bytes.
+    /// Keeps a text for every open viewer for which fewer than 64 notices wait (`rfbSendServerCutText` of `rfb.h`). Refused as
+    /// `TextTooLong` above 65,536 bytes.
     pub fn cut_text(&mut self, text: &[u8]) -> Result<(), ScreenError>
         ensures step { (config : Config) (list : List Event) → self.old ≡ state config list →
             OnOk result (self.new ≡ state config (list ++ Event.CutText text.now ∷ [])) }
@@ -388,9 +387,9 @@ impl Screen {
         self.draw(&Drawing::CutText(text))
     }
 
-    /// The screen has so many columns and rows from now on, and is 0 everywhere (`rfbNewFramebuffer` of `rfb.h`). Every place is owed
-    /// to every viewer. One that lists DesktopSize is told the size before anything else of the screen, where it asks; any other sees
-    /// as much of the screen as its own size holds. Refused as `BadSize` unless each is 1 to 8192, with at most 2^24 places.
+    /// Replaces the framebuffer by one of `width` columns and `height` rows that is 0 everywhere (`rfbNewFramebuffer` of `rfb.h`). Every
+    /// place is owed to every viewer. One that lists DesktopSize is told the size before anything else of the screen, where it asks; any
+    /// other sees as much of the screen as its own size holds. Refused as `BadSize` unless each is 1 to 8192, with at most 2^24 places.
     pub fn new_framebuffer(&mut self, width: u32, height: u32) -> Result<(), ScreenError>
         ensures step { (config : Config) (list : List Event) → self.old ≡ state config list →
             OnOk result (self.new ≡ state config (list ++ Event.Resize width height ∷ [])) }
@@ -402,8 +401,8 @@ impl Screen {
         self.draw(&Drawing::NewFramebuffer { width, height })
     }
 
-    /// A viewer connects; it is given the server's version (RFC 6143, 7.1.1). Refused as
-    /// `NumberInUse` where a live viewer has the number.
+    /// Lets a viewer connect, and returns the server's version for it (RFC 6143, 7.1.1). Refused as `NumberInUse` where a live viewer has
+    /// the number.
     pub fn connect(&mut self, number: u64) -> Result<Listed<u8>, ScreenError>
         ensures step { (config : Config) (list : List Event) → self.old ≡ state config list →
             OnOk result (self.new ≡ state config (list ++ Event.Connect number ∷ [])) }
@@ -441,9 +440,8 @@ impl Screen {
         Ok(())
     }
 
-    /// A piece of a viewer's bytes is heard (RFC 6143, 7.1 to 7.5): what it is answered, what it
-    /// tells the application, and why it is heard no further. Refused as `NoViewer` where there is
-    /// none with the number.
+    /// Hears a piece of a viewer's bytes (RFC 6143, 7.1 to 7.5), and returns what it is answered, what it tells the application, and why
+    /// it is heard no further. Refused as `NoViewer` where there is none with the number.
     pub fn hear(&mut self, number: u64, piece: &[u8]) -> Result<Answer, ScreenError>
         ensures step { (config : Config) (list : List Event) → self.old ≡ state config list →
             OnOk result (self.new ≡ state config (list ++ Event.Hear number piece.now ∷ [])) }
@@ -465,8 +463,7 @@ impl Screen {
         Ok(answer)
     }
 
-    /// Whether a cut now would give something. Refused as `NoViewer` where there is no viewer with
-    /// the number.
+    /// Returns whether a cut now would give something. Refused as `NoViewer` where there is no viewer with the number.
     pub fn pending(&self, number: u64) -> Result<bool, ScreenError>
         ensures answer { (config : Config) (list : List Event) → self.now ≡ state config list →
             result ≡ something_to_send (answer_to config list (Event.Cut number)) }
@@ -489,15 +486,15 @@ impl Screen {
         refusals_are_due();
         self.scene.find(number)?;
         self.events.make_room()?;
-        let Some(update) = self.scene.cut(number)? else {
+        let Some((update, ())) = self.scene.cut_with(number, |_| Ok(()))? else {
             return Ok(None);
         };
         self.events.push(Event::Cut { viewer: number });
         Ok(Some(update))
     }
 
-    /// One event. A refusal of another kind than want of memory stands in the answer, and then
-    /// nothing has changed; a Cut gives the encoded bytes, or none.
+    /// Does an event. A refusal of another kind than want of memory stands in the answer, and then nothing has changed; a Cut gives the
+    /// encoded bytes, or none.
     pub fn apply(&mut self, event: &Event) -> Result<Answer, AllocError>
         ensures step { (config : Config) (list : List Event) → self.old ≡ state config list →
             OnOk result (self.new ≡ state config (list ++ event.now ∷ [])) }

@@ -23,7 +23,7 @@ use scene::ScreenError;
 use source_pixels::{Differences, Piece, PixelSource, find_bands, find_differences};
 use std::alloc::{AllocError, Global};
 
-/// The rectangle of a piece on the screen, where its source's corner is at column `left` of row `top`.
+/// Returns the rectangle of a piece on the screen, where its source's corner is at column `left` of row `top`.
 pub fn rect_of(left: u32, top: u32, piece: &Piece) -> Rect
     requires right { left + piece.now.left + piece.now.columns < 2 ^ 31 }
     requires bottom { top + piece.now.top + piece.now.rows < 2 ^ 31 }
@@ -35,7 +35,7 @@ pub fn rect_of(left: u32, top: u32, piece: &Piece) -> Rect
 }
 
 impl Screen {
-    /// What differs between a program's pixels and the picture, where the pixels' corner is at column `left` of row `top`: to paint
+    /// Returns what differs between a program's pixels and the picture, where the pixels' corner is at column `left` of row `top`: to paint
     /// each piece in the `rect_of` it makes the picture these pixels there. What lies off the screen is left out. Refused for want of
     /// memory alone; where no place differs, none is taken.
     pub fn differences(
@@ -80,7 +80,7 @@ impl Screen {
         self.take_told(alloc, left, top, source, &mut Nobody)
     }
 
-    /// The same, and a witness is told of each rectangle that is painted.
+    /// Does what `take` does, and tells a witness of each rectangle that is painted.
     pub fn take_told<T: Witness>(
         &mut self,
         alloc: Global,

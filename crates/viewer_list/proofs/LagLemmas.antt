@@ -14,7 +14,7 @@ use Rattle.copy_schedule.specs.Log.{after_entry, logged, IsCutEntry}
 use Rattle.copy_schedule.specs.LogLemmas.{logged_append, cut_append, front_is_cut}
 use Rattle.messages.specs.Reading.{is_open_rest}
 use Rattle.updates.specs.Waiting.{none_wait}
-use Rattle.viewer.specs.Viewer.{KeptViewer}
+use Rattle.viewer.specs.Viewer.{KeptViewer, is_asking}
 use Rattle.viewer.specs.Sending.{is_size_owed, tells_size}
 use Rattle.viewer_list.specs.declared.lagging.Lagging.{Lagging}
 use Rattle.viewer_list.specs.declared.lagging.CatchUp.{CatchUp}
@@ -51,6 +51,10 @@ pending-logged es v =
     ∙ ap (λ (n : ℕ). has_asked m && is_size_owed n v.marks.height v) (sym like.width)
     ∙ ap (λ (n : ℕ). has_asked m && is_size_owed m.width n v) (sym like.height) in
     ap (λ (b : Bool). is_open_rest v.heard && (v.map_owed || (not (none_wait v.notices) || (b || pending m)))) same
+
+-- and asks alike
+pub asking-logged : (log : List LogEntry) (l : Lagging) → is_asking l.viewer ≡ is_asking (caught_up log l)
+asking-logged log l = sym (ap (λ (bs : List Bool). list_any (λ is_asked. is_asked) bs) (logged-alike l.viewer.uses_copyrect (waiting log l) l.viewer.marks).asked)
 
 -- a further entry
 pub logged-last : (u : Bool) (es : List LogEntry) (e : LogEntry) (m : Marks) → logged u (es ++ e ∷ []) m ≡ after_entry u e (logged u es m)
@@ -252,12 +256,3 @@ drawn_fits log e l fits cut = record {
 pub shared_is_cut : (log : List LogEntry) (l : Lagging) (s : CatchUp) → Fits log l → IsCatchUp log s → IsFor l s → All (IsCutEntry l.viewer.marks.width l.viewer.marks.height) s.entries.items
 shared_is_cut log l s fits shared own =
     shared.cut l.viewer.marks.width l.viewer.marks.height (subst (λ (n : ℕ). All (IsCutEntry l.viewer.marks.width l.viewer.marks.height) (drop n log)) (sym own.taken) fits.cut)
-
--- a viewer that takes it lacks nothing
-pub shared_taken : (log : List LogEntry) (l now : Lagging) (s : CatchUp) → IsCatchUp log s → IsFor l s → now ≡ record { viewer = viewer_told s.entries.items l.viewer; taken = length log } → now ≡ up_to_date log l
-shared_taken log l now s shared own is =
-    is ∙ ap (λ (m : Marks). record { viewer = record l.viewer { marks = m }; taken = length log })
-    (ap (λ (u : Bool). logged u s.entries.items l.viewer.marks) (sym own.uses_copyrect)
-    ∙ shared.same l.viewer.marks
-    ∙ ap (λ (u : Bool). logged u (drop s.taken log) l.viewer.marks) own.uses_copyrect
-    ∙ ap (λ (n : ℕ). logged l.viewer.uses_copyrect (drop n log) l.viewer.marks) own.taken)

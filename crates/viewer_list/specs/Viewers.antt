@@ -1,6 +1,9 @@
 -- What a contract sees of the viewers of a screen, and of a drawing call for them.
-use Rattle.std.specs.Prelude.{◌≡◌, ℕ, ◌*◌, ◌==◌, ◌&&◌, ◌||◌, not, Bool, if◌then◌else◌, List, length, Option, Some, None}
+use Rattle.std.specs.Prelude.{◌≡◌, ℕ, ◌*◌, ◌==◌, ◌&&◌, ◌||◌, not, Bool, if◌then◌else◌, List, length, Option, Some, None, Result, Ok}
+use Rattle.std.specs.Borrow.{Bor}
+use Rattle.std.specs.Fn.{Once, FnOnceReturnsAt}
 use Rattle.std.specs.Map.{keys_of, lookup}
+use Rattle.std.specs.declared.alloc.AllocError.{AllocError}
 use Rattle.client_list.specs.Connected.{index_of, set_value_at}
 use Rattle.copy_schedule.specs.declared.LogEntry.{LogEntry}
 use Rattle.copy_schedule.specs.Marks.{has_asked, pending}
@@ -8,6 +11,7 @@ use Rattle.copy_schedule.specs.Log.{after_entry}
 use Rattle.messages.specs.Reading.{is_open_rest, rest}
 use Rattle.updates.specs.declared.notices.Notice.{Notice}
 use Rattle.updates.specs.declared.notices.Notice.TheVariants as notice
+use Rattle.viewer.specs.declared.cutting.PreparedUpdate.{PreparedUpdate}
 use Rattle.viewer.specs.Given.{keeps_notices}
 use Rattle.viewer.specs.Sending.{is_size_owed}
 use Rattle.updates.specs.Waiting.{none_wait}
@@ -54,3 +58,9 @@ text_for text v = if keeps_notices v then Some (notice.CutText text) else None
 abbrev pub is_pending : KeptViewer → Bool
 is_pending v = is_open_rest v.heard
     && (v.map_owed || (not (none_wait v.notices) || ((has_asked v.marks && is_size_owed v.marks.width v.marks.height v) || pending v.marks)))
+
+-- an update that is cut, with what a call made of it before that
+pub record IsMadeBefore {F T : Type 0} (call : Once F (Bor PreparedUpdate × Unit {0}) (Result T AllocError)) (before : F) (cut : List ℕ × T) : Type 0 where
+  pub prepared : PreparedUpdate
+  pub update : prepared.update ≡ cut.0
+  pub made : FnOnceReturnsAt call before prepared (Ok cut.1)

@@ -24,7 +24,7 @@ fn is_mark(entry: &LogEntry) -> bool
     }
 }
 
-/// Whether all entries are marks.
+/// Returns whether all entries are marks.
 fn are_marks(entries: &[LogEntry]) -> bool
     ensures { result ≡ true → All IsMark entries.now }
 {
@@ -36,7 +36,7 @@ fn are_marks(entries: &[LogEntry]) -> bool
     true
 }
 
-/// The region that the entries mark together; None where a copy is among them.
+/// Returns the region that the entries mark together, unless a copy is among them.
 fn joined_region(alloc: Global, entries: &[LogEntry]) -> Result<Option<Region>, AllocError>
     ensures { IfOk result (λ region. IfSome region (IsJoined entries.now)) }
 {
@@ -53,7 +53,7 @@ fn joined_region(alloc: Global, entries: &[LogEntry]) -> Result<Option<Region>, 
     }
 }
 
-/// The log is emptied, of which no viewer lacks an entry: each stands at its start. This takes no memory.
+/// Empties a log of which no viewer lacks an entry, and moves each viewer to its start. This takes no memory.
 pub fn start_anew(viewers: &mut Clients<Lagging>, log: &mut Vec<LogEntry>)
     requires { All (IsCurrent log.old.items) (values_of viewers.old.pairs) }
     ensures log { log.new.items ≡ [] }
@@ -64,7 +64,7 @@ pub fn start_anew(viewers: &mut Clients<Lagging>, log: &mut Vec<LogEntry>)
     move_all_within(viewers, 0);
 }
 
-/// All viewers catch up, and the log is emptied. After an `AllocError` it stands as it was.
+/// Lets all viewers catch up, and empties the log. After an `AllocError` it stands as it was.
 fn empty(
     alloc: Global,
     viewers: &mut Clients<Lagging>,
@@ -81,7 +81,7 @@ fn empty(
     Ok(())
 }
 
-/// The entries from a position on become one, that marks a region. The viewers that stand behind the position catch up first,
+/// Replaces the entries from `position` on by one that marks `region`. The viewers that stand behind the position catch up first,
 /// and stand behind the new entry then; the others lack one entry in place of those. After an `AllocError` the log stands as it
 /// was.
 fn join(
@@ -106,8 +106,8 @@ fn join(
     Ok(())
 }
 
-/// The entries from a position on become one, where all are marks; whether they are. After an `AllocError` the log stands as it
-/// was.
+/// Joins the entries from `position` on to one, where all are marks, and returns whether they are. After an `AllocError` the log
+/// stands as it was.
 fn join_from(
     alloc: Global,
     viewers: &mut Clients<Lagging>,
@@ -129,7 +129,7 @@ fn join_from(
     Ok(true)
 }
 
-/// Whether the last entry but one has more than twice as many rectangles as the last.
+/// Returns whether the last entry but one has more than twice as many rectangles as the last.
 fn is_last_small(log: &[LogEntry]) -> bool
     requires { 2 ≤ length log.now }
 {
@@ -137,10 +137,9 @@ fn is_last_small(log: &[LogEntry]) -> bool
     before / 2 > log[log.len() - 1].region().count_rects()
 }
 
-/// The last two entries from a position on become one for as long as the last is not small beside the one before it. So a region is
-/// joined again only as more and more is drawn behind it, and the entries from the position on are few. Where the memory for it is
-/// refused,
-/// they stay apart.
+/// Joins the last two entries from `position` on for as long as the last is not small beside the one before it. So a region is joined
+/// again only as more and more is drawn behind it, and the entries from the position on are few. Where memory is refused, they stay
+/// apart.
 fn join_alike(
     alloc: Global,
     viewers: &mut Clients<Lagging>,
@@ -163,11 +162,10 @@ fn join_alike(
     }
 }
 
-/// Before a log has too many entries besides the first, joined ones, these become one, and with it those joined ones that are not
-/// much larger and behind which no viewer stands. Where a copy is among them, or too many joined ones stand there, all viewers
-/// catch
-/// up in place of that, and the log is emptied. Either way all of its entries are joined ones then: how many. After an `AllocError`
-/// it stands as it was.
+/// Joins the entries besides the first `joined` ones, before they are too many, and with them those joined ones that are not much
+/// larger and behind which no viewer stands. Where a copy is among them, or too many joined ones stand there, all viewers catch up in
+/// place of that, and the log is emptied. Either way all of its entries are joined ones then, and it returns how many. After an
+/// `AllocError` the log stands as it was.
 pub fn join_entries(
     alloc: Global,
     viewers: &mut Clients<Lagging>,

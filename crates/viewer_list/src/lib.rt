@@ -3,7 +3,8 @@
 //! A viewer's marks are needed where an update is cut for it, and where its messages change them. Until then it only lags: a
 //! drawing call appends an entry to the log, which stands there once for all viewers, and visits none of them, however many there
 //! are and whatever they ask for. A viewer keeps its position in the log, and catches up before an update is cut for it, or before
-//! bytes of it are heard that are more than inputs. Whether something is to be sent to it is read from its marks and from the entries that they lack.
+//! bytes of it are heard that are more than inputs. Whether something is to be sent to it is read from its marks and from the
+//! entries that they lack.
 //! Contracts see each viewer as it would be had it been told of all drawing at once; the log is in no clause.
 //!
 //! The log has at most 256 entries besides joined ones, which are its first. Before a further one comes, they are joined as well:
@@ -29,10 +30,10 @@ ghost use Rattle.messages.specs.Reading.{rest, new_items, fault_in_rest, is_open
 ghost use Rattle.updates.specs.declared.notices.Notice.{Notice};
 ghost use Rattle.viewer.specs.Hearing.{after_items, heard_reply};
 ghost use Rattle.viewer.specs.Sending.{sending_kept};
-ghost use Rattle.viewer.specs.Given.{prepared_bytes, after_prepared};
+ghost use Rattle.viewer.specs.Given.{bytes_given};
 ghost use Rattle.region.specs.Places.{longest_side};
 ghost use Rattle.viewer.specs.Viewer.{KeptViewer, is_asking, settings_of, viewer_resized};
-ghost use Rattle.viewer_list.specs.Viewers.{viewer_of, with_viewer, drawn, is_pending, IsOfSize, viewer_noticed};
+ghost use Rattle.viewer_list.specs.Viewers.{viewer_of, with_viewer, drawn, is_pending, IsMadeBefore, IsOfSize, viewer_noticed};
 
 mod joining;
 mod lagging;
@@ -42,7 +43,7 @@ mod walks;
 
 use client_list::{Clients, ConnectError, NoViewer};
 use joining::{join_entries, start_anew};
-use lagging::{Lagging, commit_one, hear_one, is_asking_one, is_pending_one, prepare_one};
+use lagging::Lagging;
 use messages::Fault;
 use notices::{keep_texts, ring_all, texts};
 use picture::Picture;
@@ -93,7 +94,7 @@ impl Model for ViewerList {
 }
 
 impl ViewerList {
-    /// No viewers. This takes no memory.
+    /// Returns a list of no viewers. This takes no memory.
     pub fn new(alloc: Global) -> ViewerList
         ensures { result.pairs ≡ [] }
     {
@@ -105,21 +106,21 @@ impl ViewerList {
         }
     }
 
-    /// How many viewers there are.
+    /// Returns how many viewers there are.
     pub fn len(&self) -> usize
         ensures { result ≡ length self.now.pairs }
     {
         self.viewers.len()
     }
 
-    /// Whether there are none.
+    /// Returns whether there are none.
     pub fn is_empty(&self) -> bool
         ensures { IsTrue result ↔ (self.now.pairs ≡ []) }
     {
         self.viewers.is_empty()
     }
 
-    /// How many entries of drawing the log has besides joined ones, at most 256; 0 where no viewer lacks one.
+    /// Returns how many entries of drawing the log has besides joined ones, at most 256; 0 where no viewer lacks one.
     pub fn log_len(&self) -> usize
         ensures few { result ≤ 256 }
         ensures none { length self.now.pairs ≡ 0 → result ≡ 0 }
@@ -130,14 +131,14 @@ impl ViewerList {
         self.log.len() - self.joined
     }
 
-    /// The viewers' numbers, in the order in which they connected.
+    /// Returns the viewers' numbers, in the order in which they connected.
     pub fn numbers(&self) -> Result<Vec<u64>, AllocError>
         ensures { IfOk result (λ numbers. numbers.items ≡ keys_of self.now.pairs) }
     {
         self.viewers.numbers(self.alloc)
     }
 
-    /// Whether a viewer has the number.
+    /// Returns whether a viewer has the number.
     pub fn has(&self, number: u64) -> bool
         ensures { result ≡ is_some (viewer_of self.now number) }
     {
@@ -147,7 +148,7 @@ impl ViewerList {
         }
     }
 
-    /// Whether a viewer has the number. Calls for it that follow need no further look-up.
+    /// Returns whether a viewer has the number. Calls for it that follow need no further look-up.
     pub fn find(&mut self, number: u64) -> bool
         ensures found { result ≡ is_some (viewer_of self.old number) }
         ensures same { self.new ≡ self.old }
@@ -155,7 +156,7 @@ impl ViewerList {
         self.viewers.find(number)
     }
 
-    /// Whether the viewer with a number had its ServerInit (RFC 6143, 7.3.2) and met no fault; None where there is none.
+    /// Returns whether the viewer with a number had its ServerInit (RFC 6143, 7.3.2) and met no fault, if there is such a viewer.
     pub fn is_open(&self, number: u64) -> Option<bool>
         ensures { result ≡ option_map (λ viewer. is_open_rest viewer.heard) (viewer_of self.now number) }
     {
@@ -165,7 +166,7 @@ impl ViewerList {
         }
     }
 
-    /// Why the viewer with a number is heard no further, if it met a fault; None where there is no such viewer.
+    /// Returns why the viewer with a number is heard no further, if it met a fault, and if there is such a viewer.
     pub fn fault(&self, number: u64) -> Option<Option<Fault>>
         ensures { result ≡ option_map (λ viewer. fault_in_rest viewer.heard) (viewer_of self.now number) }
     {
@@ -175,7 +176,7 @@ impl ViewerList {
         }
     }
 
-    /// What the viewer with a number has set; None where there is none.
+    /// Returns what the viewer with a number has set, if there is such a viewer.
     pub fn settings(&self, number: u64) -> Option<Settings>
         ensures { result ≡ option_map settings_of (viewer_of self.now number) }
     {
@@ -185,7 +186,7 @@ impl ViewerList {
         }
     }
 
-    /// How many requests of the viewer with a number were not incremental (RFC 6143, 7.5.3); None where there is none.
+    /// Returns how many requests of the viewer with a number were not incremental (RFC 6143, 7.5.3), if there is such a viewer.
     pub fn full_requests(&self, number: u64) -> Option<u64>
         ensures { result ≡ option_map (λ viewer. viewer.full_requests) (viewer_of self.now number) }
     {
@@ -195,29 +196,29 @@ impl ViewerList {
         }
     }
 
-    /// Whether a request of the viewer with a number is unanswered (RFC 6143, 7.5.3); None where there is none.
+    /// Returns whether a request of the viewer with a number is unanswered (RFC 6143, 7.5.3), if there is such a viewer.
     pub fn is_asking(&self, number: u64) -> Option<bool>
         ensures { result ≡ option_map is_asking (viewer_of self.now number) }
     {
         match self.viewers.get(number) {
-            Some(lagging) => Some(is_asking_one(lagging)),
+            Some(lagging) => Some(lagging.viewer.is_asking()),
             None => None,
         }
     }
 
-    /// Whether an update that is cut now for the viewer with a number would have something to send; None where there is none.
+    /// Returns whether an update that is cut now for the viewer with a number would have something to send, if there is such a viewer.
     /// This takes no memory.
     pub fn is_pending(&self, number: u64) -> Option<bool>
         ensures { result ≡ option_map is_pending (viewer_of self.now number) }
     {
         match self.viewers.get(number) {
-            Some(lagging) => Some(is_pending_one(lagging, &self.log)),
+            Some(lagging) => Some(lagging.is_pending(&self.log)),
             None => None,
         }
     }
 
-    /// Takes in a viewer, behind all others. `NumberInUse` where a viewer has the number, then `OutOfMemory` where the room is
-    /// refused; either way the viewer is dropped, and nothing else changes.
+    /// Inserts a viewer behind all others. Refuses it as `NumberInUse` where a viewer has the number, then as `OutOfMemory`; either
+    /// way the viewer is dropped, and nothing else changes.
     pub fn connect(&mut self, number: u64, viewer: Viewer) -> Result<(), ConnectError>
         ensures pairs { OnOk result (self.new.pairs ≡ self.old.pairs ++ (number, viewer) ∷ []) }
         ensures refused { MatchOption (viewer_of self.old number) (IsOkUnless result OutOfMemory) (λ _. result ≡ Err NumberInUse) }
@@ -227,8 +228,8 @@ impl ViewerList {
         self.viewers.connect(number, Lagging { viewer, taken })
     }
 
-    /// Takes out the viewer with a number; the others stay in their order. `NoViewer` where no viewer has it, and then nothing
-    /// changes. This takes no memory.
+    /// Removes the viewer with a number; the others stay in their order. Refuses it as `NoViewer` where no viewer has the number, and
+    /// then nothing changes. This takes no memory.
     pub fn remove(&mut self, number: u64) -> Result<(), NoViewer>
         ensures ok { OnOk result (self.new.pairs ≡ filter (λ pair. not (pair.0 == number)) self.old.pairs) }
         ensures found { MatchResult result (λ _. viewer_of self.old number ≢ None) (λ _. viewer_of self.old number ≡ None) }
@@ -240,15 +241,15 @@ impl ViewerList {
         }
     }
 
-    /// Each viewer keeps a Bell, where it is open and fewer than 64 notices wait. This takes no memory.
+    /// Keeps a Bell for each viewer that is open and for which fewer than 64 notices wait. This takes no memory.
     pub fn ring(&mut self)
         ensures { self.new.pairs ≡ changed (viewer_noticed Notice.Bell) self.old.pairs }
     {
         ring_all(&mut self.viewers);
     }
 
-    /// Each viewer keeps a text of at most 65,536 bytes, where it is open and fewer than 64 notices wait. After an `AllocError`
-    /// nothing has changed.
+    /// Keeps a text of at most 65,536 bytes for each viewer that is open and for which fewer than 64 notices wait. After an
+    /// `AllocError` nothing has changed.
     pub fn text(&mut self, text: &[u8]) -> Result<(), AllocError>
         requires { length text.now ≤ 2 ^ 16 }
         ensures ok { OnOk result (self.new.pairs ≡ changed (viewer_noticed (Notice.CutText text.now)) self.old.pairs) }
@@ -259,8 +260,9 @@ impl ViewerList {
         Ok(())
     }
 
-    /// The screen has so many columns and rows from now on, 1 to 8192 each: every place is owed to each viewer, and of the places that
-    /// it asked for those stay so that it sees. The log is emptied. After an `AllocError` nothing has changed.
+    /// Gives the viewers' marks the size of a screen of `width` columns and `height` rows, 1 to 8192 each: every place is owed to each
+    /// viewer, and of the places that it asked for those stay so that it sees. Empties the log. After an `AllocError` nothing has
+    /// changed.
     pub fn resize(&mut self, width: u16, height: u16) -> Result<(), AllocError>
         requires columns { width ≤ longest_side }
         requires rows { height ≤ longest_side }
@@ -274,8 +276,8 @@ impl ViewerList {
         Ok(())
     }
 
-    /// Makes room for a drawing call. Where 256 entries stand besides joined ones, they are joined first. The viewers stay as they
-    /// are, also after an `AllocError`.
+    /// Makes room in the log for a drawing call, and joins its entries first where 256 stand besides joined ones. The viewers stay as
+    /// they are, also after an `AllocError`.
     pub fn prepare(&mut self) -> Result<(), AllocError>
         ensures same { self.new.pairs ≡ self.old.pairs }
         ensures ok { OnOk result (1 ≤ self.new.room) }
@@ -287,8 +289,8 @@ impl ViewerList {
         self.log.reserve(1)
     }
 
-    /// Each viewer is told of a drawing call, for which room was made. A copy is on each viewer's screen with its sources. Where
-    /// there are no viewers, nothing is kept of the call. This takes no memory.
+    /// Tells each viewer of a drawing call, for which room was made. A copy is on each viewer's screen with its sources. Where there
+    /// are no viewers, nothing is kept of the call. This takes no memory.
     pub fn commit(&mut self, call: LogEntry)
         requires room { 1 ≤ self.old.room }
         requires cut { All (λ v. IsCutEntry v.marks.width v.marks.height call) (values_of self.old.pairs) }
@@ -299,21 +301,14 @@ impl ViewerList {
         }
     }
 
-    /// A piece of a viewer's bytes is heard (RFC 6143, 7.1 to 7.5): what it is answered, what it tells the application, and why
-    /// it is heard no further; None where no viewer has the number. The desktop's name is what its ServerInit tells it (7.3.2).
-    /// After an `AllocError` the viewers are as they were.
-    pub fn hear(
-        &mut self,
-        number: u64,
-        name: &[u8],
-        piece: &[u8],
-    ) -> Result<Option<Reply>, AllocError>
-        requires { length name.now ≤ u32.MAX }
-        ensures found { IfOk result (λ reply. is_some reply ≡ is_some (viewer_of self.old number)) }
-        ensures absent { viewer_of self.old number ≡ None → result ≡ Ok None }
-        ensures none { viewer_of self.old number ≡ None → self.new.pairs ≡ self.old.pairs }
+    /// Hears a piece of the bytes of the viewer with a number (RFC 6143, 7.1 to 7.5), and returns what it is answered, what it tells
+    /// the application, and why it is heard no further. `name` is the desktop's, for its ServerInit (7.3.2). After an `AllocError`
+    /// the viewers are as they were.
+    pub fn hear(&mut self, number: u64, name: &[u8], piece: &[u8]) -> Result<Reply, AllocError>
+        requires there { viewer_of self.old number ≢ None }
+        requires name { length name.now ≤ u32.MAX }
         ensures reply { (v : KeptViewer) (before : List ℕ) → viewer_of self.old number ≡ Some v → v.heard ≡ rest before →
-            IfOk result (λ reply. reply ≡ Some (heard_reply v.marks.width v.marks.height name.now before piece.now)) }
+            IfOk result (λ reply. reply ≡ heard_reply v.marks.width v.marks.height name.now before piece.now) }
         ensures viewer { (v : KeptViewer) (before : List ℕ) → viewer_of self.old number ≡ Some v → v.heard ≡ rest before →
             OnOk result (self.new.pairs ≡ with_viewer self.old number
             (after_items v.marks.width v.marks.height (new_items before piece.now)
@@ -322,57 +317,45 @@ impl ViewerList {
         ensures err { OnErr result (self.new.pairs ≡ self.old.pairs) }
     {
         let Some(lagging) = self.viewers.get_mut(number) else {
-            return Ok(None);
+            unreachable!();
         };
-        let reply = hear_one(lagging, &self.log, name, piece)?;
-        Ok(Some(reply))
+        lagging.hear(&self.log, name, piece)
     }
 
-    /// Prepares an update of the picture for the viewer with a number, with at most so many copies and so many rectangles of
-    /// colours; None where no viewer has the number, or `Some(None)` where there is nothing to send. `commit_cut` cuts it. The
-    /// viewers stay as they are, also after an `AllocError`.
-    pub fn prepare_cut(
+    /// Cuts an update of the picture for the viewer with a number, with at most `limit` copies and `limit` rectangles of colours, and
+    /// returns it with what `before` made of it before the viewer changed; None where there is nothing to send. After an
+    /// `AllocError`, also of `before`, the viewers are as they were.
+    pub fn cut_with<T, F: FnOnce(&PreparedUpdate) -> Result<T, AllocError>>(
         &mut self,
         number: u64,
         picture: &mut Picture,
         limit: u32,
-    ) -> Result<Option<Option<PreparedUpdate>>, AllocError>
+        before: F,
+    ) -> Result<Option<(Update, T)>, AllocError>
+        requires there { viewer_of self.old number ≢ None }
         requires limit { limit ≤ 1000 }
         requires width { (v : KeptViewer) → viewer_of self.old number ≡ Some v → v.marks.width ≡ picture.old.width }
         requires height { (v : KeptViewer) → viewer_of self.old number ≡ Some v → v.marks.height ≡ picture.old.height }
+        requires callable { F.IsAlwaysCallable before }
         ensures same { picture.new ≡ picture.old }
-        ensures kept { self.new.pairs ≡ self.old.pairs }
-        ensures absent { viewer_of self.old number ≡ None → result ≡ Ok None }
         ensures bytes { (v : KeptViewer) → viewer_of self.old number ≡ Some v →
-            IfOk result (λ prepared. option_map prepared_bytes prepared ≡
-            Some (sending_kept picture.old.width picture.old.height limit picture.old.colours v).0) }
+            IfOk result (λ cut. bytes_given (option_map (λ c. c.0) cut) ≡
+            (sending_kept picture.old.width picture.old.height limit picture.old.colours v).0) }
         ensures viewer { (v : KeptViewer) → viewer_of self.old number ≡ Some v →
-            IfOk result (λ prepared. option_map (after_prepared v) prepared ≡
-            Some (sending_kept picture.old.width picture.old.height limit picture.old.colours v).1) }
-        ensures some { IfOk result (λ prepared. IfSome prepared (λ given. IfSome given (λ p. p.update ≢ []))) }
+            OnOk result (self.new.pairs ≡ with_viewer self.old number
+            (sending_kept picture.old.width picture.old.height limit picture.old.colours v).1) }
+        ensures some { IfOk result (λ cut. IfSome cut (λ c. c.0 ≢ [])) }
+        ensures made { IfOk result (λ cut. IfSome cut (IsMadeBefore F.FnOnce before)) }
+        ensures none { IfOk result (λ cut. cut ≡ None → self.new.pairs ≡ self.old.pairs) }
+        ensures err { OnErr result (self.new.pairs ≡ self.old.pairs) }
     {
         let Some(lagging) = self.viewers.get_mut(number) else {
-            return Ok(None);
+            unreachable!();
         };
-        let prepared = prepare_one(lagging, &self.log, picture, limit)?;
-        Ok(Some(prepared))
+        lagging.cut_with(&self.log, picture, limit, before)
     }
 
-    /// Cuts what was prepared for the viewer with a number; None where that is nothing, or where no viewer has the number. This
-    /// takes no memory.
-    pub fn commit_cut(&mut self, number: u64, prepared: Option<PreparedUpdate>) -> Option<Update>
-        ensures absent { viewer_of self.old number ≡ None → self.new.pairs ≡ self.old.pairs }
-        ensures update { viewer_of self.old number ≢ None → result ≡ option_map (λ p. p.update) prepared }
-        ensures viewer { (v : KeptViewer) → viewer_of self.old number ≡ Some v →
-            self.new.pairs ≡ with_viewer self.old number (after_prepared v prepared) }
-    {
-        let Some(lagging) = self.viewers.get_mut(number) else {
-            return None;
-        };
-        commit_one(lagging, &self.log, prepared)
-    }
-
-    // The log is emptied where no viewer lacks an entry.
+    /// Empties the log where no viewer lacks an entry.
     fn tidy(&mut self)
         ensures { self.new.pairs ≡ self.old.pairs }
     {

@@ -12,7 +12,7 @@ use client_list::Clients;
 use std::alloc::{AllocError, Global};
 use viewer::{Notice, Text};
 
-/// Each viewer keeps a Bell, where it is open.
+/// Keeps a Bell for each viewer that is open.
 pub fn ring_all(viewers: &mut Clients<Lagging>)
     ensures { viewers.new.pairs ≡ changed (told_of Notice.Bell) viewers.old.pairs }
 {
@@ -23,18 +23,31 @@ pub fn ring_all(viewers: &mut Clients<Lagging>)
     }
 }
 
-/// A text for a viewer, if it would keep one.
-fn text_for(lagging: &Lagging, text: &Text) -> Result<Option<Notice>, AllocError>
-    ensures { IfOk result (λ notice. notice ≡ text_for text.now lagging.now.viewer) }
-{
-    if lagging.viewer.keeps_notices() {
-        Ok(Some(Notice::CutText(text.share()?)))
-    } else {
-        Ok(None)
+impl Lagging {
+    /// Returns `text` for the viewer, if it would keep one.
+    fn text_for(&self, text: &Text) -> Result<Option<Notice>, AllocError>
+        ensures { IfOk result (λ notice. notice ≡ text_for text.now self.now.viewer) }
+    {
+        if self.viewer.keeps_notices() {
+            Ok(Some(Notice::CutText(text.share()?)))
+        } else {
+            Ok(None)
+        }
+    }
+
+    /// Keeps the text that was made for the viewer.
+    fn keep_text(&mut self, text: &[u8], notice: Option<Notice>)
+        requires short { length text.now ≤ 2 ^ 16 }
+        requires text { notice ≡ text_for text.now self.old.viewer }
+        ensures { self.new ≡ told_of (Notice.CutText text.now) self.old }
+    {
+        if let Some(notice) = notice {
+            self.viewer.keep(notice);
+        }
     }
 }
 
-/// A text for each viewer that would keep one; all share its bytes.
+/// Returns a text for each viewer that would keep one; all share its bytes.
 pub fn texts(
     alloc: Global,
     viewers: &Clients<Lagging>,
@@ -46,24 +59,13 @@ pub fn texts(
     let mut notices = Vec::with_capacity(alloc, viewers.len())?;
     let mut position = viewers.first();
     while let Some(at) = position {
-        notices.push(text_for(viewers.at(at), &shared)?)?;
+        notices.push(viewers.at(at).text_for(&shared)?)?;
         position = viewers.next(at);
     }
     Ok(notices)
 }
 
-/// A viewer keeps the text that was made for it.
-fn keep_text(lagging: &mut Lagging, text: &[u8], notice: Option<Notice>)
-    requires short { length text.now ≤ 2 ^ 16 }
-    requires text { notice ≡ text_for text.now lagging.old.viewer }
-    ensures { lagging.new ≡ told_of (Notice.CutText text.now) lagging.old }
-{
-    if let Some(notice) = notice {
-        lagging.viewer.keep(notice);
-    }
-}
-
-/// Each viewer keeps its text, the first viewer the first. This takes no memory.
+/// Keeps for each viewer its text, the first viewer the first. This takes no memory.
 pub fn keep_texts(viewers: &mut Clients<Lagging>, text: &[u8], mut notices: Vec<Option<Notice>>)
     requires short { length text.now ≤ 2 ^ 16 }
     requires texts { notices.items ≡ map (λ l. text_for text.now l.viewer) (values_of viewers.old.pairs) }
@@ -73,7 +75,7 @@ pub fn keep_texts(viewers: &mut Clients<Lagging>, text: &[u8], mut notices: Vec<
     let mut position = viewers.first();
     while let Some(at) = position {
         if let Some(notice) = notices.pop() {
-            keep_text(viewers.at_mut(at), text, notice);
+            viewers.at_mut(at).keep_text(text, notice);
         }
         position = viewers.next(at);
     }

@@ -11,7 +11,7 @@ use client_list::Clients;
 use std::alloc::{AllocError, Global};
 use viewer::Prepared;
 
-/// Each viewer's marks on a screen of so many columns and rows, 1 to 8192 each.
+/// Returns each viewer's marks on a screen of `width` columns and `height` rows, 1 to 8192 each.
 pub fn prepare_all(
     alloc: Global,
     viewers: &Clients<Lagging>,
@@ -31,16 +31,18 @@ pub fn prepare_all(
     Ok(marks)
 }
 
-/// A viewer's marks are those that were made for it. They lack nothing of a log that begins anew.
-fn resize_one(lagging: &mut Lagging, width: u16, height: u16, marks: Prepared)
-    requires { marks ≡ resized_marks width height lagging.old }
-    ensures { lagging.new ≡ resized_of width height lagging.old }
-{
-    lagging.viewer.commit(marks);
-    lagging.taken = 0;
+impl Lagging {
+    /// Puts the marks in place that were made for the viewer. They lack nothing of a log that begins anew.
+    fn resize(&mut self, width: u16, height: u16, marks: Prepared)
+        requires { marks ≡ resized_marks width height self.old }
+        ensures { self.new ≡ resized_of width height self.old }
+    {
+        self.viewer.commit(marks);
+        self.taken = 0;
+    }
 }
 
-/// Each viewer has its marks, the first viewer the first. This takes no memory.
+/// Gives each viewer its marks, the first viewer the first. This takes no memory.
 pub fn resize_all(viewers: &mut Clients<Lagging>, width: u16, height: u16, mut marks: Vec<Prepared>)
     requires { marks.items ≡ map (resized_marks width height) (values_of viewers.old.pairs) }
     ensures { viewers.new.pairs ≡ changed (resized_of width height) viewers.old.pairs }
@@ -49,7 +51,7 @@ pub fn resize_all(viewers: &mut Clients<Lagging>, width: u16, height: u16, mut m
     let mut position = viewers.first();
     while let Some(at) = position {
         if let Some(prepared) = marks.pop() {
-            resize_one(viewers.at_mut(at), width, height, prepared);
+            viewers.at_mut(at).resize(width, height, prepared);
         }
         position = viewers.next(at);
     }

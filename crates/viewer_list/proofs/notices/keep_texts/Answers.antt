@@ -33,7 +33,7 @@ loop-position-preserved c =
           let step = rw w.viewers-is at c.next-position.ensures.passed in
           rw w.viewers-is (record {
             walk =
-                change_step f start now c.loop-position.position c.next-position.result c.in-Some.at w.at_mut.result.now w.keep_text.new.lagging c.loop-position.invariant.walk c.in-Some.is w.at_mut.ensures.value
+                change_step f start now c.loop-position.position c.next-position.result c.in-Some.at w.at_mut.result.now w.keep_text.new.self c.loop-position.invariant.walk c.in-Some.is w.at_mut.ensures.value
                 w.keep_text.ensures (rw w.viewers-is at c.next-position.ensures.position) step;
             left = taken.left ∙ sym (ap (λ (m : ℕ). reverse (drop m (map (λ (l : Lagging). text_for text l.viewer) (values_of start.pairs)))) step);
           })

@@ -9,8 +9,8 @@ use Rattle.viewer_list.specs.Lagging.{resized_marks, resized_of}
 use Rattle.viewer_list.proofs.resizing.resize_all.Goals as goal
 use Rattle.viewer_list.proofs.resizing.resize_all.Goals.{in-Some-pop, in_default-pop}
 
-pub resize_one-requires : goal.resize_one-requires
-resize_one-requires c =
+pub resize-requires : goal.resize-requires
+resize-requires c =
     let f : Lagging → Lagging = resized_of c.args.width c.args.height in
     let g : Lagging → Marks = resized_marks c.args.width c.args.height in
     let start : Connected Lagging = c.args.viewers.now in
@@ -32,8 +32,8 @@ loop-position-preserved c =
           let step = rw w.viewers-is at c.next-position.ensures.passed in
           rw w.viewers-is (record {
             walk =
-                change_step f start now c.loop-position.position c.next-position.result c.in-Some.at w.at_mut.result.now w.resize_one.new.lagging c.loop-position.invariant.walk c.in-Some.is w.at_mut.ensures.value
-                w.resize_one.ensures (rw w.viewers-is at c.next-position.ensures.position) step;
+                change_step f start now c.loop-position.position c.next-position.result c.in-Some.at w.at_mut.result.now w.resize.new.self c.loop-position.invariant.walk c.in-Some.is w.at_mut.ensures.value
+                w.resize.ensures (rw w.viewers-is at c.next-position.ensures.position) step;
             left = taken.left ∙ sym (ap (λ (m : ℕ). reverse (drop m (map g (values_of start.pairs)))) step);
           })
       | in_default-pop w ↦ absurd (none-some (g taken.value) (sym w.in_default-pop.is ∙ taken.next))

@@ -36,7 +36,7 @@ returns-in_err-bring_up-clause-fits c =
 
 pub loop-position-preserved : goal.loop-position-preserved
 loop-position-preserved c = record {
-  walk = change_step (brought_up c.args.log.now c.args.least) c.args.viewers.now c.loop-position.viewers c.loop-position.position c.next-position.result c.in-Some.at c.at_mut.result.now c.bring_up.new.lagging c.loop-position.invariant.walk c.in-Some.is c.at_mut.ensures.value
+  walk = change_step (brought_up c.args.log.now c.args.least) c.args.viewers.now c.loop-position.viewers c.loop-position.position c.next-position.result c.in-Some.at c.at_mut.result.now c.bring_up.new.self c.loop-position.invariant.walk c.in-Some.is c.at_mut.ensures.value
       c.in_ok-bring_up.ensures.ok c.next-position.ensures.position c.next-position.ensures.passed;
   shared = c.bring_up.ensures.shared;
 }

@@ -12,7 +12,7 @@ loop-position-preserved c =
     c.next-position.result
     c.in-Some.at
     c.at_mut.result.now
-    c.move_within.new.lagging
+    c.move_within.new.self
     c.loop-position.invariant
     c.in-Some.is
     c.at_mut.ensures.value

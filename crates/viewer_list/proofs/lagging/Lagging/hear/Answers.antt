@@ -7,7 +7,7 @@ use Rattle.viewer.specs.Viewer.{KeptViewer}
 use Rattle.viewer_list.specs.declared.lagging.Lagging.{Lagging}
 use Rattle.viewer_list.specs.Lagging.{waiting, caught_up, Fits}
 use Rattle.viewer_list.proofs.LagLemmas.{logged-alike, heard-seen, heard-fits}
-use Rattle.viewer_list.proofs.lagging.hear_one.Goals as goal
+use Rattle.viewer_list.proofs.lagging.Lagging.hear.Goals as goal
 
 size-seen : (log : List LogEntry) (l : Lagging) → ((caught_up log l).marks.width ≡ l.viewer.marks.width) × ((caught_up log l).marks.height ≡ l.viewer.marks.height)
 size-seen log l = let alike = logged-alike l.viewer.uses_copyrect (waiting log l) l.viewer.marks in (alike.width, alike.height)
@@ -16,14 +16,14 @@ pub returns-clause-reply : goal.returns-clause-reply
 returns-clause-reply c = λ before h.
     let name = c.args.name.now in
     let piece = c.args.piece.now in
-    let size = size-seen c.args.log.now c.args.lagging.now in
+    let size = size-seen c.args.log.now c.args.self.now in
     c.in_ok-heard.ensures.reply before h
-    ∙ ap (λ (w : ℕ). heard_reply w c.args.lagging.now.viewer.marks.height name before piece) (sym size.0)
-    ∙ ap (λ (n : ℕ). heard_reply (caught_up c.args.log.now c.args.lagging.now).marks.width n name before piece) (sym size.1)
+    ∙ ap (λ (w : ℕ). heard_reply w c.args.self.now.viewer.marks.height name before piece) (sym size.0)
+    ∙ ap (λ (n : ℕ). heard_reply (caught_up c.args.log.now c.args.self.now).marks.width n name before piece) (sym size.1)
 
 pub returns-clause-viewer : goal.returns-clause-viewer
 returns-clause-viewer c = λ before h.
-    let l : Lagging = c.args.lagging.now in
+    let l : Lagging = c.args.self.now in
     let size = size-seen c.args.log.now l in
     let told : KeptViewer = record (viewer_told (waiting c.args.log.now l) l.viewer) { heard = rest (before ++ c.args.piece.now) } in
     ap (caught_up c.args.log.now) c.move_where_known.ensures
@@ -36,13 +36,13 @@ returns-clause-viewer c = λ before h.
 
 pub returns-clause-width : goal.returns-clause-width
 returns-clause-width c =
-    (size-seen c.args.log.now c.move_where_known.new.lagging).0 ∙ ap (λ (l : Lagging). l.viewer.marks.width) c.move_where_known.ensures ∙ c.hear_after.ensures.width ∙ sym (size-seen c.args.log.now c.args.lagging.now).0
+    (size-seen c.args.log.now c.move_where_known.new.self).0 ∙ ap (λ (l : Lagging). l.viewer.marks.width) c.move_where_known.ensures ∙ c.hear_after.ensures.width ∙ sym (size-seen c.args.log.now c.args.self.now).0
 
 pub returns-clause-height : goal.returns-clause-height
 returns-clause-height c =
-    (size-seen c.args.log.now c.move_where_known.new.lagging).1 ∙ ap (λ (l : Lagging). l.viewer.marks.height) c.move_where_known.ensures ∙ c.hear_after.ensures.height ∙ sym (size-seen c.args.log.now c.args.lagging.now).1
+    (size-seen c.args.log.now c.move_where_known.new.self).1 ∙ ap (λ (l : Lagging). l.viewer.marks.height) c.move_where_known.ensures ∙ c.hear_after.ensures.height ∙ sym (size-seen c.args.log.now c.args.self.now).1
 
 pub returns-clause-fits : goal.returns-clause-fits
 returns-clause-fits c =
     subst (Fits c.args.log.now) (sym c.move_where_known.ensures)
-    (heard-fits c.in_ok-heard.heard.knows_log c.args.log.now c.args.lagging.now (record c.args.lagging.now { viewer = c.hear_after.new.self }) refl c.hear_after.ensures.width c.hear_after.ensures.height c.requires.fits)
+    (heard-fits c.in_ok-heard.heard.knows_log c.args.log.now c.args.self.now (record c.args.self.now { viewer = c.hear_after.new.self }) refl c.hear_after.ensures.width c.hear_after.ensures.height c.requires.fits)

@@ -2,7 +2,7 @@ use Rattle.std.proofs.Common.{◌∙◌, sym, ap, subst, Bool, List, All}
 use Rattle.copy_schedule.specs.declared.LogEntry.{LogEntry}
 use Rattle.copy_schedule.specs.Log.{logged, IsCutEntry}
 use Rattle.viewer_list.specs.Lagging.{waiting}
-use Rattle.viewer_list.proofs.lagging.shared_for.Goals as goal
+use Rattle.viewer_list.proofs.lagging.CatchUp.lacked_by.Goals as goal
 
 pub returns-clause-shared : goal.returns-clause-shared
 returns-clause-shared c = record {

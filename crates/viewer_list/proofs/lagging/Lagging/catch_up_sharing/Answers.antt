@@ -1,0 +1,11 @@
+use Rattle.std.proofs.Common.{All, subst, sym}
+use Rattle.copy_schedule.specs.Log.{IsCutEntry}
+use Rattle.viewer_list.proofs.LagLemmas.{shared_is_cut}
+use Rattle.viewer_list.proofs.lagging.Lagging.catch_up_sharing.Goals as goal
+
+pub take-requires : goal.take-requires
+take-requires c = record {
+  cut =
+      subst (All (IsCutEntry c.args.self.now.viewer.marks.width c.args.self.now.viewer.marks.height)) (sym c.deref.ensures.value)
+      (shared_is_cut c.args.log.now c.args.self.now c.share_with.new.self c.requires.fits c.share_with.ensures.shared c.in_ok-share_with.ensures.own);
+}
