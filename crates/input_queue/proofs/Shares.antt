@@ -8,40 +8,32 @@ use mathlib.Core.List.{List, [], ◌∷◌}
 use Prim.Native.Nat.{ℕ}
 use Rattle.atomic_table.specs.contracts.shared.Seat as seat
 use Rattle.atomic_table.proofs.shared.Seat.TheSendSync as passes
-use Rattle.crossbeam_queue.proofs.array_queue.Slotted.TheSendSync as queues
 use Rattle.crossbeam_queue.specs.contracts.array_queue.Doing as doing
-use Rattle.crossbeam_queue.specs.contracts.array_queue.Turns as turns
-use Rattle.crossbeam_queue.specs.contracts.array_queue.TurnsTableRuleOptionDoingUnit.TheImpl as ruled
 use Rattle.std.specs.contracts.option.Option as option
 use Rattle.std.proofs.option.Option.TheSendSync as options
-use Rattle.std.specs.contracts.alloc.Global as global
 use Rattle.std.proofs.alloc.Global.TheSendSync as globals
-use Rattle.std.specs.contracts.impls.GlobalAllocator.TheImpl as allocates
-use Rattle.std.below.std_heap.proofs.GlobalAllocator.TheSendSync as frees
-use Rattle.std.proofs.timed.Parker.TheSendSync as parkers
-use Rattle.input_queue.proofs.closing.Closing.TheSendSync as closings
+use Rattle.input_queue.proofs.ends.InputEnds.TheSendSync as ends
 use Rattle.input_queue.specs.contracts.Told as told
 use Rattle.input_queue.proofs.Told.TheSendSync as tells
 use Rattle.input_queue.specs.contracts.rule.View as view
-use Rattle.input_queue.specs.contracts.rule.InOrder as rule
-use Rattle.input_queue.specs.contracts.rule.InOrderProtocolToldView.TheImpl as kept
 use Rattle.input_queue.specs.contracts.hub.InputHub as hub
 use Rattle.input_queue.specs.contracts.hub.InputHub.TheInside as inside
+use Rattle.input_queue.specs.contracts.hub.SeatMaker as maker
+use Rattle.input_queue.specs.contracts.hub.SeatMaker.TheInside as made
 
 pub pass_sync : (S V : RattleType) → IsSend S → IsSync (seat.the_row S V)
 pass_sync S V s = record { shared = λ d b o κ q. part_keyless (seat.the_row S V) (passes.the_send S V s) q d b o }
 
+maker_sync : IsSync maker.the_row
+maker_sync =
+    let item = options.the_send told.the_row tells.the_send in
+    view_sync made.the_row _ _ _ _ (recorded_sync (made.the_field).row _ _ (made.the_type).to_one (struct_sync (declared.shape made.the_type)
+    (pass_sync (option.the_row told.the_row) (doing.the_row told.the_row view.the_row) item, (plain_sync _ _ _ _ _, tt))))
+
 pub hub_sync : IsSync hub.the_row
 hub_sync =
-    let item = options.the_send told.the_row tells.the_send in
-    view_sync inside.the_row _ _ _ _ (recorded_sync (inside.the_field).row _ _ (inside.the_type).to_one (struct_sync (declared.shape inside.the_type) (
-      globals.the_field_sync,
-      (
-        queues.the_field_sync (option.the_row told.the_row) (doing.the_row told.the_row view.the_row) (turns.the_row rule.the_row) global.the_row
-            (ruled.ghosts told.the_row view.the_row rule.the_row kept.ghosts ruled.no_dict) allocates.ghosts item globals.the_send globals.the_sync frees.the_frees,
-        (pass_sync (option.the_row told.the_row) (doing.the_row told.the_row view.the_row) item, (plain_sync _ _ _ _ _, (parkers.the_field_sync, (closings.the_field_sync, tt)))),
-      ),
-    )))
+    view_sync inside.the_row _ _ _ _ (recorded_sync (inside.the_field).row _ _ (inside.the_type).to_one (struct_sync (declared.shape inside.the_type)
+    (globals.the_field_sync, (ends.the_sync, (maker_sync, tt)))))
 
 all_send : (captured : List RattleType) → AllSend captured → AllSend (rows (parts captured))
 all_send [] all = tt

@@ -14,6 +14,16 @@ pub record Hub : Type 0 where
   pub capacity : ℕ
   pub seats : ℕ
 
+-- what threads share of it
+pub record Ends : Type 0 where
+  pub queue : TableId
+  pub capacity : ℕ
+
+-- what makes its seats, and how many it has made
+pub record Making : Type 0 where
+  pub queue : TableId
+  pub seats : ℕ
+
 -- the end that takes, and what it took
 pub record Taking : Type 0 where
   pub queue : TableId

@@ -3,7 +3,7 @@
 ghost use Rattle.std.specs.Prelude.{◌≡◌, [], ◌++◌, ◌∷◌, MatchResult};
 ghost use Rattle.input_queue.specs.Ends.{AllTaken};
 
-use crate::{InputHub, Taker, Told};
+use crate::{InputEnds, Taker, Told};
 use std::sync::Wait;
 use std::sync::atomic::{AtomicBool, Ordering};
 
@@ -55,13 +55,13 @@ impl SeenClosed {
     pub(crate) fn then_take<R: Wait>(
         self,
         rt: &R,
-        hub: &InputHub,
+        ends: &InputEnds,
         taker: &mut Taker,
     ) -> Result<Told, AtEnd>
-        requires { taker.old.queue ≡ hub.now.queue }
+        requires { taker.old.queue ≡ ends.now.queue }
         ensures { MatchResult result (λ told. taker.new ≡ record taker.old { taken = taker.old.taken ++ told ∷ [] })
             (λ _. (taker.new ≡ taker.old) × AllTaken taker.old.taken) }
     {
-        hub.take(rt, taker).ok_or(AtEnd(self))
+        ends.take(rt, taker).ok_or(AtEnd(self))
     }
 }

@@ -1,8 +1,8 @@
 //! The queue's ends.
 ghost use Rattle.std.specs.Prelude.{◌≡◌, ◌≤◌, ◌<◌, ◌+◌, ◌-◌, ◌^◌, [], ◌++◌, ◌∷◌, ℕ, List, length, map, All, min, IfOk, MatchResult};
-ghost use Rattle.std.specs.Prelude.{true, MatchOption, IsOkUnless, nat_le, ◌&&◌, MatchBool, sum_by};
+ghost use Rattle.std.specs.Prelude.{true, false, Some, MatchOption, IsOkUnless, nat_le, ◌&&◌, MatchBool, sum_by};
 ghost use Rattle.messages.specs.declared.Input.{Input};
-ghost use Rattle.held_inputs.specs.Held.{HoldsNoMore, let_go};
+ghost use Rattle.held_inputs.specs.Held.{HoldsNoMore, let_go, owed};
 ghost use Rattle.input_queue.specs.Ends.{Putting, of_viewer, ViewersApart, QueuedBeside, AllTaken, note_of, accepting, held_by, Settles};
 ghost use Rattle.input_queue.specs.declared.Told.{Told};
 ghost use Rattle.crossbeam_queue.specs.Passes.{view as known, IsPassOf};
@@ -10,48 +10,61 @@ ghost use Rattle.crossbeam_queue.specs.Fifo.{Held};
 ghost use Rattle.input_queue.specs.Views.{hub, taker, joined};
 ghost use Rattle.input_queue.specs.Rule.{Reached, Closed};
 
-use crate::closing::Closing;
-use crate::rule::{Puts, Queue, SeatBack, SeatMade, TakerBack, TakerMade, Takes, Ticket, Whole};
+use crate::ends::InputEnds;
+use crate::rule::{Queue, SeatBack, SeatMade, TakerBack, TakerMade, Takes, Ticket, Whole};
 use crate::{AtEnd, Full, Left, QueueError, Told};
-use held_inputs::{Change, HeldInputs};
+use held_inputs::HeldInputs;
 use listed::Listed;
 use messages::Input;
 use std::alloc::{AllocError, Global};
 use std::marker::Model;
 use std::sync::Wait;
-use std::thread::Parker;
 
 /// A queue of inputs, which threads share: a seat for each viewer puts, and one taker takes. Contracts
 /// see which queue it is, how many inputs it can hold, and how many seats it has made.
 #[derive(Drop)]
 pub struct InputHub {
     alloc: Global,
-    queue: Queue,
-    pass: Ticket,
-    seats: u64,
-    // the taker sleeps on it
-    arrival: Parker,
-    closing: Closing,
+    ends: InputEnds,
+    maker: SeatMaker,
 }
 
 impl Model for InputHub {
     ghost use Rattle.input_queue.specs.Ends.{Hub};
-    ghost use Rattle.std.specs.Prelude.{◌≡◌, ◌<◌, ◌-◌, ◌^◌, []};
-    ghost use Rattle.crossbeam_queue.specs.Passes.{view as known, IsPassOf, ruled_capacity};
-    ghost use Rattle.input_queue.specs.Views.{hub};
+    ghost use Rattle.std.specs.Prelude.{◌≡◌};
 
     ghost Value = { Hub };
 
-    ghost view = { λ a. record { queue = a.queue.table.shared.table_id; capacity = ruled_capacity a.queue; seats = a.seats } };
+    ghost view = { λ a. record { queue = a.ends.queue; capacity = a.ends.capacity; seats = a.maker.seats } };
 
-    ghost invariant = { λ a. IsPassOf a.queue a.pass × (known a.pass ≡ hub (known a.pass).number) ×
+    ghost invariant = { λ a. a.maker.queue ≡ a.ends.queue };
+}
+
+/// What makes a queue's seats. Contracts see of which queue, and how many it has made.
+#[derive(Drop)]
+pub struct SeatMaker {
+    pass: Ticket,
+    seats: u64,
+}
+
+impl Model for SeatMaker {
+    ghost use Rattle.input_queue.specs.Ends.{Making};
+    ghost use Rattle.std.specs.Prelude.{◌≡◌, ◌<◌, ◌-◌, ◌^◌, []};
+    ghost use Rattle.crossbeam_queue.specs.Passes.{view as known};
+    ghost use Rattle.input_queue.specs.Views.{hub};
+
+    ghost Value = { Making };
+
+    ghost view = { λ a. record { queue = a.pass.table_id; seats = a.seats } };
+
+    ghost invariant = { λ a. (a.pass.me.1 ≡ []) × (known a.pass ≡ hub (known a.pass).number) ×
         (a.seats < 2 ^ 64 - 1 → (known a.pass).number ≡ a.seats) };
 }
 
 /// The end that takes. Contracts see what it took.
 #[derive(Drop)]
 pub struct Taker {
-    pass: Ticket,
+    pub(crate) pass: Ticket,
 }
 
 impl Model for Taker {
@@ -70,10 +83,10 @@ impl Model for Taker {
 /// The end of one viewer, which puts. Contracts see what was accepted at it.
 #[derive(Drop)]
 pub struct InputSeat {
-    viewer: u64,
-    pass: Ticket,
+    pub(crate) viewer: u64,
+    pub(crate) pass: Ticket,
     // what is down by what was accepted
-    held: HeldInputs,
+    pub(crate) held: HeldInputs,
 }
 
 impl Model for InputSeat {
@@ -97,7 +110,7 @@ impl Model for InputSeat {
 }
 
 impl InputHub {
-    /// An empty queue that can hold so many inputs, with its taker. `BadCapacity` unless these are 1 to
+    /// Makes an empty queue that can hold `capacity` inputs, with its taker. `BadCapacity` unless that is 1 to
     /// 65,536. All room is made here.
     pub fn new(alloc: Global, capacity: usize) -> Result<(InputHub, Taker), QueueError>
         ensures refused { MatchBool (nat_le 1 capacity && nat_le capacity 65536) (IsOkUnless result QueueError.OutOfMemory)
@@ -112,16 +125,29 @@ impl InputHub {
         let taking = queue.another::<TakerMade>(&mut pass);
         let hub = InputHub {
             alloc,
-            queue,
-            pass,
-            seats: 0,
-            arrival: Parker::new(),
-            closing: Closing::new(),
+            ends: InputEnds::of(queue),
+            maker: SeatMaker { pass, seats: 0 },
         };
         Ok((hub, Taker { pass: taking }))
     }
 
-    /// A seat for a viewer. The hub counts its seats; the count stops at 2^64 - 1.
+    /// Parts what threads share from what makes seats, so that a server without end makes these as its viewers come. Nothing joins the
+    /// two again.
+    pub fn split(self) -> (InputEnds, SeatMaker)
+        ensures ends { result.0 ≡ record { queue = self.queue; capacity = self.capacity } }
+        ensures maker { result.1 ≡ record { queue = self.queue; seats = self.seats } }
+    {
+        (self.ends, self.maker)
+    }
+
+    /// Returns what threads share of it.
+    pub fn ends(&self) -> &InputEnds
+        ensures { result.now ≡ record { queue = self.now.queue; capacity = self.now.capacity } }
+    {
+        &self.ends
+    }
+
+    /// Makes a seat for a viewer. The hub counts its seats; the count stops at 2^64 - 1.
     pub fn seat(&mut self, viewer: u64) -> InputSeat
         ensures hub { self.new ≡ record self.old { seats = min (self.old.seats + 1) (2 ^ 64 - 1) } }
         ensures queue { result.queue ≡ self.old.queue }
@@ -129,13 +155,7 @@ impl InputHub {
         ensures number { self.old.seats < 2 ^ 64 - 1 → result.number ≡ self.old.seats }
         ensures accepted { result.accepted ≡ [] }
     {
-        let pass = self.queue.another::<SeatMade>(&mut self.pass);
-        self.seats = self.seats.saturating_add(1);
-        InputSeat {
-            viewer,
-            pass,
-            held: HeldInputs::new(),
-        }
+        self.maker.seat(&self.ends, viewer)
     }
 
     /// Puts an input behind the others, and wakes the taker where it waits. The input comes back where the
@@ -148,19 +168,7 @@ impl InputHub {
         ensures full { MatchResult result (λ _. Unit {0}) (λ _. (items : List Told) × (length items ≡ self.now.capacity) ×
             QueuedBeside seat.old.number seat.old.accepted items) }
     {
-        let change = Change::of(&input);
-        let told = Told {
-            viewer: seat.viewer,
-            input,
-        };
-        match self.queue.push_as::<Puts, R>(rt, &mut seat.pass, told) {
-            Ok(()) => {
-                seat.held.change(change);
-                self.arrival.unpark();
-                Ok(())
-            }
-            Err(told) => Err(Full(told.input)),
-        }
+        self.ends.put(rt, seat, input)
     }
 
     /// Puts what the application has to be told at this seat, so that no key is down for it that the viewer doesn't hold, and the same
@@ -171,27 +179,25 @@ impl InputHub {
         ensures put { (inputs : List Input) × Settles held.now inputs seat.old seat.new }
         ensures seat { seat.new ≡ record seat.old { accepted = seat.new.accepted } }
         ensures settled { result ≡ true → HoldsNoMore (held_by seat.new.accepted) held.now }
+        ensures full { result ≡ false → (items : List Told) × (length items ≡ self.now.capacity) ×
+            QueuedBeside seat.new.number seat.new.accepted items }
+        ensures owes { result ≡ false → (input : Input) × (owed (held_by seat.new.accepted) held.now ≡ Some input) }
     {
-        for _ in rt.forever() {
-            let Some(input) = seat.held.owed(held) else {
-                return true;
-            };
-            if self.put(rt, seat, input).is_err() {
-                return false;
-            }
-        }
-        unreachable!()
+        self.ends.settle(rt, seat, held)
     }
 
-    /// The same for a viewer that has left, and holds nothing.
+    /// Does the same for a viewer that has left, and holds nothing.
     pub fn let_go<R: Wait>(&self, rt: &R, seat: &mut InputSeat) -> bool
         requires { seat.old.queue ≡ self.now.queue }
         ensures put { (inputs : List Input) × Settles (let_go (held_by seat.old.accepted)) inputs seat.old seat.new }
         ensures seat { seat.new ≡ record seat.old { accepted = seat.new.accepted } }
         ensures settled { result ≡ true → HoldsNoMore (held_by seat.new.accepted) (let_go (held_by seat.old.accepted)) }
+        ensures full { result ≡ false → (items : List Told) × (length items ≡ self.now.capacity) ×
+            QueuedBeside seat.new.number seat.new.accepted items }
+        ensures owes { result ≡ false → (input : Input) ×
+            (owed (held_by seat.new.accepted) (let_go (held_by seat.old.accepted)) ≡ Some input) }
     {
-        let held = seat.held.let_go();
-        self.settle(rt, seat, &held)
+        self.ends.let_go(rt, seat)
     }
 
     /// Takes the input in front. None where the queue was empty at some moment of the call: that it comes
@@ -201,7 +207,7 @@ impl InputHub {
         ensures { MatchOption result ((taker.new ≡ taker.old) ×
             AllTaken taker.old.taken) (λ told. taker.new ≡ record taker.old { taken = taker.old.taken ++ told ∷ [] }) }
     {
-        self.queue.pop_as::<Takes, R>(rt, &mut taker.pass)
+        self.ends.take(rt, taker)
     }
 
     /// Takes the input in front, and sleeps until there is one or the hub is closed. A closed hub gives what it
@@ -211,16 +217,7 @@ impl InputHub {
         ensures { MatchResult result (λ told. taker.new ≡ record taker.old { taken = taker.old.taken ++ told ∷ [] })
             (λ _. (taker.new ≡ taker.old) × AllTaken taker.old.taken) }
     {
-        for _ in rt.forever() {
-            if let Some(seen) = self.closing.seen() {
-                return seen.then_take(rt, self, taker);
-            }
-            if let Some(told) = self.take(rt, taker) {
-                return Ok(told);
-            }
-            self.arrival.park(rt);
-        }
-        unreachable!()
+        self.ends.take_wait(rt, taker)
     }
 
     /// Takes the input in front, and sleeps until there is one, or the taker is woken by `wake`, or the hub is closed. None where it was
@@ -231,35 +228,17 @@ impl InputHub {
             (λ told. taker.new ≡ record taker.old { taken = taker.old.taken ++ told ∷ [] }))
             (λ _. (taker.new ≡ taker.old) × AllTaken taker.old.taken) }
     {
-        for _ in rt.forever() {
-            if let Some(seen) = self.closing.seen() {
-                return Ok(Some(seen.then_take(rt, self, taker)?));
-            }
-            let is_woken = self.closing.take_wake();
-            if let Some(told) = self.take(rt, taker) {
-                if is_woken {
-                    self.closing.wake();
-                }
-                return Ok(Some(told));
-            }
-            if is_woken {
-                return Ok(None);
-            }
-            self.arrival.park(rt);
-        }
-        unreachable!()
+        self.ends.take_or_woken(rt, taker)
     }
 
     /// Wakes the taker, now or when it next sleeps.
     pub fn wake(&self) {
-        self.closing.wake();
-        self.arrival.unpark();
+        self.ends.wake();
     }
 
-    /// No input is put any more: the taker waits for none. To be called once every seat has put its last.
+    /// Ends the putting: the taker waits for no further input. To be called once every seat has put its last.
     pub fn close(&self) {
-        self.closing.close();
-        self.arrival.unpark();
+        self.ends.close();
     }
 
     /// Gives back the seats, takes what is left, and gives back the taker. Where these are all seats that
@@ -278,12 +257,8 @@ impl InputHub {
         ensures no_other { IfOk result (λ left. length seats.items ≡ self.seats → self.seats < 2 ^ 64 - 1 →
             length (taker.taken ++ left.items) ≡ sum_by (λ s. length s.accepted) seats.items) }
     {
-        let InputHub {
-            alloc,
-            queue,
-            mut pass,
-            ..
-        } = self;
+        let InputHub { alloc, ends, maker } = self;
+        let (queue, mut pass) = (ends.queue, maker.pass);
         let mut taking = give_back_all(&queue, taker.pass, seats);
         let items = take_all(rt, alloc, &queue, &mut taking)?;
         queue.absorb::<TakerBack>(&mut pass, taking);
@@ -294,7 +269,27 @@ impl InputHub {
     }
 }
 
-/// The taker notes what a seat accepted.
+impl SeatMaker {
+    /// Makes a seat for a viewer, as `InputHub::seat`, at the queue of these ends.
+    pub fn seat(&mut self, ends: &InputEnds, viewer: u64) -> InputSeat
+        requires { self.old.queue ≡ ends.now.queue }
+        ensures maker { self.new ≡ record self.old { seats = min (self.old.seats + 1) (2 ^ 64 - 1) } }
+        ensures queue { result.queue ≡ self.old.queue }
+        ensures viewer { result.viewer ≡ viewer }
+        ensures number { self.old.seats < 2 ^ 64 - 1 → result.number ≡ self.old.seats }
+        ensures accepted { result.accepted ≡ [] }
+    {
+        let pass = ends.queue.another::<SeatMade>(&mut self.pass);
+        self.seats = self.seats.saturating_add(1);
+        InputSeat {
+            viewer,
+            pass,
+            held: HeldInputs::new(),
+        }
+    }
+}
+
+/// Notes with the taker what a seat accepted.
 fn give_back(queue: &Queue, taking: &mut Ticket, seat: InputSeat)
     requires queue { IsPassOf queue.now taking.old × (seat.queue ≡ queue.now.table.shared.table_id) }
     requires taker { known taking.old ≡ taker (known taking.old).taken (known taking.old).noted }
@@ -305,7 +300,7 @@ fn give_back(queue: &Queue, taking: &mut Ticket, seat: InputSeat)
     queue.absorb::<SeatBack>(taking, seat.pass);
 }
 
-/// The taker notes what each seat accepted.
+/// Notes with the taker what each seat accepted.
 fn give_back_all(queue: &Queue, mut taking: Ticket, mut seats: Vec<InputSeat>) -> Ticket
     requires queue { IsPassOf queue.now taking × All (λ s. s.queue ≡ queue.now.table.shared.table_id) seats.items }
     requires taker { known taking ≡ taker (known taking).taken [] }

@@ -3,11 +3,13 @@
 #![tactic(auto)]
 
 mod closing;
+mod ends;
 mod hub;
 mod rule;
 
 pub use closing::AtEnd;
-pub use hub::{InputHub, InputSeat, Taker};
+pub use ends::InputEnds;
+pub use hub::{InputHub, InputSeat, SeatMaker, Taker};
 use listed::Listed;
 use messages::Input;
 use std::alloc::AllocError;

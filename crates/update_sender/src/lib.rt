@@ -37,7 +37,7 @@ pub use finishing::{finish, receipt};
 pub use gate::{Gate, OpenGate};
 pub use line::{Line, Listener, Speaker};
 pub use opening::{Opened, serve_opening};
-pub use reader::{ReadHalf, serve_reader};
+pub use reader::{ReadHalf, serve_listener, serve_reader};
 pub use receipts::{Ended, FinishError, Report, Sent, check};
 pub use screen::{Answer, Config, Event, History, Rect, Region, ScreenError, Update};
 pub use sender::{WriteHalf, serve_sender};

@@ -3,7 +3,7 @@ use Rattle.held_inputs.specs.Held.{owed}
 use Rattle.input_queue.specs.Ends.{Putting, held_by}
 use Rattle.input_queue.specs.declared.Full.{Full}
 use Rattle.input_queue.proofs.Holding.{settles-then, settles-frame, when-ok, when-err}
-use Rattle.input_queue.proofs.hub.InputHub.settle.Goals as goal
+use Rattle.input_queue.proofs.ends.InputEnds.settle.Goals as goal
 
 pub put-requires : goal.put-requires
 put-requires g c = let i = c.loop.invariant in ap (λ s. s.queue) (settles-frame _ _ _ _ i.1) ∙ c.requires

@@ -1,5 +1,5 @@
 use Rattle.std.proofs.Common.{◌≡◌}
-use Rattle.input_queue.proofs.hub.InputHub.take_wait.Given as goal
+use Rattle.input_queue.proofs.ends.InputEnds.take_or_woken.Given as goal
 
 abbrev pub invariant-loop : goal.invariant-loop
 invariant-loop g l = l.taker ≡ l.fn.taker

@@ -2,7 +2,7 @@ use Rattle.std.proofs.Common.{ap, refl, ◌∙◌}
 use Rattle.held_inputs.specs.Held.{changed}
 use Rattle.input_queue.proofs.Moves.{puts, learns_held, seat_kept}
 use Rattle.input_queue.proofs.Holding.{by-more}
-use Rattle.input_queue.proofs.hub.InputHub.put.Goals as goal
+use Rattle.input_queue.proofs.ends.InputEnds.put.Goals as goal
 
 pub push_as-requires-clause-rule : goal.push_as-requires-clause-rule
 push_as-requires-clause-rule g c = let is = ap (λ v. v.puts) c.seat.invariant.1 in (puts _ _ _ _ is, learns_held _ _ is)

@@ -2,7 +2,7 @@ use Rattle.std.proofs.Common.{ap, ◌∙◌, rules}
 use Rattle.update_sender.specs.Ends.{Listening, without_waiting}
 use Rattle.update_sender.proofs.Putting.{puts-first}
 use Rattle.update_sender.proofs.Served.{hears-from, hears-one-viewer}
-use Rattle.update_sender.proofs.reader.serve_reader.Goals as goal
+use Rattle.update_sender.proofs.reader.serve_listener.Goals as goal
 
 pub returns-clause-viewer : goal.returns-clause-viewer
 returns-clause-viewer g c =
