@@ -27,7 +27,7 @@ pub trait Application {
         ensures draws { Draws canvas.old canvas.new }
         ensures told { (inputs : List (ℕ × Input)) → stands self.old inputs → stands self.new (inputs ++ (viewer, input.now) ∷ []) };
 
-    /// A viewer connected; it is served from now on.
+    /// Takes note that a viewer connected; it is served from now on.
     fn came(&mut self, _canvas: &mut Canvas, _viewer: u64) -> Result<(), ScreenError>
         ensures draws { Draws _canvas.old _canvas.new }
         ensures stands { Stays stands self.old self.new }
@@ -35,7 +35,7 @@ pub trait Application {
         Ok(())
     }
 
-    /// A viewer asked for places whether these changed or not, by a request that isn't incremental (RFC 6143, 7.5.3;
+    /// Takes note that a viewer asked for places whether these changed or not, by a request that isn't incremental (RFC 6143, 7.5.3;
     /// `clientFramebufferUpdateRequestHook` of `rfb.h` is called for each request). It is told once for each piece of bytes in which
     /// there is one, behind the inputs of that piece and before the answer is cut: what is drawn now is in it.
     fn asked(&mut self, _canvas: &mut Canvas, _viewer: u64) -> Result<(), ScreenError>
@@ -53,8 +53,7 @@ pub trait Application {
         Ok(())
     }
 
-    /// The time came that the last tick answered, or the application starts. After how long the next one is to be; None where
-    /// none is.
+    /// Acts at the time that the last tick answered, and at the start. Returns after how long the next tick is to come, if one is.
     fn tick(&mut self, _canvas: &mut Canvas) -> Result<Option<Duration>, ScreenError>
         ensures draws { Draws _canvas.old _canvas.new }
         ensures stands { Stays stands self.old self.new }
@@ -62,7 +61,7 @@ pub trait Application {
         Ok(None)
     }
 
-    /// Another thread woke the loop.
+    /// Acts once another thread woke the loop.
     fn woken(&mut self, _canvas: &mut Canvas) -> Result<(), ScreenError>
         ensures draws { Draws _canvas.old _canvas.new }
         ensures stands { Stays stands self.old self.new }
@@ -70,7 +69,7 @@ pub trait Application {
         Ok(())
     }
 
-    /// Whether the loop is to end. It is asked before each turn.
+    /// Returns whether the loop is to end. It is asked before each turn.
     fn is_done(&self) -> bool {
         false
     }

@@ -28,7 +28,7 @@ const WRITES: u32 = 4;
 pub(crate) fn listen<T: Transport, A: Application>(
     canvas: &mut Canvas,
     connection: &mut Connection<T>,
-    room: &mut [u8; PIECE],
+    buffer: &mut [u8; PIECE],
     now: u64,
     application: &mut A,
 ) -> Result<(), ScreenError>
@@ -38,16 +38,16 @@ pub(crate) fn listen<T: Transport, A: Application>(
     if !connection.may_read() {
         return Ok(());
     }
-    match connection.receive(room, now) {
+    match connection.receive(buffer, now) {
         Got::Nothing => {}
         Got::End => connection.end(Ended::EndOfInput),
         Got::Failed => connection.end(Ended::ReadFailed),
-        Got::Piece(count) => return hear(canvas, connection, &room[..count], application),
+        Got::Piece(count) => return hear(canvas, connection, &buffer[..count], application),
     }
     Ok(())
 }
 
-/// Hears a piece that was read.
+/// Hears a piece that was read, and tells the application its inputs.
 fn hear<T: Transport, A: Application>(
     canvas: &mut Canvas,
     connection: &mut Connection<T>,
@@ -99,8 +99,7 @@ fn tell<A: Application>(
     Ok(())
 }
 
-/// Writes what a viewer was given, and cuts further updates for it, as long as its transport takes bytes, but for so many writes at
-/// most.
+/// Writes what a viewer was given, and cuts further updates for it, as long as its transport takes bytes, in four writes at most.
 pub(crate) fn send<T: Transport>(
     canvas: &mut Canvas,
     connection: &mut Connection<T>,
@@ -118,8 +117,8 @@ pub(crate) fn send<T: Transport>(
     }
 }
 
-/// Whether a write may take something, where an update is cut if nothing waits and one may be there. An update whose rectangles are being
-/// encoded for several viewers is cut in a later turn.
+/// Cuts an update if nothing waits and one may be ready, and returns whether a write may take something. An update whose rectangles are
+/// being encoded for several viewers is cut in a later turn.
 fn prepare<T: Transport>(canvas: &mut Canvas, connection: &mut Connection<T>) -> bool
     ensures turn { TakesTurn canvas.old connection.old canvas.new connection.new }
     ensures asks { connection.new.known.may_ask ≡ true → connection.old.known.may_ask ≡ true }
@@ -138,7 +137,7 @@ fn prepare<T: Transport>(canvas: &mut Canvas, connection: &mut Connection<T>) ->
     cut(canvas, connection)
 }
 
-/// Whether a viewer's next update waits for what is being encoded for several viewers.
+/// Returns whether a viewer's next update waits for what is being encoded for several viewers, and encodes some of that.
 fn waits<T: Transport>(canvas: &mut Canvas, connection: &mut Connection<T>) -> bool
     ensures canvas { canvas.new ≡ canvas.old }
     ensures connection { connection.new ≡ connection.old }
@@ -152,7 +151,7 @@ fn waits<T: Transport>(canvas: &mut Canvas, connection: &mut Connection<T>) -> b
     }
 }
 
-/// Cuts an update for a viewer for which nothing waits, if there is something to send and it hasn't ended. Whether there is.
+/// Cuts an update for a viewer for which nothing waits, if there is something to send and it hasn't ended. Returns whether it did.
 fn cut<T: Transport>(canvas: &mut Canvas, connection: &mut Connection<T>) -> bool
     requires { waiting_bytes connection.old.waiting ≡ [] }
     ensures turn { TakesTurn canvas.old connection.old canvas.new connection.new }
