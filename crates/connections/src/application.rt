@@ -17,7 +17,8 @@ pub trait Application {
     /// That it was told these inputs, each with its viewer's number, in the order in which they came.
     ghost stands: { Self → List (ℕ × Input) → Type 0 } = { λ _ _. Unit {0} };
 
-    /// A viewer's input came (RFC 6143, 7.3.1 and 7.5.4 to 7.5.6).
+    /// Takes an input of a viewer (RFC 6143, 7.3.1 and 7.5.4 to 7.5.6). Where a viewer ended with keys or buttons down, their releases are
+    /// told as further inputs of that viewer, before `left`.
     fn on_input(
         &mut self,
         canvas: &mut Canvas,
@@ -45,7 +46,8 @@ pub trait Application {
         Ok(())
     }
 
-    /// A viewer ended, and its connection is closed. Its receipt has the bytes that were heard and sent, where the history is kept.
+    /// Takes note that a viewer ended and its connection is closed; no key or button of that viewer is down any longer. `receipt` has the
+    /// bytes that were heard and sent, where the history is kept.
     fn left(&mut self, _canvas: &mut Canvas, _receipt: Receipt) -> Result<(), ScreenError>
         ensures draws { Draws _canvas.old _canvas.new }
         ensures stands { Stays stands self.old self.new }

@@ -9,15 +9,18 @@ ghost use Rattle.connections.specs.Attending.{noted};
 ghost use Rattle.connections.specs.Serving.{Carried, ViewerConnection, Moves, breaks_off, may_read, may_write, has_waiting, over, can_send, has_work};
 ghost use Rattle.connections.specs.declared.connection.Got.TheVariants as got;
 ghost use Rattle.connections.specs.Recording.{none_yet};
+ghost use Rattle.connections.specs.Telling.{held_behind};
 ghost use Rattle.connections.specs.Turns.{IsWithin, got_bytes};
+ghost use Rattle.held_inputs.specs.Held.{nothing};
 
 use crate::backlog::{Backlog, Written};
-use crate::connections::Readiness;
+use crate::connections::{Departed, Readiness};
 use crate::recording::{Recording, no_bytes};
 use crate::transport::Transport;
+use held_inputs::{Change, HeldInputs};
 use kept_list::KeptList;
 use receipts::{Ended, Receipt};
-use screen::{Fault, Update};
+use screen::{Fault, Input, Update};
 use std::alloc::{AllocError, Global};
 use std::io::ErrorKind;
 use std::marker::Model;
@@ -82,6 +85,8 @@ pub(crate) struct Connection<T: Transport> {
     waits_for: Option<u64>,
     // how many further updates don't wait for it
     hurried: u32,
+    // the keys and buttons that its viewer holds down: 2 KB, behind all else
+    held: HeldInputs,
 }
 
 impl<T: Transport> Model for Connection<T> {
@@ -94,6 +99,7 @@ impl<T: Transport> Model for Connection<T> {
       number = a.number;
       carried = carried_by T.unread T.written a.transport;
       waiting = a.backlog;
+      held = a.held;
       ended = a.ended;
       known = record { may_read = a.readiness.may_read; may_write = a.readiness.may_write; may_cut = a.may_cut; may_ask = a.may_ask };
     } };
@@ -112,12 +118,22 @@ pub(crate) enum Got {
     Failed,
 }
 
+/// Takes in what a viewer's inputs change in what it holds down.
+fn hold(held: &mut HeldInputs, inputs: &[Input])
+    ensures { held.new ≡ held_behind held.old inputs.now }
+{
+    for input in inputs {
+        held.change(Change::of(input));
+    }
+}
+
 impl<T: Transport> Connection<T> {
     /// Returns a connection whose transport may give bytes and may take some, and whose viewer may ask. Keeps what moves where `is_kept`.
     pub fn new(alloc: Global, transport: T, number: u64, is_kept: bool) -> Connection<T>
         ensures number { result.number ≡ number }
         ensures carried { result.carried ≡ record { unread = T.unread transport; written = T.written transport; sent = none_yet is_kept } }
         ensures waiting { waiting_bytes result.waiting ≡ [] }
+        ensures held { result.held ≡ nothing }
         ensures ended { result.ended ≡ None }
         ensures known { result.known ≡ record { may_read = true; may_write = true; may_cut = true; may_ask = true } }
     {
@@ -140,6 +156,7 @@ impl<T: Transport> Connection<T> {
             may_ask: true,
             waits_for: None,
             hurried: 0,
+            held: HeldInputs::new(),
         }
     }
 
@@ -349,9 +366,11 @@ impl<T: Transport> Connection<T> {
         self.heard.reserve(piece.len())
     }
 
-    /// A piece was heard, so an update may be there to be cut, and a request may be unanswered. It is kept, in room that was made.
-    pub fn count_piece(&mut self, piece: &[u8])
-        ensures { self.new ≡ record self.old { known = record self.old.known { may_cut = true; may_ask = true } } }
+    /// Counts a piece that was heard, whose inputs were `inputs`: an update may be ready, a request may be open, and the viewer holds down
+    /// what the inputs leave. Keeps the piece, in room that was made.
+    pub fn count_piece(&mut self, piece: &[u8], inputs: &[Input])
+        ensures same { self.new ≡ record self.old { held = self.new.held; known = record self.old.known { may_cut = true; may_ask = true } } }
+        ensures held { self.new.held ≡ held_behind self.old.held inputs.now }
     {
         self.pieces = self.pieces.saturating_add(1);
         self.may_cut = true;
@@ -359,6 +378,7 @@ impl<T: Transport> Connection<T> {
         if self.heard.reserve(piece.len()).is_ok() {
             self.heard.append(piece);
         }
+        hold(&mut self.held, inputs);
     }
 
     /// Takes an update that was cut, where nothing waits. `is_asking` says whether the update left a request open; only then a further one
@@ -397,16 +417,18 @@ impl<T: Transport> Connection<T> {
         }
     }
 
-    /// What is left of it where it ended so: its transport, and the receipt of what it was.
-    pub fn into_parts(self, ended: Ended) -> (T, Receipt)
-        ensures carried { (record { unread = T.unread result.0; written = T.written result.0; sent = self.carried.sent }) ≡ self.carried }
-        ensures viewer { result.1.viewer ≡ self.number }
-        ensures ended { result.1.ended ≡ ended }
-        ensures sent { result.1.sent ≡ unwrap_or self.carried.sent [] }
+    /// Returns what is left of it where it ended so.
+    pub fn into_departed(self, ended: Ended) -> Departed<T>
+        ensures carried { (record { unread = T.unread result.transport; written = T.written result.transport; sent = self.carried.sent }) ≡ self.carried }
+        ensures held { result.held ≡ self.held }
+        ensures viewer { result.receipt.viewer ≡ self.number }
+        ensures ended { result.receipt.ended ≡ ended }
+        ensures sent { result.receipt.sent ≡ unwrap_or self.carried.sent [] }
     {
         let Connection {
             transport,
             number,
+            held,
             pieces,
             heard,
             cuts,
@@ -421,6 +443,10 @@ impl<T: Transport> Connection<T> {
             sent,
             ended,
         };
-        (transport, receipt)
+        Departed {
+            transport,
+            held,
+            receipt,
+        }
     }
 }

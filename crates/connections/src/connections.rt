@@ -11,7 +11,7 @@ ghost use Rattle.connections.specs.Recorded.{IsFlushed, IsRecordedBy, held_by, i
 ghost use Rattle.record_writer.specs.Held.{bytes_held};
 ghost use Rattle.connections.specs.Serving.{Began, GoesOn, GoesOnTelling, HasNothingToDo, IsOver, Serves, ViewerConnection, WasServed, at_key, is_kept, is_open_on, may_cut_at, noted_by, number_at};
 ghost use Rattle.connections.specs.Recording.{none_yet};
-ghost use Rattle.connections.specs.Telling.{inputs_after, Stays};
+ghost use Rattle.connections.specs.Telling.{inputs_after, releases, said_by, IsTold, Stays};
 ghost use Rattle.connections.specs.Lending.{lends_canvas};
 
 use crate::application::Application;
@@ -22,7 +22,8 @@ use crate::keys::KeySet;
 use crate::listing::{keep_asking, keep_busy, key_of, list_keys};
 use crate::record::Record;
 use crate::transport::Transport;
-use crate::turn::{PIECE, listen, send};
+use crate::turn::{PIECE, listen, release, send};
+use held_inputs::HeldInputs;
 use receipts::{Ended, Receipt};
 use record_writer::RecordWriter;
 use screen::{Config, History, Screen, ScreenError, config_refusal};
@@ -71,6 +72,8 @@ fn is_open(screen: &Screen, viewer: u64) -> bool
 pub struct Departed<T> {
     /// Its transport.
     pub transport: T,
+    /// The keys and buttons that it held down.
+    pub held: HeldInputs,
     /// What was heard of it and sent to it, and why it ended.
     pub receipt: Receipt,
 }
@@ -326,15 +329,18 @@ impl<T: Transport> Connections<T> {
         application.came(&mut self.canvas, viewer)
     }
 
-    /// Tells the application that a viewer ended.
+    /// Tells the application that a viewer ended, and before that, as inputs of this viewer, the releases of the keys and buttons that it
+    /// held down.
     pub fn tell_left<A: Application>(
         &mut self,
+        held: HeldInputs,
         receipt: Receipt,
         application: &mut A,
     ) -> Result<(), ScreenError>
         ensures served { GoesOn self.old self.new }
-        ensures stands { Stays A.stands application.old application.new }
+        ensures told { IsTold A.stands (said_by receipt.viewer (releases held)) application.old application.new result }
     {
+        release(&mut self.canvas, receipt.viewer, held, application)?;
         application.left(&mut self.canvas, receipt)
     }
 
@@ -443,12 +449,13 @@ impl<T: Transport> Connections<T> {
         Ok(())
     }
 
-    /// Closes a viewer that ended and for which nothing is left to be done, and returns what is left of it. None where there is none; where
-    /// memory is refused to close it, it is given later.
+    /// Closes a viewer that ended, and for which nothing is left to be done, and returns what is left of it. None where there is none;
+    /// where memory is refused to close it, it is given later. `tell_left` is to tell the application of it.
     pub fn take_departed(&mut self) -> Option<Departed<T>>
         ensures served { (config : Config) (began : Began) (list : List Event) → Serves config began list self.old →
-            (more : List Event) × Serves config began (list ++ more) self.new × (inputs_after config list more ≡ []) ×
-            IfSome result (λ d. WasServed config (list ++ more) (began.carried d.receipt.viewer) T.unread T.written d.transport d.receipt) }
+            (more : List Event) × Serves config began (list ++ more) self.new ×
+            MatchOption result (inputs_after config list more ≡ []) (λ d. (inputs_after config list more ≡ said_by d.receipt.viewer (releases d.held)) ×
+            WasServed config (list ++ more) (began.carried d.receipt.viewer) T.unread T.written d.transport d.receipt) }
     {
         let key = self.find_over()?;
         let (viewer, ended) = self.over_at(key)?;
@@ -458,8 +465,7 @@ impl<T: Transport> Connections<T> {
         self.agenda.remove(key);
         self.asking.remove(key);
         let connection = self.connections.try_remove(key)?;
-        let (transport, receipt) = connection.into_parts(ended);
-        Some(Departed { transport, receipt })
+        Some(connection.into_departed(ended))
     }
 
     /// Returns the key at an index of the agenda; None behind the last.

@@ -6,13 +6,14 @@ ghost use Rattle.connections.specs.Waiting.{waiting_bytes};
 ghost use Rattle.connections.specs.Bounds.{AreWrittenAtMost, AreReadAtMost};
 ghost use Rattle.connections.specs.Drawing.{Draws};
 ghost use Rattle.connections.specs.Serving.{breaks_off};
-ghost use Rattle.connections.specs.Telling.{said_by, IsTold};
+ghost use Rattle.connections.specs.Telling.{said_by, releases, IsTold};
 ghost use Rattle.connections.specs.Turns.{HearsPiece, TakesTurn, TakesTurnTelling};
 
 use crate::application::Application;
 use crate::canvas::Canvas;
 use crate::connection::{Connection, Got};
 use crate::transport::Transport;
+use held_inputs::{Change, HeldInputs};
 use receipts::Ended;
 use screen::{Input, ScreenError, held_as_alone};
 
@@ -67,16 +68,11 @@ fn hear<T: Transport, A: Application>(
         connection.end(Ended::Memory);
         return Ok(());
     };
+    let inputs = answer.inputs.as_slice();
     canvas.record_heard(viewer, piece);
-    connection.count_piece(piece);
+    connection.count_piece(piece, inputs);
     connection.give(answer.bytes.as_slice(), answer.closed);
-    tell(
-        canvas,
-        viewer,
-        answer.inputs.as_slice(),
-        full_requests,
-        application,
-    )
+    tell(canvas, viewer, inputs, full_requests, application)
 }
 
 /// Tells the application a viewer's inputs, in order, and whether there are more full requests of it now than there were.
@@ -95,6 +91,24 @@ fn tell<A: Application>(
     }
     if canvas.full_requests(viewer) > full_requests {
         application.asked(canvas, viewer)?;
+    }
+    Ok(())
+}
+
+/// Tells the application the releases of the keys and buttons that a viewer held down when it left.
+pub(crate) fn release<A: Application>(
+    canvas: &mut Canvas,
+    viewer: u64,
+    mut held: HeldInputs,
+    application: &mut A,
+) -> Result<(), ScreenError>
+    ensures draws { Draws canvas.old canvas.new }
+    ensures told { IsTold A.stands (said_by viewer (releases held)) application.old application.new result }
+{
+    let nothing = held.let_go();
+    while let Some(input) = held.owed(&nothing) {
+        application.on_input(canvas, viewer, &input)?;
+        held.change(Change::of(&input));
     }
     Ok(())
 }

@@ -663,8 +663,7 @@ impl EventLoop {
 
     /// Parts with the viewers that ended, and tells the application.
     fn part<A: Application>(&mut self, application: &mut A) -> Result<(), LoopError>
-        ensures served { GoesOnServing self.old self.new }
-        ensures stands { Stays A.stands application.old application.new }
+        ensures served { GoesOnServingTelling A.stands self.old self.new application.old application.new result }
     {
         for _ in 0..self.connections.len() {
             if !self.part_with_one(application)? {
@@ -676,14 +675,14 @@ impl EventLoop {
 
     /// Parts with one viewer that ended, and tells the application. Returns whether there was one.
     fn part_with_one<A: Application>(&mut self, application: &mut A) -> Result<bool, LoopError>
-        ensures served { GoesOnServing self.old self.new }
-        ensures stands { Stays A.stands application.old application.new }
+        ensures served { GoesOnServingTelling A.stands self.old self.new application.old application.new result }
     {
         let Some(departed) = self.connections.take_departed() else {
             return Ok(false);
         };
         self.may_accept = true;
-        self.connections.tell_left(departed.receipt, application)?;
+        self.connections
+            .tell_left(departed.held, departed.receipt, application)?;
         Ok(true)
     }
 }
