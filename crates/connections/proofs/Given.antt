@@ -1,4 +1,4 @@
--- What one viewer was heard of and is given, over more events.
+-- What one viewer was heard of, is given and holds down, over more events.
 use Rattle.std.proofs.Common.{◌≡◌, ℕ, Bool, true, false, cond, List, [], ◌∷◌, ◌++◌, Option, Some, None, refl, sym, ap, ◌∙◌, append_assoc, append-nil, subst}
 use Rattle.std.specs.Prelude.{flat_map, ◌==◌, ◌&&◌}
 use Rattle.std.specs.List.{filter_map}
@@ -14,7 +14,9 @@ use Rattle.screen.specs.declared.Event.TheVariants.{Write, Paint, Mark, Schedule
 use Rattle.screen.specs.Alone.{One, at_size, step, draw_step, after, answers_from, alone, owner_of, drawing_refusal, empty_screen}
 use Rattle.screen.specs.Answers.{own, is_owner, is_drawing, last_of, answer_to}
 use Rattle.receipts.specs.Histories.{piece_of, heard_of, bytes_of}
+use Rattle.held_inputs.specs.Held.{Held, nothing}
 use Rattle.connections.specs.Drawing.{are_drawings}
+use Rattle.connections.specs.Telling.{held_behind, held_with, held_after, held_of}
 use Rattle.connections.specs.Turns.{are_of}
 
 -- ---- one event more
@@ -127,20 +129,38 @@ no-piece-other v Bell h = refl
 no-piece-other v (CutText text) h = refl
 no-piece-other v (Resize w k) h = refl
 
+-- ---- what is held down
+
+held-more : (c : Config) (v : ℕ) (held : Held) (before es : List Event) (e : Event) → held_after c v held before (es ++ e ∷ []) ≡ held_with c v (before ++ es) (held_after c v held before es) (piece_of v e)
+held-more c v held before [] e = ap (λ (l : List Event). held_with c v l held (piece_of v e)) (sym (append-nil before))
+held-more c v held before (a ∷ es) e =
+    let now : Held = held_with c v before held (piece_of v a) in
+    held-more c v now (before ++ a ∷ []) es e
+    ∙ ap (λ (l : List Event). held_with c v l (held_after c v now (before ++ a ∷ []) es) (piece_of v e)) (append_assoc before (a ∷ []) es)
+
+-- a viewer's inputs change what it holds
+pub held-own : (c : Config) (v : ℕ) (es : List Event) (piece : List ℕ) → held_of c v (es ++ Hear v piece ∷ []) ≡ held_behind (held_of c v es) (answer_to c es (Hear v piece)).inputs
+held-own c v es piece =
+    let mine : piece_of v (Hear v piece) ≡ Some piece = ap (λ b. cond b (Some piece) None) (is_mine v) in
+    held-more c v nothing [] es (Hear v piece) ∙ ap (λ (o : Option (List ℕ)). held_with c v es (held_of c v es) o) mine
+
+pub held-same : (c : Config) (v : ℕ) (es : List Event) (e : Event) → piece_of v e ≡ None → held_of c v (es ++ e ∷ []) ≡ held_of c v es
+held-same c v es e h = held-more c v nothing [] es e ∙ ap (λ (o : Option (List ℕ)). held_with c v es (held_of c v es) o) h
+
 -- ---- many events more
 
--- a viewer was heard of and is given the same by both lists
+-- a viewer was heard of, is given and holds the same by both lists
 abbrev pub SameFor : Config → ℕ → List Event → List Event → Type 0
-SameFor c v es fs = (heard_of v fs ≡ heard_of v es) × (bytes_of c v fs ≡ bytes_of c v es)
+SameFor c v es fs = (heard_of v fs ≡ heard_of v es) × (bytes_of c v fs ≡ bytes_of c v es) × (held_of c v fs ≡ held_of c v es)
 
 same-then : (c : Config) (v : ℕ) (es fs gs : List Event) → SameFor c v es fs → SameFor c v fs gs → SameFor c v es gs
-same-then c v es fs gs a b = (b.0 ∙ a.0, b.1 ∙ a.1)
+same-then c v es fs gs a b = (b.0 ∙ a.0, b.1 ∙ a.1, b.2 ∙ a.2)
 
 same-drawing : (c : Config) (v : ℕ) (es : List Event) (e : Event) → owner_of e ≡ None → SameFor c v es (es ++ e ∷ [])
-same-drawing c v es e h = (heard-same v es e (no-piece-drawn v e h), bytes-drawing c v es e h)
+same-drawing c v es e h = (heard-same v es e (no-piece-drawn v e h), bytes-drawing c v es e h, held-same c v es e (no-piece-drawn v e h))
 
 same-other : (c : Config) (v : ℕ) (es : List Event) (e : Event) → is_owner v (owner_of e) ≡ false → SameFor c v es (es ++ e ∷ [])
-same-other c v es e h = (heard-same v es e (no-piece-other v e h), bytes-other c v es e h)
+same-other c v es e h = (heard-same v es e (no-piece-other v e h), bytes-other c v es e h, held-same c v es e (no-piece-other v e h))
 
 -- another viewer's event, or a drawing call
 same-one : (c : Config) (n v : ℕ) → (n ≡ v → ⊥) → (es : List Event) (e : Event) → is_owner n (owner_of e) ≡ true → SameFor c v es (es ++ e ∷ [])
@@ -156,7 +176,7 @@ same-one c n v apart es e h = go (owner_of e) refl h
 
 -- other viewers' events change nothing for a viewer
 pub same-others : (c : Config) (n v : ℕ) → (n ≡ v → ⊥) → (es more : List Event) → are_of n more ≡ true → SameFor c v es (es ++ more)
-same-others c n v apart es [] h = (ap (heard_of v) (append-nil es), ap (bytes_of c v) (append-nil es))
+same-others c n v apart es [] h = (ap (heard_of v) (append-nil es), ap (bytes_of c v) (append-nil es), ap (held_of c v) (append-nil es))
 same-others c n v apart es (e ∷ more) h =
     let both = and_parts _ _ h in
     let rest : SameFor c v (es ++ e ∷ []) ((es ++ e ∷ []) ++ more) = same-others c n v apart (es ++ e ∷ []) more both.1 in
@@ -169,7 +189,7 @@ drawing (Some v) h = absurd cc
 
 -- nor do drawing calls
 pub same-drawings : (c : Config) (v : ℕ) (es more : List Event) → are_drawings more ≡ true → SameFor c v es (es ++ more)
-same-drawings c v es [] h = (ap (heard_of v) (append-nil es), ap (bytes_of c v) (append-nil es))
+same-drawings c v es [] h = (ap (heard_of v) (append-nil es), ap (bytes_of c v) (append-nil es), ap (held_of c v) (append-nil es))
 same-drawings c v es (e ∷ more) h =
     let both = and_parts _ _ h in
     let rest : SameFor c v (es ++ e ∷ []) ((es ++ e ∷ []) ++ more) = same-drawings c v (es ++ e ∷ []) more both.1 in

@@ -5,6 +5,7 @@ pub mod Seen
 pub mod Knowing
 pub mod Resting
 pub mod Given
+pub mod Releasing
 pub mod Turns
 pub mod Everyone
 pub mod Bounds

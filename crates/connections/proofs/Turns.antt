@@ -22,10 +22,10 @@ use Rattle.connections.specs.RecordedLemmas.{records-same, records-then}
 use Rattle.connections.specs.Drawing.{Surface, IsDrawnFrom, Draws, is_asking_on}
 use Rattle.connections.specs.Attending.{Known, next_bytes}
 use Rattle.connections.specs.Serving.{Carried, ViewerConnection, Moves, breaks_off, IsServed}
-use Rattle.connections.specs.Telling.{said_by, inputs_after, IsTold}
+use Rattle.connections.specs.Telling.{said_by, held_behind, held_of, inputs_after, IsTold}
 use Rattle.connections.specs.Turns.{are_of, Knows, IsTurnFrom, HasRead, HearsPiece, TakesTurn, TakesTurnTelling}
 use Rattle.connections.specs.TellingLemmas.{inputs-append, inputs-drawings, told-nothing}
-use Rattle.connections.proofs.Given.{SameFor, bytes-own, heard-own, heard-same, same-drawings, drawings-own}
+use Rattle.connections.proofs.Given.{SameFor, bytes-own, heard-own, heard-same, held-own, held-same, same-drawings, drawings-own}
 use Rattle.connections.proofs.Knowing.{knows-known, knows-looked, knows-drawn, knows-heard, knows-none, knows-cut}
 
 -- ---- bytes that move
@@ -71,6 +71,7 @@ served-same c es fs began e same h = record {
   heard = h.heard;
   waits = h.waits;
   few = h.few;
+  held = h.held ∙ sym same.2;
 }
 
 -- what is known of a connection doesn't matter
@@ -84,6 +85,7 @@ served-alike c es began e f same h = subst (λ (x : ViewerConnection). IsServed 
   heard = h.heard;
   waits = h.waits;
   few = h.few;
+  held = h.held;
 })
 
 own-then : (v : ℕ) (es fs : List Event) → are_of v es ≡ true → are_of v fs ≡ true → are_of v (es ++ fs) ≡ true
@@ -136,6 +138,7 @@ turn-read c list began v said since a e f known piece live same cut ask moved t 
           (subst (λ (l : List ℕ). Moves began e.carried (heard_of e.number (list ++ t.events) ++ l) s.written) none s.moved)) moved;
       due = ap (λ w. s.written ++ waiting_bytes w) waiting ∙ ap (λ l. s.written ++ l) (sym all) ∙ s.due ∙ ap (λ n. bytes_of c n (list ++ t.events)) t.number;
       few = subst IsFew (sym waiting) s.few;
+      held = ap (λ (x : ViewerConnection). x.held) same ∙ s.held ∙ ap (λ n. held_of c n (list ++ t.events)) t.number;
       knows = let is : f.known ≡ known = ap (λ (x : ViewerConnection). x.known) same in
           knows-known c list (list ++ t.events) v since a a e.known f.known refl (ap (λ (x : Known). x.may_cut) is ∙ cut) (ap (λ (x : Known). x.may_ask) is ∙ ask) t.knows;
     }
@@ -164,6 +167,7 @@ turn-unread c list began v said since a e f same h =
         heard = λ fine. refl;
         waits = λ fine. ap waiting_bytes (sym waiting);
         few = subst IsFew (sym waiting) h.few;
+        held = ap (λ (x : ViewerConnection). x.held) same ∙ h.held ∙ ap (λ n. held_of c n es) (sym number);
       };
       knows = subst (λ (k : Known). Knows c list es v since a k) (sym (ap (λ (x : ViewerConnection). x.known) same)) h.knows;
     }
@@ -192,6 +196,7 @@ turn-unheard stands x r a b e f piece still same c list began v said since h =
           heard = λ fine. absurd (fine ended);
           waits = λ fine. let e : breaks_off f.ended ≡ true = ap breaks_off ended in absurd cc;
           few = subst IsFew (sym (ap (λ (x : ViewerConnection). x.waiting) same)) h.few;
+          held = ap (λ (x : ViewerConnection). x.held) same ∙ h.held ∙ ap (λ n. held_of c n es) (sym number);
         };
         knows = let is : f.known ≡ e.known = ap (λ (x : ViewerConnection). x.known) same in
             knows-known c list es v since a b e.known f.known still (ap (λ (x : Known). x.may_cut) is) (ap (λ (x : Known). x.may_ask) is) h.knows;
@@ -202,9 +207,10 @@ turn-unheard stands x r a b e f piece still same c list began v said since h =
 -- a piece is heard and answered
 heard-turn : (c : Config) (list : List Event) (began : Carried) (v : ℕ) (said : List (ℕ × Input)) (since a b : Surface) (e f : ViewerConnection) (piece bytes : List ℕ)
     → (h : HasRead c list began v said piece since a e) → b.drawn ≡ a.drawn → b.noticed ≡ a.noticed → f.known.may_cut ≡ true → f.known.may_ask ≡ true → b.screen ≡ state c ((list ++ h.events) ++ Hear v piece ∷ []) → RecordsMore c (list ++ h.events) (Hear v piece ∷ []) a.scribed b.scribed → bytes ≡ (answer_to c (list ++ h.events) (Hear v piece)).bytes
-    → f ≡ record e { waiting = f.waiting; ended = f.ended; known = f.known } → (breaks_off f.ended ≡ false → waiting_bytes f.waiting ≡ waiting_bytes e.waiting ++ bytes) → IsFew f.waiting
+    → f ≡ record e { waiting = f.waiting; held = f.held; ended = f.ended; known = f.known } → (breaks_off f.ended ≡ false → waiting_bytes f.waiting ≡ waiting_bytes e.waiting ++ bytes) → IsFew f.waiting
+    → f.held ≡ held_behind e.held (answer_to c (list ++ h.events) (Hear v piece)).inputs
     → IsTurnFrom c list began v (said ++ said_by v (answer_to c (list ++ h.events) (Hear v piece)).inputs) since b f
-heard-turn c list began v said since a b e f piece bytes h drawn noticed cut ask stands recorded answered same waits few =
+heard-turn c list began v said since a b e f piece bytes h drawn noticed cut ask stands recorded answered same waits few holds =
     let number : f.number ≡ v = ap (λ (x : ViewerConnection). x.number) same ∙ h.number in
     let carried : f.carried ≡ e.carried = ap (λ (x : ViewerConnection). x.carried) same in
     let es = list ++ h.events in
@@ -229,15 +235,18 @@ heard-turn c list began v said since a b e f piece bytes h drawn noticed cut ask
         heard = λ fine. refl;
         waits = λ fine. sym (waits fine);
         few = few;
+        held = holds ∙ ap (λ h. held_behind h (answer_to c es (Hear v piece)).inputs) h.held ∙ sym (held-own c v es piece) ∙ ap (λ n. held_of c n fs) (sym number);
       });
       knows = subst (λ (l : List Event). Knows c list l v since b f.known) far (knows-heard c list es v since a b e.known f.known piece drawn noticed cut ask h.knows);
     }
 
 -- a connection once a piece was counted, and then answered
-pub counted-same : (e p f : ViewerConnection) → p ≡ record e { known = p.known } → f ≡ record p { waiting = f.waiting; ended = f.ended } → f ≡ record e { waiting = f.waiting; ended = f.ended; known = f.known }
+pub counted-same : (e p f : ViewerConnection) → p ≡ record e { held = p.held; known = p.known } → f ≡ record p { waiting = f.waiting; ended = f.ended } → f ≡ record e { waiting = f.waiting; held = f.held; ended = f.ended; known = f.known }
 counted-same e p f counted answered =
     let known : f.known ≡ p.known = ap (λ (x : ViewerConnection). x.known) answered in
-    answered ∙ ap (λ (x : ViewerConnection). record x { waiting = f.waiting; ended = f.ended }) counted ∙ ap (λ k. record e { waiting = f.waiting; ended = f.ended; known = k }) (sym known)
+    let held : f.held ≡ p.held = ap (λ (x : ViewerConnection). x.held) answered in
+    answered ∙ ap (λ (x : ViewerConnection). record x { waiting = f.waiting; ended = f.ended }) counted ∙ ap (λ k. record e { waiting = f.waiting; held = p.held; ended = f.ended; known = k }) (sym known)
+    ∙ ap (λ h. record e { waiting = f.waiting; held = h; ended = f.ended; known = f.known }) (sym held)
 
 -- and the application is told what it says, and draws
 pub turn-heard : {A X E : Type 0} (stands : A → List (ℕ × Input) → Type 0) (x y : A) (r : Result X E) (inputs : List Input) (a b d : Surface) (e f : ViewerConnection) (n : ℕ) (piece bytes : List ℕ)
@@ -246,18 +255,20 @@ pub turn-heard : {A X E : Type 0} (stands : A → List (ℕ × Input) → Type 0
     → ((c : Config) (list : List Event) → a.screen ≡ state c list → RecordsMore c list (Hear n piece ∷ []) a.scribed b.scribed)
     → ((c : Config) (list : List Event) → a.screen ≡ state c list → bytes ≡ (answer_to c list (Hear n piece)).bytes)
     → ((c : Config) (list : List Event) → a.screen ≡ state c list → inputs ≡ (answer_to c list (Hear n piece)).inputs)
-    → f ≡ record e { waiting = f.waiting; ended = f.ended; known = f.known } → (breaks_off f.ended ≡ false → waiting_bytes f.waiting ≡ waiting_bytes e.waiting ++ bytes) → IsFew f.waiting → Draws b d
+    → f ≡ record e { waiting = f.waiting; held = f.held; ended = f.ended; known = f.known } → (breaks_off f.ended ≡ false → waiting_bytes f.waiting ≡ waiting_bytes e.waiting ++ bytes) → IsFew f.waiting
+    → f.held ≡ held_behind e.held inputs → Draws b d
     → IsTold stands (said_by n inputs) x y r → HearsPiece stands piece a e d f x y r
-turn-heard stands x y r inputs a b d e f n piece bytes its drawn noticed cut ask steps records answers hears same waits few draws told c list began v said since h =
+turn-heard stands x y r inputs a b d e f n piece bytes its drawn noticed cut ask steps records answers hears same waits few holds draws told c list began v said since h =
     let es = list ++ h.events in
     let number : n ≡ v = its ∙ h.number in
-    let is : said_by n inputs ≡ said_by v (answer_to c es (Hear v piece)).inputs = ap (λ m. said_by m inputs) number ∙ ap (said_by v) (subst (λ (m : ℕ). inputs ≡ (answer_to c es (Hear m piece)).inputs) number (hears c es h.screen)) in (
+    let heard : inputs ≡ (answer_to c es (Hear v piece)).inputs = subst (λ (m : ℕ). inputs ≡ (answer_to c es (Hear m piece)).inputs) number (hears c es h.screen) in
+    let is : said_by n inputs ≡ said_by v (answer_to c es (Hear v piece)).inputs = ap (λ m. said_by m inputs) number ∙ ap (said_by v) heard in (
       said_by v (answer_to c es (Hear v piece)).inputs,
       turn-drawn b d f draws c list began v (said ++ said_by v (answer_to c es (Hear v piece)).inputs) since
           (heard-turn c list began v said since a b e f piece bytes h drawn noticed cut ask
           (subst (λ (m : ℕ). b.screen ≡ state c (es ++ Hear m piece ∷ [])) number (steps c es h.screen))
           (subst (λ (m : ℕ). RecordsMore c es (Hear m piece ∷ []) a.scribed b.scribed) number (records c es h.screen))
-          (subst (λ (m : ℕ). bytes ≡ (answer_to c es (Hear m piece)).bytes) number (answers c es h.screen)) same waits few),
+          (subst (λ (m : ℕ). bytes ≡ (answer_to c es (Hear m piece)).bytes) number (answers c es h.screen)) same waits few (holds ∙ ap (held_behind e.held) heard)),
       subst (λ l. IsTold stands l x y r) is told,
     )
 
@@ -298,6 +309,7 @@ cut-turn a b e f m bytes its steps-at records answers-at same waits few knows c 
         heard = λ fine. s.heard (λ is. fine (ended ∙ is));
         waits = λ fine. ap (λ l. l ++ bytes) (s.waits (ap breaks_off (sym ended) ∙ fine)) ∙ sym waits;
         few = few s.few;
+        held = ap (λ (x : ViewerConnection). x.held) same ∙ s.held ∙ sym (held-same c n es (Cut n) refl) ∙ ap (λ m. held_of c m fs) (sym number);
       });
       knows = subst (λ (m : ℕ). Knows c list (list ++ (t.events ++ Cut n ∷ [])) m since b f.known) t.number
           (subst (λ (l : List Event). Knows c list l n since b f.known) far (knows c list es since t.screen (subst (λ (m : ℕ). Knows c list es m since a e.known) (sym t.number) t.knows)));
@@ -383,6 +395,7 @@ turn-written a b e f known added unwritten still whole same cut ask moved parts 
         heard = λ fine. s.heard (fails e.ended whole);
         waits = waits;
         few = few;
+        held = ap (λ (x : ViewerConnection). x.held) same ∙ s.held ∙ ap (λ m. held_of c m es) (sym number);
       };
     }
 

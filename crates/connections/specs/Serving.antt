@@ -20,26 +20,38 @@ use Rattle.connections.specs.Waiting.{Waiting, waiting_bytes, IsFew}
 use Rattle.connections.specs.Drawing.{Surface, IsDrawnFrom}
 use Rattle.connections.specs.Recorded.{IsRecordedBy}
 use Rattle.connections.specs.Among.{is_among}
-use Rattle.connections.specs.Telling.{inputs_after, IsTold}
+use Rattle.held_inputs.specs.Held.{Held, nothing}
+use Rattle.connections.specs.Telling.{held_of, inputs_after, IsTold}
 use Rattle.connections.specs.Attending.{Known, noted, asks, next_bytes, IsSettled}
 
--- what a transport has still to give and what was written to it, where these are known, and what is kept of the latter, where it is kept
+-- what a transport carries
 pub record Carried : Type 0 where
+  -- what it has still to give, where that is known
   pub unread : Option (List ℕ)
+  -- what was written to it, where that is known
   pub written : Option (List ℕ)
+  -- what was written to it, where that is kept
   pub sent : Option (List ℕ)
 
--- what each viewer's transport carried when the viewer connected, by its number, and, where there is a record, what its writer held when it began, where that is known
+-- how it began
 pub record Began : Type 0 where
+  -- what each viewer's transport carried when the viewer connected, by its number
   pub carried : ℕ → Carried
+  -- where there is a record, what its writer held, where that is known
   pub held : Option (Option (List ℕ))
 
--- a viewer's connection: what its transport carries, what the viewer was given and is not written yet, why the viewer ended, if it did, and what is known
+-- a viewer's connection
 pub record ViewerConnection : Type 0 where
   pub number : ℕ
+  -- what its transport carries
   pub carried : Carried
+  -- what the viewer was given and is not written yet
   pub waiting : Waiting
+  -- the keys and buttons that the viewer holds down
+  pub held : Held
+  -- why the viewer ended, if it did
   pub ended : Option Ended
+  -- what is known of the connection
   pub known : Known
 
 -- between two moments of a transport these bytes were read, and those were written
@@ -55,94 +67,118 @@ breaks_off (Some ended) = may_break_off ended
 
 -- a connection of which this is known too
 abbrev pub noted_by : Readiness → ViewerConnection → ViewerConnection
-noted_by found e = record e { known = noted found e.known }
+noted_by found connection = record connection { known = noted found connection.known }
 
 -- a read may give something
 abbrev pub may_read : ViewerConnection → Bool
-may_read e = is_none e.ended && e.known.may_read
+may_read connection = is_none connection.ended && connection.known.may_read
 
 -- a write may take something
 abbrev pub may_write : ViewerConnection → Bool
-may_write e = not (breaks_off e.ended) && e.known.may_write
+may_write connection = not (breaks_off connection.ended) && connection.known.may_write
 
 -- bytes wait to be written
 abbrev pub has_waiting : ViewerConnection → Bool
-has_waiting e = some_bytes (waiting_bytes e.waiting)
+has_waiting connection = some_bytes (waiting_bytes connection.waiting)
 
 -- why it ended, where nothing is left to be done for it but to part with it
 abbrev pub over : ViewerConnection → Option Ended
-over e = if breaks_off e.ended || not (has_waiting e) then e.ended else None
+over connection = if breaks_off connection.ended || not (has_waiting connection) then connection.ended else None
 
 -- bytes can be written to it at once, or an update be cut for it
 abbrev pub can_send : ViewerConnection → Bool
-can_send e = may_write e && (e.known.may_cut || has_waiting e)
+can_send connection = may_write connection && (connection.known.may_cut || has_waiting connection)
 
 -- something can be done for it at once
 abbrev pub has_work : ViewerConnection → Bool
-has_work e = (may_read e || can_send e) || is_some (over e)
+has_work connection = (may_read connection || can_send connection) || is_some (over connection)
 
--- Nothing can be done for a connection until its transport is found ready or something is drawn. It hasn't ended, or bytes wait for it that are still to be written. While it hasn't ended, its transport isn't known to be ready to be read. Where its transport is known to take bytes, nothing waits for it, and, while it hasn't ended, the screen has nothing to send to it.
-pub record HasNothingToDo (c : Config) (list : List Event) (e : ViewerConnection) : Type 0 where
-  pub stays : (e.ended ≡ None) ⊎ ((breaks_off e.ended ≡ false) × (waiting_bytes e.waiting ≢ []))
-  pub unread : e.ended ≡ None → e.known.may_read ≡ false
-  pub written : breaks_off e.ended ≡ false → e.known.may_write ≡ true → waiting_bytes e.waiting ≡ []
-  pub sent : e.ended ≡ None → e.known.may_write ≡ true → next_bytes c e.number list ≡ []
+-- nothing can be done for a connection until its transport is found ready or something is drawn
+pub record HasNothingToDo (c : Config) (list : List Event) (connection : ViewerConnection) : Type 0 where
+  -- it hasn't ended, or bytes wait for it that are still to be written
+  pub stays : (connection.ended ≡ None) ⊎ ((breaks_off connection.ended ≡ false) × (waiting_bytes connection.waiting ≢ []))
+  -- while it hasn't ended, its transport isn't known to be ready to be read
+  pub unread : connection.ended ≡ None → connection.known.may_read ≡ false
+  -- where its transport is known to take bytes, nothing waits for it
+  pub written : breaks_off connection.ended ≡ false → connection.known.may_write ≡ true → waiting_bytes connection.waiting ≡ []
+  -- and, while it hasn't ended, the screen has nothing to send to it
+  pub sent : connection.ended ≡ None → connection.known.may_write ≡ true → next_bytes c connection.number list ≡ []
 
--- A viewer is served, or was until it ended. What was read of it is what the screen heard of it, but for a last piece where memory was refused. What was written to it, and then what waits, is what the screen with this one viewer gives, and the beginning of that where the viewer ended by a failure. Few bytes are made before they are written.
-pub record IsServed (c : Config) (list : List Event) (began : Carried) (e : ViewerConnection) : Type 0 where
+-- a viewer is served, or was until it ended
+pub record IsServed (c : Config) (list : List Event) (began : Carried) (connection : ViewerConnection) : Type 0 where
   pub unheard : List ℕ
   pub written : List ℕ
   pub unwritten : List ℕ
-  pub moved : Moves began e.carried (heard_of e.number list ++ unheard) written
-  pub due : written ++ unwritten ≡ bytes_of c e.number list
-  pub heard : e.ended ≢ Some Memory → unheard ≡ []
-  pub waits : breaks_off e.ended ≡ false → unwritten ≡ waiting_bytes e.waiting
-  pub few : IsFew e.waiting
+  -- what was read of it is what the screen heard of it, and what isn't heard
+  pub moved : Moves began connection.carried (heard_of connection.number list ++ unheard) written
+  -- what was written to it, and what isn't, is what the screen with this one viewer gives
+  pub due : written ++ unwritten ≡ bytes_of c connection.number list
+  -- all was heard, unless memory was refused
+  pub heard : connection.ended ≢ Some Memory → unheard ≡ []
+  -- what isn't written waits, unless the viewer ended by a failure
+  pub waits : breaks_off connection.ended ≡ false → unwritten ≡ waiting_bytes connection.waiting
+  -- few bytes are made before they are written
+  pub few : IsFew connection.waiting
+  -- what it holds down is what its inputs leave
+  pub held : connection.held ≡ held_of c connection.number list
 
--- A viewer that left, by its transport and its receipt: the same, and all was written where nothing failed.
+-- a viewer was served that left, by its transport and its receipt
 pub record WasServed {T : Type 0} (c : Config) (list : List Event) (began : Carried) (unread written : T → Option (List ℕ)) (transport : T) (r : Receipt) : Type 0 where
   pub unheard : List ℕ
   pub given : List ℕ
   pub unwritten : List ℕ
+  -- what was read of it is what the screen heard of it, and what isn't heard
   pub read : Consumes began.unread (unread transport) (heard_of r.viewer list ++ unheard)
   pub taken : Appends began.written (written transport) given
+  -- the receipt has what was written, where that is kept
   pub sent : r.sent ≡ unwrap_or (option_map (λ bytes. bytes ++ given) began.sent) []
+  -- what was written to it, and what isn't, is what the screen with this one viewer gives
   pub due : given ++ unwritten ≡ bytes_of c r.viewer list
+  -- all was heard, unless memory was refused
   pub heard : r.ended ≢ Memory → unheard ≡ []
+  -- all was written, unless the viewer ended by a failure
   pub whole : may_break_off r.ended ≡ false → unwritten ≡ []
 
 -- a connection's viewer ended, and nothing waits for it that is still to be written
 abbrev pub IsOver : Option ViewerConnection → ℕ → Ended → Type 0
 IsOver None v ended = ⊥
-IsOver (Some e) v ended = (e.number ≡ v) × (e.ended ≡ Some ended) × (may_break_off ended ≡ false → waiting_bytes e.waiting ≡ [])
+IsOver (Some connection) v ended = (connection.number ≡ v) × (connection.ended ≡ Some ended) × (may_break_off ended ≡ false → waiting_bytes connection.waiting ≡ [])
 
--- the screen, whether what moves is kept, the number of the next viewer, the connections by key, the key of the next one, the keys of those that are to be looked at, and of those that may have a request unanswered
+-- a screen with its viewers' connections
 pub record Serving : Type 0 where
   pub surface : Surface
+  -- whether what moves is kept
   pub kept : Bool
+  -- the number of the next viewer
   pub next : ℕ
+  -- the connections by key
   pub slots : List (Option ViewerConnection)
+  -- the key of the next one
   pub vacant : ℕ
+  -- the keys of those that are to be looked at
   pub agenda : List ℕ
+  -- the keys of those that may have a request unanswered
   pub asking : List ℕ
 
 -- the connection with a key, if there is one
 abbrev pub at_key : List (Option ViewerConnection) → ℕ → Option ViewerConnection
 at_key slots key = slice_index_or slots key None
 
--- whether something can be done for the connection with a key, an update may be there to be cut for it, and a request of its may be unanswered
+-- whether something can be done for the connection with a key
 abbrev pub works_at : List (Option ViewerConnection) → ℕ → Bool
-works_at slots key = elim (at_key slots key) [ None ↦ false | Some e ↦ has_work e ]
+works_at slots key = elim (at_key slots key) [ None ↦ false | Some connection ↦ has_work connection ]
 
+-- whether an update may be ready for it; for none it is as if one were
 abbrev pub may_cut_at : List (Option ViewerConnection) → ℕ → Bool
-may_cut_at slots key = elim (at_key slots key) [ None ↦ true | Some e ↦ e.known.may_cut ]
+may_cut_at slots key = elim (at_key slots key) [ None ↦ true | Some connection ↦ connection.known.may_cut ]
 
+-- whether a request of its may be unanswered
 abbrev pub may_ask_at : List (Option ViewerConnection) → ℕ → Bool
-may_ask_at slots key = elim (at_key slots key) [ None ↦ false | Some e ↦ e.known.may_ask ]
+may_ask_at slots key = elim (at_key slots key) [ None ↦ false | Some connection ↦ connection.known.may_ask ]
 
 -- the number of the viewer that has a key
 abbrev pub number_at : List (Option ViewerConnection) → ℕ → Option ℕ
-number_at slots key = option_map (λ e. e.number) (at_key slots key)
+number_at slots key = option_map (λ connection. connection.number) (at_key slots key)
 
 -- whether a viewer of a screen had its ServerInit (RFC 6143, 7.3.2), and met no fault; no viewer has not
 abbrev pub is_open_on : State → Option ℕ → Bool
@@ -154,22 +190,29 @@ abbrev pub is_kept : History → Bool
 is_kept Kept = true
 is_kept NotKept = false
 
--- A connection is looked at where something can be done for it: its key is on the agenda. Where a request of its may be unanswered, its key is among the asking; else none is. Where no update may be there to be cut for it, there is nothing to send to it, but for what was drawn since.
-pub record IsAttended (c : Config) (list : List Event) (s : Serving) (key : ℕ) (e : ViewerConnection) : Type 0 where
-  pub listed : has_work e ≡ true → is_among key s.agenda ≡ true
-  pub asking : e.known.may_ask ≡ true → is_among key s.asking ≡ true
-  pub answered : e.known.may_ask ≡ false → asks (viewer_of c e.number list) ≡ false
-  pub settled : e.known.may_cut ≡ false → IsSettled c list s.surface e.number
+-- a connection is looked at where something can be done for it
+pub record IsAttended (c : Config) (list : List Event) (s : Serving) (key : ℕ) (connection : ViewerConnection) : Type 0 where
+  -- its key is on the agenda then
+  pub listed : has_work connection ≡ true → is_among key s.agenda ≡ true
+  -- where a request of its may be unanswered, its key is among the asking
+  pub asking : connection.known.may_ask ≡ true → is_among key s.asking ≡ true
+  -- else none is
+  pub answered : connection.known.may_ask ≡ false → asks (viewer_of c connection.number list) ≡ false
+  -- where no update may be ready, there is nothing to send to it, but for what was drawn since
+  pub settled : connection.known.may_cut ≡ false → IsSettled c list s.surface connection.number
 
--- The screen stands for a list of events, and each viewer is served by it, or was until it ended, and looked at where something can be done for it. Where there is a record, it is the session of the events that happened.
+-- the screen stands for a list of events, and each viewer is served by it, or was until it ended
 pub record Serves (c : Config) (began : Began) (list : List Event) (s : Serving) : Type 0 where
   pub screen : s.surface.screen ≡ state c list
+  -- where there is a record, it is the session of the events that happened
   pub recorded : IfSome began.held (λ held. IsRecordedBy held c list s.surface.scribed)
   pub kept : s.kept ≡ is_kept c.history
-  pub each : (key : ℕ) (e : ViewerConnection) → at_key s.slots key ≡ Some e → (e.number < s.next) × IsServed c list (began.carried e.number) e
-  pub attended : (key : ℕ) (e : ViewerConnection) → at_key s.slots key ≡ Some e → IsAttended c list s key e
-  pub apart : (j k : ℕ) (d e : ViewerConnection) → at_key s.slots j ≡ Some d → at_key s.slots k ≡ Some e → d.number ≡ e.number → j ≡ k
-  pub unused : (v : ℕ) → s.next ≤ v → (heard_of v list ≡ []) × (bytes_of c v list ≡ [])
+  pub each : (key : ℕ) (connection : ViewerConnection) → at_key s.slots key ≡ Some connection → (connection.number < s.next) × IsServed c list (began.carried connection.number) connection
+  pub attended : (key : ℕ) (connection : ViewerConnection) → at_key s.slots key ≡ Some connection → IsAttended c list s key connection
+  -- no two connections have one number
+  pub apart : (j k : ℕ) (first second : ViewerConnection) → at_key s.slots j ≡ Some first → at_key s.slots k ≡ Some second → first.number ≡ second.number → j ≡ k
+  -- nothing was heard of the viewers that are still to come, nor given to them, and they hold nothing
+  pub unused : (v : ℕ) → s.next ≤ v → (heard_of v list ≡ []) × (bytes_of c v list ≡ []) × (held_of c v list ≡ nothing)
 
 -- whatever the connections stood for, they stand for it with more events behind it, none of which has an input
 abbrev pub GoesOn : Serving → Serving → Type 0

@@ -13,7 +13,7 @@ use Rattle.connections.specs.Drawing.{Surface}
 use Rattle.connections.specs.Attending.{Known, asks, IsSettled}
 use Rattle.connections.specs.Recorded.{RecordsMore}
 use Rattle.receipts.specs.Histories.{bytes_of, heard_of}
-use Rattle.connections.specs.Telling.{inputs_after, IsTold}
+use Rattle.connections.specs.Telling.{held_of, inputs_after, IsTold}
 use Rattle.connections.specs.Waiting.{waiting_bytes, IsFew}
 use Rattle.connections.specs.Serving.{Carried, ViewerConnection, Moves, IsServed}
 
@@ -60,6 +60,7 @@ pub record HasRead (c : Config) (list : List Event) (began : Carried) (v : ℕ) 
   pub moved : Moves began e.carried (heard_of v (list ++ events) ++ piece) written
   pub due : written ++ waiting_bytes e.waiting ≡ bytes_of c v (list ++ events)
   pub few : IsFew e.waiting
+  pub held : e.held ≡ held_of c v (list ++ events)
   pub knows : Knows c list (list ++ events) v since surface e.known
 
 -- a turn goes on, without an input

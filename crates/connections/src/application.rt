@@ -17,7 +17,8 @@ pub trait Application {
     /// That it was told these inputs, each with its viewer's number, in the order in which they came.
     ghost stands: { Self → List (ℕ × Input) → Type 0 } = { λ _ _. Unit {0} };
 
-    /// A viewer's input came (RFC 6143, 7.3.1 and 7.5.4 to 7.5.6).
+    /// Takes an input of a viewer (RFC 6143, 7.3.1 and 7.5.4 to 7.5.6). Where a viewer ended with keys or buttons down, their releases are
+    /// told as further inputs of that viewer, before `left`.
     fn on_input(
         &mut self,
         canvas: &mut Canvas,
@@ -27,7 +28,7 @@ pub trait Application {
         ensures draws { Draws canvas.old canvas.new }
         ensures told { (inputs : List (ℕ × Input)) → stands self.old inputs → stands self.new (inputs ++ (viewer, input.now) ∷ []) };
 
-    /// A viewer connected; it is served from now on.
+    /// Takes note that a viewer connected; it is served from now on.
     fn came(&mut self, _canvas: &mut Canvas, _viewer: u64) -> Result<(), ScreenError>
         ensures draws { Draws _canvas.old _canvas.new }
         ensures stands { Stays stands self.old self.new }
@@ -35,7 +36,7 @@ pub trait Application {
         Ok(())
     }
 
-    /// A viewer asked for places whether these changed or not, by a request that isn't incremental (RFC 6143, 7.5.3;
+    /// Takes note that a viewer asked for places whether these changed or not, by a request that isn't incremental (RFC 6143, 7.5.3;
     /// `clientFramebufferUpdateRequestHook` of `rfb.h` is called for each request). It is told once for each piece of bytes in which
     /// there is one, behind the inputs of that piece and before the answer is cut: what is drawn now is in it.
     fn asked(&mut self, _canvas: &mut Canvas, _viewer: u64) -> Result<(), ScreenError>
@@ -45,7 +46,8 @@ pub trait Application {
         Ok(())
     }
 
-    /// A viewer ended, and its connection is closed. Its receipt has the bytes that were heard and sent, where the history is kept.
+    /// Takes note that a viewer ended and its connection is closed; no key or button of that viewer is down any longer. `receipt` has the
+    /// bytes that were heard and sent, where the history is kept.
     fn left(&mut self, _canvas: &mut Canvas, _receipt: Receipt) -> Result<(), ScreenError>
         ensures draws { Draws _canvas.old _canvas.new }
         ensures stands { Stays stands self.old self.new }
@@ -53,8 +55,7 @@ pub trait Application {
         Ok(())
     }
 
-    /// The time came that the last tick answered, or the application starts. After how long the next one is to be; None where
-    /// none is.
+    /// Acts at the time that the last tick answered, and at the start. Returns after how long the next tick is to come, if one is.
     fn tick(&mut self, _canvas: &mut Canvas) -> Result<Option<Duration>, ScreenError>
         ensures draws { Draws _canvas.old _canvas.new }
         ensures stands { Stays stands self.old self.new }
@@ -62,7 +63,7 @@ pub trait Application {
         Ok(None)
     }
 
-    /// Another thread woke the loop.
+    /// Acts once another thread woke the loop.
     fn woken(&mut self, _canvas: &mut Canvas) -> Result<(), ScreenError>
         ensures draws { Draws _canvas.old _canvas.new }
         ensures stands { Stays stands self.old self.new }
@@ -70,7 +71,7 @@ pub trait Application {
         Ok(())
     }
 
-    /// Whether the loop is to end. It is asked before each turn.
+    /// Returns whether the loop is to end. It is asked before each turn.
     fn is_done(&self) -> bool {
         false
     }

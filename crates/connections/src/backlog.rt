@@ -46,7 +46,7 @@ impl Model for Backlog {
     ghost invariant = { λ a. IsWithin a.done (length a.made.items) (length a.behind.items) a.update };
 }
 
-/// Bytes come behind others. More than 64 KB in all are refused as want of memory: an opening is answered in less than one.
+/// Appends bytes. Refuses more than 64 KB in all as out of memory; the answers of an opening take less than 1 KB.
 fn append(all: &mut Vec<u8>, bytes: &[u8]) -> Result<(), AllocError>
     requires { length all.old.items ≤ 65536 }
     ensures ok { OnOk result (all.new.items ≡ all.old.items ++ bytes.now) }
@@ -72,7 +72,7 @@ pub(crate) enum Written {
     Memory,
 }
 
-/// Fills a buffer with the next bytes of an update, until all are in it or fewer than a piece's places are left.
+/// Fills `buffer` with the next bytes of an update, until all are in it or it has no room for a further piece.
 fn fill(buffer: &mut Vec<u8>, update: &mut Stream) -> Result<(), AllocError>
     ensures bytes { buffer.new.items ++ update.new ≡ update.old }
     ensures bound { length buffer.new.items ≤ 65536 }
@@ -84,7 +84,7 @@ fn fill(buffer: &mut Vec<u8>, update: &mut Stream) -> Result<(), AllocError>
     Ok(())
 }
 
-/// One write, of the first 64 KB at most. How many bytes were taken, and what came of it.
+/// Writes the first 64 KB of `bytes` at most, once. Returns how many the transport took, and what came of it.
 fn write_once<T: Transport>(transport: &mut Recording<T>, bytes: &[u8]) -> (usize, Written)
     ensures bound { result.0 ≤ length bytes.now }
     ensures most { result.0 ≤ 65536 }
@@ -103,7 +103,7 @@ fn write_once<T: Transport>(transport: &mut Recording<T>, bytes: &[u8]) -> (usiz
 }
 
 impl Backlog {
-    /// Nothing. This takes no memory.
+    /// Returns a backlog of nothing, which holds no memory.
     pub fn new(alloc: Global) -> Backlog
         ensures { waiting_bytes result ≡ [] }
     {
@@ -116,7 +116,7 @@ impl Backlog {
         }
     }
 
-    /// Whether all that was given is written.
+    /// Returns whether all that was given is written.
     #[tactic(auto, using(crate::proofs::Pieces::some_made, crate::proofs::Pieces::some_update))]
     pub fn is_empty(&self) -> bool
         ensures { result ≡ not (some_bytes (waiting_bytes self.now)) }
@@ -124,7 +124,7 @@ impl Backlog {
         self.done >= self.made.len() && self.update.is_none() && self.behind.is_empty()
     }
 
-    /// Bytes are given.
+    /// Takes bytes, to be written behind all others.
     pub fn give(&mut self, bytes: &[u8]) -> Result<(), AllocError>
         ensures ok { OnOk result (waiting_bytes self.new ≡ waiting_bytes self.old ++ bytes.now) }
         ensures err { OnErr result (self.new ≡ self.old) }
@@ -137,7 +137,7 @@ impl Backlog {
         }
     }
 
-    /// An update of some bytes is given, where nothing waits.
+    /// Takes an update of some bytes, where nothing waits.
     pub fn start(&mut self, update: Update)
         requires none { waiting_bytes self.old ≡ [] }
         requires some { update ≢ [] }
@@ -147,8 +147,8 @@ impl Backlog {
         self.update = Some(update.into_stream());
     }
 
-    /// One write of at most 64 KB of the next bytes, with a buffer for those that are not made yet. What was written, and then what
-    /// waits, is what waited before, unless memory was refused.
+    /// Writes the next bytes once, 64 KB at most; `buffer` is for those that are not made yet. What was written, and then what waits, is
+    /// what waited before, unless memory was refused.
     pub fn write_some<T: Transport>(
         &mut self,
         transport: &mut Recording<T>,
@@ -167,7 +167,7 @@ impl Backlog {
         }
     }
 
-    /// One write of bytes that are made.
+    /// Writes bytes that are made, once.
     fn write_made<T: Transport>(&mut self, transport: &mut Recording<T>) -> Written
         ensures sent { (written : List ℕ) ×
             Moves (carried_by T.unread T.written transport.old) (carried_by T.unread T.written transport.new) [] written ×
@@ -184,7 +184,7 @@ impl Backlog {
         outcome
     }
 
-    /// One write of bytes of the update, where none are made.
+    /// Makes the next bytes of the update in `buffer`, where none are made, and writes them once. Keeps what the transport doesn't take.
     fn write_update<T: Transport>(
         &mut self,
         transport: &mut Recording<T>,
@@ -207,7 +207,7 @@ impl Backlog {
         }
     }
 
-    /// Makes the next bytes in a buffer, where none are made.
+    /// Makes the next bytes in `buffer`, where none are made.
     fn make(&mut self, buffer: &mut Vec<u8>) -> Result<(), AllocError>
         requires { self.old.made ≡ [] }
         ensures made { OnOk result (self.new.made ≡ []) }
@@ -230,7 +230,7 @@ impl Backlog {
         Ok(())
     }
 
-    /// Bytes that the transport didn't take come before all others, where none are made.
+    /// Puts bytes that the transport didn't take before all others, where none are made.
     fn keep(&mut self, bytes: &[u8]) -> Result<(), AllocError>
         requires none { self.old.made ≡ [] }
         requires few { length bytes.now ≤ 65536 }

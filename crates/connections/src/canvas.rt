@@ -51,7 +51,7 @@ impl Model for Canvas {
     ghost view = { λ a. record { screen = a.screen; scribed = a.recorder; drawn = a.has_drawn; noticed = a.has_noticed } };
 }
 
-/// Whether a call is a bell or a text.
+/// Returns whether a call is a bell or a text.
 fn is_notice(drawing: &Drawing<'_>) -> bool
     ensures { result ≡ is_notice (event_of drawing.now) }
 {
@@ -94,7 +94,7 @@ impl Canvas {
         self.recorder.is_broken()
     }
 
-    /// Whether a request of a viewer is unanswered; false where there is none with the number.
+    /// Returns whether a request of a viewer is unanswered; false where there is none with the number.
     pub(crate) fn is_asking(&self, viewer: u64) -> bool
         ensures { result ≡ is_asking_on self.now.screen viewer }
     {
@@ -104,7 +104,7 @@ impl Canvas {
         }
     }
 
-    /// How many requests of a viewer were not incremental; 0 where there is none with the number.
+    /// Returns how many requests of a viewer were not incremental; 0 where there is none with the number.
     pub(crate) fn full_requests(&self, viewer: u64) -> u64
         ensures { result ≡ full_requests_on self.now.screen viewer }
     {
@@ -114,14 +114,14 @@ impl Canvas {
         }
     }
 
-    /// The screen, to be looked at.
+    /// Returns the screen, to be looked at.
     pub fn screen(&self) -> &Screen
         ensures { result.now ≡ self.now.screen }
     {
         &self.screen
     }
 
-    /// One drawing call, as a value: `Screen::draw`.
+    /// Makes a drawing call that is given as a value, as `Screen::draw` does.
     pub fn draw(&mut self, drawing: &Drawing<'_>) -> Result<(), ScreenError>
         ensures step { (config : Config) (list : List Event) → self.old.screen ≡ state config list →
             OnOk result (self.new.screen ≡ state config (list ++ event_of drawing.now ∷ [])) }
@@ -140,7 +140,7 @@ impl Canvas {
         Ok(())
     }
 
-    /// `Screen::paint`.
+    /// Draws as `Screen::paint` does.
     pub fn paint(&mut self, rect: Rect, colours: &[u32]) -> Result<(), ScreenError>
         ensures step { (config : Config) (list : List Event) → self.old.screen ≡ state config list →
             OnOk result (self.new.screen ≡ state config (list ++ Event.Paint rect colours.now ∷ [])) }
@@ -152,7 +152,7 @@ impl Canvas {
         self.draw(&Drawing::Paint { rect, colours })
     }
 
-    /// `Screen::write_pixels`.
+    /// Draws as `Screen::write_pixels` does.
     pub fn write_pixels(&mut self, rect: Rect, colours: &[u32]) -> Result<(), ScreenError>
         ensures step { (config : Config) (list : List Event) → self.old.screen ≡ state config list →
             OnOk result (self.new.screen ≡ state config (list ++ Event.Write rect colours.now ∷ [])) }
@@ -164,7 +164,7 @@ impl Canvas {
         self.draw(&Drawing::Write { rect, colours })
     }
 
-    /// `Screen::mark_rect`.
+    /// Draws as `Screen::mark_rect` does.
     pub fn mark_rect(&mut self, x1: i32, y1: i32, x2: i32, y2: i32) -> Result<(), ScreenError>
         ensures step { (config : Config) (list : List Event) → self.old.screen ≡ state config list →
             OnOk result (self.new.screen ≡ state config (list ++ Event.Mark (record { x1 = x1; y1 = y1; x2 = x2; y2 = y2 } ∷ []) ∷ [])) }
@@ -177,7 +177,7 @@ impl Canvas {
         self.draw(&Drawing::MarkRect(rect))
     }
 
-    /// `Screen::mark_region`.
+    /// Draws as `Screen::mark_region` does.
     pub fn mark_region(&mut self, region: &Region) -> Result<(), ScreenError>
         ensures step { (config : Config) (list : List Event) → self.old.screen ≡ state config list →
             OnOk result (self.new.screen ≡ state config (list ++ Event.Mark region.now.list ∷ [])) }
@@ -189,7 +189,7 @@ impl Canvas {
         self.draw(&Drawing::MarkRegion(region))
     }
 
-    /// `Screen::schedule_copy_rect`.
+    /// Draws as `Screen::schedule_copy_rect` does.
     pub fn schedule_copy_rect(
         &mut self,
         x1: i32,
@@ -210,7 +210,7 @@ impl Canvas {
         self.draw(&Drawing::ScheduleCopyRect { rect, dx, dy })
     }
 
-    /// `Screen::schedule_copy_region`.
+    /// Draws as `Screen::schedule_copy_region` does.
     pub fn schedule_copy_region(
         &mut self,
         region: &Region,
@@ -227,7 +227,7 @@ impl Canvas {
         self.draw(&Drawing::ScheduleCopyRegion { region, dx, dy })
     }
 
-    /// `Screen::do_copy_rect`.
+    /// Draws as `Screen::do_copy_rect` does.
     pub fn do_copy_rect(
         &mut self,
         x1: i32,
@@ -248,7 +248,7 @@ impl Canvas {
         self.draw(&Drawing::DoCopyRect { rect, dx, dy })
     }
 
-    /// `Screen::do_copy_region`.
+    /// Draws as `Screen::do_copy_region` does.
     pub fn do_copy_region(&mut self, region: &Region, dx: i32, dy: i32) -> Result<(), ScreenError>
         ensures step { (config : Config) (list : List Event) → self.old.screen ≡ state config list →
             OnOk result (self.new.screen ≡ state config (list ++ Event.DoCopy region.now.list dx dy ∷ [])) }
@@ -260,7 +260,7 @@ impl Canvas {
         self.draw(&Drawing::DoCopyRegion { region, dx, dy })
     }
 
-    /// `Screen::bell`.
+    /// Rings the bell, as `Screen::bell` does.
     pub fn bell(&mut self) -> Result<(), ScreenError>
         ensures step { (config : Config) (list : List Event) → self.old.screen ≡ state config list →
             OnOk result (self.new.screen ≡ state config (list ++ Event.Bell ∷ [])) }
@@ -272,7 +272,7 @@ impl Canvas {
         self.draw(&Drawing::Bell)
     }
 
-    /// `Screen::cut_text`.
+    /// Gives a text to every viewer, as `Screen::cut_text` does.
     pub fn cut_text(&mut self, text: &[u8]) -> Result<(), ScreenError>
         ensures step { (config : Config) (list : List Event) → self.old.screen ≡ state config list →
             OnOk result (self.new.screen ≡ state config (list ++ Event.CutText text.now ∷ [])) }
@@ -284,7 +284,7 @@ impl Canvas {
         self.draw(&Drawing::CutText(text))
     }
 
-    /// `Screen::new_framebuffer`.
+    /// Replaces the framebuffer, as `Screen::new_framebuffer` does.
     pub fn new_framebuffer(&mut self, width: u32, height: u32) -> Result<(), ScreenError>
         ensures step { (config : Config) (list : List Event) → self.old.screen ≡ state config list →
             OnOk result (self.new.screen ≡ state config (list ++ Event.Resize width height ∷ [])) }
@@ -296,7 +296,7 @@ impl Canvas {
         self.draw(&Drawing::NewFramebuffer { width, height })
     }
 
-    /// A program's own pixels are taken into the picture: `Screen::take`, which paints what differs.
+    /// Takes a program's own pixels into the picture, as `Screen::take` does: paints what differs.
     pub fn take(
         &mut self,
         alloc: Global,
@@ -317,7 +317,7 @@ impl Canvas {
             .take_told(alloc, left, top, source, &mut self.recorder)
     }
 
-    /// Those were looked at that are to be for what was drawn.
+    /// Clears both flags, once every connection that the drawing may concern is on the agenda.
     pub(crate) fn settle(&mut self)
         ensures { self.new ≡ record self.old { drawn = false; noticed = false } }
     {
@@ -325,14 +325,14 @@ impl Canvas {
         self.has_noticed = false;
     }
 
-    /// Whether it was drawn on since `settle`.
+    /// Returns whether it was drawn on since `settle`.
     pub(crate) fn has_drawn(&self) -> bool
         ensures { result ≡ self.now.drawn }
     {
         self.has_drawn
     }
 
-    /// Whether a bell or a text is among what was drawn since `settle`.
+    /// Returns whether a bell or a text is among what was drawn since `settle`.
     pub(crate) fn has_noticed(&self) -> bool
         ensures { result ≡ self.now.noticed }
     {
@@ -348,7 +348,7 @@ impl Canvas {
         }
     }
 
-    /// `Screen::connect`.
+    /// Connects a viewer, as `Screen::connect` does, and records it.
     pub(crate) fn connect(&mut self, number: u64) -> Result<Listed<u8>, ScreenError>
         ensures step { (config : Config) (list : List Event) → self.old.screen ≡ state config list →
             OnOk result (self.new.screen ≡ state config (list ++ Event.Connect number ∷ [])) }
@@ -365,7 +365,7 @@ impl Canvas {
         Ok(version)
     }
 
-    /// `Screen::hear`. `record_heard` goes with it.
+    /// Hears a piece, as `Screen::hear` does. `record_heard` goes with it.
     pub(crate) fn hear(&mut self, number: u64, piece: &[u8]) -> Result<Answer, ScreenError>
         ensures step { (config : Config) (list : List Event) → self.old.screen ≡ state config list →
             OnOk result (self.new.screen ≡ state config (list ++ Event.Hear number piece.now ∷ [])) }
@@ -389,7 +389,7 @@ impl Canvas {
         self.recorder.heard(number, piece);
     }
 
-    /// `Screen::encode_ahead`.
+    /// Encodes ahead for viewers that are alike, as `Screen::encode_ahead` does.
     #[inline(always)]
     pub(crate) fn encode_ahead(&mut self, number: u64) -> Option<u64>
         ensures { self.new ≡ self.old }
@@ -397,7 +397,7 @@ impl Canvas {
         self.screen.encode_ahead(number)
     }
 
-    /// `Screen::cut`. `record_cut` goes with it, where there is an update.
+    /// Cuts an update, as `Screen::cut` does. `record_cut` goes with it, where there is an update.
     pub(crate) fn cut(&mut self, number: u64) -> Result<Option<Update>, ScreenError>
         ensures step { (config : Config) (list : List Event) → self.old.screen ≡ state config list →
             OnOk result (self.new.screen ≡ state config (list ++ Event.Cut number ∷ [])) }
@@ -420,7 +420,7 @@ impl Canvas {
         self.recorder.cut(number);
     }
 
-    /// `Screen::close`.
+    /// Closes a viewer, as `Screen::close` does, and records it.
     pub(crate) fn close(&mut self, number: u64) -> Result<(), ScreenError>
         ensures step { (config : Config) (list : List Event) → self.old.screen ≡ state config list →
             OnOk result (self.new.screen ≡ state config (list ++ Event.Close number ∷ [])) }

@@ -9,39 +9,42 @@ ghost use Rattle.connections.specs.Attending.{noted};
 ghost use Rattle.connections.specs.Serving.{Carried, ViewerConnection, Moves, breaks_off, may_read, may_write, has_waiting, over, can_send, has_work};
 ghost use Rattle.connections.specs.declared.connection.Got.TheVariants as got;
 ghost use Rattle.connections.specs.Recording.{none_yet};
+ghost use Rattle.connections.specs.Telling.{held_behind};
 ghost use Rattle.connections.specs.Turns.{IsWithin, got_bytes};
+ghost use Rattle.held_inputs.specs.Held.{nothing};
 
 use crate::backlog::{Backlog, Written};
-use crate::connections::Readiness;
+use crate::connections::{Departed, Readiness};
 use crate::recording::{Recording, no_bytes};
 use crate::transport::Transport;
+use held_inputs::{Change, HeldInputs};
 use kept_list::KeptList;
 use receipts::{Ended, Receipt};
-use screen::{Fault, Update};
+use screen::{Fault, Input, Update};
 use std::alloc::{AllocError, Global};
 use std::io::ErrorKind;
 use std::marker::Model;
 
-/// How many bytes a viewer may say of late until it is in no hurry: a text that was copied may have so many.
+/// A viewer that sent more bytes than this lately counts as a flood. A pasted text may be this long.
 const LONG: u64 = 65_536;
 
-/// How many of these are forgotten in each millisecond.
+/// How many bytes of this count leak in each millisecond (a leaky bucket).
 const FORGOTTEN: u64 = 64;
 
-/// For how many updates a viewer doesn't wait for what is encoded for several, once what it waited for was lost.
+/// How many updates of a viewer don't wait for what is encoded for several, once what it waited for was lost.
 const HURRIED: u32 = 64;
 
-/// How much a viewer said of late: what it says is added, and with time it is forgotten.
+/// How much a viewer said of late, as a leaky bucket.
 #[derive(Clone, Copy)]
 struct Flow {
-    // so many bytes
+    // how many bytes were left
     level: u64,
     // at this time, in milliseconds
     since: u64,
 }
 
 impl Flow {
-    /// How much it is at a time that is no earlier: 64 bytes less for each millisecond.
+    /// Returns the level at a time that is no earlier: 64 bytes less for each millisecond.
     fn level_at(self, now: u64) -> u64
         ensures { result ≡ self.level - (now - self.since) * 64 }
     {
@@ -49,7 +52,7 @@ impl Flow {
         self.level.saturating_sub(gone)
     }
 
-    /// So many bytes are said at a time.
+    /// Adds `count` bytes, said at the time `now`.
     fn add(&mut self, count: usize, now: u64)
         ensures level { self.new.level ≡ min (self.old.level - (now - self.old.since) * 64 + count) (2 ^ 64 - 1) }
         ensures since { self.new.since ≡ now }
@@ -71,17 +74,19 @@ pub(crate) struct Connection<T: Transport> {
     heard: KeptList<u8>,
     cuts: u64,
     readiness: Readiness,
-    // its last read gave as many bytes as there was room for
+    // its last read filled the buffer
     was_full: bool,
     flow: Flow,
-    // an update may be there to be cut: it was heard, or looked at after drawing, since none was found, or one was cut that left no request
+    // an update may be ready: since none was found it was heard, or looked at after drawing, or an update was cut that left a request open
     may_cut: bool,
     // it was heard since an update was cut for it, or has a request that none answered
     may_ask: bool,
-    // its next update waits for what is encoded for several viewers, which was let go so often before
+    // how often what is encoded for several viewers had been lost when its next update began to wait for it
     waits_for: Option<u64>,
-    // for so many updates it doesn't
+    // how many further updates don't wait for it
     hurried: u32,
+    // the keys and buttons that its viewer holds down: 2 KB, behind all else
+    held: HeldInputs,
 }
 
 impl<T: Transport> Model for Connection<T> {
@@ -94,6 +99,7 @@ impl<T: Transport> Model for Connection<T> {
       number = a.number;
       carried = carried_by T.unread T.written a.transport;
       waiting = a.backlog;
+      held = a.held;
       ended = a.ended;
       known = record { may_read = a.readiness.may_read; may_write = a.readiness.may_write; may_cut = a.may_cut; may_ask = a.may_ask };
     } };
@@ -112,12 +118,22 @@ pub(crate) enum Got {
     Failed,
 }
 
+/// Takes in what a viewer's inputs change in what it holds down.
+fn hold(held: &mut HeldInputs, inputs: &[Input])
+    ensures { held.new ≡ held_behind held.old inputs.now }
+{
+    for input in inputs {
+        held.change(Change::of(input));
+    }
+}
+
 impl<T: Transport> Connection<T> {
-    /// A connection whose transport may give bytes and may take some, and whose viewer may ask. What moves is kept, or not.
+    /// Returns a connection whose transport may give bytes and may take some, and whose viewer may ask. Keeps what moves where `is_kept`.
     pub fn new(alloc: Global, transport: T, number: u64, is_kept: bool) -> Connection<T>
         ensures number { result.number ≡ number }
         ensures carried { result.carried ≡ record { unread = T.unread transport; written = T.written transport; sent = none_yet is_kept } }
         ensures waiting { waiting_bytes result.waiting ≡ [] }
+        ensures held { result.held ≡ nothing }
         ensures ended { result.ended ≡ None }
         ensures known { result.known ≡ record { may_read = true; may_write = true; may_cut = true; may_ask = true } }
     {
@@ -140,17 +156,18 @@ impl<T: Transport> Connection<T> {
             may_ask: true,
             waits_for: None,
             hurried: 0,
+            held: HeldInputs::new(),
         }
     }
 
-    /// The viewer's number.
+    /// Returns the viewer's number.
     pub fn number(&self) -> u64
         ensures { result ≡ self.now.number }
     {
         self.number
     }
 
-    /// Its transport.
+    /// Returns its transport.
     pub fn transport(&self) -> &T
         ensures unread { T.unread result.now ≡ self.now.carried.unread }
         ensures written { T.written result.now ≡ self.now.carried.written }
@@ -158,14 +175,14 @@ impl<T: Transport> Connection<T> {
         &self.transport.transport
     }
 
-    /// Why it ended, if it did.
+    /// Returns why it ended, if it did.
     pub fn ended(&self) -> Option<Ended>
         ensures { result ≡ self.now.ended }
     {
         self.ended
     }
 
-    /// What is known of its transport, besides what was known before.
+    /// Notes what its transport was found ready for, besides what was known before.
     pub fn note(&mut self, found: Readiness)
         ensures { self.new ≡ record self.old { known = noted found self.old.known } }
     {
@@ -174,29 +191,29 @@ impl<T: Transport> Connection<T> {
         self.readiness.is_hung_up = self.readiness.is_hung_up || found.is_hung_up;
     }
 
-    /// Whether a request of its may be unanswered: it was heard since an update was cut for it last, or that one left a request open.
+    /// Returns whether a request may be open: it was heard since its last update was cut, or that one left a request open.
     pub fn may_ask(&self) -> bool
         ensures { result ≡ self.now.known.may_ask }
     {
         self.may_ask
     }
 
-    /// Whether an update may be there to be cut for it.
+    /// Returns whether an update may be ready.
     pub fn may_cut(&self) -> bool
         ensures { result ≡ self.now.known.may_cut }
     {
         self.may_cut
     }
 
-    /// An update may be there to be cut for it, or there is none.
+    /// Sets whether an update may be ready.
     pub fn look(&mut self, may_cut: bool)
         ensures { self.new ≡ record self.old { known = record self.old.known { may_cut = may_cut } } }
     {
         self.may_cut = may_cut;
     }
 
-    /// Whether its next update waits for what is encoded for several viewers, which was let go so often before. Where that was let go since it
-    /// began to wait, it doesn't, nor do its next 64 updates.
+    /// Returns whether its next update waits for what is encoded for several viewers, which was lost `losses` times before. Where it was
+    /// lost since the wait began, the update doesn't wait, nor do the next 64.
     pub fn waits(&mut self, losses: u64) -> bool
         ensures { self.new ≡ self.old }
     {
@@ -207,38 +224,38 @@ impl<T: Transport> Connection<T> {
         self.hurried == 0
     }
 
-    /// Whether a read may give something.
+    /// Returns whether a read may give something.
     pub fn may_read(&self) -> bool
         ensures { result ≡ may_read self.now }
     {
         self.ended.is_none() && self.readiness.may_read
     }
 
-    /// Whether its last read gave as many bytes as there was room for, or it said more than 64 KB of late.
+    /// Returns whether its last read filled the buffer, or it said more than 64 KB of late.
     pub fn is_flooding(&self) -> bool {
         self.was_full || self.says_much()
     }
 
-    /// Whether it said more than 64 KB of late.
+    /// Returns whether it said more than 64 KB of late.
     pub fn says_much(&self) -> bool {
         self.flow.level > LONG
     }
 
-    /// Whether a write may take something.
+    /// Returns whether a write may take something.
     pub fn may_write(&self) -> bool
         ensures { result ≡ may_write self.now }
     {
         !self.has_broken_off() && self.readiness.may_write
     }
 
-    /// Whether all that it was given is written.
+    /// Returns whether all that it was given is written.
     pub fn is_idle(&self) -> bool
         ensures { result ≡ not (has_waiting self.now) }
     {
         self.backlog.is_empty()
     }
 
-    /// Whether it ended by a failure.
+    /// Returns whether it ended by a failure.
     fn has_broken_off(&self) -> bool
         ensures { result ≡ breaks_off self.now.ended }
     {
@@ -248,7 +265,7 @@ impl<T: Transport> Connection<T> {
         }
     }
 
-    /// Why it ended, where nothing is left to be done for it.
+    /// Returns why it ended, where nothing is left to be done for it.
     pub fn over(&self) -> Option<Ended>
         ensures { result ≡ over self.now }
     {
@@ -259,28 +276,28 @@ impl<T: Transport> Connection<T> {
         }
     }
 
-    /// Whether bytes can be written to it at once.
+    /// Returns whether bytes can be written to it at once.
     fn can_send(&self) -> bool
         ensures { result ≡ can_send self.now }
     {
         self.may_write() && (self.may_cut || !self.is_idle())
     }
 
-    /// Whether something can be done for it at once.
+    /// Returns whether something can be done for it at once.
     pub fn has_work(&self) -> bool
         ensures { result ≡ has_work self.now }
     {
         self.may_read() || self.can_send() || self.over().is_some()
     }
 
-    /// It ends. A failure takes the place of another reason.
+    /// Ends it for this reason, in place of an earlier one.
     pub fn end(&mut self, ended: Ended)
         ensures { self.new ≡ record self.old { ended = Some ended } }
     {
         self.ended = Some(ended);
     }
 
-    /// It ends so, unless it ended before.
+    /// Ends it for this reason, unless it ended before.
     pub fn close(&mut self, reason: Ended)
         ensures { (self.new ≡ self.old) ⊎ ((self.old.ended ≡ None) × (self.new ≡ record self.old { ended = Some reason })) }
     {
@@ -289,7 +306,7 @@ impl<T: Transport> Connection<T> {
         }
     }
 
-    /// A read gave so many bytes at a time, as many as there was room for or fewer.
+    /// Counts `count` bytes that a read gave at the time `now`, which filled the buffer or didn't.
     fn count_read(&mut self, count: usize, is_full: bool, now: u64)
         ensures same { self.new ≡ record self.old { known = record self.old.known { may_read = self.new.known.may_read } } }
         ensures full { is_full ≡ true → self.new.known.may_read ≡ true }
@@ -299,17 +316,17 @@ impl<T: Transport> Connection<T> {
         self.readiness.may_read = is_full || self.readiness.is_hung_up;
     }
 
-    /// One read. A piece that doesn't fill its room was all that there was, unless the peer hung up: then its bytes are read to
-    /// their end. The time that it is, in milliseconds, says how much was said of late.
-    pub fn receive(&mut self, room: &mut [u8], now: u64) -> Got
+    /// Reads once, at the time `now` in milliseconds. A piece that doesn't fill `buffer` was all that there was, unless the peer hung up:
+    /// then its bytes are read to their end.
+    pub fn receive(&mut self, buffer: &mut [u8], now: u64) -> Got
         ensures same { self.new ≡ record self.old { carried = self.new.carried; known = record self.old.known { may_read = self.new.known.may_read } } }
-        ensures moved { Moves self.old.carried self.new.carried (got_bytes result room.new) [] }
-        ensures full { result ≡ got.Piece (length room.new) → self.new.known.may_read ≡ true }
-        ensures within { IsWithin result room.new }
-        ensures bound { AreReadAtMost (length room.new) self.old.carried.unread self.new.carried.unread }
+        ensures moved { Moves self.old.carried self.new.carried (got_bytes result buffer.new) [] }
+        ensures full { result ≡ got.Piece (length buffer.new) → self.new.known.may_read ≡ true }
+        ensures within { IsWithin result buffer.new }
+        ensures bound { AreReadAtMost (length buffer.new) self.old.carried.unread self.new.carried.unread }
     {
-        let size = room.len();
-        match self.transport.transport.receive(room) {
+        let size = buffer.len();
+        match self.transport.transport.receive(buffer) {
             Ok(0) => Got::End,
             Ok(count) => {
                 self.count_read(count, count >= size, now);
@@ -327,7 +344,7 @@ impl<T: Transport> Connection<T> {
         }
     }
 
-    /// Bytes are given; it ends where its viewer met a fault, and where memory is refused.
+    /// Takes bytes to be written, and ends it where its viewer met a fault, and where memory is refused.
     pub fn give(&mut self, bytes: &[u8], fault: Option<Fault>)
         ensures same { self.new ≡ record self.old { waiting = self.new.waiting; ended = self.new.ended } }
         ensures bytes { breaks_off self.new.ended ≡ false → waiting_bytes self.new.waiting ≡ waiting_bytes self.old.waiting ++ bytes.now }
@@ -342,16 +359,18 @@ impl<T: Transport> Connection<T> {
         }
     }
 
-    /// Room to keep a piece that is to be heard, where that is kept.
+    /// Reserves memory to keep a piece that is to be heard, where pieces are kept.
     pub fn make_room(&mut self, piece: &[u8]) -> Result<(), AllocError>
         ensures { self.new ≡ self.old }
     {
         self.heard.reserve(piece.len())
     }
 
-    /// A piece was heard, so an update may be there to be cut, and a request may be unanswered. It is kept, in room that was made.
-    pub fn count_piece(&mut self, piece: &[u8])
-        ensures { self.new ≡ record self.old { known = record self.old.known { may_cut = true; may_ask = true } } }
+    /// Counts a piece that was heard, whose inputs were `inputs`: an update may be ready, a request may be open, and the viewer holds down
+    /// what the inputs leave. Keeps the piece, in room that was made.
+    pub fn count_piece(&mut self, piece: &[u8], inputs: &[Input])
+        ensures same { self.new ≡ record self.old { held = self.new.held; known = record self.old.known { may_cut = true; may_ask = true } } }
+        ensures held { self.new.held ≡ held_behind self.old.held inputs.now }
     {
         self.pieces = self.pieces.saturating_add(1);
         self.may_cut = true;
@@ -359,10 +378,11 @@ impl<T: Transport> Connection<T> {
         if self.heard.reserve(piece.len()).is_ok() {
             self.heard.append(piece);
         }
+        hold(&mut self.held, inputs);
     }
 
-    /// An update that was cut is given, where nothing waits, and which left a request unanswered or none. Only where it left one
-    /// another update may be there.
+    /// Takes an update that was cut, where nothing waits. `is_asking` says whether the update left a request open; only then a further one
+    /// may be ready.
     pub fn start(&mut self, update: Update, is_asking: bool)
         requires none { waiting_bytes self.old.waiting ≡ [] }
         requires some { update ≢ [] }
@@ -379,7 +399,7 @@ impl<T: Transport> Connection<T> {
         self.backlog.start(update);
     }
 
-    /// One write of what waits, of at most 64 KB, where it was not broken off. A failure ends it.
+    /// Writes what waits once, 64 KB at most, where it was not broken off. A failure ends it.
     pub fn write(&mut self, buffer: &mut Vec<u8>)
         ensures same { self.new ≡ record self.old { carried = self.new.carried; waiting = self.new.waiting; ended = self.new.ended; known = record self.old.known { may_write = self.new.known.may_write } } }
         ensures sent { (written unwritten : List ℕ) × Moves self.old.carried self.new.carried [] written ×
@@ -397,16 +417,18 @@ impl<T: Transport> Connection<T> {
         }
     }
 
-    /// What is left of it where it ended so: its transport, and the receipt of what it was.
-    pub fn into_parts(self, ended: Ended) -> (T, Receipt)
-        ensures carried { (record { unread = T.unread result.0; written = T.written result.0; sent = self.carried.sent }) ≡ self.carried }
-        ensures viewer { result.1.viewer ≡ self.number }
-        ensures ended { result.1.ended ≡ ended }
-        ensures sent { result.1.sent ≡ unwrap_or self.carried.sent [] }
+    /// Returns what is left of it where it ended so.
+    pub fn into_departed(self, ended: Ended) -> Departed<T>
+        ensures carried { (record { unread = T.unread result.transport; written = T.written result.transport; sent = self.carried.sent }) ≡ self.carried }
+        ensures held { result.held ≡ self.held }
+        ensures viewer { result.receipt.viewer ≡ self.number }
+        ensures ended { result.receipt.ended ≡ ended }
+        ensures sent { result.receipt.sent ≡ unwrap_or self.carried.sent [] }
     {
         let Connection {
             transport,
             number,
+            held,
             pieces,
             heard,
             cuts,
@@ -421,6 +443,10 @@ impl<T: Transport> Connection<T> {
             sent,
             ended,
         };
-        (transport, receipt)
+        Departed {
+            transport,
+            held,
+            receipt,
+        }
     }
 }

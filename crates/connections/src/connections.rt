@@ -11,7 +11,7 @@ ghost use Rattle.connections.specs.Recorded.{IsFlushed, IsRecordedBy, held_by, i
 ghost use Rattle.record_writer.specs.Held.{bytes_held};
 ghost use Rattle.connections.specs.Serving.{Began, GoesOn, GoesOnTelling, HasNothingToDo, IsOver, Serves, ViewerConnection, WasServed, at_key, is_kept, is_open_on, may_cut_at, noted_by, number_at};
 ghost use Rattle.connections.specs.Recording.{none_yet};
-ghost use Rattle.connections.specs.Telling.{inputs_after, Stays};
+ghost use Rattle.connections.specs.Telling.{inputs_after, releases, said_by, IsTold, Stays};
 ghost use Rattle.connections.specs.Lending.{lends_canvas};
 
 use crate::application::Application;
@@ -22,7 +22,8 @@ use crate::keys::KeySet;
 use crate::listing::{keep_asking, keep_busy, key_of, list_keys};
 use crate::record::Record;
 use crate::transport::Transport;
-use crate::turn::{PIECE, listen, send};
+use crate::turn::{PIECE, listen, release, send};
+use held_inputs::HeldInputs;
 use receipts::{Ended, Receipt};
 use record_writer::RecordWriter;
 use screen::{Config, History, Screen, ScreenError, config_refusal};
@@ -49,14 +50,14 @@ pub struct Readiness {
     pub is_hung_up: bool,
 }
 
-/// Whether what moves is kept, beside the history.
+/// Returns whether what moves is kept, beside the history.
 fn is_kept(history: History) -> bool
     ensures { result ≡ is_kept history }
 {
     matches!(history, History::Kept)
 }
 
-/// Whether a viewer had its ServerInit, and met no fault; false where there is none with the number.
+/// Returns whether a viewer had its ServerInit, and met no fault; false where there is none with the number.
 fn is_open(screen: &Screen, viewer: u64) -> bool
     ensures { result ≡ is_open_on screen.now (Some viewer) }
 {
@@ -71,6 +72,8 @@ fn is_open(screen: &Screen, viewer: u64) -> bool
 pub struct Departed<T> {
     /// Its transport.
     pub transport: T,
+    /// The keys and buttons that it held down.
+    pub held: HeldInputs,
     /// What was heard of it and sent to it, and why it ended.
     pub receipt: Receipt,
 }
@@ -84,8 +87,8 @@ pub struct Connections<T: Transport> {
     is_kept: bool,
     // the number of the next viewer
     next: u64,
-    // the keys of those that are to be looked at, of those that may have a request unanswered, and perhaps of others, and room for
-    // the next ones
+    // the keys of the connections that are to be looked at, of those that may have a request open (and perhaps of others), and a set in
+    // which the next ones are listed
     agenda: KeySet,
     asking: KeySet,
     later: KeySet,
@@ -93,9 +96,9 @@ pub struct Connections<T: Transport> {
     since_flood: u32,
     // the time that it is, in milliseconds
     time: u64,
-    // what is read, and what is written
-    room: [u8; PIECE],
-    buffer: Vec<u8>,
+    // for what is read, and what is written
+    read_buffer: [u8; PIECE],
+    write_buffer: Vec<u8>,
 }
 
 // Written out, so that who holds one proves one call here, and not the drop of each field.
@@ -112,8 +115,8 @@ impl<T: Transport> Drop for Connections<T> {
             later: _later,
             since_flood: _since_flood,
             time: _time,
-            room: _room,
-            buffer: _buffer,
+            read_buffer: _read_buffer,
+            write_buffer: _write_buffer,
         } = self;
     }
 }
@@ -127,7 +130,7 @@ impl<T: Transport> Model for Connections<T> {
 }
 
 impl<T: Transport> Connections<T> {
-    /// A screen that is 0 everywhere, with no viewer. Refused as `Screen::new` is.
+    /// Returns a screen that is 0 everywhere, with no viewer. Refused as `Screen::new` is.
     pub fn new(alloc: Global, config: Config) -> Result<Connections<T>, ScreenError>
         ensures serves { (began : Began) → began.held ≡ None → IfOk result (λ connections. Serves config began [] connections) }
         ensures accepted { OnOk result (config_refusal config ≡ None) }
@@ -136,7 +139,7 @@ impl<T: Transport> Connections<T> {
         Connections::with(alloc, config, Record::none())
     }
 
-    /// The same, and what happens to the screen is written as a session: its configuration, and each event that happens, as
+    /// Returns the same, and writes what happens to the screen as a session: its configuration, and each event that happens, as
     /// `recorder` says it. Where a write fails the record ends, and nothing else changes. What waits is written by `flush_record`.
     pub fn recorded(
         alloc: Global,
@@ -160,7 +163,7 @@ impl<T: Transport> Connections<T> {
         Connections::with(alloc, config, session)
     }
 
-    /// The same, with what is written of the screen's events.
+    /// Returns the same, with a record of the screen's events.
     fn with(alloc: Global, config: Config, session: Record) -> Result<Connections<T>, ScreenError>
         ensures serves { (began : Began) → IfSome began.held (λ held. IsRecordedBy held config [] session) → IfOk result (λ connections. Serves config began [] connections) }
         ensures accepted { OnOk result (config_refusal config ≡ None) }
@@ -179,26 +182,26 @@ impl<T: Transport> Connections<T> {
             later: KeySet::new(alloc),
             since_flood: 0,
             time: 0,
-            room: [0; PIECE],
-            buffer: Vec::with_capacity(alloc, BUFFER)?,
+            read_buffer: [0; PIECE],
+            write_buffer: Vec::with_capacity(alloc, BUFFER)?,
         })
     }
 
-    /// How many viewers are connected.
+    /// Returns how many viewers are connected.
     pub fn len(&self) -> usize
         ensures { result ≡ count_by is_some self.now.slots }
     {
         self.connections.len()
     }
 
-    /// Whether no viewer is connected.
+    /// Returns whether no viewer is connected.
     pub fn is_empty(&self) -> bool
         ensures { result ≡ (count_by is_some self.now.slots == 0) }
     {
         self.connections.is_empty()
     }
 
-    /// The key that the next connection is to have, unless another one ends before.
+    /// Returns the key that the next connection is to have, unless another one ends before.
     pub fn next_key(&self) -> usize
         ensures key { result ≡ self.now.vacant }
         ensures none { at_key self.now.slots result ≡ None }
@@ -206,7 +209,7 @@ impl<T: Transport> Connections<T> {
         self.connections.vacant_key()
     }
 
-    /// Whether something can be done in a turn at once, without anything more being ready. Where not, nothing can be done for any
+    /// Returns whether something can be done in a turn at once, without anything more being ready. Where not, nothing can be done for any
     /// connection until its transport is found ready or something is drawn.
     pub fn is_busy(&self) -> bool
         ensures busy { result ≡ (not (length self.now.agenda == 0) || self.now.surface.drawn) }
@@ -216,8 +219,8 @@ impl<T: Transport> Connections<T> {
         !self.agenda.is_empty() || self.canvas.has_drawn()
     }
 
-    /// The time that it is from now on, in milliseconds since some moment. By it is known who says much: of what a viewer said, 64 bytes
-    /// are forgotten in each millisecond. Where no time is told, nothing is forgotten.
+    /// Sets the time, in milliseconds since some moment. It tells who says much: of what a viewer said, 64 bytes are forgotten in each
+    /// millisecond. Where no time is told, nothing is forgotten.
     pub fn set_time(&mut self, milliseconds: u64)
         ensures { self.new ≡ self.old }
     {
@@ -247,14 +250,14 @@ impl<T: Transport> Connections<T> {
         self.canvas.is_record_broken()
     }
 
-    /// The screen, to be looked at.
+    /// Returns the screen, to be looked at.
     pub fn screen(&self) -> &Screen
         ensures { result.now ≡ self.now.surface.screen }
     {
         self.canvas.screen()
     }
 
-    /// The screen to draw on. What is drawn is sent in the next turns.
+    /// Returns the screen to draw on. What is drawn is sent in the next turns.
     pub fn canvas(&mut self) -> &mut Canvas
         ensures* writes_back { sem 𝓛 (lends_canvas T.row T.Transport self.entry result) }
         ensures value { result.now ≡ self.old.surface }
@@ -262,8 +265,8 @@ impl<T: Transport> Connections<T> {
         &mut self.canvas
     }
 
-    /// Takes in a viewer's transport, whose bytes may be read and written at once. The connection's key. Refused as `NumberInUse`
-    /// after 2^64 - 2 viewers; then, and where memory is refused, nothing has changed.
+    /// Takes in a viewer's transport, whose bytes may be read and written at once, and returns the connection's key. Refused as
+    /// `NumberInUse` after 2^64 - 2 viewers; then, and where memory is refused, nothing has changed.
     pub fn admit(&mut self, transport: T) -> Result<usize, ScreenError>
         ensures serves { (config : Config) (began : Began) (list : List Event) → Serves config began list self.old →
             began.carried self.old.next ≡ record { unread = T.unread transport; written = T.written transport; sent = none_yet self.old.kept } →
@@ -290,7 +293,7 @@ impl<T: Transport> Connections<T> {
         Ok(key)
     }
 
-    /// The number of the viewer that has the key.
+    /// Returns the number of the viewer that has the key.
     pub fn viewer(&self, key: usize) -> Option<u64>
         ensures { result ≡ number_at self.now.slots key }
     {
@@ -298,7 +301,7 @@ impl<T: Transport> Connections<T> {
         Some(connection.number())
     }
 
-    /// The transport of the viewer that has the key, to be looked at.
+    /// Returns the transport of the viewer that has the key, to be looked at.
     pub fn transport(&self, key: usize) -> Option<&T>
         ensures { MatchOption (at_key self.now.slots key) (result ≡ None) (λ e. IsSomeAnd result (λ transport. (T.unread transport.now ≡ e.carried.unread) × (T.written transport.now ≡ e.carried.written))) }
     {
@@ -306,7 +309,7 @@ impl<T: Transport> Connections<T> {
         Some(connection.transport())
     }
 
-    /// The key of the viewer with a number; None where it isn't connected.
+    /// Returns the key of the viewer with a number; None where it isn't connected.
     pub fn key_of(&self, viewer: u64) -> Option<usize>
         ensures found { IfSome result (λ key. number_at self.now.slots key ≡ Some viewer) }
         ensures none { result ≡ None → (key : ℕ) → number_at self.now.slots key ≢ Some viewer }
@@ -314,7 +317,7 @@ impl<T: Transport> Connections<T> {
         key_of(&self.connections, viewer)
     }
 
-    /// The application is told that a viewer connected.
+    /// Tells the application that a viewer connected.
     pub fn tell_came<A: Application>(
         &mut self,
         viewer: u64,
@@ -326,19 +329,22 @@ impl<T: Transport> Connections<T> {
         application.came(&mut self.canvas, viewer)
     }
 
-    /// The application is told that a viewer ended.
+    /// Tells the application that a viewer ended, and before that, as inputs of this viewer, the releases of the keys and buttons that it
+    /// held down.
     pub fn tell_left<A: Application>(
         &mut self,
+        held: HeldInputs,
         receipt: Receipt,
         application: &mut A,
     ) -> Result<(), ScreenError>
         ensures served { GoesOn self.old self.new }
-        ensures stands { Stays A.stands application.old application.new }
+        ensures told { IsTold A.stands (said_by receipt.viewer (releases held)) application.old application.new result }
     {
+        release(&mut self.canvas, receipt.viewer, held, application)?;
         application.left(&mut self.canvas, receipt)
     }
 
-    /// The application's time has come. After how long the next one comes, if one does.
+    /// Tells the application that its time has come. Returns after how long the next one comes, if one does.
     pub fn tick<A: Application>(
         &mut self,
         application: &mut A,
@@ -349,7 +355,7 @@ impl<T: Transport> Connections<T> {
         application.tick(&mut self.canvas)
     }
 
-    /// The application is told that another thread woke it.
+    /// Tells the application that another thread woke it.
     pub fn tell_woken<A: Application>(&mut self, application: &mut A) -> Result<(), ScreenError>
         ensures served { GoesOn self.old self.new }
         ensures stands { Stays A.stands application.old application.new }
@@ -357,7 +363,7 @@ impl<T: Transport> Connections<T> {
         application.woken(&mut self.canvas)
     }
 
-    /// Whether the viewer that has the key had its ServerInit (RFC 6143, 7.3.2), and met no fault.
+    /// Returns whether the viewer that has the key had its ServerInit (RFC 6143, 7.3.2), and met no fault.
     pub fn is_open(&self, key: usize) -> bool
         ensures { result ≡ is_open_on self.now.surface.screen (number_at self.now.slots key) }
     {
@@ -367,8 +373,8 @@ impl<T: Transport> Connections<T> {
         }
     }
 
-    /// What a connection's transport was found ready for, where one has the key. It is looked at in the next turn. Room for this was
-    /// made when it was admitted.
+    /// Notes what a connection's transport was found ready for, where one has the key. It is looked at in the next turn. Memory for this
+    /// was reserved when it was admitted.
     pub fn note(&mut self, key: usize, found: Readiness) -> Result<(), AllocError>
         ensures served { GoesOn self.old self.new }
         ensures same { self.new ≡ record self.old { slots = self.new.slots; agenda = self.new.agenda } }
@@ -380,7 +386,7 @@ impl<T: Transport> Connections<T> {
         Ok(())
     }
 
-    /// What a connection's transport was found ready for, where it is to be looked at.
+    /// Notes what the transport of a connection of the agenda was found ready for.
     fn note_at(&mut self, key: usize, found: Readiness)
         requires { is_among key self.old.agenda ≡ true }
         ensures served { GoesOn self.old self.new }
@@ -394,7 +400,7 @@ impl<T: Transport> Connections<T> {
         connection.note(found);
     }
 
-    /// A viewer is let go, as one that was closed (`Ended::Closed`), once what waits for it is written; nothing where none has the key.
+    /// Lets a viewer go, as one that was closed (`Ended::Closed`), once what waits for it is written; nobody where none has the key.
     pub fn close(&mut self, key: usize) -> Result<(), AllocError>
         ensures served { GoesOn self.old self.new }
     {
@@ -403,8 +409,8 @@ impl<T: Transport> Connections<T> {
         Ok(())
     }
 
-    /// A viewer is let go at once, as one that the application refused (`Ended::Gate`): what waits for it isn't written. Nothing where
-    /// none has the key.
+    /// Lets a viewer go at once, as one that the application refused (`Ended::Gate`): what waits for it isn't written. Nobody where none
+    /// has the key.
     pub fn refuse(&mut self, key: usize) -> Result<(), AllocError>
         ensures served { GoesOn self.old self.new }
     {
@@ -413,7 +419,7 @@ impl<T: Transport> Connections<T> {
         Ok(())
     }
 
-    /// A viewer ends so, where it is to be looked at.
+    /// Ends a connection of the agenda, for this reason.
     fn end_at(&mut self, key: usize, ended: Ended)
         requires { is_among key self.old.agenda ≡ true }
         ensures served { GoesOn self.old self.new }
@@ -424,10 +430,10 @@ impl<T: Transport> Connections<T> {
         connection.close(ended);
     }
 
-    /// One turn. Of each connection on the agenda one piece of at most 128 bytes is read and heard, and the application is told what
-    /// it says. Of those whose last read gave so many, or that said more than 64 KB of late, only one is heard in a turn, in the order
+    /// Takes one turn. Of each connection on the agenda it reads and hears one piece of at most 128 bytes, and tells the application what
+    /// that says. Of those whose last read gave so many, or that said more than 64 KB of late, only one is heard in a turn, in the order
     /// in which they wait; and while others have something to do, eight turns after the one before it, or 32 where it said so much.
-    /// Then each is written what it was given, and cut updates, in at most four writes of at most 65,536 bytes.
+    /// Then it writes to each what it was given, and cuts updates, in at most four writes of at most 65,536 bytes.
     ///
     /// Whatever list of events the screen stood for, it stands for it with others behind it, and by that list each viewer is served:
     /// what was read of it is what the screen heard of it, and what was written to it is, with what waits for it, what the screen with
@@ -443,12 +449,13 @@ impl<T: Transport> Connections<T> {
         Ok(())
     }
 
-    /// A viewer that ended, and for which nothing is left to be done: it is closed, and its transport given back. None where there is
-    /// none; where memory is refused to close it, it is given later.
+    /// Closes a viewer that ended, and for which nothing is left to be done, and returns what is left of it. None where there is none;
+    /// where memory is refused to close it, it is given later. `tell_left` is to tell the application of it.
     pub fn take_departed(&mut self) -> Option<Departed<T>>
         ensures served { (config : Config) (began : Began) (list : List Event) → Serves config began list self.old →
-            (more : List Event) × Serves config began (list ++ more) self.new × (inputs_after config list more ≡ []) ×
-            IfSome result (λ d. WasServed config (list ++ more) (began.carried d.receipt.viewer) T.unread T.written d.transport d.receipt) }
+            (more : List Event) × Serves config began (list ++ more) self.new ×
+            MatchOption result (inputs_after config list more ≡ []) (λ d. (inputs_after config list more ≡ said_by d.receipt.viewer (releases d.held)) ×
+            WasServed config (list ++ more) (began.carried d.receipt.viewer) T.unread T.written d.transport d.receipt) }
     {
         let key = self.find_over()?;
         let (viewer, ended) = self.over_at(key)?;
@@ -458,19 +465,18 @@ impl<T: Transport> Connections<T> {
         self.agenda.remove(key);
         self.asking.remove(key);
         let connection = self.connections.try_remove(key)?;
-        let (transport, receipt) = connection.into_parts(ended);
-        Some(Departed { transport, receipt })
+        Some(connection.into_departed(ended))
     }
 
-    /// The key at a place of the agenda; None behind the last.
-    fn listed(&self, place: usize) -> Option<usize>
-        ensures value { place < length self.now.agenda → result ≡ Some (slice_index_or self.now.agenda place 0) }
+    /// Returns the key at an index of the agenda; None behind the last.
+    fn listed(&self, index: usize) -> Option<usize>
+        ensures value { index < length self.now.agenda → result ≡ Some (slice_index_or self.now.agenda index 0) }
         ensures there { IfSome result (λ key. is_among key self.now.agenda ≡ true) }
     {
-        self.agenda.get(place)
+        self.agenda.get(index)
     }
 
-    /// Whether a connection may say more, and its last read gave as many bytes as there was room for, or it said much of late.
+    /// Returns whether a connection may say more, and its last read filled the buffer, or it said much of late.
     fn is_flooding(&self, key: usize) -> bool {
         match self.connections.get(key) {
             Some(connection) => connection.is_flooding() && connection.may_read(),
@@ -478,7 +484,7 @@ impl<T: Transport> Connections<T> {
         }
     }
 
-    /// The number of the viewer that has the key, and why it ended, where nothing is left to be done for it.
+    /// Returns the number of the viewer that has the key, and why it ended, where nothing is left to be done for it.
     fn over_at(&self, key: usize) -> Option<(u64, Ended)>
         ensures { IfSome result (λ over. IsOver (at_key self.now.slots key) over.0 over.1) }
     {
@@ -487,12 +493,12 @@ impl<T: Transport> Connections<T> {
         Some((connection.number(), ended))
     }
 
-    /// The first key of the agenda whose viewer ended, and for which nothing is left to be done.
+    /// Returns the first key of the agenda whose viewer ended, and for which nothing is left to be done.
     fn find_over(&self) -> Option<usize>
         ensures { IfSome result (λ key. is_among key self.now.agenda ≡ true) }
     {
-        for place in 0..self.agenda.len() {
-            let key = self.listed(place)?;
+        for index in 0..self.agenda.len() {
+            let key = self.listed(index)?;
             if self.over_at(key).is_some() {
                 return Some(key);
             }
@@ -501,7 +507,7 @@ impl<T: Transport> Connections<T> {
     }
 
     /// Hears a piece of each on the agenda that may have one, and of those that flood of one, whose turn has come where others have
-    /// something to do. The key of the latter.
+    /// something to do. Returns the key of the latter.
     fn listen_in_turn<A: Application>(
         &mut self,
         application: &mut A,
@@ -514,10 +520,10 @@ impl<T: Transport> Connections<T> {
         Ok(flooding)
     }
 
-    /// Whether all on the agenda flood.
+    /// Returns whether all on the agenda flood.
     fn all_flood(&self) -> bool {
-        for place in 0..self.agenda.len() {
-            if let Some(key) = self.listed(place)
+        for index in 0..self.agenda.len() {
+            if let Some(key) = self.listed(index)
                 && !self.is_flooding(key)
             {
                 return false;
@@ -526,7 +532,7 @@ impl<T: Transport> Connections<T> {
         true
     }
 
-    /// Whether the turn has come of a viewer that floods, while others have something to do.
+    /// Returns whether the turn has come of a viewer that floods, while others have something to do.
     fn has_turn(&self, key: usize) -> bool {
         let turns = match self.connections.get(key) {
             Some(connection) if connection.says_much() => LONG_TURNS,
@@ -535,7 +541,7 @@ impl<T: Transport> Connections<T> {
         self.since_flood >= turns - 1
     }
 
-    /// A turn was taken in which a viewer that floods was heard, or not.
+    /// Counts a turn in which a viewer that floods was heard, or none was.
     fn count_turn(&mut self, heard_flood: bool)
         ensures { self.new ≡ self.old }
     {
@@ -547,7 +553,7 @@ impl<T: Transport> Connections<T> {
     }
 
     /// Hears a piece of each on the agenda that may have one; of those that flood, of the first alone whose turn has come, or the first of
-    /// all where all flood. The key of that one.
+    /// all where all flood. Returns the key of that one.
     fn listen_all<A: Application>(
         &mut self,
         all_flood: bool,
@@ -556,8 +562,8 @@ impl<T: Transport> Connections<T> {
         ensures served { GoesOnTelling A.stands self.old self.new application.old application.new result }
     {
         let mut flooding = None;
-        for place in 0..self.agenda.len() {
-            let Some(key) = self.listed(place) else {
+        for index in 0..self.agenda.len() {
+            let Some(key) = self.listed(index) else {
                 return Ok(flooding);
             };
             if self.is_flooding(key) {
@@ -601,7 +607,7 @@ impl<T: Transport> Connections<T> {
                 listen(
                     &mut self.canvas,
                     connection,
-                    &mut self.room,
+                    &mut self.read_buffer,
                     self.time,
                     application,
                 )
@@ -614,8 +620,8 @@ impl<T: Transport> Connections<T> {
     fn send_all(&mut self)
         ensures served { GoesOn self.old self.new }
     {
-        for place in 0..self.agenda.len() {
-            let Some(key) = self.listed(place) else {
+        for index in 0..self.agenda.len() {
+            let Some(key) = self.listed(index) else {
                 return;
             };
             self.send_at(key);
@@ -631,10 +637,10 @@ impl<T: Transport> Connections<T> {
         let Some(connection) = self.connections.get_mut(key) else {
             return;
         };
-        send(&mut self.canvas, connection, &mut self.buffer);
+        send(&mut self.canvas, connection, &mut self.write_buffer);
     }
 
-    /// Those are to be looked at for whom drawing may have left something to send.
+    /// Puts the connections that drawing may have given an update on the agenda.
     fn list_watching(&mut self) -> Result<(), AllocError>
         ensures served { GoesOn self.old self.new }
     {
@@ -647,8 +653,7 @@ impl<T: Transport> Connections<T> {
         Ok(())
     }
 
-    /// Those are listed for whom drawing may have left something to send: all where a bell or a text was drawn, and else those that
-    /// may have a request unanswered.
+    /// Puts all connections on the agenda where a bell or a text was drawn, and else those that may have a request open.
     fn list_drawn(&mut self) -> Result<(), AllocError>
         ensures same { self.new ≡ record self.old { agenda = self.new.agenda; asking = self.new.asking } }
         ensures served { GoesOn self.old self.new }
@@ -662,7 +667,7 @@ impl<T: Transport> Connections<T> {
         }
     }
 
-    /// All are to be looked at.
+    /// Puts all connections on the agenda.
     fn list_all(&mut self) -> Result<(), AllocError>
         ensures same { self.new ≡ record self.old { agenda = self.new.agenda } }
         ensures served { GoesOn self.old self.new }
@@ -671,7 +676,7 @@ impl<T: Transport> Connections<T> {
         list_keys(&self.connections, &mut self.agenda)
     }
 
-    /// Those are to be looked at that may have a request unanswered; of the others it is no longer thought.
+    /// Puts the connections that may have an open request on the agenda, and drops the others from `asking`.
     fn list_asking(&mut self) -> Result<(), AllocError>
         ensures same { self.new ≡ record self.old { agenda = self.new.agenda; asking = self.new.asking } }
         ensures served { GoesOn self.old self.new }
@@ -687,22 +692,22 @@ impl<T: Transport> Connections<T> {
         Ok(())
     }
 
-    /// An update may be there to be cut for each on the agenda.
+    /// Notes that an update may be ready for each connection of the agenda.
     fn look_at_all(&mut self)
         ensures same { self.new ≡ record self.old { slots = self.new.slots } }
         ensures served { GoesOn self.old self.new }
         ensures looked { (key : ℕ) → is_among key self.old.agenda ≡ true → may_cut_at self.new.slots key ≡ true }
         ensures others { (key : ℕ) → may_cut_at self.old.slots key ≡ true → may_cut_at self.new.slots key ≡ true }
     {
-        for place in 0..self.agenda.len() {
-            let Some(key) = self.listed(place) else {
+        for index in 0..self.agenda.len() {
+            let Some(key) = self.listed(index) else {
                 return;
             };
             self.look_at(key);
         }
     }
 
-    /// An update may be there to be cut for a connection of the agenda.
+    /// Notes that an update may be ready for a connection of the agenda.
     fn look_at(&mut self, key: usize)
         requires { is_among key self.old.agenda ≡ true }
         ensures same { self.new ≡ record self.old { slots = self.new.slots } }
@@ -716,7 +721,7 @@ impl<T: Transport> Connections<T> {
         connection.look(true);
     }
 
-    /// Those stay on the agenda that something can be done for at once, in their order, but for one that comes last.
+    /// Keeps on the agenda, in order, the connections with work left; `last` goes to the end.
     fn list_busy(&mut self, last: Option<usize>) -> Result<(), AllocError>
         ensures same { self.new ≡ record self.old { agenda = self.new.agenda } }
         ensures served { GoesOn self.old self.new }

@@ -25,7 +25,7 @@ impl Model for KeySet {
     ghost invariant = { λ a. AreAmong a.flags.items a.keys.items };
 }
 
-/// The flag of a key is lowered, if it has one.
+/// Lowers the flag of a key, if it has one.
 fn lower(flags: &mut Vec<bool>, key: usize)
     ensures lowered { slice_index_or flags.new.items key false ≡ false }
     ensures others { (k : ℕ) → (k == key) ≡ false → slice_index_or flags.new.items k false ≡ slice_index_or flags.old.items k false }
@@ -35,7 +35,7 @@ fn lower(flags: &mut Vec<bool>, key: usize)
     }
 }
 
-/// The flag of a key goes up, if it has one.
+/// Raises the flag of a key, if it has one.
 fn raise(flags: &mut Vec<bool>, key: usize)
     ensures others { (k : ℕ) → (k == key) ≡ false → slice_index_or flags.new.items k false ≡ slice_index_or flags.old.items k false }
 {
@@ -44,19 +44,19 @@ fn raise(flags: &mut Vec<bool>, key: usize)
     }
 }
 
-/// The place of a key, if it is there.
-fn place_of(keys: &[usize], key: usize) -> Option<usize>
-    ensures { IfSome result (λ place. (place < length keys.now) × (slice_index_or keys.now place 0 ≡ key)) }
+/// Returns the index of a key, if it is there.
+fn index_of(keys: &[usize], key: usize) -> Option<usize>
+    ensures { IfSome result (λ index. (index < length keys.now) × (slice_index_or keys.now index 0 ≡ key)) }
 {
-    for (place, other) in keys.iter().enumerate() {
+    for (index, other) in keys.iter().enumerate() {
         if *other == key {
-            return Some(place);
+            return Some(index);
         }
     }
     None
 }
 
-/// All keys are taken out, and their flags lowered.
+/// Takes out all keys, and lowers their flags.
 #[tactic(auto, using(crate::proofs::Among::lowered))]
 fn take_all(flags: &mut Vec<bool>, keys: &mut Vec<usize>)
     requires { AreAmong flags.old.items keys.old.items }
@@ -69,7 +69,7 @@ fn take_all(flags: &mut Vec<bool>, keys: &mut Vec<usize>)
 }
 
 impl KeySet {
-    /// No keys. This takes no memory.
+    /// Returns a set of no keys, which holds no memory.
     pub fn new(alloc: Global) -> KeySet
         ensures { result.list ≡ [] }
     {
@@ -79,37 +79,37 @@ impl KeySet {
         }
     }
 
-    /// How many there are.
+    /// Returns how many there are.
     pub fn len(&self) -> usize
         ensures { result ≡ length self.now.list }
     {
         self.keys.len()
     }
 
-    /// Whether there are none.
+    /// Returns whether there are none.
     pub fn is_empty(&self) -> bool
         ensures { result ≡ (length self.now.list == 0) }
     {
         self.keys.is_empty()
     }
 
-    /// The key at a place; None behind the last.
+    /// Returns the key at an index; None behind the last.
     #[tactic(auto, using(crate::proofs::Among::among_at))]
-    pub fn get(&self, place: usize) -> Option<usize>
-        ensures value { place < length self.now.list → result ≡ Some (slice_index_or self.now.list place 0) }
+    pub fn get(&self, index: usize) -> Option<usize>
+        ensures value { index < length self.now.list → result ≡ Some (slice_index_or self.now.list index 0) }
         ensures there { IfSome result (λ key. is_among key self.now.list ≡ true) }
     {
-        self.keys.get(place).copied()
+        self.keys.get(index).copied()
     }
 
-    /// All of them.
+    /// Returns all of them.
     pub fn as_slice(&self) -> &[usize]
         ensures { result.now ≡ self.now.list }
     {
         self.keys.as_slice()
     }
 
-    /// Whether a key is among them.
+    /// Returns whether a key is among them.
     fn contains(&self, key: usize) -> bool
         ensures { result ≡ true → is_among key self.now.list ≡ true }
     {
@@ -119,7 +119,7 @@ impl KeySet {
         }
     }
 
-    /// Room for all keys up to one, so that none of these needs memory when it comes.
+    /// Reserves memory for all keys up to `key`, so that none of these needs any when it comes.
     pub fn make_room(&mut self, key: usize) -> Result<(), AllocError>
         ensures room { OnOk result (HasRoom self.new) }
         ensures same { self.new.list ≡ self.old.list }
@@ -132,7 +132,7 @@ impl KeySet {
             .reserve(count.saturating_sub(self.keys.len()).max(1))
     }
 
-    /// A key is among them from now on, as the last if it wasn't before.
+    /// Inserts a key at the end, unless it is there.
     pub fn insert(&mut self, key: usize) -> Result<(), AllocError>
         ensures there { OnOk result (is_among key self.new.list ≡ true) }
         ensures ok { OnOk result ((self.new.list ≡ self.old.list) ⊎ (self.new.list ≡ self.old.list ++ key ∷ [])) }
@@ -147,7 +147,7 @@ impl KeySet {
         Ok(())
     }
 
-    /// The same, where room was made.
+    /// Does the same, where memory was reserved.
     pub fn insert_reserved(&mut self, key: usize)
         requires { HasRoom self.old }
         ensures there { is_among key self.new.list ≡ true }
@@ -160,18 +160,18 @@ impl KeySet {
         }
     }
 
-    /// A key is among them no longer; the others stay, in their order.
+    /// Removes a key, if it is there; the others stay, in their order.
     #[tactic(auto, using(crate::proofs::Among::among_removed))]
     pub fn remove(&mut self, key: usize)
         ensures { (k : ℕ) → (k == key) ≡ false → is_among k self.old.list ≡ true → is_among k self.new.list ≡ true }
     {
-        if let Some(place) = place_of(&self.keys, key) {
-            self.keys.remove(place);
+        if let Some(index) = index_of(&self.keys, key) {
+            self.keys.remove(index);
             lower(&mut self.flags, key);
         }
     }
 
-    /// None is among them any longer.
+    /// Removes all keys.
     pub fn clear(&mut self)
         ensures { self.new.list ≡ [] }
     {

@@ -29,6 +29,7 @@ mod turn;
 pub use application::Application;
 pub use canvas::Canvas;
 pub use connections::{Connections, Departed, Readiness};
+pub use held_inputs::HeldInputs;
 pub use laws::drawn_is_served;
 pub use receipts::{Ended, Receipt};
 pub use record_writer::{PrivateFile, RecordWriter};

@@ -10,7 +10,7 @@ use crate::transport::Transport;
 use slab::Slab;
 use std::alloc::AllocError;
 
-/// Whether something can be done at once for the connection that has the key.
+/// Returns whether something can be done at once for the connection that has the key.
 fn has_work<T: Transport>(connections: &Slab<Connection<T>>, key: usize) -> bool
     ensures { result ≡ works_at connections.now.slots key }
 {
@@ -20,7 +20,7 @@ fn has_work<T: Transport>(connections: &Slab<Connection<T>>, key: usize) -> bool
     }
 }
 
-/// Whether a request of the viewer that has the key may be unanswered.
+/// Returns whether a request of the viewer that has the key may be unanswered.
 fn may_ask<T: Transport>(connections: &Slab<Connection<T>>, key: usize) -> bool
     ensures { result ≡ may_ask_at connections.now.slots key }
 {
@@ -30,7 +30,7 @@ fn may_ask<T: Transport>(connections: &Slab<Connection<T>>, key: usize) -> bool
     }
 }
 
-/// The key of the viewer with a number, if it is connected.
+/// Returns the key of the viewer with a number, if it is connected.
 pub(crate) fn key_of<T: Transport>(connections: &Slab<Connection<T>>, viewer: u64) -> Option<usize>
     ensures found { IfSome result (λ key. number_at connections.now.slots key ≡ Some viewer) }
     ensures none { result ≡ None → (key : ℕ) → number_at connections.now.slots key ≢ Some viewer }
@@ -43,7 +43,7 @@ pub(crate) fn key_of<T: Transport>(connections: &Slab<Connection<T>>, viewer: u6
     None
 }
 
-/// The keys of all connections are put on the agenda.
+/// Puts the keys of all connections on the agenda.
 pub(crate) fn list_keys<T: Transport>(
     connections: &Slab<Connection<T>>,
     agenda: &mut KeySet,
@@ -57,7 +57,7 @@ pub(crate) fn list_keys<T: Transport>(
     Ok(())
 }
 
-/// Of those that may have had a request unanswered, those are kept for which it may be so still, and these are put on the agenda.
+/// Lists in `kept` those of `asking` that may still have a request open, and puts these on the agenda.
 pub(crate) fn keep_asking<T: Transport>(
     connections: &Slab<Connection<T>>,
     asking: &KeySet,
@@ -69,8 +69,8 @@ pub(crate) fn keep_asking<T: Transport>(
     ensures more { (key : ℕ) → is_among key agenda.old.list ≡ true → is_among key agenda.new.list ≡ true }
 {
     kept.clear();
-    for place in 0..asking.len() {
-        if let Some(key) = asking.get(place)
+    for index in 0..asking.len() {
+        if let Some(key) = asking.get(index)
             && may_ask(connections, key)
         {
             agenda.insert(key)?;
@@ -80,7 +80,7 @@ pub(crate) fn keep_asking<T: Transport>(
     Ok(())
 }
 
-/// Of those on the agenda, those are kept that something can be done for at once, in their order, but for one that comes last.
+/// Lists in `kept`, in order, those of the agenda with work left; `last` comes at the end.
 pub(crate) fn keep_busy<T: Transport>(
     connections: &Slab<Connection<T>>,
     agenda: &KeySet,
@@ -99,7 +99,7 @@ pub(crate) fn keep_busy<T: Transport>(
     Ok(())
 }
 
-/// A key is kept if something can be done at once for its connection, and it isn't the one that comes last.
+/// Keeps a key whose connection has work left, unless it is the one that comes last.
 fn keep_unless_last<T: Transport>(
     connections: &Slab<Connection<T>>,
     key: usize,
@@ -115,7 +115,7 @@ fn keep_unless_last<T: Transport>(
     }
 }
 
-/// A key is kept if something can be done at once for its connection.
+/// Keeps a key whose connection has work left.
 fn keep_if_busy<T: Transport>(
     connections: &Slab<Connection<T>>,
     key: usize,

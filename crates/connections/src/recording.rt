@@ -18,7 +18,7 @@ pub(crate) struct Recording<T> {
     pub sent: KeptList<u8>,
 }
 
-/// Nothing yet, where bytes are kept. This takes no memory.
+/// Returns an empty list where bytes are kept, and else none. Neither holds memory.
 pub(crate) fn no_bytes(alloc: Global, is_kept: bool) -> KeptList<u8>
     ensures { result.items ≡ none_yet is_kept }
 {
@@ -30,7 +30,7 @@ pub(crate) fn no_bytes(alloc: Global, is_kept: bool) -> KeptList<u8>
 }
 
 impl<T> Recording<T> {
-    /// A transport to which nothing was written yet. This takes no memory.
+    /// Returns a transport to which nothing was written yet.
     pub fn new(alloc: Global, transport: T, is_kept: bool) -> Recording<T>
         ensures transport { result.transport ≡ transport }
         ensures sent { result.sent.items ≡ none_yet is_kept }
@@ -41,7 +41,7 @@ impl<T> Recording<T> {
         }
     }
 
-    /// The transport, and what was written to it; nothing where that isn't kept.
+    /// Returns the transport, and what was written to it; nothing where that isn't kept.
     pub fn into_parts(self) -> (T, Listed<u8>)
         ensures transport { result.0 ≡ self.transport }
         ensures sent { result.1 ≡ unwrap_or self.sent.items [] }
@@ -51,7 +51,7 @@ impl<T> Recording<T> {
 }
 
 impl<T: Transport> Recording<T> {
-    /// Writes as `Transport::send` does. What is written is kept, in room that is made before.
+    /// Writes as `Transport::send` does. Keeps what is written, in memory that is reserved before.
     pub fn send(&mut self, bytes: &[u8]) -> io::Result<usize>
         ensures bound { IfOk result (λ count. count ≤ length bytes.now) }
         ensures bytes { IfOk result (λ count. Appends (T.written self.old.transport) (T.written self.new.transport) (take count bytes.now)) }

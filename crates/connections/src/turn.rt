@@ -6,13 +6,14 @@ ghost use Rattle.connections.specs.Waiting.{waiting_bytes};
 ghost use Rattle.connections.specs.Bounds.{AreWrittenAtMost, AreReadAtMost};
 ghost use Rattle.connections.specs.Drawing.{Draws};
 ghost use Rattle.connections.specs.Serving.{breaks_off};
-ghost use Rattle.connections.specs.Telling.{said_by, IsTold};
+ghost use Rattle.connections.specs.Telling.{said_by, releases, IsTold};
 ghost use Rattle.connections.specs.Turns.{HearsPiece, TakesTurn, TakesTurnTelling};
 
 use crate::application::Application;
 use crate::canvas::Canvas;
 use crate::connection::{Connection, Got};
 use crate::transport::Transport;
+use held_inputs::{Change, HeldInputs};
 use receipts::Ended;
 use screen::{Input, ScreenError, held_as_alone};
 
@@ -28,7 +29,7 @@ const WRITES: u32 = 4;
 pub(crate) fn listen<T: Transport, A: Application>(
     canvas: &mut Canvas,
     connection: &mut Connection<T>,
-    room: &mut [u8; PIECE],
+    buffer: &mut [u8; PIECE],
     now: u64,
     application: &mut A,
 ) -> Result<(), ScreenError>
@@ -38,16 +39,16 @@ pub(crate) fn listen<T: Transport, A: Application>(
     if !connection.may_read() {
         return Ok(());
     }
-    match connection.receive(room, now) {
+    match connection.receive(buffer, now) {
         Got::Nothing => {}
         Got::End => connection.end(Ended::EndOfInput),
         Got::Failed => connection.end(Ended::ReadFailed),
-        Got::Piece(count) => return hear(canvas, connection, &room[..count], application),
+        Got::Piece(count) => return hear(canvas, connection, &buffer[..count], application),
     }
     Ok(())
 }
 
-/// Hears a piece that was read.
+/// Hears a piece that was read, and tells the application its inputs.
 fn hear<T: Transport, A: Application>(
     canvas: &mut Canvas,
     connection: &mut Connection<T>,
@@ -67,16 +68,11 @@ fn hear<T: Transport, A: Application>(
         connection.end(Ended::Memory);
         return Ok(());
     };
+    let inputs = answer.inputs.as_slice();
     canvas.record_heard(viewer, piece);
-    connection.count_piece(piece);
+    connection.count_piece(piece, inputs);
     connection.give(answer.bytes.as_slice(), answer.closed);
-    tell(
-        canvas,
-        viewer,
-        answer.inputs.as_slice(),
-        full_requests,
-        application,
-    )
+    tell(canvas, viewer, inputs, full_requests, application)
 }
 
 /// Tells the application a viewer's inputs, in order, and whether there are more full requests of it now than there were.
@@ -99,8 +95,25 @@ fn tell<A: Application>(
     Ok(())
 }
 
-/// Writes what a viewer was given, and cuts further updates for it, as long as its transport takes bytes, but for so many writes at
-/// most.
+/// Tells the application the releases of the keys and buttons that a viewer held down when it left.
+pub(crate) fn release<A: Application>(
+    canvas: &mut Canvas,
+    viewer: u64,
+    mut held: HeldInputs,
+    application: &mut A,
+) -> Result<(), ScreenError>
+    ensures draws { Draws canvas.old canvas.new }
+    ensures told { IsTold A.stands (said_by viewer (releases held)) application.old application.new result }
+{
+    let nothing = held.let_go();
+    while let Some(input) = held.owed(&nothing) {
+        application.on_input(canvas, viewer, &input)?;
+        held.change(Change::of(&input));
+    }
+    Ok(())
+}
+
+/// Writes what a viewer was given, and cuts further updates for it, as long as its transport takes bytes, in four writes at most.
 pub(crate) fn send<T: Transport>(
     canvas: &mut Canvas,
     connection: &mut Connection<T>,
@@ -118,8 +131,8 @@ pub(crate) fn send<T: Transport>(
     }
 }
 
-/// Whether a write may take something, where an update is cut if nothing waits and one may be there. An update whose rectangles are being
-/// encoded for several viewers is cut in a later turn.
+/// Cuts an update if nothing waits and one may be ready, and returns whether a write may take something. An update whose rectangles are
+/// being encoded for several viewers is cut in a later turn.
 fn prepare<T: Transport>(canvas: &mut Canvas, connection: &mut Connection<T>) -> bool
     ensures turn { TakesTurn canvas.old connection.old canvas.new connection.new }
     ensures asks { connection.new.known.may_ask ≡ true → connection.old.known.may_ask ≡ true }
@@ -138,7 +151,7 @@ fn prepare<T: Transport>(canvas: &mut Canvas, connection: &mut Connection<T>) ->
     cut(canvas, connection)
 }
 
-/// Whether a viewer's next update waits for what is being encoded for several viewers.
+/// Returns whether a viewer's next update waits for what is being encoded for several viewers, and encodes some of that.
 fn waits<T: Transport>(canvas: &mut Canvas, connection: &mut Connection<T>) -> bool
     ensures canvas { canvas.new ≡ canvas.old }
     ensures connection { connection.new ≡ connection.old }
@@ -152,7 +165,7 @@ fn waits<T: Transport>(canvas: &mut Canvas, connection: &mut Connection<T>) -> b
     }
 }
 
-/// Cuts an update for a viewer for which nothing waits, if there is something to send and it hasn't ended. Whether there is.
+/// Cuts an update for a viewer for which nothing waits, if there is something to send and it hasn't ended. Returns whether it did.
 fn cut<T: Transport>(canvas: &mut Canvas, connection: &mut Connection<T>) -> bool
     requires { waiting_bytes connection.old.waiting ≡ [] }
     ensures turn { TakesTurn canvas.old connection.old canvas.new connection.new }

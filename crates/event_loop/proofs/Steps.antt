@@ -78,6 +78,18 @@ module _ {A : Type 0} (stands : A → List (ℕ × Input) → Type 0) where
         subst (λ l. IsTold stands l x y r) (sym (inputs-append c list first.0 second.0 ∙ ap (λ l. inputs_after c list first.0 ++ l) second.2 ∙ append-nil (inputs_after c list first.0))) first.2,
       )
 
+  -- a viewer that ended is parted with, and the application told its releases
+  pub tells-parted : {X E : Type 0} (x y : A) (r : Result X E) (a before b d : Serving) (inputs : List (ℕ × Input)) → before ≡ a
+      → ((c : Config) (began : Began) (list : List Event) → Serves c began list before → (more : List Event) × Serves c began (list ++ more) b × (inputs_after c list more ≡ inputs))
+      → GoesOn b d → IsTold stands inputs x y r → GoesOnServingTelling stands a d x y r
+  tells-parted x y r a before b d inputs is parts goes told held c list s =
+      let first = parts c (sockets_and held c) list (subst (λ (x : Serving). Serves c (sockets_and held c) list x) (sym is) s) in
+      let second = goes c (sockets_and held c) (list ++ first.0) first.1 in (
+        first.0 ++ second.0,
+        subst (λ (l : List Event). Serves c (sockets_and held c) l d) (append_assoc list first.0 second.0) second.1,
+        subst (λ l. IsTold stands l x y r) (sym (inputs-append c list first.0 second.0 ∙ ap (λ l. inputs_after c list first.0 ++ l) second.2 ∙ append-nil (inputs_after c list first.0) ∙ first.2)) told,
+      )
+
   -- as an error says that ended it
   pub tells-ended : {X Y E F : Type 0} (x y : A) (q : Result X E) (r : Result Y F) (f : F) (a b : Serving) → r ≡ Err f → GoesOnServingTelling stands a b x y q → GoesOnServingTelling stands a b x y r
   tells-ended x y q r f a b err g held c list s = let p = g held c list s in (p.0, p.1, told-ended stands x y (inputs_after c list p.0) q r f err p.2)

@@ -82,7 +82,7 @@ pub struct Limits {
 }
 
 impl Limits {
-    /// 1,024 viewers at once, a further one waits, and without end; 10 seconds for an opening.
+    /// Returns the usual limits: 1,024 viewers at once, a further one waits, and without end; 10 seconds for an opening.
     pub fn usual() -> Limits
         ensures live { result.live_viewers ≡ 1024 }
         ensures full { result.when_full ≡ when_full.Wait }
@@ -155,7 +155,7 @@ struct Noted {
     is_woken: bool,
 }
 
-/// What an event says is noted.
+/// Records one event of the poller.
 fn note(
     event: &Event,
     connections: &mut Connections<Socket>,
@@ -171,7 +171,7 @@ fn note(
     Ok(())
 }
 
-/// What the poller found is noted.
+/// Records what the poller found.
 fn note_found(poller: &Poller, connections: &mut Connections<Socket>) -> Result<Noted, AllocError>
     ensures served { GoesOnServing connections.old connections.new }
 {
@@ -185,7 +185,7 @@ fn note_found(poller: &Poller, connections: &mut Connections<Socket>) -> Result<
     Ok(noted)
 }
 
-/// The shorter of two times, where each may be without end.
+/// Returns the shorter of two times, where each may be without end.
 fn shorter(one: Option<Duration>, other: Option<Duration>) -> Option<Duration> {
     match (one, other) {
         (Some(one), Some(other)) => Some(one.min(other)),
@@ -194,14 +194,14 @@ fn shorter(one: Option<Duration>, other: Option<Duration>) -> Option<Duration> {
     }
 }
 
-/// The clock's time.
+/// Returns the clock's time.
 fn now_by<C: Clock>(clock: &C) -> Result<Instant, LoopError> {
     Instant::now(clock).map_err(|_| LoopError::Clock)
 }
 
 impl EventLoop {
-    /// A loop that serves a screen on a listener's address: 0 everywhere, with no viewer yet. Viewers are numbered from 1 on, as they
-    /// come. Refused as `Screen` where the configuration is outside its limits, then as `Network` where the poller is.
+    /// Returns a loop that serves a screen on a listener's address: 0 everywhere, with no viewer yet. Viewers are numbered from 1 on, as
+    /// they come. Refused as `Screen` where the configuration is outside its limits, then as `Network` where the poller is.
     pub fn new<R: Net>(
         rt: &R,
         alloc: Global,
@@ -219,8 +219,8 @@ impl EventLoop {
         }
     }
 
-    /// The same, and what happens to the screen is written as a session, which `vncdemo replay` reads. What waits of it is written before
-    /// each wait, and by `flush_record`. Where a write fails the record ends, and nothing else changes.
+    /// Returns the same, and writes what happens to the screen as a session, which `vncdemo replay` reads. What waits of it is written
+    /// before each wait, and by `flush_record`. Where a write fails the record ends, and nothing else changes.
     pub fn recorded<R: Net>(
         rt: &R,
         alloc: Global,
@@ -239,6 +239,7 @@ impl EventLoop {
         }
     }
 
+    /// Returns a loop over connections that were made.
     fn of<R: Net>(
         rt: &R,
         alloc: Global,
@@ -269,14 +270,14 @@ impl EventLoop {
         })
     }
 
-    /// The screen, to be looked at.
+    /// Returns the screen, to be looked at.
     pub fn screen(&self) -> &Screen
         ensures { result.now ≡ self.now.surface.screen }
     {
         self.connections.screen()
     }
 
-    /// The screen to draw on. What is drawn is sent in the next turns.
+    /// Returns the screen to draw on. What is drawn is sent in the next turns.
     pub fn canvas(&mut self) -> &mut Canvas
         ensures* writes_back { sem 𝓛 (lends_canvas self.entry result) }
         ensures value { result.now ≡ self.old.surface }
@@ -307,15 +308,15 @@ impl EventLoop {
         self.connections.is_record_broken()
     }
 
-    /// How many viewers are connected.
+    /// Returns how many viewers are connected.
     pub fn viewer_count(&self) -> usize
         ensures { result ≡ count_by is_some self.now.slots }
     {
         self.connections.len()
     }
 
-    /// The address and the port that a viewer's connection comes from (`host` of `rfbClientRec` in `rfb.h`), or why the system doesn't tell
-    /// them; None where the viewer isn't connected.
+    /// Returns the address and the port that a viewer's connection comes from (`host` of `rfbClientRec` in `rfb.h`), or why the system
+    /// doesn't tell them; None where the viewer isn't connected.
     pub fn viewer_address(&self, viewer: u64) -> Option<io::Result<SocketAddr>>
         ensures some { IsSome result → (key : ℕ) × (number_at self.now.slots key ≡ Some viewer) }
         ensures none { result ≡ None → (key : ℕ) → number_at self.now.slots key ≢ Some viewer }
@@ -325,13 +326,13 @@ impl EventLoop {
         Some(socket.address())
     }
 
-    /// What ends a wait from another thread: the application is told that it was woken. One loop has one waker.
+    /// Returns what ends a wait from another thread: the application is told that it was woken. One loop has one waker.
     pub fn waker(&self) -> io::Result<Waker> {
         self.poller.waker()
     }
 
-    /// A viewer is let go, as one that the application refused (`rfbCloseClient` of `rfb.h`, and `RFB_CLIENT_REFUSE`): it is heard no
-    /// more, it is written nothing more, and its connection is closed at the end of the next turn. Whether one had the number; after an
+    /// Lets a viewer go, as one that the application refused (`rfbCloseClient` of `rfb.h`, and `RFB_CLIENT_REFUSE`): it is heard no more,
+    /// it is written nothing more, and its connection is closed at the end of the next turn. Returns whether one had the number; after an
     /// `AllocError` it is connected still.
     pub fn close_viewer(&mut self, viewer: u64) -> Result<bool, AllocError>
         ensures served { GoesOnServing self.old self.new }
@@ -344,16 +345,16 @@ impl EventLoop {
         Ok(true)
     }
 
-    /// How long a turn without a timeout would wait now, where no socket becomes ready; None without end. A program with a loop of its
-    /// own takes a turn after this time, or once the loop's handle (`AsRawFd`) is ready to be read.
+    /// Returns how long a turn without a timeout would wait now, where no socket becomes ready; None without end. A program with a loop of
+    /// its own takes a turn after this time, or once the loop's handle (`AsRawFd`) is ready to be read.
     pub fn longest_wait<C: Clock>(&self, clock: &C) -> Result<Option<Duration>, LoopError> {
         let now = now_by(clock)?;
         Ok(self.wait_for(now, None))
     }
 
-    /// One turn (`rfbProcessEvents` of `rfb.h`). Waits until something is ready, the application's time comes, or the time is up,
-    /// but not where something can be done at once. Then what viewers sent is heard, and what they are given is written, as
-    /// `Connections::turn` says; last, connections that came are accepted, which are heard from the next turn on.
+    /// Takes one turn (`rfbProcessEvents` of `rfb.h`). Waits until something is ready, the application's time comes, or the time is up,
+    /// but not where something can be done at once. Then hears what viewers sent, and writes what they are given, as `Connections::turn`
+    /// says; last, accepts connections that came, which are heard from the next turn on.
     ///
     /// Whatever list of events the screen stood for, it stands for it with others behind it, and by that list each viewer is served:
     /// what waits for it is the end of what the screen with this one viewer gives it. Whatever inputs the application stood for, it stands
@@ -372,7 +373,7 @@ impl EventLoop {
         self.come_and_go(now, application)
     }
 
-    /// Turns until the application is done. What waits of the record is written at the end, also after an error.
+    /// Takes turns until the application is done. Writes what waits of the record at the end, also after an error.
     pub fn run<C: Clock, A: Application>(
         &mut self,
         clock: &C,
@@ -385,7 +386,7 @@ impl EventLoop {
         ended
     }
 
-    /// Turns until the application is done.
+    /// Takes turns until the application is done.
     fn run_on<C: Clock, A: Application>(
         &mut self,
         clock: &C,
@@ -402,27 +403,27 @@ impl EventLoop {
         Ok(())
     }
 
-    /// Whether all viewers that are served have come.
+    /// Returns whether all viewers that are served have come.
     fn have_all_come(&self) -> bool {
         self.came >= self.limits.all_viewers
     }
 
-    /// Whether one viewer more may be live.
+    /// Returns whether one viewer more may be live.
     fn has_room(&self) -> bool {
         !self.have_all_come() && self.connections.len() < self.limits.live_viewers
     }
 
-    /// Whether a connection for which there is no room is turned away. Else it waits.
+    /// Returns whether a connection for which there is no room is turned away. Else it waits.
     fn turns_away(&self) -> bool {
         self.have_all_come() || self.limits.when_full == WhenFull::LetGo
     }
 
-    /// Whether a connection that waits is accepted, be it to be turned away.
+    /// Returns whether a connection that waits is accepted, be it to be turned away.
     fn accepts(&self) -> bool {
         self.may_accept && (self.has_room() || self.turns_away())
     }
 
-    /// How long a turn may wait.
+    /// Returns how long a turn may wait.
     fn wait_for(&self, now: Instant, timeout: Option<Duration>) -> Option<Duration> {
         if !self.has_ticked || self.accepts() {
             return Some(Duration::ZERO);
@@ -434,7 +435,7 @@ impl EventLoop {
         shorter(wait, self.connections.is_busy().then_some(Duration::ZERO))
     }
 
-    /// Waits until something is ready, the application's time comes, or the time is up, and notes what was found. The time that it is.
+    /// Waits until something is ready, the application's time comes, or the time is up, and notes what was found. Returns the time.
     fn wait<C: Clock>(&mut self, clock: &C, timeout: Option<Duration>) -> Result<Instant, LoopError>
         ensures served { GoesOnServing self.old self.new }
     {
@@ -449,7 +450,7 @@ impl EventLoop {
         now_by(clock)
     }
 
-    /// The application is told that it was woken, and that its time has come, where this is so.
+    /// Tells the application that it was woken, and that its time has come, where this is so.
     fn tell_time<A: Application>(
         &mut self,
         now: Instant,
@@ -462,7 +463,7 @@ impl EventLoop {
         self.tick(now, application)
     }
 
-    /// Connections that wait are accepted, and viewers that took too long for their opening are let go.
+    /// Accepts connections that wait, and lets viewers go that took too long for their opening.
     fn come_and_go<A: Application>(
         &mut self,
         now: Instant,
@@ -476,7 +477,7 @@ impl EventLoop {
         self.let_go(now)
     }
 
-    /// How many milliseconds passed since the first turn.
+    /// Returns how many milliseconds passed since the first turn.
     fn milliseconds(&mut self, now: Instant) -> u64
         ensures same { self.new ≡ self.old }
     {
@@ -485,7 +486,7 @@ impl EventLoop {
         u64::try_from(now.duration_since(began).as_millis()).unwrap_or(u64::MAX)
     }
 
-    /// What viewers sent is heard, what they are given is written, and those that ended are parted with.
+    /// Hears what viewers sent, writes what they are given, and parts with those that ended.
     fn turn<A: Application>(&mut self, now: Instant, application: &mut A) -> Result<(), LoopError>
         ensures served { GoesOnServingTelling A.stands self.old self.new application.old application.new result }
     {
@@ -495,7 +496,7 @@ impl EventLoop {
         self.part(application)
     }
 
-    /// The application is told that it was woken, where it was.
+    /// Tells the application that it was woken, where it was.
     fn tell_woken<A: Application>(&mut self, application: &mut A) -> Result<(), LoopError>
         ensures served { GoesOnServing self.old self.new }
         ensures stands { Stays A.stands application.old application.new }
@@ -507,7 +508,7 @@ impl EventLoop {
         Ok(())
     }
 
-    /// The listener is asked again, where its time has come.
+    /// Asks the listener again, where the time for this has come.
     fn retry(&mut self, now: Instant)
         ensures same { self.new ≡ self.old }
     {
@@ -517,7 +518,7 @@ impl EventLoop {
         }
     }
 
-    /// The application is told that its time has come, where it has.
+    /// Tells the application that its time has come, where it has.
     fn tick<A: Application>(&mut self, now: Instant, application: &mut A) -> Result<(), LoopError>
         ensures served { GoesOnServing self.old self.new }
         ensures stands { Stays A.stands application.old application.new }
@@ -531,7 +532,7 @@ impl EventLoop {
         Ok(())
     }
 
-    /// Accepts connections that wait, so many at most.
+    /// Accepts connections that wait, 32 at most.
     fn accept_some<A: Application>(
         &mut self,
         now: Instant,
@@ -594,7 +595,7 @@ impl EventLoop {
         self.welcome(now, key, application)
     }
 
-    /// A viewer has so much time for its opening, and the application is told that it came.
+    /// Notes until when a viewer may take for its opening, and tells the application that it came.
     fn welcome<A: Application>(
         &mut self,
         now: Instant,
@@ -630,7 +631,7 @@ impl EventLoop {
         }
     }
 
-    /// Viewers that took too long for their opening are let go.
+    /// Lets viewers go that took too long for their opening.
     fn let_go(&mut self, now: Instant) -> Result<(), LoopError>
         ensures served { GoesOnServing self.old self.new }
     {
@@ -644,12 +645,12 @@ impl EventLoop {
         Ok(())
     }
 
-    /// Whether a viewer is there that has not had its ServerInit.
+    /// Returns whether a viewer is there that has not had its ServerInit.
     fn is_opening(&self, key: usize, viewer: u64) -> bool {
         self.connections.viewer(key) == Some(viewer) && !self.connections.is_open(key)
     }
 
-    /// A viewer is let go, unless it had its ServerInit.
+    /// Lets a viewer go, unless it had its ServerInit.
     fn let_go_unopened(&mut self, key: usize, viewer: u64) -> Result<(), LoopError>
         ensures served { GoesOnServing self.old self.new }
     {
@@ -660,10 +661,9 @@ impl EventLoop {
         Ok(())
     }
 
-    /// Viewers that ended are parted with, and the application is told.
+    /// Parts with the viewers that ended, and tells the application.
     fn part<A: Application>(&mut self, application: &mut A) -> Result<(), LoopError>
-        ensures served { GoesOnServing self.old self.new }
-        ensures stands { Stays A.stands application.old application.new }
+        ensures served { GoesOnServingTelling A.stands self.old self.new application.old application.new result }
     {
         for _ in 0..self.connections.len() {
             if !self.part_with_one(application)? {
@@ -673,16 +673,16 @@ impl EventLoop {
         Ok(())
     }
 
-    /// One viewer that ended is parted with. Whether there was one.
+    /// Parts with one viewer that ended, and tells the application. Returns whether there was one.
     fn part_with_one<A: Application>(&mut self, application: &mut A) -> Result<bool, LoopError>
-        ensures served { GoesOnServing self.old self.new }
-        ensures stands { Stays A.stands application.old application.new }
+        ensures served { GoesOnServingTelling A.stands self.old self.new application.old application.new result }
     {
         let Some(departed) = self.connections.take_departed() else {
             return Ok(false);
         };
         self.may_accept = true;
-        self.connections.tell_left(departed.receipt, application)?;
+        self.connections
+            .tell_left(departed.held, departed.receipt, application)?;
         Ok(true)
     }
 }

@@ -25,7 +25,7 @@ pub(crate) struct Newcomers {
 }
 
 impl Newcomers {
-    /// Nobody, and how long each may take.
+    /// Returns a list of nobody; each may take `patience` for its opening.
     pub fn new(alloc: Global, patience: Duration) -> Newcomers
         ensures nobody { result.waiting.items ≡ [] }
         ensures patience { result.patience ≡ patience }
@@ -36,14 +36,14 @@ impl Newcomers {
         }
     }
 
-    /// How many there are.
+    /// Returns how many there are.
     pub fn len(&self) -> usize
         ensures { result ≡ length self.now.waiting.items }
     {
         self.waiting.len()
     }
 
-    /// A viewer connected: it comes last.
+    /// Appends a viewer that connected at the time `since`.
     pub fn push(&mut self, key: usize, viewer: u64, since: Instant) -> Result<(), AllocError>
         ensures patience { self.new.patience ≡ self.old.patience }
         ensures ok { OnOk result (self.new.waiting.items ≡
@@ -70,7 +70,7 @@ impl Newcomers {
         self.waiting.pop_front();
     }
 
-    /// The key and the number of the first, where its time is up; it is taken out.
+    /// Takes out the first, where its time is up, and returns its key and number.
     pub fn pop_late(&mut self, now: Instant) -> Option<(usize, u64)>
         ensures patience { self.new.patience ≡ self.old.patience }
         ensures late { IfSome result (λ late. (first : Newcomer) × (self.old.waiting.items ≡ first ∷ self.new.waiting.items) ×
@@ -85,7 +85,7 @@ impl Newcomers {
         Some((first.key, first.viewer))
     }
 
-    /// After how long the first one's time is up; none where there is nobody.
+    /// Returns after how long the first one's time is up; None where there is nobody.
     pub fn next_after(&self, now: Instant) -> Option<Duration>
         ensures { MatchOption (slice_get self.now.waiting.items 0) (result ≡ None) (λ first. IfSome result (λ wait.
             as_nanos wait ≡ as_nanos self.now.patience - (instant_nanos now - instant_nanos first.since))) }

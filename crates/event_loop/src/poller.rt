@@ -56,7 +56,7 @@ impl Poller {
         self.poll.registry().register(stream, Token(key), both)
     }
 
-    /// What ends a wait from another thread.
+    /// Returns what ends a wait from another thread.
     pub fn waker(&self) -> io::Result<Waker> {
         Waker::new(self.poll.registry(), WAKER)
     }
@@ -66,18 +66,18 @@ impl Poller {
         self.poll.poll(&mut self.events, timeout)
     }
 
-    /// The system's handle that is ready to be read where something was found that no wait has told yet.
+    /// Returns the system's handle that is ready to be read where something was found that no wait has told yet.
     pub fn handle(&self) -> RawFd {
         self.poll.as_raw_fd()
     }
 
-    /// What was found at the last wait.
+    /// Returns what was found at the last wait.
     pub fn events(&self) -> mio::event::Iter<'_> {
         self.events.iter()
     }
 }
 
-/// What an event says.
+/// Returns what an event says.
 pub(crate) fn found_in(event: &Event) -> Found {
     if event.token() == LISTENER {
         return Found::Listener;

@@ -19,7 +19,7 @@ impl Socket {
         Socket { stream }
     }
 
-    /// The address and the port at its other end.
+    /// Returns the address and the port at its other end.
     pub(crate) fn address(&self) -> io::Result<SocketAddr> {
         self.stream.peer_addr()
     }
@@ -35,8 +35,8 @@ impl Transport for Socket {
     }
 }
 
-/// Has a viewer's socket send what it is given at once, so that no answer waits for the next one, and notice a viewer that is gone without a
-/// word. Where the system refuses either, all else stays.
+/// Has a viewer's socket send what it is given at once, so that no answer waits for the next one, and notice a viewer that is gone without
+/// a word. Where the system refuses either, all else stays.
 pub(crate) fn set_up(stream: &TcpStream) {
     let _set = stream.set_nodelay(true);
     keep_alive(stream);

@@ -3,7 +3,7 @@
 //! A function that owns connections lends them to others: each place where it may end on its way would be one more to prove.
 
 use super::line::{Line, Talk, Then};
-use super::steps::{ALL, Counting, End, Step, holds, line, turns, whole};
+use super::steps::{ALL, Counting, End, Parting, Step, holds, line, turns, whole};
 use connections::{
     Both, Config, Connections, Departed, Ended, Fault, History, Listed, RecordWriter, ScreenError,
 };
@@ -26,6 +26,8 @@ const NOTHING: Counting = Counting {
     told: [0; 4],
     left: 0,
     paints: false,
+    partings: [None; 4],
+    parted: 0,
 };
 
 fn config(
@@ -112,7 +114,14 @@ fn sessions_are_recorded_as_they_happen(rt: HostRuntime) -> Result<(), Fail> {
 /// Whether one that left, if one did, was sent all and then left, or was sent the beginning where memory was refused; and whether it
 /// was.
 fn parts(alloc: Global, departed: Option<Departed<Line<'_>>>) -> (bool, bool) {
-    let Some(Departed { transport, receipt }) = departed else {
+    let Some(
+        Departed {
+            transport,
+            receipt,
+            ..
+        },
+    ) = departed
+    else {
         return (true, false);
     };
     let Ok(whole) = whole(alloc, 10) else {
@@ -171,10 +180,17 @@ fn serves_both(
     connections.tell_came(1, &mut application)?;
     connections.turn(&mut application)?;
     connections.close(key)?;
-    let Some(Departed { transport, receipt }) = connections.take_departed() else {
+    let Some(
+        Departed {
+            transport,
+            held,
+            receipt,
+        },
+    ) = connections.take_departed()
+    else {
         return Ok(false);
     };
-    connections.tell_left(receipt, &mut application)?;
+    connections.tell_left(held, receipt, &mut application)?;
     let is_whole = transport.writer == whole(alloc, 10)?;
     Ok(is_whole && application.came == 1 && application.left == 1)
 }
@@ -200,6 +216,17 @@ const ASKS_AGAIN: &[u8] =
 /// paints.
 const EARLY: &[u8] =
     b"RFB 003.008\n\x01\x01\x03\0\0\0\0\0\x08\0\0\x37\x03\x01\0\0\0\0\x08\0\0\x37\x05\x01\0\0\0\0";
+
+/// The opening, two keys that go down, and the third button at (3, 2) (7.5.4, 7.5.5).
+const HOLDS: &[u8] =
+    b"RFB 003.008\n\x01\x01\x04\x01\0\0\0\0\xff\xe3\x04\x01\0\0\0\0\0\x61\x05\x04\0\x03\0\x02";
+
+/// The same of one key, which goes up then, as does the button.
+const LETS_GO: &[u8] =
+    b"RFB 003.008\n\x01\x01\x04\x01\0\0\0\0\0\x61\x05\x04\0\x03\0\x02\x04\0\0\0\0\0\0\x61\x05\0\0\x03\0\x02";
+
+/// The opening, a key that goes down, and what no message begins with.
+const HOLDS_AND_ERRS: &[u8] = b"RFB 003.008\n\x01\x01\x04\x01\0\0\0\0\0\x61\x63";
 
 /// How many bytes a viewer of 4 by 3 places is sent at its opening, and with an update of all places.
 const GREETED: usize = 46;
@@ -256,7 +283,7 @@ const RUN: Run = Run {
     ],
 };
 
-static RUNS: [Run; 9] = [
+static RUNS: [Run; 12] = [
     RUN,
     // one takes 7 bytes at a time, in each second write; one takes 60 bytes and no more; one says a byte at a time
     Run {
@@ -482,6 +509,48 @@ static RUNS: [Run; 9] = [
             Step::TurnsOn,
             Step::Closes(0),
             Step::HasTaken(EARLY_ENOUGH),
+        ],
+        ..RUN
+    },
+    Run {
+        name: "what a viewer holds down is let go when it leaves",
+        steps: &[
+            Step::Admits(Talk {
+                says: HOLDS,
+                ..TALK
+            }),
+            Step::Turns(3),
+            Step::Parts([
+                Some(Parting::Key(0xffe3)),
+                Some(Parting::Key(0x61)),
+                Some(Parting::Pointer(3, 2)),
+                Some(Parting::Left),
+            ]),
+            Step::IsEmpty,
+        ],
+        ..RUN
+    },
+    Run {
+        name: "what a viewer let go itself is not let go again",
+        steps: &[
+            Step::Admits(Talk {
+                says: LETS_GO,
+                ..TALK
+            }),
+            Step::Turns(3),
+            Step::Parts([Some(Parting::Left), None, None, None]),
+        ],
+        ..RUN
+    },
+    Run {
+        name: "what a viewer holds down is let go at a fault",
+        steps: &[
+            Step::Admits(Talk {
+                says: HOLDS_AND_ERRS,
+                ..TALK
+            }),
+            Step::Turns(3),
+            Step::Parts([Some(Parting::Key(0x61)), Some(Parting::Left), None, None]),
         ],
         ..RUN
     },

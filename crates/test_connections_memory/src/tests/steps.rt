@@ -23,7 +23,15 @@ const PLACE: Rect = Rect {
     y2: 2,
 };
 
-/// Counts what it is told. A pointer with a button down paints the screen in 00000b, and so does a request of all of it, where that
+/// What an application is told at a viewer's end: the release of a key, the pointer without a button, and that the viewer left.
+#[derive(Clone, Copy, PartialEq, Eq)]
+pub enum Parting {
+    Key(u32),
+    Pointer(u16, u16),
+    Left,
+}
+
+/// Counts what it is told. The first button of a pointer paints the screen in 00000b, and so does a request of all of it, where that
 /// is wished.
 #[derive(Drop)]
 pub struct Counting {
@@ -31,6 +39,25 @@ pub struct Counting {
     pub told: [u64; 4],
     pub left: u64,
     pub paints: bool,
+    // the first releases, and whether a viewer left behind them, in the order in which they were told
+    pub partings: [Option<Parting>; 4],
+    pub parted: usize,
+}
+
+impl Counting {
+    /// Notes a parting behind those before it, where it is one of the first four.
+    fn note(&mut self, parting: Parting) {
+        if let Some(noted) = self.partings.get_mut(self.parted) {
+            *noted = Some(parting);
+            self.parted = self.parted.saturating_add(1);
+        }
+    }
+
+    /// Forgets the partings.
+    fn forget(&mut self) {
+        self.partings = [None; 4];
+        self.parted = 0;
+    }
 }
 
 impl Application for Counting {
@@ -44,9 +71,12 @@ impl Application for Counting {
             *told = told.saturating_add(1);
         }
         match input {
-            Input::Pointer { mask: 1, .. } => canvas.paint(ALL, &[11; 12]),
-            _ => Ok(()),
+            Input::Key { down: false, key } => self.note(Parting::Key(*key)),
+            Input::Pointer { mask: 0, x, y } => self.note(Parting::Pointer(*x, *y)),
+            Input::Pointer { mask: 1, .. } => canvas.paint(ALL, &[11; 12])?,
+            _ => {}
         }
+        Ok(())
     }
 
     fn came(&mut self, _canvas: &mut Canvas, _viewer: u64) -> Result<(), ScreenError>
@@ -70,6 +100,7 @@ impl Application for Counting {
         ensures draws { Draws _canvas.old _canvas.new }
     {
         self.left = self.left.saturating_add(1);
+        self.note(Parting::Left);
         Ok(())
     }
 }
@@ -115,6 +146,8 @@ pub enum Step {
     HaveLeft(&'static [End], bool),
     /// One has left, which was sent so many bytes.
     HasTaken(usize),
+    /// One has left, and this is what the application is told then.
+    Parts([Option<Parting>; 4]),
     /// There are no connections, and no viewers.
     IsEmpty,
 }
@@ -185,7 +218,11 @@ fn turns_on(
 
 /// Whether one that left is this, and what was sent and heard is as is said, and is kept or not.
 fn is_end(alloc: Global, departed: &Departed<Line<'_>>, end: &End, is_kept: bool) -> bool {
-    let Departed { transport, receipt } = departed;
+    let Departed {
+        transport,
+        receipt,
+        ..
+    } = departed;
     let taken = transport.taken.as_slice();
     let Ok(whole) = whole(alloc, end.colour) else {
         return false;
@@ -222,6 +259,20 @@ fn have_left(
         found |= 1 << (departed.receipt.viewer % 64);
     }
     found.count_ones() as usize == ends.len() && connections.take_departed().is_none()
+}
+
+/// Whether one has left, and what the application is told then is this.
+fn parts(
+    connections: &mut Connections<Line<'_>>,
+    application: &mut Counting,
+    partings: &[Option<Parting>; 4],
+) -> Result<bool, ScreenError> {
+    let Some(Departed { held, receipt, .. }) = connections.take_departed() else {
+        return Ok(false);
+    };
+    application.forget();
+    connections.tell_left(held, receipt, application)?;
+    Ok(application.partings == *partings)
 }
 
 /// Whether a step comes to what it says.
@@ -266,6 +317,7 @@ pub fn holds<'a>(
                 None => false,
             });
         }
+        Step::Parts(partings) => return parts(connections, application, partings),
         Step::IsEmpty => {
             return Ok(connections.is_empty() && connections.screen().viewer_count() == 0);
         }

@@ -6,5 +6,5 @@ use Rattle.connections.proofs.listing.keep_asking.Goals as goal
 
 pub returns-clause-kept : goal.returns-clause-kept
 returns-clause-kept g c = λ key asks there.
-    each-among (λ (k : ℕ). may_ask_at c.args.connections.now.slots k ≡ true → is_among k c.loop-place.kept.list ≡ true) c.args.asking.now.list
-    (λ i below. c.loop-place.invariant.kept i (omega (arith, below, c.loop-place-test.false, c.len-place-end.ensures))) key there asks
+    each-among (λ (k : ℕ). may_ask_at c.args.connections.now.slots k ≡ true → is_among k c.loop-index.kept.list ≡ true) c.args.asking.now.list
+    (λ i below. c.loop-index.invariant.kept i (omega (arith, below, c.loop-index-test.false, c.len-index-end.ensures))) key there asks

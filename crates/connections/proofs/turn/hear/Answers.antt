@@ -4,7 +4,7 @@ use Rattle.receipts.specs.declared.Ended.TheVariants.{Memory}
 use Rattle.connections.specs.Attending.{Known}
 use Rattle.connections.specs.Drawing.{Surface}
 use Rattle.connections.specs.Waiting.{Waiting, waiting_bytes}
-use Rattle.connections.specs.Telling.{said_by, IsTold}
+use Rattle.connections.specs.Telling.{said_by, held_behind, IsTold}
 use Rattle.connections.specs.Serving.{ViewerConnection, breaks_off}
 use Rattle.connections.proofs.Recorded.{heard-more}
 use Rattle.connections.proofs.Turns.{turn-unheard, turn-heard, counted-same}
@@ -23,20 +23,22 @@ returns-clause-heard g c =
     let p = c.count_piece.new.self in
     let f = c.give.new.self in
     let bytes = c.as_slice.result.now in
-    let still : p ≡ record m { known = p.known } = c.count_piece.ensures ∙ ap (λ (k : Known). record m { known = k }) (sym (ap (λ (x : ViewerConnection). x.known) c.count_piece.ensures)) in
-    let counted : p ≡ record e { known = p.known } = subst (λ (x : ViewerConnection). p ≡ record x { known = p.known }) c.make_room.ensures still in
-    let known = ap (λ (x : ViewerConnection). x.known) c.give.ensures.same ∙ ap (λ (x : ViewerConnection). x.known) c.count_piece.ensures in
+    let inputs = c.as_slice-inputs.result.now in
+    let still : p ≡ record m { held = p.held; known = p.known } = c.count_piece.ensures.same ∙ ap (λ (k : Known). record m { held = p.held; known = k }) (sym (ap (λ (x : ViewerConnection). x.known) c.count_piece.ensures.same)) in
+    let counted : p ≡ record e { held = p.held; known = p.known } = subst (λ (x : ViewerConnection). p ≡ record x { held = p.held; known = p.known }) c.make_room.ensures still in
+    let known = ap (λ (x : ViewerConnection). x.known) c.give.ensures.same ∙ ap (λ (x : ViewerConnection). x.known) c.count_piece.ensures.same in
+    let holds : f.held ≡ held_behind e.held inputs = ap (λ (x : ViewerConnection). x.held) c.give.ensures.same ∙ c.count_piece.ensures.held ∙ ap (λ (x : ViewerConnection). held_behind x.held inputs) c.make_room.ensures in
     let waiting : p.waiting ≡ e.waiting = ap (λ (x : ViewerConnection). x.waiting) counted in
     let a = c.args.canvas.now in
     let b = c.hear.new.self in
     let d = c.record_heard.new.self in
     let screen : d.screen ≡ b.screen = ap (λ (x : Surface). x.screen) c.record_heard.ensures.same in
-    turn-heard g.A.Application.stands c.args.application.now c.tell.new.application c.tell.result c.as_slice-2.result.now a d c.tell.new.canvas e f c.number-viewer.result c.args.piece.now bytes c.number-viewer.ensures
+    turn-heard g.A.Application.stands c.args.application.now c.tell.new.application c.tell.result inputs a d c.tell.new.canvas e f c.number-viewer.result c.args.piece.now bytes c.number-viewer.ensures
     (ap (λ (x : Surface). x.drawn) c.record_heard.ensures.same ∙ ap (λ (x : Surface). x.drawn) c.hear.ensures.same)
     (ap (λ (x : Surface). x.noticed) c.record_heard.ensures.same ∙ ap (λ (x : Surface). x.noticed) c.hear.ensures.same) (ap (λ (k : Known). k.may_cut) known) (ap (λ (k : Known). k.may_ask) known)
     (λ config list h. screen ∙ c.in-Ok.ensures.step config list h)
     (λ config list h. heard-more config list _ _ _ a b d (c.in-Ok.ensures.told config list h) (ap (λ (x : Surface). x.scribed) c.hear.ensures.same) c.record_heard.ensures.puts)
-    (λ config list h. c.as_slice.ensures ∙ c.in-Ok.ensures.answer config list h) (λ config list h. c.as_slice-2.ensures ∙ c.in-Ok.ensures.inputs config list h)
+    (λ config list h. c.as_slice.ensures ∙ c.in-Ok.ensures.answer config list h) (λ config list h. c.as_slice-inputs.ensures ∙ c.in-Ok.ensures.inputs config list h)
     (counted-same e p f counted c.give.ensures.same)
-    (subst (λ (w : Waiting). breaks_off f.ended ≡ false → waiting_bytes f.waiting ≡ waiting_bytes w ++ bytes) waiting c.give.ensures.bytes) c.give.ensures.few c.tell.ensures.draws
-    (subst (λ n. IsTold g.A.Application.stands (said_by n c.as_slice-2.result.now) c.args.application.now c.tell.new.application c.tell.result) refl c.tell.ensures.told)
+    (subst (λ (w : Waiting). breaks_off f.ended ≡ false → waiting_bytes f.waiting ≡ waiting_bytes w ++ bytes) waiting c.give.ensures.bytes) c.give.ensures.few holds c.tell.ensures.draws
+    (subst (λ n. IsTold g.A.Application.stands (said_by n inputs) c.args.application.now c.tell.new.application c.tell.result) refl c.tell.ensures.told)

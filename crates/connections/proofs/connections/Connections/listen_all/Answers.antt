@@ -9,12 +9,12 @@ returns-in_err-listen_at g c =
     let stands = g.A.Application.stands in
     let error = err_from_is_err_and c.from_residual.result c.from_residual.ensures.1 in
     record {
-      served = tells-then stands c.args.application.now c.loop-place.application c.listen_at.new.application c.from_residual.result _ _ _ c.loop-place.invariant
-          (tells-ended stands c.loop-place.application c.listen_at.new.application c.listen_at.result c.from_residual.result error.0 _ _ error.1 c.listen_at.ensures.served);
+      served = tells-then stands c.args.application.now c.loop-index.application c.listen_at.new.application c.from_residual.result _ _ _ c.loop-index.invariant
+          (tells-ended stands c.loop-index.application c.listen_at.new.application c.listen_at.result c.from_residual.result error.0 _ _ error.1 c.listen_at.ensures.served);
     }
 
-pub loop-place-preserved : goal.loop-place-preserved
-loop-place-preserved g c =
+pub loop-index-preserved : goal.loop-index-preserved
+loop-index-preserved g c =
     let stands = g.A.Application.stands in
-    tells-then stands {X = Unit {0}} {E = ScreenError} c.args.application.now c.loop-place.application c.listen_at.new.application (Ok tt) _ _ _ c.loop-place.invariant
-    (tells-all stands c.loop-place.application c.listen_at.new.application c.listen_at.result c.in_ok-listen_at.field-0 _ _ c.in_ok-listen_at.was c.listen_at.ensures.served)
+    tells-then stands {X = Unit {0}} {E = ScreenError} c.args.application.now c.loop-index.application c.listen_at.new.application (Ok tt) _ _ _ c.loop-index.invariant
+    (tells-all stands c.loop-index.application c.listen_at.new.application c.listen_at.result c.in_ok-listen_at.field-0 _ _ c.in_ok-listen_at.was c.listen_at.ensures.served)

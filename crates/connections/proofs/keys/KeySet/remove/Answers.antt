@@ -6,7 +6,7 @@ use Rattle.connections.proofs.keys.KeySet.remove.Goals as goal
 pub invariant_of-self : goal.invariant_of-self
 invariant_of-self c =
     let i = c.self.inside in
-    let at = subst (λ (l : List ℕ). (c.in-Some.place < length l) × (slice_index_or l c.in-Some.place 0 ≡ c.args.key)) c.deref.ensures.value c.in-Some.ensures in
+    let at = subst (λ (l : List ℕ). (c.in-Some.index < length l) × (slice_index_or l c.in-Some.index 0 ≡ c.args.key)) c.deref.ensures.value c.in-Some.ensures in
     λ k up.
     subst (λ (l : List ℕ). is_among k l ≡ true) (sym c.remove.ensures.items)
-    (removed i.flags.items c.lower.new.flags.items c.args.key c.in-Some.place i.keys.items at.0 at.1 c.self.invariant c.lower.ensures.lowered c.lower.ensures.others k up)
+    (removed i.flags.items c.lower.new.flags.items c.args.key c.in-Some.index i.keys.items at.0 at.1 c.self.invariant c.lower.ensures.lowered c.lower.ensures.others k up)

@@ -1,6 +1,6 @@
 use Rattle.std.proofs.Common.{◌∙◌}
 use Rattle.std.proofs.lemmas.Result.{err_from_is_err_and}
-use Rattle.event_loop.proofs.Steps.{tells-silently, tells-all, tells-then, tells-ended, tells-from}
+use Rattle.event_loop.proofs.Steps.{tells-all, tells-then, tells-ended, tells-from}
 use Rattle.event_loop.proofs.event_loop.EventLoop.turn.Goals as goal
 
 pub returns-in_err-turn : goal.returns-in_err-turn
@@ -19,5 +19,5 @@ returns g c =
       served = tells-then stands c.args.application.now c.turn.new.application c.part.new.application c.part.result _ _ _
           (tells-all stands c.args.application.now c.turn.new.application c.turn.result c.in_ok-turn.field-0 _ _ c.in_ok-turn.was
           (tells-from stands c.args.application.now c.turn.new.application c.turn.result c.args.self.now c.set_time.new.self c.turn.new.self (c.set_time.ensures ∙ (c.self.view_is ∙ c.milliseconds-milliseconds.ensures.same)) c.turn.ensures.served))
-          (tells-silently stands c.turn.new.application c.part.new.application c.part.result _ _ c.part.ensures.stands c.part.ensures.served);
+          c.part.ensures.served;
     }
