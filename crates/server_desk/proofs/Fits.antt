@@ -58,7 +58,7 @@ fits-count n r (i ∷ is) = either (λ (t : List (ℕ × Input) × ℕ × ℕ). 
 pub fits-texts : (n r : ℕ) (came : List (ℕ × Input)) → texts_size (fitting n r came).0 + (fitting n r came).2 ≡ r
 fits-texts n r [] = omega arith
 fits-texts n r (i ∷ is) = either (λ (t : List (ℕ × Input) × ℕ × ℕ). texts_size t.0 + t.2 ≡ r) (nat_lt 0 n && nat_le (text_size i.1) r) _ _
-    (λ so. let few : text_size i.1 ≤ r = leb-true _ _ (both-second _ _ so) in omega (fits-texts (n - 1) (r - text_size i.1) is, few, arith))
+    (λ so. let few : text_size i.1 ≤ r = leb-true (text_size i.1) r (both-second (nat_lt 0 n) (nat_le (text_size i.1) r) so) in omega (fits-texts (n - 1) (r - text_size i.1) is, few, arith))
     (λ not. fits-texts n r is)
 
 pub texts-append : (a b : List (ℕ × Input)) → texts_size (a ++ b) ≡ texts_size a + texts_size b

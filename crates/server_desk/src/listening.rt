@@ -65,7 +65,7 @@ pub(crate) struct Listening {
 
 /// Binds a socket that listens, and returns it with its port: the one that was asked for, or the system's choice.
 fn bind(at: Address<'_>) -> Result<(TcpListener, u16), ListenError>
-    ensures port { IfOk result (λ bound. at.port ≢ 0 → bound.1 ≡ at.port) }
+    ensures port { IfOk result (λ bound. at.entry.port ≢ 0 → bound.1 ≡ at.entry.port) }
     ensures err { IfErr result (IsOfSystem []) }
 {
     let Some(address) = address_of(at.digits, at.port) else {
@@ -171,7 +171,7 @@ fn open(
     record_path: &[u8],
 ) -> Result<Listening, ListenError>
     ensures serves { IfOk result (λ made. Serves (config_of width height name.now rects_per_update) (desk_sockets (is_named record_path.now) (config_of width height name.now rects_per_update)) [] made.events) }
-    ensures port { IfOk result (λ made. at.port ≢ 0 → made.port ≡ at.port) }
+    ensures port { IfOk result (λ made. at.entry.port ≢ 0 → made.port ≡ at.entry.port) }
     ensures err { IfErr result (IsOfSystem record_path.now) }
 {
     let (listener, port) = bind(at)?;
@@ -191,7 +191,7 @@ pub(crate) fn listen_on(
     record_path: &[u8],
 ) -> Result<Listening, ListenError>
     ensures serves { IfOk result (λ made. Serves (config_of width height name.now rects_per_update) (desk_sockets (is_named record_path.now) (config_of width height name.now rects_per_update)) [] made.events) }
-    ensures port { IfOk result (λ made. at.port ≢ 0 → made.port ≡ at.port) }
+    ensures port { IfOk result (λ made. at.entry.port ≢ 0 → made.port ≡ at.entry.port) }
     ensures refused { IsRefusedBy record_path.now (config_refusal (config_of width height name.now rects_per_update)) result }
 {
     match config_refusal(width, height, name, RECTS_PER_UPDATE) {
