@@ -21,9 +21,9 @@ static void answer(vnc_server *server, const vnc_input *in)
     static uint8_t text[262144];
     const uint32_t white = 0xffffff;
     const int32_t x = (int32_t)in->x, y = (int32_t)in->y;
-    if (in->kind == VNC_POINTER && in->buttons & 1) vnc_server_paint(server, x, y, x + 1, y + 1, &white, 1);
-    if (in->kind == VNC_KEY && in->down) vnc_server_bell(server);
-    if (in->kind == VNC_TEXT) {
+    if (in->kind == VNC_INPUT_POINTER && in->buttons & 1) vnc_server_paint(server, x, y, x + 1, y + 1, &white, 1);
+    if (in->kind == VNC_INPUT_KEY && in->down) vnc_server_bell(server);
+    if (in->kind == VNC_INPUT_TEXT) {
         int32_t count = vnc_server_text(server, text, sizeof text);
         vnc_server_cut_text(server, text, (size_t)(count > 65536 ? 65536 : count));
     }
@@ -32,7 +32,7 @@ static void answer(vnc_server *server, const vnc_input *in)
 int main(int argc, char **argv)
 {
     static vnc_input inputs[256];
-    static vnc_visit visits[64];
+    static vnc_event events[64];
     uint32_t width = 640, height = 480, viewers = 1024;
     uint16_t port = 5900;
     vnc_server *server;
@@ -53,9 +53,9 @@ int main(int argc, char **argv)
     sigaction(SIGINT, &sa, NULL);
     time_t end = time(NULL) + 600;
     while (!ended && time(NULL) < end && vnc_server_process_events(server, 100) >= 0) {
-        while ((n = vnc_server_inputs(server, inputs, 256)) > 0)
+        while ((n = vnc_server_next_inputs(server, inputs, 256)) > 0)
             for (int64_t k = 0; k < n; k++) answer(server, &inputs[k]);
-        vnc_server_comings_and_goings(server, visits, 64);
+        vnc_server_next_events(server, events, 64);
     }
     vnc_server_free(server);
     return 0;

@@ -23,13 +23,13 @@ int main(int argc, char **argv)
     int count = argc > 2 ? atoi(argv[2]) : 1;
     uint64_t bytes;
     vnc_screen *screen;
-    if (vnc_screen_new(WIDTH, HEIGHT, (const uint8_t *)"pictures", 8, 50, &screen) < 0) return 1;
+    if (vnc_screen_new(WIDTH, HEIGHT, "pictures", 50, &screen) < 0) return 1;
     vnc_screen_connect(screen, 1);
     if (vnc_screen_hear(screen, 1, opening, sizeof opening - 1) || vnc_screen_hear(screen, 1, encodings, sizeof encodings)) return 1;
     bytes = fetched(screen);
     for (int drawn = 0; drawn < count; drawn++) {
         for (int i = 0; i < WIDTH * HEIGHT; i++) picture[i] = (uint32_t)((i / 7 % 31 * 0x10305 + drawn * 0x10101) & 0xffffff);
-        if (vnc_screen_take(screen, 0, 0, WIDTH, HEIGHT, (const uint8_t *)picture, sizeof picture, WIDTH * 4, NULL, 0, NULL, 0) < 0) return 1;
+        if (vnc_screen_update_from(screen, 0, 0, WIDTH, HEIGHT, (const uint8_t *)picture, sizeof picture, WIDTH * 4, NULL, 0, NULL, 0) < 0) return 1;
         if (vnc_screen_hear(screen, 1, request, sizeof request) || vnc_screen_cut(screen, 1) != 1) return 1;
         bytes += fetched(screen);
     }

@@ -43,7 +43,16 @@ export PKG_CONFIG_PATH=$room/prefix/lib/pkgconfig LD_LIBRARY_PATH=$room/prefix/l
 flags="-I$room/prefix/include"
 
 # ---- the headers
-printf '#include "vnc_screen.h"\n#include "vnc_server.h"\nint main(void) { return vnc_screen_abi() != VNC_SCREEN_ABI || vnc_server_abi() != VNC_SERVER_ABI; }\n' >"$room/both.c"
+cat >"$room/both.c" <<END
+#include "vnc_screen.h"
+#include "vnc_server.h"
+static const int version[3] = {VNC_VERSION_MAJOR, VNC_VERSION_MINOR, VNC_VERSION_PATCH}, wanted[3] = {$(tr . , <"$here/VERSION")};
+int main(void)
+{
+    return vnc_screen_abi() != VNC_SCREEN_ABI || vnc_server_abi() != VNC_SERVER_ABI || memcmp(version, wanted, sizeof wanted) ||
+           strcmp(VNC_VERSION, "$(cat "$here/VERSION")");
+}
+END
 for standard in c99 c11; do
     # shellcheck disable=SC2086
     try "both headers as $standard" $CC -std=$standard $strict $flags -c -o "$room/both.o" "$room/both.c"
@@ -58,11 +67,32 @@ numbers() {
     # shellcheck disable=SC2046
     $CC -o "$room/both" "$room/both.c" $(pkg-config --cflags --libs vnc_screen vnc_server) && "$room/both"
 }
-try "both headers have the numbers of the libraries" numbers
+try "both headers have the numbers of the libraries, and the version" numbers
+# A program that was compiled for another interface is refused, and nothing is made for it.
+mkdir "$room/other"
+cp "$here/vnc_types.h" "$room/other/"
+for name in vnc_screen vnc_server; do sed -E 's/^(#define VNC_S[A-Z]*_ABI) .*/\1 99/' "$here/$name.h" >"$room/other/$name.h"; done
+cat >"$room/other/other.c" <<END
+#include "vnc_screen.h"
+#include "vnc_server.h"
+int main(void)
+{
+    int here;
+    vnc_screen *screen = (vnc_screen *)&here;
+    vnc_server *server = (vnc_server *)&here;
+    return vnc_screen_new(2, 1, "x", 1, &screen) != VNC_ERROR_VERSION || vnc_server_new("127.0.0.1", 0, 2, 1, "x", 1, &server) != VNC_ERROR_VERSION ||
+           screen || server || vnc_screen_open(0, 2, 1, "x", 1) != VNC_ERROR_VERSION || vnc_server_listen(0, "127.0.0.1", 0, 2, 1, "x", 1) != VNC_ERROR_VERSION;
+}
+END
+other_number() {
+    # shellcheck disable=SC2046
+    $CC -I"$room/other" -o "$room/other/other" "$room/other/other.c" $(pkg-config --libs vnc_screen vnc_server) && "$room/other/other"
+}
+try "a header of another interface is refused" other_number
 # What a shared object exports is what its header declares, but for what the header has itself, each in the interface's version.
 same_names() {
     local name=$1
-    grep -oE "\bvnc_(${name#vnc_}|waker|update)_[a-z_]+\(" "$here/$name.h" | tr -d '(' | grep -vE "_(new|new_recorded|free)$" | sort -u >"$room/declared"
+    sed -nE 's/^(u?int(32|64)_t|void|size_t) (vnc_[a-z_]+)\(.*/\3/p' "$here/$name.h" | sort -u >"$room/declared"
     nm -D --defined-only "$room/prefix/lib/lib$name.so" | sed -n "s/.* T \(.*\)@@$(tr a-z A-Z <<<"$name")_[0-9]*\$/\1/p" | sort >"$room/exported"
     nm -D --defined-only "$room/prefix/lib/lib$name.so" | grep -vE ' T .*@@| A VNC_' >>"$room/exported"
     diff "$room/declared" "$room/exported"
@@ -123,7 +153,7 @@ run() { # NAME PROGRAM HOW..: each example, as it is to be run
     shift 2
     case $name in
     play) "$@" "$program" | cmp - "$here/../crates/vncdemo/stdout" ;;
-    edges | server_edges | rfb_edges | screen_calls | server_calls | server_viewers | server_visits | server_limits | server_record) says_ok "$name" "$@" "$program" ;;
+    edges | server_edges | rfb_edges | screen_calls | server_calls | server_viewers | server_events | server_limits | server_record) says_ok "$name" "$@" "$program" ;;
     serve) looked_at "640 by 480, . colours, demo" "$@" "$program" PORT 3 ;;
     threads) looked_at "640 by 480, [23] colours, threads" "$@" "$program" PORT 3 ;;
     clock) looked_at "172 by 44, 3 colours, clock" "$@" "$program" PORT 10 ;;
@@ -143,7 +173,7 @@ if ! { $CC $sanitize -o "$room/none" "$room/none.c" && "$room/none"; } 2>/dev/nu
     sanitize=
     left+=("sanitizers: not installed")
 fi
-for source in "$here"/examples/*.c "$here"/tools/{rfb_edges,screen_calls,server_calls,server_viewers,server_visits,server_limits,server_record}.c; do
+for source in "$here"/examples/*.c "$here"/tools/{rfb_edges,screen_calls,server_calls,server_viewers,server_events,server_limits,server_record}.c; do
     name=$(basename "$source" .c)
     for standard in c99 c11 c++17; do
         case $standard in c++*) have "${CXX:-c++}" || continue ;; esac
@@ -288,7 +318,7 @@ refused() { # PROGRAM FIRST LAST ARGUMENT..
 if $CC -Wall -Wextra -Werror -shared -fPIC -o "$room/refuse.so" "$here/tools/refuse.c" -ldl; then
     for name in play edges server_edges rfb_edges screen_calls; do try "$name: each of its first 150 allocations is refused" refused "$name" 1 150; done
     try "rfb_edges, its second half first: each of its first 150 allocations is refused" refused rfb_edges 1 150 second
-    for name in server_calls server_viewers server_visits server_limits server_record; do
+    for name in server_calls server_viewers server_events server_limits server_record; do
         try "$name: each of its first 150 allocations is refused" refused "$name" 1 150 soon
     done
     for name in clock sketch own_pixels own_loop; do try "$name: each of its first 40 allocations is refused" refused "$name" 1 40 0 1; done

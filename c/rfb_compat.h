@@ -1,15 +1,24 @@
-/* rfb_compat.h: names of LibVNCServer's rfb.h over vnc_server.h, so that a program written for LibVNCServer runs on the proved server
- * with this in place of <rfb/rfb.h>. Written from the names and their meaning. Neither this nor the C behind it is proved.
- * cc program.c rfb_compat.c rfb_compat_draw.c $(pkg-config --cflags --libs vnc_server) -lpthread
+/* rfb_compat.h: names of LibVNCServer's rfb.h over vnc_server.h, so that a
+ * program written for LibVNCServer runs on the proved server with this in place
+ * of <rfb/rfb.h>. Written from the names and their meaning. Neither this nor
+ * the C behind it is proved.
+ * cc program.c $(pkg-config --variable=sources rfb_compat) \
+ *    $(pkg-config --cflags --libs rfb_compat)
  * <rfb/keysym.h> is in the folder of this file too: -I.
  *
- * As there    The program draws in frameBuffer, in its own format, and marks what it changed. What stands there as the next turn begins,
- *             deferUpdateTime milliseconds later at most, is sent where it differs from what was there. Hooks run in the loop.
- * Refused     A screen that wants a password is never served: see rfbInitServer. A client that is put on hold is closed.
- * Not here    What docs/EMBEDDING.md lists. A field that is not read says so; what is missing doesn't compile.
- * Threads     Each call takes the screen's lock, which is recursive. The loop has it but while it waits, and so do hooks: a hook must
- *             not wait for another thread that calls. One thread takes the turns. A rfbClientPtr lasts until its clientGoneHook has
- *             returned. frameBuffer is read with no lock of the program's.
+ * As there    The program draws in frameBuffer, in its own format, and marks
+ *             what it changed. What stands there as the next turn begins,
+ *             deferUpdateTime milliseconds later at most, is sent where it
+ *             differs from what was there. Hooks run in the loop.
+ * Refused     A screen that wants a password is never served: see
+ *             rfbInitServer. A client that is put on hold is closed.
+ * Not here    What docs/EMBEDDING.md lists. A field that is not read says so;
+ *             what is missing doesn't compile.
+ * Threads     Each call takes the screen's lock, which is recursive. The loop
+ *             has it but while it waits, and so do hooks: a hook must not wait
+ *             for another thread that calls. One thread takes the turns. A
+ *             rfbClientPtr lasts until its clientGoneHook has returned.
+ *             frameBuffer is read with no lock of the program's.
  * Machines    Those with pthreads whose lowest byte comes first.
  */
 #ifndef RFB_COMPAT_H
@@ -56,15 +65,22 @@ typedef int rfbSocket;
 typedef struct _rfbScreenInfo *rfbScreenInfoPtr;
 typedef struct _rfbClientRec *rfbClientPtr;
 
-enum rfbNewClientAction { RFB_CLIENT_ACCEPT, RFB_CLIENT_ON_HOLD, RFB_CLIENT_REFUSE };
+enum rfbNewClientAction {
+    RFB_CLIENT_ACCEPT,
+    RFB_CLIENT_ON_HOLD,
+    RFB_CLIENT_REFUSE
+};
 enum rfbSocketState { RFB_SOCKET_INIT, RFB_SOCKET_READY, RFB_SOCKET_SHUTDOWN };
 
-typedef void (*rfbKbdAddEventProcPtr)(rfbBool down, rfbKeySym key, rfbClientPtr cl);
-typedef void (*rfbPtrAddEventProcPtr)(int buttonMask, int x, int y, rfbClientPtr cl);
+typedef void (*rfbKbdAddEventProcPtr)(rfbBool down, rfbKeySym key,
+                                      rfbClientPtr cl);
+typedef void (*rfbPtrAddEventProcPtr)(int buttonMask, int x, int y,
+                                      rfbClientPtr cl);
 typedef void (*rfbSetXCutTextProcPtr)(char *text, int len, rfbClientPtr cl);
 typedef enum rfbNewClientAction (*rfbNewClientHookPtr)(rfbClientPtr cl);
 typedef void (*ClientGoneHookPtr)(rfbClientPtr cl);
-typedef rfbBool (*rfbPasswordCheckProcPtr)(rfbClientPtr cl, const char *response, int len);
+typedef rfbBool (*rfbPasswordCheckProcPtr)(rfbClientPtr cl,
+                                           const char *response, int len);
 typedef void (*SelectionChangedHookPtr)(int index);
 typedef void (*rfbLogProc)(const char *format, ...);
 
@@ -93,38 +109,52 @@ typedef struct rfbCursor {
 } rfbCursor, *rfbCursorPtr;
 
 typedef struct _rfbScreenInfo {
-    int width, height, paddedWidthInBytes; /* columns, rows, and bytes from one row of frameBuffer to the next */
+    int width, height;      /* columns and rows */
+    int paddedWidthInBytes; /* from one row of frameBuffer to the next */
     int depth, bitsPerPixel, sizeInBytes;
     rfbPixel blackPixel, whitePixel;
-    void *screenData;               /* the program's */
-    rfbPixelFormat serverFormat;    /* of frameBuffer; viewers never see it */
-    rfbColourMap colourMap;         /* of pixels of one byte, where serverFormat.trueColour is FALSE */
-    const char *desktopName;        /* its first 255 bytes, as rfbInitServer finds it */
-    int port;                       /* 1 to 65535 */
-    rfbBool autoPort;               /* the first port from 5900 to 5999 that is free is taken, and is in port then */
-    int ipv6port;                   /* where this is above 0 and listenInterface is any, port is served by IPv6 too; else by IPv4 alone */
-    in_addr_t listenInterface;      /* all of the machine's, unless it is set before rfbInitServer */
-    rfbSocket listenSock;           /* a descriptor to wait on: see rfbProcessEvents. -1 where nobody is served */
-    int maxFd;                      /* the same, for select with allFds, which has no other; 0 where it is none for select */
+    void *screenData;            /* the program's */
+    rfbPixelFormat serverFormat; /* of frameBuffer; viewers never see it */
+    rfbColourMap colourMap;      /* of pixels of one byte, if not trueColour */
+    /* As rfbInitServer finds it; its first 255 bytes count. */
+    const char *desktopName;
+    int port; /* 1 to 65535 */
+    /* The first free port from 5900 to 5999 is taken, and put into port. */
+    rfbBool autoPort;
+    /* Above 0, and listenInterface any: port is served by IPv6 too. */
+    int ipv6port;
+    /* All of the machine's, unless it is set before rfbInitServer. */
+    in_addr_t listenInterface;
+    /* A descriptor to wait on: see rfbProcessEvents. -1: nobody is served. */
+    rfbSocket listenSock;
+    /* The same for select, with allFds, which has no other; 0 if it can't. */
+    int maxFd;
     fd_set allFds;
     enum rfbSocketState socketState;
-    int deferUpdateTime;            /* in milliseconds, 5 at first */
-    rfbBool handleEventsEagerly;    /* a turn tells the hooks all inputs that wait; else one, and where others wait the next turn doesn't */
-    rfbBool alwaysShared, neverShared, dontDisconnect; /* who doesn't share has the others closed as it asks for all first, or is closed */
+    int deferUpdateTime; /* in milliseconds, 5 at first */
+    /* A turn tells the hooks all inputs that wait; else one, and then the next
+     * turn doesn't wait. */
+    rfbBool handleEventsEagerly;
+    /* Who doesn't share has the others closed once its opening is over, or with
+     * dontDisconnect is closed itself. */
+    rfbBool alwaysShared, neverShared, dontDisconnect;
     struct _rfbClientRec *clientHead, *pointerClient;
-    char *frameBuffer;              /* the program's */
+    char *frameBuffer; /* the program's */
     rfbKbdAddEventProcPtr kbdAddEvent;
     rfbPtrAddEventProcPtr ptrAddEvent;
     rfbSetXCutTextProcPtr setXCutText;
     rfbNewClientHookPtr newClientHook;
-    void *authPasswdData;           /* where this or passwordCheck is set, the screen is not served */
+    /* Where this or passwordCheck is set, the screen is not served. */
+    void *authPasswdData;
     rfbPasswordCheckProcPtr passwordCheck;
     int cursorX, cursorY;
     rfbCursorPtr cursor;            /* kept and freed, not shown */
     char *httpDir;                  /* not read */
     int httpPort;                   /* not read */
     rfbBool httpEnableProxyConnect; /* not read */
-    rfbBool isWritten;              /* characters stand in frameBuffer, maybe not marked; not the program's, nor is what follows */
+    /* Not the program's, from here on: characters stand in frameBuffer that are
+     * maybe not marked. */
+    rfbBool isWritten;
     struct rfbCompat *compat;
 } rfbScreenInfo;
 
@@ -133,107 +163,169 @@ typedef struct _rfbClientRec {
     void *clientData; /* the program's, for clientGoneHook to free */
     ClientGoneHookPtr clientGoneHook;
     rfbSocket sock;   /* -1: the server has the socket */
-    char *host;       /* its address in digits; "unknown" where the system doesn't tell */
+    char *host;       /* its address in digits, or "unknown" */
     rfbBool viewOnly; /* its inputs go to no hook */
-    rfbBool newFBSizePending; /* not read: where the program changes the screen's width or height, the next turn tells every viewer */
+    /* Not read: where the program changes the screen's width or height, the
+     * next turn tells every viewer. */
+    rfbBool newFBSizePending;
     struct _rfbClientRec *next;
-    uint64_t number;           /* the server's number of it */
-    rfbBool isOpen, isClosing, isLetGo, isGone; /* not the program's, nor is what follows */
-    int holds;                 /* the iterators that stand at it */
+    /* Not the program's, from here on: the server's number of it. */
+    uint64_t number;
+    rfbBool isOpen;    /* its opening is over */
+    rfbBool hasAsked;  /* it has asked for all */
+    rfbBool isClosing; /* it is to be closed */
+    rfbBool isLetGo;   /* the server was told so */
+    rfbBool isGone;    /* the server has it no more */
+    int holds;         /* how many iterators stand at it */
     char address[48];
 } rfbClientRec;
 
-/* The server. 1 to 8192 columns and rows, 1 to 10 bits a sample, and pixels of 1 to 4 bytes: else rfbGetScreen gives NULL. It takes out of
- * the arguments all words that LibVNCServer takes out, with their values, and -record; rfbErr says of each that has no effect that it has
- * none, and rfbUsage lists them. NULL too for -help, for a word whose value is missing, and where -listen's is neither an IPv4 address in
- * digits nor localhost nor any. What happens is recorded in -record's file, which rfbInitServer makes, and vncdemo replay reads:
- * vnc_server_record of vnc_server.h. */
-rfbScreenInfoPtr rfbGetScreen(int *argc, char **argv, int width, int height, int bitsPerSample, int samplesPerPixel, int bytesPerPixel);
+/* The server. 1 to 8192 columns and rows, 1 to 10 bits a sample, and pixels of
+ * 1 to 4 bytes: else rfbGetScreen gives NULL. It takes out of the arguments all
+ * words that LibVNCServer takes out, with their values, and -record; rfbErr
+ * says of each that has no effect that it has none, and rfbUsage lists them.
+ * NULL too for -help, for a word whose value is missing, and where -listen's is
+ * neither an IPv4 address in digits nor localhost nor any. What happens is
+ * recorded in -record's file, which rfbInitServer makes, and vncdemo replay
+ * reads: vnc_server_record of vnc_server.h. */
+rfbScreenInfoPtr rfbGetScreen(int *argc, char **argv, int width, int height,
+                              int bitsPerSample, int samplesPerPixel,
+                              int bytesPerPixel);
 
-/* Listens. Where it can't, or protection is wanted that isn't here (a password, or -sslkeyfile or -sslcertfile of the arguments), it says so
- * by rfbErr, and nobody is served: socketState is RFB_SOCKET_SHUTDOWN, rfbIsActive is FALSE, and rfbRunEventLoop returns at once. A screen
- * that wants a password later is shut in the next turn. One that has ended is not served again. */
+/* Listens. Where it can't, or protection is wanted that isn't here (a password,
+ * or -sslkeyfile or -sslcertfile of the arguments), it says so by rfbErr, and
+ * nobody is served: socketState is RFB_SOCKET_SHUTDOWN, rfbIsActive is FALSE,
+ * and rfbRunEventLoop returns at once. A screen that wants a password later is
+ * shut in the next turn. One that has ended is not served again. */
 void rfbInitServer(rfbScreenInfoPtr s);
 
-/* Another frameBuffer, also of another size. Viewers that can't be told a new size see the part of it within their own. Where it is refused,
- * rfbErr says so, and the server ends with this turn. */
-void rfbNewFramebuffer(rfbScreenInfoPtr s, char *frameBuffer, int width, int height, int bitsPerSample, int samplesPerPixel, int bytesPerPixel);
+/* Another frameBuffer, also of another size. Viewers that can't be told a new
+ * size see the part of it within their own. Where it is refused, rfbErr says
+ * so, and the server ends with this turn. */
+void rfbNewFramebuffer(rfbScreenInfoPtr s, char *frameBuffer, int width,
+                       int height, int bitsPerSample, int samplesPerPixel,
+                       int bytesPerPixel);
 
-/* No viewer may come any more. It ends at once, or where disconnectClients is FALSE, once the last one has left. */
+/* No viewer may come any more. It ends at once, or where disconnectClients is
+ * FALSE, once the last one has left. */
 void rfbShutdownServer(rfbScreenInfoPtr s, rfbBool disconnectClients);
 void rfbScreenCleanup(rfbScreenInfoPtr s); /* not from a hook */
 rfbBool rfbIsActive(rfbScreenInfoPtr s);
 
-/* A turn, which waits so many microseconds at most, below 0 deferUpdateTime. TRUE where a viewer that has asked for places was there, and
- * something was marked or to be sent, or a socket was ready; and where a viewer went. But FALSE where it told an input: there are programs
- * that look for their inputs after FALSE alone.
- * A program that waits by itself takes a turn of 0 once listenSock can be read, and deferUpdateTime after it drew. That is one descriptor of
- * the library's for all sockets, on which no accept, read or close is to be called: a select loop sees it alone, and no client's. */
+/* Takes a turn, which waits so many microseconds at most, below 0
+ * deferUpdateTime. TRUE where a viewer that has asked for places was there, and
+ * something was marked or to be sent, or a socket was ready; and where a viewer
+ * went. But FALSE where it told an input: there are programs that look for
+ * their inputs after FALSE alone.
+ * A program that waits by itself takes a turn of 0 once listenSock can be read,
+ * and deferUpdateTime after it drew. That is one descriptor of the library's
+ * for all sockets, on which no accept, read or close is to be called: a select
+ * loop sees it alone, and no client's. */
 rfbBool rfbProcessEvents(rfbScreenInfoPtr s, long usec);
-void rfbRunEventLoop(rfbScreenInfoPtr s, long usec, rfbBool runInBackground); /* it waits without end where usec is below 0 */
+/* Takes turns until the server has ended; below 0 a turn waits without end. */
+void rfbRunEventLoop(rfbScreenInfoPtr s, long usec, rfbBool runInBackground);
 rfbBool rfbProcessArguments(rfbScreenInfoPtr s, int *argc, char **argv);
 void rfbUsage(void); /* the words of the arguments, to stderr */
-rfbBool rfbProcessSizeArguments(int *width, int *height, int *bpp, int *argc, char **argv);
+rfbBool rfbProcessSizeArguments(int *width, int *height, int *bpp, int *argc,
+                                char **argv);
 
-/* What changed, and what is said to all. rfbDo.. also moves frameBuffer; before rfbSchedule.. the program has moved it. A copy takes the
- * places from (dx, dy) to the left and above; what would come from off the screen is left out. */
-typedef struct { int x1, y1, x2, y2; } sraRect;
-typedef struct sraRegion { sraRect *at; size_t count; } sraRegion, *sraRegionPtr;
+/* What changed, and what is said to all. rfbDo.. also moves frameBuffer; before
+ * rfbSchedule.. the program has moved it. A copy takes the places from (dx, dy)
+ * to the left and above; what would come from off the screen is left out. */
+typedef struct {
+    int x1, y1, x2, y2;
+} sraRect;
+typedef struct sraRegion {
+    sraRect *at;
+    size_t count;
+} sraRegion, *sraRegionPtr;
 void rfbMarkRectAsModified(rfbScreenInfoPtr s, int x1, int y1, int x2, int y2);
 void rfbMarkRegionAsModified(rfbScreenInfoPtr s, sraRegionPtr region);
-void rfbDoCopyRect(rfbScreenInfoPtr s, int x1, int y1, int x2, int y2, int dx, int dy);
+void rfbDoCopyRect(rfbScreenInfoPtr s, int x1, int y1, int x2, int y2, int dx,
+                   int dy);
 void rfbDoCopyRegion(rfbScreenInfoPtr s, sraRegionPtr region, int dx, int dy);
-void rfbScheduleCopyRect(rfbScreenInfoPtr s, int x1, int y1, int x2, int y2, int dx, int dy);
-void rfbScheduleCopyRegion(rfbScreenInfoPtr s, sraRegionPtr region, int dx, int dy);
+void rfbScheduleCopyRect(rfbScreenInfoPtr s, int x1, int y1, int x2, int y2,
+                         int dx, int dy);
+void rfbScheduleCopyRegion(rfbScreenInfoPtr s, sraRegionPtr region, int dx,
+                           int dy);
 void rfbSendBell(rfbScreenInfoPtr s);
-void rfbSendServerCutText(rfbScreenInfoPtr s, char *text, int len); /* at most 65536 bytes */
+/* At most 65536 bytes. */
+void rfbSendServerCutText(rfbScreenInfoPtr s, char *text, int len);
 
-/* Clients. */
-void rfbCloseClient(rfbClientPtr cl); /* in the next turn; its inputs are told no more */
+/* Closes a client in the next turn; its inputs are told no more. */
+void rfbCloseClient(rfbClientPtr cl);
 void rfbDefaultPtrAddEvent(int buttonMask, int x, int y, rfbClientPtr cl);
-rfbBool rfbCheckPasswordByList(rfbClientPtr cl, const char *response, int len); /* FALSE; a screen that names it is not served */
 
-/* The clients that are neither gone nor closed, the newest first, and NULL behind them. The one that was given last stays until the next is
- * asked for, or the iterator is released. NULL where memory is refused, which has no clients. */
+/* Returns FALSE. A screen that names it is not served. */
+rfbBool rfbCheckPasswordByList(rfbClientPtr cl, const char *response, int len);
+
+/* The clients that are neither gone nor closed, the newest first, and NULL
+ * behind them. The one that was given last stays until the next is asked for,
+ * or the iterator is released, before rfbScreenCleanup. NULL where memory is
+ * refused, which has no clients. */
 typedef struct rfbClientIterator *rfbClientIteratorPtr;
 rfbClientIteratorPtr rfbGetClientIterator(rfbScreenInfoPtr s);
 rfbClientPtr rfbClientIteratorNext(rfbClientIteratorPtr iterator);
-void rfbReleaseClientIterator(rfbClientIteratorPtr iterator); /* before rfbScreenCleanup */
+void rfbReleaseClientIterator(rfbClientIteratorPtr iterator);
 
-/* Regions: the places of any of their rectangles. Where memory is refused the first gives NULL, the second NULL or a region with no
- * rectangle, and the last says so by rfbErr and changes nothing. */
+/* Regions: the places of any of their rectangles. Where memory is refused the
+ * first gives NULL, the second NULL or a region with no rectangle, and the last
+ * says so by rfbErr and changes nothing. */
 sraRegion *sraRgnCreate(void);
 sraRegion *sraRgnCreateRect(int x1, int y1, int x2, int y2);
 void sraRgnDestroy(sraRegion *r);
 void sraRgnOr(sraRegion *dst, const sraRegion *src);
 
-/* Drawing in frameBuffer; what lies off it is left out. Fill, pixel and line mark what they draw; characters don't. */
+/* Drawing in frameBuffer; what lies off it is left out. Fill, pixel and line
+ * mark what they draw; characters don't. */
 typedef struct rfbFontData {
     unsigned char *data;
-    int *metaData; /* of each of 256 characters: where it begins, its width, its height, and its x and y */
+    /* Of each of 256 characters: where it begins, its width, its height, and
+     * its x and y. */
+    int *metaData;
 } rfbFontData, *rfbFontDataPtr;
-void rfbFillRect(rfbScreenInfoPtr s, int x1, int y1, int x2, int y2, rfbPixel colour);
+void rfbFillRect(rfbScreenInfoPtr s, int x1, int y1, int x2, int y2,
+                 rfbPixel colour);
 void rfbDrawPixel(rfbScreenInfoPtr s, int x, int y, rfbPixel colour);
-void rfbDrawLine(rfbScreenInfoPtr s, int x1, int y1, int x2, int y2, rfbPixel colour);
-void rfbDrawString(rfbScreenInfoPtr s, rfbFontDataPtr font, int x, int y, const char *text, rfbPixel colour);
-int rfbDrawCharWithClip(rfbScreenInfoPtr s, rfbFontDataPtr font, int x, int y, unsigned char c, int x1, int y1, int x2, int y2,
-                        rfbPixel colour, rfbPixel back); /* its width */
-void rfbDrawStringWithClip(rfbScreenInfoPtr s, rfbFontDataPtr font, int x, int y, const char *text, int x1, int y1, int x2, int y2,
-                           rfbPixel colour, rfbPixel back);
-void rfbFontBBox(rfbFontDataPtr font, unsigned char c, int *x1, int *y1, int *x2, int *y2); /* of a character drawn at (x1, y1) */
-rfbFontDataPtr rfbLoadConsoleFont(char *filename); /* 256 characters of 8 by 16; NULL where there is none */
+void rfbDrawLine(rfbScreenInfoPtr s, int x1, int y1, int x2, int y2,
+                 rfbPixel colour);
+void rfbDrawString(rfbScreenInfoPtr s, rfbFontDataPtr font, int x, int y,
+                   const char *text, rfbPixel colour);
+
+/* Draws a character, and returns its width. */
+int rfbDrawCharWithClip(rfbScreenInfoPtr s, rfbFontDataPtr font, int x, int y,
+                        unsigned char c, int x1, int y1, int x2, int y2,
+                        rfbPixel colour, rfbPixel back);
+void rfbDrawStringWithClip(rfbScreenInfoPtr s, rfbFontDataPtr font, int x,
+                           int y, const char *text, int x1, int y1, int x2,
+                           int y2, rfbPixel colour, rfbPixel back);
+
+/* Tells where a character lies that is drawn at (x1, y1). */
+void rfbFontBBox(rfbFontDataPtr font, unsigned char c, int *x1, int *y1,
+                 int *x2, int *y2);
+
+/* Loads 256 characters of 8 by 16; NULL where there are none. */
+rfbFontDataPtr rfbLoadConsoleFont(char *filename);
 void rfbFreeFont(rfbFontDataPtr font);
 
-/* A box to select from, by the arrows or the first button; Return takes, Escape leaves. It takes turns until then. -1 where none is. */
-int rfbSelectBox(rfbScreenInfoPtr s, rfbFontDataPtr font, char **list, int x1, int y1, int x2, int y2, rfbPixel fore, rfbPixel back,
+/* A box to select from, by the arrows or the first button; Return takes, Escape
+ * leaves. It takes turns until then. -1 where none is. */
+int rfbSelectBox(rfbScreenInfoPtr s, rfbFontDataPtr font, char **list, int x1,
+                 int y1, int x2, int y2, rfbPixel fore, rfbPixel back,
                  int border, SelectionChangedHookPtr changed);
 
-/* Cursors, which no viewer is sent. A mask has a bit for each place, the leftmost in a byte's highest bit. NULL where memory is refused. */
-rfbCursorPtr rfbMakeXCursor(int width, int height, char *source, char *mask); /* of strings, in which a blank is no bit */
-char *rfbMakeMaskForXCursor(int width, int height, char *source);             /* the bits of source, and those beside them */
-char *rfbMakeMaskFromAlphaSource(int width, int height, unsigned char *alphaSource); /* dithered */
+/* Cursors, which no viewer is sent. A mask has a bit for each place, the
+ * leftmost in a byte's highest bit. NULL where memory is refused. The first is
+ * made of strings, in which a blank is no bit; the first mask has the bits of
+ * `source` and those beside them; the second is dithered. */
+rfbCursorPtr rfbMakeXCursor(int width, int height, char *source, char *mask);
+char *rfbMakeMaskForXCursor(int width, int height, char *source);
+char *rfbMakeMaskFromAlphaSource(int width, int height,
+                                 unsigned char *alphaSource);
 void rfbFreeCursor(rfbCursorPtr c);
-void rfbSetCursor(rfbScreenInfoPtr s, rfbCursorPtr c); /* the one before is freed, where its cleanup is set */
+
+/* Has another cursor. The one before is freed, where its cleanup is set. */
+void rfbSetCursor(rfbScreenInfoPtr s, rfbCursorPtr c);
 
 /* Both write to stderr, unless the program sets another. */
 extern rfbLogProc rfbLog, rfbErr;

@@ -1,31 +1,53 @@
-/* vnc_server.h: a VNC server (RFC 6143) in one thread, for C. What each call does is proved of the library; this header, and the C that
- * includes it, are not.
+/* vnc_server.h: a VNC server (RFC 6143) in one thread, for C. What each call of
+ * the library does is proved; this header, and the C that includes it, are not.
  *
- * A server has a picture, a port on which it listens, and the sockets of its viewers. The program draws (vnc_server_paint), takes turns
- * (vnc_server_process_events, which is rfbProcessEvents), and fetches what viewers told (vnc_server_inputs). vnc_screen.h has the same
- * picture for programs with sockets of their own.
+ * A server has a picture, a port on which it listens, and the sockets of its
+ * viewers. The program draws (vnc_server_paint), takes turns
+ * (vnc_server_process_events), and fetches what its viewers told
+ * (vnc_server_next_inputs) and which of them came and went
+ * (vnc_server_next_events). vnc_screen.h has the same picture for programs with
+ * sockets of their own. LibVNCServer's names for a call stand in parentheses.
  *
- * Ownership  A vnc_server lies in memory of the program's, of vnc_server_size() bytes at a multiple of 16, as malloc gives it:
- *            vnc_server_new and vnc_server_free see to that. From vnc_server_init on only the library reads and writes there. Once it
- *            is closed it holds no other memory and no handle of the system's: the program may free its own, or listen there again.
- *            Memory that a call is given is used during that call alone, and the library hands out no pointers.
- * Threads    One call at a time for each server, by any thread: where several threads use one, a lock of the program's stands around
- *            each call, and so a turn that waits holds it; vnc_waker_wake ends the wait. Two servers have nothing in common. No call
- *            locks or starts a thread, and only vnc_server_process_events waits.
- * Results    0 or more: done. Below 0: a vnc_code, and nothing has changed, but for vnc_server_process_events and vnc_server_take, which
- *            say what has. A server that is shut answers VNC_SHUT to each call but vnc_server_listen and vnc_server_close.
- * Held       For each viewer one update on its way, which holds 4 bytes for each place, and what its socket didn't take of 64 KB. What
- *            viewers told waits until it is fetched: at most 4,096 inputs with 4 MB of texts, and 1,024 comings and goings. What comes
- *            when there is no more room, or memory for it is refused, is lost, and counted: vnc_server_lost.
- * Security   None but the address: who reaches the port sees the picture, and can tell inputs. No call raises SIGPIPE.
- * Undefined  A pointer to a server that is null, freed, not initialised or moved; room or data that isn't there for its count; two
- *            calls for one server at once; a call from a signal handler, or from the child of a fork of a program with threads; a
- *            descriptor of the library's that the program closes. Anything else is answered, by a code where it can't be done.
+ * Ownership  A vnc_server lies in the program's memory, of vnc_server_size()
+ *            bytes at a multiple of VNC_ALIGNMENT, as malloc gives it:
+ *            vnc_server_new and vnc_server_free see to that. From
+ *            vnc_server_init on only the library reads and writes there. A
+ *            closed server holds no other memory and no descriptor: the
+ *            program may free its memory, or listen there again. Memory that
+ *            a call is given is used during that call alone, and the library
+ *            hands out no pointers but constant texts.
+ * Threads    One call at a time for each server, from any thread: where several
+ *            threads use one, the program has a lock around each call, and a
+ *            turn that waits holds it; vnc_waker_wake ends the wait. Two
+ *            servers have nothing in common. No call locks or starts a thread,
+ *            and only vnc_server_process_events waits; a signal ends its wait.
+ * Results    0 or more: done. Below 0: a vnc_code, which vnc_code_text tells,
+ *            and nothing has changed; vnc_server_process_events and
+ *            vnc_server_update_from say what has. A call of a closed server
+ *            answers VNC_ERROR_CLOSED, but for those that say otherwise.
+ *            VNC_ERROR_NO_MEMORY may come from each call that draws,
+ *            listens, takes a turn or says so.
+ * errno      Says why, where the system refused: behind
+ *            VNC_ERROR_CANNOT_LISTEN, VNC_ERROR_CANNOT_RECORD,
+ *            VNC_ERROR_NETWORK and VNC_ERROR_CLOCK.
+ * Held       For each viewer one update on its way, which holds 4 bytes for
+ *            each pixel, and what its socket didn't take of 64 KB. Inputs and
+ *            events wait until they are fetched: at most 4,096 inputs with 4 MB
+ *            of texts, and 1,024 events. What comes when there is no more room,
+ *            or no memory for it, is lost and counted: vnc_server_lost_count.
+ * Security   None but the address: who reaches the port sees the picture, and
+ *            can send inputs. No call raises SIGPIPE.
+ * Undefined  A pointer to a server that is null, freed, not initialised or
+ *            moved; a buffer or data that is smaller than its count says; two
+ *            calls for one server at once; a call from a signal handler, or
+ *            from the child of a fork of a program with threads; closing a
+ *            descriptor of the library's. Anything else gets an answer.
  */
 #ifndef VNC_SERVER_H
 #define VNC_SERVER_H
 
 #include "vnc_types.h"
+#include <errno.h>
 #include <stdlib.h>
 #include <string.h>
 
@@ -33,210 +55,433 @@
 extern "C" {
 #endif
 
-/* Grows with each change that a program made before it can see; vnc_server_abi() is the library's. */
-#define VNC_SERVER_ABI 5
+/* The number of this interface. It grows with each change that a program which
+ * was compiled before can see; vnc_server_abi() is the library's number. */
+#define VNC_SERVER_ABI 6
 
+/* How many viewers may be connected at once, where a program says 0. */
+#define VNC_SERVER_VIEWERS 1024
+
+/* A server; what it consists of is the library's alone. */
 typedef struct vnc_server vnc_server;
 
-enum vnc_visit_kind { VNC_CAME = 1, VNC_WENT = 2 };
+enum vnc_event_kind {
+    VNC_EVENT_CONNECTED = 1,
+    VNC_EVENT_DISCONNECTED = 2
+};
 
 /* Why a viewer went. */
 enum vnc_reason {
-    VNC_LEFT = 1,          /* it closed its connection */
-    VNC_AT_FAULT = 2,      /* it said what no message says */
-    VNC_READ_FAILED = 3,   /* its socket failed as it was read */
-    VNC_WRITE_FAILED = 4,  /* its socket failed as it was written to */
-    VNC_NO_MEMORY = 5,     /* memory was refused for it */
-    VNC_REFUSED = 6,       /* the program let it go: vnc_server_close_viewer */
-    VNC_TOOK_TOO_LONG = 7  /* its opening was not over within 10 seconds */
+    VNC_REASON_LEFT = 1,         /* it closed its connection */
+    VNC_REASON_FAULT = 2,        /* it sent what no message is */
+    VNC_REASON_READ_FAILED = 3,  /* reading from its socket failed */
+    VNC_REASON_WRITE_FAILED = 4, /* writing to its socket failed */
+    VNC_REASON_NO_MEMORY = 5,    /* there was no memory for it */
+    VNC_REASON_CLOSED = 6,       /* by vnc_server_close_viewer */
+    VNC_REASON_TIMEOUT = 7       /* its opening took more than 10 seconds */
 };
 
-/* A viewer came, or went. What doesn't belong to its kind is 0. */
-typedef struct vnc_visit {
-    uint64_t viewer; /* counted from 1, as they come; no number comes again before the next vnc_server_listen */
-    uint32_t kind;   /* a vnc_visit_kind */
+/* A viewer came or went. Fields of the other kind are 0. */
+typedef struct vnc_event {
+    uint64_t viewer; /* from 1 on, as they come; none again before listening */
+    uint32_t kind;   /* a vnc_event_kind */
     uint32_t reason; /* of one that went: a vnc_reason */
-    int32_t fault;   /* of one at fault: a vnc_fault */
-} vnc_visit;
+    int32_t fault;   /* of VNC_REASON_FAULT: a vnc_fault */
+} vnc_event;
+VNC_LAYOUT(vnc_event, 24, 8);
 
+/* ---- Beginning and end ---- */
+
+/* Returns the number of the library's interface. vnc_server_new and
+ * vnc_server_listen compare it with VNC_SERVER_ABI. */
 uint32_t vnc_server_abi(void);
 
-/* The bytes of a vnc_server. */
+/* Returns how many bytes a server takes. */
 size_t vnc_server_size(void);
 
-/* Makes such memory a server that is shut. Do this once: what was open there would not be closed. */
+/* Makes this memory a closed server. Once: an open server that lies there
+ * would not be closed. */
 void vnc_server_init(vnc_server *server);
 
-/* Listens, and serves a black picture (rfbGetScreen, rfbInitServer): 0. What was open there is closed once this is done.
- *   address  an IP address in digits, with no zero at its end: "127.0.0.1", "0.0.0.0" for all of the machine's, "::1".
- *            VNC_BAD_ADDRESS where it isn't one
- *   port     0: one that the system chooses, see vnc_server_port. VNC_CANNOT_LISTEN where it is taken, or may not be had
- *   width, height  columns and rows, 1 to 8192, and at most 2^24 places: else VNC_BAD_SIZE
- *   name     the desktop's name, with no zero at its end, of at most 255 bytes: else VNC_BAD_NAME
- *   viewers  how many may be connected at once; a further one waits until one has gone
- * VNC_CANNOT_RECORD where vnc_server_record named a file that is there already, or can't be made. */
-int32_t vnc_server_listen(vnc_server *server, const uint8_t *address, size_t address_count, uint16_t port, uint32_t width, uint32_t height,
-                          const uint8_t *name, size_t name_count, uint32_t viewers);
+/* Does what vnc_server_listen does, for an address and a name of so many bytes,
+ * with no zero at their ends, and `viewers` as it stands. For callers in other
+ * languages, which compare vnc_server_abi themselves. */
+int32_t vnc_server_listen_n(vnc_server *server,
+                            const uint8_t *address, size_t address_count,
+                            uint16_t port, uint32_t width, uint32_t height,
+                            const uint8_t *name, size_t name_count,
+                            uint32_t viewers);
 
-/* The picture that vnc_server_listen serves next is recorded in this file, as it happens: what is drawn, and what viewers say. What each
- * viewer was sent is had from it, byte for byte: vncdemo replay. The file has pictures, keys and copied texts in it.
- *   path  of at most 4,095 bytes, with no zero at its end; of no bytes: it isn't recorded. The file is made by vnc_server_listen, for its
- *         owner alone to read: VNC_CANNOT_RECORD there where something of its name is there already, or it can't be made
- * 0, or VNC_OUT_OF_MEMORY. It holds for one vnc_server_listen that is done, and until vnc_server_close. Each turn writes before it waits, and
- * vnc_server_close writes the rest. Where a write fails the record ends there for good, and the server goes on: viewers are sent the same
- * with a record and without one. */
-int32_t vnc_server_record(vnc_server *server, const uint8_t *path, size_t path_count);
+/* Listens, and serves a black picture (rfbGetScreen, rfbInitServer). An open
+ * server is closed once this is done, and goes on where it is refused.
+ *   address  an IP address in digits: "127.0.0.1", "::1", "0.0.0.0" for all of
+ *            the machine's of IPv4, "::" for all
+ *   port     0 for one that the system chooses: see vnc_server_port
+ *   width, height  columns and rows
+ *   name     the desktop's name
+ *   viewers  how many may be connected at once, 0 for VNC_SERVER_VIEWERS; a
+ *            further one waits until one has gone
+ * Returns 0, or VNC_ERROR_VERSION, VNC_ERROR_BAD_SIZE, VNC_ERROR_BAD_NAME,
+ * VNC_ERROR_BAD_ADDRESS, VNC_ERROR_CANNOT_LISTEN, VNC_ERROR_CANNOT_RECORD or
+ * VNC_ERROR_NO_MEMORY. A closed server may be told to listen. */
+static inline int32_t vnc_server_listen(vnc_server *server,
+                                        const char *address, uint16_t port,
+                                        uint32_t width, uint32_t height,
+                                        const char *name, uint32_t viewers)
+{
+    if (vnc_server_abi() != VNC_SERVER_ABI) return VNC_ERROR_VERSION;
+    return vnc_server_listen_n(server, (const uint8_t *)address,
+                               strlen(address), port, width, height,
+                               (const uint8_t *)name, strlen(name),
+                               viewers ? viewers : VNC_SERVER_VIEWERS);
+}
+
+/* Does what vnc_server_record does, for a path of so many bytes. */
+int32_t vnc_server_record_n(vnc_server *server,
+                            const uint8_t *path, size_t path_count);
+
+/* Names the file in which the picture that vnc_server_listen serves next is
+ * recorded, as it happens: what is drawn, and what viewers send. `vncdemo
+ * replay` has from it what each viewer was sent, byte for byte. The file has
+ * pictures, keys and copied texts in it.
+ *   path  of at most 4,095 bytes; "" for no record. vnc_server_listen makes the
+ *         file, for its owner alone to read, and answers
+ *         VNC_ERROR_CANNOT_RECORD where it exists or can't be made
+ * It holds for one vnc_server_listen that is done, and until vnc_server_close.
+ * Each turn writes before it waits, and vnc_server_close writes the rest. Where
+ * a write fails the record ends, and the server goes on: viewers are sent the
+ * same with a record and without one. Returns 0, or VNC_ERROR_NO_MEMORY. A
+ * closed server may be told. */
+static inline int32_t vnc_server_record(vnc_server *server, const char *path)
+{
+    return vnc_server_record_n(server, (const uint8_t *)path, strlen(path));
+}
 
 enum vnc_record_state {
-    VNC_NOT_RECORDED = 0,
-    VNC_RECORDED = 1,
-    VNC_RECORD_BROKEN = 2 /* it has ended before its session: a write failed, or memory for a region's rectangles was refused */
+    VNC_RECORD_NONE = 0,
+    VNC_RECORD_WRITTEN = 1,
+    VNC_RECORD_BROKEN = 2 /* it has ended: a write failed, or no memory */
 };
 
-/* Whether what is served is recorded: a vnc_record_state. */
-int32_t vnc_server_record_state(vnc_server *server);
+/* Returns whether what is served is recorded: a vnc_record_state. */
+int32_t vnc_server_record_state(const vnc_server *server);
 
-/* The port is free again, all connections are closed, a record is written to its end, and all memory is freed (rfbShutdownServer,
- * rfbScreenCleanup): 0. What was not fetched is gone. */
+/* Closes all connections, frees the port and all memory, and writes a record to
+ * its end (rfbShutdownServer, rfbScreenCleanup). What was not fetched is gone.
+ * Returns 0, also for a closed server. */
 int32_t vnc_server_close(vnc_server *server);
 
-/* Memory for a server, which listens, and records in a file where `path` isn't empty: 0, or a vnc_code. `address`, `name` and `path` end with
- * a zero. */
-static inline int32_t vnc_server_new_recorded(const char *address, uint16_t port, uint32_t width, uint32_t height, const char *name,
-                                              uint32_t viewers, const char *path, vnc_server **out)
-{
-    int32_t code;
-    vnc_server *server = (vnc_server *)malloc(vnc_server_size());
-    if (!server) return VNC_OUT_OF_MEMORY;
-    vnc_server_init(server);
-    code = vnc_server_record(server, (const uint8_t *)path, strlen(path));
-    if (code == 0)
-        code = vnc_server_listen(server, (const uint8_t *)address, strlen(address), port, width, height, (const uint8_t *)name, strlen(name), viewers);
-    if (code < 0) {
-        vnc_server_close(server);
-        free(server);
-    } else *out = server;
-    return code;
-}
-
-static inline int32_t vnc_server_new(const char *address, uint16_t port, uint32_t width, uint32_t height, const char *name, uint32_t viewers,
-                                     vnc_server **out)
-{
-    return vnc_server_new_recorded(address, port, width, height, name, viewers, "", out);
-}
-
+/* Closes a server, and frees it. NULL is nothing to free. */
 static inline void vnc_server_free(vnc_server *server)
 {
+    int error = errno;
     if (!server) return;
     vnc_server_close(server);
     free(server);
+    errno = error;
 }
 
-/* A turn (rfbProcessEvents): waits until something can be done, for at most so many milliseconds, and below 0 without end. Then it
- * hears what viewers sent, writes what they are to be sent, and last accepts who came, who is heard from the next turn on; a turn is
- * bounded, however much they send. 0, or VNC_OUT_OF_MEMORY, VNC_NETWORK_FAILED or VNC_CLOCK_FAILED where it ended early: then what it did
- * stays done, each viewer is served as before, and the next turn goes on. */
+/* Makes a server in memory of malloc's, which listens, and records in a file
+ * where `path` isn't empty. The arguments are those of vnc_server_listen and
+ * vnc_server_record, and so are the codes. `*out` is NULL where it is refused,
+ * and then nothing is made. */
+static inline int32_t vnc_server_new_recorded(const char *address,
+                                              uint16_t port, uint32_t width,
+                                              uint32_t height,
+                                              const char *name,
+                                              uint32_t viewers,
+                                              const char *path,
+                                              vnc_server **out)
+{
+    int32_t code;
+    vnc_server *server;
+    *out = NULL;
+    if (vnc_server_abi() != VNC_SERVER_ABI) return VNC_ERROR_VERSION;
+    server = (vnc_server *)malloc(vnc_server_size());
+    if (!server) return VNC_ERROR_NO_MEMORY;
+    vnc_server_init(server);
+    code = vnc_server_record(server, path);
+    if (code == 0)
+        code = vnc_server_listen(server, address, port, width, height, name,
+                                 viewers);
+    if (code == 0) *out = server;
+    else vnc_server_free(server);
+    return code;
+}
+
+/* Makes a server which listens, with no record. */
+static inline int32_t vnc_server_new(const char *address, uint16_t port,
+                                     uint32_t width, uint32_t height,
+                                     const char *name, uint32_t viewers,
+                                     vnc_server **out)
+{
+    return vnc_server_new_recorded(address, port, width, height, name, viewers,
+                                   "", out);
+}
+
+/* ---- Turns ---- */
+
+/* Takes a turn (rfbProcessEvents): waits until something can be done, at most
+ * so many milliseconds, below 0 without end. Then it reads what viewers sent,
+ * writes what they are to be sent, and last accepts new ones, which are read
+ * from in the next turn. A turn is bounded, however much they send.
+ * Returns 0, or VNC_ERROR_NO_MEMORY, VNC_ERROR_NETWORK or VNC_ERROR_CLOCK where
+ * it ended early: what it did stays done, viewers are served as before, and the
+ * next turn goes on. */
 int32_t vnc_server_process_events(vnc_server *server, int32_t milliseconds);
 
-/* For a program that waits in a loop of its own, by poll, epoll or select: it takes a turn, of 0 milliseconds, once this handle is ready
- * to be read, or once as many milliseconds are over as vnc_server_longest_wait says. Ask for these anew before each wait: drawing, and
- * what a turn leaves to do, make it 0. The handle is the server's own until vnc_server_close: nothing is to be read from it. */
-int32_t vnc_server_fd(vnc_server *server);           /* the handle; VNC_SHUT */
-int32_t vnc_server_longest_wait(vnc_server *server); /* 0 to 2^31 - 1, which also says that there is no end; VNC_SHUT, VNC_CLOCK_FAILED */
+/* Returns the descriptor by which a program with a loop of its own waits, by
+ * poll, epoll or select. Such a program takes a turn of 0 milliseconds once
+ * this can be read, or once the time of vnc_server_timeout is over. It stays
+ * the server's own until vnc_server_close: read nothing from it. */
+int32_t vnc_server_fd(const vnc_server *server);
 
-/* The next inputs of all viewers go to `room`, in the order in which they were told, and wait no more: how many, 0 where none wait. A
- * text is the last of a call's: its bytes are had by vnc_server_text until vnc_server_inputs gives another text. (kbdAddEvent,
- * ptrAddEvent, setXCutText.) */
-int64_t vnc_server_inputs(vnc_server *server, vnc_input *room, size_t count);
-int32_t vnc_server_text(vnc_server *server, uint8_t *room, size_t count); /* the first bytes of it, as many as fit: how many */
+/* Returns for how many milliseconds such a program may wait now: 2^31 - 1 also
+ * where there is no end. Ask before each wait: drawing, and what a turn leaves
+ * to do, make it 0. Or VNC_ERROR_CLOCK. */
+int32_t vnc_server_timeout(const vnc_server *server);
 
-/* Who came and went next goes to `room`, and waits no more: how many, 0 where none wait. (newClientHook, clientGoneHook.) */
-int64_t vnc_server_comings_and_goings(vnc_server *server, vnc_visit *room, size_t count);
+/* ---- What viewers told ---- */
 
-/* A viewer is let go (rfbCloseClient): 0. It is heard no more and written nothing more, and its connection is closed in the next turn.
- * VNC_NO_VIEWER where none has the number. One that came in a turn is heard from the next one on: who is let go before that was sent
- * nothing and told nothing (RFB_CLIENT_REFUSE). */
+/* Fetches the next inputs of all viewers, in their order, into `buffer`
+ * (kbdAddEvent, ptrAddEvent, setXCutText). A text is the last of a call's:
+ * vnc_server_text has its bytes.
+ * Returns how many, 0 where none wait. */
+int64_t vnc_server_next_inputs(vnc_server *server,
+                               vnc_input *buffer, size_t count);
+
+/* Copies the first bytes of the text that vnc_server_next_inputs fetched last
+ * into `buffer`. Returns how many. */
+int32_t vnc_server_text(const vnc_server *server,
+                        uint8_t *buffer, size_t count);
+
+/* Fetches who came and went next into `buffer` (newClientHook,
+ * clientGoneHook). Returns how many, 0 where none wait. */
+int64_t vnc_server_next_events(vnc_server *server,
+                               vnc_event *buffer, size_t count);
+
+/* Returns how many inputs and events were lost since vnc_server_listen. A
+ * viewer whose coming was lost is served all the same: vnc_server_numbers
+ * has it. */
+int64_t vnc_server_lost_count(const vnc_server *server);
+
+/* Returns how often, since vnc_server_listen, viewers asked for pixels whether
+ * these changed or not, by requests that aren't incremental (7.5.3): more than
+ * before a turn where one did in it. A program that draws without saying so
+ * takes its pixels in then. vnc_settings has how many a viewer made.
+ * (clientFramebufferUpdateRequestHook, which is called for each request.) */
+int64_t vnc_server_full_request_count(const vnc_server *server);
+
+/* ---- Viewers ---- */
+
+/* Returns how many viewers are connected. */
+int32_t vnc_server_viewer_count(const vnc_server *server);
+
+/* Copies the numbers of the connected viewers into `buffer`, in the order in
+ * which they came, as many as fit. Returns how many, or
+ * VNC_ERROR_NO_MEMORY. */
+int32_t vnc_server_numbers(const vnc_server *server,
+                           uint64_t *buffer, size_t count);
+
+/* Returns 1 where a viewer's opening is over and it met no fault, else 0: its
+ * shared flag is known then. Or VNC_ERROR_NO_VIEWER. */
+int32_t vnc_server_is_open(const vnc_server *server, uint64_t viewer);
+
+/* Closes a viewer's connection in the next turn (rfbCloseClient). It is read
+ * from and written to no more; one that came in the last turn was sent nothing
+ * yet (RFB_CLIENT_REFUSE). Returns 0, or VNC_ERROR_NO_VIEWER or
+ * VNC_ERROR_NO_MEMORY. */
 int32_t vnc_server_close_viewer(vnc_server *server, uint64_t viewer);
 
-/* The address that a viewer's connection comes from, in digits as "127.0.0.1" or "::1", with no zero at its end (host of rfbClientRec), goes
- * to `room`, as much of it as fits: how many bytes; 46 are enough. VNC_NO_VIEWER where none has the number, VNC_NETWORK_FAILED where the
- * system doesn't tell, as when the viewer is gone already, or VNC_OUT_OF_MEMORY. */
-int32_t vnc_server_viewer_address(vnc_server *server, uint64_t viewer, uint8_t *room, size_t count);
+/* Does what vnc_server_viewer_address does, with no zero behind it, and returns
+ * how many bytes. */
+int32_t vnc_server_viewer_address_n(const vnc_server *server, uint64_t viewer,
+                                    uint8_t *buffer, size_t count);
 
-/* What a viewer has set by what it was heard to say goes to the first place of `room`, and the others stay: 1; 0 where `count` is 0, and
- * VNC_NO_VIEWER where none has the number. It has them from its coming on, and a turn may change them. (Of rfbClientRec its format,
- * preferredEncoding, useCopyRect and useNewFBSize, and the shared flag of its ClientInit.) */
-int32_t vnc_server_settings(vnc_server *server, uint64_t viewer, vnc_settings *room, size_t count);
+/* How many bytes the longest address takes, with the zero behind it. */
+#define VNC_ADDRESS_SIZE 47
 
-/* How often, since vnc_server_listen, viewers asked for places whether these changed or not, by requests that aren't incremental (RFC 6143,
- * 7.5.3): more than before a turn where one did in it. A program that draws without saying so takes its pixels in then.
- * vnc_server_settings has how many a viewer made. (clientFramebufferUpdateRequestHook, which is called for each request.) */
-int64_t vnc_server_full_requests(vnc_server *server);
+/* Copies the IP address that a viewer comes from into `buffer`, in digits, as
+ * much of it as fits with a zero behind it: VNC_ADDRESS_SIZE bytes are enough
+ * (host of rfbClientRec). On "::" an address of IPv4 is "::ffff:127.0.0.1".
+ * Returns 0, or VNC_ERROR_NO_VIEWER, VNC_ERROR_NO_MEMORY, or VNC_ERROR_NETWORK
+ * where the system doesn't tell, as when the viewer has just gone; `buffer` is
+ * "" then. */
+static inline int32_t vnc_server_viewer_address(const vnc_server *server,
+                                                uint64_t viewer, char *buffer,
+                                                size_t size)
+{
+    int32_t count = vnc_server_viewer_address_n(
+        server, viewer, (uint8_t *)buffer, size ? size - 1 : 0);
+    if (size) buffer[count > 0 ? count : 0] = 0;
+    return count < 0 ? count : 0;
+}
 
-/* How many inputs, comings and goings were lost since vnc_server_listen. */
-int64_t vnc_server_lost(vnc_server *server);
+/* Does what vnc_server_settings does: copies the first of the 32-bit words of
+ * which the library's vnc_settings consists into `words`, and returns how
+ * many. */
+int32_t vnc_server_settings_n(const vnc_server *server, uint64_t viewer,
+                              uint32_t *words, size_t count);
 
-/* A waker ends a wait of vnc_server_process_events, or the next one's, from another thread; then the thread that takes the turns may
- * see to what is new. It lies in memory of the program's, of vnc_waker_size() bytes at a multiple of 16, as a server does. One call at a
- * time for each waker; unlike a server's own, vnc_waker_wake may be called while a call for the server runs. A server has one waker at a
- * time. It may be closed before the server or after it; once the server is closed, it wakes nobody. */
+/* Tells what a viewer has set by what was read from it: from its coming on, and
+ * a turn may change it. (Of rfbClientRec its format, preferredEncoding,
+ * useCopyRect and useNewFBSize, and the shared flag of its ClientInit.) What an
+ * older library doesn't know is 0.
+ * Returns 0, or VNC_ERROR_NO_VIEWER, and `*settings` stays. */
+static inline int32_t vnc_server_settings(const vnc_server *server,
+                                          uint64_t viewer,
+                                          vnc_settings *settings)
+{
+    uint32_t words[sizeof *settings / sizeof(uint32_t)] = {0};
+    int32_t code = vnc_server_settings_n(server, viewer, words,
+                                         sizeof words / sizeof *words);
+    if (code >= 0) memcpy(settings, words, sizeof *settings);
+    return code < 0 ? code : 0;
+}
+
+/* ---- Drawing ----
+ * What is drawn is sent in the next turns. Coordinates are columns and rows
+ * from 0 on; x2 and y2 are one further than the last. Colours are 0x00RRGGBB,
+ * row by row; a top byte other than 0 is cleared. Each call returns 0, or what
+ * it says, or VNC_ERROR_NO_MEMORY. */
+
+/* Gives a rectangle these colours. Or VNC_ERROR_BAD_RECT,
+ * VNC_ERROR_BAD_PIXEL_COUNT. */
+int32_t vnc_server_paint(vnc_server *server,
+                         int32_t x1, int32_t y1, int32_t x2, int32_t y2,
+                         const uint32_t *colours, size_t count);
+
+/* Does the same, but no viewer is sent it before it is marked. Or
+ * VNC_ERROR_BAD_RECT, VNC_ERROR_BAD_PIXEL_COUNT. */
+int32_t vnc_server_write_pixels(vnc_server *server, int32_t x1, int32_t y1,
+                                int32_t x2, int32_t y2,
+                                const uint32_t *colours, size_t count);
+
+/* Marks a rectangle as changed (rfbMarkRectAsModified), its corners in any
+ * order; what lies off the screen is left out. */
+int32_t vnc_server_mark_rect(vnc_server *server, int32_t x1, int32_t y1,
+                             int32_t x2, int32_t y2);
+
+/* Marks the pixels of any of these rectangles (rfbMarkRegionAsModified). Or
+ * VNC_ERROR_OUT_OF_RANGE. */
+int32_t vnc_server_mark_region(vnc_server *server,
+                               const vnc_rect *rects, size_t count);
+
+/* Moves pixels into a rectangle, from (dx, dy) to the left and above it, and
+ * sends viewers that take CopyRect a copy (rfbDoCopyRect). What would come from
+ * off the screen is left out. */
+int32_t vnc_server_do_copy_rect(vnc_server *server, int32_t x1, int32_t y1,
+                                int32_t x2, int32_t y2,
+                                int32_t dx, int32_t dy);
+
+/* Does the same with the pixels of any of these rectangles (rfbDoCopyRegion).
+ * Or VNC_ERROR_OUT_OF_RANGE. */
+int32_t vnc_server_do_copy_region(vnc_server *server,
+                                  const vnc_rect *rects, size_t count,
+                                  int32_t dx, int32_t dy);
+
+/* Does the same for viewers alone: the picture stays, for the program to move
+ * its pixels by vnc_server_write_pixels (rfbScheduleCopyRect). */
+int32_t vnc_server_schedule_copy_rect(vnc_server *server,
+                                      int32_t x1, int32_t y1,
+                                      int32_t x2, int32_t y2,
+                                      int32_t dx, int32_t dy);
+
+/* Does the same with the pixels of any of these rectangles
+ * (rfbScheduleCopyRegion). Or VNC_ERROR_OUT_OF_RANGE. */
+int32_t vnc_server_schedule_copy_region(vnc_server *server,
+                                        const vnc_rect *rects, size_t count,
+                                        int32_t dx, int32_t dy);
+
+/* Rings all viewers' bells (rfbSendBell). */
+int32_t vnc_server_bell(vnc_server *server);
+
+/* Sends all viewers a copied text (rfbSendServerCutText). Or
+ * VNC_ERROR_TEXT_TOO_LONG. */
+int32_t vnc_server_cut_text(vnc_server *server,
+                            const uint8_t *text, size_t count);
+
+/* Has a black picture of this size in place of the old one
+ * (rfbNewFramebuffer). Or VNC_ERROR_BAD_SIZE. */
+int32_t vnc_server_new_framebuffer(vnc_server *server,
+                                   uint32_t width, uint32_t height);
+
+/* Takes a program's own pixels in (rfbMarkRectAsModified): compares them with a
+ * rectangle of the picture, and paints what differs, in few rectangles.
+ *   left, top, width, height  the rectangle; what lies off the screen is left
+ *            out
+ *   bytes    the pixels, rows `stride` bytes apart
+ *   format   one, and format_count is 1; or NULL and 0 for 32 bits, 0x00RRGGBB
+ *            with the lowest byte first
+ *   table    1 to 256 colours 0x00RRGGBB, for pixels of one byte and no format;
+ *            else NULL and 0
+ * Returns how many pixels changed, or VNC_ERROR_BAD_FORMAT,
+ * VNC_ERROR_BAD_STRIDE, VNC_ERROR_TOO_FEW_BYTES. Behind VNC_ERROR_NO_MEMORY
+ * each pixel has its old colour or its new one, and another call takes the
+ * rest. */
+int64_t vnc_server_update_from(vnc_server *server, uint32_t left, uint32_t top,
+                               uint32_t width, uint32_t height,
+                               const uint8_t *bytes, size_t byte_count,
+                               uint64_t stride,
+                               const vnc_pixel_format *format,
+                               size_t format_count,
+                               const uint32_t *table, size_t table_count);
+
+/* ---- What there is ---- */
+
+/* Returns the port on which it listens. */
+int32_t vnc_server_port(const vnc_server *server);
+
+/* Returns the picture's columns, and its rows. */
+int64_t vnc_server_width(const vnc_server *server);
+int64_t vnc_server_height(const vnc_server *server);
+
+/* Returns a pixel's colour, or VNC_ERROR_OFF_SCREEN. */
+int64_t vnc_server_colour(const vnc_server *server, uint32_t x, uint32_t y);
+
+/* ---- Wakers ---- */
+
+/* A waker ends a wait of vnc_server_process_events, or the next one's, from
+ * another thread; then the thread that takes the turns may see to what is new.
+ * It lies in the program's memory, of vnc_waker_size() bytes at a multiple of
+ * VNC_ALIGNMENT, as a server does. One call at a time for each waker; but
+ * vnc_waker_wake may be called while a call for the server runs. A server has
+ * one waker at a time. It may be closed before the server or after it. */
 typedef struct vnc_waker vnc_waker;
 
+/* Returns how many bytes a waker takes. */
 size_t vnc_waker_size(void);
 
-/* Makes such memory a waker of the server, which is shut where the server is, or the system has no more handles. */
+/* Makes this memory a waker of the server. It is closed where the server is, or
+ * the system has no more descriptors. */
 void vnc_waker_init(vnc_server *server, vnc_waker *waker);
-int32_t vnc_waker_wake(vnc_waker *waker);  /* 0; VNC_SHUT, or VNC_NETWORK_FAILED where the system refuses it */
-int32_t vnc_waker_close(vnc_waker *waker); /* 0; its handle of the system's is free again, and so is the program's memory */
 
-/* Memory for a waker of the server: 0, or a vnc_code. */
+/* Wakes the server; one that was closed since wakes from nothing. Returns 0,
+ * VNC_ERROR_CLOSED, or VNC_ERROR_NETWORK where the system refuses it. */
+int32_t vnc_waker_wake(vnc_waker *waker);
+
+/* Closes the waker: its descriptor is closed, and its memory may be freed.
+ * Returns 0. */
+int32_t vnc_waker_close(vnc_waker *waker);
+
+/* Makes a waker in memory of malloc's: 0, or VNC_ERROR_NO_MEMORY, and `*out` is
+ * NULL. */
 static inline int32_t vnc_waker_new(vnc_server *server, vnc_waker **out)
 {
     vnc_waker *waker = (vnc_waker *)malloc(vnc_waker_size());
-    if (!waker) return VNC_OUT_OF_MEMORY;
-    vnc_waker_init(server, waker);
     *out = waker;
+    if (!waker) return VNC_ERROR_NO_MEMORY;
+    vnc_waker_init(server, waker);
     return 0;
 }
 
+/* Closes a waker, and frees it. NULL is nothing to free. */
 static inline void vnc_waker_free(vnc_waker *waker)
 {
     if (!waker) return;
     vnc_waker_close(waker);
     free(waker);
 }
-
-/* Drawing; each is 0 where it is done, and is sent in the next turns. Coordinates are columns and rows from 0 on, x2 and y2 are one
- * further than the last. Colours are 0x00RRGGBB, row by row; a top byte other than 0 is cleared. A copy takes the places from (dx, dy)
- * to the left and above. VNC_BAD_RECT, VNC_BAD_PIXEL_COUNT, VNC_TEXT_TOO_LONG, VNC_BAD_SIZE, VNC_OUT_OF_RANGE or VNC_OUT_OF_MEMORY. */
-int32_t vnc_server_paint(vnc_server *server, int32_t x1, int32_t y1, int32_t x2, int32_t y2, const uint32_t *colours, size_t count);
-int32_t vnc_server_write_pixels(vnc_server *server, int32_t x1, int32_t y1, int32_t x2, int32_t y2, const uint32_t *colours, size_t count); /* no viewer is told */
-int32_t vnc_server_mark_rect(vnc_server *server, int32_t x1, int32_t y1, int32_t x2, int32_t y2);                                          /* rfbMarkRectAsModified */
-int32_t vnc_server_mark_region(vnc_server *server, const vnc_rect *rects, size_t count);                                                   /* rfbMarkRegionAsModified */
-int32_t vnc_server_schedule_copy_rect(vnc_server *server, int32_t x1, int32_t y1, int32_t x2, int32_t y2, int32_t dx, int32_t dy);         /* rfbScheduleCopyRect */
-int32_t vnc_server_schedule_copy_region(vnc_server *server, const vnc_rect *rects, size_t count, int32_t dx, int32_t dy);                  /* rfbScheduleCopyRegion */
-int32_t vnc_server_do_copy_rect(vnc_server *server, int32_t x1, int32_t y1, int32_t x2, int32_t y2, int32_t dx, int32_t dy);               /* rfbDoCopyRect */
-int32_t vnc_server_do_copy_region(vnc_server *server, const vnc_rect *rects, size_t count, int32_t dx, int32_t dy);                        /* rfbDoCopyRegion */
-int32_t vnc_server_bell(vnc_server *server);                                             /* rfbSendBell */
-int32_t vnc_server_cut_text(vnc_server *server, const uint8_t *text, size_t count);      /* rfbSendServerCutText; at most 65536 bytes */
-int32_t vnc_server_new_framebuffer(vnc_server *server, uint32_t width, uint32_t height); /* rfbNewFramebuffer; black */
-
-/* A program's own pixels are taken in (rfbMarkRectAsModified): the rectangle of `width` columns and `height` rows of the picture whose
- * corner is at column `left` of row `top` becomes `bytes`, rows `stride` bytes apart; what differs is painted, in few rectangles.
- * `format`: one (format_count 1), or NULL, 0: 32 bits, 0x00RRGGBB in little-endian order. Or `table` of 1 to 256 colours 0x00RRGGBB, one
- * byte a pixel, and no format. What lies off the screen is left out. How many places changed; VNC_BAD_FORMAT, VNC_BAD_STRIDE or
- * VNC_TOO_FEW_BYTES. Where memory is refused (VNC_OUT_OF_MEMORY) each place has its old colour or its new one, and another call takes
- * the rest. */
-int64_t vnc_server_take(vnc_server *server, uint32_t left, uint32_t top, uint32_t width, uint32_t height, const uint8_t *bytes,
-                        size_t byte_count, uint64_t stride, const vnc_pixel_format *format, size_t format_count, const uint32_t *table,
-                        size_t table_count);
-
-/* What there is. */
-int32_t vnc_server_port(vnc_server *server); /* on which it listens */
-int64_t vnc_server_width(vnc_server *server);
-int64_t vnc_server_height(vnc_server *server);
-int64_t vnc_server_colour(vnc_server *server, uint32_t x, uint32_t y); /* VNC_OFF_SCREEN off the picture */
-int32_t vnc_server_viewer_count(vnc_server *server);
 
 #ifdef __cplusplus
 }

@@ -53,7 +53,7 @@ int main(int argc, char **argv)
     int k;
     int32_t code = vnc_server_new("127.0.0.1", (uint16_t)(argc > 1 ? atoi(argv[1]) : 5900), WIDTH, HEIGHT, "clock", 64, &server);
     if (code < 0) {
-        fprintf(stderr, "clock: code %d\n", (int)code);
+        fprintf(stderr, "clock: %s\n", vnc_code_text(code));
         return 1;
     }
     printf("port %d\n", (int)vnc_server_port(server));
@@ -73,9 +73,9 @@ int main(int argc, char **argv)
         if (now[5] != shown[5] && left > 0) left--;
         code = draw(server, now, shown);
         if (code == 0) code = vnc_server_process_events(server, 1 + (int32_t)((999999999 - at.tv_nsec) / 1000000));
-        while (vnc_server_inputs(server, unused, 16) > 0) {}
+        while (vnc_server_next_inputs(server, unused, 16) > 0) {}
     }
     vnc_server_free(server);
-    if (code < 0) fprintf(stderr, "clock: code %d\n", (int)code);
+    if (code < 0) fprintf(stderr, "clock: %s\n", vnc_code_text(code));
     return code < 0;
 }

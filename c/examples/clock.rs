@@ -12,11 +12,11 @@ struct Input(u64, [u32; 6], u64, u32); // vnc_input
 unsafe extern "C" {
     fn vnc_server_size() -> usize;
     fn vnc_server_init(at: Memory);
-    fn vnc_server_listen(at: Memory, address: *const u8, address_count: usize, port: u16, width: u32, height: u32, name: *const u8, name_count: usize, viewers: u32) -> i32;
+    fn vnc_server_listen_n(at: Memory, address: *const u8, address_count: usize, port: u16, width: u32, height: u32, name: *const u8, name_count: usize, viewers: u32) -> i32;
     fn vnc_server_close(at: Memory) -> i32;
     fn vnc_server_port(at: Memory) -> i32;
     fn vnc_server_process_events(at: Memory, milliseconds: i32) -> i32;
-    fn vnc_server_inputs(at: Memory, room: *mut Input, count: usize) -> i64;
+    fn vnc_server_next_inputs(at: Memory, room: *mut Input, count: usize) -> i64;
     fn vnc_server_paint(at: Memory, x1: i32, y1: i32, x2: i32, y2: i32, colours: *const u32, count: usize) -> i32;
 }
 
@@ -34,7 +34,7 @@ impl Server {
         // SAFETY: the memory is as large as it is to be, here and below, and stays where it is as long as the server lives
         let mut server = Server(vec![0; unsafe { vnc_server_size() }.div_ceil(16)]);
         unsafe { vnc_server_init(server.0.as_mut_ptr()) };
-        done(unsafe { vnc_server_listen(server.0.as_mut_ptr(), home.as_ptr(), home.len(), port, width, height, name.as_ptr(), name.len(), 64) })?;
+        done(unsafe { vnc_server_listen_n(server.0.as_mut_ptr(), home.as_ptr(), home.len(), port, width, height, name.as_ptr(), name.len(), 64) })?;
         Ok(server)
     }
 
@@ -47,7 +47,7 @@ impl Server {
     fn turn(&mut self, milliseconds: i32) -> Result<(), i32> {
         let mut room = [Input::default(); 16];
         done(unsafe { vnc_server_process_events(self.0.as_mut_ptr(), milliseconds) })?;
-        while unsafe { vnc_server_inputs(self.0.as_mut_ptr(), room.as_mut_ptr(), room.len()) } > 0 {}
+        while unsafe { vnc_server_next_inputs(self.0.as_mut_ptr(), room.as_mut_ptr(), room.len()) } > 0 {}
         Ok(())
     }
 }

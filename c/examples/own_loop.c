@@ -41,9 +41,9 @@ static int32_t use_inputs(vnc_server *server)
     vnc_input in[16];
     int64_t n, k;
     int32_t code = 0;
-    while (code == 0 && (n = vnc_server_inputs(server, in, 16)) > 0)
+    while (code == 0 && (n = vnc_server_next_inputs(server, in, 16)) > 0)
         for (k = 0; k < n && code == 0; k++)
-            if (in[k].kind == VNC_KEY && in[k].down) code = vnc_server_bell(server);
+            if (in[k].kind == VNC_INPUT_KEY && in[k].down) code = vnc_server_bell(server);
     return code;
 }
 
@@ -53,12 +53,12 @@ int main(int argc, char **argv)
     struct pollfd fds[2] = {{0, POLLIN, 0}, {-1, POLLIN, 0}};
     int goes_on = 1;
     int32_t code = vnc_server_new("127.0.0.1", (uint16_t)(argc > 1 ? atoi(argv[1]) : 5900), WIDTH, HEIGHT, "own loop", 64, &server);
-    if (code < 0) { fprintf(stderr, "own_loop: code %d\n", (int)code); return 1; }
+    if (code < 0) { fprintf(stderr, "own_loop: %s\n", vnc_code_text(code)); return 1; }
     printf("port %d\n", (int)vnc_server_port(server));
     fflush(stdout);
     fds[1].fd = vnc_server_fd(server);
     while (code == 0 && goes_on) {
-        int32_t wait = vnc_server_longest_wait(server);
+        int32_t wait = vnc_server_timeout(server);
         int ready = wait < 0 ? -1 : poll(fds, 2, wait);
         if (ready > 0 && fds[0].revents) goes_on = read_on(server, &code);
         if (code == 0) code = vnc_server_process_events(server, 0);
@@ -66,6 +66,6 @@ int main(int argc, char **argv)
         if (wait < 0) code = wait;
     }
     vnc_server_free(server);
-    if (code < 0) fprintf(stderr, "own_loop: code %d\n", (int)code);
+    if (code < 0) fprintf(stderr, "own_loop: %s\n", vnc_code_text(code));
     return code < 0;
 }

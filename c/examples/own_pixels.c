@@ -26,7 +26,7 @@ static int64_t take(vnc_server *server, int left, int top, int width, int height
 {
     static const vnc_pixel_format format = {2, 0, 31, 63, 31, 11, 5, 0};
     size_t count = sizeof pixels - (size_t)((const char *)&pixels[top][left] - (const char *)pixels);
-    return vnc_server_take(server, (uint32_t)left, (uint32_t)top, (uint32_t)width, (uint32_t)height, (const uint8_t *)&pixels[top][left], count, sizeof pixels[0],
+    return vnc_server_update_from(server, (uint32_t)left, (uint32_t)top, (uint32_t)width, (uint32_t)height, (const uint8_t *)&pixels[top][left], count, sizeof pixels[0],
                            &format, 1, 0, 0);
 }
 
@@ -44,7 +44,7 @@ int main(int argc, char **argv)
     int x = 40, y = 60, dx = 3, dy = 2, row, column;
     int32_t code = vnc_server_new("127.0.0.1", (uint16_t)(argc > 1 ? atoi(argv[1]) : 5900), WIDTH, HEIGHT, "own pixels", 64, &server);
     int64_t places;
-    if (code < 0) { fprintf(stderr, "own_pixels: code %d\n", (int)code); return 1; }
+    if (code < 0) { fprintf(stderr, "own_pixels: %s\n", vnc_code_text(code)); return 1; }
     printf("port %d\n", (int)vnc_server_port(server));
     fflush(stdout);
     for (row = 0; row < HEIGHT; row++)
@@ -58,10 +58,10 @@ int main(int argc, char **argv)
         draw_ball(x, y, 1);
         places = take(server, x < old_x ? x : old_x, y < old_y ? y : old_y, SIZE + abs(dx), SIZE + abs(dy));
         if (places >= 0) code = vnc_server_process_events(server, 40);
-        while (vnc_server_inputs(server, unused, 16) > 0) {}
+        while (vnc_server_next_inputs(server, unused, 16) > 0) {}
     }
     vnc_server_free(server);
     if (places < 0) code = (int32_t)places;
-    if (code < 0) fprintf(stderr, "own_pixels: code %d\n", (int)code);
+    if (code < 0) fprintf(stderr, "own_pixels: %s\n", vnc_code_text(code));
     return code < 0;
 }

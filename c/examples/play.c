@@ -29,7 +29,7 @@ static void cut(uint64_t viewer) { bytes("cut", viewer, vnc_screen_cut(screen, v
 int main(void)
 {
     static const uint32_t row[4] = {1, 2, 3, 4};
-    int32_t made = vnc_screen_new(4, 1, (const uint8_t *)"demo", 4, 50, &screen);
+    int32_t made = vnc_screen_new(4, 1, "demo", 50, &screen);
     done(made);
     if (made < 0) return 3;
     done(vnc_screen_paint(screen, 0, 0, 4, 1, row, 4));

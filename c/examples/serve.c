@@ -22,7 +22,7 @@ static int count = 1;
 
 static void drop(int i)
 {
-    vnc_screen_close(screen, (uint64_t)fds[i].fd);
+    vnc_screen_close_viewer(screen, (uint64_t)fds[i].fd);
     close(fds[i].fd);
     fds[i] = fds[--count];
     piece[i] = piece[count];
@@ -55,11 +55,11 @@ static void use_inputs(void)
     uint32_t white[64];
     int64_t n, k;
     memset(white, 0xff, sizeof white);
-    while ((n = vnc_screen_inputs(screen, in, 16)) > 0)
+    while ((n = vnc_screen_next_inputs(screen, in, 16)) > 0)
         for (k = 0; k < n; k++) {
-            if (in[k].kind == VNC_POINTER && in[k].buttons & 1 && in[k].x + 8 <= 640 && in[k].y + 8 <= 480)
+            if (in[k].kind == VNC_INPUT_POINTER && in[k].buttons & 1 && in[k].x + 8 <= 640 && in[k].y + 8 <= 480)
                 vnc_screen_paint(screen, (int32_t)in[k].x, (int32_t)in[k].y, (int32_t)in[k].x + 8, (int32_t)in[k].y + 8, white, 64);
-            else if (in[k].kind == VNC_KEY && in[k].down)
+            else if (in[k].kind == VNC_INPUT_KEY && in[k].down)
                 vnc_screen_bell(screen);
         }
 }
@@ -85,7 +85,7 @@ int main(int argc, char **argv)
     to.sin_addr.s_addr = htonl(INADDR_LOOPBACK);
     to.sin_port = htons((uint16_t)(argc > 1 ? atoi(argv[1]) : 5900));
     signal(SIGPIPE, SIG_IGN);
-    if (vnc_screen_new(640, 480, (const uint8_t *)"demo", 4, 50, &screen) < 0) return 3;
+    if (vnc_screen_new(640, 480, "demo", 50, &screen) < 0) return 3;
     fds[0].fd = socket(AF_INET, SOCK_STREAM, 0);
     setsockopt(fds[0].fd, SOL_SOCKET, SO_REUSEADDR, &one, sizeof one);
     if (bind(fds[0].fd, (struct sockaddr *)&to, sizeof to) || listen(fds[0].fd, 16)) return 5;

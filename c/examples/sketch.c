@@ -37,7 +37,7 @@ static int32_t use(vnc_server *server, const vnc_input *in)
     static const uint32_t inks[4] = {0x202020, 0xc02020, 0x2040c0, 0x208040};
     uint32_t ink[THICK * THICK];
     int slot = (int)(in->viewer % PENS), x = within((int)in->x, WIDTH - 1), y = within((int)in->y, HEIGHT - 1), k, was_down;
-    if (in->kind != VNC_POINTER) return 0;
+    if (in->kind != VNC_INPUT_POINTER) return 0;
     if (in->buttons & 4) return wipe(server);
     was_down = pens[slot].viewer == in->viewer && pens[slot].is_down;
     for (k = 0; k < THICK * THICK; k++) ink[k] = inks[in->viewer % 4];
@@ -53,17 +53,17 @@ int main(int argc, char **argv)
     vnc_input in[16];
     time_t end = argc > 2 ? time(0) + atoi(argv[2]) : 0;
     int32_t code = vnc_server_new("127.0.0.1", (uint16_t)(argc > 1 ? atoi(argv[1]) : 5900), WIDTH, HEIGHT, "sketch", 64, &server);
-    if (code < 0) { fprintf(stderr, "sketch: code %d\n", (int)code); return 1; }
+    if (code < 0) { fprintf(stderr, "sketch: %s\n", vnc_code_text(code)); return 1; }
     printf("port %d\n", (int)vnc_server_port(server));
     fflush(stdout);
     code = wipe(server);
     while (code == 0 && (end == 0 || time(0) < end)) {
         int64_t count, k;
         code = vnc_server_process_events(server, end ? 100 : -1);
-        while (code == 0 && (count = vnc_server_inputs(server, in, 16)) > 0)
+        while (code == 0 && (count = vnc_server_next_inputs(server, in, 16)) > 0)
             for (k = 0; k < count && code == 0; k++) code = use(server, &in[k]);
     }
     vnc_server_free(server);
-    if (code < 0) fprintf(stderr, "sketch: code %d\n", (int)code);
+    if (code < 0) fprintf(stderr, "sketch: %s\n", vnc_code_text(code));
     return code < 0;
 }

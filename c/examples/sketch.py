@@ -5,9 +5,9 @@ import ctypes
 import sys
 import time
 
-LIBRARY = ctypes.CDLL("libvnc_server.so.5")
+LIBRARY = ctypes.CDLL("libvnc_server.so.6")
 WIDTH, HEIGHT, THICK = 640, 480, 3
-POINTER = 2  # VNC_POINTER
+POINTER = 2  # VNC_INPUT_POINTER
 
 
 class Input(ctypes.Structure):  # vnc_input
@@ -24,11 +24,11 @@ def declare(name, result, *kinds):
 I32, U32, PTR = ctypes.c_int32, ctypes.c_uint32, ctypes.c_void_p
 size = declare("vnc_server_size", ctypes.c_size_t)
 init = declare("vnc_server_init", None, PTR)
-listen = declare("vnc_server_listen", I32, PTR, ctypes.c_char_p, ctypes.c_size_t, ctypes.c_uint16, U32, U32, ctypes.c_char_p, ctypes.c_size_t, U32)
+listen = declare("vnc_server_listen_n", I32, PTR, ctypes.c_char_p, ctypes.c_size_t, ctypes.c_uint16, U32, U32, ctypes.c_char_p, ctypes.c_size_t, U32)
 close = declare("vnc_server_close", I32, PTR)
 port_of = declare("vnc_server_port", I32, PTR)
 process_events = declare("vnc_server_process_events", I32, PTR, I32)
-inputs = declare("vnc_server_inputs", ctypes.c_int64, PTR, PTR, ctypes.c_size_t)
+inputs = declare("vnc_server_next_inputs", ctypes.c_int64, PTR, PTR, ctypes.c_size_t)
 paint = declare("vnc_server_paint", I32, PTR, I32, I32, I32, I32, PTR, ctypes.c_size_t)
 
 

@@ -36,11 +36,11 @@ static void use_inputs(void)
     vnc_input in[16];
     int64_t n, k;
     memset(white, 0xff, sizeof white);
-    while ((n = vnc_screen_inputs(screen, in, 16)) > 0)
+    while ((n = vnc_screen_next_inputs(screen, in, 16)) > 0)
         for (k = 0; k < n; k++) {
-            if (in[k].kind == VNC_POINTER && in[k].buttons & 1 && in[k].x + 8 <= WIDTH && in[k].y + 8 <= HEIGHT)
+            if (in[k].kind == VNC_INPUT_POINTER && in[k].buttons & 1 && in[k].x + 8 <= WIDTH && in[k].y + 8 <= HEIGHT)
                 vnc_screen_paint(screen, (int32_t)in[k].x, (int32_t)in[k].y, (int32_t)in[k].x + 8, (int32_t)in[k].y + 8, white, 64);
-            else if (in[k].kind == VNC_KEY && in[k].down)
+            else if (in[k].kind == VNC_INPUT_KEY && in[k].down)
                 vnc_screen_bell(screen);
         }
 }
@@ -104,7 +104,7 @@ static void *hear(void *of)
     close(v->fd);
     vnc_update_free(v->update);
     pthread_mutex_lock(&lock);
-    vnc_screen_close(screen, v->number);
+    vnc_screen_close_viewer(screen, v->number);
     v->is_over = 1;
     pthread_mutex_unlock(&lock);
     return 0;
@@ -178,7 +178,7 @@ int main(int argc, char **argv)
     to.sin_addr.s_addr = htonl(INADDR_LOOPBACK);
     to.sin_port = htons((uint16_t)(argc > 1 ? atoi(argv[1]) : 5900));
     signal(SIGPIPE, SIG_IGN);
-    if (vnc_screen_new(WIDTH, HEIGHT, (const uint8_t *)"threads", 7, 50, &screen) < 0) return 3;
+    if (vnc_screen_new(WIDTH, HEIGHT, "threads", 50, &screen) < 0) return 3;
     listener = socket(AF_INET, SOCK_STREAM, 0);
     setsockopt(listener, SOL_SOCKET, SO_REUSEADDR, &one, sizeof one);
     if (bind(listener, (struct sockaddr *)&to, sizeof to) || listen(listener, 16)) return 5;

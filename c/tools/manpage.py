@@ -5,6 +5,8 @@ import os
 import re
 import sys
 
+# a name for a value
+VALUE = r"#define VNC_\w+ \S+$"
 PAGES = ("rfb_compat", "vnc_screen", "vnc_server", "vnc_types")
 
 
@@ -53,11 +55,16 @@ def parts_of(text):
             return "\n".join(taken)
 
         line = taken[0]
-        if line.startswith("/*"):
+        if line.startswith("#") and not re.match(VALUE, line):
+            take(lambda it: not it.endswith("\\"))
+            yield "gap", ""
+        elif line.startswith(("VNC_LAYOUT(", "_Static_assert(")):
+            yield "gap", ""
+        elif line.startswith("/*"):
             yield "comment", take(lambda it: "*/" in it)
-        elif re.match(r"#define VNC_\w+_ABI ", line):
+        elif re.match(VALUE, line):
             yield "call", line
-        elif not line or line.startswith("#") or line in ('extern "C" {', "}"):
+        elif not line or line in ('extern "C" {', "}"):
             yield "gap", ""
         elif line.startswith("static inline "):
             yield "call", take(lambda it: it == "}").split("\n{")[0].removeprefix("static inline ") + ";"
@@ -65,6 +72,13 @@ def parts_of(text):
             yield "block", take(lambda it: it.startswith("}"))
         else:
             yield "call", take(lambda it: re.search(r";\s*(/\*.*\*/)?$", it))
+
+
+def noted(members):
+    """The members of a block, each with its comment: the one above it, or behind it."""
+    text = "\n".join(members)
+    for above, code, behind in re.findall(r"(?:/\*((?:(?!\*/).)*)\*/\s*\n\s*)?([^\n/]+[^\s/])[^\S\n]*(?:/\*(.*?)\*/)?(?:\n|$)", text, re.S):
+        yield code.strip(), re.sub(r"\s*\n\s*\*?\s*", " ", above or behind).strip()
 
 
 def declarations(text):
@@ -77,14 +91,15 @@ def declarations(text):
             yield from (".br", ".ti -4") if before == "call" else (".PP", ".in +4", ".ti -4")
             yield bold(code.strip()) + ("  " + escaped(note.replace("*/", "").strip()) if note else "")
         elif kind == "comment":
-            yield ".PP"
-            yield from prose(lines_of(it))
+            first, *others = lines_of(it)
+            heading = re.fullmatch(r"---- (.*) ----", first)
+            yield ".SS " + escaped(heading[1]) if heading else ".PP"
+            yield from prose(others if heading else [first, *others])
         elif kind == "block":
             first, *members, last = it.split("\n")
             yield from (".PP", bold(first.strip()), ".RS 4")
-            for member in members:
-                code, _, note = member.partition("/*")
-                yield from (".TP", bold(code.strip()), escaped(note.replace("*/", "").strip())) if note else (".PP", bold(code.strip()))
+            for code, note in noted(members):
+                yield from (".TP", bold(code), escaped(note)) if note else (".PP", bold(code))
             yield from (".RE", ".PP", bold(last.strip()))
         before = kind
 

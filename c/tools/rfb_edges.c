@@ -16,7 +16,7 @@
 enum { W = 40, H = 30 };
 typedef struct { int fd; uint32_t seen[H][W]; int copies, bells; char text[16]; } viewer;
 
-static int keys, points, gone, refuses, strangers, shares = 1, errors;
+static int keys, points, gone, refuses, strangers, shares = 1, silent, errors;
 static char said[16], error[256];
 static rfbClientPtr newest;
 
@@ -144,7 +144,7 @@ static int opens(rfbScreenInfoPtr s, viewer *v, int in_background)
     memset(v->seen, 0xff, sizeof v->seen);
     v->fd = connects(s->port);
     if (v->fd < 0 || says(v->fd, "RFB 003.008\n\x01", 13) || says(v->fd, shares ? "\x01" : "\0", 1)) return -1;
-    if (says(v->fd, "\x02\0\0\x02\0\0\0\x01\0\0\0\0\x03\0\0\0\0\0\0\x28\0\x1e", 22)) return -1;
+    if (!silent && says(v->fd, "\x02\0\0\x02\0\0\0\x01\0\0\0\0\x03\0\0\0\0\0\0\x28\0\x1e", 22)) return -1;
     s = in_background ? NULL : s;
     return reads(s, v->fd, room, 12 + 2 + 4 + 24) || reads(s, v->fd, room + 42, (size_t)room[41]);
 }
@@ -813,14 +813,20 @@ static int clients(void)
     rfbCloseClient(newest);
     IS(turns(s, &gone, 3), 1);
     close(w.fd);
-    /* who doesn't share is let go where the others are to stay, shares where all do, and else has them closed */
+    /* who doesn't share is let go where the others are to stay, also where it asks for nothing; shares where all do; and else has them closed */
+    s->dontDisconnect = TRUE;
+    silent = 1, shares = 0;
+    IS(opens(s, &w, 0), 0);
+    IS(turns(s, &gone, 4), 1);
+    close(w.fd);
+    silent = 0;
     for (shares = k = 0; k < 3; k++) {
         s->dontDisconnect = k == 0 ? TRUE : FALSE;
         s->alwaysShared = k == 1 ? TRUE : FALSE;
         IS(opens(s, &w, 0), 0);
         if (k) IS(shows(s, &w, 4, 0), 0);
         if (k == 1) rfbCloseClient(newest);
-        IS(turns(s, &gone, 4 + k), 1);
+        IS(turns(s, &gone, 5 + k), 1);
         if (k < 2) close(w.fd);
     }
     while (reads(s, v.fd, &byte, 1) == 0) {}
@@ -831,7 +837,7 @@ static int clients(void)
     IS(rfbIsActive(s), 1);
     IS(shows(s, &v, 4, 0), 0);
     close(v.fd);
-    IS(turns(s, &gone, 7), 1);
+    IS(turns(s, &gone, 8), 1);
     IS(rfbIsActive(s), 0);
     IS(connects(s->port), -1);
     clean(s);

@@ -18,7 +18,7 @@ static const uint32_t some[3] = {1, 2, 3}, red = 0xff0000;
 /* What a viewer is sent that asked for all, where the first place is red (7.6.1). */
 #define RED_AND_BLACK "\0\0\0\x01\0\0\0\0\0\x02\0\x01\0\0\0\0\0\0\xff\0\0\0\0\0"
 
-static int opens(vnc_screen *screen) { return vnc_screen_open(screen, 2, 1, (const uint8_t *)"demo", 4, 50); }
+static int opens(vnc_screen *screen) { return vnc_screen_open(screen, 2, 1, "demo", 50); }
 
 static int hears(vnc_screen *screen, uint64_t viewer, const char *piece, size_t count) { return vnc_screen_hear(screen, viewer, (const uint8_t *)piece, count); }
 
@@ -54,12 +54,12 @@ static int gives(vnc_screen *screen, vnc_update *update)
 
 /* The header's numbers, which callers in other languages have too. */
 static const struct { int code, number; } codes[] = {
-    {VNC_BAD_SIZE, -1},        {VNC_BAD_NAME, -2},       {VNC_BAD_RECT_LIMIT, -3},  {VNC_BAD_RECT, -4},      {VNC_BAD_PIXEL_COUNT, -5},
-    {VNC_TEXT_TOO_LONG, -6},   {VNC_NO_VIEWER, -7},      {VNC_NUMBER_IN_USE, -8},   {VNC_OUT_OF_MEMORY, -9}, {VNC_OUT_OF_RANGE, -10},
-    {VNC_OUTPUT_WAITS, -11},   {VNC_OFF_SCREEN, -12},    {VNC_BAD_ADDRESS, -13},    {VNC_CANNOT_LISTEN, -14}, {VNC_NETWORK_FAILED, -15},
-    {VNC_CLOCK_FAILED, -16},   {VNC_BAD_FORMAT, -17},    {VNC_BAD_STRIDE, -18},     {VNC_TOO_FEW_BYTES, -19}, {VNC_SHUT, -32},
-    {VNC_BAD_VERSION, 1},      {VNC_BAD_SECURITY_TYPE, 2}, {VNC_BAD_BITS_PER_PIXEL, 3}, {VNC_COLOUR_MAP, 4}, {VNC_UNKNOWN_MESSAGE, 256},
-    {VNC_KEY, 1},              {VNC_POINTER, 2},         {VNC_TEXT, 3},
+    {VNC_ERROR_BAD_SIZE, -1},        {VNC_ERROR_BAD_NAME, -2},       {VNC_ERROR_BAD_RECT_LIMIT, -3},  {VNC_ERROR_BAD_RECT, -4},      {VNC_ERROR_BAD_PIXEL_COUNT, -5},
+    {VNC_ERROR_TEXT_TOO_LONG, -6},   {VNC_ERROR_NO_VIEWER, -7},      {VNC_ERROR_NUMBER_IN_USE, -8},   {VNC_ERROR_NO_MEMORY, -9}, {VNC_ERROR_OUT_OF_RANGE, -10},
+    {VNC_ERROR_OUTPUT_WAITS, -11},   {VNC_ERROR_OFF_SCREEN, -12},    {VNC_ERROR_BAD_ADDRESS, -13},    {VNC_ERROR_CANNOT_LISTEN, -14}, {VNC_ERROR_NETWORK, -15},
+    {VNC_ERROR_CLOCK, -16},   {VNC_ERROR_BAD_FORMAT, -17},    {VNC_ERROR_BAD_STRIDE, -18},     {VNC_ERROR_TOO_FEW_BYTES, -19}, {VNC_ERROR_CLOSED, -32},
+    {VNC_FAULT_VERSION, 1},      {VNC_FAULT_SECURITY_TYPE, 2}, {VNC_FAULT_BITS_PER_PIXEL, 3}, {VNC_FAULT_COLOUR_MAP, 4}, {VNC_FAULT_UNKNOWN_MESSAGE, 256},
+    {VNC_INPUT_KEY, 1},              {VNC_INPUT_POINTER, 2},         {VNC_INPUT_TEXT, 3},
 };
 
 /* A screen is opened or refused. */
@@ -68,14 +68,14 @@ static int opens_or_not(void)
     static const uint8_t name[256] = {'a'};
     size_t k;
     EACH(k, codes) IS(codes[k].code, codes[k].number);
-    IS(vnc_screen_open(s, 8192, 2049, name, 0, 1), VNC_BAD_SIZE);
-    IS(vnc_screen_open(s, 2, 1, name, 256, 1), VNC_BAD_NAME);
-    IS(vnc_screen_open(s, 2, 1, name, 0, 1001), VNC_BAD_RECT_LIMIT);
-    IS(vnc_screen_bell(s), VNC_SHUT);
-    IS(vnc_screen_open(s, 2, 1, name, 0, 1), 0);
+    IS(vnc_screen_open(s, 8192, 2049, "", 1), VNC_ERROR_BAD_SIZE);
+    IS(vnc_screen_open_n(s, 2, 1, name, 256, 1), VNC_ERROR_BAD_NAME);
+    IS(vnc_screen_open(s, 2, 1, "", 1001), VNC_ERROR_BAD_RECT_LIMIT);
+    IS(vnc_screen_bell(s), VNC_ERROR_CLOSED);
+    IS(vnc_screen_open(s, 2, 1, "", 1), 0);
     IS(vnc_screen_bell(s), 0);
-    IS(vnc_screen_shut(s), 0);
-    IS(vnc_screen_width(s), VNC_SHUT);
+    IS(vnc_screen_close(s), 0);
+    IS(vnc_screen_width(s), VNC_ERROR_CLOSED);
     return 0;
 }
 
@@ -92,7 +92,7 @@ static int answers(void)
     IS(vnc_screen_output(s, 7, room, 34), 34);
     HOLDS(memcmp(room, init, 34) == 0);
     IS(vnc_screen_is_open(s, 7), 1);
-    return vnc_screen_shut(s);
+    return vnc_screen_close(s);
 }
 
 /* ---- Updates */
@@ -109,7 +109,7 @@ static int pieces(void)
     IS(vnc_screen_is_pending(s, 7), 1);
     IS(vnc_screen_is_asking(s, 7), 1);
     IS(vnc_screen_cut(s, 7), 1);
-    IS(vnc_screen_cut(s, 7), VNC_OUTPUT_WAITS);
+    IS(vnc_screen_cut(s, 7), VNC_ERROR_OUTPUT_WAITS);
     IS(vnc_screen_output(s, 7, room, 4), 4);
     IS(vnc_screen_output(s, 7, room + 4, 12), 12);
     IS(vnc_screen_output(s, 7, room + 16, 8), 8);
@@ -117,12 +117,12 @@ static int pieces(void)
     IS(vnc_screen_cut(s, 7), 0);
     IS(hears(s, 7, B(REQUEST)), 0);
     IS(vnc_screen_cut(s, 7), 1);
-    IS(vnc_screen_close(s, 7), 0);
-    IS(vnc_screen_close(s, 7), VNC_NO_VIEWER);
+    IS(vnc_screen_close_viewer(s, 7), 0);
+    IS(vnc_screen_close_viewer(s, 7), VNC_ERROR_NO_VIEWER);
     IS(vnc_screen_connect(s, 7), 0);
     IS(vnc_screen_output(s, 7, room, 24), 12);
     IS(vnc_screen_output(s, 7, room, 24), 0);
-    return vnc_screen_shut(s);
+    return vnc_screen_close(s);
 }
 
 /* An update apart has the bytes that the screen gives, and stays as it was cut. */
@@ -130,7 +130,7 @@ static int apart(void)
 {
     vnc_screen *other = 0;
     uint8_t room[4];
-    IS(vnc_screen_new(1, 1, 0, 0, 1, &other), 0);
+    IS(vnc_screen_new(1, 1, "", 1, &other), 0);
     DO(opens_with_asking(s));
     DO(opens_with_asking(other));
     IS(vnc_screen_cut_into(s, 7, u), 1);
@@ -142,8 +142,8 @@ static int apart(void)
     IS(vnc_screen_cut_into(s, 7, u), 1);
     IS(vnc_screen_output(s, 7, room, 4), 0);
     IS(vnc_screen_paint(s, 0, 0, 2, 1, some, 2), 0);
-    IS(vnc_screen_close(s, 7), 0);
-    IS(vnc_screen_shut(s), 0);
+    IS(vnc_screen_close_viewer(s, 7), 0);
+    IS(vnc_screen_close(s), 0);
     HOLDS(gives(0, u));
     return 0;
 }
@@ -153,11 +153,11 @@ static int in_order(void)
 {
     uint8_t room[4];
     DO(opens_with_asking(s));
-    IS(vnc_screen_cut_into(s, 8, u), VNC_NO_VIEWER);
+    IS(vnc_screen_cut_into(s, 8, u), VNC_ERROR_NO_VIEWER);
     IS(vnc_screen_cut_into(s, 7, u), 1);
     IS(vnc_update_output(u, room, 4), 4);
     HOLDS(memcmp(room, RED_AND_BLACK, 4) == 0);
-    IS(vnc_screen_cut_into(s, 7, u), VNC_OUTPUT_WAITS);
+    IS(vnc_screen_cut_into(s, 7, u), VNC_ERROR_OUTPUT_WAITS);
     IS(vnc_update_clear(u), 0);
     IS(vnc_update_output(u, room, 4), 0);
     IS(vnc_screen_cut_into(s, 7, u), 0);
@@ -167,12 +167,12 @@ static int in_order(void)
     IS(vnc_screen_cut_into(s, 7, u), 0);
     IS(hears(s, 7, B(REQUEST)), 0);
     IS(vnc_screen_cut(s, 7), 1);
-    IS(vnc_screen_cut_into(s, 7, u), VNC_OUTPUT_WAITS);
+    IS(vnc_screen_cut_into(s, 7, u), VNC_ERROR_OUTPUT_WAITS);
     IS(vnc_update_output(u, room, 4), 0);
     HOLDS(gives(s, 0));
     IS(vnc_screen_cut_into(s, 7, u), 0);
-    IS(vnc_screen_shut(s), 0);
-    IS(vnc_screen_cut_into(s, 7, u), VNC_SHUT);
+    IS(vnc_screen_close(s), 0);
+    IS(vnc_screen_cut_into(s, 7, u), VNC_ERROR_CLOSED);
     return 0;
 }
 
@@ -203,7 +203,7 @@ static int meanwhile(void)
     HOLDS(is_held);
     IS(painted, 0);
     IS(vnc_screen_colour(s, 0, 0), 99);
-    return vnc_screen_shut(s);
+    return vnc_screen_close(s);
 }
 
 /* ---- Viewers */
@@ -211,10 +211,10 @@ static int meanwhile(void)
 /* A key goes down (7.5.4), the buttons 1 and 3 at (3, 4), off the screen (7.5.5), a text (7.5.6), and the pointer once more: inputs are
  * fetched up to a text, with what belongs to their kinds and 0 for the rest. */
 static const vnc_input told[] = {
-    {7, VNC_KEY, 1, 0x61, 0, 0, 0, 0, 0},
-    {7, VNC_POINTER, 0, 0, 5, 3, 4, 0, 0},
-    {7, VNC_TEXT, 0, 0, 0, 0, 0, 3, 0},
-    {7, VNC_POINTER, 0, 0, 0, 0, 0, 0, 0},
+    {7, VNC_INPUT_KEY, 1, 0x61, 0, 0, 0, 0, 0},
+    {7, VNC_INPUT_POINTER, 0, 0, 5, 3, 4, 0, 0},
+    {7, VNC_INPUT_TEXT, 0, 0, 0, 0, 0, 3, 0},
+    {7, VNC_INPUT_POINTER, 0, 0, 0, 0, 0, 0, 0},
 };
 
 static int tells(void)
@@ -225,12 +225,12 @@ static int tells(void)
     DO(opens_with_viewer(s));
     IS(hears(s, 7, B("\x04\x01\0\0\0\0\0\x61\x05\x05\0\x03\0\x04")), 0);
     IS(hears(s, 7, B("\x06\0\0\0\0\0\0\x03yes\x05\0\0\0\0\0")), 0);
-    IS(vnc_screen_inputs(s, in, 4), 3);
+    IS(vnc_screen_next_inputs(s, in, 4), 3);
     IS(vnc_screen_text(s, text, 8), 3);
     HOLDS(memcmp(text, "yes\0\0\0\0\0", 8) == 0);
-    IS(vnc_screen_inputs(s, in + 3, 1), 1);
+    IS(vnc_screen_next_inputs(s, in + 3, 1), 1);
     EACH(k, told) ROW(k, !is_input(in + k, &told[k]));
-    return vnc_screen_shut(s);
+    return vnc_screen_close(s);
 }
 
 /* A fault has the message's type (7.5), and viewers have numbers, in order of connecting. */
@@ -239,20 +239,20 @@ static int numbers(void)
     uint64_t room[4] = {0, 0, 0, 0};
     DO(opens_with_viewer(s));
     IS(vnc_screen_fault(s, 7), 0);
-    IS(hears(s, 7, B("\xff")), VNC_UNKNOWN_MESSAGE + 255);
-    IS(vnc_screen_fault(s, 7), VNC_UNKNOWN_MESSAGE + 255);
+    IS(hears(s, 7, B("\xff")), VNC_FAULT_UNKNOWN_MESSAGE + 255);
+    IS(vnc_screen_fault(s, 7), VNC_FAULT_UNKNOWN_MESSAGE + 255);
     IS(vnc_screen_is_open(s, 7), 0);
-    IS(vnc_screen_fault(s, 8), VNC_NO_VIEWER);
+    IS(vnc_screen_fault(s, 8), VNC_ERROR_NO_VIEWER);
     IS(opens(s), 0);
     IS(vnc_screen_connect(s, 9), 0);
-    IS(vnc_screen_connect(s, 9), VNC_NUMBER_IN_USE);
+    IS(vnc_screen_connect(s, 9), VNC_ERROR_NUMBER_IN_USE);
     IS(vnc_screen_connect(s, 4), 0);
     IS(vnc_screen_viewer_count(s), 2);
     IS(vnc_screen_is_live(s, 4), 1);
     IS(vnc_screen_is_live(s, 5), 0);
     IS(vnc_screen_numbers(s, room, 4), 2);
     HOLDS(room[0] == 9 && room[1] == 4 && room[2] == 0 && room[3] == 0);
-    return vnc_screen_shut(s);
+    return vnc_screen_close(s);
 }
 
 /* What nobody has set; a viewer that shares, in the server's format (7.3.2, 7.4) and in Raw (7.7.1); and one that doesn't (7.3.1). */
@@ -264,7 +264,7 @@ static int shows(uint64_t viewer, int32_t code, const vnc_settings *want)
 {
     vnc_settings room[2];
     room[0] = room[1] = unset;
-    return vnc_screen_settings(s, viewer, room, 2) == code && is_set(room, want) && is_set(room + 1, &unset);
+    return vnc_screen_settings(s, viewer, room) == code && is_set(room, want) && is_set(room + 1, &unset);
 }
 
 /* A viewer shares once it says so (7.3.1), another one doesn't; and what is shown of nobody leaves the room as it was. */
@@ -274,22 +274,22 @@ static int share(void)
     IS(opens(s), 0);
     IS(vnc_screen_connect(s, 7), 0);
     IS(hears(s, 7, B("RFB 003.008\n\x01")), 0);
-    HOLDS(shows(7, 1, &unshared));
+    HOLDS(shows(7, 0, &unshared));
     IS(hears(s, 7, B("\x01")), 0);
-    HOLDS(shows(7, 1, &shared));
+    HOLDS(shows(7, 0, &shared));
     IS(vnc_screen_connect(s, 8), 0);
     IS(hears(s, 8, B("RFB 003.008\n\x01\0")), 0);
-    HOLDS(shows(8, 1, &unshared));
-    HOLDS(shows(7, 1, &shared));
-    IS(vnc_screen_settings(s, 7, 0, 0), 0);
-    IS(vnc_screen_settings(s, 7, &one, 1), 1);
+    HOLDS(shows(8, 0, &unshared));
+    HOLDS(shows(7, 0, &shared));
+    IS(vnc_screen_settings_n(s, 7, 0, 0), 0);
+    IS(vnc_screen_settings(s, 7, &one), 0);
     HOLDS(is_set(&one, &shared));
-    HOLDS(shows(9, VNC_NO_VIEWER, &unset));
-    IS(vnc_screen_settings(s, 9, 0, 0), VNC_NO_VIEWER);
-    IS(vnc_screen_close(s, 7), 0);
-    HOLDS(shows(7, VNC_NO_VIEWER, &unset));
-    IS(vnc_screen_shut(s), 0);
-    HOLDS(shows(7, VNC_SHUT, &unset));
+    HOLDS(shows(9, VNC_ERROR_NO_VIEWER, &unset));
+    IS(vnc_screen_settings_n(s, 9, 0, 0), VNC_ERROR_NO_VIEWER);
+    IS(vnc_screen_close_viewer(s, 7), 0);
+    HOLDS(shows(7, VNC_ERROR_NO_VIEWER, &unset));
+    IS(vnc_screen_close(s), 0);
+    HOLDS(shows(7, VNC_ERROR_CLOSED, &unset));
     return 0;
 }
 
@@ -311,7 +311,7 @@ static int sets(size_t k)
 {
     if (settings[k].anew) DO(opens_with_viewer(s));
     IS(hears(s, 7, settings[k].said, settings[k].count), 0);
-    HOLDS(shows(7, 1, &settings[k].set));
+    HOLDS(shows(7, 0, &settings[k].set));
     return 0;
 }
 
@@ -323,23 +323,23 @@ static int draws(void)
     IS(opens(s), 0);
     IS(vnc_screen_write_pixels(s, 0, 0, 2, 1, some, 2), 0);
     IS(vnc_screen_colour(s, 1, 0), 2);
-    IS(vnc_screen_paint(s, 0, 0, 3, 1, some, 3), VNC_BAD_RECT);
-    IS(vnc_screen_paint(s, 0, 0, 2, 1, some, 1), VNC_BAD_PIXEL_COUNT);
+    IS(vnc_screen_paint(s, 0, 0, 3, 1, some, 3), VNC_ERROR_BAD_RECT);
+    IS(vnc_screen_paint(s, 0, 0, 2, 1, some, 1), VNC_ERROR_BAD_PIXEL_COUNT);
     IS(vnc_screen_do_copy_rect(s, 1, 0, 2, 1, 1, 0), 0);
     IS(vnc_screen_colour(s, 1, 0), 1);
-    IS(vnc_screen_colour(s, 2, 0), VNC_OFF_SCREEN);
+    IS(vnc_screen_colour(s, 2, 0), VNC_ERROR_OFF_SCREEN);
     IS(vnc_screen_mark_region(s, &all, 1), 0);
-    IS(vnc_screen_mark_region(s, far, 2), VNC_OUT_OF_RANGE);
+    IS(vnc_screen_mark_region(s, far, 2), VNC_ERROR_OUT_OF_RANGE);
     IS(vnc_screen_schedule_copy_region(s, &all, 1, 1, 0), 0);
     IS(vnc_screen_do_copy_region(s, &all, 1, 0, 1), 0);
     IS(vnc_screen_mark_rect(s, 2, 1, 0, 0), 0);
     IS(vnc_screen_schedule_copy_rect(s, 1, 0, 2, 1, 1, 0), 0);
     IS(vnc_screen_cut_text(s, (const uint8_t *)"hi", 2), 0);
-    IS(vnc_screen_new_framebuffer(s, 3, 0), VNC_BAD_SIZE);
+    IS(vnc_screen_new_framebuffer(s, 3, 0), VNC_ERROR_BAD_SIZE);
     IS(vnc_screen_new_framebuffer(s, 3, 2), 0);
     IS(vnc_screen_width(s), 3);
     IS(vnc_screen_height(s), 2);
-    return vnc_screen_shut(s);
+    return vnc_screen_close(s);
 }
 
 /* A program's own pixels, one of which may lie off the screen: so many places change, and have these colours then. In 32 bits, whose top byte
@@ -356,7 +356,7 @@ static const struct { uint32_t left; const char *bytes; size_t count, formats, t
 static int takes(size_t k)
 {
     static const uint32_t table[2] = {0xff0000, 0x0000ff};
-    IS(vnc_screen_take(s, taken[k].left, 0, 2, 1, (const uint8_t *)taken[k].bytes, taken[k].count, taken[k].count, &sixteen, taken[k].formats, table, taken[k].table),
+    IS(vnc_screen_update_from(s, taken[k].left, 0, 2, 1, (const uint8_t *)taken[k].bytes, taken[k].count, taken[k].count, &sixteen, taken[k].formats, table, taken[k].table),
        taken[k].places);
     IS(vnc_screen_colour(s, 0, 0), taken[k].colours[0]);
     IS(vnc_screen_colour(s, 1, 0), taken[k].colours[1]);
@@ -367,13 +367,13 @@ static int refuses_pixels(void)
 {
     static const uint8_t bytes[4] = {7, 7, 7, 7};
     IS(opens(s), 0);
-    IS(vnc_screen_take(s, 0, 0, 1, 1, bytes, 4, 4, &no_green, 1, 0, 0), VNC_BAD_FORMAT);
-    IS(vnc_screen_take(s, 0, 0, 1, 1, bytes, 4, 4, &sixteen, 1, some, 1), VNC_BAD_FORMAT);
-    IS(vnc_screen_take(s, 0, 0, 2, 1, bytes, 4, 3, &sixteen, 1, 0, 0), VNC_BAD_STRIDE);
-    IS(vnc_screen_take(s, 0, 0, 2, 1, bytes, 3, 4, &sixteen, 1, 0, 0), VNC_TOO_FEW_BYTES);
+    IS(vnc_screen_update_from(s, 0, 0, 1, 1, bytes, 4, 4, &no_green, 1, 0, 0), VNC_ERROR_BAD_FORMAT);
+    IS(vnc_screen_update_from(s, 0, 0, 1, 1, bytes, 4, 4, &sixteen, 1, some, 1), VNC_ERROR_BAD_FORMAT);
+    IS(vnc_screen_update_from(s, 0, 0, 2, 1, bytes, 4, 3, &sixteen, 1, 0, 0), VNC_ERROR_BAD_STRIDE);
+    IS(vnc_screen_update_from(s, 0, 0, 2, 1, bytes, 3, 4, &sixteen, 1, 0, 0), VNC_ERROR_TOO_FEW_BYTES);
     IS(vnc_screen_colour(s, 0, 0), 0);
-    IS(vnc_screen_shut(s), 0);
-    IS(vnc_screen_take(s, 0, 0, 1, 1, bytes, 4, 4, 0, 0, 0, 0), VNC_SHUT);
+    IS(vnc_screen_close(s), 0);
+    IS(vnc_screen_update_from(s, 0, 0, 1, 1, bytes, 4, 4, 0, 0, 0, 0), VNC_ERROR_CLOSED);
     return 0;
 }
 

@@ -8,7 +8,7 @@
 #include <sys/syscall.h>
 #include <sys/wait.h>
 
-/* What vnc_server_longest_wait says where a turn would wait without end. */
+/* What vnc_server_timeout says where a turn would wait without end. */
 enum { NO_END = INT32_MAX };
 
 /* The clock, which the library asks too: it fails where it is told to. */
@@ -49,9 +49,9 @@ static int says_texts(uint32_t count, uint32_t length)
 /* The next inputs, which are there, are so many keys, numbered from 0 on; and so many texts, each of so many letters. */
 static int told_keys(uint32_t count)
 {
-    vnc_input in = {0, 0, 0, 0, 0, 0, 0, 0, 0}, want = {1, VNC_KEY, 1, 0, 0, 0, 0, 0, 0};
+    vnc_input in = {0, 0, 0, 0, 0, 0, 0, 0, 0}, want = {1, VNC_INPUT_KEY, 1, 0, 0, 0, 0, 0, 0};
     for (want.key = 0; want.key < count; want.key++)
-        if (vnc_server_inputs(s, &in, 1) != 1 || !is_input(&in, &want)) return 0;
+        if (vnc_server_next_inputs(s, &in, 1) != 1 || !is_input(&in, &want)) return 0;
     return 1;
 }
 
@@ -59,7 +59,7 @@ static int told_texts(uint32_t count, uint64_t length)
 {
     vnc_input in;
     for (; count > 0; count--)
-        if (vnc_server_inputs(s, &in, 1) != 1 || in.kind != VNC_TEXT || in.length != length || in.shortened != 0) return 0;
+        if (vnc_server_next_inputs(s, &in, 1) != 1 || in.kind != VNC_INPUT_TEXT || in.length != length || in.shortened != 0) return 0;
     return 1;
 }
 
@@ -71,11 +71,28 @@ static int keys(void)
     HOLDS(opens(&first));
     HOLDS(says_keys(4100));
     HOLDS(sees_all(first));
-    IS(vnc_server_lost(s), 4);
+    IS(vnc_server_lost_count(s), 4);
     HOLDS(told_keys(4096));
-    IS(vnc_server_inputs(s, &in, 1), 0);
+    IS(vnc_server_next_inputs(s, &in, 1), 0);
     HOLDS(is_heard(first));
-    IS(vnc_server_lost(s), 4);
+    IS(vnc_server_lost_count(s), 4);
+    return is_over();
+}
+
+/* Texts that are lost, since 4,096 inputs wait, take none of the room for texts: more than 4 MB of them, and behind them one is kept. */
+static int lost_texts(void)
+{
+    IS(listens(2, 1), 0);
+    HOLDS(opens(&first));
+    HOLDS(says_keys(4096));
+    HOLDS(says_texts(2048, 2049));
+    HOLDS(sees_all(first));
+    IS(vnc_server_lost_count(s), 2048);
+    HOLDS(told_keys(4096));
+    HOLDS(says_texts(1, 2049));
+    HOLDS(sees_all(first));
+    HOLDS(told_texts(1, 2049));
+    IS(vnc_server_lost_count(s), 2048);
     return is_over();
 }
 
@@ -83,16 +100,16 @@ static int keys(void)
 static int loses_count(void)
 {
     vnc_input in[4];
-    vnc_visit visits[2];
+    vnc_event events[2];
     IS(listens(2, 1), 0);
     HOLDS(opens(&first));
     HOLDS(says_keys(4097));
     HOLDS(sees_all(first));
-    IS(vnc_server_lost(s), 1);
+    IS(vnc_server_lost_count(s), 1);
     IS(listens(2, 1), 0);
-    IS(vnc_server_lost(s), 0);
-    IS(vnc_server_inputs(s, in, 4), 0);
-    IS(vnc_server_comings_and_goings(s, visits, 2), 0);
+    IS(vnc_server_lost_count(s), 0);
+    IS(vnc_server_next_inputs(s, in, 4), 0);
+    IS(vnc_server_next_events(s, events, 2), 0);
     return is_over();
 }
 
@@ -106,13 +123,13 @@ static int comes_to(int64_t (*call)(vnc_server *), int64_t answer)
     return 0;
 }
 
-static int64_t lost(vnc_server *of) { return vnc_server_lost(of); }
-static int64_t longest_wait(vnc_server *of) { return vnc_server_longest_wait(of); }
+static int64_t lost(vnc_server *of) { return vnc_server_lost_count(of); }
+static int64_t timeout_of(vnc_server *of) { return vnc_server_timeout(of); }
 
 /* Of 520 viewers that come and go, 1,024 comings and goings are kept, and the last 16 are lost. */
-static int visits(void)
+static int events(void)
 {
-    vnc_visit visit;
+    vnc_event event;
     int k;
     IS(listens(2, 1), 0);
     for (k = 0; k < 520; k++) {
@@ -122,8 +139,8 @@ static int visits(void)
     }
     HOLDS(comes_to(lost, 16));
     HOLDS(comes(1));
-    for (k = 0; k < 1023; k++) IS(vnc_server_comings_and_goings(s, &visit, 1), 1);
-    IS(vnc_server_comings_and_goings(s, &visit, 1), 0);
+    for (k = 0; k < 1023; k++) IS(vnc_server_next_events(s, &event, 1), 1);
+    IS(vnc_server_next_events(s, &event, 1), 0);
     IS(vnc_server_viewer_count(s), 0);
     return is_over();
 }
@@ -138,7 +155,7 @@ static int says_more(size_t k)
     HOLDS(opens(&first));
     HOLDS(says_texts(more_texts[k].count, more_texts[k].length));
     HOLDS(sees_all(first));
-    IS(vnc_server_lost(s), more_texts[k].lost);
+    IS(vnc_server_lost_count(s), more_texts[k].lost);
     return 0;
 }
 
@@ -152,12 +169,12 @@ static int texts(void)
         HOLDS(says_texts(32, 2048));
         HOLDS(sees_all(first));
     }
-    IS(vnc_server_lost(s), 0);
+    IS(vnc_server_lost_count(s), 0);
     EACH(k, more_texts) ROW(k, says_more(k));
     HOLDS(told_texts(2047, 2048));
     HOLDS(told_texts(1, 0));
     HOLDS(told_texts(2, 1024));
-    IS(vnc_server_inputs(s, &in, 1), 0);
+    IS(vnc_server_next_inputs(s, &in, 1), 0);
     return is_over();
 }
 
@@ -170,7 +187,7 @@ static int waits(void)
     static const uint32_t eight = 8;
     double start;
     IS(listens(2, 1), 0);
-    HOLDS(comes_to(longest_wait, NO_END));
+    HOLDS(comes_to(timeout_of, NO_END));
     start = seconds();
     IS(vnc_server_process_events(s, 30), 0);
     HOLDS(seconds() - start >= 0.03);
@@ -179,10 +196,10 @@ static int waits(void)
     HOLDS(says(first, B(CHANGES)));
     HOLDS(is_heard(first));
     IS(vnc_server_paint(s, 0, 0, 1, 1, &eight, 1), 0);
-    IS(vnc_server_longest_wait(s), 0);
+    IS(vnc_server_timeout(s), 0);
     HOLDS(reads(first, B("\0\0\0\x01\0\0\0\0\0\x01\0\x01\0\0\0\0\x08\0\0\0")));
     IS(vnc_server_bell(s), 0);
-    IS(vnc_server_longest_wait(s), 0);
+    IS(vnc_server_timeout(s), 0);
     HOLDS(reads(first, "\x02", 1));
     return is_over();
 }
@@ -192,7 +209,7 @@ static int handle(void)
 {
     struct pollfd ready = {-1, POLLIN, 0};
     IS(listens(2, 1), 0);
-    HOLDS(comes_to(longest_wait, NO_END));
+    HOLDS(comes_to(timeout_of, NO_END));
     ready.fd = vnc_server_fd(s);
     HOLDS(ready.fd >= 0);
     IS(vnc_server_fd(s), ready.fd);
@@ -210,8 +227,8 @@ static int no_time(void)
     IS(listens(2, 1), 0);
     HOLDS(connects(&first));
     clock_fails = 1;
-    IS(vnc_server_longest_wait(s), VNC_CLOCK_FAILED);
-    IS(vnc_server_process_events(s, 0), VNC_CLOCK_FAILED);
+    IS(vnc_server_timeout(s), VNC_ERROR_CLOCK);
+    IS(vnc_server_process_events(s, 0), VNC_ERROR_CLOCK);
     clock_fails = 0;
     HOLDS(says(first, B(OPENING)));
     HOLDS(skips(first, GREETED));
@@ -227,26 +244,26 @@ static int wakers(void)
     vnc_waker *w = 0;
     int32_t code;
     IS(listens(2, 1), 0);
-    HOLDS(comes_to(longest_wait, NO_END));
+    HOLDS(comes_to(timeout_of, NO_END));
     IS(vnc_waker_new(s, &w), 0);
     IS(vnc_waker_wake(w), 0);
     IS(vnc_server_process_events(s, -1), 0);
     IS(vnc_server_viewer_count(s), 0);
-    IS(vnc_server_lost(s), 0);
-    IS(vnc_server_longest_wait(s), NO_END);
+    IS(vnc_server_lost_count(s), 0);
+    IS(vnc_server_timeout(s), NO_END);
     IS(vnc_waker_close(w), 0);
-    IS(vnc_waker_wake(w), VNC_SHUT);
+    IS(vnc_waker_wake(w), VNC_ERROR_CLOSED);
     IS(vnc_waker_close(w), 0);
     vnc_waker_init(s, w);
     IS(vnc_waker_wake(w), 0);
     IS(vnc_server_close(s), 0);
     code = vnc_waker_wake(w);
-    HOLDS(code == 0 || code == VNC_NETWORK_FAILED);
+    HOLDS(code == 0 || code == VNC_ERROR_NETWORK);
     vnc_waker_free(w);
     IS(vnc_waker_new(s, &w), 0);
-    IS(vnc_waker_wake(w), VNC_SHUT);
+    IS(vnc_waker_wake(w), VNC_ERROR_CLOSED);
     vnc_waker_free(w);
-    IS(vnc_server_process_events(s, 0), VNC_SHUT);
+    IS(vnc_server_process_events(s, 0), VNC_ERROR_CLOSED);
     return is_over();
 }
 
@@ -289,7 +306,7 @@ static int another_thread(void)
 {
     vnc_waker *w = 0;
     IS(listens(2, 1), 0);
-    HOLDS(comes_to(longest_wait, NO_END));
+    HOLDS(comes_to(timeout_of, NO_END));
     IS(vnc_waker_new(s, &w), 0);
     DO(is_woken(w));
     DO(is_woken(w));
@@ -308,11 +325,11 @@ static int silent(void)
     HOLDS(reads(first, B("RFB 003.008\n")));
     HOLDS(comes(1));
     for (k = 0; k < 100 && vnc_server_viewer_count(s) > 0; k++) {
-        int32_t wait = vnc_server_longest_wait(s);
+        int32_t wait = vnc_server_timeout(s);
         HOLDS(wait >= 0 && wait <= 10000);
         IS(vnc_server_process_events(s, wait), 0);
     }
-    HOLDS(goes(1, VNC_TOOK_TOO_LONG, 0));
+    HOLDS(goes(1, VNC_REASON_TIMEOUT, 0));
     HOLDS(ends(first));
     HOLDS(seconds() - start >= 10);
     return is_over();
@@ -322,7 +339,8 @@ static int all_others(void)
 {
     DO(keys());
     DO(loses_count());
-    DO(visits());
+    DO(lost_texts());
+    DO(events());
     DO(texts());
     DO(waits());
     DO(handle());

@@ -20,7 +20,7 @@ static const char *at(const char *name)
 static int32_t records(const char *name)
 {
     at(name);
-    return vnc_server_record(s, (const uint8_t *)path, strlen(path));
+    return vnc_server_record(s, path);
 }
 
 /* The first bytes of a file go to `room`, with a zero behind them: how many there are, or -1 where there is no such file. */
@@ -50,13 +50,13 @@ static int has(const char *name, const char *text)
 /* Nothing is recorded where nothing was named, or a path of no bytes was, and where the server is shut. */
 static int unrecorded(void)
 {
-    IS(vnc_server_record_state(s), VNC_SHUT);
+    IS(vnc_server_record_state(s), VNC_ERROR_CLOSED);
     IS(listens(2, 1), 0);
-    IS(vnc_server_record_state(s), VNC_NOT_RECORDED);
+    IS(vnc_server_record_state(s), VNC_RECORD_NONE);
     IS(records("taken_back"), 0);
-    IS(vnc_server_record(s, (const uint8_t *)"", 0), 0);
+    IS(vnc_server_record(s, ""), 0);
     IS(listens(2, 1), 0);
-    IS(vnc_server_record_state(s), VNC_NOT_RECORDED);
+    IS(vnc_server_record_state(s), VNC_RECORD_NONE);
     IS(access(at("taken_back"), F_OK), -1);
     return is_over();
 }
@@ -70,11 +70,11 @@ static int drawn(void)
     IS(records("drawn"), 0);
     IS(access(at("drawn"), F_OK), -1);
     IS(listens(2, 1), 0);
-    IS(vnc_server_record_state(s), VNC_RECORDED);
+    IS(vnc_server_record_state(s), VNC_RECORD_WRITTEN);
     IS(stat(at("drawn"), &found), 0);
     IS(found.st_mode & 0777, 0600);
     IS(vnc_server_paint(s, 0, 0, 2, 1, colours, 2), 0);
-    IS(vnc_server_paint(s, 0, 0, 3, 1, colours, 2), VNC_BAD_RECT);
+    IS(vnc_server_paint(s, 0, 0, 3, 1, colours, 2), VNC_ERROR_BAD_RECT);
     IS(vnc_server_write_pixels(s, 1, 0, 2, 1, colours, 1), 0);
     IS(vnc_server_mark_rect(s, 0, 0, 1, 1), 0);
     IS(vnc_server_mark_region(s, both, 0), 0);
@@ -84,7 +84,7 @@ static int drawn(void)
     IS(vnc_server_cut_text(s, (const uint8_t *)"hi", 2), 0);
     IS(vnc_server_new_framebuffer(s, 1, 1), 0);
     IS(vnc_server_close(s), 0);
-    IS(vnc_server_record_state(s), VNC_SHUT);
+    IS(vnc_server_record_state(s), VNC_ERROR_CLOSED);
     HOLDS(has("drawn", SCREEN "paint 0 0 2 1 ff800000007f\nwrite 1 0 1 1 ff8000\nmark 0 0 1 1\nmarks\nschedule 1 0 2 1 1 0\ndocopy 0 0 1 1 -1 0\nbell\n"
                               "cuttext 6869\nresize 1 1\n"));
     return is_over();
@@ -101,7 +101,7 @@ static int visited(void)
     HOLDS(comes(1));
     HOLDS(sees_all(first));
     leaves(&first);
-    HOLDS(goes(1, VNC_LEFT, 0));
+    HOLDS(goes(1, VNC_REASON_LEFT, 0));
     IS(vnc_server_close(s), 0);
     HOLDS(holds("visited", room, sizeof room) > 0);
     HOLDS(strncmp(room, SCREEN "connect 1\n", sizeof SCREEN + 9) == 0);
@@ -125,34 +125,34 @@ static int refusals(void)
     IS(listens(3, 2), 0);
     port = vnc_server_port(s);
     IS(records("drawn"), 0);
-    IS(listens(2, 1), VNC_CANNOT_RECORD);
+    IS(listens(2, 1), VNC_ERROR_CANNOT_RECORD);
     IS(records("folder"), 0);
-    IS(listens(2, 1), VNC_CANNOT_RECORD);
+    IS(listens(2, 1), VNC_ERROR_CANNOT_RECORD);
     IS(records("link"), 0);
-    IS(listens(2, 1), VNC_CANNOT_RECORD);
+    IS(listens(2, 1), VNC_ERROR_CANNOT_RECORD);
     IS(records("none/file"), 0);
-    IS(listens(2, 1), VNC_CANNOT_RECORD);
+    IS(listens(2, 1), VNC_ERROR_CANNOT_RECORD);
     memset(longest, 'a', sizeof longest);
-    IS(vnc_server_record(s, longest, 4096), 0);
-    IS(listens(2, 1), VNC_CANNOT_RECORD);
-    IS(vnc_server_record(s, (const uint8_t *)"/tmp/a\0b", 8), 0);
-    IS(listens(2, 1), VNC_CANNOT_RECORD);
+    IS(vnc_server_record_n(s, longest, 4096), 0);
+    IS(listens(2, 1), VNC_ERROR_CANNOT_RECORD);
+    IS(vnc_server_record_n(s, (const uint8_t *)"/tmp/a\0b", 8), 0);
+    IS(listens(2, 1), VNC_ERROR_CANNOT_RECORD);
     IS(vnc_server_port(s), port);
     IS(vnc_server_width(s), 3);
-    IS(vnc_server_record_state(s), VNC_NOT_RECORDED);
+    IS(vnc_server_record_state(s), VNC_RECORD_NONE);
     IS(records("unmade"), 0);
-    IS(listens_on(s, port, 2, 1, 8), VNC_CANNOT_LISTEN);
-    IS(listens_on(s, 0, 0, 1, 8), VNC_BAD_SIZE);
+    IS(listens_on(s, port, 2, 1, 8), VNC_ERROR_CANNOT_LISTEN);
+    IS(listens_on(s, 0, 0, 1, 8), VNC_ERROR_BAD_SIZE);
     IS(access(at("unmade"), F_OK), -1);
     IS(listens(2, 1), 0);
-    IS(vnc_server_record_state(s), VNC_RECORDED);
+    IS(vnc_server_record_state(s), VNC_RECORD_WRITTEN);
     IS(listens(2, 1), 0);
-    IS(vnc_server_record_state(s), VNC_NOT_RECORDED);
+    IS(vnc_server_record_state(s), VNC_RECORD_NONE);
     HOLDS(has("unmade", SCREEN));
     IS(records("forgotten"), 0);
     IS(vnc_server_close(s), 0);
     IS(listens(2, 1), 0);
-    IS(vnc_server_record_state(s), VNC_NOT_RECORDED);
+    IS(vnc_server_record_state(s), VNC_RECORD_NONE);
     return is_over();
 }
 
@@ -190,11 +190,11 @@ static int made(void)
 {
     vnc_server *other = 0;
     IS(vnc_server_new_recorded("127.0.0.1", 0, 2, 1, "demo", 8, at("made"), &other), 0);
-    IS(vnc_server_record_state(other), VNC_RECORDED);
+    IS(vnc_server_record_state(other), VNC_RECORD_WRITTEN);
     vnc_server_free(other);
     HOLDS(has("made", SCREEN));
     other = 0;
-    IS(vnc_server_new_recorded("127.0.0.1", 0, 2, 1, "demo", 8, at("made"), &other), VNC_CANNOT_RECORD);
+    IS(vnc_server_new_recorded("127.0.0.1", 0, 2, 1, "demo", 8, at("made"), &other), VNC_ERROR_CANNOT_RECORD);
     HOLDS(other == 0);
     return 0;
 }

@@ -53,7 +53,7 @@ static int draws(void)
     IS(listens(2, 1), 0);
     HOLDS(opens(&first));
     HOLDS(sees_all(first));
-    IS(vnc_server_take(s, 0, 0, 2, 1, pixels, 8, 8, 0, 0, 0, 0), 1);
+    IS(vnc_server_update_from(s, 0, 0, 2, 1, pixels, 8, 8, 0, 0, 0, 0), 1);
     HOLDS(says(first, B(CHANGES)));
     HOLDS(reads(first, B("\0\0\0\x01\0\x01\0\0\0\x01\0\x01\0\0\0\0\x33\x22\x11\0")));
     HOLDS(is_sent_no_more(first));
@@ -76,10 +76,10 @@ static int draws(void)
 #define INPUTS "\x04\x01\0\0\0\0\xff\x0d\x05\x81\0\x03\0\x04\x06\0\0\0\0\0\0\x03yes\x04\0\0\0\0\0\xff\x0d"
 
 static const vnc_input told[] = {
-    {1, VNC_KEY, 1, 0xff0d, 0, 0, 0, 0, 0},
-    {1, VNC_POINTER, 0, 0, 0x81, 3, 4, 0, 0},
-    {1, VNC_TEXT, 0, 0, 0, 0, 0, 3, 0},
-    {1, VNC_KEY, 0, 0xff0d, 0, 0, 0, 0, 0},
+    {1, VNC_INPUT_KEY, 1, 0xff0d, 0, 0, 0, 0, 0},
+    {1, VNC_INPUT_POINTER, 0, 0, 0x81, 3, 4, 0, 0},
+    {1, VNC_INPUT_TEXT, 0, 0, 0, 0, 0, 3, 0},
+    {1, VNC_INPUT_KEY, 0, 0xff0d, 0, 0, 0, 0, 0},
 };
 
 static int tells(void)
@@ -90,8 +90,8 @@ static int tells(void)
     HOLDS(opens(&first));
     HOLDS(says(first, B(INPUTS)));
     EACH(k, told) ROW(k, !next_input(in) || !is_input(in, &told[k]));
-    IS(vnc_server_inputs(s, in, 4), 0);
-    IS(vnc_server_lost(s), 0);
+    IS(vnc_server_next_inputs(s, in, 4), 0);
+    IS(vnc_server_lost_count(s), 0);
     return is_over();
 }
 
@@ -107,7 +107,7 @@ static int texts(void)
     HOLDS(sees_all(first));
     IS(vnc_server_text(s, room, 5), 0);
     HOLDS(memcmp(room, "\0\0\0\0\0", 5) == 0);
-    IS(vnc_server_inputs(s, in, 4), 3);
+    IS(vnc_server_next_inputs(s, in, 4), 3);
     for (k = 0; k < 3; k++) ROW(k, !is_input(in + k, &told[k]));
     IS(vnc_server_text(s, room, 2), 2);
     HOLDS(memcmp(room, "ye\0\0\0", 5) == 0);
@@ -115,7 +115,7 @@ static int texts(void)
     HOLDS(memcmp(room, "yes\0\0", 5) == 0);
     IS(vnc_server_text(s, room, 0), 0);
     HOLDS(memcmp(room, "yes\0\0", 5) == 0);
-    IS(vnc_server_inputs(s, in, 4), 1);
+    IS(vnc_server_next_inputs(s, in, 4), 1);
     HOLDS(is_input(in, &told[3]));
     IS(vnc_server_text(s, room + 3, 2), 2);
     HOLDS(memcmp(room, "yesye", 5) == 0);
@@ -123,7 +123,7 @@ static int texts(void)
     HOLDS(sees_all(first));
     IS(vnc_server_text(s, room, 5), 3);
     HOLDS(memcmp(room, "yesye", 5) == 0);
-    IS(vnc_server_inputs(s, in, 4), 1);
+    IS(vnc_server_next_inputs(s, in, 4), 1);
     IS(vnc_server_text(s, room, 5), 2);
     HOLDS(memcmp(room, "nosye", 5) == 0);
     return is_over();
@@ -133,7 +133,7 @@ static int texts(void)
 static int shortens(void)
 {
     static uint8_t letters[262144], room[262144];
-    static const vnc_input shortened = {1, VNC_TEXT, 0, 0, 0, 0, 0, 262144, 1};
+    static const vnc_input shortened = {1, VNC_INPUT_TEXT, 0, 0, 0, 0, 0, 262144, 1};
     vnc_input in;
     memset(letters, 'a', sizeof letters);
     IS(listens(2, 1), 0);
@@ -164,7 +164,7 @@ static int shows(uint64_t viewer, int32_t code, const vnc_settings *want)
 {
     vnc_settings room[2];
     room[0] = room[1] = unset;
-    return vnc_server_settings(s, viewer, room, 2) == code && is_set(room, want) && is_set(room + 1, &unset);
+    return vnc_server_settings(s, viewer, room) == code && is_set(room, want) && is_set(room + 1, &unset);
 }
 
 /* The ServerInit (7.3.2) that answers the ClientInit has 28 bytes. */
@@ -173,18 +173,18 @@ static int share(void)
     IS(listens(2, 1), 0);
     HOLDS(connects(&first));
     HOLDS(comes(1));
-    HOLDS(shows(1, 1, &unshared));
+    HOLDS(shows(1, 0, &unshared));
     HOLDS(says(first, B("RFB 003.008\n\x01")));
     HOLDS(reads(first, B("RFB 003.008\n\x01\x01\0\0\0\0")));
-    HOLDS(shows(1, 1, &unshared));
+    HOLDS(shows(1, 0, &unshared));
     HOLDS(says(first, "\x01", 1));
     HOLDS(skips(first, 28));
-    HOLDS(shows(1, 1, &shared));
+    HOLDS(shows(1, 0, &shared));
     HOLDS(connects(&second));
     HOLDS(says(second, B("RFB 003.008\n\x01\0")));
     HOLDS(skips(second, GREETED));
-    HOLDS(shows(2, 1, &unshared));
-    HOLDS(shows(1, 1, &shared));
+    HOLDS(shows(2, 0, &unshared));
+    HOLDS(shows(1, 0, &shared));
     return is_over();
 }
 
@@ -203,7 +203,7 @@ static int sets(size_t k)
     int fd = settings[k].viewer == 1 ? first : second;
     HOLDS(says(fd, settings[k].said, settings[k].count));
     HOLDS(is_heard(fd));
-    HOLDS(shows(settings[k].viewer, 1, &settings[k].set));
+    HOLDS(shows(settings[k].viewer, 0, &settings[k].set));
     return 0;
 }
 
@@ -211,42 +211,42 @@ static int sets(size_t k)
 static int settings_of_nobody(void)
 {
     vnc_settings one;
-    HOLDS(shows(1, VNC_SHUT, &unset));
+    HOLDS(shows(1, VNC_ERROR_CLOSED, &unset));
     IS(listens(2, 1), 0);
-    HOLDS(shows(1, VNC_NO_VIEWER, &unset));
-    IS(vnc_server_settings(s, 1, 0, 0), VNC_NO_VIEWER);
+    HOLDS(shows(1, VNC_ERROR_NO_VIEWER, &unset));
+    IS(vnc_server_settings_n(s, 1, 0, 0), VNC_ERROR_NO_VIEWER);
     HOLDS(opens(&first));
-    IS(vnc_server_settings(s, 1, 0, 0), 0);
-    IS(vnc_server_settings(s, 1, &one, 1), 1);
+    IS(vnc_server_settings_n(s, 1, 0, 0), 0);
+    IS(vnc_server_settings(s, 1, &one), 0);
     HOLDS(is_set(&one, &shared));
-    HOLDS(shows(2, VNC_NO_VIEWER, &unset));
+    HOLDS(shows(2, VNC_ERROR_NO_VIEWER, &unset));
     IS(vnc_server_close_viewer(s, 1), 0);
     HOLDS(ends(first));
     HOLDS(comes(1));
-    HOLDS(goes(1, VNC_REFUSED, 0));
-    HOLDS(shows(1, VNC_NO_VIEWER, &unset));
+    HOLDS(goes(1, VNC_REASON_CLOSED, 0));
+    HOLDS(shows(1, VNC_ERROR_NO_VIEWER, &unset));
     return is_over();
 }
 
 /* Requests that are not incremental (7.5.3) are counted, those of a viewer and those of all, and others are not. */
 static int full_requests(void)
 {
-    IS(vnc_server_full_requests(s), VNC_SHUT);
+    IS(vnc_server_full_request_count(s), VNC_ERROR_CLOSED);
     IS(listens(2, 1), 0);
-    IS(vnc_server_full_requests(s), 0);
+    IS(vnc_server_full_request_count(s), 0);
     HOLDS(opens(&first));
     HOLDS(opens(&second));
-    IS(vnc_server_full_requests(s), 0);
+    IS(vnc_server_full_request_count(s), 0);
     HOLDS(sees_all(first));
-    IS(vnc_server_full_requests(s), 1);
+    IS(vnc_server_full_request_count(s), 1);
     HOLDS(says(first, B(CHANGES)));
     HOLDS(is_heard(first));
-    IS(vnc_server_full_requests(s), 1);
+    IS(vnc_server_full_request_count(s), 1);
     HOLDS(sees_all(second));
     HOLDS(sees_all(first));
-    IS(vnc_server_full_requests(s), 3);
-    HOLDS(shows(1, 1, &asked_twice));
-    HOLDS(shows(2, 1, &asked_once));
+    IS(vnc_server_full_request_count(s), 3);
+    HOLDS(shows(1, 0, &asked_twice));
+    HOLDS(shows(2, 0, &asked_once));
     return is_over();
 }
 

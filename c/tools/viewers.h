@@ -31,7 +31,7 @@ static int first = -1, second = -1;
 /* Listens on a port of 127.0.0.1, of port 0 one that the system chooses, with a black picture named "demo". */
 static inline int32_t listens_on(vnc_server *on, int port, uint32_t width, uint32_t height, uint32_t viewers)
 {
-    return vnc_server_listen(on, (const uint8_t *)"127.0.0.1", 9, (uint16_t)port, width, height, (const uint8_t *)"demo", 4, viewers);
+    return vnc_server_listen(on, "127.0.0.1", (uint16_t)port, width, height, "demo", viewers);
 }
 
 static inline int32_t listens(uint32_t width, uint32_t height) { return listens_on(s, 0, width, height, 8); }
@@ -54,8 +54,8 @@ static inline int is_over(void)
 static inline int turns(void)
 {
     int32_t code = vnc_server_process_events(s, WAIT);
-    if (code != 0 && code != VNC_OUT_OF_MEMORY) printf("a turn gives %d\n", (int)code);
-    return code == 0 || code == VNC_OUT_OF_MEMORY;
+    if (code != 0 && code != VNC_ERROR_NO_MEMORY) printf("a turn gives %d\n", (int)code);
+    return code == 0 || code == VNC_ERROR_NO_MEMORY;
 }
 
 /* Whether there is time for a turn, which is taken then. */
@@ -155,17 +155,17 @@ static inline int next_input(vnc_input *in)
     double end = seconds() + patience;
     memset(in, 0, sizeof *in);
     do {
-        if (vnc_server_inputs(s, in, 1) != 0) return 1;
+        if (vnc_server_next_inputs(s, in, 1) != 0) return 1;
     } while (is_patient(end));
     return 0;
 }
 
-static inline int next_visit(vnc_visit *visit)
+static inline int next_event(vnc_event *event)
 {
     double end = seconds() + patience;
-    memset(visit, 0, sizeof *visit);
+    memset(event, 0, sizeof *event);
     do {
-        if (vnc_server_comings_and_goings(s, visit, 1) != 0) return 1;
+        if (vnc_server_next_events(s, event, 1) != 0) return 1;
     } while (is_patient(end));
     return 0;
 }
@@ -174,23 +174,23 @@ static inline int next_visit(vnc_visit *visit)
 static inline int is_heard(int fd)
 {
     vnc_input in;
-    return says(fd, B("\x04\0\0\0\0\0\0\x20")) && next_input(&in) && in.kind == VNC_KEY && in.down == 0 && in.key == 0x20;
+    return says(fd, B("\x04\0\0\0\0\0\0\x20")) && next_input(&in) && in.kind == VNC_INPUT_KEY && in.down == 0 && in.key == 0x20;
 }
 
 /* It was sent nothing more: a bell (7.6.3) is the next byte. */
 static inline int is_sent_no_more(int fd) { return vnc_server_bell(s) == 0 && reads(fd, "\x02", 1); }
 
-static inline int is_visit(uint64_t viewer, uint32_t kind, uint32_t reason, int32_t fault)
+static inline int is_event(uint64_t viewer, uint32_t kind, uint32_t reason, int32_t fault)
 {
-    vnc_visit visit;
-    int is_there = next_visit(&visit);
-    if (is_there && visit.viewer == viewer && visit.kind == kind && visit.reason == reason && visit.fault == fault) return 1;
-    printf("viewer %lu, kind %u, reason %u, fault %d\n", (unsigned long)visit.viewer, (unsigned)visit.kind, (unsigned)visit.reason, (int)visit.fault);
+    vnc_event event;
+    int is_there = next_event(&event);
+    if (is_there && event.viewer == viewer && event.kind == kind && event.reason == reason && event.fault == fault) return 1;
+    printf("viewer %lu, kind %u, reason %u, fault %d\n", (unsigned long)event.viewer, (unsigned)event.kind, (unsigned)event.reason, (int)event.fault);
     return 0;
 }
 
 /* Who came next; and who went, for a reason and by a fault. */
-static inline int comes(uint64_t viewer) { return is_visit(viewer, VNC_CAME, 0, 0); }
-static inline int goes(uint64_t viewer, uint32_t reason, int32_t fault) { return is_visit(viewer, VNC_WENT, reason, fault); }
+static inline int comes(uint64_t viewer) { return is_event(viewer, VNC_EVENT_CONNECTED, 0, 0); }
+static inline int goes(uint64_t viewer, uint32_t reason, int32_t fault) { return is_event(viewer, VNC_EVENT_DISCONNECTED, reason, fault); }
 
 #endif

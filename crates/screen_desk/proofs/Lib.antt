@@ -2,3 +2,4 @@ pub mod Fetching
 pub mod Drawing
 pub mod Taking
 pub mod Pieces
+pub mod Showing

@@ -1,5 +1,5 @@
 -- What the calls of a desk do: the number that each answers, and the desk before and after it.
-use Rattle.std.specs.Prelude.{◌≡◌, ◌≢◌, ◌⊎◌, ℕ, ◌+◌, ◌*◌, ◌^◌, nat_lt, min, ℤ, pos, ◌<ℤ◌, ◌≤ℤ◌, ◌&&◌, if◌then◌else◌, List, [], ◌∷◌, ◌++◌, length, drop, take, slice_index, slice_set, Option, Some, None, option_map, MatchOption}
+use Rattle.std.specs.Prelude.{◌≡◌, ◌≢◌, ◌⊎◌, ℕ, ◌+◌, ◌*◌, ◌^◌, nat_lt, min, ℤ, pos, ◌<ℤ◌, ◌≤ℤ◌, ◌&&◌, if◌then◌else◌, List, [], ◌∷◌, ◌++◌, length, drop, take, slice_index, Option, Some, None, option_map, MatchOption}
 use Rattle.std.specs.Map.{keys_of}
 use Rattle.source_pixels.specs.Source.{Source}
 use Rattle.region.specs.declared.Rect.{Rect}
@@ -16,8 +16,7 @@ use Rattle.screen_desk.specs.Codes.{Answers, code_of, done, fault_code, no_viewe
 use Rattle.screen_desk.specs.Desk.{Standing, StandsFor, IsListOf, due, region_due, cut_due, cut_into_due, absence, put_output, without, next_piece, left_of}
 use Rattle.screen_desk.specs.Inputs.{told_by, IsFetched}
 use Rattle.screen_desk.specs.Pixels.{source_due}
-use Rattle.screen_desk.specs.Settings.{settings_as}
-use Rattle.screen_desk.specs.declared.settings.ViewerSettings.{ViewerSettings}
+use Rattle.screen_desk.specs.Settings.{settings_words}
 use Rattle.screen_desk.specs.declared.told.Told.{Told}
 
 -- the desk opens a screen with nothing on it, or is as it was
@@ -128,12 +127,22 @@ pub record Fetches (old new : Standing) (room_old room_new : List Told) (code : 
 abbrev pub count_shown : List ℕ → List ℕ → ℕ
 count_shown items room = min (min (length items) (length room)) (2 ^ 30)
 
+-- a room with these at its start
+abbrev pub shown_in : List ℕ → List ℕ → List ℕ
+shown_in items room = take (count_shown items room) items ++ drop (count_shown items room) room
+
 -- the first items of a list are put at the room's start, as many as fit, at most 2^30, and the number says how many they are
 pub record Shows (items : List ℕ) (old new : Standing) (room_old room_new : List ℕ) (code : ℤ) : Type 0 where
   pub answer : MatchOption old.screen (code ≡ shut) (λ screen. (code ≡ pos (count_shown items room_old)) ⊎ (code ≡ out_of_memory))
   pub shown : pos 0 ≤ℤ code → room_new ≡ take (count_shown items room_old) items ++ drop (count_shown items room_old) room_old
   pub same : new ≡ old
   pub refused : code <ℤ pos 0 → room_new ≡ room_old
+
+-- the same of the text that was fetched last, which wants no memory
+pub record ShowsText (old new : Standing) (room_old room_new : List ℕ) (code : ℤ) : Type 0 where
+  pub answer : MatchOption old.screen (code ≡ shut) (λ screen. code ≡ pos (count_shown old.text room_old))
+  pub shown : MatchOption old.screen (room_new ≡ room_old) (λ screen. room_new ≡ shown_in old.text room_old)
+  pub same : new ≡ old
 
 -- the live viewers' numbers, in order of connecting
 abbrev pub numbers_of : Option State → List ℕ
@@ -149,16 +158,16 @@ pub record Tells (number : State → ℤ) (old new : Standing) (code : ℤ) : Ty
 abbrev pub of_viewer : ℕ → (KeptViewer → ℤ) → State → ℤ
 of_viewer v number screen = elim (viewer_at screen v) [ None ↦ no_viewer | Some viewer ↦ number viewer ]
 
--- what a viewer has set is shown in a room: how many places that takes, or no_viewer
-abbrev pub settings_code : ℕ → List ViewerSettings → State → ℤ
-settings_code v room screen = of_viewer v (λ viewer. pos (min 1 (length room))) screen
+-- what a viewer has set is shown in a room: in how many words, or no_viewer
+abbrev pub settings_code : ℕ → List ℕ → State → ℤ
+settings_code v room screen = of_viewer v (λ viewer. pos (count_shown (settings_words (settings_of viewer)) room)) screen
 
--- and the room then: in its first place, if it has one, stands what the viewer has set; without such a viewer it is the same
-abbrev pub settings_room : ℕ → List ViewerSettings → State → List ViewerSettings
-settings_room v room screen = elim (viewer_at screen v) [ None ↦ room | Some viewer ↦ slice_set room 0 (settings_as (settings_of viewer)) ]
+-- and the room then: at its start stand the words, as many as fit; without such a viewer it is the same
+abbrev pub settings_room : ℕ → List ℕ → State → List ℕ
+settings_room v room screen = elim (viewer_at screen v) [ None ↦ room | Some viewer ↦ shown_in (settings_words (settings_of viewer)) room ]
 
 -- a call changes nothing but a room, which shows what a viewer has set
-pub record ShowsSettings (v : ℕ) (old new : Standing) (room_old room_new : List ViewerSettings) (code : ℤ) : Type 0 where
+pub record ShowsSettings (v : ℕ) (old new : Standing) (room_old room_new : List ℕ) (code : ℤ) : Type 0 where
   pub answer : MatchOption old.screen (code ≡ shut) (λ screen. code ≡ settings_code v room_old screen)
   pub room : MatchOption old.screen (room_new ≡ room_old) (λ screen. room_new ≡ settings_room v room_old screen)
   pub same : new ≡ old

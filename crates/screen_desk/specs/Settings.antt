@@ -1,5 +1,5 @@
 -- What a viewer has set, as a program in C is given it.
-use Rattle.std.specs.Prelude.{ℕ}
+use Rattle.std.specs.Prelude.{ℕ, ◌^◌, ◌/◌, ◌%◌, List, [], ◌∷◌}
 use Rattle.screen.specs.declared.Encoding.{Encoding}
 use Rattle.screen.specs.declared.Encoding.TheVariants.{Raw, Rre, Hextile}
 use Rattle.screen.specs.declared.BitsPerPixel.{BitsPerPixel}
@@ -57,3 +57,11 @@ settings_by s (TrueColour bits red green blue) = record (with_colour_map s) {
 
 abbrev pub settings_as : Settings → ViewerSettings
 settings_as s = settings_by s s.format.pixels
+
+-- these in 32-bit words, in the order of their fields; the count of full requests is two, its lower half first
+abbrev pub words_of : ViewerSettings → List ℕ
+words_of v = v.shared ∷ v.encoding ∷ v.copy_rect ∷ v.desktop_size ∷ v.bits_per_pixel ∷ v.depth ∷ v.big_endian ∷ v.true_colour ∷
+    v.red_max ∷ v.green_max ∷ v.blue_max ∷ v.red_shift ∷ v.green_shift ∷ v.blue_shift ∷ v.full_requests % 2 ^ 32 ∷ v.full_requests / 2 ^ 32 ∷ []
+
+abbrev pub settings_words : Settings → List ℕ
+settings_words s = words_of (settings_as s)

@@ -66,7 +66,7 @@ pub fn done_or(answer: Result<(), ScreenError>) -> i32
 }
 
 /// 1 or 0, or the code of a refusal.
-pub(crate) fn truth_or(answer: Result<bool, ScreenError>) -> i32
+pub fn truth_or(answer: Result<bool, ScreenError>) -> i32
     ensures { result ≡ code.truth_code answer }
 {
     match answer {

@@ -7,6 +7,7 @@ ghost use Rattle.screen_desk.specs.Desk.{rect_of, IsListOf};
 
 use screen::{Rect, Region, ScreenError};
 use std::alloc::{AllocError, Global};
+use std::mem::size_of;
 
 /// The places (x, y) with x1 <= x < x2 and y1 <= y < y2; none where x1 >= x2 or y1 >= y2.
 #[repr(C)]
@@ -17,6 +18,9 @@ pub struct Corners {
     pub x2: i32,
     pub y2: i32,
 }
+
+// As `vnc_rect` of C.
+const _: () = prove!(size_of::<Corners>() == 16);
 
 /// The furthest coordinate of a region's rectangle, and its opposite.
 const FURTHEST: i32 = 1 << 20;

@@ -15,7 +15,7 @@ ghost use Rattle.screen.specs.Refusals.{Refuses};
 ghost use Rattle.screen.specs.State.{state, refusal, viewer_at};
 ghost use Rattle.screen_desk.specs.Codes as code;
 ghost use Rattle.screen_desk.specs.Codes.{IsRefusal};
-ghost use Rattle.screen_desk.specs.Calls.{Opens, Draws, DrawsRegion, Connects, Hears, Cuts, CutsInto, Closes, TellsPending, Gives, Fetches, Shows, ShowsSettings, TakesPixels, Tells, numbers_of, of_viewer, colour_at};
+ghost use Rattle.screen_desk.specs.Calls.{Opens, Draws, DrawsRegion, Connects, Hears, Cuts, CutsInto, Closes, TellsPending, Gives, Fetches, Shows, ShowsSettings, ShowsText, TakesPixels, Tells, numbers_of, of_viewer, colour_at};
 ghost use Rattle.screen_desk.specs.Desk.{nothing_there, rect_of, config_of, put_output, region_due, IsListOf};
 ghost use Rattle.screen_desk.specs.Inputs.{in_order, told_by};
 ghost use Rattle.screen_desk.specs.Pixels.{format_of, source_from};
@@ -29,7 +29,7 @@ use crate::corners::{Corners, are_far, region_of};
 use crate::inputs::Inputs;
 use crate::output::{Output, copy_to, drop_output, fetch_output, first_for, put_bytes};
 use crate::pixels::{PixelLayout, source_of};
-use crate::settings::{ViewerSettings, show_settings};
+use crate::settings::show_settings;
 use crate::told::Told;
 use crate::update::DeskUpdate;
 use listed::Listed;
@@ -38,7 +38,7 @@ use std::alloc::Global;
 use std::marker::Model;
 
 /// A screen, or none where the desk is shut; what its viewers are to be sent; and what they told. Each call answers `SHUT` where
-/// it is shut, but for `open` and `shut`; a number below 0 is the code of a refusal, and nothing has changed then.
+/// it is shut, but for `open` and `close`; a number below 0 is the code of a refusal, and nothing has changed then.
 pub struct Desk {
     alloc: Global,
     screen: Option<Screen>,
@@ -301,7 +301,7 @@ impl Desk {
     /// on, and what differs is owed to every viewer. `bytes` has so many columns and rows of pixels, `stride` bytes from one row to the
     /// next; their format is a layout, or a table of colours, or where both are empty 32 bits `0x00RRGGBB` in little-endian order. What
     /// lies off the screen is left out. How many places changed; where memory is refused, each place has its old colour or its new one.
-    pub fn take(
+    pub fn update_from(
         &mut self,
         left: u32,
         top: u32,
@@ -398,7 +398,7 @@ impl Desk {
     }
 
     /// The screen is gone, with all that it held (`rfbScreenCleanup` of `rfb.h`). It answers 0, also where the desk is shut.
-    pub fn shut(&mut self) -> i32
+    pub fn close(&mut self) -> i32
         ensures { (self.new ≡ nothing_there) × (result ≡ code.done) }
     {
         self.screen = None;
@@ -472,7 +472,7 @@ impl Desk {
     }
 
     /// `Screen::close` (`rfbCloseClient` of `rfb.h`); nothing waits for the viewer any more.
-    pub fn close(&mut self, viewer: u64) -> i32
+    pub fn close_viewer(&mut self, viewer: u64) -> i32
         ensures { Closes viewer self.old self.new result }
     {
         let Some(screen) = &mut self.screen else {
@@ -485,8 +485,8 @@ impl Desk {
         done_or(answer)
     }
 
-    /// Puts the next bytes that wait for a viewer at the room's start, as many as are made and fit, and takes them from what waits. How many they are;
-    /// the rest of the room stays. 0 where nothing waits, or the room has no place.
+    /// Puts the next bytes that wait for a viewer at the room's start, as many as are made and fit, and takes them from what waits. How
+    /// many they are; the rest of the room stays. 0 where nothing waits, or the room has no place.
     pub fn output(&mut self, viewer: u64, room: &mut [u8]) -> i32
         ensures { Gives viewer self.old self.new room.old room.new result }
     {
@@ -501,7 +501,7 @@ impl Desk {
 
     /// Puts the first inputs that wait at the room's start, up to the first text, and takes them from what waits. How many they are; the
     /// rest of the room stays. The text's bytes are had by `text`, until a call fetches another.
-    pub fn inputs(&mut self, room: &mut [Told]) -> i64
+    pub fn next_inputs(&mut self, room: &mut [Told]) -> i64
         ensures { Fetches self.old self.new room.old room.new result }
     {
         if self.screen.is_none() {
@@ -513,7 +513,7 @@ impl Desk {
     /// Puts the first bytes of the text that was fetched last at the room's start, at most 2^30. How many they are; the rest of the room
     /// stays.
     pub fn text(&mut self, room: &mut [u8]) -> i32
-        ensures { Shows self.old.text self.old self.new room.old room.new result }
+        ensures { ShowsText self.old self.new room.old room.new result }
     {
         if self.screen.is_none() {
             return SHUT;
@@ -585,9 +585,9 @@ impl Desk {
         fault_or(screen.fault(viewer))
     }
 
-    /// `Screen::settings`: puts what a viewer has set at the room's start (`format` and the like of `rfbClientRec` in `rfb.h`). 1, or 0
-    /// where the room has no place; the rest of the room stays. `NoViewer`'s code where none has the number.
-    pub fn settings(&mut self, viewer: u64, room: &mut [ViewerSettings]) -> i32
+    /// Puts what `Screen::settings` says of a viewer at the room's start (`format` and the like of `rfbClientRec` in `rfb.h`), in 32-bit
+    /// words, as many as fit, and returns how many; the rest of the room stays. Returns `NoViewer`'s code where none has the number.
+    pub fn settings(&mut self, viewer: u64, room: &mut [u32]) -> i32
         ensures { ShowsSettings viewer self.old self.new room.old room.new result }
     {
         let Some(screen) = &self.screen else {

@@ -24,12 +24,13 @@ mod update;
 
 pub use codes::{
     OFF_SCREEN, OUT_OF_RANGE, OUTPUT_WAITS, SHUT, code_of, done_or, fault_code, places_code,
+    truth_or,
 };
 pub use corners::{Corners, are_far, region_of};
 pub use desk::Desk;
 pub use output::copy_to;
 pub use pixels::{BAD_FORMAT, BAD_STRIDE, PixelLayout, TOO_FEW_BYTES, source_of};
 pub use screen::{Fault, Input, ScreenError, Settings};
-pub use settings::{ViewerSettings, settings_as, show_settings};
+pub use settings::show_settings;
 pub use told::{Told, told_as};
 pub use update::DeskUpdate;

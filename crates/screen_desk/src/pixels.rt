@@ -5,6 +5,7 @@ ghost use Rattle.source_pixels.specs.declared.formats.SourceFormat.TheVariants a
 ghost use Rattle.screen_desk.specs.Pixels as pixels;
 
 use screen::{BytesPerPixel, Component, PixelSource, SourceError, SourceFormat, TrueColour};
+use std::mem::size_of;
 
 /// The format is none: a component has no value above 0, or doesn't fit in the pixel; a pixel isn't of 1 to 4 bytes; or a table has more
 /// than 256 colours, or stands beside a layout.
@@ -30,6 +31,9 @@ pub struct PixelLayout {
     pub green_shift: u32,
     pub blue_shift: u32,
 }
+
+// As `vnc_pixel_format` of C.
+const _: () = prove!(size_of::<PixelLayout>() == 32);
 
 fn bytes_of(count: u32) -> Option<BytesPerPixel>
     ensures { result ≡ pixels.bytes_of count }

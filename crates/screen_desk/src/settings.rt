@@ -1,15 +1,16 @@
 //! What a viewer has set, in numbers.
 
-ghost use Rattle.std.specs.Prelude.{◌≡◌, pos, min, length, slice_set, MatchResult};
+ghost use Rattle.std.specs.Prelude.{◌≡◌, pos, MatchResult};
+ghost use Rattle.screen_desk.specs.Calls.{count_shown, shown_in};
 ghost use Rattle.screen_desk.specs.Codes.{code_of};
-ghost use Rattle.screen_desk.specs.Settings.{settings_as, encoding_number, bit_count};
+ghost use Rattle.screen_desk.specs.Settings.{settings_as, settings_words, words_of, encoding_number, bit_count};
 
 use crate::codes::code_of;
+use crate::output::copy_to;
 use crate::told::one_if;
 use screen::{BitsPerPixel, Encoding, PixelFormat, Pixels, ScreenError, Settings};
 
 /// What a viewer has set by its messages (RFC 6143, 7.3.1, 7.5.1 and 7.5.2).
-#[repr(C)]
 #[derive(Clone, Copy)]
 pub struct ViewerSettings {
     /// 1 where its ClientInit asked that other viewers stay connected; 0 before it. The server serves all all the same.
@@ -68,8 +69,8 @@ fn bit_count(bits: BitsPerPixel) -> u32
     }
 }
 
-/// What a viewer has set, in numbers.
-pub fn settings_as(settings: &Settings) -> ViewerSettings
+/// Returns what a viewer has set, in numbers.
+fn settings_as(settings: &Settings) -> ViewerSettings
     ensures { result ≡ settings_as settings.now }
 {
     let PixelFormat {
@@ -115,19 +116,40 @@ pub fn settings_as(settings: &Settings) -> ViewerSettings
     }
 }
 
-/// Puts what a viewer has set at the room's start: 1, or 0 where the room has no place. The rest of the room stays. The code of the
-/// refusal where there is one.
-pub fn show_settings(answer: Result<Settings, ScreenError>, room: &mut [ViewerSettings]) -> i32
-    ensures code { MatchResult answer (λ _. result ≡ pos (min 1 (length room.old))) (λ e. result ≡ code_of e) }
-    ensures room { MatchResult answer (λ settings. room.new ≡ slice_set room.old 0 (settings_as settings)) (λ _. room.new ≡ room.old) }
+/// Returns the 32-bit words of which a `vnc_settings` consists for C.
+fn words_of(settings: ViewerSettings) -> [u32; 16]
+    ensures { result ≡ words_of settings }
+{
+    [
+        settings.shared,
+        settings.encoding,
+        settings.copy_rect,
+        settings.desktop_size,
+        settings.bits_per_pixel,
+        settings.depth,
+        settings.big_endian,
+        settings.true_colour,
+        settings.red_max,
+        settings.green_max,
+        settings.blue_max,
+        settings.red_shift,
+        settings.green_shift,
+        settings.blue_shift,
+        (settings.full_requests % (1 << 32)) as u32,
+        (settings.full_requests / (1 << 32)) as u32,
+    ]
+}
+
+/// Puts the words of what a viewer has set at the room's start, as many as fit, and returns how many; the rest of the room stays. Returns
+/// the code of the refusal where there is one.
+pub fn show_settings(answer: Result<Settings, ScreenError>, room: &mut [u32]) -> i32
+    ensures code { MatchResult answer (λ settings. result ≡ pos (count_shown (settings_words settings) room.old)) (λ e. result ≡ code_of e) }
+    ensures room { MatchResult answer (λ settings. room.new ≡ shown_in (settings_words settings) room.old) (λ _. room.new ≡ room.old) }
 {
     let settings = match answer {
         Ok(settings) => settings,
         Err(e) => return code_of(e),
     };
-    if room.is_empty() {
-        return 0;
-    }
-    room[0] = settings_as(&settings);
-    1
+    let words = words_of(settings_as(&settings));
+    copy_to(room, &words) as i32
 }

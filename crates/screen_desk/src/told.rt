@@ -4,6 +4,7 @@ ghost use Rattle.std.specs.Prelude.{◌≡◌, if◌then◌else◌};
 ghost use Rattle.screen_desk.specs.Inputs.{told_as, one_if};
 
 use screen::Input;
+use std::mem::size_of;
 
 /// What a viewer told the application (RFC 6143, 7.5.4 to 7.5.6). What doesn't belong to its kind is 0.
 #[repr(C)]
@@ -28,6 +29,9 @@ pub struct Told {
     /// Of a text: 1 where only its first 262,144 bytes are kept.
     pub shortened: u32,
 }
+
+// As `vnc_input` of C.
+const _: () = prove!(size_of::<Told>() == 48);
 
 /// 1 for true.
 pub(crate) fn one_if(truth: bool) -> u32

@@ -1,5 +1,5 @@
 -- What is kept of what came.
-use Rattle.std.proofs.Common.{◌≡◌, ◌+◌, ◌-◌, ◌^◌, ◌≤◌, ℕ, zero, suc, Bool, true, false, List, [], ◌∷◌, ◌++◌, take, Result, Ok, Err, refl, sym, ap, ◌∙◌, inl, inr, subst, arith}
+use Rattle.std.proofs.Common.{◌≡◌, ◌+◌, ◌-◌, ◌^◌, ◌≤◌, ℕ, Bool, true, false, List, [], ◌∷◌, ◌++◌, Result, Ok, Err, refl, sym, ap, ◌∙◌, inl, inr, subst, arith}
 use Rattle.std.specs.Prelude.{min, is_ok, OnOk, OnErr}
 use Rattle.std.proofs.lemmas.List.{length-append}
 use Rattle.std.specs.declared.alloc.AllocError.{AllocError}
@@ -18,13 +18,6 @@ part-less [] all x h = tt
 part-less (k ∷ kept) [] x h = absurd h
 part-less (k ∷ kept) (y ∷ all) x (inl h) = inl (h.0, part-less kept all x h.1)
 part-less (k ∷ kept) (y ∷ all) x (inr h) = inr (part-less (k ∷ kept) all x h)
-
-pub part-first : {X : Type 0} (n : ℕ) (kept all : List X) → IsPartOf kept all → IsPartOf (take n kept) all
-part-first zero kept all h = tt
-part-first (suc n) [] all h = tt
-part-first (suc n) (k ∷ kept) [] h = absurd h
-part-first (suc n) (k ∷ kept) (y ∷ all) (inl h) = inl (h.0, part-first n kept all h.1)
-part-first (suc n) (k ∷ kept) (y ∷ all) (inr h) = inr (part-first (suc n) (k ∷ kept) all h)
 
 -- an input is kept
 kept-more : (came kept kept' : List (ℕ × Input)) (lost lost' : ℕ) (x : ℕ × Input) → kept' ≡ kept ++ x ∷ [] → lost' ≡ lost → IsKept came kept lost → IsKept (came ++ x ∷ []) kept' lost'

@@ -1,4 +1,5 @@
 pub mod Waiting
+pub mod Fits
 pub mod Drawing
 pub mod Turning
 pub mod Taking

@@ -2,7 +2,6 @@
 use Rattle.std.proofs.Common.{◌≡◌, ◌≢◌, ◌≤◌, ◌<◌, ◌-◌, ◌+◌, ◌^◌, ℕ, zero, suc, ℤ, List, [], ◌++◌, length, take, Option, Some, None, Result, Ok, Err, refl, sym, ap, ◌∙◌, inl, inr, subst, append-nil, arith}
 use Rattle.std.specs.declared.alloc.AllocError.{AllocError}
 use Rattle.std.specs.Prelude.{Bool, false, IfErr, OnOk, option_map, min, ◌⊎◌}
-use Rattle.std.proofs.lemmas.List.{length-take}
 use Rattle.screen.specs.declared.Input.{Input}
 use Rattle.screen.specs.declared.Config.{Config}
 use Rattle.screen.specs.declared.Event.{Event}
@@ -21,9 +20,9 @@ use Rattle.server_desk.specs.declared.listening.ListenError.TheVariants.{Refused
 use Rattle.server_desk.specs.declared.visits.Visit.{Visit}
 use Rattle.server_desk.specs.Codes.{closed_code, turn_code}
 use Rattle.server_desk.specs.Listening.{IsOfSystem, IsRefusedBy, listen_code}
-use Rattle.server_desk.specs.Desk.{Standing, IsKept, IsPutBehind, desk_sockets, held_where, is_named}
 use Rattle.server_desk.specs.Calls.{IsListenCode, LetsGo, Listens, TakesTurn}
-use Rattle.server_desk.proofs.Keeping.{part-first}
+use Rattle.server_desk.specs.Desk.{Standing, IsKept, IsPutBehind, desk_sockets, held_where, is_named, fitting, texts_limit, texts_size}
+use Rattle.server_desk.proofs.Fits.{part-of-part, take-few, texts-append, fits-part, fits-few, fits-count, fits-texts}
 
 -- ---- listening
 
@@ -66,12 +65,13 @@ listens-err {X = X} path result e None is h = of-system path e (subst (λ (r : R
 listens-err path result e (Some r) is h = let same : e ≡ Refused r = cc in ap listen_code same
 
 -- it listens
-pub listens : {X : Type 0} (result : Result X ListenError) (x : X) (c : Config) (desk new : Standing) (s : Serving) (port : ℕ) (path : List ℕ) → path ≡ desk.record_path
-    → new ≡ record { served = Some s; port = port; inputs = []; visits = []; text = []; lost = 0; full_requests = 0; record_path = []; recorded = is_named desk.record_path }
-    → Serves c (desk_sockets (is_named path) c) [] s → result ≡ Ok x → IsRefusedBy path (config_refusal c) result → Listens c desk new done
-listens result x c desk new s port path same so serves is h = rw so (record {
+pub listens : {X : Type 0} (result : Result X ListenError) (x : X) (c : Config) (desk new : Standing) (s : Serving) (asked port : ℕ) (path : List ℕ) → path ≡ desk.record_path
+    → new ≡ record { served = Some s; port = port; inputs = []; visits = []; text = []; lost = 0; full_requests = 0; text_room = texts_limit; record_path = []; recorded = is_named desk.record_path }
+    → Serves c (desk_sockets (is_named path) c) [] s → result ≡ Ok x → IsRefusedBy path (config_refusal c) result → (asked ≢ 0 → port ≡ asked) → Listens c asked desk new done
+listens result x c desk new s asked port path same so serves is h port_is = rw so (record {
   answer = subst (λ (p : List ℕ). Answers (option_map code_of (config_refusal c)) (IsListenCode p) done) same (listens-ok path result x (config_refusal c) is h);
   serves = λ is_done. subst (λ (p : List ℕ). Serves c (desk_sockets (is_named p) c) [] s) same serves;
+  port_is = λ is_done some. port_is some;
   recorded = λ is_done. refl;
   unnamed = λ is_done. refl;
   inputs = λ is_done. refl;
@@ -79,14 +79,16 @@ listens result x c desk new s port path same so serves is h = rw so (record {
   text = λ is_done. refl;
   lost = λ is_done. refl;
   full_requests = λ is_done. refl;
+  text_room = λ is_done. refl;
   refused = λ not_done. absurd (not_done refl);
 })
 
 -- it does not
-pub listens-not : {X : Type 0} (result : Result X ListenError) (e : ListenError) (c : Config) (desk : Standing) (code : ℤ) (path : List ℕ) → path ≡ desk.record_path → code ≡ listen_code e → result ≡ Err e → IsRefusedBy path (config_refusal c) result → Listens c desk desk code
-listens-not result e c desk code path same code_is is h = rw code_is (record {
+pub listens-not : {X : Type 0} (result : Result X ListenError) (e : ListenError) (c : Config) (asked : ℕ) (desk : Standing) (code : ℤ) (path : List ℕ) → path ≡ desk.record_path → code ≡ listen_code e → result ≡ Err e → IsRefusedBy path (config_refusal c) result → Listens c asked desk desk code
+listens-not result e c asked desk code path same code_is is h = rw code_is (record {
   answer = subst (λ (p : List ℕ). Answers (option_map code_of (config_refusal c)) (IsListenCode p) (listen_code e)) same (listens-err path result e (config_refusal c) is h);
   serves = λ is_done. absurd (never-listens e is_done);
+  port_is = λ is_done. absurd (never-listens e is_done);
   recorded = λ is_done. absurd (never-listens e is_done);
   unnamed = λ is_done. absurd (never-listens e is_done);
   inputs = λ is_done. absurd (never-listens e is_done);
@@ -94,6 +96,7 @@ listens-not result e c desk code path same code_is is h = rw code_is (record {
   text = λ is_done. absurd (never-listens e is_done);
   lost = λ is_done. absurd (never-listens e is_done);
   full_requests = λ is_done. absurd (never-listens e is_done);
+  text_room = λ is_done. absurd (never-listens e is_done);
   refused = λ not_done. refl;
 })
 
@@ -114,17 +117,22 @@ done-all (Err Clock) P h is_done = absurd (cc)
 done-all (Err (Screen e)) P h is_done = absurd (never_done e is_done)
 
 -- no more are missing than are counted
-all-counted : (told came came_lost room kept_lost lost now : ℕ) → told ≤ came + came_lost → came_lost + (came - room) ≤ kept_lost → now ≡ min (lost + kept_lost) (2 ^ 64 - 1) → now < 2 ^ 64 - 1 → told ≤ min room came + (now - lost)
-all-counted told came came_lost room kept_lost lost now missing put is few = omega (missing, put, is, few, arith)
+all-counted : (told came came_lost fit others kept_lost lost now : ℕ) → came ≡ fit + others → told ≤ came + came_lost → came_lost + others ≤ kept_lost → now ≡ min (lost + kept_lost) (2 ^ 64 - 1) → now < 2 ^ 64 - 1 → told ≤ fit + (now - lost)
+all-counted told came came_lost fit others kept_lost lost now all missing put is few = omega (all, missing, put, is, few, arith)
 
-pub turns : (desk : Standing) (before : Option Serving) (s t : Serving) (answer : Result (Unit {0}) LoopError) (code : ℤ) (port : ℕ) (inputs inputs_kept inputs_put came : List (ℕ × Input)) (visits visits_kept visits_put : List Visit) (text : List ℕ) (lost lost_now came_lost kept_lost full full_now : ℕ) (path : List ℕ) (on : Bool)
-    → record { served = before; port = port; inputs = inputs; visits = visits; text = text; lost = lost; full_requests = full; record_path = path; recorded = on } ≡ desk → before ≡ Some s → code ≡ turn_code answer
+-- what is put takes from the room for texts
+texts-kept : (inputs kept put fit : List (ℕ × Input)) (texts now left : ℕ) → kept ≡ inputs → put ≡ kept ++ fit → now ≡ left → texts_size fit + left ≡ texts → texts_size put + now ≡ texts_size inputs + texts
+texts-kept inputs kept put fit texts now left same is now_is sum = rw is (rw same (rw now_is (omega (texts-append inputs fit, sum, arith))))
+
+pub turns : (desk : Standing) (before : Option Serving) (s t : Serving) (answer : Result (Unit {0}) LoopError) (code : ℤ) (port : ℕ) (inputs inputs_kept inputs_put came : List (ℕ × Input)) (visits visits_kept visits_put : List Visit) (text : List ℕ) (lost lost_now came_lost kept_lost full full_now texts texts_now : ℕ) (path : List ℕ) (on : Bool)
+    → record { served = before; port = port; inputs = inputs; visits = visits; text = text; lost = lost; full_requests = full; text_room = texts; record_path = path; recorded = on } ≡ desk → before ≡ Some s → code ≡ turn_code answer
     → ((c : Config) (list : List Event) → Serves c (desk_sockets on c) list s → (more : List Event) × Serves c (desk_sockets on c) (list ++ more) t
     × ((told rest : List (ℕ × Input)) × (told ++ rest ≡ inputs_after c list more) × OnOk answer (rest ≡ []) × IsKept told came came_lost))
-    → inputs_kept ≡ inputs → visits_kept ≡ visits → inputs_put ≡ inputs_kept ++ take (4096 - length inputs_kept) came → (kept_lost < 2 ^ 64 - 1 → came_lost + (length came - (4096 - length inputs_kept)) ≤ kept_lost) → IsPutBehind 1024 visits_kept visits_put
+    → inputs_kept ≡ inputs → visits_kept ≡ visits → inputs_put ≡ inputs_kept ++ (fitting (4096 - length inputs_kept) texts came).0 → (kept_lost < 2 ^ 64 - 1 → came_lost + (fitting (4096 - length inputs_kept) texts came).1 ≤ kept_lost) → texts_now ≡ (fitting (4096 - length inputs_kept) texts came).2 → IsPutBehind 1024 visits_kept visits_put
     → lost_now ≡ min (lost + kept_lost) (2 ^ 64 - 1) → lost ≤ lost_now → full ≤ full_now
-    → TakesTurn desk (record { served = Some t; port = port; inputs = inputs_put; visits = visits_put; text = text; lost = lost_now; full_requests = full_now; record_path = path; recorded = on }) code
-turns desk before s t answer code port inputs inputs_kept inputs_put came visits visits_kept visits_put text lost lost_now came_lost kept_lost full full_now path on view is code_is goes inputs_are visits_are inputs_come none visits_come lost_is more more_full =
+    → TakesTurn desk (record { served = Some t; port = port; inputs = inputs_put; visits = visits_put; text = text; lost = lost_now; full_requests = full_now; text_room = texts_now; record_path = path; recorded = on }) code
+turns desk before s t answer code port inputs inputs_kept inputs_put came visits visits_kept visits_put text lost lost_now came_lost kept_lost full full_now texts texts_now path on view is code_is goes inputs_are visits_are inputs_come none texts_are visits_come lost_is more more_full =
+    let fit = fitting (4096 - length inputs_kept) texts came in
     rw (sym view) (rw is (record {
       answer = (answer, code_is);
       served = λ c list stands.
@@ -137,26 +145,28 @@ turns desk before s t answer code port inputs inputs_kept inputs_put came visits
             rest = k.1;
             inputs = k.2;
             all = λ is_done. done-all answer (k.1 ≡ []) k.3 (sym code_is ∙ is_done);
-            kept = take (4096 - length inputs_kept) came;
-            part = part-first (4096 - length inputs_kept) came k.0 k.4.0;
-            waiting = inputs_come ∙ ap (λ l. l ++ take (4096 - length inputs_kept) came) inputs_are;
+            kept = fit.0;
+            part = part-of-part fit.0 came k.0 (fits-part (4096 - length inputs_kept) texts came) k.4.0;
+            waiting = inputs_come ∙ ap (λ l. l ++ fit.0) inputs_are;
             counted = λ few.
                 let put = none (omega (lost_is, few, arith)) in
                 let missing = k.4.1 (omega (lost_is, few, put, arith)) in
-                rw (length-take (4096 - length inputs_kept) came) (all-counted (length k.0) (length came) came_lost (4096 - length inputs_kept) kept_lost lost lost_now missing put lost_is few);
+                all-counted (length k.0) (length came) came_lost (length fit.0) fit.1 kept_lost lost lost_now (fits-count (4096 - length inputs_kept) texts came) missing put lost_is few;
           };
-      inputs = subst (λ (l : List (ℕ × Input)). IsPutBehind 4096 l inputs_put) inputs_are (came, inputs_come);
+      inputs = subst (λ (l : List (ℕ × Input)). IsPutBehind 4096 l inputs_put) inputs_are
+          (fit.0, inputs_come ∙ ap (λ l. inputs_kept ++ l) (sym (take-few (4096 - length inputs_kept) fit.0 (fits-few (4096 - length inputs_kept) texts came))));
       visits = subst (λ (l : List Visit). IsPutBehind 1024 l visits_put) visits_are visits_come;
       lost = more;
       full_requests = more_full;
+      texts = texts-kept inputs inputs_kept inputs_put fit.0 texts texts_now fit.2 inputs_are inputs_come texts_are (fits-texts (4096 - length inputs_kept) texts came);
       same = refl;
     }))
 
 -- memory is refused before it begins
-pub no-turn : (desk : Standing) (before : Option Serving) (s : Serving) (port : ℕ) (inputs inputs_kept : List (ℕ × Input)) (visits visits_kept : List Visit) (text : List ℕ) (lost full : ℕ) (path : List ℕ) (on : Bool) (code : ℤ)
-    → record { served = before; port = port; inputs = inputs; visits = visits; text = text; lost = lost; full_requests = full; record_path = path; recorded = on } ≡ desk → before ≡ Some s → code ≡ out_of_memory → inputs_kept ≡ inputs → visits_kept ≡ visits
-    → TakesTurn desk (record { served = Some s; port = port; inputs = inputs_kept; visits = visits_kept; text = text; lost = lost; full_requests = full; record_path = path; recorded = on }) code
-no-turn desk before s port inputs inputs_kept visits visits_kept text lost full path on code view is code_is inputs_are visits_are =
+pub no-turn : (desk : Standing) (before : Option Serving) (s : Serving) (port : ℕ) (inputs inputs_kept : List (ℕ × Input)) (visits visits_kept : List Visit) (text : List ℕ) (lost full texts : ℕ) (path : List ℕ) (on : Bool) (code : ℤ)
+    → record { served = before; port = port; inputs = inputs; visits = visits; text = text; lost = lost; full_requests = full; text_room = texts; record_path = path; recorded = on } ≡ desk → before ≡ Some s → code ≡ out_of_memory → inputs_kept ≡ inputs → visits_kept ≡ visits
+    → TakesTurn desk (record { served = Some s; port = port; inputs = inputs_kept; visits = visits_kept; text = text; lost = lost; full_requests = full; text_room = texts; record_path = path; recorded = on }) code
+no-turn desk before s port inputs inputs_kept visits visits_kept text lost full texts path on code view is code_is inputs_are visits_are =
     rw (sym view) (rw is (rw code_is (record {
       answer = (Err (Screen OutOfMemory), refl);
       served = λ c list stands. record {
@@ -175,15 +185,16 @@ no-turn desk before s port inputs inputs_kept visits visits_kept text lost full 
       visits = puts-none 1024 visits visits_kept visits_are;
       lost = omega arith;
       full_requests = omega arith;
+      texts = ap (λ l. texts_size l + texts) inputs_are;
       same = refl;
     })))
 
 -- a viewer is let go, where one has the number
-pub lets_go : (desk : Standing) (before : Option Serving) (s t : Serving) (v : ℕ) (there : Result Bool AllocError) (number code : ℤ) (port : ℕ) (inputs : List (ℕ × Input)) (visits : List Visit) (text : List ℕ) (lost full : ℕ) (path : List ℕ) (on : Bool)
-    → number ≡ code → record { served = before; port = port; inputs = inputs; visits = visits; text = text; lost = lost; full_requests = full; record_path = path; recorded = on } ≡ desk → before ≡ Some s → code ≡ closed_code there
+pub lets_go : (desk : Standing) (before : Option Serving) (s t : Serving) (v : ℕ) (there : Result Bool AllocError) (number code : ℤ) (port : ℕ) (inputs : List (ℕ × Input)) (visits : List Visit) (text : List ℕ) (lost full texts : ℕ) (path : List ℕ) (on : Bool)
+    → number ≡ code → record { served = before; port = port; inputs = inputs; visits = visits; text = text; lost = lost; full_requests = full; text_room = texts; record_path = path; recorded = on } ≡ desk → before ≡ Some s → code ≡ closed_code there
     → (there ≡ Ok false → (key : ℕ) → number_at s.slots key ≢ Some v) → GoesOnServing s t
-    → LetsGo v desk (record { served = Some t; port = port; inputs = inputs; visits = visits; text = text; lost = lost; full_requests = full; record_path = path; recorded = on }) number
-lets_go desk before s t v there number code port inputs visits text lost full path on number_is view is code_is none goes =
+    → LetsGo v desk (record { served = Some t; port = port; inputs = inputs; visits = visits; text = text; lost = lost; full_requests = full; text_room = texts; record_path = path; recorded = on }) number
+lets_go desk before s t v there number code port inputs visits text lost full texts path on number_is view is code_is none goes =
     rw (sym view) (rw is (rw number_is (record {
       answer = (there, code_is, none);
       served = λ c list stands. let p = goes (held_where on) c list stands in (p.0, p.1);

@@ -1,6 +1,7 @@
 -- What the calls of a server's desk do: the number that each answers, and the desk before and after it.
 use Rattle.std.specs.Prelude.{◌≡◌, ◌≢◌, ◌⊎◌, ℕ, ◌^◌, ◌+◌, ◌-◌, ◌<◌, ◌≤◌, min, ℤ, pos, Bool, true, false, if◌then◌else◌, ◌<ℤ◌, ◌≤ℤ◌, List, [], ◌∷◌, ◌++◌, length, drop, take, Option, Some, None, Result, Ok, MatchOption, option_map}
 use Rattle.std.specs.declared.alloc.AllocError.{AllocError}
+use Rattle.std.specs.Map.{keys_of}
 use Rattle.region.specs.declared.Rect.{Rect}
 use Rattle.screen.specs.declared.Config.{Config}
 use Rattle.screen.specs.declared.Input.{Input}
@@ -15,24 +16,24 @@ use Rattle.screen.specs.Takes.{IsTaken, IsPartlyTaken}
 use Rattle.screen.specs.Paints.{paints_of}
 use Rattle.event_loop.specs.declared.event_loop.LoopError.{LoopError}
 use Rattle.screen_desk.specs.Codes.{Answers, code_of, done, no_viewer, out_of_memory, shut}
-use Rattle.screen_desk.specs.Calls.{settings_code, settings_room}
+use Rattle.screen_desk.specs.Calls.{settings_code, settings_room, shown_in}
 use Rattle.screen_desk.specs.Desk.{IsListOf}
 use Rattle.screen_desk.specs.Inputs.{IsFetched}
-use Rattle.screen_desk.specs.declared.settings.ViewerSettings.{ViewerSettings}
 use Rattle.screen_desk.specs.declared.told.Told.{Told}
 use Rattle.server_desk.specs.declared.visits.Visit.{Visit}
 use Rattle.server_desk.specs.Codes.{bad_address, cannot_listen, cannot_record, network_failed, closed_code, turn_code}
 use Rattle.screen_desk.specs.Pixels.{source_due}
-use Rattle.server_desk.specs.Desk.{Standing, StandsFor, IsAsBefore, IsPartOf, IsPutBehind, desk_sockets, due, is_named, region_due}
+use Rattle.server_desk.specs.Desk.{texts_limit, texts_size, Standing, StandsFor, IsAsBefore, IsPartOf, IsPutBehind, desk_sockets, due, is_named, region_due}
 
 -- what a call of `listen` answers where the screen is none that is refused, by the path of the file in which it is to be recorded
 abbrev pub IsListenCode : List ℕ → ℤ → Type 0
 IsListenCode path code = (code ≡ done) ⊎ ((code ≡ bad_address) ⊎ ((code ≡ cannot_listen) ⊎ ((code ≡ cannot_record) × (is_named path ≡ true))))
 
--- the desk listens, and serves a screen with nothing on it to no viewer yet, which is recorded where a file was named; or it is as it was
-pub record Listens (c : Config) (old new : Standing) (code : ℤ) : Type 0 where
+-- the desk listens, on this port unless it is 0, and serves a screen with nothing on it to no viewer yet, which is recorded where a file was named; or it is as it was
+pub record Listens (c : Config) (port : ℕ) (old new : Standing) (code : ℤ) : Type 0 where
   pub answer : Answers (option_map code_of (config_refusal c)) (IsListenCode old.record_path) code
   pub serves : code ≡ done → StandsFor c [] new
+  pub port_is : code ≡ done → port ≢ 0 → new.port ≡ port
   pub recorded : code ≡ done → new.recorded ≡ is_named old.record_path
   pub unnamed : code ≡ done → new.record_path ≡ []
   pub inputs : code ≡ done → new.inputs ≡ []
@@ -40,6 +41,7 @@ pub record Listens (c : Config) (old new : Standing) (code : ℤ) : Type 0 where
   pub text : code ≡ done → new.text ≡ []
   pub lost : code ≡ done → new.lost ≡ 0
   pub full_requests : code ≡ done → new.full_requests ≡ 0
+  pub text_room : code ≡ done → new.text_room ≡ texts_limit
   pub refused : code ≢ done → new ≡ old
 
 -- the next screen is recorded in the file of this path, or in none; or memory for the path is refused
@@ -65,7 +67,7 @@ pub record IsTurnBy (c : Config) (list : List Event) (old new : Standing) (code 
   pub waiting : new.inputs ≡ old.inputs ++ kept
   pub counted : new.lost < 2 ^ 64 - 1 → length told ≤ length kept + (new.lost - old.lost)
 
--- A turn: whatever list of events the screen stood for, it stands for it with others behind it, and by that list each viewer is served, also where the turn ended by an error. What waited to be fetched waits still, and what came waits behind it.
+-- A turn: whatever list of events the screen stood for, it stands for it with others behind it, and by that list each viewer is served, also where the turn ended by an error. What waited to be fetched waits still, and what came waits behind it. What waits in texts takes from the room for them.
 pub record TakesTurn (old new : Standing) (code : ℤ) : Type 0 where
   pub answer : MatchOption old.served (code ≡ shut) (λ s. (answer : Result (Unit {0}) LoopError) × (code ≡ turn_code answer))
   pub served : (c : Config) (list : List Event) → StandsFor c list old → IsTurnBy c list old new code
@@ -73,7 +75,8 @@ pub record TakesTurn (old new : Standing) (code : ℤ) : Type 0 where
   pub visits : IsPutBehind 1024 old.visits new.visits
   pub lost : old.lost ≤ new.lost
   pub full_requests : old.full_requests ≤ new.full_requests
-  pub same : new ≡ record old { served = new.served; inputs = new.inputs; visits = new.visits; lost = new.lost; full_requests = new.full_requests }
+  pub texts : texts_size new.inputs + new.text_room ≡ texts_size old.inputs + old.text_room
+  pub same : new ≡ record old { served = new.served; inputs = new.inputs; visits = new.visits; lost = new.lost; full_requests = new.full_requests; text_room = new.text_room }
 
 -- a call draws: where it is done its event comes behind the others, and else nothing is drawn; what waits to be fetched stays
 pub record Draws (e : Event) (old new : Standing) (code : ℤ) : Type 0 where
@@ -89,11 +92,12 @@ pub record DrawsRegion (rects : List Rect) (event : List Rect → Event) (old ne
   pub same : new ≡ record old { served = new.served }
   pub refused : code ≢ done → IsAsBefore old new
 
--- the first inputs that wait are put at the room's start, up to the first text, and the number says how many they are
+-- the first inputs that wait are put at the room's start, up to the first text, and the number says how many they are; a text that is fetched gives its room back
 pub record FetchesInputs (old new : Standing) (room_old room_new : List Told) (code : ℤ) : Type 0 where
   pub answer : MatchOption old.served (code ≡ shut) (λ s. pos 0 ≤ℤ code)
   pub fetched : pos 0 ≤ℤ code → (number : ℕ) × ((code ≡ pos number) × IsFetched (length room_old) old.inputs new.inputs room_old room_new old.text new.text number)
-  pub same : new ≡ record old { inputs = new.inputs; text = new.text }
+  pub texts : texts_size old.inputs + old.text_room < 2 ^ 64 → texts_size new.inputs + new.text_room ≡ texts_size old.inputs + old.text_room
+  pub same : new ≡ record old { inputs = new.inputs; text = new.text; text_room = new.text_room }
   pub refused : code <ℤ pos 0 → (new ≡ old) × (room_new ≡ room_old)
 
 -- as many of a list as there is room for
@@ -130,10 +134,21 @@ pub record TellsAddress (v : ℕ) (old new : Standing) (room_old room_new : List
   pub refused : code <ℤ pos 0 → room_new ≡ room_old
 
 -- a call changes nothing but a room, which shows what a viewer has set
-pub record ShowsSettings (v : ℕ) (old new : Standing) (room_old room_new : List ViewerSettings) (code : ℤ) : Type 0 where
+pub record ShowsSettings (v : ℕ) (old new : Standing) (room_old room_new : List ℕ) (code : ℤ) : Type 0 where
   pub answer : MatchOption old.served (code ≡ shut) (λ s. code ≡ settings_code v room_old s.surface.screen)
   pub room : MatchOption old.served (room_new ≡ room_old) (λ s. room_new ≡ settings_room v room_old s.surface.screen)
   pub same : new ≡ old
+
+-- the connected viewers' numbers, in order of connecting
+abbrev pub numbers_of : Serving → List ℕ
+numbers_of s = keys_of s.surface.screen.viewers
+
+-- the first of these are put at the room's start, as many as fit, at most 2^30, and the number says how many they are; or memory is refused
+pub record ShowsNumbers (old new : Standing) (room_old room_new : List ℕ) (code : ℤ) : Type 0 where
+  pub answer : MatchOption old.served (code ≡ shut) (λ s. (code ≡ pos (count_shown (numbers_of s) room_old)) ⊎ (code ≡ out_of_memory))
+  pub shown : pos 0 ≤ℤ code → MatchOption old.served ⊥ (λ s. room_new ≡ shown_in (numbers_of s) room_old)
+  pub same : new ≡ old
+  pub refused : code <ℤ pos 0 → room_new ≡ room_old
 
 -- a call changes nothing, and answers a number of what is served, or shut
 pub record Tells (number : Serving → ℤ) (old new : Standing) (code : ℤ) : Type 0 where

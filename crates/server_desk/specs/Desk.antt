@@ -1,9 +1,10 @@
 -- What a server's desk holds.
-use Rattle.std.specs.Prelude.{◌≡◌, ◌⊎◌, ℕ, ◌+◌, ◌-◌, ◌^◌, ◌<◌, ◌≤◌, nat_lt, ℤ, Bool, false, if◌then◌else◌, List, [], ◌∷◌, ◌++◌, length, take, Option, Some, None, option_map, not}
+use Rattle.std.specs.Prelude.{◌≡◌, ◌⊎◌, ℕ, suc, ◌+◌, ◌-◌, ◌^◌, ◌<◌, ◌≤◌, nat_lt, nat_le, ◌&&◌, ℤ, Bool, false, if◌then◌else◌, List, [], ◌∷◌, ◌++◌, length, take, Option, Some, None, option_map, not}
 use Rattle.std.specs.List.{list_any}
 use Rattle.region.specs.declared.Rect.{Rect}
 use Rattle.region.specs.RegionView.{in_range}
 use Rattle.screen.specs.declared.Input.{Input}
+use Rattle.screen.specs.declared.Input.TheVariants.{Text}
 use Rattle.screen.specs.declared.Config.{Config}
 use Rattle.screen.specs.declared.Event.{Event}
 use Rattle.screen.specs.State.{State}
@@ -13,7 +14,27 @@ use Rattle.screen_desk.specs.Codes.{shut}
 use Rattle.screen_desk.specs.Desk.{due_by, far_or_none}
 use Rattle.server_desk.specs.declared.visits.Visit.{Visit}
 
--- the screen and its viewers' connections, unless the desk is shut; the port; what came and wasn't fetched, the inputs with their viewers' numbers; the text that was fetched last; how much was lost; how many full requests were told; the path of the file in which the next screen is recorded, empty for none; and whether this one is recorded
+-- how many bytes of text an input has
+abbrev pub text_size : Input → ℕ
+text_size (Text text shortened) = length text
+text_size _ = 0
+
+abbrev pub texts_size : List (ℕ × Input) → ℕ
+texts_size [] = 0
+texts_size (i ∷ inputs) = text_size i.1 + texts_size inputs
+
+-- of inputs those that are kept where there are so many places, and so many bytes for texts; how many others there are; and how many of these bytes are left
+abbrev pub fitting : ℕ → ℕ → List (ℕ × Input) → List (ℕ × Input) × ℕ × ℕ
+fitting places room [] = ([], 0, room)
+fitting places room (i ∷ inputs) = if nat_lt 0 places && nat_le (text_size i.1) room
+    then (let rest = fitting (places - 1) (room - text_size i.1) inputs in (i ∷ rest.0, rest.1, rest.2))
+    else (let rest = fitting places room inputs in (rest.0, suc rest.1, rest.2))
+
+-- how many bytes may wait in texts: 16 of the longest
+abbrev pub texts_limit : ℕ
+texts_limit = 2 ^ 22
+
+-- the screen and its viewers' connections, unless the desk is shut; the port; what came and wasn't fetched, the inputs with their viewers' numbers; the text that was fetched last; how much was lost; how many full requests were told; how many bytes more may wait in texts; the path of the file in which the next screen is recorded, empty for none; and whether this one is recorded
 pub record Standing : Type 0 where
   pub served : Option Serving
   pub port : ℕ
@@ -22,6 +43,7 @@ pub record Standing : Type 0 where
   pub text : List ℕ
   pub lost : ℕ
   pub full_requests : ℕ
+  pub text_room : ℕ
   pub record_path : List ℕ
   pub recorded : Bool
 
@@ -30,7 +52,7 @@ abbrev pub rects_per_update : ℕ
 rects_per_update = 1000
 
 abbrev pub nothing_there : Standing
-nothing_there = record { served = None; port = 0; inputs = []; visits = []; text = []; lost = 0; full_requests = 0; record_path = []; recorded = false }
+nothing_there = record { served = None; port = 0; inputs = []; visits = []; text = []; lost = 0; full_requests = 0; text_room = texts_limit; record_path = []; recorded = false }
 
 -- a path names a file
 abbrev pub is_named : List ℕ → Bool

@@ -4,13 +4,14 @@ ghost use Rattle.std.specs.Prelude.{◌≡◌, ◌≤◌, ◌<◌, ◌+◌, ◌-
 ghost use Rattle.screen.specs.declared.Event.{Event};
 ghost use Rattle.screen.specs.Alone.{config_refusal};
 ghost use Rattle.screen.specs.Calls.{event_of};
+ghost use Rattle.screen.specs.Reading.{is_open_rest};
 ghost use Rattle.screen_desk.specs.Codes as codes;
 ghost use Rattle.screen_desk.specs.Codes.{IsRefusal};
-ghost use Rattle.screen_desk.specs.Calls.{colour_at};
+ghost use Rattle.screen_desk.specs.Calls.{colour_at, of_viewer};
 ghost use Rattle.screen_desk.specs.Desk.{rect_of, config_of, IsListOf};
 ghost use Rattle.std.specs.VecDeque.{deque_capacity};
-ghost use Rattle.server_desk.specs.Desk.{is_named, nothing_there, rects_per_update, IsPutBehind, region_due};
-ghost use Rattle.server_desk.specs.Calls.{Listens, NamesRecord, record_state, TakesTurn, Draws, DrawsRegion, FetchesInputs, FetchesVisits, ShowsText, ShowsSettings, Tells, TellsAddress, TellsSome, LetsGo, TakesPixels};
+ghost use Rattle.server_desk.specs.Desk.{fitting, texts_limit, is_named, nothing_there, rects_per_update, IsPutBehind, region_due};
+ghost use Rattle.server_desk.specs.Calls.{Listens, NamesRecord, record_state, TakesTurn, Draws, DrawsRegion, FetchesInputs, FetchesVisits, ShowsNumbers, ShowsText, ShowsSettings, Tells, TellsAddress, TellsSome, LetsGo, TakesPixels};
 ghost use Rattle.screen_desk.specs.Pixels.{format_of, source_from};
 ghost use Rattle.source_pixels.specs.declared.formats.SourceFormat.TheVariants as format;
 
@@ -18,7 +19,7 @@ use crate::codes::{CLOCK_FAILED, NETWORK_FAILED, closed_code, turn_code};
 use crate::gathering::Gathering;
 use crate::listening::{Address, Listening, listen_on};
 use crate::news::{
-    MOST_INPUTS, MOST_TEXT, MOST_VISITS, fetch_inputs, fetch_visits, is_text_at, make_room, put_all,
+    MOST_INPUTS, MOST_TEXT, MOST_VISITS, fetch_inputs, fetch_visits, make_room, put_all, put_inputs,
 };
 use crate::system::{SystemClock, digits_of, milliseconds_of, timeout_of};
 use crate::told::ToldBy;
@@ -27,8 +28,8 @@ use crate::waker::ServerWaker;
 use event_loop::{EventLoop, Listed, Rect, Region, ScreenError, drawn_is_served};
 use screen::Drawing;
 use screen_desk::{
-    Corners, OFF_SCREEN, OUT_OF_RANGE, PixelLayout, SHUT, Told, ViewerSettings, are_far, code_of,
-    copy_to, done_or, places_code, region_of, show_settings, source_of,
+    Corners, OFF_SCREEN, OUT_OF_RANGE, PixelLayout, SHUT, Told, are_far, code_of, copy_to, done_or,
+    places_code, region_of, show_settings, source_of, truth_or,
 };
 use std::alloc::{AllocError, Global};
 use std::collections::VecDeque;
@@ -82,10 +83,10 @@ impl Model for ServerDesk {
 
     ghost Value = { Standing };
 
-    ghost view = { λ a. record { served = a.events; port = a.port; inputs = a.inputs.items; visits = a.visits.items; text = a.text; lost = a.lost; full_requests = a.full_requests; record_path = a.record_path; recorded = a.is_recorded } };
+    ghost view = { λ a. record { served = a.events; port = a.port; inputs = a.inputs.items; visits = a.visits.items; text = a.text; lost = a.lost; full_requests = a.full_requests; text_room = a.text_room; record_path = a.record_path; recorded = a.is_recorded } };
 }
 
-/// Makes room for as much as may wait.
+/// Makes room for as many inputs, and comings and goings, as may wait.
 fn make_all_room(
     inputs: &mut VecDeque<ToldBy>,
     visits: &mut VecDeque<Visit>,
@@ -100,22 +101,39 @@ fn make_all_room(
     Ok(())
 }
 
-/// Puts what came behind what waits, in room that was made. How much of it is lost.
-fn keep(inputs: &mut VecDeque<ToldBy>, visits: &mut VecDeque<Visit>, came: Gathering) -> u64
+/// What is known once what came in a turn was put behind what waits.
+#[derive(Drop)]
+struct Kept {
+    // how much of it is lost
+    lost: u64,
+    // how many bytes more may wait in texts
+    text_room: usize,
+}
+
+/// Puts what came behind what waits, in room that was made, where so many bytes more may wait in texts.
+fn keep(
+    inputs: &mut VecDeque<ToldBy>,
+    visits: &mut VecDeque<Visit>,
+    text_room: usize,
+    came: Gathering,
+) -> Kept
     requires inputs { 4096 ≤ deque_capacity inputs.old }
     requires visits { 1024 ≤ deque_capacity visits.old }
-    ensures inputs { inputs.new.items ≡ inputs.old.items ++ take (4096 - length inputs.old.items) came.inputs.items }
+    ensures inputs { inputs.new.items ≡ inputs.old.items ++ (fitting (4096 - length inputs.old.items) text_room came.inputs.items).0 }
     ensures visits { IsPutBehind 1024 visits.old.items visits.new.items }
-    ensures lost { result < 2 ^ 64 - 1 → came.lost + (length came.inputs.items - (4096 - length inputs.old.items)) ≤ result }
+    ensures lost { result.lost < 2 ^ 64 - 1 → came.lost + (fitting (4096 - length inputs.old.items) text_room came.inputs.items).1 ≤ result.lost }
+    ensures room { result.text_room ≡ (fitting (4096 - length inputs.old.items) text_room came.inputs.items).2 }
 {
-    let lost_inputs = put_all(inputs, came.inputs, MOST_INPUTS);
+    let (lost_inputs, text_room) = put_inputs(inputs, came.inputs, text_room);
     let lost_visits = put_all(visits, came.visits, MOST_VISITS);
-    let lost = lost_inputs.saturating_add(lost_visits) as u64;
-    came.lost.saturating_add(lost)
+    let lost = came
+        .lost
+        .saturating_add(lost_inputs.saturating_add(lost_visits) as u64);
+    Kept { lost, text_room }
 }
 
 impl ServerDesk {
-    /// A desk that is shut. It takes no memory.
+    /// Returns a desk that is shut. It takes no memory.
     pub fn new(alloc: Global) -> ServerDesk
         ensures { result ≡ nothing_there }
     {
@@ -135,7 +153,7 @@ impl ServerDesk {
     }
 
     /// Names the file in which the screen that `listen` serves next is recorded, by its path of at most 4,095 bytes; none by a path of no
-    /// bytes. The file is made by `listen`, and `vncdemo replay` reads it. `OutOfMemory`'s code where memory for the path is refused.
+    /// bytes. `listen` makes the file, and `vncdemo replay` reads it. Returns `OutOfMemory`'s code where memory for the path is refused.
     pub fn record_next(&mut self, path: &[u8]) -> i32
         ensures { NamesRecord path.now self.old self.new result }
     {
@@ -148,8 +166,8 @@ impl ServerDesk {
         }
     }
 
-    /// Whether what is served is recorded: 0 for no, 1 for yes, and 2 where the record has ended before its session, since a write of it
-    /// failed, or memory for a region's rectangles was refused.
+    /// Returns whether what is served is recorded: 0 for no, 1 for yes, and 2 where the record has ended before its session, since a write
+    /// of it failed, or memory for a region's rectangles was refused.
     pub fn record_state(&mut self) -> i32
         ensures { Tells (record_state self.old.recorded) self.old self.new result }
     {
@@ -176,7 +194,7 @@ impl ServerDesk {
         name: &[u8],
         viewers: u32,
     ) -> i32
-        ensures { Listens (config_of width height name.now rects_per_update) self.old self.new result }
+        ensures { Listens (config_of width height name.now rects_per_update) port self.old self.new result }
     {
         let digits = address;
         let path = self.record_path.as_slice();
@@ -199,7 +217,7 @@ impl ServerDesk {
 
     /// Serves by a loop that was made, in place of another. A file for the next record isn't named any more.
     fn serve(&mut self, events: EventLoop, port: u16)
-        ensures { self.new ≡ record { served = Some events; port = port; inputs = []; visits = []; text = []; lost = 0; full_requests = 0; record_path = []; recorded = is_named self.old.record_path } }
+        ensures { self.new ≡ record { served = Some events; port = port; inputs = []; visits = []; text = []; lost = 0; full_requests = 0; text_room = texts_limit; record_path = []; recorded = is_named self.old.record_path } }
     {
         self.end();
         self.is_recorded = !self.record_path.is_empty();
@@ -208,7 +226,7 @@ impl ServerDesk {
         self.port = port;
     }
 
-    /// Nothing is served and nothing waits any more. What waits of a record is written.
+    /// Ends what is served, writes what waits of a record, and drops what waits to be fetched.
     fn end(&mut self)
         ensures { self.new ≡ record nothing_there { record_path = self.old.record_path } }
     {
@@ -221,9 +239,9 @@ impl ServerDesk {
         self.clear();
     }
 
-    /// Nothing waits any more.
+    /// Drops what waits to be fetched.
     fn clear(&mut self)
-        ensures { self.new ≡ record self.old { inputs = []; visits = []; text = []; lost = 0; full_requests = 0 } }
+        ensures { self.new ≡ record self.old { inputs = []; visits = []; text = []; lost = 0; full_requests = 0; text_room = texts_limit } }
     {
         self.inputs = VecDeque::new(self.alloc);
         self.visits = VecDeque::new(self.alloc);
@@ -233,8 +251,8 @@ impl ServerDesk {
         self.full_requests = 0;
     }
 
-    /// The server is gone: its port is free, its viewers' connections are closed, and its record is written to its end
-    /// (`rfbShutdownServer` and `rfbScreenCleanup` of `rfb.h`). It answers 0, also where the desk is shut.
+    /// Closes the server: its port is free, its viewers' connections are closed, and its record is written to its end
+    /// (`rfbShutdownServer` and `rfbScreenCleanup` of `rfb.h`). Returns 0, also where the desk is shut.
     pub fn close(&mut self) -> i32
         ensures { (self.new ≡ nothing_there) × (result ≡ codes.done) }
     {
@@ -243,10 +261,10 @@ impl ServerDesk {
         0
     }
 
-    /// One turn of the loop (`rfbProcessEvents` of `rfb.h`): it waits until something is ready, at most so many milliseconds, and below 0
-    /// without end; then what viewers sent is heard, what they are owed is written, and who came is accepted. 0, or why the turn ended
-    /// before its end: a code of `code_of`, `NETWORK_FAILED` or `CLOCK_FAILED`; also then each viewer is served as far as the turn
-    /// came, and what it brought waits.
+    /// Takes one turn of the loop (`rfbProcessEvents` of `rfb.h`): it waits until something is ready, at most `milliseconds`, and below 0
+    /// without end; then it hears what viewers sent, writes what they are owed, and accepts who came. Returns 0, or why the turn ended
+    /// early: a code of `code_of`, `NETWORK_FAILED` or `CLOCK_FAILED`; also then each viewer is served as far as the turn came, and what it
+    /// brought waits.
     pub fn process_events(&mut self, milliseconds: i32) -> i32
         ensures { TakesTurn self.old self.new result }
     {
@@ -258,15 +276,15 @@ impl ServerDesk {
         }
         let mut came = Gathering::new(self.alloc, self.text_room);
         let answer = events.process_events(&SystemClock, timeout_of(milliseconds), &mut came);
-        self.text_room = came.text_room;
         self.full_requests = self.full_requests.saturating_add(came.full_requests);
-        let lost = keep(&mut self.inputs, &mut self.visits, came);
-        self.lost = self.lost.saturating_add(lost);
+        let kept = keep(&mut self.inputs, &mut self.visits, self.text_room, came);
+        self.text_room = kept.text_room;
+        self.lost = self.lost.saturating_add(kept.lost);
         turn_code(answer)
     }
 
-    /// `EventLoop::close_viewer` (`rfbCloseClient` of `rfb.h`): the viewer is let go in a later turn. `NoViewer`'s code where none has the
-    /// number.
+    /// Lets a viewer go in a later turn, by `EventLoop::close_viewer` (`rfbCloseClient` of `rfb.h`). Returns `NoViewer`'s code where none
+    /// has the number.
     pub fn close_viewer(&mut self, viewer: u64) -> i32
         ensures { LetsGo viewer self.old self.new result }
     {
@@ -276,9 +294,9 @@ impl ServerDesk {
         closed_code(events.close_viewer(viewer))
     }
 
-    /// Puts the address that a viewer's connection comes from, in digits as `127.0.0.1` or `::1`, at the room's start, as much of it as fits
-    /// (`host` of `rfbClientRec` in `rfb.h`). How many bytes that are; the rest of the room stays. `NoViewer`'s code where it isn't
-    /// connected, and `NETWORK_FAILED` where the system doesn't tell.
+    /// Puts the address that a viewer's connection comes from, in digits as `127.0.0.1` or `::1`, at the room's start, as much of it as
+    /// fits (`host` of `rfbClientRec` in `rfb.h`). Returns how many bytes that are; the rest of the room stays. Returns `NoViewer`'s code
+    /// where it isn't connected, and `NETWORK_FAILED` where the system doesn't tell.
     pub fn viewer_address(&mut self, viewer: u64, room: &mut [u8]) -> i32
         ensures { TellsAddress viewer self.old self.new room.old room.new result }
     {
@@ -297,8 +315,8 @@ impl ServerDesk {
         }
     }
 
-    /// The system's handle that is ready to be read where a turn has something to do that came over the network.
-    pub fn handle(&mut self) -> i32
+    /// Returns the system's handle that is ready to be read where a turn has something to do that came over the network.
+    pub fn fd(&mut self) -> i32
         ensures { TellsSome self.old self.new result }
     {
         match &self.events {
@@ -307,9 +325,9 @@ impl ServerDesk {
         }
     }
 
-    /// For how many milliseconds a turn without end would wait now where nothing comes over the network, at most 2^31 - 1, which also stands
-    /// for no end. `CLOCK_FAILED` where the system doesn't tell the time.
-    pub fn longest_wait(&mut self) -> i32
+    /// Returns for how many milliseconds a turn without end would wait now where nothing comes over the network, at most 2^31 - 1, which
+    /// also stands for no end; `CLOCK_FAILED` where the system doesn't tell the time.
+    pub fn timeout(&mut self) -> i32
         ensures { TellsSome self.old self.new result }
     {
         let Some(events) = &self.events else {
@@ -321,7 +339,7 @@ impl ServerDesk {
         }
     }
 
-    /// `Canvas::draw`: one of the calls below, as a value.
+    /// Draws by `Canvas::draw`: one of the calls below, as a value.
     fn draw(&mut self, drawing: &Drawing<'_>) -> i32
         ensures { Draws (event_of drawing.now) self.old self.new result }
     {
@@ -332,7 +350,7 @@ impl ServerDesk {
         done_or(events.canvas().draw(drawing))
     }
 
-    /// The places of a list of rectangles, or the code of the refusal: `OUT_OF_RANGE` where a coordinate is not from -2^20 to 2^20.
+    /// Returns the places of a list of rectangles, or the code of the refusal: `OUT_OF_RANGE` where a coordinate is not from -2^20 to 2^20.
     fn places_of(&self, list: &[Corners]) -> Result<Region, i32>
         ensures places { IfOk result (λ region. IsListOf (map rect_of list.now) region.list) }
         ensures accepted { OnOk result (region_due self.now (map rect_of list.now) ≡ None) }
@@ -456,11 +474,12 @@ impl ServerDesk {
         }
     }
 
-    /// `Canvas::take`: a program's own pixels become the picture's (`rfbMarkRectAsModified` of `rfb.h`), from column `left` of row `top`
-    /// on, and what differs is owed to every viewer. `bytes` has so many columns and rows of pixels, `stride` bytes from one row to the
-    /// next; their format is a layout, or a table of colours, or where both are empty 32 bits `0x00RRGGBB` in little-endian order. What
-    /// lies off the screen is left out. How many places changed; where memory is refused, each place has its old colour or its new one.
-    pub fn take(
+    /// Takes a program's own pixels into the picture by `Canvas::take` (`rfbMarkRectAsModified` of `rfb.h`), from column `left` of row
+    /// `top` on, and owes every viewer what differs. `bytes` has `width` columns and `height` rows of pixels, `stride` bytes from one row
+    /// to the next; their format is a layout, or a table of colours, or where both are empty 32 bits `0x00RRGGBB` in little-endian order.
+    /// What lies off the screen is left out. Returns how many places changed; where memory is refused, each place has its old colour or its
+    /// new one.
+    pub fn update_from(
         &mut self,
         left: u32,
         top: u32,
@@ -485,23 +504,21 @@ impl ServerDesk {
     }
 
     /// Puts the first inputs that wait at the room's start, up to the first text, and takes them from what waits (`kbdAddEvent`,
-    /// `ptrAddEvent` and `setXCutText` of `rfb.h`). How many they are; the rest of the room stays. The text's bytes are had by `text`,
-    /// until a call fetches another.
-    pub fn inputs(&mut self, room: &mut [Told]) -> i64
+    /// `ptrAddEvent` and `setXCutText` of `rfb.h`). Returns how many they are; the rest of the room stays. The text's bytes are had by
+    /// `text`, until a call fetches another.
+    pub fn next_inputs(&mut self, room: &mut [Told]) -> i64
         ensures { FetchesInputs self.old self.new room.old room.new result }
     {
         if self.events.is_none() {
             return i64::from(SHUT);
         }
-        let count = fetch_inputs(&mut self.inputs, room, &mut self.text);
-        if is_text_at(room, count.wrapping_sub(1)) {
-            self.text_room = self.text_room.saturating_add(self.text.len());
-        }
+        let (count, length) = fetch_inputs(&mut self.inputs, room, &mut self.text);
+        self.text_room = self.text_room.saturating_add(length);
         count as i64
     }
 
-    /// Puts the first bytes of the text that was fetched last at the room's start, at most 2^30. How many they are; the rest of the room
-    /// stays.
+    /// Puts the first bytes of the text that was fetched last at the room's start, at most 2^30. Returns how many they are; the rest of the
+    /// room stays.
     pub fn text(&mut self, room: &mut [u8]) -> i32
         ensures { ShowsText self.old self.new room.old room.new result }
     {
@@ -512,8 +529,8 @@ impl ServerDesk {
     }
 
     /// Puts the first comings and goings that wait at the room's start, and takes them from what waits (`newClientHook` and
-    /// `clientGoneHook` of `rfb.h`). How many they are; the rest of the room stays.
-    pub fn comings_and_goings(&mut self, room: &mut [Visit]) -> i64
+    /// `clientGoneHook` of `rfb.h`). Returns how many they are; the rest of the room stays.
+    pub fn next_events(&mut self, room: &mut [Visit]) -> i64
         ensures { FetchesVisits self.old self.new room.old room.new result }
     {
         if self.events.is_none() {
@@ -522,8 +539,8 @@ impl ServerDesk {
         fetch_visits(&mut self.visits, room) as i64
     }
 
-    /// How many inputs, comings and goings were lost since `listen`, at most 2^62.
-    pub fn lost(&mut self) -> i64
+    /// Returns how many inputs, comings and goings were lost since `listen`, at most 2^62.
+    pub fn lost_count(&mut self) -> i64
         ensures { Tells (λ _. pos (min self.old.lost (2 ^ 62))) self.old self.new result }
     {
         if self.events.is_none() {
@@ -532,10 +549,10 @@ impl ServerDesk {
         self.lost.min(1 << 62) as i64
     }
 
-    /// How often, since `listen`, a viewer was heard to ask for places whether these changed or not, by a request that isn't incremental
-    /// (RFC 6143, 7.5.3; `clientFramebufferUpdateRequestHook` of `rfb.h` is called for each request): more than before where one did in
-    /// the last turns. At most 2^62. `settings` tells how many of a viewer's requests were such.
-    pub fn full_requests(&mut self) -> i64
+    /// Returns how often, since `listen`, a viewer was heard to ask for places whether these changed or not, by a request that isn't
+    /// incremental (RFC 6143, 7.5.3; `clientFramebufferUpdateRequestHook` of `rfb.h` is called for each request): more than before where
+    /// one did in the last turns. At most 2^62. `settings` tells how many of a viewer's requests were such.
+    pub fn full_request_count(&mut self) -> i64
         ensures { Tells (λ _. pos (min self.old.full_requests (2 ^ 62))) self.old self.new result }
     {
         if self.events.is_none() {
@@ -544,8 +561,8 @@ impl ServerDesk {
         self.full_requests.min(1 << 62) as i64
     }
 
-    /// What ends a wait of `process_events` from another thread. It is shut where the desk is, or the system refuses it; and once the desk
-    /// is closed it wakes nobody. A desk has one at a time.
+    /// Returns what ends a wait of `process_events` from another thread. It is shut where the desk is, or the system refuses it; and once
+    /// the desk is closed it wakes nobody. A desk has one at a time.
     pub fn waker(&mut self) -> ServerWaker
         ensures { self.new ≡ self.old }
     {
@@ -555,7 +572,7 @@ impl ServerDesk {
         }
     }
 
-    /// The port that it listens on.
+    /// Returns the port that it listens on.
     pub fn port(&mut self) -> i32
         ensures { Tells (λ _. pos self.old.port) self.old self.new result }
     {
@@ -565,7 +582,7 @@ impl ServerDesk {
         i32::from(self.port)
     }
 
-    /// How many viewers are connected, at most 2^30.
+    /// Returns how many viewers are connected, at most 2^30.
     pub fn viewer_count(&mut self) -> i32
         ensures { Tells (λ served. pos (min (count_by is_some served.slots) (2 ^ 30))) self.old self.new result }
     {
@@ -575,9 +592,34 @@ impl ServerDesk {
         events.viewer_count().min(1 << 30) as i32
     }
 
-    /// `Screen::settings`: puts what a viewer has set at the room's start (`format` and the like of `rfbClientRec` in `rfb.h`). 1, or 0
-    /// where the room has no place; the rest of the room stays. `NoViewer`'s code where none has the number.
-    pub fn settings(&mut self, viewer: u64, room: &mut [ViewerSettings]) -> i32
+    /// Puts the connected viewers' numbers at the room's start, in order of connecting, as many as fit, at most 2^30, and returns how many;
+    /// the rest of the room stays. Returns `OutOfMemory`'s code where memory for them is refused.
+    pub fn numbers(&mut self, room: &mut [u64]) -> i32
+        ensures { ShowsNumbers self.old self.new room.old room.new result }
+    {
+        let Some(events) = &self.events else {
+            return SHUT;
+        };
+        match events.screen().numbers() {
+            Ok(numbers) => copy_to(room, numbers.as_slice()) as i32,
+            Err(_) => code_of(ScreenError::OutOfMemory),
+        }
+    }
+
+    /// Returns 1 where a viewer's opening is over and it met no fault, else 0, as `Screen::is_open` says. Returns `NoViewer`'s code where
+    /// none has the number.
+    pub fn is_open(&mut self, viewer: u64) -> i32
+        ensures { Tells (λ served. of_viewer viewer (λ seen. codes.one_or_zero (is_open_rest seen.heard)) served.surface.screen) self.old self.new result }
+    {
+        let Some(events) = &self.events else {
+            return SHUT;
+        };
+        truth_or(events.screen().is_open(viewer))
+    }
+
+    /// Puts what `Screen::settings` says of a viewer at the room's start (`format` and the like of `rfbClientRec` in `rfb.h`), in 32-bit
+    /// words, as many as fit, and returns how many; the rest of the room stays. Returns `NoViewer`'s code where none has the number.
+    pub fn settings(&mut self, viewer: u64, room: &mut [u32]) -> i32
         ensures { ShowsSettings viewer self.old self.new room.old room.new result }
     {
         let Some(events) = &self.events else {
@@ -586,7 +628,7 @@ impl ServerDesk {
         show_settings(events.screen().settings(viewer), room)
     }
 
-    /// `Screen::width`: 1 to 8192.
+    /// Returns `Screen::width`: 1 to 8192.
     pub fn width(&mut self) -> i64
         ensures { Tells (λ served. pos served.surface.screen.picture.width) self.old self.new result }
     {
@@ -596,7 +638,7 @@ impl ServerDesk {
         i64::from(events.screen().width())
     }
 
-    /// `Screen::height`: 1 to 8192.
+    /// Returns `Screen::height`: 1 to 8192.
     pub fn height(&mut self) -> i64
         ensures { Tells (λ served. pos served.surface.screen.picture.height) self.old self.new result }
     {
@@ -606,7 +648,7 @@ impl ServerDesk {
         i64::from(events.screen().height())
     }
 
-    /// `Screen::colour`: `0x00RRGGBB`. `OFF_SCREEN` off the screen.
+    /// Returns `Screen::colour`: `0x00RRGGBB`; `OFF_SCREEN` off the screen.
     pub fn colour(&mut self, x: u32, y: u32) -> i64
         ensures { Tells (λ served. colour_at x y served.surface.screen) self.old self.new result }
     {

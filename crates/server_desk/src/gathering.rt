@@ -16,8 +16,8 @@ pub(crate) struct Gathering {
     alloc: Global,
     pub inputs: VecDeque<ToldBy>,
     pub visits: VecDeque<Visit>,
-    /// How many bytes more may wait in texts.
-    pub text_room: usize,
+    /// How many bytes more may come in texts.
+    text_room: usize,
     pub lost: u64,
     /// How often a viewer was heard to ask for places whether these changed or not.
     pub full_requests: u64,

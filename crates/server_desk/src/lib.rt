@@ -7,7 +7,7 @@
 //! desk.listen(b"127.0.0.1", 5900, 640, 480, b"demo", 16);
 //! desk.paint(0, 0, 1, 1, &[0xff_ffff]);
 //! desk.process_events(1000);
-//! let count = desk.inputs(&mut room);
+//! let count = desk.next_inputs(&mut room);
 //! ```
 #![tactic(auto)]
 
@@ -25,7 +25,7 @@ pub use codes::{BAD_ADDRESS, CANNOT_LISTEN, CLOCK_FAILED, NETWORK_FAILED};
 pub use desk::ServerDesk;
 pub use screen_desk::{
     BAD_FORMAT, BAD_STRIDE, Corners, OFF_SCREEN, OUT_OF_RANGE, PixelLayout, SHUT, TOO_FEW_BYTES,
-    Told, ViewerSettings, code_of, fault_code,
+    Told, code_of, fault_code,
 };
 pub use visits::Visit;
 pub use waker::ServerWaker;

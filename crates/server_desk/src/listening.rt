@@ -1,6 +1,6 @@
 //! How a server begins.
 
-ghost use Rattle.std.specs.Prelude.{◌≡◌, ℕ, List, [], true, IfOk, IfErr};
+ghost use Rattle.std.specs.Prelude.{◌≡◌, ◌≢◌, ℕ, List, [], true, IfOk, IfErr};
 ghost use Rattle.connections.specs.Serving.{Serves};
 ghost use Rattle.screen.specs.Alone.{config_refusal};
 ghost use Rattle.screen_desk.specs.Desk.{config_of};
@@ -63,9 +63,10 @@ pub(crate) struct Listening {
     pub port: u16,
 }
 
-/// A socket that listens, and its port.
+/// Binds a socket that listens, and returns it with its port: the one that was asked for, or the system's choice.
 fn bind(at: Address<'_>) -> Result<(TcpListener, u16), ListenError>
-    ensures { IfErr result (IsOfSystem []) }
+    ensures port { IfOk result (λ bound. at.entry.port ≢ 0 → bound.1 ≡ at.entry.port) }
+    ensures err { IfErr result (IsOfSystem []) }
 {
     let Some(address) = address_of(at.digits, at.port) else {
         return Err(ListenError::BadAddress);
@@ -73,6 +74,9 @@ fn bind(at: Address<'_>) -> Result<(TcpListener, u16), ListenError>
     let Ok(listener) = TcpListener::bind(&Network, address) else {
         return Err(ListenError::CannotListen);
     };
+    if at.port != 0 {
+        return Ok((listener, at.port));
+    }
     match listener.local_addr() {
         Ok(bound) => Ok((listener, bound.port())),
         Err(_) => Err(ListenError::CannotListen),
@@ -167,6 +171,7 @@ fn open(
     record_path: &[u8],
 ) -> Result<Listening, ListenError>
     ensures serves { IfOk result (λ made. Serves (config_of width height name.now rects_per_update) (desk_sockets (is_named record_path.now) (config_of width height name.now rects_per_update)) [] made.events) }
+    ensures port { IfOk result (λ made. at.entry.port ≢ 0 → made.port ≡ at.entry.port) }
     ensures err { IfErr result (IsOfSystem record_path.now) }
 {
     let (listener, port) = bind(at)?;
@@ -186,6 +191,7 @@ pub(crate) fn listen_on(
     record_path: &[u8],
 ) -> Result<Listening, ListenError>
     ensures serves { IfOk result (λ made. Serves (config_of width height name.now rects_per_update) (desk_sockets (is_named record_path.now) (config_of width height name.now rects_per_update)) [] made.events) }
+    ensures port { IfOk result (λ made. at.entry.port ≢ 0 → made.port ≡ at.entry.port) }
     ensures refused { IsRefusedBy record_path.now (config_refusal (config_of width height name.now rects_per_update)) result }
 {
     match config_refusal(width, height, name, RECTS_PER_UPDATE) {

@@ -3,6 +3,7 @@
 ghost use Rattle.std.specs.Prelude.{◌≡◌, ◌≤◌, ◌+◌, ◌-◌, ◌++◌, ◌^◌, length, take, drop, min, OnOk};
 ghost use Rattle.std.specs.VecDeque.{deque_len, deque_capacity};
 ghost use Rattle.screen_desk.specs.Inputs.{IsFetched};
+ghost use Rattle.server_desk.specs.Desk.{fitting, texts_size};
 
 use crate::told::ToldBy;
 use crate::visits::Visit;
@@ -29,6 +30,32 @@ pub(crate) fn make_room<T>(waiting: &mut VecDeque<T>, most: usize) -> Result<(),
     waiting.reserve(most.saturating_sub(waiting.len()))
 }
 
+/// Puts the inputs that came behind those that wait, as many as may wait, and texts while so many bytes more may wait in them, in room that
+/// was made. Returns how many are lost, and how many bytes more may wait then.
+pub(crate) fn put_inputs(
+    waiting: &mut VecDeque<ToldBy>,
+    mut came: VecDeque<ToldBy>,
+    text_room: usize,
+) -> (usize, usize)
+    requires { 4096 ≤ deque_capacity waiting.old }
+    ensures kept { waiting.new.items ≡ waiting.old.items ++ (fitting (4096 - length waiting.old.items) text_room came.items).0 }
+    ensures lost { result.0 ≡ (fitting (4096 - length waiting.old.items) text_room came.items).1 }
+    ensures room { result.1 ≡ (fitting (4096 - length waiting.old.items) text_room came.items).2 }
+{
+    let mut room = text_room;
+    let mut lost = 0;
+    while let Some(one) = came.pop_front() {
+        match room.checked_sub(one.text_len()) {
+            Some(left) if waiting.len() < MOST_INPUTS => {
+                room = left;
+                waiting.push_back_reserved(one);
+            }
+            _ => lost += 1,
+        }
+    }
+    (lost, room)
+}
+
 /// Puts what came behind what waits, as much as may wait, in room that was made. How much of it is lost.
 pub(crate) fn put_all<T: Drop>(
     waiting: &mut VecDeque<T>,
@@ -48,34 +75,30 @@ pub(crate) fn put_all<T: Drop>(
     came.len()
 }
 
-/// Fetches the first inputs, as many as there is room for, up to the first text, whose bytes are put into `text`. How many they are;
-/// the others wait on, and the rest of the room stays.
+/// Fetches the first inputs, as many as there is room for, up to the first text, whose bytes are put into `text`; the others wait on, and
+/// the rest of the room stays. Returns how many they are, and how many bytes the text has.
 pub(crate) fn fetch_inputs(
     waiting: &mut VecDeque<ToldBy>,
     room: &mut [Told],
     text: &mut Listed<u8>,
-) -> usize
-    ensures { IsFetched (length room.old) waiting.old.items waiting.new.items room.old room.new text.old text.new result }
+) -> (usize, usize)
+    ensures fetched { IsFetched (length room.old) waiting.old.items waiting.new.items room.old room.new text.old text.new result.0 }
+    ensures texts { texts_size waiting.old.items ≡ result.1 + texts_size waiting.new.items }
 {
     let mut count = 0;
     while count < room.len() {
         let Some(first) = waiting.pop_front() else {
-            return count;
+            return (count, 0);
         };
         let (viewer, input) = first.into_parts();
         room[count] = told_as(viewer, &input);
         count += 1;
         if let Input::Text { text: bytes, .. } = input {
             *text = bytes;
-            return count;
+            return (count, text.len());
         }
     }
-    count
-}
-
-/// Whether a text stands in a place of the room.
-pub(crate) fn is_text_at(room: &[Told], place: usize) -> bool {
-    room.get(place).is_some_and(|told| told.kind == 3)
+    (count, 0)
 }
 
 /// Fetches the first comings and goings, as many as there is room for. How many they are; the others wait on, and the rest of the room

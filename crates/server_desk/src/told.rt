@@ -1,6 +1,7 @@
 //! What a viewer told.
 
 ghost use Rattle.std.specs.Prelude.{◌≡◌, IfOk};
+ghost use Rattle.server_desk.specs.Desk.{text_size};
 
 use event_loop::{Input, Listed};
 use std::alloc::{AllocError, Global};
@@ -27,6 +28,13 @@ impl ToldBy {
         ensures { result ≡ (viewer, input) }
     {
         ToldBy { viewer, input }
+    }
+
+    /// Returns how many bytes of text it has.
+    pub fn text_len(&self) -> usize
+        ensures { result ≡ text_size self.now.1 }
+    {
+        text_len(&self.input)
     }
 
     /// The viewer's number, and the input.
@@ -58,8 +66,10 @@ pub(crate) fn copy_of(alloc: Global, input: &Input) -> Result<Input, AllocError>
     }
 }
 
-/// How many bytes of text an input has.
-pub(crate) fn text_len(input: &Input) -> usize {
+/// Returns how many bytes of text an input has.
+pub(crate) fn text_len(input: &Input) -> usize
+    ensures { result ≡ text_size input.now }
+{
     match input {
         Input::Text { text, .. } => text.len(),
         _ => 0,

@@ -5,6 +5,7 @@ ghost use Rattle.server_desk.specs.Visits.{coming_of, going_of};
 
 use crate::codes::{fault_of, reason_code};
 use event_loop::Ended;
+use std::mem::size_of;
 
 /// A viewer came, or it went. What doesn't belong to its kind is 0.
 #[repr(C)]
@@ -20,6 +21,9 @@ pub struct Visit {
     /// By which fault, as `fault_code` has it, where the reason is 2.
     pub fault: i32,
 }
+
+// As `vnc_event` of C.
+const _: () = prove!(size_of::<Visit>() == 24);
 
 /// A viewer came.
 pub(crate) fn coming_of(viewer: u64) -> Visit

@@ -8,18 +8,19 @@
 ghost use types.Logic.{sem};
 ghost use denote.RawPtr.{room_at};
 ghost use Rattle.vnc_screen.specs.Lying.{desk_row, update_row, holds, leaves, holds_update, leaves_update, holds_both, leaves_both};
+ghost use Rattle.std.specs.Mem.{type_size};
 ghost use Rattle.std.specs.Prelude.{◌≡◌, ◌∷◌, [], ◌^◌, pos, map, min, length, is_some};
 ghost use Rattle.screen.specs.Reading.{fault_in_rest, is_open_rest};
 ghost use Rattle.screen.specs.Viewer.{is_asking};
 ghost use Rattle.screen.specs.declared.Event.{Event};
 ghost use Rattle.screen.specs.State.{viewer_at};
 ghost use Rattle.screen_desk.specs.Codes as codes;
-ghost use Rattle.screen_desk.specs.Calls.{Opens, Draws, DrawsRegion, Connects, Hears, Cuts, CutsInto, Closes, TellsPending, Gives, GivesHeld, Fetches, Shows, ShowsSettings, TakesPixels, Tells, numbers_of, of_viewer, colour_at};
+ghost use Rattle.screen_desk.specs.Calls.{Opens, Draws, DrawsRegion, Connects, Hears, Cuts, CutsInto, Closes, TellsPending, Gives, GivesHeld, Fetches, Shows, ShowsSettings, ShowsText, TakesPixels, Tells, numbers_of, of_viewer, colour_at};
 ghost use Rattle.screen_desk.specs.Desk.{nothing_there, rect_of, config_of};
 ghost use Rattle.screen_desk.specs.Pixels.{format_of, source_from};
 ghost use Rattle.source_pixels.specs.declared.formats.SourceFormat.TheVariants as format;
 
-use screen_desk::{Corners, Desk, DeskUpdate, PixelLayout, Told, ViewerSettings};
+use screen_desk::{Corners, Desk, DeskUpdate, PixelLayout, Told};
 use std::alloc::Global;
 use std::mem::size_of;
 use std::ptr;
@@ -40,13 +41,17 @@ pub struct UpdatePlace {
 
 /// The number of this interface: `VNC_SCREEN_ABI` of the header.
 #[unsafe(no_mangle)]
-pub extern "C" fn vnc_screen_abi() -> u32 {
-    4
+pub extern "C" fn vnc_screen_abi() -> u32
+    ensures { result ≡ 5 }
+{
+    5
 }
 
 /// How many bytes of memory C has to give for a screen; their address is a multiple of 16.
 #[unsafe(no_mangle)]
-pub extern "C" fn vnc_screen_size() -> usize {
+pub extern "C" fn vnc_screen_size() -> usize
+    ensures { result ≡ type_size desk_row }
+{
     size_of::<Desk>()
 }
 
@@ -145,9 +150,9 @@ pub unsafe extern "C" fn vnc_screen_do_copy_rect(
     Desk::do_copy_rect(&mut *(at as *mut Desk), x1, y1, x2, y2, dx, dy)
 }
 
-/// `Desk::take`.
+/// `Desk::update_from`.
 #[unsafe(no_mangle)]
-pub unsafe extern "C" fn vnc_screen_take(
+pub unsafe extern "C" fn vnc_screen_update_from(
     at: *mut Place,
     left: u32,
     top: u32,
@@ -162,7 +167,7 @@ pub unsafe extern "C" fn vnc_screen_take(
     requires* { sem 𝓛 (holds at before) }
     ensures* { sem 𝓛 (leaves at (λ after. TakesPixels (source_from width height stride bytes.now (format_of layouts.now (length table.now) (format.Table table.entry))) left top before after result)) }
 {
-    Desk::take(
+    Desk::update_from(
         &mut *(at as *mut Desk),
         left,
         top,
@@ -247,7 +252,7 @@ pub unsafe extern "C" fn vnc_screen_do_copy_region(
 
 /// `Desk::open`.
 #[unsafe(no_mangle)]
-pub unsafe extern "C" fn vnc_screen_open(
+pub unsafe extern "C" fn vnc_screen_open_n(
     at: *mut Place,
     width: u32,
     height: u32,
@@ -267,14 +272,14 @@ pub unsafe extern "C" fn vnc_screen_open(
     )
 }
 
-/// `Desk::shut`.
+/// `Desk::close`.
 #[unsafe(no_mangle)]
-pub unsafe extern "C" fn vnc_screen_shut(at: *mut Place) -> i32
+pub unsafe extern "C" fn vnc_screen_close(at: *mut Place) -> i32
     ghost before: { desk_row.Denot }
     requires* { sem 𝓛 (holds at before) }
     ensures* { sem 𝓛 (leaves at (λ after. (after ≡ nothing_there) × (result ≡ codes.done))) }
 {
-    Desk::shut(&mut *(at as *mut Desk))
+    Desk::close(&mut *(at as *mut Desk))
 }
 
 /// `Desk::connect`.
@@ -335,14 +340,14 @@ pub unsafe extern "C" fn vnc_screen_cut_into(
     )
 }
 
-/// `Desk::close`.
+/// `Desk::close_viewer`.
 #[unsafe(no_mangle)]
-pub unsafe extern "C" fn vnc_screen_close(at: *mut Place, viewer: u64) -> i32
+pub unsafe extern "C" fn vnc_screen_close_viewer(at: *mut Place, viewer: u64) -> i32
     ghost before: { desk_row.Denot }
     requires* { sem 𝓛 (holds at before) }
     ensures* { sem 𝓛 (leaves at (λ after. Closes viewer before after result)) }
 {
-    Desk::close(&mut *(at as *mut Desk), viewer)
+    Desk::close_viewer(&mut *(at as *mut Desk), viewer)
 }
 
 /// `Desk::output`.
@@ -355,14 +360,14 @@ pub unsafe extern "C" fn vnc_screen_output(at: *mut Place, viewer: u64, room: &m
     Desk::output(&mut *(at as *mut Desk), viewer, room)
 }
 
-/// `Desk::inputs`.
+/// `Desk::next_inputs`.
 #[unsafe(no_mangle)]
-pub unsafe extern "C" fn vnc_screen_inputs(at: *mut Place, room: &mut [Told]) -> i64
+pub unsafe extern "C" fn vnc_screen_next_inputs(at: *mut Place, room: &mut [Told]) -> i64
     ghost before: { desk_row.Denot }
     requires* { sem 𝓛 (holds at before) }
     ensures* { sem 𝓛 (leaves at (λ after. Fetches before after room.old room.new result)) }
 {
-    Desk::inputs(&mut *(at as *mut Desk), room)
+    Desk::next_inputs(&mut *(at as *mut Desk), room)
 }
 
 /// `Desk::text`.
@@ -370,7 +375,7 @@ pub unsafe extern "C" fn vnc_screen_inputs(at: *mut Place, room: &mut [Told]) ->
 pub unsafe extern "C" fn vnc_screen_text(at: *mut Place, room: &mut [u8]) -> i32
     ghost before: { desk_row.Denot }
     requires* { sem 𝓛 (holds at before) }
-    ensures* { sem 𝓛 (leaves at (λ after. Shows before.text before after room.old room.new result)) }
+    ensures* { sem 𝓛 (leaves at (λ after. ShowsText before after room.old room.new result)) }
 {
     Desk::text(&mut *(at as *mut Desk), room)
 }
@@ -437,11 +442,7 @@ pub unsafe extern "C" fn vnc_screen_fault(at: *mut Place, viewer: u64) -> i32
 
 /// `Desk::settings`.
 #[unsafe(no_mangle)]
-pub unsafe extern "C" fn vnc_screen_settings(
-    at: *mut Place,
-    viewer: u64,
-    room: &mut [ViewerSettings],
-) -> i32
+pub unsafe extern "C" fn vnc_screen_settings_n(at: *mut Place, viewer: u64, room: &mut [u32]) -> i32
     ghost before: { desk_row.Denot }
     requires* { sem 𝓛 (holds at before) }
     ensures* { sem 𝓛 (leaves at (λ after. ShowsSettings viewer before after room.old room.new result)) }
@@ -481,7 +482,9 @@ pub unsafe extern "C" fn vnc_screen_colour(at: *mut Place, x: u32, y: u32) -> i6
 
 /// How many bytes of memory C has to give for an update; their address is a multiple of 16.
 #[unsafe(no_mangle)]
-pub extern "C" fn vnc_update_size() -> usize {
+pub extern "C" fn vnc_update_size() -> usize
+    ensures { result ≡ type_size update_row }
+{
     size_of::<DeskUpdate>()
 }
 

@@ -8,17 +8,19 @@
 ghost use types.Logic.{sem};
 ghost use denote.RawPtr.{room_at};
 ghost use Rattle.vnc_server.specs.Lying.{desk_row, waker_row, holds, leaves, holds_waker, leaves_waker, holds_beside_room, leaves_beside_waker};
+ghost use Rattle.std.specs.Mem.{type_size};
 ghost use Rattle.std.specs.Prelude.{◌≡◌, ◌∷◌, [], ◌^◌, pos, map, min, length, false, is_some, count_by};
+ghost use Rattle.screen.specs.Reading.{is_open_rest};
 ghost use Rattle.screen.specs.declared.Event.{Event};
 ghost use Rattle.screen_desk.specs.Codes as codes;
-ghost use Rattle.screen_desk.specs.Calls.{colour_at};
+ghost use Rattle.screen_desk.specs.Calls.{colour_at, of_viewer};
 ghost use Rattle.screen_desk.specs.Desk.{rect_of, config_of};
 ghost use Rattle.server_desk.specs.Desk.{nothing_there, rects_per_update};
-ghost use Rattle.server_desk.specs.Calls.{Listens, NamesRecord, record_state, TakesTurn, Draws, DrawsRegion, FetchesInputs, FetchesVisits, ShowsText, ShowsSettings, Tells, TellsAddress, TellsSome, LetsGo, TakesPixels, Wakes};
+ghost use Rattle.server_desk.specs.Calls.{Listens, NamesRecord, record_state, TakesTurn, Draws, DrawsRegion, FetchesInputs, FetchesVisits, ShowsNumbers, ShowsText, ShowsSettings, Tells, TellsAddress, TellsSome, LetsGo, TakesPixels, Wakes};
 ghost use Rattle.screen_desk.specs.Pixels.{format_of, source_from};
 ghost use Rattle.source_pixels.specs.declared.formats.SourceFormat.TheVariants as format;
 
-use server_desk::{Corners, PixelLayout, ServerDesk, ServerWaker, Told, ViewerSettings, Visit};
+use server_desk::{Corners, PixelLayout, ServerDesk, ServerWaker, Told, Visit};
 use std::alloc::Global;
 use std::mem::size_of;
 use std::ptr;
@@ -39,13 +41,17 @@ pub struct WakerPlace {
 
 /// The number of this interface: `VNC_SERVER_ABI` of the header.
 #[unsafe(no_mangle)]
-pub extern "C" fn vnc_server_abi() -> u32 {
-    5
+pub extern "C" fn vnc_server_abi() -> u32
+    ensures { result ≡ 6 }
+{
+    6
 }
 
 /// How many bytes of memory C has to give for a server; their address is a multiple of 16.
 #[unsafe(no_mangle)]
-pub extern "C" fn vnc_server_size() -> usize {
+pub extern "C" fn vnc_server_size() -> usize
+    ensures { result ≡ type_size desk_row }
+{
     size_of::<ServerDesk>()
 }
 
@@ -60,7 +66,7 @@ pub unsafe extern "C" fn vnc_server_init(at: *mut Place, alloc: Global)
 
 /// `ServerDesk::record_next`.
 #[unsafe(no_mangle)]
-pub unsafe extern "C" fn vnc_server_record(at: *mut Place, path: &[u8]) -> i32
+pub unsafe extern "C" fn vnc_server_record_n(at: *mut Place, path: &[u8]) -> i32
     ghost before: { desk_row.Denot }
     requires* { sem 𝓛 (holds at before) }
     ensures* { sem 𝓛 (leaves at (λ after. NamesRecord path.now before after result)) }
@@ -80,7 +86,7 @@ pub unsafe extern "C" fn vnc_server_record_state(at: *mut Place) -> i32
 
 /// `ServerDesk::listen`.
 #[unsafe(no_mangle)]
-pub unsafe extern "C" fn vnc_server_listen(
+pub unsafe extern "C" fn vnc_server_listen_n(
     at: *mut Place,
     address: &[u8],
     port: u16,
@@ -91,7 +97,7 @@ pub unsafe extern "C" fn vnc_server_listen(
 ) -> i32
     ghost before: { desk_row.Denot }
     requires* { sem 𝓛 (holds at before) }
-    ensures* { sem 𝓛 (leaves at (λ after. Listens (config_of width height name.now rects_per_update) before after result)) }
+    ensures* { sem 𝓛 (leaves at (λ after. Listens (config_of width height name.now rects_per_update) port before after result)) }
 {
     ServerDesk::listen(
         &mut *(at as *mut ServerDesk),
@@ -136,7 +142,7 @@ pub unsafe extern "C" fn vnc_server_close_viewer(at: *mut Place, viewer: u64) ->
 
 /// `ServerDesk::viewer_address`.
 #[unsafe(no_mangle)]
-pub unsafe extern "C" fn vnc_server_viewer_address(
+pub unsafe extern "C" fn vnc_server_viewer_address_n(
     at: *mut Place,
     viewer: u64,
     room: &mut [u8],
@@ -148,24 +154,24 @@ pub unsafe extern "C" fn vnc_server_viewer_address(
     ServerDesk::viewer_address(&mut *(at as *mut ServerDesk), viewer, room)
 }
 
-/// `ServerDesk::handle`.
+/// `ServerDesk::fd`.
 #[unsafe(no_mangle)]
 pub unsafe extern "C" fn vnc_server_fd(at: *mut Place) -> i32
     ghost before: { desk_row.Denot }
     requires* { sem 𝓛 (holds at before) }
     ensures* { sem 𝓛 (leaves at (λ after. TellsSome before after result)) }
 {
-    ServerDesk::handle(&mut *(at as *mut ServerDesk))
+    ServerDesk::fd(&mut *(at as *mut ServerDesk))
 }
 
-/// `ServerDesk::longest_wait`.
+/// `ServerDesk::timeout`.
 #[unsafe(no_mangle)]
-pub unsafe extern "C" fn vnc_server_longest_wait(at: *mut Place) -> i32
+pub unsafe extern "C" fn vnc_server_timeout(at: *mut Place) -> i32
     ghost before: { desk_row.Denot }
     requires* { sem 𝓛 (holds at before) }
     ensures* { sem 𝓛 (leaves at (λ after. TellsSome before after result)) }
 {
-    ServerDesk::longest_wait(&mut *(at as *mut ServerDesk))
+    ServerDesk::timeout(&mut *(at as *mut ServerDesk))
 }
 
 /// `ServerDesk::paint`.
@@ -254,9 +260,9 @@ pub unsafe extern "C" fn vnc_server_do_copy_rect(
     ServerDesk::do_copy_rect(&mut *(at as *mut ServerDesk), x1, y1, x2, y2, dx, dy)
 }
 
-/// `ServerDesk::take`.
+/// `ServerDesk::update_from`.
 #[unsafe(no_mangle)]
-pub unsafe extern "C" fn vnc_server_take(
+pub unsafe extern "C" fn vnc_server_update_from(
     at: *mut Place,
     left: u32,
     top: u32,
@@ -271,7 +277,7 @@ pub unsafe extern "C" fn vnc_server_take(
     requires* { sem 𝓛 (holds at before) }
     ensures* { sem 𝓛 (leaves at (λ after. TakesPixels (source_from width height stride bytes.now (format_of layouts.now (length table.now) (format.Table table.entry))) left top before after result)) }
 {
-    ServerDesk::take(
+    ServerDesk::update_from(
         &mut *(at as *mut ServerDesk),
         left,
         top,
@@ -354,14 +360,14 @@ pub unsafe extern "C" fn vnc_server_do_copy_region(
     ServerDesk::do_copy_region(&mut *(at as *mut ServerDesk), list, dx, dy)
 }
 
-/// `ServerDesk::inputs`.
+/// `ServerDesk::next_inputs`.
 #[unsafe(no_mangle)]
-pub unsafe extern "C" fn vnc_server_inputs(at: *mut Place, room: &mut [Told]) -> i64
+pub unsafe extern "C" fn vnc_server_next_inputs(at: *mut Place, room: &mut [Told]) -> i64
     ghost before: { desk_row.Denot }
     requires* { sem 𝓛 (holds at before) }
     ensures* { sem 𝓛 (leaves at (λ after. FetchesInputs before after room.old room.new result)) }
 {
-    ServerDesk::inputs(&mut *(at as *mut ServerDesk), room)
+    ServerDesk::next_inputs(&mut *(at as *mut ServerDesk), room)
 }
 
 /// `ServerDesk::text`.
@@ -374,34 +380,34 @@ pub unsafe extern "C" fn vnc_server_text(at: *mut Place, room: &mut [u8]) -> i32
     ServerDesk::text(&mut *(at as *mut ServerDesk), room)
 }
 
-/// `ServerDesk::comings_and_goings`.
+/// `ServerDesk::next_events`.
 #[unsafe(no_mangle)]
-pub unsafe extern "C" fn vnc_server_comings_and_goings(at: *mut Place, room: &mut [Visit]) -> i64
+pub unsafe extern "C" fn vnc_server_next_events(at: *mut Place, room: &mut [Visit]) -> i64
     ghost before: { desk_row.Denot }
     requires* { sem 𝓛 (holds at before) }
     ensures* { sem 𝓛 (leaves at (λ after. FetchesVisits before after room.old room.new result)) }
 {
-    ServerDesk::comings_and_goings(&mut *(at as *mut ServerDesk), room)
+    ServerDesk::next_events(&mut *(at as *mut ServerDesk), room)
 }
 
-/// `ServerDesk::lost`.
+/// `ServerDesk::lost_count`.
 #[unsafe(no_mangle)]
-pub unsafe extern "C" fn vnc_server_lost(at: *mut Place) -> i64
+pub unsafe extern "C" fn vnc_server_lost_count(at: *mut Place) -> i64
     ghost before: { desk_row.Denot }
     requires* { sem 𝓛 (holds at before) }
     ensures* { sem 𝓛 (leaves at (λ after. Tells (λ _. pos (min before.lost (2 ^ 62))) before after result)) }
 {
-    ServerDesk::lost(&mut *(at as *mut ServerDesk))
+    ServerDesk::lost_count(&mut *(at as *mut ServerDesk))
 }
 
-/// `ServerDesk::full_requests`.
+/// `ServerDesk::full_request_count`.
 #[unsafe(no_mangle)]
-pub unsafe extern "C" fn vnc_server_full_requests(at: *mut Place) -> i64
+pub unsafe extern "C" fn vnc_server_full_request_count(at: *mut Place) -> i64
     ghost before: { desk_row.Denot }
     requires* { sem 𝓛 (holds at before) }
     ensures* { sem 𝓛 (leaves at (λ after. Tells (λ _. pos (min before.full_requests (2 ^ 62))) before after result)) }
 {
-    ServerDesk::full_requests(&mut *(at as *mut ServerDesk))
+    ServerDesk::full_request_count(&mut *(at as *mut ServerDesk))
 }
 
 /// `ServerDesk::port`.
@@ -424,13 +430,29 @@ pub unsafe extern "C" fn vnc_server_viewer_count(at: *mut Place) -> i32
     ServerDesk::viewer_count(&mut *(at as *mut ServerDesk))
 }
 
+/// `ServerDesk::numbers`.
+#[unsafe(no_mangle)]
+pub unsafe extern "C" fn vnc_server_numbers(at: *mut Place, room: &mut [u64]) -> i32
+    ghost before: { desk_row.Denot }
+    requires* { sem 𝓛 (holds at before) }
+    ensures* { sem 𝓛 (leaves at (λ after. ShowsNumbers before after room.old room.new result)) }
+{
+    ServerDesk::numbers(&mut *(at as *mut ServerDesk), room)
+}
+
+/// `ServerDesk::is_open`.
+#[unsafe(no_mangle)]
+pub unsafe extern "C" fn vnc_server_is_open(at: *mut Place, viewer: u64) -> i32
+    ghost before: { desk_row.Denot }
+    requires* { sem 𝓛 (holds at before) }
+    ensures* { sem 𝓛 (leaves at (λ after. Tells (λ served. of_viewer viewer (λ seen. codes.one_or_zero (is_open_rest seen.heard)) served.surface.screen) before after result)) }
+{
+    ServerDesk::is_open(&mut *(at as *mut ServerDesk), viewer)
+}
+
 /// `ServerDesk::settings`.
 #[unsafe(no_mangle)]
-pub unsafe extern "C" fn vnc_server_settings(
-    at: *mut Place,
-    viewer: u64,
-    room: &mut [ViewerSettings],
-) -> i32
+pub unsafe extern "C" fn vnc_server_settings_n(at: *mut Place, viewer: u64, room: &mut [u32]) -> i32
     ghost before: { desk_row.Denot }
     requires* { sem 𝓛 (holds at before) }
     ensures* { sem 𝓛 (leaves at (λ after. ShowsSettings viewer before after room.old room.new result)) }
@@ -470,7 +492,9 @@ pub unsafe extern "C" fn vnc_server_colour(at: *mut Place, x: u32, y: u32) -> i6
 
 /// How many bytes of memory C has to give for a waker; their address is a multiple of 16.
 #[unsafe(no_mangle)]
-pub extern "C" fn vnc_waker_size() -> usize {
+pub extern "C" fn vnc_waker_size() -> usize
+    ensures { result ≡ type_size waker_row }
+{
     size_of::<ServerWaker>()
 }
 

@@ -3,13 +3,14 @@ use Rattle.vnc_screen.proofs.Steps.{◌≡◌, ℕ, List, [], ◌∷◌, ◌++�
 use contract.Monad.{fact}
 use denote.Steps.{heard}
 use Rattle.vnc_screen.specs.Lying.{desk_row, holds, leaves}
+use Rattle.std.specs.Mem.{type_size}
 use Rattle.std.specs.Prelude.{◌≡◌, ◌∷◌, [], ◌^◌, pos, map, min, length, is_some}
 use Rattle.screen.specs.Reading.{fault_in_rest, is_open_rest}
 use Rattle.screen.specs.Viewer.{is_asking}
 use Rattle.screen.specs.declared.Event.{Event}
 use Rattle.screen.specs.State.{viewer_at}
 use Rattle.screen_desk.specs.Codes as codes
-use Rattle.screen_desk.specs.Calls.{Opens, Draws, DrawsRegion, Connects, Hears, Cuts, CutsInto, Closes, TellsPending, Gives, GivesHeld, Fetches, Shows, ShowsSettings, TakesPixels, Tells, numbers_of, of_viewer, colour_at}
+use Rattle.screen_desk.specs.Calls.{Opens, Draws, DrawsRegion, Connects, Hears, Cuts, CutsInto, Closes, TellsPending, Gives, GivesHeld, Fetches, Shows, ShowsSettings, ShowsText, TakesPixels, Tells, numbers_of, of_viewer, colour_at}
 use Rattle.screen_desk.specs.Desk.{nothing_there, rect_of, config_of}
 use Rattle.screen_desk.specs.Pixels.{format_of, source_from}
 use Rattle.source_pixels.specs.declared.formats.SourceFormat.TheVariants as format
@@ -20,20 +21,20 @@ use Rattle.screen_desk.specs.contracts.desk.Desk.close as g
 use Rattle.screen_desk.proofs.desk.Desk.close.Met.{met}
 
 abbrev stayed : Stays f.ended.signature.params f.ended.kept
-stayed = (stay_dropped _ yes, (stay_dropped _ yes, tt))
+stayed = (stay_dropped _ yes, tt)
 
 pub vnc_screen_close_spec : {M : Type 1} → statement M
 vnc_screen_close_spec 𝓤 𝓛 𝓜 𝓡 wired =
     let c = f.clauses 𝓛 𝓜.mem 𝓡.returns in let W = walk_of 𝓛 f.ended stayed c in let 𝓣 = tables 𝓤 𝓛.H 𝓜 𝓡 𝓡.env in
-    proved 𝓛 f.ended stayed c 𝓜 𝓡 (Goes-dropped 𝓛 0 (plain (λ _. RawPtr)) yes (λ κs x w. refl), (Goes-dropped 𝓛 0 (plain (λ _. u64)) yes (λ κs x w. refl), tt))
+    proved 𝓛 f.ended stayed c 𝓜 𝓡 (Goes-dropped 𝓛 0 (plain (λ _. RawPtr)) yes (λ κs x w. refl), tt)
     f.Key.name code.function (code.unfolded 𝓤 𝓛.H 𝓜 𝓡 wired)
-    (λ κs. (rawptr_vals, (uint_vals w64, tt))) (λ κs. (rawptr_Tells, (uint_Tells w64, tt))) (λ κs qs bounds a s are.
-    let y : Ptr → W.Ghost = λ p. ((κs, qs, bounds, (p, a.1), (rawptr_vals p, (uint_vals w64 a.1.0, tt))), s) in
+    (λ κs. (rawptr_vals, tt)) (λ κs. (rawptr_Tells, tt)) (λ κs qs bounds a s are.
+    let y : Ptr → W.Ghost = λ p. ((κs, qs, bounds, (p, a.1), (rawptr_vals p, tt)), s) in
     qed 𝓛 (((‵ ftrue) ⊛ ‵ (owns (types_at f.signature.params κs) a (y a.0).0.4)) ∷ ‵ (holds a.0 s) ∷ []) ∵ split ! $ move ! (1 ∷ []) $ fsplit ! $ drop ! $ move ! (2 ∷ []) $
     -- [what lies at the pointer; the other parameters; the tokens]
     in_a_block ! a.0 (λ p. holds p s) (id⊢ 𝓤 _) (λ b o e.
-    regoal ! (λ p. prop (WpFn 𝓤 𝓛.H 𝓣.C 𝓣.Λ code.function (rawptr_vals p ++ ((uint_vals w64 a.1.0) ++ [])) (W.post (y p)))) e refl $
-    enter ! _ _ _ _ _ $ alloc_all ! (λ l. pass_all ! refl ((tt, tt), ((tt, record { fits = are.1.0.1 }), tt)) $
+    regoal ! (λ p. prop (WpFn 𝓤 𝓛.H 𝓣.C 𝓣.Λ code.function (rawptr_vals p ++ []) (W.post (y p)))) e refl $
+    enter ! _ _ _ _ _ $ alloc_all ! (λ l. pass_all ! refl ((tt, tt), tt) $
     sets ! (of_opd ! (get ! refl)) refl (tt, tt) $
     sets ! (addr ! (through ! refl (stop !))) refl (tt, tt) $
     lft_new ! tt (λ α. move ! (1 ∷ []) $ let κ : List ℕ = α ∷ [] in
@@ -44,8 +45,8 @@ vnc_screen_close_spec 𝓤 𝓛 𝓜 𝓡 wired =
     let z : G.Ghost = (((κ, κs), (full_share, qs), tt, (record { ref_ptr = (b, o); ghost_name = γ; now = s }, a.1), (vptr b o ∷ [], (y a.0).0.4.1)), tt) in
     move ! (0 ∷ 3 ∷ []) $ fjoin ! $ move ! (2 ∷ 3 ∷ 0 ∷ []) $ join ! $ join ! $ nothing ! $ move ! (1 ∷ 0 ∷ []) $ use2 𝓛 (raw (G.pre z)) (id⊢ 𝓤 _) $
     calls_at ! (framed 𝓤 𝓛.H 𝓜 (tables 𝓤 𝓛.H 𝓜 𝓡 𝓡.env)) G (met 𝓤 𝓛 𝓜 𝓡 (code.calls-screen_desk::desk::Desk::close 𝓡.env wired)) z
-    (and_then ! (get ! refl) (and_then ! (get ! refl) (no_more !))) (λ v.
-    use1 𝓛 (later (some (λ (r : i32.Denot). ((‵ (flft κ full_share) ⊛ (‵ ftrue)) ⊛ ‵ (i32.own_val r (v ∷ []))) ⊛ some (λ (ws : Lasts g.ended z.0.0 z.0.3). ‵ (lasts g.ended z.0.0 z.0.3 ws) ⊛ raw (fact 𝓤 (Closes a.1.0 s ws.0 r)))))) (id⊢ 𝓤 _) $
+    (and_then ! (get ! refl) (no_more !)) (λ v.
+    use1 𝓛 (later (some (λ (r : i32.Denot). ((‵ (flft κ full_share) ⊛ (‵ ftrue)) ⊛ ‵ (i32.own_val r (v ∷ []))) ⊛ some (λ (ws : Lasts g.ended z.0.0 z.0.3). ‵ (lasts g.ended z.0.0 z.0.3 ws) ⊛ raw (fact 𝓤 ((ws.0 ≡ nothing_there) × (r ≡ codes.done))))))) (id⊢ 𝓤 _) $
     await ! tt $ pick ! (λ r. split ! $ split ! $ split ! $ lft_end ! tt $
     -- [α is over; the tokens; the result; what the callee left; what the lender keeps]
     move ! (3 ∷ []) $ pick ! (λ ws. split ! $ move ! (1 ∷ []) $ heard ! _ (λ so. fsplit ! $ fsplit ! $
@@ -55,8 +56,8 @@ vnc_screen_close_spec 𝓤 𝓛 𝓜 𝓡 wired =
     -- [the desk; its borrow; the others' last values; the tokens; the result]
     move ! (4 ∷ []) $ peeks ! i32 (Is i32) (shows 𝓛 i32) r (v ∷ []) (λ is. lands_as ! refl refl ((sint_Lawful 𝓛 w32).typed r _ is).0 $
     returns ! (look_at ! 0 refl) $ free_all ! refl $ keep ! (1 ∷ 4 ∷ 3 ∷ 0 ∷ []) $
-    suffices ! _ (ends_at 𝓛 f.ended stayed c (y (block_ptr b o)) v r (tt, ws.1) (tt, (tt, tt))) $
-    fpack ! (Closes a.1.0 s ws.0 r) (λ _. holds (block_ptr b o) ws.0) so $
-    fpack ! desk_row.Denot (λ t. fex (Closes a.1.0 s t r) (λ _. holds (block_ptr b o) t)) ws.0 $
+    suffices ! _ (ends_at 𝓛 f.ended stayed c (y (block_ptr b o)) v r (tt, ws.1) (tt, tt)) $
+    fpack ! ((ws.0 ≡ nothing_there) × (r ≡ codes.done)) (λ _. holds (block_ptr b o) ws.0) so $
+    fpack ! desk_row.Denot (λ t. fex ((t ≡ nothing_there) × (r ≡ codes.done)) (λ _. holds (block_ptr b o) t)) ws.0 $
     -- [what is served; the tokens; the others' last values; the result]
     move ! (2 ∷ []) $ nothing ! $ fjoin ! $ move ! (2 ∷ 0 ∷ 3 ∷ []) $ group ! 3 $ done !))))))))))

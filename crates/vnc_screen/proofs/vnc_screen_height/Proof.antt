@@ -3,13 +3,14 @@ use Rattle.vnc_screen.proofs.Steps.{◌≡◌, ℕ, List, [], ◌∷◌, ◌++�
 use contract.Monad.{fact}
 use denote.Steps.{heard}
 use Rattle.vnc_screen.specs.Lying.{desk_row, holds, leaves}
+use Rattle.std.specs.Mem.{type_size}
 use Rattle.std.specs.Prelude.{◌≡◌, ◌∷◌, [], ◌^◌, pos, map, min, length, is_some}
 use Rattle.screen.specs.Reading.{fault_in_rest, is_open_rest}
 use Rattle.screen.specs.Viewer.{is_asking}
 use Rattle.screen.specs.declared.Event.{Event}
 use Rattle.screen.specs.State.{viewer_at}
 use Rattle.screen_desk.specs.Codes as codes
-use Rattle.screen_desk.specs.Calls.{Opens, Draws, DrawsRegion, Connects, Hears, Cuts, CutsInto, Closes, TellsPending, Gives, GivesHeld, Fetches, Shows, ShowsSettings, TakesPixels, Tells, numbers_of, of_viewer, colour_at}
+use Rattle.screen_desk.specs.Calls.{Opens, Draws, DrawsRegion, Connects, Hears, Cuts, CutsInto, Closes, TellsPending, Gives, GivesHeld, Fetches, Shows, ShowsSettings, ShowsText, TakesPixels, Tells, numbers_of, of_viewer, colour_at}
 use Rattle.screen_desk.specs.Desk.{nothing_there, rect_of, config_of}
 use Rattle.screen_desk.specs.Pixels.{format_of, source_from}
 use Rattle.source_pixels.specs.declared.formats.SourceFormat.TheVariants as format

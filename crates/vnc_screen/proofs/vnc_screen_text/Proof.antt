@@ -3,13 +3,14 @@ use Rattle.vnc_screen.proofs.Steps.{◌≡◌, ℕ, List, [], ◌∷◌, ◌++�
 use contract.Monad.{fact}
 use denote.Steps.{heard}
 use Rattle.vnc_screen.specs.Lying.{desk_row, holds, leaves}
+use Rattle.std.specs.Mem.{type_size}
 use Rattle.std.specs.Prelude.{◌≡◌, ◌∷◌, [], ◌^◌, pos, map, min, length, is_some}
 use Rattle.screen.specs.Reading.{fault_in_rest, is_open_rest}
 use Rattle.screen.specs.Viewer.{is_asking}
 use Rattle.screen.specs.declared.Event.{Event}
 use Rattle.screen.specs.State.{viewer_at}
 use Rattle.screen_desk.specs.Codes as codes
-use Rattle.screen_desk.specs.Calls.{Opens, Draws, DrawsRegion, Connects, Hears, Cuts, CutsInto, Closes, TellsPending, Gives, GivesHeld, Fetches, Shows, ShowsSettings, TakesPixels, Tells, numbers_of, of_viewer, colour_at}
+use Rattle.screen_desk.specs.Calls.{Opens, Draws, DrawsRegion, Connects, Hears, Cuts, CutsInto, Closes, TellsPending, Gives, GivesHeld, Fetches, Shows, ShowsSettings, ShowsText, TakesPixels, Tells, numbers_of, of_viewer, colour_at}
 use Rattle.screen_desk.specs.Desk.{nothing_there, rect_of, config_of}
 use Rattle.screen_desk.specs.Pixels.{format_of, source_from}
 use Rattle.source_pixels.specs.declared.formats.SourceFormat.TheVariants as format
@@ -47,7 +48,7 @@ vnc_screen_text_spec 𝓤 𝓛 𝓜 𝓡 wired =
     move ! (0 ∷ 3 ∷ []) $ fjoin ! $ move ! (2 ∷ 3 ∷ 0 ∷ []) $ join ! $ join ! $ nothing ! $ move ! (1 ∷ 0 ∷ []) $ use2 𝓛 (raw (G.pre z)) (id⊢ 𝓤 _) $
     calls_at ! (framed 𝓤 𝓛.H 𝓜 (tables 𝓤 𝓛.H 𝓜 𝓡 𝓡.env)) G (met 𝓤 𝓛 𝓜 𝓡 (code.calls-screen_desk::desk::Desk::text 𝓡.env wired)) z
     (and_then ! (get ! refl) (and_then ! (get ! refl) (no_more !))) (λ v.
-    use1 𝓛 (later (some (λ (r : i32.Denot). ((‵ (flft κ full_share) ⊛ (‵ (flft κs.0 qs.0) ⊛ ‵ ftrue)) ⊛ ‵ (i32.own_val r (v ∷ []))) ⊛ some (λ (ws : Lasts g.ended z.0.0 z.0.3). ‵ (lasts g.ended z.0.0 z.0.3 ws) ⊛ raw (fact 𝓤 (Shows s.text s ws.0 a.1.0.now ws.1.0 r)))))) (id⊢ 𝓤 _) $
+    use1 𝓛 (later (some (λ (r : i32.Denot). ((‵ (flft κ full_share) ⊛ (‵ (flft κs.0 qs.0) ⊛ ‵ ftrue)) ⊛ ‵ (i32.own_val r (v ∷ []))) ⊛ some (λ (ws : Lasts g.ended z.0.0 z.0.3). ‵ (lasts g.ended z.0.0 z.0.3 ws) ⊛ raw (fact 𝓤 (ShowsText s ws.0 a.1.0.now ws.1.0 r)))))) (id⊢ 𝓤 _) $
     await ! tt $ pick ! (λ r. split ! $ split ! $ split ! $ lft_end ! tt $
     -- [α is over; the tokens; the result; what the callee left; what the lender keeps]
     move ! (3 ∷ []) $ pick ! (λ ws. split ! $ move ! (1 ∷ []) $ heard ! _ (λ so. fsplit ! $ fsplit ! $
@@ -59,7 +60,7 @@ vnc_screen_text_spec 𝓤 𝓛 𝓜 𝓡 wired =
     move ! (4 ∷ []) $ peeks ! i32 (Is i32) (shows 𝓛 i32) r (v ∷ []) (λ is. lands_as ! refl refl ((sint_Lawful 𝓛 w32).typed r _ is).0 $
     returns ! (look_at ! 0 refl) $ free_all ! refl $ keep ! (1 ∷ 4 ∷ 3 ∷ 0 ∷ []) $
     suffices ! _ (ends_at 𝓛 f.ended stayed c (y (block_ptr b o)) v r (tt, ws.1) (tt, (same, tt))) $
-    fpack ! (Shows s.text s ws.0 a.1.0.now ws.1.0 r) (λ _. holds (block_ptr b o) ws.0) so $
-    fpack ! desk_row.Denot (λ t. fex (Shows s.text s t a.1.0.now ws.1.0 r) (λ _. holds (block_ptr b o) t)) ws.0 $
+    fpack ! (ShowsText s ws.0 a.1.0.now ws.1.0 r) (λ _. holds (block_ptr b o) ws.0) so $
+    fpack ! desk_row.Denot (λ t. fex (ShowsText s t a.1.0.now ws.1.0 r) (λ _. holds (block_ptr b o) t)) ws.0 $
     -- [what is served; the tokens; the others' last values; the result]
     move ! (2 ∷ []) $ nothing ! $ fjoin ! $ move ! (2 ∷ 0 ∷ 3 ∷ []) $ group ! 3 $ done !)))))))))))

@@ -1,22 +1,24 @@
--- `vnc_server_fd` lends the desk at its pointer to `handle` for the call, and passes on what else it was given. Made by c/tools/walks.py.
+-- `vnc_server_fd` lends the desk at its pointer to `fd` for the call, and passes on what else it was given. Made by c/tools/walks.py.
 use Rattle.vnc_server.proofs.Steps.{◌≡◌, ℕ, List, [], ◌∷◌, ◌++◌, refl, vint, vptr, of_z, w8, w16, w32, w64, proved, full_share, id⊢, ftrue, fex, flft, flent, named, tables, ‵, raw, ◌⊛◌, some, later, prop, ◌$◌, ◌∵◌, !, qed, done, move, keep, drop, use1, use2, use3, split, join, fsplit, fjoin, fpick, fpack, pick, await, regoal, suffices, group, enter, of_opd, addr, stop, no_more, and_then, returns, alloc_all, pass_all, free_all, look_at, get, through, sets, lands_as, lft_new, lft_end, u8, u16, u32, u64, usize, i32, i64, yes, lends_ref, ref_back, Body, mem, uint_vals, uint_Tells, uint_Lawful, sint_Tells, sint_Lawful, shr_slice_vals, shr_slice_Tells, mut_slice_vals, mut_slice_Tells, Ptr, RawPtr, block_ptr, lies_at, in_a_block, rawptr_vals, rawptr_Tells, MutRef, plain, shr_slice_of, nothing, peeks, shows, Is, owns, types_at, calls_at, lasts, Lasts, triple_of, Stays, walk_of, stay_dropped, Goes-dropped, gave_slice, Goes-gave_slice, at_exit, ends_at, from, fld, hop, look_in_at, sub, whole, agg, get_in, feq_l, framed, WpFn}
 use contract.Monad.{fact}
 use denote.Steps.{heard}
 use Rattle.vnc_server.specs.Lying.{desk_row, holds, leaves}
+use Rattle.std.specs.Mem.{type_size}
 use Rattle.std.specs.Prelude.{◌≡◌, ◌∷◌, [], ◌^◌, pos, map, min, length, false, is_some, count_by}
+use Rattle.screen.specs.Reading.{is_open_rest}
 use Rattle.screen.specs.declared.Event.{Event}
 use Rattle.screen_desk.specs.Codes as codes
-use Rattle.screen_desk.specs.Calls.{colour_at}
+use Rattle.screen_desk.specs.Calls.{colour_at, of_viewer}
 use Rattle.screen_desk.specs.Desk.{rect_of, config_of}
 use Rattle.server_desk.specs.Desk.{nothing_there, rects_per_update}
-use Rattle.server_desk.specs.Calls.{Listens, NamesRecord, record_state, TakesTurn, Draws, DrawsRegion, FetchesInputs, FetchesVisits, ShowsText, ShowsSettings, Tells, TellsAddress, TellsSome, LetsGo, TakesPixels, Wakes}
+use Rattle.server_desk.specs.Calls.{Listens, NamesRecord, record_state, TakesTurn, Draws, DrawsRegion, FetchesInputs, FetchesVisits, ShowsNumbers, ShowsText, ShowsSettings, Tells, TellsAddress, TellsSome, LetsGo, TakesPixels, Wakes}
 use Rattle.screen_desk.specs.Pixels.{format_of, source_from}
 use Rattle.source_pixels.specs.declared.formats.SourceFormat.TheVariants as format
 use Rattle.vnc_server.specs.contracts.vnc_server_fd as f
 use Rattle.vnc_server.proofs.vnc_server_fd.Statement.{statement}
 use Rattle.vnc_server.proofs.vnc_server_fd.Code as code
-use Rattle.server_desk.specs.contracts.desk.ServerDesk.handle as g
-use Rattle.server_desk.proofs.desk.ServerDesk.handle.Met.{met}
+use Rattle.server_desk.specs.contracts.desk.ServerDesk.fd as g
+use Rattle.server_desk.proofs.desk.ServerDesk.fd.Met.{met}
 
 abbrev stayed : Stays f.ended.signature.params f.ended.kept
 stayed = (stay_dropped _ yes, tt)
@@ -42,7 +44,7 @@ vnc_server_fd_spec 𝓤 𝓛 𝓜 𝓡 wired =
     let G = triple_of 𝓛 g.signature (g.spec 𝓛 𝓜.mem 𝓡.returns) in
     let z : G.Ghost = (((κ, κs), (full_share, qs), tt, (record { ref_ptr = (b, o); ghost_name = γ; now = s }, a.1), (vptr b o ∷ [], (y a.0).0.4.1)), tt) in
     move ! (0 ∷ 3 ∷ []) $ fjoin ! $ move ! (2 ∷ 3 ∷ 0 ∷ []) $ join ! $ join ! $ nothing ! $ move ! (1 ∷ 0 ∷ []) $ use2 𝓛 (raw (G.pre z)) (id⊢ 𝓤 _) $
-    calls_at ! (framed 𝓤 𝓛.H 𝓜 (tables 𝓤 𝓛.H 𝓜 𝓡 𝓡.env)) G (met 𝓤 𝓛 𝓜 𝓡 (code.calls-server_desk::desk::ServerDesk::handle 𝓡.env wired)) z
+    calls_at ! (framed 𝓤 𝓛.H 𝓜 (tables 𝓤 𝓛.H 𝓜 𝓡 𝓡.env)) G (met 𝓤 𝓛 𝓜 𝓡 (code.calls-server_desk::desk::ServerDesk::fd 𝓡.env wired)) z
     (and_then ! (get ! refl) (no_more !)) (λ v.
     use1 𝓛 (later (some (λ (r : i32.Denot). ((‵ (flft κ full_share) ⊛ (‵ ftrue)) ⊛ ‵ (i32.own_val r (v ∷ []))) ⊛ some (λ (ws : Lasts g.ended z.0.0 z.0.3). ‵ (lasts g.ended z.0.0 z.0.3 ws) ⊛ raw (fact 𝓤 (TellsSome s ws.0 r)))))) (id⊢ 𝓤 _) $
     await ! tt $ pick ! (λ r. split ! $ split ! $ split ! $ lft_end ! tt $

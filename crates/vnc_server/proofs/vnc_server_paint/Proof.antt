@@ -3,13 +3,15 @@ use Rattle.vnc_server.proofs.Steps.{◌≡◌, ℕ, List, [], ◌∷◌, ◌++�
 use contract.Monad.{fact}
 use denote.Steps.{heard}
 use Rattle.vnc_server.specs.Lying.{desk_row, holds, leaves}
+use Rattle.std.specs.Mem.{type_size}
 use Rattle.std.specs.Prelude.{◌≡◌, ◌∷◌, [], ◌^◌, pos, map, min, length, false, is_some, count_by}
+use Rattle.screen.specs.Reading.{is_open_rest}
 use Rattle.screen.specs.declared.Event.{Event}
 use Rattle.screen_desk.specs.Codes as codes
-use Rattle.screen_desk.specs.Calls.{colour_at}
+use Rattle.screen_desk.specs.Calls.{colour_at, of_viewer}
 use Rattle.screen_desk.specs.Desk.{rect_of, config_of}
 use Rattle.server_desk.specs.Desk.{nothing_there, rects_per_update}
-use Rattle.server_desk.specs.Calls.{Listens, NamesRecord, record_state, TakesTurn, Draws, DrawsRegion, FetchesInputs, FetchesVisits, ShowsText, ShowsSettings, Tells, TellsAddress, TellsSome, LetsGo, TakesPixels, Wakes}
+use Rattle.server_desk.specs.Calls.{Listens, NamesRecord, record_state, TakesTurn, Draws, DrawsRegion, FetchesInputs, FetchesVisits, ShowsNumbers, ShowsText, ShowsSettings, Tells, TellsAddress, TellsSome, LetsGo, TakesPixels, Wakes}
 use Rattle.screen_desk.specs.Pixels.{format_of, source_from}
 use Rattle.source_pixels.specs.declared.formats.SourceFormat.TheVariants as format
 use Rattle.vnc_server.specs.contracts.vnc_server_paint as f
