@@ -1,8 +1,9 @@
 #!/usr/bin/env python3
-"""life.py PROGRAM [--connections 200000] [--at-once 8]: a long life of `vncdemo serve --one-thread --forever`. So many viewers come and go, some
-at once: each opens, asks for the whole screen, takes it, holds a key down and leaves, every eighth by a reset and every ninth in its opening. It
-prints what memory the server takes after a thousand of them, after each tenth of all, and at the end. The status is 1 where the server ended, a
-picture had another length, or it took a tenth of a MB more at the end than after the first thousand."""
+"""life.py PROGRAM [--connections 200000] [--at-once 8] [--threads]: a long life of `vncdemo serve --forever`, by one thread, or with --threads
+by two a viewer. So many viewers come and go, some at once: each opens, asks for the whole screen, takes it, holds a key down and leaves, every
+eighth by a reset and every ninth in its opening. It prints what memory the server takes after a thousand of them, after each tenth of all, and at
+the end. The status is 1 where the server ended, a picture had another length, or it took a tenth of a MB more at the end than after the first
+thousand."""
 import argparse
 import re
 import socket
@@ -69,9 +70,11 @@ def main():
     p.add_argument("program")
     p.add_argument("--connections", type=int, default=200_000)
     p.add_argument("--at-once", type=int, default=8)
+    p.add_argument("--threads", action="store_true")
     opts = p.parse_args()
-    words = ["serve", "--one-thread", "--forever", "--port", "0", "--width", str(WIDTH), "--height", str(HEIGHT), "--viewers", "64"]
-    server = subprocess.Popen([opts.program, *words], stdout=subprocess.DEVNULL, stderr=subprocess.PIPE, text=True)
+    words = ["serve", "--forever", "--port", "0", "--width", str(WIDTH), "--height", str(HEIGHT), "--viewers", "64"]
+    way = [] if opts.threads else ["--one-thread"]
+    server = subprocess.Popen([opts.program, *words, *way], stdout=subprocess.DEVNULL, stderr=subprocess.PIPE, text=True)
     port = int(re.search(r":(\d+)$", server.stderr.readline().strip())[1])
     failed, first, done = [], None, 0
     for goal in sorted({1000, *(opts.connections * tenth // 10 for tenth in range(1, 11))}):

@@ -1,9 +1,10 @@
 #!/usr/bin/env python3
-"""soak.py PROGRAM [--minutes 20] [--visitors 40] [--seed 1]: churn for `vncdemo serve --one-thread --forever`. Visitors of all versions,
-encodings and several formats come and go, politely, by a reset, in the middle of a message, with nonsense, or without a word, while places are
-painted. Each whole picture is judged: what was painted before it was asked for is white, and what was not painted is black. A line a minute
-says what the server takes, and how long another viewer waited for an update at most. The status is 1 where a picture was wrong, where the
-server ended, or where its memory grew behind the first minute."""
+"""soak.py PROGRAM [--minutes 20] [--visitors 40] [--seed 1] [--threads]: churn for `vncdemo serve --forever`, by one thread, or with --threads
+by two a viewer, where 15 visitors are there at once unless --visitors says otherwise. Visitors of all versions, encodings and several formats
+come and go, politely, by a reset, in the middle of a message, with nonsense, or without a word, while places are painted. Each whole picture is
+judged: what was painted before it was asked for is white, and what was not painted is black. A line a minute says what the server takes, and how
+long another viewer waited for an update at most. The status is 1 where a picture was wrong, where the server ended, or where its memory grew
+behind the first minute."""
 import argparse
 import os
 import random
@@ -212,9 +213,9 @@ def visit(soak, dice):
 
 
 class Soak:
-    def __init__(self, program, visitors):
-        words = [program, "serve", "--one-thread", "--forever", "--port", "0", "--viewers", str(min(4 * visitors, 1024))]
-        words += ["--width", str(WIDTH), "--height", str(HEIGHT)]
+    def __init__(self, program, visitors, by_threads):
+        words = [program, "serve", "--forever", "--port", "0", "--viewers", str(min(4 * visitors, 64 if by_threads else 1024))]
+        words += ["--width", str(WIDTH), "--height", str(HEIGHT), *([] if by_threads else ["--one-thread"])]
         self.server = subprocess.Popen(words, stdin=subprocess.DEVNULL, stdout=subprocess.DEVNULL, stderr=subprocess.PIPE, text=True)
         said = re.search(r"is served on 127\.0\.0\.1:(\d+)", self.server.stderr.readline())
         if not said:
@@ -255,11 +256,13 @@ def main():
     words = argparse.ArgumentParser(description=__doc__)
     words.add_argument("program")
     words.add_argument("--minutes", type=float, default=20)
-    words.add_argument("--visitors", type=int, default=40)
+    words.add_argument("--visitors", type=int)
     words.add_argument("--seed", type=int, default=1)
+    words.add_argument("--threads", action="store_true")
     asked = words.parse_args()
-    soak = Soak(asked.program, asked.visitors)
-    threads = [threading.Thread(target=soak.visits, args=(random.Random(asked.seed * 1000 + k),), daemon=True) for k in range(asked.visitors)]
+    visitors = asked.visitors or (15 if asked.threads else 40)
+    soak = Soak(asked.program, visitors, asked.threads)
+    threads = [threading.Thread(target=soak.visits, args=(random.Random(asked.seed * 1000 + k),), daemon=True) for k in range(visitors)]
     threads.append(threading.Thread(target=soak.paints, args=(random.Random(asked.seed),), daemon=True))
     for it in threads:
         it.start()

@@ -34,7 +34,8 @@
  *            each pixel, and what its socket didn't take of 64 KB. Inputs and
  *            events wait until they are fetched: at most 4,096 inputs with 4 MB
  *            of texts, and 1,024 events. What comes when there is no more room,
- *            or no memory for it, is lost and counted: vnc_server_lost_count.
+ *            and an input for which there is no memory, is lost and counted:
+ *            vnc_server_lost_count.
  * Security   None but the address: who reaches the port sees the picture, and
  *            can send inputs. No call raises SIGPIPE.
  * Undefined  A pointer to a server that is null, freed, not initialised or
@@ -236,9 +237,9 @@ int32_t vnc_server_process_events(vnc_server *server, int32_t milliseconds);
  * the server's own until vnc_server_close: read nothing from it. */
 int32_t vnc_server_fd(const vnc_server *server);
 
-/* Returns for how many milliseconds such a program may wait now: 2^31 - 1 also
- * where there is no end. Ask before each wait: drawing, and what a turn leaves
- * to do, make it 0. Or VNC_ERROR_CLOCK. */
+/* Returns for how many milliseconds such a program may wait now, a part of one
+ * as a whole one: 2^31 - 1 also where there is no end. Ask before each wait:
+ * drawing, and what a turn leaves to do, make it 0. Or VNC_ERROR_CLOCK. */
 int32_t vnc_server_timeout(const vnc_server *server);
 
 /* ---- What viewers told ---- */
@@ -260,9 +261,9 @@ int32_t vnc_server_text(const vnc_server *server,
 int64_t vnc_server_next_events(vnc_server *server,
                                vnc_event *buffer, size_t count);
 
-/* Returns how many inputs and events were lost since vnc_server_listen. A
- * viewer whose coming was lost is served all the same: vnc_server_numbers
- * has it. */
+/* Returns how many inputs and events were lost since vnc_server_listen: each
+ * that was not kept, and no other. A viewer whose coming was lost is served all
+ * the same: vnc_server_numbers has it. */
 int64_t vnc_server_lost_count(const vnc_server *server);
 
 /* Returns how often, since vnc_server_listen, viewers asked for pixels whether

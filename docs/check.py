@@ -1,8 +1,9 @@
 #!/usr/bin/env python3
 """check.py: holds the documents to the repository. Each file, folder, crate, function and type that a document names between backticks
 is there, and where a document says in which file, in that one; docs/DEFINITIONS.md names each file of definitions that a contract rests
-on; and the proofs of the C libraries' doors are what c/tools/walks.py writes. It prints a line for each thing that isn't so, and ends
-with status 1 where there is one. CHANGELOG.md, which speaks of names that are gone, isn't looked at."""
+on; the comments of functions begin with what these do, but in the crates of ODD_COMMENTS; and the proofs of the C libraries' doors are
+what c/tools/walks.py writes. It prints a line for each thing that isn't so, and ends with status 1 where there is one. CHANGELOG.md,
+which speaks of names that are gone, isn't looked at."""
 import glob
 import os
 import re
@@ -17,6 +18,16 @@ COMMENTS = {".rt": "//", ".antt": "--"}
 # Words between backticks that are no names of this repository: of other programs, of libraries, of C and of Rust.
 FOREIGN = re.compile(r"(rfb|sra)[A-Z]\w*|rfb\w*\.h|\w+_t|lib\w+|x\w*vnc\w*|gvnc\w+|vncsnapshot|vncev|indexmap|[iu](8|16|32|64|size)"
                      r"|[PC]C|main|ssh|stunnel\w*|rattle-kit-\w+")
+
+# A function with its comment's first word, its attributes between.
+COMMENTED = re.compile(r"^[ \t]*///[ \t]*(\S*)[^\n]*\n(?:[ \t]*(?:///|#\[)[^\n]*\n)*[ \t]*(?:pub(?:\([a-z]+\))? )?(?:const |unsafe |extern \"C\" )*fn (\w+)", re.M)
+# Crates in which some comments begin otherwise, still.
+ODD_COMMENTS = {
+    "client_list", "copy_schedule", "demo_app", "encode_hextile", "encode_raw", "encode_rre", "example_pointer", "framebuffer", "kept_list",
+    "listed", "pixel_translate", "region", "region_bands", "region_rows", "region_sets", "scene", "span_arena", "subrectangles",
+    "test_connections_memory", "test_demo_app_commands", "test_input_queue_threads", "test_parts_calls", "test_region_lists",
+    "viewer_picture", "vnc_server",
+}
 
 
 def text_of(path):
@@ -94,6 +105,15 @@ def definitions(files):
     yield from (f"docs/DEFINITIONS.md has {name}.antt of {crate}, which is not there" for crate, name in sorted(named - set(specs)) if name != "Examples")
 
 
+def comments(files):
+    """The functions whose comments don't begin with a verb in the third person, as "Returns"."""
+    for path in files:
+        it = re.match(r"crates/(\w+)/src/.*\.rt$", path)
+        if it and it[1] not in ODD_COMMENTS:
+            yield from (f"{path}: the comment of {name} begins with `{word}`, no verb in the third person" for word, name in COMMENTED.findall(text_of(path))
+                        if not re.fullmatch(r"[A-Z][a-z]+s,?", word) or word in ("Its", "This", "Is"))
+
+
 def doors():
     """The proofs of a C library that aren't what the generator writes."""
     for name in ("vnc_screen", "vnc_server"):
@@ -110,7 +130,7 @@ def main():
     paths = files + sorted({"/".join(path.split("/")[:n]) for path in files for n in range(1, path.count("/") + 1)})
     words = {path: words_in(path) for path in files if not path.endswith(".md") and "/data/" not in path}
     wrong = [f"{document} names {it}" for document in DOCUMENTS for it in dict.fromkeys(unknown(document, paths, words))]
-    wrong += [*definitions(files), *doors()]
+    wrong += [*definitions(files), *comments(files), *doors()]
     print("\n".join([*wrong, f"the documents: {len(DOCUMENTS)} looked at, {len(wrong)} things that aren't so"]))
     return 1 if wrong else 0
 

@@ -1,7 +1,7 @@
 #!/bin/bash
 # resizing.sh "SERVER COMMAND" [OUT] - TigerVNC under Xvfb, on a screen that its keys + and - double and halve.
 #
-# {port} in the command is filled in, as in "crates/follow_pointer/out/follow_pointer {port}". The viewer presses + six times, so
+# {port} in the command is filled in, as in "crates/example_pointer/out/example_pointer {port}". The viewer presses + six times, so
 # that its window goes from 12 by 6 to 768 by 384, clicks, and presses - once. OUT gets a picture (PNG) of each size and
 # seen.txt. Status 0 where the window had these sizes, and the square's corner was where it belongs.
 set -u

@@ -200,6 +200,23 @@ static int chooses_port(void)
     return is_over();
 }
 
+/* A server on one address isn't reached at another of the machine's, though both are loopback's; one on all of them is reached at each. */
+static int one_address(void)
+{
+    IS(listens(2, 1), 0);
+    HOLDS(!connects_to(&first, "127.0.0.2", 0));
+    IS(errno, ECONNREFUSED);
+    HOLDS(connects_to(&first, "127.0.0.1", 0));
+    IS(vnc_server_listen(s, "127.0.0.2", 0, 2, 1, "demo", 8), 0);
+    HOLDS(!connects_to(&first, "127.0.0.1", 0));
+    IS(errno, ECONNREFUSED);
+    HOLDS(connects_to(&first, "127.0.0.2", 0));
+    IS(vnc_server_listen(s, "0.0.0.0", 0, 2, 1, "demo", 8), 0);
+    HOLDS(connects_to(&first, "127.0.0.1", 0));
+    HOLDS(connects_to(&first, "127.0.0.2", 0));
+    return is_over();
+}
+
 /* The smallest picture and the widest, no name and the longest are within bounds. The address for all of the machine's is one, on which
  * the server's own port is taken, and so is one of version 6, though the system may have none. */
 static int bounds(void)
@@ -345,6 +362,7 @@ int main(int argc, char **argv)
     DO(says_why());
     DO(has_texts());
     DO(chooses_port());
+    DO(one_address());
     DO(bounds());
     DO(listens_anew());
     DO(changes_nothing());

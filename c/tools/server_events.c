@@ -38,6 +38,22 @@ static int leave(void)
     return is_over();
 }
 
+/* The address is the one that the viewer comes from: all of 127.0.0.0/8 are the machine's own. */
+static int come_from(void)
+{
+    char address[VNC_ADDRESS_SIZE];
+    IS(listens(2, 1), 0);
+    HOLDS(connects_to(&first, "127.0.0.1", "127.0.0.2"));
+    HOLDS(comes(1));
+    HOLDS(connects_to(&second, "127.0.0.1", "127.31.4.159"));
+    HOLDS(comes(2));
+    IS(vnc_server_viewer_address(s, 1, address, sizeof address), 0);
+    HOLDS(strcmp(address, "127.0.0.2") == 0);
+    IS(vnc_server_viewer_address(s, 2, address, sizeof address), 0);
+    HOLDS(strcmp(address, "127.31.4.159") == 0);
+    return is_over();
+}
+
 /* The numbers of those who are connected, as many as there is room for. An opening is over with the ClientInit (7.3.1). */
 static int lists(void)
 {
@@ -164,6 +180,7 @@ int main(int argc, char **argv)
     (void)argv;
     if (argc > 1) patience = 3;
     DO(leave());
+    DO(come_from());
     DO(lists());
     EACH(k, faults) ROW(k, is_at_fault(k));
     DO(resets());

@@ -61,19 +61,30 @@ static inline int turns(void)
 /* Whether there is time for a turn, which is taken then. */
 static inline int is_patient(double end) { return seconds() < end && turns(); }
 
-/* Whether another viewer connects, who was there before having left. */
-static inline int connects(int *fd)
+/* A port of an IPv4 address. */
+static inline struct sockaddr_in at_port(const char *address, int port)
 {
-    struct sockaddr_in to;
+    struct sockaddr_in at;
+    memset(&at, 0, sizeof at);
+    at.sin_family = AF_INET;
+    at.sin_addr.s_addr = inet_addr(address);
+    at.sin_port = htons((uint16_t)port);
+    return at;
+}
+
+/* Whether another viewer connects to the server's port of an address, who was there before having left; from another address of the
+ * machine's, where one is given. Else errno says why not. */
+static inline int connects_to(int *fd, const char *address, const char *from)
+{
+    struct sockaddr_in to = at_port(address, vnc_server_port(s)), own = at_port(from ? from : "0.0.0.0", 0);
     int one = 1;
     leaves(fd);
-    memset(&to, 0, sizeof to);
-    to.sin_family = AF_INET;
-    to.sin_addr.s_addr = htonl(INADDR_LOOPBACK);
-    to.sin_port = htons((uint16_t)vnc_server_port(s));
     *fd = socket(AF_INET, SOCK_STREAM, 0);
-    return *fd >= 0 && connect(*fd, (struct sockaddr *)&to, sizeof to) == 0 && setsockopt(*fd, IPPROTO_TCP, TCP_NODELAY, &one, sizeof one) == 0;
+    return *fd >= 0 && (!from || bind(*fd, (struct sockaddr *)&own, sizeof own) == 0) && connect(*fd, (struct sockaddr *)&to, sizeof to) == 0 &&
+           setsockopt(*fd, IPPROTO_TCP, TCP_NODELAY, &one, sizeof one) == 0;
 }
+
+static inline int connects(int *fd) { return connects_to(fd, "127.0.0.1", 0); }
 
 /* Whether a viewer's socket took all of some bytes. */
 static inline int says(int fd, const void *bytes, size_t count)

@@ -11,13 +11,13 @@ import sys
 
 # what lies at a door's pointer: its library, module and name, and the words for its row, that it lies there, and that one is left there
 THINGS = {
-    "Desk": ("screen_desk", "desk", "desk_row", "holds", "leaves"),
-    "DeskUpdate": ("screen_desk", "update", "update_row", "holds_update", "leaves_update"),
-    "ServerDesk": ("server_desk", "desk", "desk_row", "holds", "leaves"),
-    "ServerWaker": ("server_desk", "waker", "waker_row", "holds_waker", "leaves_waker"),
+    "Desk": ("c_screen", "desk", "desk_row", "holds", "leaves"),
+    "DeskUpdate": ("c_screen", "update", "update_row", "holds_update", "leaves_update"),
+    "ServerDesk": ("c_server", "desk", "desk_row", "holds", "leaves"),
+    "ServerWaker": ("c_server", "waker", "waker_row", "holds_waker", "leaves_waker"),
 }
 WIDTHS = {"u8": "w8", "u16": "w16", "u32": "w32", "u64": "w64", "usize": "w64", "i8": "w8", "i16": "w16", "i32": "w32", "i64": "w64"}
-ROWS = {"Told": ("screen_desk", "told"), "Corners": ("screen_desk", "corners"), "Visit": ("server_desk", "visits"), "PixelLayout": ("screen_desk", "pixels")}
+ROWS = {"Told": ("c_screen", "told"), "Corners": ("c_screen", "corners"), "Visit": ("c_server", "visits"), "PixelLayout": ("c_screen", "pixels")}
 
 STEPS = """◌≡◌, ℕ, List, [], ◌∷◌, ◌++◌, refl, vint, vptr, of_z, w8, w16, w32, w64, proved, full_share, id⊢, ftrue, fex, flft, flent, named, tables, ‵, raw, ◌⊛◌, some, later, prop, ◌$◌, ◌∵◌, !, qed, done, move, keep, drop, use1, use2, use3, split, join, fsplit, fjoin, fpick, fpack, pick, await, regoal, suffices, group, enter, of_opd, addr, stop, no_more, and_then, returns, alloc_all, pass_all, free_all, look_at, get, through, sets, lands_as, lft_new, lft_end, u8, u16, u32, u64, usize, i32, i64, yes, lends_ref, ref_back, Body, mem, uint_vals, uint_Tells, uint_Lawful, sint_Tells, sint_Lawful, shr_slice_vals, shr_slice_Tells, mut_slice_vals, mut_slice_Tells, Ptr, RawPtr, block_ptr, lies_at, in_a_block, rawptr_vals, rawptr_Tells, MutRef, plain, shr_slice_of, nothing, peeks, shows, Is, owns, types_at, calls_at, lasts, Lasts, triple_of, Stays, walk_of, stay_dropped, Goes-dropped, gave_slice, Goes-gave_slice, at_exit, ends_at, from, fld, hop, look_in_at, sub, whole, agg, get_in, feq_l, framed, WpFn"""
 

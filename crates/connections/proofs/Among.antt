@@ -1,5 +1,5 @@
 -- Which keys are in a list.
-use Rattle.std.proofs.Common.{◌≡◌, ◌≢◌, ◌⊎◌, inl, inr, true≢false, subst, ◌+◌, ◌<◌, ℕ, zero, suc, Bool, true, false, List, [], ◌∷◌, ◌++◌, refl, sym, ap, ◌∙◌, arith}
+use Rattle.std.proofs.Common.{◌≡◌, ◌≢◌, ◌⊎◌, inl, inr, true≢false, subst, ◌+◌, ◌<◌, ℕ, zero, suc, Bool, true, false, List, [], ◌∷◌, ◌++◌, Result, Ok, Err, OnOk, OnErr, refl, sym, ap, ◌∙◌, arith}
 use Rattle.std.specs.Prelude.{◌==◌, ◌||◌, length, slice_index_or, remove}
 use Rattle.std.proofs.lemmas.Bool.Decides.{Decides-eqb}
 use Rattle.std.proofs.lemmas.List.Folds.{list_any-append, list_any_at}
@@ -81,6 +81,11 @@ each-more P Q keys n goes here each i below = go (i == n) refl
     go : (b : Bool) → (i == n) ≡ b → Q (slice_index_or keys i 0)
     go true is = subst (λ (m : ℕ). Q (slice_index_or keys m 0)) (sym ((Decides-eqb i n).0 is)) here
     go false is = goes _ (each i (let apart : i ≢ n = λ same. true≢false (sym ((Decides-eqb i n).1 same) ∙ is) in omega (arith, below, apart)))
+
+-- one came, or none, as a result says
+pub came-by : {X E : Type 0} (r : Result X E) (old new : List ℕ) (key : ℕ) → OnOk r ((new ≡ old) ⊎ (new ≡ old ++ key ∷ [])) → OnErr r (new ≡ old) → (new ≡ old) ⊎ (new ≡ old ++ key ∷ [])
+came-by (Ok x) old new key ok err = ok
+came-by (Err e) old new key ok err = inl err
 
 -- one came, or none
 pub among-came : (k key : ℕ) (old new : List ℕ) → (new ≡ old) ⊎ (new ≡ old ++ key ∷ []) → is_among k new ≡ true → (is_among k old ≡ true) ⊎ (k ≡ key)

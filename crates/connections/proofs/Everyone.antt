@@ -15,11 +15,15 @@ use Rattle.receipts.specs.declared.Receipt.{Receipt}
 use Rattle.receipts.specs.declared.Ended.{Ended}
 use Rattle.receipts.specs.declared.Ended.TheVariants.{Memory}
 use Rattle.receipts.specs.Histories.{heard_of, bytes_of}
-use Rattle.screen.specs.State.{state}
+use Rattle.screen.specs.State.{state, history_by}
+use Rattle.screen.specs.declared.History.{History}
+use Rattle.screen.specs.declared.History.TheVariants.{Kept, NotKept}
 use Rattle.connections.specs.Waiting.{waiting_bytes, IsFew}
 use Rattle.connections.specs.Drawing.{Surface, Draws, IsDrawnFrom}
 use Rattle.connections.specs.Among.{is_among}
 use Rattle.connections.specs.Attending.{asks, IsSettled}
+use Rattle.connections.specs.Counting.{Counts, no_counts, counts_of, HasCounts}
+use Rattle.connections.specs.Recording.{none_yet}
 use Rattle.held_inputs.specs.Held.{Held, nothing}
 use Rattle.connections.specs.Telling.{said_by, releases, held_of, inputs_after, IsTold}
 use Rattle.connections.specs.Recorded.{IsRecordedBy, RecordsMore}
@@ -27,9 +31,9 @@ use Rattle.connections.specs.RecordedLemmas.{records-same, recorded-same, record
 use Rattle.connections.specs.Serving.{Began, Carried, ViewerConnection, Moves, breaks_off, has_work, IsServed, WasServed, IsOver, IsAttended, Serving, at_key, works_at, may_cut_at, may_ask_at, is_kept, Serves, GoesOn, GoesOnTelling, drawn_is_served}
 use Rattle.connections.specs.Turns.{Knows, IsTurnFrom, TakesTurn, TakesTurnTelling}
 use Rattle.connections.specs.TellingLemmas.{inputs-append, inputs-drawings, told-nothing, told-all, told-then, told-ended}
-use Rattle.connections.proofs.Given.{SameFor, bytes-own, heard-same, held-same, same-others, same-drawings}
+use Rattle.connections.proofs.Given.{SameFor, bytes-own, heard-same, held-same, counts-same, same-others, same-drawings}
 use Rattle.connections.proofs.Turns.{served-same, drawn-on, moves-nothing}
-use Rattle.connections.proofs.Seen.{asks-drawings, asks-others}
+use Rattle.connections.proofs.Seen.{asks-drawings, asks-others, absent-drawings, absent-others}
 use Rattle.connections.proofs.Knowing.{settled-looked, settled-other, settled-drawn}
 
 -- ---- steps one after the other
@@ -181,7 +185,7 @@ serves-drawn c began list a b d same s =
             settled = λ none. settled-drawn c list a.surface b.surface e.number d (h.settled none);
           };
       apart = λ j k d e dj ek same. s.apart j k d e (ap (λ l. at_key l j) (sym slots) ∙ dj) (ap (λ l. at_key l k) (sym slots) ∙ ek) same;
-      unused = λ v free. let h = s.unused v (subst (λ (n : ℕ). n ≤ v) next free) in ((stays v).0 ∙ h.0, (stays v).1 ∙ h.1, (stays v).2 ∙ h.2);
+      unused = λ v free. let h = s.unused v (subst (λ (n : ℕ). n ≤ v) next free) in ((stays v).0 ∙ h.0, (stays v).1 ∙ h.1, (stays v).2 ∙ h.2, (stays v).3 ∙ h.3, absent-drawings c v list d.calls d.drawings h.4);
     }
 
 pub goes-drawn : (a b : Serving) → Draws a.surface b.surface → b ≡ record a { surface = b.surface } → GoesOn a b
@@ -235,7 +239,7 @@ serves-by-turn c began list a b key e f said there now others kept next agenda a
       each = λ j g at. at-one j g at (j == key) refl t stays;
       attended = λ j g at. known-one j g at (j == key) refl t;
       apart = λ j k d g dj gk same. apart-two j k d g dj gk same t;
-      unused = λ v free. let f = subst (λ (n : ℕ). n ≤ v) next free in let h = s.unused v f in let w = stays v (less-apart n a.next v mine.0 f) in (w.0 ∙ h.0, w.1 ∙ h.1, w.2 ∙ h.2);
+      unused = λ v free. let f = subst (λ (n : ℕ). n ≤ v) next free in let h = s.unused v f in let far = less-apart n a.next v mine.0 f in let w = stays v far in (w.0 ∙ h.0, w.1 ∙ h.1, w.2 ∙ h.2, w.3 ∙ h.3, absent-others c n v far list t.events t.own h.4);
     }
   where
     Turned : Type 0
@@ -391,7 +395,7 @@ none-yet c began s recorded screen kept none = record {
   each = λ key e there. let no : ◌≡◌ {A = Option ViewerConnection} None (Some e) = sym (ap (λ l. at_key l key) none) ∙ there in absurd cc;
   attended = λ key e there. let no : ◌≡◌ {A = Option ViewerConnection} None (Some e) = sym (ap (λ l. at_key l key) none) ∙ there in absurd cc;
   apart = λ j k d e dj ek same. let no : ◌≡◌ {A = Option ViewerConnection} None (Some d) = sym (ap (λ l. at_key l j) none) ∙ dj in absurd cc;
-  unused = λ v free. (refl, refl, refl);
+  unused = λ v free. (refl, refl, refl, refl, refl);
 }
 
 -- a list of keys takes in one
@@ -402,13 +406,17 @@ Takes key before after = (is_among key after ≡ true) × ((k : ℕ) → is_amon
 abbrev pub Lets : ℕ → List ℕ → List ℕ → Type 0
 Lets key before after = (k : ℕ) → (k == key) ≡ false → is_among k before ≡ true → is_among k after ≡ true
 
+none-yet-kept : (h : History) → none_yet (is_kept h) ≡ history_by h []
+none-yet-kept Kept = refl
+none-yet-kept NotKept = refl
+
 pub one-more : (c : Config) (began : Began) (list : List Event) (a b : Serving) (key : ℕ) (f : ViewerConnection) (bytes : List ℕ)
     → b.surface.screen ≡ state c (list ++ Connect a.next ∷ []) → RecordsMore c list (Connect a.next ∷ []) a.surface.scribed b.surface.scribed → bytes ≡ (answer_to c list (Connect a.next)).bytes → b.kept ≡ a.kept → b.next ≡ a.next + 1
     → at_key a.slots key ≡ None → at_key b.slots key ≡ Some f → ((other : ℕ) → other ≢ key → at_key b.slots other ≡ at_key a.slots other)
-    → f.number ≡ a.next → began.carried a.next ≡ f.carried → f.held ≡ nothing → (breaks_off f.ended ≡ false → waiting_bytes f.waiting ≡ bytes) → IsFew f.waiting
+    → f.number ≡ a.next → began.carried a.next ≡ f.carried → f.held ≡ nothing → f.counts ≡ no_counts (none_yet a.kept) → (breaks_off f.ended ≡ false → waiting_bytes f.waiting ≡ bytes) → IsFew f.waiting
     → b.surface.drawn ≡ a.surface.drawn → b.surface.noticed ≡ a.surface.noticed → f.known.may_cut ≡ true → f.known.may_ask ≡ true → Takes key a.agenda b.agenda → Takes key a.asking b.asking → Serves c began list a
     → Serves c began (list ++ Connect a.next ∷ []) b
-one-more c began list a b key f bytes screen recorded answered kept next vacant now others number carried holds waits few drawn noticed cuts asked agenda asking s = record {
+one-more c began list a b key f bytes screen recorded answered kept next vacant now others number carried holds counts waits few drawn noticed cuts asked agenda asking s = record {
   screen = screen;
   recorded = recorded-more began.held c list (Connect a.next ∷ []) a.surface.scribed b.surface.scribed recorded s.recorded;
   kept = kept ∙ s.kept;
@@ -418,8 +426,9 @@ one-more c began list a b key f bytes screen recorded answered kept next vacant 
   unused = λ v free.
       let above : n < v = let f = subst (λ (m : ℕ). m ≤ v) next free in omega (arith, f) in
       let h = s.unused v (omega (arith, above)) in
-      let w = stays v (λ is. omega (arith, above, is)) in
-      (w.0 ∙ h.0, w.1 ∙ h.1, w.2 ∙ h.2);
+      let far : a.next ≡ v → ⊥ = λ is. omega (arith, above, is) in
+      let w = stays v far in
+      (w.0 ∙ h.0, w.1 ∙ h.1, w.2 ∙ h.2, w.3 ∙ h.3, absent-others c a.next v far list (Connect a.next ∷ []) (ap (λ b. b && true) ((Decides-eqb a.next a.next).1 refl)) h.4);
 }
   where
     n : ℕ
@@ -451,6 +460,8 @@ one-more c began list a b key f bytes screen recorded answered kept next vacant 
           waits = λ fine. sym (waits fine);
           few = few;
           held = holds ∙ sym (held-same c a.next list (Connect a.next) refl ∙ none.2) ∙ ap (λ m. held_of c m more) (sym number);
+          short = omega arith;
+          counted = counts ∙ ap (λ k. no_counts (none_yet k)) s.kept ∙ ap no_counts (none-yet-kept c.history) ∙ sym (counts-same c a.next list (Connect a.next) refl refl ∙ none.3) ∙ ap (λ m. counts_of c m more) (sym number);
         }
 
     at-one : (j : ℕ) (g : ViewerConnection) → at_key b.slots j ≡ Some g → (w : Bool) → (j == key) ≡ w → (g.number < b.next) × IsServed c more (began.carried g.number) g
@@ -505,24 +516,24 @@ one-more c began list a b key f bytes screen recorded answered kept next vacant 
 pub admitted : (c : Config) (began : Began) (list : List Event) (a : Serving) (before after : Surface) (kept : Bool) (next following : ℕ) (old new : Slab ViewerConnection) (agenda asking later_agenda later_asking : List ℕ) (key : ℕ)
     (f : ViewerConnection) (bytes : List ℕ) (carried : Carried) → record { surface = before; kept = kept; next = next; slots = old.slots; vacant = old.vacant_key; agenda = agenda; asking = asking } ≡ a
     → (before.screen ≡ state c list → after.screen ≡ state c (list ++ Connect next ∷ [])) → (before.screen ≡ state c list → RecordsMore c list (Connect next ∷ []) before.scribed after.scribed) → (before.screen ≡ state c list → bytes ≡ (answer_to c list (Connect next)).bytes) → following ≡ next + 1
-    → get old key ≡ None → Updates old new key (Some f) → f.number ≡ next → f.carried ≡ carried → f.held ≡ nothing → (breaks_off f.ended ≡ false → waiting_bytes f.waiting ≡ bytes)
+    → get old key ≡ None → Updates old new key (Some f) → f.number ≡ next → f.carried ≡ carried → f.held ≡ nothing → f.counts ≡ no_counts (none_yet kept) → (breaks_off f.ended ≡ false → waiting_bytes f.waiting ≡ bytes)
     → IsFew f.waiting → after ≡ record before { screen = after.screen; scribed = after.scribed } → f.known.may_cut ≡ true → f.known.may_ask ≡ true → Takes key agenda later_agenda → Takes key asking later_asking → Serves c began list a → began.carried a.next ≡ carried
     → Serves c began (list ++ Connect a.next ∷ []) (record { surface = after; kept = kept; next = following; slots = new.slots; vacant = new.vacant_key; agenda = later_agenda; asking = later_asking })
-admitted c began list a before after kept next following old new agenda asking later_agenda later_asking key f bytes carried is steps records answered more vacant updates number carries holds waits few still cuts asked listed asking_too =
+admitted c began list a before after kept next following old new agenda asking later_agenda later_asking key f bytes carried is steps records answered more vacant updates number carries holds counts waits few still cuts asked listed asking_too =
     let b : Serving = record { surface = after; kept = kept; next = following; slots = new.slots; vacant = new.vacant_key; agenda = later_agenda; asking = later_asking } in
     let was : Serving = record { surface = before; kept = kept; next = next; slots = old.slots; vacant = old.vacant_key; agenda = agenda; asking = asking } in
     subst (λ (x : Serving). Serves c began list x → began.carried x.next ≡ carried → Serves c began (list ++ Connect x.next ∷ []) b) is
-    (λ s start. one-more c began list was b key f bytes (steps s.screen) (records s.screen) (answered s.screen) refl more vacant updates.changed updates.others number (start ∙ sym carries) holds waits few
+    (λ s start. one-more c began list was b key f bytes (steps s.screen) (records s.screen) (answered s.screen) refl more vacant updates.changed updates.others number (start ∙ sym carries) holds counts waits few
     (ap (λ (x : Surface). x.drawn) still) (ap (λ (x : Surface). x.noticed) still) cuts asked listed asking_too s)
 
 -- a viewer that ended is closed, and its connection is gone
 pub one-less : {T : Type 0} (c : Config) (began : Began) (list : List Event) (a b : Serving) (key : ℕ) (e : ViewerConnection) (unread written : T → Option (List ℕ)) (transport : T) (r : Receipt)
     → b.surface.screen ≡ state c (list ++ Close e.number ∷ []) → RecordsMore c list (Close e.number ∷ []) a.surface.scribed b.surface.scribed → (answer_to c list (Close e.number)).bytes ≡ [] → b.kept ≡ a.kept → b.next ≡ a.next
     → at_key a.slots key ≡ Some e → at_key b.slots key ≡ None → ((other : ℕ) → other ≢ key → at_key b.slots other ≡ at_key a.slots other)
-    → IsOver (Some e) e.number r.ended → r.viewer ≡ e.number → r.sent ≡ unwrap_or e.carried.sent [] → record { unread = unread transport; written = written transport; sent = e.carried.sent } ≡ e.carried
+    → IsOver (Some e) e.number r.ended → r.viewer ≡ e.number → r.sent ≡ unwrap_or e.carried.sent [] → HasCounts e.counts r → record { unread = unread transport; written = written transport; sent = e.carried.sent } ≡ e.carried
     → b.surface.drawn ≡ a.surface.drawn → b.surface.noticed ≡ a.surface.noticed → Lets key a.agenda b.agenda → Lets key a.asking b.asking → Serves c began list a
     → Serves c began (list ++ Close e.number ∷ []) b × WasServed c (list ++ Close e.number ∷ []) (began.carried r.viewer) unread written transport r
-one-less {T = T} c began list a b key e unread written transport r screen recorded quiet kept next there gone others over viewer sent carried drawn noticed agenda asking s = (
+one-less {T = T} c began list a b key e unread written transport r screen recorded quiet kept next there gone others over viewer sent counts carried drawn noticed agenda asking s = (
   record {
     screen = screen;
     recorded = recorded-more began.held c list (Close e.number ∷ []) a.surface.scribed b.surface.scribed recorded s.recorded;
@@ -533,8 +544,9 @@ one-less {T = T} c began list a b key e unread written transport r screen record
     unused = λ v free.
         let f = subst (λ (m : ℕ). m ≤ v) next free in
         let h = s.unused v f in
-        let w = stays v (less-apart e.number a.next v (s.each key e there).0 f) in
-        (w.0 ∙ h.0, w.1 ∙ h.1, w.2 ∙ h.2);
+        let far = less-apart e.number a.next v (s.each key e there).0 f in
+        let w = stays v far in
+        (w.0 ∙ h.0, w.1 ∙ h.1, w.2 ∙ h.2, w.3 ∙ h.3, absent-others c e.number v far list (Close e.number ∷ []) (ap (λ b. b && true) ((Decides-eqb e.number e.number).1 refl)) h.4);
   },
   subst (λ (m : ℕ). WasServed c more (began.carried m) unread written transport r) (sym viewer) was,
 )
@@ -586,16 +598,18 @@ one-less {T = T} c began list a b key e unread written transport r screen record
           due = h.due ∙ sym bytes ∙ ap (λ m. bytes_of c m more) (sym viewer);
           heard = λ fine. h.heard (λ is. let two : ◌≡◌ {A = Option Ended} (Some r.ended) (Some Memory) = sym over.1 ∙ is in fine cc);
           whole = λ fine. h.waits (ap breaks_off over.1 ∙ fine) ∙ over.2 fine;
+          short = h.short;
+          counted = subst (λ (k : Counts). HasCounts k r) (h.counted ∙ sym (counts-same c n list (Close n) refl refl) ∙ ap (λ m. counts_of c m more) (sym viewer)) counts;
         }
 
 -- the same, as it is parted with
 pub parted : {T : Type 0} (c : Config) (began : Began) (list : List Event) (a : Serving) (before after : Surface) (kept : Bool) (next : ℕ) (old new : Slab ViewerConnection) (agenda asking later_agenda later_asking : List ℕ) (key v : ℕ)
     (e : ViewerConnection) (ended : Ended) (unread written : T → Option (List ℕ)) (transport : T) (held : Held) (r : Receipt) → record { surface = before; kept = kept; next = next; slots = old.slots; vacant = old.vacant_key; agenda = agenda; asking = asking } ≡ a
     → (before.screen ≡ state c list → after.screen ≡ state c (list ++ Close v ∷ [])) → (before.screen ≡ state c list → RecordsMore c list (Close v ∷ []) before.scribed after.scribed) → (before.screen ≡ state c list → (answer_to c list (Close v)).bytes ≡ [])
-    → get old key ≡ Some e → Updates old new key None → IsOver (get old key) v ended → held ≡ e.held → r.viewer ≡ e.number → r.ended ≡ ended → r.sent ≡ unwrap_or e.carried.sent []
+    → get old key ≡ Some e → Updates old new key None → IsOver (get old key) v ended → held ≡ e.held → r.viewer ≡ e.number → r.ended ≡ ended → r.sent ≡ unwrap_or e.carried.sent [] → HasCounts e.counts r
     → record { unread = unread transport; written = written transport; sent = e.carried.sent } ≡ e.carried → after ≡ record before { screen = after.screen; scribed = after.scribed } → Lets key agenda later_agenda → Lets key asking later_asking → Serves c began list a
     → (more : List Event) × Serves c began (list ++ more) (record { surface = after; kept = kept; next = next; slots = new.slots; vacant = new.vacant_key; agenda = later_agenda; asking = later_asking }) × ((inputs_after c list more ≡ said_by r.viewer (releases held)) × WasServed c (list ++ more) (began.carried r.viewer) unread written transport r)
-parted {T = T} c began list a before after kept next old new agenda asking later_agenda later_asking key v e ended unread written transport held r is steps records quiet there updates over holds viewer so sent carried still listed asked =
+parted {T = T} c began list a before after kept next old new agenda asking later_agenda later_asking key v e ended unread written transport held r is steps records quiet there updates over holds viewer so sent counts carried still listed asked =
     let b : Serving = record { surface = after; kept = kept; next = next; slots = new.slots; vacant = new.vacant_key; agenda = later_agenda; asking = later_asking } in
     let was : Serving = record { surface = before; kept = kept; next = next; slots = old.slots; vacant = old.vacant_key; agenda = agenda; asking = asking } in
     let ended_so : IsOver (Some e) v ended = subst (λ (o : Option ViewerConnection). IsOver o v ended) there over in
@@ -605,7 +619,7 @@ parted {T = T} c began list a before after kept next old new agenda asking later
     let both = one-less c began list was b key e unread written transport r (subst (λ (n : ℕ). after.screen ≡ state c (list ++ Close n ∷ [])) number (steps s.screen))
     (subst (λ (n : ℕ). RecordsMore c list (Close n ∷ []) before.scribed after.scribed) number (records s.screen))
     (subst (λ (n : ℕ). (answer_to c list (Close n)).bytes ≡ []) number (quiet s.screen)) refl refl there updates.changed updates.others
-    (subst (λ (x : Ended). IsOver (Some e) e.number x) (sym so) (subst (λ (n : ℕ). IsOver (Some e) n ended) number ended_so)) viewer sent carried
+    (subst (λ (x : Ended). IsOver (Some e) e.number x) (sym so) (subst (λ (n : ℕ). IsOver (Some e) n ended) number ended_so)) viewer sent counts carried
     (ap (λ (x : Surface). x.drawn) still) (ap (λ (x : Surface). x.noticed) still) listed asked s in
     let inputs = append-nil (said_by e.number (releases (held_of c e.number list))) ∙ ap (λ h. said_by e.number (releases h)) (sym (holds ∙ (s.each key e there).1.held)) ∙ ap (λ n. said_by n (releases held)) (sym viewer) in
     (Close e.number ∷ [], both.0, (inputs, both.1)))

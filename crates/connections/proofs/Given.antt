@@ -1,9 +1,10 @@
 -- What one viewer was heard of, is given and holds down, over more events.
-use Rattle.std.proofs.Common.{◌≡◌, ℕ, Bool, true, false, cond, List, [], ◌∷◌, ◌++◌, Option, Some, None, refl, sym, ap, ◌∙◌, append_assoc, append-nil, subst}
-use Rattle.std.specs.Prelude.{flat_map, ◌==◌, ◌&&◌}
+use Rattle.std.proofs.Common.{◌≡◌, ℕ, Bool, true, false, cond, List, [], ◌∷◌, ◌++◌, Option, Some, None, refl, sym, ap, ◌∙◌, append_assoc, append-nil, subst, arith, length-append}
+use Rattle.std.specs.Prelude.{flat_map, ◌==◌, ◌&&◌, ◌+◌, ◌-◌, ◌^◌, min, length, option_map}
 use Rattle.std.specs.List.{filter_map}
 use Rattle.std.proofs.lemmas.List.Elements.{filter-append, filter_map-append}
 use Rattle.std.proofs.lemmas.Grind.{flat_map-append}
+use Rattle.std.proofs.lemmas.List.Sums.{sum_by_push}
 use Rattle.std.proofs.lemmas.Bool.{and_parts}
 use Rattle.std.proofs.lemmas.Bool.Decides.{Decides-eqb}
 use Rattle.screen.specs.declared.Config.{Config}
@@ -13,8 +14,15 @@ use Rattle.screen.specs.declared.Event.{Event}
 use Rattle.screen.specs.declared.Event.TheVariants.{Write, Paint, Mark, ScheduleCopy, DoCopy, Bell, CutText, Resize, Connect, Hear, Cut, Close}
 use Rattle.screen.specs.Alone.{One, at_size, step, draw_step, after, answers_from, alone, owner_of, drawing_refusal, empty_screen}
 use Rattle.screen.specs.Answers.{own, is_owner, is_drawing, last_of, answer_to}
-use Rattle.receipts.specs.Histories.{piece_of, heard_of, bytes_of}
+use Rattle.screen.specs.declared.History.{History}
+use Rattle.screen.specs.declared.History.TheVariants.{Kept, NotKept}
+use Rattle.screen.specs.History.{has_happened, accepted}
+use Rattle.screen.specs.Happening.{AllHappen}
+use Rattle.screen.specs.HappeningLemmas.{one-happens, none-happens}
+use Rattle.screen.specs.State.{history_by}
+use Rattle.receipts.specs.Histories.{piece_of, pieces_of, heard_of, is_cut_of, cuts_of, bytes_of}
 use Rattle.held_inputs.specs.Held.{Held, nothing}
+use Rattle.connections.specs.Counting.{Counts, stopping, with_piece, with_cut, counted_in, counts_of}
 use Rattle.connections.specs.Drawing.{are_drawings}
 use Rattle.connections.specs.Telling.{held_behind, held_with, held_after, held_of}
 use Rattle.connections.specs.Turns.{are_of}
@@ -147,20 +155,95 @@ held-own c v es piece =
 pub held-same : (c : Config) (v : ℕ) (es : List Event) (e : Event) → piece_of v e ≡ None → held_of c v (es ++ e ∷ []) ≡ held_of c v es
 held-same c v es e h = held-more c v nothing [] es e ∙ ap (λ (o : Option (List ℕ)). held_with c v es (held_of c v es) o) h
 
+-- ---- what is counted
+
+abbrev counted_so : ℕ → ℕ → Option (List ℕ) → Counts
+counted_so pieces cuts heard = record { pieces = pieces; cuts = cuts; heard = heard }
+
+same-counts : (p q k l : ℕ) (h i : Option (List ℕ)) → p ≡ q → k ≡ l → h ≡ i → counted_so p k h ≡ counted_so q l i
+same-counts p q k l h i pieces cuts heard = ap (λ n. counted_so n k h) pieces ∙ ap (λ n. counted_so q n h) cuts ∙ ap (λ o. counted_so q l o) heard
+
+-- one more of what stops
+stops : (m n : ℕ) → min (n + 1) m ≡ min (min n m + 1) m
+stops m n = omega arith
+
+stopping-more : (n : ℕ) → stopping (n + 1) ≡ stopping (stopping n + 1)
+stopping-more n = stops (2 ^ 64 - 1) n
+
+kept-more : (h : History) (bytes piece : List ℕ) → history_by h (bytes ++ piece) ≡ option_map (λ l. l ++ piece) (history_by h bytes)
+kept-more Kept bytes piece = refl
+kept-more NotKept bytes piece = refl
+
+pieces-one : (v : ℕ) (e : Event) (o : Option (List ℕ)) → piece_of v e ≡ o → filter_map (piece_of v) (e ∷ []) ≡ filter_map (λ (o : Option (List ℕ)). o) (o ∷ [])
+pieces-one v e o h = rw h refl
+
+pieces-more : (v : ℕ) (es : List Event) (e : Event) (o : Option (List ℕ)) → piece_of v e ≡ o → pieces_of v (es ++ e ∷ []) ≡ pieces_of v es ++ filter_map (λ (o : Option (List ℕ)). o) (o ∷ [])
+pieces-more v es e o h = filter_map-append (piece_of v) es (e ∷ []) ∙ ap (λ (l : List (List ℕ)). pieces_of v es ++ l) (pieces-one v e o h)
+
+pieces-none : (v : ℕ) (es : List Event) (e : Event) → piece_of v e ≡ None → length (pieces_of v (es ++ e ∷ [])) ≡ length (pieces_of v es)
+pieces-none v es e h = ap (λ (l : List (List ℕ)). length l) (pieces-more v es e None h ∙ append-nil (pieces_of v es))
+
+cuts-more : (v : ℕ) (es : List Event) (e : Event) (b : Bool) → is_cut_of v e ≡ b → cuts_of v (es ++ e ∷ []) ≡ cuts_of v es + cond b 1 0
+cuts-more v es e b h = sum_by_push (λ (e : Event). cond (is_cut_of v e) 1 0) es e ∙ ap (λ (b : Bool). cuts_of v es + cond b 1 0) h
+
+cuts-none : (v : ℕ) (es : List Event) (e : Event) → is_cut_of v e ≡ false → cuts_of v (es ++ e ∷ []) ≡ cuts_of v es
+cuts-none v es e h = let more = cuts-more v es e false h in omega (arith, more)
+
+counted-none : (h : History) (v : ℕ) (es : List Event) (e : Event) → piece_of v e ≡ None → is_cut_of v e ≡ false → counted_in h v (es ++ e ∷ []) ≡ counted_in h v es
+counted-none h v es e piece cut = same-counts _ _ _ _ _ _ (ap stopping (pieces-none v es e piece)) (ap stopping (cuts-none v es e cut)) (ap (history_by h) (heard-same v es e piece))
+
+counted-heard : (h : History) (v : ℕ) (es : List Event) (piece : List ℕ) → counted_in h v (es ++ Hear v piece ∷ []) ≡ with_piece piece (counted_in h v es)
+counted-heard h v es piece =
+    let mine : piece_of v (Hear v piece) ≡ Some piece = ap (λ b. cond b (Some piece) None) (is_mine v) in
+    let more : length (pieces_of v (es ++ Hear v piece ∷ [])) ≡ length (pieces_of v es) + 1 =
+    ap (λ (l : List (List ℕ)). length l) (pieces-more v es (Hear v piece) (Some piece) mine) ∙ length-append (pieces_of v es) (piece ∷ []) in
+    same-counts _ _ _ _ _ _ (ap stopping more ∙ stopping-more (length (pieces_of v es))) (ap stopping (cuts-none v es (Hear v piece) refl)) (ap (history_by h) (heard-own v es piece) ∙ kept-more h (heard_of v es) piece)
+
+counted-cut : (h : History) (v : ℕ) (es : List Event) → counted_in h v (es ++ Cut v ∷ []) ≡ with_cut (counted_in h v es)
+counted-cut h v es =
+    let more : cuts_of v (es ++ Cut v ∷ []) ≡ cuts_of v es + 1 = cuts-more v es (Cut v) true (is_mine v) in
+    same-counts _ _ _ _ _ _ (ap stopping (pieces-none v es (Cut v) refl)) (ap stopping more ∙ stopping-more (cuts_of v es)) (ap (history_by h) (heard-same v es (Cut v) refl))
+
+-- an event that isn't counted, whether it happened or not
+pub counts-same : (c : Config) (v : ℕ) (es : List Event) (e : Event) → piece_of v e ≡ None → is_cut_of v e ≡ false → counts_of c v (es ++ e ∷ []) ≡ counts_of c v es
+counts-same c v es e piece cut = go (has_happened e (answer_to c es e)) refl
+  where
+    go : (b : Bool) → has_happened e (answer_to c es e) ≡ b → counts_of c v (es ++ e ∷ []) ≡ counts_of c v es
+    go true is = ap (counted_in c.history v) (one-happens c es e is) ∙ counted-none c.history v (accepted c es) e piece cut
+    go false is = ap (counted_in c.history v) (none-happens c es e is)
+
+pub counts-heard : (c : Config) (v : ℕ) (es : List Event) (piece : List ℕ) → AllHappen c es (Hear v piece ∷ []) → counts_of c v (es ++ Hear v piece ∷ []) ≡ with_piece piece (counts_of c v es)
+counts-heard c v es piece happened = ap (counted_in c.history v) happened ∙ counted-heard c.history v (accepted c es) piece
+
+pub counts-cut : (c : Config) (v : ℕ) (es : List Event) → AllHappen c es (Cut v ∷ []) → counts_of c v (es ++ Cut v ∷ []) ≡ with_cut (counts_of c v es)
+counts-cut c v es happened = ap (counted_in c.history v) happened ∙ counted-cut c.history v (accepted c es)
+
+-- a cut that gave nothing
+pub counts-uncut : (c : Config) (v : ℕ) (es : List Event) → accepted c (es ++ Cut v ∷ []) ≡ accepted c es → counts_of c v (es ++ Cut v ∷ []) ≡ counts_of c v es
+counts-uncut c v es none = ap (counted_in c.history v) none
+
+no-cut-drawn : (v : ℕ) (e : Event) → owner_of e ≡ None → is_cut_of v e ≡ false
+no-cut-drawn v (Cut n) h = absurd cc
+no-cut-drawn v e h = refl
+
+no-cut-other : (v : ℕ) (e : Event) → is_owner v (owner_of e) ≡ false → is_cut_of v e ≡ false
+no-cut-other v (Cut n) h = h
+no-cut-other v e h = refl
+
 -- ---- many events more
 
--- a viewer was heard of, is given and holds the same by both lists
+-- a viewer was heard of, is given, holds and was counted the same by both lists
 abbrev pub SameFor : Config → ℕ → List Event → List Event → Type 0
-SameFor c v es fs = (heard_of v fs ≡ heard_of v es) × (bytes_of c v fs ≡ bytes_of c v es) × (held_of c v fs ≡ held_of c v es)
+SameFor c v es fs = (heard_of v fs ≡ heard_of v es) × (bytes_of c v fs ≡ bytes_of c v es) × (held_of c v fs ≡ held_of c v es) × (counts_of c v fs ≡ counts_of c v es)
 
 same-then : (c : Config) (v : ℕ) (es fs gs : List Event) → SameFor c v es fs → SameFor c v fs gs → SameFor c v es gs
-same-then c v es fs gs a b = (b.0 ∙ a.0, b.1 ∙ a.1, b.2 ∙ a.2)
+same-then c v es fs gs a b = (b.0 ∙ a.0, b.1 ∙ a.1, b.2 ∙ a.2, b.3 ∙ a.3)
 
 same-drawing : (c : Config) (v : ℕ) (es : List Event) (e : Event) → owner_of e ≡ None → SameFor c v es (es ++ e ∷ [])
-same-drawing c v es e h = (heard-same v es e (no-piece-drawn v e h), bytes-drawing c v es e h, held-same c v es e (no-piece-drawn v e h))
+same-drawing c v es e h = (heard-same v es e (no-piece-drawn v e h), bytes-drawing c v es e h, held-same c v es e (no-piece-drawn v e h), counts-same c v es e (no-piece-drawn v e h) (no-cut-drawn v e h))
 
 same-other : (c : Config) (v : ℕ) (es : List Event) (e : Event) → is_owner v (owner_of e) ≡ false → SameFor c v es (es ++ e ∷ [])
-same-other c v es e h = (heard-same v es e (no-piece-other v e h), bytes-other c v es e h, held-same c v es e (no-piece-other v e h))
+same-other c v es e h = (heard-same v es e (no-piece-other v e h), bytes-other c v es e h, held-same c v es e (no-piece-other v e h), counts-same c v es e (no-piece-other v e h) (no-cut-other v e h))
 
 -- another viewer's event, or a drawing call
 same-one : (c : Config) (n v : ℕ) → (n ≡ v → ⊥) → (es : List Event) (e : Event) → is_owner n (owner_of e) ≡ true → SameFor c v es (es ++ e ∷ [])
@@ -176,7 +259,7 @@ same-one c n v apart es e h = go (owner_of e) refl h
 
 -- other viewers' events change nothing for a viewer
 pub same-others : (c : Config) (n v : ℕ) → (n ≡ v → ⊥) → (es more : List Event) → are_of n more ≡ true → SameFor c v es (es ++ more)
-same-others c n v apart es [] h = (ap (heard_of v) (append-nil es), ap (bytes_of c v) (append-nil es), ap (held_of c v) (append-nil es))
+same-others c n v apart es [] h = (ap (heard_of v) (append-nil es), ap (bytes_of c v) (append-nil es), ap (held_of c v) (append-nil es), ap (counts_of c v) (append-nil es))
 same-others c n v apart es (e ∷ more) h =
     let both = and_parts _ _ h in
     let rest : SameFor c v (es ++ e ∷ []) ((es ++ e ∷ []) ++ more) = same-others c n v apart (es ++ e ∷ []) more both.1 in
@@ -189,7 +272,7 @@ drawing (Some v) h = absurd cc
 
 -- nor do drawing calls
 pub same-drawings : (c : Config) (v : ℕ) (es more : List Event) → are_drawings more ≡ true → SameFor c v es (es ++ more)
-same-drawings c v es [] h = (ap (heard_of v) (append-nil es), ap (bytes_of c v) (append-nil es), ap (held_of c v) (append-nil es))
+same-drawings c v es [] h = (ap (heard_of v) (append-nil es), ap (bytes_of c v) (append-nil es), ap (held_of c v) (append-nil es), ap (counts_of c v) (append-nil es))
 same-drawings c v es (e ∷ more) h =
     let both = and_parts _ _ h in
     let rest : SameFor c v (es ++ e ∷ []) ((es ++ e ∷ []) ++ more) = same-drawings c v (es ++ e ∷ []) more both.1 in

@@ -1,5 +1,5 @@
 -- What is written of a call that the screen took.
-use Rattle.std.proofs.Common.{◌≡◌, ◌≢◌, ℕ, Bool, true, false, List, [], ◌∷◌, Option, Some, None, Result, Ok, Err, refl, sym, ap, ◌∙◌, subst}
+use Rattle.std.proofs.Common.{◌≡◌, ◌≢◌, ℕ, Bool, true, false, List, [], ◌∷◌, ◌++◌, Option, Some, None, Result, Ok, Err, refl, sym, ap, ◌∙◌, subst}
 use Rattle.std.specs.Prelude.{◌&&◌, is_none, MatchOption, IfSome}
 use Rattle.std.proofs.lemmas.Bool.{and_from}
 use Rattle.screen.specs.declared.Config.{Config}
@@ -9,9 +9,9 @@ use Rattle.screen.specs.declared.Answer.{Answer}
 use Rattle.screen.specs.declared.ScreenError.{ScreenError}
 use Rattle.screen.specs.Alone.{Tells, gives, some_bytes}
 use Rattle.screen.specs.Answers.{answer_to}
-use Rattle.screen.specs.History.{has_happened}
+use Rattle.screen.specs.History.{has_happened, accepted}
+use Rattle.screen.specs.Happening.{AllHappen}
 use Rattle.screen.specs.HappeningLemmas.{one-happens, none-happens, told-accepted}
-use Rattle.viewer.specs.Given.{bytes_given}
 use Rattle.scribe.specs.Scribing.{Scribed}
 use Rattle.recorder.specs.Events.{event_line}
 use Rattle.connections.specs.Drawing.{Surface}
@@ -55,6 +55,19 @@ records-cut c list v u old new some told puts = records-event c list (Cut v) old
 
 pub records-uncut : (c : Config) (list : List Event) (v : ℕ) (s : Option Scribed) → Tells cut_gives (Ok None) (answer_to c list (Cut v)) → RecordsMore c list (Cut v ∷ []) s s
 records-uncut c list v s told = records-nothing c list (Cut v ∷ []) s s (none-happens c list (Cut v) (nothing-cut v (answer_to c list (Cut v)) told)) refl
+
+-- a piece that was heard happened
+pub heard-happens : (c : Config) (list : List Event) (n : ℕ) (piece : List ℕ) (x : Answer) → Tells (λ (q : Answer). q) (Ok x) (answer_to c list (Hear n piece)) → AllHappen c list (Hear n piece ∷ [])
+heard-happens c list n piece x told = one-happens c list (Hear n piece) (told-accepted (λ (q : Answer). q) (Ok x) (answer_to c list (Hear n piece)) told)
+
+-- and so did a cut that gave an update; one that gave none didn't
+pub cut-happens : (c : Config) (list : List Event) (n : ℕ) (o : Option (List ℕ)) (u : List ℕ) → o ≡ Some u → IfSome o (λ w. w ≢ []) → Tells cut_gives (Ok o) (answer_to c list (Cut n)) → AllHappen c list (Cut n ∷ [])
+cut-happens c list n o u is full told =
+    one-happens c list (Cut n)
+    (cut-happened n u (answer_to c list (Cut n)) (subst (λ (q : Option (List ℕ)). IfSome q (λ w. w ≢ [])) is full) (subst (λ (q : Option (List ℕ)). Tells cut_gives (Ok q) (answer_to c list (Cut n))) is told))
+
+pub uncut-happens : (c : Config) (list : List Event) (n : ℕ) (o : Option (List ℕ)) → o ≡ None → Tells cut_gives (Ok o) (answer_to c list (Cut n)) → accepted c (list ++ Cut n ∷ []) ≡ accepted c list
+uncut-happens c list n o is told = none-happens c list (Cut n) (nothing-cut n (answer_to c list (Cut n)) (subst (λ (q : Option (List ℕ)). Tells cut_gives (Ok q) (answer_to c list (Cut n))) is told))
 
 -- a piece that was heard, and then recorded
 pub heard-more : (c : Config) (list : List Event) (n : ℕ) (piece : List ℕ) (x : Answer) (a b d : Surface) → Tells (λ (q : Answer). q) (Ok x) (answer_to c list (Hear n piece)) → b.scribed ≡ a.scribed → PutsWhere (event_line (Hear n piece)) b.scribed d.scribed

@@ -174,6 +174,46 @@ asks-others c n v apart es (e ∷ more) h none =
     ap (λ l. asks (viewer_of c v l)) (sym (append_assoc es (e ∷ []) more))
     ∙ asks-others c n v apart (es ++ e ∷ []) more both.1 (asks-one c n v apart es e both.0 none)
 
+-- ---- a viewer that isn't there
+
+absent-drawn-by : (c : Config) (e : Event) (s : One) (r : Option ScreenError) → s.viewer ≡ None → (draw_step c e s r).0.viewer ≡ None
+absent-drawn-by c e s (Some r) h = h
+absent-drawn-by c e s None h = ap (option_map (λ w. shown_drawing c e (is_open_viewer w) w)) h
+
+absent-drawn : (c : Config) (v : ℕ) (es : List Event) (e : Event) → owner_of e ≡ None → viewer_of c v es ≡ None → viewer_of c v (es ++ e ∷ []) ≡ None
+absent-drawn c v es e h none =
+    let s = seen c v es in
+    let d = absent-drawn-by (at_size s.picture c) e s (drawing_refusal (at_size s.picture c) e) none in
+    let one : (step c e s).0.viewer ≡ None = rw h d in
+    ap (λ (o : One). o.viewer) (seen-own c v es e (ap (is_owner v) h)) ∙ one
+
+-- drawing brings none
+pub absent-drawings : (c : Config) (v : ℕ) (es more : List Event) → are_drawings more ≡ true → viewer_of c v es ≡ None → viewer_of c v (es ++ more) ≡ None
+absent-drawings c v es [] h none = ap (viewer_of c v) (append-nil es) ∙ none
+absent-drawings c v es (e ∷ more) h none =
+    let both = and_parts _ _ h in
+    ap (viewer_of c v) (sym (append_assoc es (e ∷ []) more))
+    ∙ absent-drawings c v (es ++ e ∷ []) more both.1 (absent-drawn c v es e (drawing (owner_of e) both.0) none)
+
+absent-one : (c : Config) (n v : ℕ) → (n ≡ v → ⊥) → (es : List Event) (e : Event) → is_owner n (owner_of e) ≡ true → viewer_of c v es ≡ None → viewer_of c v (es ++ e ∷ []) ≡ None
+absent-one c n v apart es e h none = go (owner_of e) refl h
+  where
+    other : (m : ℕ) (b : Bool) → (m == v) ≡ b → owner_of e ≡ Some m → (m == n) ≡ true → viewer_of c v (es ++ e ∷ []) ≡ None
+    other m true mv is mn = absurd (apart (sym ((Decides-eqb m n).0 mn) ∙ (Decides-eqb m v).0 mv))
+    other m false mv is mn = ap (λ (o : One). o.viewer) (seen-other c v es e (ap (is_owner v) is ∙ mv)) ∙ none
+
+    go : (o : Option ℕ) → owner_of e ≡ o → is_owner n o ≡ true → viewer_of c v (es ++ e ∷ []) ≡ None
+    go None is h = absent-drawn c v es e is none
+    go (Some m) is h = other m (m == v) refl is h
+
+-- nor do other viewers' events
+pub absent-others : (c : Config) (n v : ℕ) → (n ≡ v → ⊥) → (es more : List Event) → are_of n more ≡ true → viewer_of c v es ≡ None → viewer_of c v (es ++ more) ≡ None
+absent-others c n v apart es [] h none = ap (viewer_of c v) (append-nil es) ∙ none
+absent-others c n v apart es (e ∷ more) h none =
+    let both = and_parts _ _ h in
+    ap (viewer_of c v) (sym (append_assoc es (e ∷ []) more))
+    ∙ absent-others c n v apart (es ++ e ∷ []) more both.1 (absent-one c n v apart es e both.0 none)
+
 -- ---- a cut
 
 front-none : (owed : Bool) (ns : List Notice) → (owed || not (none_wait ns)) ≡ false → map_bytes owed ++ flat_map notice_bytes ns ≡ []

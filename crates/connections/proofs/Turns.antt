@@ -1,6 +1,6 @@
 -- What a step of one connection, or of the screen, makes of all of them.
-use Rattle.std.proofs.Common.{◌≡◌, ◌≢◌, ◌⊎◌, ℕ, true, false, List, [], ◌∷◌, ◌++◌, Option, Some, None, Result, refl, sym, ap, ◌∙◌, append_assoc, append-nil, subst, inl, inr}
-use Rattle.std.specs.Prelude.{◌&&◌, option_map}
+use Rattle.std.proofs.Common.{◌≡◌, ◌≢◌, ◌⊎◌, ℕ, true, false, List, [], ◌∷◌, ◌++◌, Option, Some, None, Result, refl, sym, ap, ◌∙◌, append_assoc, append-nil, subst, inl, inr, arith}
+use Rattle.std.specs.Prelude.{IfSome, ◌&&◌, ◌≤◌, length, option_map}
 use Rattle.std.proofs.KnownBytes.{Appends-nil, Appends-trans, Consumes-nil, Consumes-trans}
 use Rattle.std.proofs.lemmas.Bool.{and_from}
 use Rattle.std.proofs.lemmas.Bool.Decides.{Decides-eqb}
@@ -14,18 +14,26 @@ use Rattle.screen.specs.Answers.{is_owner, answer_to}
 use Rattle.screen.specs.Refusals.{held_as_alone}
 use Rattle.receipts.specs.declared.Ended.{Ended}
 use Rattle.receipts.specs.declared.Ended.TheVariants.{Memory}
+use Rattle.receipts.specs.declared.Ended.TheVariants as ends
+use Rattle.screen.specs.declared.Fault.{Fault}
 use Rattle.receipts.specs.Histories.{heard_of, bytes_of}
 use Rattle.screen.specs.State.{state}
+use Rattle.screen.specs.History.{accepted}
+use Rattle.screen.specs.Happening.{AllHappen}
 use Rattle.connections.specs.Waiting.{waiting_bytes, IsFew}
 use Rattle.connections.specs.Recorded.{RecordsMore}
 use Rattle.connections.specs.RecordedLemmas.{records-same, records-then}
 use Rattle.connections.specs.Drawing.{Surface, IsDrawnFrom, Draws, is_asking_on}
 use Rattle.connections.specs.Attending.{Known, next_bytes}
+use Rattle.connections.specs.Counting.{Counts, with_piece, with_cut, counts_of}
+use Rattle.connections.specs.Reasons.{ended_by_read, known_by_read, ended_by_fault}
+use Rattle.connections.specs.declared.connection.Got.{Got}
+use Rattle.connections.specs.declared.connection.Got.TheVariants.{Piece}
 use Rattle.connections.specs.Serving.{Carried, ViewerConnection, Moves, breaks_off, IsServed}
 use Rattle.connections.specs.Telling.{said_by, held_behind, held_of, inputs_after, IsTold}
-use Rattle.connections.specs.Turns.{are_of, Knows, IsTurnFrom, HasRead, HearsPiece, TakesTurn, TakesTurnTelling}
+use Rattle.connections.specs.Turns.{got_bytes, are_of, Knows, IsTurnFrom, HasRead, HearsPiece, TakesTurn, TakesTurnTelling}
 use Rattle.connections.specs.TellingLemmas.{inputs-append, inputs-drawings, told-nothing}
-use Rattle.connections.proofs.Given.{SameFor, bytes-own, heard-own, heard-same, held-own, held-same, same-drawings, drawings-own}
+use Rattle.connections.proofs.Given.{SameFor, bytes-own, heard-own, heard-same, held-own, held-same, counts-heard, counts-cut, counts-uncut, same-drawings, drawings-own}
 use Rattle.connections.proofs.Knowing.{knows-known, knows-looked, knows-drawn, knows-heard, knows-none, knows-cut}
 
 -- ---- bytes that move
@@ -72,6 +80,8 @@ served-same c es fs began e same h = record {
   waits = h.waits;
   few = h.few;
   held = h.held ∙ sym same.2;
+  short = h.short;
+  counted = h.counted ∙ sym same.3;
 }
 
 -- what is known of a connection doesn't matter
@@ -86,6 +96,8 @@ served-alike c es began e f same h = subst (λ (x : ViewerConnection). IsServed 
   waits = h.waits;
   few = h.few;
   held = h.held;
+  short = h.short;
+  counted = h.counted;
 })
 
 own-then : (v : ℕ) (es fs : List Event) → are_of v es ≡ true → are_of v fs ≡ true → are_of v (es ++ fs) ≡ true
@@ -117,8 +129,8 @@ turn-drawn a b e draws c list began v said since t =
 
 -- a read of a viewer that hasn't ended
 pub turn-read : (c : Config) (list : List Event) (began : Carried) (v : ℕ) (said : List (ℕ × Input)) (since a : Surface) (e f : ViewerConnection) (known : Known) (piece : List ℕ) → e.ended ≡ None
-    → f ≡ record e { carried = f.carried; known = known } → known.may_cut ≡ e.known.may_cut → known.may_ask ≡ e.known.may_ask → Moves e.carried f.carried piece [] → IsTurnFrom c list began v said since a e → HasRead c list began v said piece since a f
-turn-read c list began v said since a e f known piece live same cut ask moved t =
+    → f ≡ record e { carried = f.carried; known = known } → known.may_cut ≡ e.known.may_cut → known.may_ask ≡ e.known.may_ask → Moves e.carried f.carried piece [] → length piece ≤ 128 → IsTurnFrom c list began v said since a e → HasRead c list began v said piece since a f
+turn-read c list began v said since a e f known piece live same cut ask moved short t =
     let s = t.served in
     let none : s.unheard ≡ [] = s.heard (λ is. let no : ◌≡◌ {A = Option Ended} None (Some Memory) = sym live ∙ is in absurd cc) in
     let all : s.unwritten ≡ waiting_bytes e.waiting = s.waits (ap breaks_off live) in
@@ -139,6 +151,8 @@ turn-read c list began v said since a e f known piece live same cut ask moved t 
       due = ap (λ w. s.written ++ waiting_bytes w) waiting ∙ ap (λ l. s.written ++ l) (sym all) ∙ s.due ∙ ap (λ n. bytes_of c n (list ++ t.events)) t.number;
       few = subst IsFew (sym waiting) s.few;
       held = ap (λ (x : ViewerConnection). x.held) same ∙ s.held ∙ ap (λ n. held_of c n (list ++ t.events)) t.number;
+      counted = ap (λ (x : ViewerConnection). x.counts) same ∙ s.counted ∙ ap (λ n. counts_of c n (list ++ t.events)) t.number;
+      short = short;
       knows = let is : f.known ≡ known = ap (λ (x : ViewerConnection). x.known) same in
           knows-known c list (list ++ t.events) v since a a e.known f.known refl (ap (λ (x : Known). x.may_cut) is ∙ cut) (ap (λ (x : Known). x.may_ask) is ∙ ask) t.knows;
     }
@@ -168,13 +182,15 @@ turn-unread c list began v said since a e f same h =
         waits = λ fine. ap waiting_bytes (sym waiting);
         few = subst IsFew (sym waiting) h.few;
         held = ap (λ (x : ViewerConnection). x.held) same ∙ h.held ∙ ap (λ n. held_of c n es) (sym number);
+        short = h.short;
+        counted = ap (λ (x : ViewerConnection). x.counts) same ∙ h.counted ∙ ap (λ n. counts_of c n es) (sym number);
       };
       knows = subst (λ (k : Known). Knows c list es v since a k) (sym (ap (λ (x : ViewerConnection). x.known) same)) h.knows;
     }
 
 -- memory was refused to hear a piece
-pub turn-unheard : {A X E : Type 0} (stands : A → List (ℕ × Input) → Type 0) (x : A) (r : Result X E) (a b : Surface) (e f : ViewerConnection) (piece : List ℕ) → b ≡ a → f ≡ record e { ended = Some Memory } → HearsPiece stands piece a e b f x x r
-turn-unheard stands x r a b e f piece still same c list began v said since h =
+pub turn-unheard : {A X E : Type 0} (stands : A → List (ℕ × Input) → Type 0) (x : A) (r : Result X E) (a b : Surface) (e f : ViewerConnection) (room : ℕ) (piece : List ℕ) → b ≡ a → f ≡ record e { room = room; ended = Some Memory } → HearsPiece stands piece a e b f x x r
+turn-unheard stands x r a b e f room piece still same c list began v said since h =
     let number : f.number ≡ v = ap (λ (x : ViewerConnection). x.number) same ∙ h.number in
     let carried : f.carried ≡ e.carried = ap (λ (x : ViewerConnection). x.carried) same in
     let ended : f.ended ≡ Some Memory = ap (λ (x : ViewerConnection). x.ended) same in
@@ -197,6 +213,8 @@ turn-unheard stands x r a b e f piece still same c list began v said since h =
           waits = λ fine. let e : breaks_off f.ended ≡ true = ap breaks_off ended in absurd cc;
           few = subst IsFew (sym (ap (λ (x : ViewerConnection). x.waiting) same)) h.few;
           held = ap (λ (x : ViewerConnection). x.held) same ∙ h.held ∙ ap (λ n. held_of c n es) (sym number);
+          short = h.short;
+          counted = ap (λ (x : ViewerConnection). x.counts) same ∙ h.counted ∙ ap (λ n. counts_of c n es) (sym number);
         };
         knows = let is : f.known ≡ e.known = ap (λ (x : ViewerConnection). x.known) same in
             knows-known c list es v since a b e.known f.known still (ap (λ (x : Known). x.may_cut) is) (ap (λ (x : Known). x.may_ask) is) h.knows;
@@ -206,13 +224,12 @@ turn-unheard stands x r a b e f piece still same c list began v said since h =
 
 -- a piece is heard and answered
 heard-turn : (c : Config) (list : List Event) (began : Carried) (v : ℕ) (said : List (ℕ × Input)) (since a b : Surface) (e f : ViewerConnection) (piece bytes : List ℕ)
-    → (h : HasRead c list began v said piece since a e) → b.drawn ≡ a.drawn → b.noticed ≡ a.noticed → f.known.may_cut ≡ true → f.known.may_ask ≡ true → b.screen ≡ state c ((list ++ h.events) ++ Hear v piece ∷ []) → RecordsMore c (list ++ h.events) (Hear v piece ∷ []) a.scribed b.scribed → bytes ≡ (answer_to c (list ++ h.events) (Hear v piece)).bytes
-    → f ≡ record e { waiting = f.waiting; held = f.held; ended = f.ended; known = f.known } → (breaks_off f.ended ≡ false → waiting_bytes f.waiting ≡ waiting_bytes e.waiting ++ bytes) → IsFew f.waiting
+    → (h : HasRead c list began v said piece since a e) → b.drawn ≡ a.drawn → b.noticed ≡ a.noticed → f.known.may_cut ≡ true → f.known.may_ask ≡ true → b.screen ≡ state c ((list ++ h.events) ++ Hear v piece ∷ []) → RecordsMore c (list ++ h.events) (Hear v piece ∷ []) a.scribed b.scribed → AllHappen c (list ++ h.events) (Hear v piece ∷ []) → bytes ≡ (answer_to c (list ++ h.events) (Hear v piece)).bytes
+    → f.number ≡ e.number → f.carried ≡ e.carried → f.counts ≡ with_piece piece e.counts → (breaks_off f.ended ≡ false → waiting_bytes f.waiting ≡ waiting_bytes e.waiting ++ bytes) → IsFew f.waiting
     → f.held ≡ held_behind e.held (answer_to c (list ++ h.events) (Hear v piece)).inputs
     → IsTurnFrom c list began v (said ++ said_by v (answer_to c (list ++ h.events) (Hear v piece)).inputs) since b f
-heard-turn c list began v said since a b e f piece bytes h drawn noticed cut ask stands recorded answered same waits few holds =
-    let number : f.number ≡ v = ap (λ (x : ViewerConnection). x.number) same ∙ h.number in
-    let carried : f.carried ≡ e.carried = ap (λ (x : ViewerConnection). x.carried) same in
+heard-turn c list began v said since a b e f piece bytes h drawn noticed cut ask stands recorded happened answered its carried counts waits few holds =
+    let number : f.number ≡ v = its ∙ h.number in
     let es = list ++ h.events in
     let fs = es ++ Hear v piece ∷ [] in
     let far : fs ≡ list ++ (h.events ++ Hear v piece ∷ []) = append_assoc list h.events (Hear v piece ∷ []) in
@@ -236,29 +253,24 @@ heard-turn c list began v said since a b e f piece bytes h drawn noticed cut ask
         waits = λ fine. sym (waits fine);
         few = few;
         held = holds ∙ ap (λ h. held_behind h (answer_to c es (Hear v piece)).inputs) h.held ∙ sym (held-own c v es piece) ∙ ap (λ n. held_of c n fs) (sym number);
+        short = omega arith;
+        counted = counts ∙ ap (with_piece piece) h.counted ∙ sym (counts-heard c v es piece happened) ∙ ap (λ n. counts_of c n fs) (sym number);
       });
       knows = subst (λ (l : List Event). Knows c list l v since b f.known) far (knows-heard c list es v since a b e.known f.known piece drawn noticed cut ask h.knows);
     }
-
--- a connection once a piece was counted, and then answered
-pub counted-same : (e p f : ViewerConnection) → p ≡ record e { held = p.held; known = p.known } → f ≡ record p { waiting = f.waiting; ended = f.ended } → f ≡ record e { waiting = f.waiting; held = f.held; ended = f.ended; known = f.known }
-counted-same e p f counted answered =
-    let known : f.known ≡ p.known = ap (λ (x : ViewerConnection). x.known) answered in
-    let held : f.held ≡ p.held = ap (λ (x : ViewerConnection). x.held) answered in
-    answered ∙ ap (λ (x : ViewerConnection). record x { waiting = f.waiting; ended = f.ended }) counted ∙ ap (λ k. record e { waiting = f.waiting; held = p.held; ended = f.ended; known = k }) (sym known)
-    ∙ ap (λ h. record e { waiting = f.waiting; held = h; ended = f.ended; known = f.known }) (sym held)
 
 -- and the application is told what it says, and draws
 pub turn-heard : {A X E : Type 0} (stands : A → List (ℕ × Input) → Type 0) (x y : A) (r : Result X E) (inputs : List Input) (a b d : Surface) (e f : ViewerConnection) (n : ℕ) (piece bytes : List ℕ)
     → n ≡ e.number → b.drawn ≡ a.drawn → b.noticed ≡ a.noticed → f.known.may_cut ≡ true → f.known.may_ask ≡ true
     → ((c : Config) (list : List Event) → a.screen ≡ state c list → b.screen ≡ state c (list ++ Hear n piece ∷ []))
     → ((c : Config) (list : List Event) → a.screen ≡ state c list → RecordsMore c list (Hear n piece ∷ []) a.scribed b.scribed)
+    → ((c : Config) (list : List Event) → a.screen ≡ state c list → AllHappen c list (Hear n piece ∷ []))
     → ((c : Config) (list : List Event) → a.screen ≡ state c list → bytes ≡ (answer_to c list (Hear n piece)).bytes)
     → ((c : Config) (list : List Event) → a.screen ≡ state c list → inputs ≡ (answer_to c list (Hear n piece)).inputs)
-    → f ≡ record e { waiting = f.waiting; held = f.held; ended = f.ended; known = f.known } → (breaks_off f.ended ≡ false → waiting_bytes f.waiting ≡ waiting_bytes e.waiting ++ bytes) → IsFew f.waiting
+    → f.number ≡ e.number → f.carried ≡ e.carried → f.counts ≡ with_piece piece e.counts → (breaks_off f.ended ≡ false → waiting_bytes f.waiting ≡ waiting_bytes e.waiting ++ bytes) → IsFew f.waiting
     → f.held ≡ held_behind e.held inputs → Draws b d
     → IsTold stands (said_by n inputs) x y r → HearsPiece stands piece a e d f x y r
-turn-heard stands x y r inputs a b d e f n piece bytes its drawn noticed cut ask steps records answers hears same waits few holds draws told c list began v said since h =
+turn-heard stands x y r inputs a b d e f n piece bytes its drawn noticed cut ask steps records happens answers hears numbered carried counts waits few holds draws told c list began v said since h =
     let es = list ++ h.events in
     let number : n ≡ v = its ∙ h.number in
     let heard : inputs ≡ (answer_to c es (Hear v piece)).inputs = subst (λ (m : ℕ). inputs ≡ (answer_to c es (Hear m piece)).inputs) number (hears c es h.screen) in
@@ -268,18 +280,20 @@ turn-heard stands x y r inputs a b d e f n piece bytes its drawn noticed cut ask
           (heard-turn c list began v said since a b e f piece bytes h drawn noticed cut ask
           (subst (λ (m : ℕ). b.screen ≡ state c (es ++ Hear m piece ∷ [])) number (steps c es h.screen))
           (subst (λ (m : ℕ). RecordsMore c es (Hear m piece ∷ []) a.scribed b.scribed) number (records c es h.screen))
-          (subst (λ (m : ℕ). bytes ≡ (answer_to c es (Hear m piece)).bytes) number (answers c es h.screen)) same waits few (holds ∙ ap (held_behind e.held) heard)),
+          (subst (λ (m : ℕ). AllHappen c es (Hear m piece ∷ [])) number (happens c es h.screen))
+          (subst (λ (m : ℕ). bytes ≡ (answer_to c es (Hear m piece)).bytes) number (answers c es h.screen)) numbered carried counts waits few (holds ∙ ap (held_behind e.held) heard)),
       subst (λ l. IsTold stands l x y r) is told,
     )
 
 -- an update is cut for a viewer, or there is none
-cut-turn : (a b : Surface) (e f : ViewerConnection) (m : ℕ) (bytes : List ℕ) → m ≡ e.number
+cut-turn : (a b : Surface) (e f : ViewerConnection) (m : ℕ) (bytes : List ℕ) (counts : Counts) → m ≡ e.number
     → ((c : Config) (list : List Event) → a.screen ≡ state c list → b.screen ≡ state c (list ++ Cut m ∷ []))
     → ((c : Config) (list : List Event) → a.screen ≡ state c list → RecordsMore c list (Cut m ∷ []) a.scribed b.scribed)
     → ((c : Config) (list : List Event) → a.screen ≡ state c list → bytes ≡ (answer_to c list (Cut m)).bytes)
-    → f ≡ record e { waiting = f.waiting; known = f.known } → waiting_bytes f.waiting ≡ waiting_bytes e.waiting ++ bytes → (IsFew e.waiting → IsFew f.waiting)
+    → f ≡ record e { waiting = f.waiting; known = f.known; counts = counts } → waiting_bytes f.waiting ≡ waiting_bytes e.waiting ++ bytes → (IsFew e.waiting → IsFew f.waiting)
+    → ((c : Config) (list : List Event) → a.screen ≡ state c list → e.counts ≡ counts_of c e.number list → counts ≡ counts_of c e.number (list ++ Cut e.number ∷ []))
     → ((c : Config) (before list : List Event) (since : Surface) → a.screen ≡ state c list → Knows c before list e.number since a e.known → Knows c before (list ++ Cut e.number ∷ []) e.number since b f.known) → TakesTurn a e b f
-cut-turn a b e f m bytes its steps-at records answers-at same waits few knows c list began v said since t =
+cut-turn a b e f m bytes counts its steps-at records answers-at same waits few counted knows c list began v said since t =
     let steps : (c : Config) (list : List Event) → a.screen ≡ state c list → b.screen ≡ state c (list ++ Cut e.number ∷ []) = λ c list h. subst (λ (m : ℕ). b.screen ≡ state c (list ++ Cut m ∷ [])) its (steps-at c list h) in
     let answers : (c : Config) (list : List Event) → a.screen ≡ state c list → bytes ≡ (answer_to c list (Cut e.number)).bytes = λ c list h. subst (λ (m : ℕ). bytes ≡ (answer_to c list (Cut m)).bytes) its (answers-at c list h) in
     let number : f.number ≡ e.number = ap (λ (x : ViewerConnection). x.number) same in
@@ -310,6 +324,8 @@ cut-turn a b e f m bytes its steps-at records answers-at same waits few knows c 
         waits = λ fine. ap (λ l. l ++ bytes) (s.waits (ap breaks_off (sym ended) ∙ fine)) ∙ sym waits;
         few = few s.few;
         held = ap (λ (x : ViewerConnection). x.held) same ∙ s.held ∙ sym (held-same c n es (Cut n) refl) ∙ ap (λ m. held_of c m fs) (sym number);
+        short = s.short;
+        counted = ap (λ (x : ViewerConnection). x.counts) same ∙ counted c es t.screen s.counted ∙ ap (λ m. counts_of c m fs) (sym number);
       });
       knows = subst (λ (m : ℕ). Knows c list (list ++ (t.events ++ Cut n ∷ [])) m since b f.known) t.number
           (subst (λ (l : List Event). Knows c list l n since b f.known) far (knows c list es since t.screen (subst (λ (m : ℕ). Knows c list es m since a e.known) (sym t.number) t.knows)));
@@ -319,11 +335,13 @@ cut-turn a b e f m bytes its steps-at records answers-at same waits few knows c 
 pub turn-cut : held_as_alone → (a b : Surface) (e f : ViewerConnection) (m : ℕ) (bytes : List ℕ) → m ≡ e.number
     → ((c : Config) (list : List Event) → a.screen ≡ state c list → b.screen ≡ state c (list ++ Cut m ∷ []))
     → ((c : Config) (list : List Event) → a.screen ≡ state c list → RecordsMore c list (Cut m ∷ []) a.scribed b.scribed)
+    → ((c : Config) (list : List Event) → a.screen ≡ state c list → AllHappen c list (Cut m ∷ []))
     → ((c : Config) (list : List Event) → a.screen ≡ state c list → bytes ≡ (answer_to c list (Cut m)).bytes)
-    → f ≡ record e { waiting = f.waiting; known = f.known } → waiting_bytes f.waiting ≡ waiting_bytes e.waiting ++ bytes → (IsFew e.waiting → IsFew f.waiting)
+    → f ≡ record e { waiting = f.waiting; known = f.known; counts = with_cut e.counts } → waiting_bytes f.waiting ≡ waiting_bytes e.waiting ++ bytes → (IsFew e.waiting → IsFew f.waiting)
     → b.drawn ≡ a.drawn → b.noticed ≡ a.noticed → f.known.may_cut ≡ is_asking_on b.screen m → f.known.may_ask ≡ (e.known.may_ask && is_asking_on b.screen m) → TakesTurn a e b f
-turn-cut held a b e f m bytes its steps records answers same waits few drawn noticed cut ask =
-    cut-turn a b e f m bytes its steps records answers same waits few
+turn-cut held a b e f m bytes its steps records happens answers same waits few drawn noticed cut ask =
+    cut-turn a b e f m bytes (with_cut e.counts) its steps records answers same waits few
+    (λ c list stands was. ap with_cut was ∙ sym (counts-cut c e.number list (subst (λ (n : ℕ). AllHappen c list (Cut n ∷ [])) its (happens c list stands))))
     (λ c before list since stands k.
     knows-cut held c before list e.number since a b e.known f.known drawn noticed (subst (λ (n : ℕ). b.screen ≡ state c (list ++ Cut n ∷ [])) its (steps c list stands))
     (cut ∙ ap (λ n. is_asking_on b.screen n) its)
@@ -333,11 +351,13 @@ turn-cut held a b e f m bytes its steps records answers same waits few drawn not
 pub turn-uncut : (a b : Surface) (e f : ViewerConnection) (m : ℕ) → m ≡ e.number
     → ((c : Config) (list : List Event) → a.screen ≡ state c list → b.screen ≡ state c (list ++ Cut m ∷ []))
     → ((c : Config) (list : List Event) → a.screen ≡ state c list → RecordsMore c list (Cut m ∷ []) a.scribed b.scribed)
+    → ((c : Config) (list : List Event) → a.screen ≡ state c list → accepted c (list ++ Cut m ∷ []) ≡ accepted c list)
     → ((c : Config) (list : List Event) → a.screen ≡ state c list → [] ≡ (answer_to c list (Cut m)).bytes)
     → f ≡ record e { known = f.known } → b.drawn ≡ a.drawn → b.noticed ≡ a.noticed → f.known.may_ask ≡ e.known.may_ask → TakesTurn a e b f
-turn-uncut a b e f m its steps records answers same drawn noticed ask =
+turn-uncut a b e f m its steps records none answers same drawn noticed ask =
     let waiting : f.waiting ≡ e.waiting = ap (λ (x : ViewerConnection). x.waiting) same in
-    cut-turn a b e f m [] its steps records answers (same ∙ ap (λ w. record e { waiting = w; known = f.known }) (sym waiting)) (ap waiting_bytes waiting ∙ sym (append-nil (waiting_bytes e.waiting))) (subst IsFew (sym waiting))
+    cut-turn a b e f m [] e.counts its steps records answers (same ∙ ap (λ w. record e { waiting = w; known = f.known }) (sym waiting)) (ap waiting_bytes waiting ∙ sym (append-nil (waiting_bytes e.waiting))) (subst IsFew (sym waiting))
+    (λ c list stands was. was ∙ sym (counts-uncut c e.number list (subst (λ (n : ℕ). accepted c (list ++ Cut n ∷ []) ≡ accepted c list) its (none c list stands))))
     (λ c before list since stands k.
     knows-none c before list e.number since a b e.known f.known drawn noticed ask (ap (λ n. next_bytes c n list) (sym its) ∙ sym (answers c list stands)) k)
 
@@ -396,13 +416,15 @@ turn-written a b e f known added unwritten still whole same cut ask moved parts 
         waits = waits;
         few = few;
         held = ap (λ (x : ViewerConnection). x.held) same ∙ s.held ∙ ap (λ m. held_of c m es) (sym number);
+        short = s.short;
+        counted = ap (λ (x : ViewerConnection). x.counts) same ∙ s.counted ∙ ap (λ m. counts_of c m es) (sym number);
       };
     }
 
 -- a viewer ends, by a failure or by being closed
 pub turn-ended : (a b : Surface) (e f : ViewerConnection) → b ≡ a → e.ended ≡ None → f ≡ record e { ended = f.ended } → TakesTurn a e b f
 turn-ended a b e f still live same c list began v said since t =
-    let h = turn-read c list began v said since a e e e.known [] live refl refl refl (moves-nothing e.carried) t in
+    let h = turn-read c list began v said since a e e e.known [] live refl refl refl (moves-nothing e.carried) (omega arith) t in
     subst (λ (x : Surface). IsTurnFrom c list began v said since x f) (sym still) (turn-unread c list began v said since a e f same h)
 
 -- a viewer is let go, unless it ended before
@@ -425,7 +447,26 @@ turn-silently stands x r a b e f turn c list began v said since t =
 pub turn-nothing : (a : Surface) (e f h : ViewerConnection) (known : Known) → e.ended ≡ None → f ≡ record e { carried = f.carried; known = known } → known.may_cut ≡ e.known.may_cut → known.may_ask ≡ e.known.may_ask → Moves e.carried f.carried [] []
     → h ≡ record f { ended = h.ended } → TakesTurn a e a h
 turn-nothing a e f h known live same cut ask moved ended c list began v said since t =
-    turn-unread c list began v said since a f h ended (turn-read c list began v said since a e f known [] live same cut ask moved t)
+    turn-unread c list began v said since a f h ended (turn-read c list began v said since a e f known [] live same cut ask moved (omega arith) t)
 
-pub ended-so : (f h : ViewerConnection) (o : Option Ended) → h ≡ record f { ended = o } → h ≡ record f { ended = h.ended }
+ended-so : (f h : ViewerConnection) (o : Option Ended) → h ≡ record f { ended = o } → h ≡ record f { ended = h.ended }
 ended-so f h o is = is ∙ ap (λ o. record f { ended = o }) (sym (ap (λ (x : ViewerConnection). x.ended) is))
+
+-- a read that gave no piece
+pub turn-missed : (a : Surface) (e h : ViewerConnection) (got : Got) (size now : ℕ) (room : List ℕ) → ((count : ℕ) → got ≡ Piece count → ⊥) → e.ended ≡ None
+    → h ≡ record e { carried = h.carried; ended = ended_by_read got e.ended; known = known_by_read got size now e.known } → Moves e.carried h.carried (got_bytes got room) [] → TakesTurn a e a h
+turn-missed a e h (Piece count) size now room missed live same moved = absurd (missed count refl)
+turn-missed a e h got size now room missed live same moved =
+    let known : Known = known_by_read got size now e.known in
+    let f : ViewerConnection = record e { carried = h.carried; known = known } in
+    turn-nothing a e f h known live refl refl refl moved (ended-so f h (ended_by_read got e.ended) same)
+
+-- ---- a viewer that met a fault has ended
+
+pub ended-memory : (o : Option Fault) (e : Option Ended) → e ≡ Some Memory → IfSome o (λ f. (e ≡ Some (ends.Fault f)) ⊎ (e ≡ Some Memory))
+ended-memory None e is = tt
+ended-memory (Some f) e is = inr is
+
+pub ended-fault : (o p : Option Fault) (before e : Option Ended) → o ≡ p → (e ≡ ended_by_fault o before) ⊎ (e ≡ Some Memory) → IfSome p (λ f. (e ≡ Some (ends.Fault f)) ⊎ (e ≡ Some Memory))
+ended-fault o None before e same is = tt
+ended-fault o (Some f) before e same is = subst (λ (o : Option Fault). (e ≡ ended_by_fault o before) ⊎ (e ≡ Some Memory)) same is

@@ -4,6 +4,7 @@ pub mod RecordedLemmas
 pub mod Drawing
 pub mod Among
 pub mod Attending
+pub mod Counting
 pub mod Telling
 pub mod TellingLemmas
 pub mod Serving
@@ -12,3 +13,4 @@ pub mod Lending
 pub mod Recording
 pub mod Carrying
 pub mod Bounds
+pub mod Reasons

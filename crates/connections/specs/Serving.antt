@@ -1,5 +1,5 @@
 -- What the connections of a screen's viewers hold, and what that is by the events of the screen.
-use Rattle.std.specs.Prelude.{IfSome, ◌≡◌, ◌≢◌, ◌⊎◌, ℕ, ◌≤◌, ◌<◌, Result, Bool, true, false, not, ◌&&◌, ◌||◌, if◌then◌else◌, is_none, is_some, List, [], ◌++◌, Option, Some, None, option_map, unwrap_or, slice_index_or}
+use Rattle.std.specs.Prelude.{IfSome, length, ◌≡◌, ◌≢◌, ◌⊎◌, ℕ, ◌≤◌, ◌<◌, Result, Bool, true, false, not, ◌&&◌, ◌||◌, if◌then◌else◌, is_none, is_some, List, [], ◌++◌, Option, Some, None, option_map, unwrap_or, slice_index_or}
 use Rattle.std.specs.Io.KnownBytes.{Appends, Consumes}
 use Rattle.screen.specs.declared.Config.{Config}
 use Rattle.screen.specs.declared.Event.{Event}
@@ -14,7 +14,7 @@ use Rattle.receipts.specs.declared.Ended.TheVariants.{Memory}
 use Rattle.receipts.specs.Checking.{may_break_off}
 use Rattle.receipts.specs.Histories.{bytes_of, heard_of}
 use Rattle.screen.specs.Reading.{is_open_rest}
-use Rattle.screen.specs.State.{State, state, viewer_at}
+use Rattle.screen.specs.State.{State, state, viewer_at, history_by}
 use Rattle.connections.specs.declared.connections.Readiness.{Readiness}
 use Rattle.connections.specs.Waiting.{Waiting, waiting_bytes, IsFew}
 use Rattle.connections.specs.Drawing.{Surface, IsDrawnFrom}
@@ -22,7 +22,8 @@ use Rattle.connections.specs.Recorded.{IsRecordedBy}
 use Rattle.connections.specs.Among.{is_among}
 use Rattle.held_inputs.specs.Held.{Held, nothing}
 use Rattle.connections.specs.Telling.{held_of, inputs_after, IsTold}
-use Rattle.connections.specs.Attending.{Known, noted, asks, next_bytes, IsSettled}
+use Rattle.connections.specs.Attending.{Known, noted, floods, asks, next_bytes, IsSettled}
+use Rattle.connections.specs.Counting.{Counts, no_counts, counts_of, HasCounts}
 
 -- what a transport carries
 pub record Carried : Type 0 where
@@ -53,6 +54,10 @@ pub record ViewerConnection : Type 0 where
   pub ended : Option Ended
   -- what is known of the connection
   pub known : Known
+  -- what was counted of the viewer
+  pub counts : Counts
+  -- for how many more bytes that are heard there is room, where they are kept
+  pub room : ℕ
 
 -- between two moments of a transport these bytes were read, and those were written
 pub record Moves (before now : Carried) (got gave : List ℕ) : Type 0 where
@@ -68,6 +73,19 @@ breaks_off (Some ended) = may_break_off ended
 -- a connection of which this is known too
 abbrev pub noted_by : Readiness → ViewerConnection → ViewerConnection
 noted_by found connection = record connection { known = noted found connection.known }
+
+-- so many more bytes that are heard can be kept, where they are
+abbrev pub CanKeep : ℕ → ViewerConnection → Type 0
+CanKeep more connection = IfSome connection.counts.heard (λ _. more ≤ connection.room)
+
+-- why it ended: for this reason, unless it ended before
+abbrev pub ended_or : Option Ended → Ended → Option Ended
+ended_or None reason = Some reason
+ended_or (Some ended) reason = Some ended
+
+-- a connection that ended so
+abbrev pub ended_by : Ended → ViewerConnection → ViewerConnection
+ended_by reason connection = record connection { ended = ended_or connection.ended reason }
 
 -- a read may give something
 abbrev pub may_read : ViewerConnection → Bool
@@ -113,14 +131,17 @@ pub record IsServed (c : Config) (list : List Event) (began : Carried) (connecti
   pub moved : Moves began connection.carried (heard_of connection.number list ++ unheard) written
   -- what was written to it, and what isn't, is what the screen with this one viewer gives
   pub due : written ++ unwritten ≡ bytes_of c connection.number list
-  -- all was heard, unless memory was refused
+  -- all was heard, unless memory was refused; then all but a last piece was
   pub heard : connection.ended ≢ Some Memory → unheard ≡ []
+  pub short : length unheard ≤ 128
   -- what isn't written waits, unless the viewer ended by a failure
   pub waits : breaks_off connection.ended ≡ false → unwritten ≡ waiting_bytes connection.waiting
   -- few bytes are made before they are written
   pub few : IsFew connection.waiting
   -- what it holds down is what its inputs leave
   pub held : connection.held ≡ held_of c connection.number list
+  -- the pieces, the cuts and the bytes that were heard are those of the events that happened
+  pub counted : connection.counts ≡ counts_of c connection.number list
 
 -- a viewer was served that left, by its transport and its receipt
 pub record WasServed {T : Type 0} (c : Config) (list : List Event) (began : Carried) (unread written : T → Option (List ℕ)) (transport : T) (r : Receipt) : Type 0 where
@@ -134,10 +155,13 @@ pub record WasServed {T : Type 0} (c : Config) (list : List Event) (began : Carr
   pub sent : r.sent ≡ unwrap_or (option_map (λ bytes. bytes ++ given) began.sent) []
   -- what was written to it, and what isn't, is what the screen with this one viewer gives
   pub due : given ++ unwritten ≡ bytes_of c r.viewer list
-  -- all was heard, unless memory was refused
+  -- all was heard, unless memory was refused; then all but a last piece was
   pub heard : r.ended ≢ Memory → unheard ≡ []
+  pub short : length unheard ≤ 128
   -- all was written, unless the viewer ended by a failure
   pub whole : may_break_off r.ended ≡ false → unwritten ≡ []
+  -- the receipt's pieces, cuts and bytes are those of the events that happened
+  pub counted : HasCounts (counts_of c r.viewer list) r
 
 -- a connection's viewer ended, and nothing waits for it that is still to be written
 abbrev pub IsOver : Option ViewerConnection → ℕ → Ended → Type 0
@@ -176,6 +200,10 @@ may_cut_at slots key = elim (at_key slots key) [ None ↦ true | Some connection
 abbrev pub may_ask_at : List (Option ViewerConnection) → ℕ → Bool
 may_ask_at slots key = elim (at_key slots key) [ None ↦ false | Some connection ↦ connection.known.may_ask ]
 
+-- whether it floods, and may say more; none doesn't
+abbrev pub floods_at : List (Option ViewerConnection) → ℕ → Bool
+floods_at slots key = elim (at_key slots key) [ None ↦ false | Some connection ↦ floods connection.known && may_read connection ]
+
 -- the number of the viewer that has a key
 abbrev pub number_at : List (Option ViewerConnection) → ℕ → Option ℕ
 number_at slots key = option_map (λ connection. connection.number) (at_key slots key)
@@ -211,8 +239,8 @@ pub record Serves (c : Config) (began : Began) (list : List Event) (s : Serving)
   pub attended : (key : ℕ) (connection : ViewerConnection) → at_key s.slots key ≡ Some connection → IsAttended c list s key connection
   -- no two connections have one number
   pub apart : (j k : ℕ) (first second : ViewerConnection) → at_key s.slots j ≡ Some first → at_key s.slots k ≡ Some second → first.number ≡ second.number → j ≡ k
-  -- nothing was heard of the viewers that are still to come, nor given to them, and they hold nothing
-  pub unused : (v : ℕ) → s.next ≤ v → (heard_of v list ≡ []) × (bytes_of c v list ≡ []) × (held_of c v list ≡ nothing)
+  -- nothing was heard of the viewers that are still to come, nor given to them, they hold nothing, nothing was counted of them, and they aren't there
+  pub unused : (v : ℕ) → s.next ≤ v → (heard_of v list ≡ []) × (bytes_of c v list ≡ []) × (held_of c v list ≡ nothing) × (counts_of c v list ≡ no_counts (history_by c.history [])) × (viewer_of c v list ≡ None)
 
 -- whatever the connections stood for, they stand for it with more events behind it, none of which has an input
 abbrev pub GoesOn : Serving → Serving → Type 0

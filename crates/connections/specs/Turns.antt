@@ -11,6 +11,7 @@ use Rattle.connections.specs.declared.connection.Got.{Got}
 use Rattle.connections.specs.declared.connection.Got.TheVariants.{Piece}
 use Rattle.connections.specs.Drawing.{Surface}
 use Rattle.connections.specs.Attending.{Known, asks, IsSettled}
+use Rattle.connections.specs.Counting.{counts_of}
 use Rattle.connections.specs.Recorded.{RecordsMore}
 use Rattle.receipts.specs.Histories.{bytes_of, heard_of}
 use Rattle.connections.specs.Telling.{held_of, inputs_after, IsTold}
@@ -61,6 +62,8 @@ pub record HasRead (c : Config) (list : List Event) (began : Carried) (v : ℕ) 
   pub due : written ++ waiting_bytes e.waiting ≡ bytes_of c v (list ++ events)
   pub few : IsFew e.waiting
   pub held : e.held ≡ held_of c v (list ++ events)
+  pub counted : e.counts ≡ counts_of c v (list ++ events)
+  pub short : length piece ≤ 128
   pub knows : Knows c list (list ++ events) v since surface e.known
 
 -- a turn goes on, without an input

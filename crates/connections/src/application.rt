@@ -1,6 +1,6 @@
 //! The application.
 
-ghost use Rattle.std.specs.Prelude.{ℕ, List, [], ◌∷◌, ◌++◌};
+ghost use Rattle.std.specs.Prelude.{◌≡◌, ℕ, true, List, [], ◌∷◌, ◌++◌};
 ghost use Rattle.screen.specs.declared.Input.{Input};
 ghost use Rattle.connections.specs.Telling.{Stays};
 ghost use Rattle.connections.specs.Drawing.{Draws};
@@ -16,6 +16,9 @@ use std::time::Duration;
 pub trait Application {
     /// That it was told these inputs, each with its viewer's number, in the order in which they came.
     ghost stands: { Self → List (ℕ × Input) → Type 0 } = { λ _ _. Unit {0} };
+
+    /// What is true of it where it is done.
+    ghost done: { Self → Type 0 } = { λ _. Unit {0} };
 
     /// Takes an input of a viewer (RFC 6143, 7.3.1 and 7.5.4 to 7.5.6). Where a viewer ended with keys or buttons down, their releases are
     /// told as further inputs of that viewer, before `left`.
@@ -72,7 +75,9 @@ pub trait Application {
     }
 
     /// Returns whether the loop is to end. It is asked before each turn.
-    fn is_done(&self) -> bool {
+    fn is_done(&self) -> bool
+        ensures told { result ≡ true → done self.now }
+    {
         false
     }
 }

@@ -6,6 +6,7 @@ ghost use Rattle.connections.specs.Waiting.{waiting_bytes, IsFew};
 ghost use Rattle.connections.specs.Serving.{Moves};
 ghost use Rattle.connections.specs.Bounds.{AreWrittenAtMost};
 ghost use Rattle.connections.specs.Carrying.{carried_by};
+ghost use Rattle.connections.specs.Reasons.{taken_by, written_by, written_error};
 ghost use Rattle.connections.specs.declared.backlog.Written.TheVariants as outcome;
 
 use crate::recording::Recording;
@@ -14,7 +15,7 @@ use screen::Update;
 use std::alloc::{AllocError, Global};
 use std::io::ErrorKind;
 use std::marker::Model;
-use std::mem;
+use std::{io, mem};
 use viewer::Stream;
 
 /// How many bytes of an update are encoded before they are written, at most: 64 KB.
@@ -84,6 +85,29 @@ fn fill(buffer: &mut Vec<u8>, update: &mut Stream) -> Result<(), AllocError>
     Ok(())
 }
 
+/// Returns what a write is that failed with this kind of error.
+fn written_error(kind: ErrorKind) -> Written
+    ensures { result ≡ written_error kind }
+{
+    match kind {
+        ErrorKind::WouldBlock | ErrorKind::Interrupted => Written::Blocked,
+        ErrorKind::OutOfMemory => Written::Memory,
+        _ => Written::Failed,
+    }
+}
+
+/// Returns how many bytes a write took, and what came of it: a transport that takes none takes no more.
+fn written_of(sent: io::Result<usize>) -> (usize, Written)
+    ensures count { result.0 ≡ taken_by sent }
+    ensures came { result.1 ≡ written_by sent }
+{
+    match sent {
+        Ok(0) => (0, Written::Failed),
+        Ok(count) => (count, Written::Some),
+        Err(error) => (0, written_error(error.kind())),
+    }
+}
+
 /// Writes the first 64 KB of `bytes` at most, once. Returns how many the transport took, and what came of it.
 fn write_once<T: Transport>(transport: &mut Recording<T>, bytes: &[u8]) -> (usize, Written)
     ensures bound { result.0 ≤ length bytes.now }
@@ -91,15 +115,7 @@ fn write_once<T: Transport>(transport: &mut Recording<T>, bytes: &[u8]) -> (usiz
     ensures moved { Moves (carried_by T.unread T.written transport.old) (carried_by T.unread T.written transport.new) [] (take result.0 bytes.now) }
 {
     let first = &bytes[..bytes.len().min(BUFFER)];
-    match transport.send(first) {
-        Ok(0) => (0, Written::Failed),
-        Ok(count) => (count, Written::Some),
-        Err(e) => match e.kind() {
-            ErrorKind::WouldBlock | ErrorKind::Interrupted => (0, Written::Blocked),
-            ErrorKind::OutOfMemory => (0, Written::Memory),
-            _ => (0, Written::Failed),
-        },
-    }
+    written_of(transport.send(first))
 }
 
 impl Backlog {

@@ -1,13 +1,13 @@
 //! The screen as an application draws on it.
 
-ghost use Rattle.std.specs.Prelude.{◌≡◌, ◌++◌, ◌∷◌, [], ◌≢◌, List, None, true, false, IfOk, IfSome, IsOkUnless, OnOk, OnErr, option_map};
+ghost use Rattle.std.specs.Prelude.{◌≡◌, ◌++◌, ◌∷◌, [], ◌≢◌, List, None, true, false, nat_lt, IfOk, IfSome, IsOkUnless, OnOk, OnErr, option_map};
 ghost use Rattle.screen.specs.declared.Config.{Config};
 ghost use Rattle.screen.specs.declared.Event.{Event};
 ghost use Rattle.screen.specs.Alone.{Tells, config_refusal};
 ghost use Rattle.recorder.specs.Events.{event_line};
 ghost use Rattle.screen.specs.Answers.{answer_to};
-ghost use Rattle.screen.specs.Refusals.{Refuses};
-ghost use Rattle.screen.specs.State.{state, refusal};
+ghost use Rattle.screen.specs.Refusals.{Refuses, absence, presence};
+ghost use Rattle.screen.specs.State.{state, refusal, viewer_at};
 ghost use Rattle.screen.specs.Takes.{Takes, TakesTelling};
 ghost use Rattle.viewer.specs.Given.{bytes_given};
 ghost use Rattle.screen.specs.Calls.{event_of};
@@ -112,6 +112,13 @@ impl Canvas {
             Ok(count) => count,
             Err(_) => 0,
         }
+    }
+
+    /// Returns whether a viewer made a further request that isn't incremental, since it had made so many.
+    pub(crate) fn has_asked_since(&self, viewer: u64, full_requests: u64) -> bool
+        ensures { result ≡ nat_lt full_requests (full_requests_on self.now.screen viewer) }
+    {
+        full_requests < self.full_requests(viewer)
     }
 
     /// Returns the screen, to be looked at.
@@ -356,6 +363,7 @@ impl Canvas {
             OnOk result (RecordsMore config list (Event.Connect number ∷ []) self.old.scribed self.new.scribed) }
         ensures answer { (config : Config) (list : List Event) → self.old.screen ≡ state config list →
             IfOk result (λ bytes. bytes ≡ (answer_to config list (Event.Connect number)).bytes) }
+        ensures refused { Refuses result (presence (viewer_at self.old.screen number)) }
         ensures same { self.new ≡ record self.old { screen = self.new.screen; scribed = self.new.scribed } }
         ensures err { OnErr result (self.new ≡ self.old) }
     {
@@ -375,6 +383,10 @@ impl Canvas {
             IfOk result (λ answer. answer.bytes ≡ (answer_to config list (Event.Hear number piece.now)).bytes) }
         ensures inputs { (config : Config) (list : List Event) → self.old.screen ≡ state config list →
             IfOk result (λ answer. answer.inputs ≡ (answer_to config list (Event.Hear number piece.now)).inputs) }
+        ensures closed { (config : Config) (list : List Event) → self.old.screen ≡ state config list →
+            IfOk result (λ answer. answer.closed ≡ (answer_to config list (Event.Hear number piece.now)).closed) }
+        ensures accepted { IfOk result (λ answer. answer.refused ≡ None) }
+        ensures refused { Refuses result (absence (viewer_at self.old.screen number)) }
         ensures same { self.new ≡ record self.old { screen = self.new.screen } }
         ensures err { OnErr result (self.new ≡ self.old) }
     {
@@ -405,6 +417,7 @@ impl Canvas {
             Tells cut_gives result (answer_to config list (Event.Cut number)) }
         ensures answer { (config : Config) (list : List Event) → self.old.screen ≡ state config list →
             IfOk result (λ update. bytes_given update ≡ (answer_to config list (Event.Cut number)).bytes) }
+        ensures refused { Refuses result (absence (viewer_at self.old.screen number)) }
         ensures same { self.new ≡ record self.old { screen = self.new.screen } }
         ensures some { IfOk result (λ update. IfSome update (λ bytes. bytes ≢ [])) }
         ensures err { OnErr result (self.new ≡ self.old) }
@@ -428,6 +441,7 @@ impl Canvas {
             OnOk result (RecordsMore config list (Event.Close number ∷ []) self.old.scribed self.new.scribed) }
         ensures answer { (config : Config) (list : List Event) → self.old.screen ≡ state config list →
             OnOk result ((answer_to config list (Event.Close number)).bytes ≡ []) }
+        ensures refused { Refuses result (absence (viewer_at self.old.screen number)) }
         ensures same { self.new ≡ record self.old { screen = self.new.screen; scribed = self.new.scribed } }
         ensures err { OnErr result (self.new ≡ self.old) }
     {

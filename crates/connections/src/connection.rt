@@ -1,13 +1,14 @@
 //! One viewer's connection: its transport, what is known of that one's readiness, and what is on its way to the viewer.
 
-ghost use Rattle.std.specs.Prelude.{◌≡◌, ◌≢◌, ◌≤◌, ◌++◌, ◌+◌, ◌*◌, ◌-◌, ◌^◌, min, [], List, ℕ, None, Some, true, false, not, ◌&&◌, ◌||◌, ◌⊎◌, IsNone, length, unwrap_or};
+ghost use Rattle.std.specs.Prelude.{◌≡◌, ◌≢◌, ◌≤◌, ◌++◌, ◌+◌, ◌*◌, ◌-◌, ◌^◌, min, [], List, ℕ, None, Some, true, false, not, ◌&&◌, ◌||◌, ◌⊎◌, OnOk, length, unwrap_or};
 ghost use Rattle.receipts.specs.Checking.{may_break_off};
 ghost use Rattle.receipts.specs.declared.Ended.TheVariants as ended;
 ghost use Rattle.connections.specs.Waiting.{waiting_bytes, IsFew};
 ghost use Rattle.connections.specs.Bounds.{AreWrittenAtMost, AreReadAtMost};
-ghost use Rattle.connections.specs.Attending.{noted};
-ghost use Rattle.connections.specs.Serving.{Carried, ViewerConnection, Moves, breaks_off, may_read, may_write, has_waiting, over, can_send, has_work};
-ghost use Rattle.connections.specs.declared.connection.Got.TheVariants as got;
+ghost use Rattle.connections.specs.Attending.{noted, floods, says_much};
+ghost use Rattle.connections.specs.Counting.{no_counts, with_piece, with_cut, HasCounts};
+ghost use Rattle.connections.specs.Reasons.{got_error, got_of, ended_by_read, known_by_read, ended_by_write, may_write_by, ended_by_fault};
+ghost use Rattle.connections.specs.Serving.{Carried, ViewerConnection, Moves, CanKeep, breaks_off, ended_by, may_read, may_write, has_waiting, over, can_send, has_work};
 ghost use Rattle.connections.specs.Recording.{none_yet};
 ghost use Rattle.connections.specs.Telling.{held_behind};
 ghost use Rattle.connections.specs.Turns.{IsWithin, got_bytes};
@@ -22,6 +23,7 @@ use kept_list::KeptList;
 use receipts::{Ended, Receipt};
 use screen::{Fault, Input, Update};
 use std::alloc::{AllocError, Global};
+use std::io;
 use std::io::ErrorKind;
 use std::marker::Model;
 
@@ -101,21 +103,47 @@ impl<T: Transport> Model for Connection<T> {
       waiting = a.backlog;
       held = a.held;
       ended = a.ended;
-      known = record { may_read = a.readiness.may_read; may_write = a.readiness.may_write; may_cut = a.may_cut; may_ask = a.may_ask };
+      known = record { may_read = a.readiness.may_read; may_write = a.readiness.may_write; may_cut = a.may_cut; may_ask = a.may_ask; hung_up = a.readiness.is_hung_up; was_full = a.was_full; level = a.flow.level; since = a.flow.since };
+      counts = record { pieces = a.pieces; cuts = a.cuts; heard = a.heard.items };
+      room = a.heard.room;
     } };
 }
 
 /// What came of a read.
 #[derive(Clone, Copy)]
 pub(crate) enum Got {
-    /// So many bytes.
+    /// So many bytes, at least one.
     Piece(usize),
-    /// Nothing now.
+    /// Nothing now: the read would wait.
     Nothing,
+    /// Nothing: the read was interrupted, and can be made again at once.
+    Again,
     /// The end.
     End,
     /// The transport failed.
     Failed,
+}
+
+/// Returns what a read is that failed with this kind of error.
+fn got_error(kind: ErrorKind) -> Got
+    ensures { result ≡ got_error kind }
+{
+    match kind {
+        ErrorKind::WouldBlock => Got::Nothing,
+        ErrorKind::Interrupted => Got::Again,
+        _ => Got::Failed,
+    }
+}
+
+/// Returns what a read comes to.
+fn got_of(read: io::Result<usize>) -> Got
+    ensures { result ≡ got_of read }
+{
+    match read {
+        Ok(0) => Got::End,
+        Ok(count) => Got::Piece(count),
+        Err(error) => got_error(error.kind()),
+    }
 }
 
 /// Takes in what a viewer's inputs change in what it holds down.
@@ -135,7 +163,8 @@ impl<T: Transport> Connection<T> {
         ensures waiting { waiting_bytes result.waiting ≡ [] }
         ensures held { result.held ≡ nothing }
         ensures ended { result.ended ≡ None }
-        ensures known { result.known ≡ record { may_read = true; may_write = true; may_cut = true; may_ask = true } }
+        ensures known { result.known ≡ record { may_read = true; may_write = true; may_cut = true; may_ask = true; hung_up = false; was_full = false; level = 0; since = 0 } }
+        ensures counts { result.counts ≡ no_counts (none_yet is_kept) }
     {
         Connection {
             transport: Recording::new(alloc, transport, is_kept),
@@ -232,12 +261,16 @@ impl<T: Transport> Connection<T> {
     }
 
     /// Returns whether its last read filled the buffer, or it said more than 64 KB of late.
-    pub fn is_flooding(&self) -> bool {
+    pub fn is_flooding(&self) -> bool
+        ensures { result ≡ floods self.now.known }
+    {
         self.was_full || self.says_much()
     }
 
     /// Returns whether it said more than 64 KB of late.
-    pub fn says_much(&self) -> bool {
+    pub fn says_much(&self) -> bool
+        ensures { result ≡ says_much self.now.known }
+    {
         self.flow.level > LONG
     }
 
@@ -299,56 +332,54 @@ impl<T: Transport> Connection<T> {
 
     /// Ends it for this reason, unless it ended before.
     pub fn close(&mut self, reason: Ended)
-        ensures { (self.new ≡ self.old) ⊎ ((self.old.ended ≡ None) × (self.new ≡ record self.old { ended = Some reason })) }
+        ensures ended { self.new ≡ ended_by reason self.old }
+        ensures either { (self.new ≡ self.old) ⊎ ((self.old.ended ≡ None) × (self.new ≡ record self.old { ended = Some reason })) }
     {
         if self.ended.is_none() {
             self.ended = Some(reason);
         }
     }
 
-    /// Counts `count` bytes that a read gave at the time `now`, which filled the buffer or didn't.
-    fn count_read(&mut self, count: usize, is_full: bool, now: u64)
-        ensures same { self.new ≡ record self.old { known = record self.old.known { may_read = self.new.known.may_read } } }
-        ensures full { is_full ≡ true → self.new.known.may_read ≡ true }
+    /// Takes in what a read of at most `size` bytes came to at the time `now`: that more may be read, how much was said of late, and that it
+    /// ended. A piece that isn't so long was all that there was, unless the peer hung up: then its bytes are read to their end.
+    fn take_in(&mut self, got: Got, size: usize, now: u64)
+        ensures { self.new ≡ record self.old { ended = ended_by_read got self.old.ended; known = known_by_read got size now self.old.known } }
     {
-        self.flow.add(count, now);
-        self.was_full = is_full;
-        self.readiness.may_read = is_full || self.readiness.is_hung_up;
+        match got {
+            Got::Piece(count) => {
+                self.flow.add(count, now);
+                self.was_full = size <= count;
+                self.readiness.may_read = self.was_full | self.readiness.is_hung_up;
+            }
+            Got::Nothing => {
+                self.was_full = false;
+                self.readiness.may_read = false;
+            }
+            Got::Again => {}
+            Got::End => self.ended = Some(Ended::EndOfInput),
+            Got::Failed => self.ended = Some(Ended::ReadFailed),
+        }
     }
 
-    /// Reads once, at the time `now` in milliseconds. A piece that doesn't fill `buffer` was all that there was, unless the peer hung up:
-    /// then its bytes are read to their end.
+    /// Reads once, at the time `now` in milliseconds. At its end, and where the transport failed, it has ended.
     pub fn receive(&mut self, buffer: &mut [u8], now: u64) -> Got
-        ensures same { self.new ≡ record self.old { carried = self.new.carried; known = record self.old.known { may_read = self.new.known.may_read } } }
+        ensures same { self.new ≡ record self.old { carried = self.new.carried; ended = ended_by_read result self.old.ended; known = known_by_read result (length buffer.new) now self.old.known } }
         ensures moved { Moves self.old.carried self.new.carried (got_bytes result buffer.new) [] }
-        ensures full { result ≡ got.Piece (length buffer.new) → self.new.known.may_read ≡ true }
         ensures within { IsWithin result buffer.new }
         ensures bound { AreReadAtMost (length buffer.new) self.old.carried.unread self.new.carried.unread }
     {
         let size = buffer.len();
-        match self.transport.transport.receive(buffer) {
-            Ok(0) => Got::End,
-            Ok(count) => {
-                self.count_read(count, count >= size, now);
-                Got::Piece(count)
-            }
-            Err(e) => match e.kind() {
-                ErrorKind::WouldBlock => {
-                    self.was_full = false;
-                    self.readiness.may_read = false;
-                    Got::Nothing
-                }
-                ErrorKind::Interrupted => Got::Nothing,
-                _ => Got::Failed,
-            },
-        }
+        let read = self.transport.transport.receive(buffer);
+        let got = got_of(read);
+        self.take_in(got, size, now);
+        got
     }
 
     /// Takes bytes to be written, and ends it where its viewer met a fault, and where memory is refused.
     pub fn give(&mut self, bytes: &[u8], fault: Option<Fault>)
         ensures same { self.new ≡ record self.old { waiting = self.new.waiting; ended = self.new.ended } }
         ensures bytes { breaks_off self.new.ended ≡ false → waiting_bytes self.new.waiting ≡ waiting_bytes self.old.waiting ++ bytes.now }
-        ensures ended { IsNone fault → (self.new.ended ≡ self.old.ended) ⊎ (self.new.ended ≡ Some ended.Memory) }
+        ensures ended { (self.new.ended ≡ ended_by_fault fault self.old.ended) ⊎ (self.new.ended ≡ Some ended.Memory) }
         ensures few { IsFew self.new.waiting }
     {
         if let Some(fault) = fault {
@@ -361,7 +392,8 @@ impl<T: Transport> Connection<T> {
 
     /// Reserves memory to keep a piece that is to be heard, where pieces are kept.
     pub fn make_room(&mut self, piece: &[u8]) -> Result<(), AllocError>
-        ensures { self.new ≡ self.old }
+        ensures same { self.new ≡ record self.old { room = self.new.room } }
+        ensures room { OnOk result (CanKeep (length piece.now) self.new) }
     {
         self.heard.reserve(piece.len())
     }
@@ -369,15 +401,14 @@ impl<T: Transport> Connection<T> {
     /// Counts a piece that was heard, whose inputs were `inputs`: an update may be ready, a request may be open, and the viewer holds down
     /// what the inputs leave. Keeps the piece, in room that was made.
     pub fn count_piece(&mut self, piece: &[u8], inputs: &[Input])
-        ensures same { self.new ≡ record self.old { held = self.new.held; known = record self.old.known { may_cut = true; may_ask = true } } }
+        requires { CanKeep (length piece.now) self.old }
+        ensures same { self.new ≡ record self.old { held = self.new.held; known = record self.old.known { may_cut = true; may_ask = true }; counts = with_piece piece.now self.old.counts; room = self.new.room } }
         ensures held { self.new.held ≡ held_behind self.old.held inputs.now }
     {
         self.pieces = self.pieces.saturating_add(1);
         self.may_cut = true;
         self.may_ask = true;
-        if self.heard.reserve(piece.len()).is_ok() {
-            self.heard.append(piece);
-        }
+        self.heard.append(piece);
         hold(&mut self.held, inputs);
     }
 
@@ -386,7 +417,7 @@ impl<T: Transport> Connection<T> {
     pub fn start(&mut self, update: Update, is_asking: bool)
         requires none { waiting_bytes self.old.waiting ≡ [] }
         requires some { update ≢ [] }
-        ensures same { self.new ≡ record self.old { waiting = self.new.waiting; known = self.new.known } }
+        ensures same { self.new ≡ record self.old { waiting = self.new.waiting; known = self.new.known; counts = with_cut self.old.counts } }
         ensures known { self.new.known ≡ record self.old.known { may_cut = is_asking; may_ask = self.old.known.may_ask && is_asking } }
         ensures bytes { waiting_bytes self.new.waiting ≡ update }
         ensures few { IsFew self.new.waiting }
@@ -409,7 +440,15 @@ impl<T: Transport> Connection<T> {
         ensures bound { AreWrittenAtMost 65536 self.old.carried.written self.new.carried.written }
         ensures few { IsFew self.new.waiting }
     {
-        match self.backlog.write_some(&mut self.transport, buffer) {
+        let written = self.backlog.write_some(&mut self.transport, buffer);
+        self.take_note(written);
+    }
+
+    /// Takes note of what a write came to: that nothing more can be written now, or that it ended.
+    fn take_note(&mut self, written: Written)
+        ensures { self.new ≡ record self.old { ended = ended_by_write written self.old.ended; known = record self.old.known { may_write = may_write_by written self.old.known.may_write } } }
+    {
+        match written {
             Written::Some => {}
             Written::Blocked => self.readiness.may_write = false,
             Written::Failed => self.ended = Some(Ended::WriteFailed),
@@ -424,6 +463,7 @@ impl<T: Transport> Connection<T> {
         ensures viewer { result.receipt.viewer ≡ self.number }
         ensures ended { result.receipt.ended ≡ ended }
         ensures sent { result.receipt.sent ≡ unwrap_or self.carried.sent [] }
+        ensures counts { HasCounts self.counts result.receipt }
     {
         let Connection {
             transport,

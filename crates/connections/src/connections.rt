@@ -1,6 +1,6 @@
 //! All connections of a screen's viewers.
 
-ghost use Rattle.std.specs.Prelude.{◌≡◌, ◌++◌, ◌∷◌, ◌+◌, [], List, ℕ, ◌<◌, None, Some, Err, IfOk, IfSome, IsSome, OnOk, OnErr, length, slice_index_or};
+ghost use Rattle.std.specs.Prelude.{◌≡◌, ◌++◌, ◌∷◌, ◌+◌, ◌^◌, [], List, ℕ, ◌<◌, ◌≤◌, None, Some, Err, IfOk, IfSome, IsSome, OnOk, OnErr, length, slice_index_or};
 ghost use Rattle.std.specs.Prelude.{true, false, not, ◌||◌, ◌==◌, is_some, count_by, IsSomeAnd, MatchOption, IsOkUnless, option_map, ◌≢◌};
 ghost use Rattle.std.specs.Borrow.{sem};
 ghost use Rattle.screen.specs.declared.Config.{Config};
@@ -9,7 +9,8 @@ ghost use Rattle.screen.specs.Alone.{config_refusal};
 ghost use Rattle.connections.specs.Among.{is_among};
 ghost use Rattle.connections.specs.Recorded.{IsFlushed, IsRecordedBy, held_by, is_broken};
 ghost use Rattle.record_writer.specs.Held.{bytes_held};
-ghost use Rattle.connections.specs.Serving.{Began, GoesOn, GoesOnTelling, HasNothingToDo, IsOver, Serves, ViewerConnection, WasServed, at_key, is_kept, is_open_on, may_cut_at, noted_by, number_at};
+ghost use Rattle.receipts.specs.declared.Ended.TheVariants as ended;
+ghost use Rattle.connections.specs.Serving.{Began, ended_by, GoesOn, GoesOnTelling, HasNothingToDo, IsOver, Serves, ViewerConnection, WasServed, at_key, floods_at, is_kept, is_open_on, may_cut_at, noted_by, number_at, works_at};
 ghost use Rattle.connections.specs.Recording.{none_yet};
 ghost use Rattle.connections.specs.Telling.{inputs_after, releases, said_by, IsTold, Stays};
 ghost use Rattle.connections.specs.Lending.{lends_canvas};
@@ -26,7 +27,7 @@ use crate::turn::{PIECE, listen, release, send};
 use held_inputs::HeldInputs;
 use receipts::{Ended, Receipt};
 use record_writer::RecordWriter;
-use screen::{Config, History, Screen, ScreenError, config_refusal};
+use screen::{Config, History, Screen, ScreenError, config_refusal, held_as_alone};
 use slab::Slab;
 use std::alloc::{AllocError, Global};
 use std::marker::Model;
@@ -266,18 +267,22 @@ impl<T: Transport> Connections<T> {
     }
 
     /// Takes in a viewer's transport, whose bytes may be read and written at once, and returns the connection's key. Refused as
-    /// `NumberInUse` after 2^64 - 2 viewers; then, and where memory is refused, nothing has changed.
+    /// `NumberInUse` after 2^64 - 2 viewers, and before that for want of memory alone; then nothing has changed.
     pub fn admit(&mut self, transport: T) -> Result<usize, ScreenError>
         ensures serves { (config : Config) (began : Began) (list : List Event) → Serves config began list self.old →
             began.carried self.old.next ≡ record { unread = T.unread transport; written = T.written transport; sent = none_yet self.old.kept } →
             OnOk result (Serves config began (list ++ Event.Connect self.old.next ∷ []) self.new) }
         ensures key { IfOk result (λ key. key ≡ self.old.vacant) }
         ensures viewer { IfOk result (λ key. number_at self.new.slots key ≡ Some self.old.next) }
+        ensures full { 2 ^ 64 ≤ self.old.next + 1 → result ≡ Err ScreenError.NumberInUse }
+        ensures refused { (config : Config) (began : Began) (list : List Event) → Serves config began list self.old →
+            self.old.next + 1 < 2 ^ 64 → IsOkUnless result ScreenError.OutOfMemory }
         ensures err { OnErr result (self.new ≡ self.old) }
     {
         let Some(next) = self.next.checked_add(1) else {
             return Err(ScreenError::NumberInUse);
         };
+        held_as_alone();
         self.connections.reserve(1)?;
         let most = self.connections.vacant_key();
         self.agenda.make_room(most)?;
@@ -324,6 +329,7 @@ impl<T: Transport> Connections<T> {
         application: &mut A,
     ) -> Result<(), ScreenError>
         ensures served { GoesOn self.old self.new }
+        ensures same { self.new ≡ record self.old { surface = self.new.surface } }
         ensures stands { Stays A.stands application.old application.new }
     {
         application.came(&mut self.canvas, viewer)
@@ -403,6 +409,10 @@ impl<T: Transport> Connections<T> {
     /// Lets a viewer go, as one that was closed (`Ended::Closed`), once what waits for it is written; nobody where none has the key.
     pub fn close(&mut self, key: usize) -> Result<(), AllocError>
         ensures served { GoesOn self.old self.new }
+        ensures same { self.new ≡ record self.old { slots = self.new.slots; agenda = self.new.agenda } }
+        ensures ended { OnOk result (at_key self.new.slots key ≡ option_map (ended_by ended.Closed) (at_key self.old.slots key)) }
+        ensures others { (other : ℕ) → other ≢ key → at_key self.new.slots other ≡ at_key self.old.slots other }
+        ensures err { OnErr result (self.new ≡ self.old) }
     {
         self.agenda.insert(key)?;
         self.end_at(key, Ended::Closed);
@@ -413,6 +423,10 @@ impl<T: Transport> Connections<T> {
     /// has the key.
     pub fn refuse(&mut self, key: usize) -> Result<(), AllocError>
         ensures served { GoesOn self.old self.new }
+        ensures same { self.new ≡ record self.old { slots = self.new.slots; agenda = self.new.agenda } }
+        ensures ended { OnOk result (at_key self.new.slots key ≡ option_map (ended_by ended.Gate) (at_key self.old.slots key)) }
+        ensures others { (other : ℕ) → other ≢ key → at_key self.new.slots other ≡ at_key self.old.slots other }
+        ensures err { OnErr result (self.new ≡ self.old) }
     {
         self.agenda.insert(key)?;
         self.end_at(key, Ended::Gate);
@@ -423,6 +437,9 @@ impl<T: Transport> Connections<T> {
     fn end_at(&mut self, key: usize, ended: Ended)
         requires { is_among key self.old.agenda ≡ true }
         ensures served { GoesOn self.old self.new }
+        ensures same { self.new ≡ record self.old { slots = self.new.slots } }
+        ensures ended { at_key self.new.slots key ≡ option_map (ended_by ended) (at_key self.old.slots key) }
+        ensures others { (other : ℕ) → other ≢ key → at_key self.new.slots other ≡ at_key self.old.slots other }
     {
         let Some(connection) = self.connections.get_mut(key) else {
             return;
@@ -435,12 +452,16 @@ impl<T: Transport> Connections<T> {
     /// in which they wait; and while others have something to do, eight turns after the one before it, or 32 where it said so much.
     /// Then it writes to each what it was given, and cuts updates, in at most four writes of at most 65,536 bytes.
     ///
+    /// Then nothing is noted as drawn, and only those are on the agenda for whom something can be done at once.
+    ///
     /// Whatever list of events the screen stood for, it stands for it with others behind it, and by that list each viewer is served:
     /// what was read of it is what the screen heard of it, and what was written to it is, with what waits for it, what the screen with
     /// this one viewer gives, or the beginning of that where the viewer ended by a failure. Whatever inputs the application stood for, it
     /// stands for these with those of the events behind them, or the first of these where an error ended the turn.
     pub fn turn<A: Application>(&mut self, application: &mut A) -> Result<(), ScreenError>
         ensures served { GoesOnTelling A.stands self.old self.new application.old application.new result }
+        ensures settled { OnOk result (self.new.surface.drawn ≡ false) }
+        ensures left { OnOk result ((key : ℕ) → is_among key self.new.agenda ≡ true → works_at self.new.slots key ≡ true) }
     {
         let flooding = self.listen_in_turn(application)?;
         self.list_watching()?;
@@ -477,7 +498,9 @@ impl<T: Transport> Connections<T> {
     }
 
     /// Returns whether a connection may say more, and its last read filled the buffer, or it said much of late.
-    fn is_flooding(&self, key: usize) -> bool {
+    fn is_flooding(&self, key: usize) -> bool
+        ensures { result ≡ floods_at self.now.slots key }
+    {
         match self.connections.get(key) {
             Some(connection) => connection.is_flooding() && connection.may_read(),
             None => false,
@@ -521,11 +544,15 @@ impl<T: Transport> Connections<T> {
     }
 
     /// Returns whether all on the agenda flood.
-    fn all_flood(&self) -> bool {
+    fn all_flood(&self) -> bool
+        ensures all { result ≡ true → (key : ℕ) → is_among key self.now.agenda ≡ true → floods_at self.now.slots key ≡ true }
+        ensures some { result ≡ false → (key : ℕ) × (is_among key self.now.agenda ≡ true) × (floods_at self.now.slots key ≡ false) }
+    {
         for index in 0..self.agenda.len() {
-            if let Some(key) = self.listed(index)
-                && !self.is_flooding(key)
-            {
+            let Some(key) = self.listed(index) else {
+                return true;
+            };
+            if !self.is_flooding(key) {
                 return false;
             }
         }
@@ -539,6 +566,16 @@ impl<T: Transport> Connections<T> {
             _ => TURNS,
         };
         self.since_flood >= turns - 1
+    }
+
+    /// Returns whether a connection of the agenda is to be heard now, in a turn in which one that floods was heard or none was: one that
+    /// doesn't flood always is, and one that does where none was heard, and its turn has come or all flood.
+    fn is_to_be_heard(&self, key: usize, all_flood: bool, heard_flood: bool) -> bool
+        ensures calm { floods_at self.now.slots key ≡ false → result ≡ true }
+        ensures one { floods_at self.now.slots key ≡ true → heard_flood ≡ true → result ≡ false }
+        ensures alone { heard_flood ≡ false → all_flood ≡ true → result ≡ true }
+    {
+        !self.is_flooding(key) || (!heard_flood && (all_flood || self.has_turn(key)))
     }
 
     /// Counts a turn in which a viewer that floods was heard, or none was.
@@ -566,10 +603,10 @@ impl<T: Transport> Connections<T> {
             let Some(key) = self.listed(index) else {
                 return Ok(flooding);
             };
+            if !self.is_to_be_heard(key, all_flood, flooding.is_some()) {
+                continue;
+            }
             if self.is_flooding(key) {
-                if flooding.is_some() || !(all_flood || self.has_turn(key)) {
-                    continue;
-                }
                 flooding = Some(key);
             }
             self.listen_at(key, application)?;
@@ -619,6 +656,7 @@ impl<T: Transport> Connections<T> {
     /// Writes to each on the agenda.
     fn send_all(&mut self)
         ensures served { GoesOn self.old self.new }
+        ensures drawn { self.new.surface.drawn ≡ self.old.surface.drawn }
     {
         for index in 0..self.agenda.len() {
             let Some(key) = self.listed(index) else {
@@ -633,6 +671,7 @@ impl<T: Transport> Connections<T> {
         requires { is_among key self.old.agenda ≡ true }
         ensures served { GoesOn self.old self.new }
         ensures agenda { self.new.agenda ≡ self.old.agenda }
+        ensures drawn { self.new.surface.drawn ≡ self.old.surface.drawn }
     {
         let Some(connection) = self.connections.get_mut(key) else {
             return;
@@ -643,6 +682,7 @@ impl<T: Transport> Connections<T> {
     /// Puts the connections that drawing may have given an update on the agenda.
     fn list_watching(&mut self) -> Result<(), AllocError>
         ensures served { GoesOn self.old self.new }
+        ensures settled { OnOk result (self.new.surface.drawn ≡ false) }
     {
         if !self.canvas.has_drawn() {
             return Ok(());
@@ -721,10 +761,11 @@ impl<T: Transport> Connections<T> {
         connection.look(true);
     }
 
-    /// Keeps on the agenda, in order, the connections with work left; `last` goes to the end.
+    /// Keeps on the agenda, in order, the connections with work left, and none else; `last` goes to the end.
     fn list_busy(&mut self, last: Option<usize>) -> Result<(), AllocError>
         ensures same { self.new ≡ record self.old { agenda = self.new.agenda } }
         ensures served { GoesOn self.old self.new }
+        ensures left { OnOk result ((key : ℕ) → is_among key self.new.agenda ≡ true → works_at self.new.slots key ≡ true) }
     {
         keep_busy(&self.connections, &self.agenda, last, &mut self.later)?;
         mem::swap(&mut self.agenda, &mut self.later);

@@ -80,14 +80,15 @@ pub(crate) fn keep_asking<T: Transport>(
     Ok(())
 }
 
-/// Lists in `kept`, in order, those of the agenda with work left; `last` comes at the end.
+/// Lists in `kept`, in order, those of the agenda with work left, and none else; `last` comes at the end.
 pub(crate) fn keep_busy<T: Transport>(
     connections: &Slab<Connection<T>>,
     agenda: &KeySet,
     last: Option<usize>,
     kept: &mut KeySet,
 ) -> Result<(), AllocError>
-    ensures { OnOk result ((key : ℕ) → works_at connections.now.slots key ≡ true → is_among key agenda.now.list ≡ true → is_among key kept.new.list ≡ true) }
+    ensures all { OnOk result ((key : ℕ) → works_at connections.now.slots key ≡ true → is_among key agenda.now.list ≡ true → is_among key kept.new.list ≡ true) }
+    ensures work { (key : ℕ) → is_among key kept.new.list ≡ true → works_at connections.now.slots key ≡ true }
 {
     kept.clear();
     for key in agenda.as_slice() {
@@ -108,6 +109,7 @@ fn keep_unless_last<T: Transport>(
 ) -> Result<(), AllocError>
     ensures kept { OnOk result (works_at connections.now.slots key ≡ true → (last ≡ Some key) ⊎ (is_among key kept.new.list ≡ true)) }
     ensures more { (k : ℕ) → is_among k kept.old.list ≡ true → is_among k kept.new.list ≡ true }
+    ensures work { (k : ℕ) → is_among k kept.new.list ≡ true → (is_among k kept.old.list ≡ true) ⊎ (works_at connections.now.slots k ≡ true) }
 {
     match last {
         Some(other) if other == key => Ok(()),
@@ -123,9 +125,10 @@ fn keep_if_busy<T: Transport>(
 ) -> Result<(), AllocError>
     ensures kept { OnOk result (works_at connections.now.slots key ≡ true → is_among key kept.new.list ≡ true) }
     ensures more { (k : ℕ) → is_among k kept.old.list ≡ true → is_among k kept.new.list ≡ true }
+    ensures work { (k : ℕ) → is_among k kept.new.list ≡ true → (is_among k kept.old.list ≡ true) ⊎ (works_at connections.now.slots k ≡ true) }
 {
-    if has_work(connections, key) {
-        kept.insert(key)?;
+    if !has_work(connections, key) {
+        return Ok(());
     }
-    Ok(())
+    kept.insert(key)
 }

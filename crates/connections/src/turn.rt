@@ -1,7 +1,12 @@
 //! What is done for one connection in a turn: a piece is read and heard, and what waits is written, with updates that are cut as
 //! there is room for them.
 
-ghost use Rattle.std.specs.Prelude.{◌≡◌, ◌*◌, [], true, false, IsTrue};
+ghost use Rattle.std.specs.Prelude.{◌≡◌, ◌⊎◌, ◌*◌, [], List, Some, true, false, IfSome, IsTrue};
+ghost use Rattle.receipts.specs.declared.Ended.TheVariants as ended;
+ghost use Rattle.screen.specs.declared.Config.{Config};
+ghost use Rattle.screen.specs.declared.Event.{Event};
+ghost use Rattle.screen.specs.Answers.{answer_to};
+ghost use Rattle.screen.specs.State.{state};
 ghost use Rattle.connections.specs.Waiting.{waiting_bytes};
 ghost use Rattle.connections.specs.Bounds.{AreWrittenAtMost, AreReadAtMost};
 ghost use Rattle.connections.specs.Drawing.{Draws};
@@ -40,12 +45,9 @@ pub(crate) fn listen<T: Transport, A: Application>(
         return Ok(());
     }
     match connection.receive(buffer, now) {
-        Got::Nothing => {}
-        Got::End => connection.end(Ended::EndOfInput),
-        Got::Failed => connection.end(Ended::ReadFailed),
-        Got::Piece(count) => return hear(canvas, connection, &buffer[..count], application),
+        Got::Piece(count) => hear(canvas, connection, &buffer[..count], application),
+        _ => Ok(()),
     }
-    Ok(())
 }
 
 /// Hears a piece that was read, and tells the application its inputs.
@@ -57,13 +59,15 @@ fn hear<T: Transport, A: Application>(
 ) -> Result<(), ScreenError>
     ensures heard { HearsPiece A.stands piece.now canvas.old connection.old canvas.new connection.new application.old application.new result }
     ensures carried { connection.new.carried ≡ connection.old.carried }
+    ensures fault { (config : Config) (list : List Event) → canvas.old.screen ≡ state config list →
+        IfSome (answer_to config list (Event.Hear connection.old.number piece.now)).closed (λ fault. (connection.new.ended ≡ Some (ended.Fault fault)) ⊎ (connection.new.ended ≡ Some ended.Memory)) }
 {
     let viewer = connection.number();
     let full_requests = canvas.full_requests(viewer);
-    if connection.make_room(piece).is_err() {
+    let Ok(()) = connection.make_room(piece) else {
         connection.end(Ended::Memory);
         return Ok(());
-    }
+    };
     let Ok(answer) = canvas.hear(viewer, piece) else {
         connection.end(Ended::Memory);
         return Ok(());
@@ -89,7 +93,7 @@ fn tell<A: Application>(
     for input in inputs {
         application.on_input(canvas, viewer, input)?;
     }
-    if canvas.full_requests(viewer) > full_requests {
+    if canvas.has_asked_since(viewer, full_requests) {
         application.asked(canvas, viewer)?;
     }
     Ok(())
@@ -121,6 +125,7 @@ pub(crate) fn send<T: Transport>(
 )
     ensures turn { TakesTurn canvas.old connection.old canvas.new connection.new }
     ensures asks { connection.new.known.may_ask ≡ true → connection.old.known.may_ask ≡ true }
+    ensures drawn { canvas.new.drawn ≡ canvas.old.drawn }
     ensures bound { AreWrittenAtMost (4 * 65536) connection.old.carried.written connection.new.carried.written }
 {
     for _writes in 0..WRITES {
@@ -136,6 +141,7 @@ pub(crate) fn send<T: Transport>(
 fn prepare<T: Transport>(canvas: &mut Canvas, connection: &mut Connection<T>) -> bool
     ensures turn { TakesTurn canvas.old connection.old canvas.new connection.new }
     ensures asks { connection.new.known.may_ask ≡ true → connection.old.known.may_ask ≡ true }
+    ensures drawn { canvas.new.drawn ≡ canvas.old.drawn }
     ensures whole { IsTrue result → breaks_off connection.new.ended ≡ false }
     ensures carried { connection.new.carried ≡ connection.old.carried }
 {
@@ -170,6 +176,7 @@ fn cut<T: Transport>(canvas: &mut Canvas, connection: &mut Connection<T>) -> boo
     requires { waiting_bytes connection.old.waiting ≡ [] }
     ensures turn { TakesTurn canvas.old connection.old canvas.new connection.new }
     ensures asks { connection.new.known.may_ask ≡ true → connection.old.known.may_ask ≡ true }
+    ensures drawn { canvas.new.drawn ≡ canvas.old.drawn }
     ensures whole { IsTrue result → breaks_off connection.new.ended ≡ false }
     ensures carried { connection.new.carried ≡ connection.old.carried }
 {

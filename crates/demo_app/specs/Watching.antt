@@ -1,8 +1,8 @@
 -- What a viewer waits for, and what it shows.
 use Rattle.std.specs.Prelude.{◌≡◌, ℕ, Bool, Some, nat_lt}
 use Rattle.pixel_translate.specs.Pixel.{server_format}
-use Rattle.test_viewer.specs.Counts.{is_open_at}
-use Rattle.test_viewer.specs.Shown.{View, shown_at}
+use Rattle.rfb_viewer.specs.Counts.{is_open_at}
+use Rattle.rfb_viewer.specs.Shown.{View, shown_at}
 use Rattle.demo_app.specs.declared.watching.Awaited.{Awaited}
 use Rattle.demo_app.specs.declared.watching.Awaited.TheVariants as awaited
 

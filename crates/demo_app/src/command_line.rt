@@ -15,16 +15,18 @@ use replay::{Asked, Question};
 use std::alloc::{AllocError, Global};
 
 /// What the program is asked to do.
-#[derive(Debug, Drop)]
+#[derive(Drop)]
 pub enum Chosen {
     /// A script is read from standard input and answered on standard output.
     Play,
-    /// Viewers are served on a port of 127.0.0.1, by two threads each.
+    /// Viewers are served on a port of 127.0.0.1, by two threads each; the server may take viewers without end, and end with standard input.
     Serve {
         port: u16,
         options: ServeOptions,
+        forever: bool,
+        ends_with_input: bool,
     },
-    /// The same, by one thread for all, which may record the session in a new file, take viewers without end, and end with standard input.
+    /// The same, by one thread for all, which may record the session in a new file.
     ServeInOneThread {
         port: u16,
         options: ServeOptions,
@@ -126,12 +128,6 @@ const TOO_MANY: &str = "more than 64 viewers are served by '--one-thread' alone"
 /// What is said where threads are to record.
 const NO_THREADS: &str = "a session is recorded with '--one-thread' alone";
 
-/// What is said where threads are to serve without end.
-const NOT_FOREVER: &str = "viewers are taken without end with '--one-thread' alone";
-
-/// What is said where threads are to end with standard input.
-const NOT_BY_INPUT: &str = "a server ends with its input with '--one-thread' alone";
-
 /// What is said where a run without end is to be judged at its end.
 const NO_END: &str = "what '--check' judges at the end, '--forever' doesn't come to";
 
@@ -152,21 +148,27 @@ standard error; 2 after a refused command line, and after this text; 3 after wan
 memory; 5 where FILE can't be read, after a write that failed, and after a line of more
 than 2^27 bytes.";
 
-/// An option of `serve`.
+/// Returns an option that takes a value.
 fn option<'a>(alloc: Global, name: &'a str, help: &'a str) -> Arg<'a> {
     Arg::new(alloc, name).long(name).help(help)
 }
 
-/// The option that is for `serve` and for `self`.
-fn one_thread_option<'a>(alloc: Global) -> Arg<'a> {
-    Arg::new(alloc, "one-thread")
-        .long("one-thread")
-        .help("serves all viewers in one thread, by an event loop")
-        .action(ArgAction::SetTrue)
+/// Returns an option that takes none.
+fn flag<'a>(alloc: Global, name: &'a str, help: &'a str) -> Arg<'a> {
+    option(alloc, name, help).action(ArgAction::SetTrue)
 }
 
-/// The command `serve`.
-fn serve_command<'a>(alloc: Global) -> Result<Command<'a>, AllocError> {
+/// Returns the option that is for `serve` and for `self`.
+fn one_thread_option<'a>(alloc: Global) -> Arg<'a> {
+    flag(
+        alloc,
+        "one-thread",
+        "serves all viewers in one thread, by an event loop",
+    )
+}
+
+/// Adds the options of `serve` that say which screen is shown, and on which port.
+fn with_screen<'a>(alloc: Global, command: Command<'a>) -> Result<Command<'a>, AllocError> {
     let port = option(alloc, "port", "the port")
         .value_parser(value_parser!(u16))
         .default_value("5900");
@@ -184,6 +186,16 @@ fn serve_command<'a>(alloc: Global) -> Result<Command<'a>, AllocError> {
     let limit = option(alloc, "limit", "rectangles in an update, 1 to 1000")
         .value_parser(value_parser!(u32))
         .default_value("50");
+    command
+        .arg(port)?
+        .arg(width)?
+        .arg(height)?
+        .arg(name)?
+        .arg(limit)
+}
+
+/// Adds those that say to whom it is shown and until when, and what is kept of that.
+fn with_viewers<'a>(alloc: Global, command: Command<'a>) -> Result<Command<'a>, AllocError> {
     let viewers = option(
         alloc,
         "viewers",
@@ -191,37 +203,37 @@ fn serve_command<'a>(alloc: Global) -> Result<Command<'a>, AllocError> {
     )
     .value_parser(value_parser!(u32).range(1..=1024))
     .default_value("1");
-    let check = Arg::new(alloc, "check")
-        .long("check")
-        .help("keeps what was drawn, heard and sent, and judges it at the end")
-        .action(ArgAction::SetTrue);
-    let forever = Arg::new(alloc, "forever")
-        .long("forever")
-        .help("takes viewers without end, at most --viewers at once; with --one-thread")
-        .action(ArgAction::SetTrue);
-    let ends_with_input = Arg::new(alloc, "end-with-input")
-        .long("end-with-input")
-        .help("ends once standard input does; with --one-thread")
-        .action(ArgAction::SetTrue);
+    let check = flag(
+        alloc,
+        "check",
+        "keeps what was drawn, heard and sent, and judges it at the end",
+    );
+    let forever = flag(
+        alloc,
+        "forever",
+        "takes viewers without end, at most --viewers at once",
+    );
+    let ends_with_input = flag(alloc, "end-with-input", "ends once standard input does");
     let record = option(
         alloc,
         "record",
-        "a new file that the session is recorded in: pictures, and what is typed",
+        "a new file that the session is recorded in, with --one-thread: pictures, and what is typed",
     );
-    Command::new(alloc, "serve")
-        .about("shows a screen to viewers over TCP")
-        .after_help(SERVE_HELP)
-        .arg(port)?
-        .arg(width)?
-        .arg(height)?
-        .arg(name)?
-        .arg(limit)?
+    command
         .arg(viewers)?
         .arg(check)?
         .arg(forever)?
         .arg(ends_with_input)?
         .arg(record)?
         .arg(one_thread_option(alloc))
+}
+
+/// Returns the command `serve`.
+fn serve_command<'a>(alloc: Global) -> Result<Command<'a>, AllocError> {
+    let command = Command::new(alloc, "serve")
+        .about("shows a screen to viewers over TCP")
+        .after_help(SERVE_HELP);
+    with_viewers(alloc, with_screen(alloc, command)?)
 }
 
 /// How many viewers threads serve, and one thread, at most.
@@ -267,6 +279,8 @@ fn serve_of(alloc: Global, matches: &ArgMatches<'_>) -> Result<Chosen, AllocErro
 {
     let port = matches.get_one("port").unwrap_or(5900);
     let viewers = viewers_of(matches);
+    let forever = matches.get_flag("forever");
+    let ends_with_input = matches.get_flag("end-with-input");
     if matches.get_flag("one-thread") {
         let options = options_of(alloc, matches, viewers.clamp(1, MOST_BY_ONE))?;
         let record = record_of(alloc, matches)?;
@@ -274,31 +288,29 @@ fn serve_of(alloc: Global, matches: &ArgMatches<'_>) -> Result<Chosen, AllocErro
             port,
             options,
             record,
-            forever: matches.get_flag("forever"),
-            ends_with_input: matches.get_flag("end-with-input"),
+            forever,
+            ends_with_input,
         });
     }
     let options = options_of(alloc, matches, viewers.clamp(1, MOST_BY_THREADS))?;
-    Ok(Chosen::Serve { port, options })
+    Ok(Chosen::Serve {
+        port,
+        options,
+        forever,
+        ends_with_input,
+    })
 }
 
 /// What is said to options of `serve` of which each is fine, but not all of them.
 fn objection(matches: &ArgMatches<'_>) -> Option<&'static str> {
     let by_threads = !matches.get_flag("one-thread");
-    let forever = matches.get_flag("forever");
     if by_threads && viewers_of(matches) > MOST_BY_THREADS {
         return Some(TOO_MANY);
     }
     if by_threads && matches.get_str("record").is_some() {
         return Some(NO_THREADS);
     }
-    if by_threads && forever {
-        return Some(NOT_FOREVER);
-    }
-    if by_threads && matches.get_flag("end-with-input") {
-        return Some(NOT_BY_INPUT);
-    }
-    (forever && matches.get_flag("check")).then_some(NO_END)
+    (matches.get_flag("forever") && matches.get_flag("check")).then_some(NO_END)
 }
 
 /// What a line that begins with `serve` chooses.
@@ -368,16 +380,14 @@ fn replay_command<'a>(alloc: Global) -> Result<Command<'a>, AllocError> {
     let lines = option(alloc, "line", "the last line that is read").value_parser(value_parser!(
         u64
     ));
-    let picture = Arg::new(alloc, "picture")
-        .long("picture")
-        .help("writes a picture")
-        .action(ArgAction::SetTrue);
-    let redacted = Arg::new(alloc, "redacted")
-        .long("redacted")
-        .help("writes the session without what was typed, pointed at and copied")
-        .action(ArgAction::SetTrue)
-        .conflicts_with("viewer")?
-        .conflicts_with("picture")?;
+    let picture = flag(alloc, "picture", "writes a picture");
+    let redacted = flag(
+        alloc,
+        "redacted",
+        "writes the session without what was typed, pointed at and copied",
+    )
+    .conflicts_with("viewer")?
+    .conflicts_with("picture")?;
     Command::new(alloc, "replay")
         .about("replays a session that was recorded")
         .after_help(REPLAY_HELP)

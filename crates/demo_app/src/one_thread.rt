@@ -18,11 +18,11 @@ use mio::net::TcpListener;
 use play_script::trouble::{Trouble, report};
 use receipts::{FinishError, Receipt, Report, check};
 use screen::{Config, Event, Listed, ScreenError};
+use serving::Stop;
 use std::alloc::{AllocError, Global};
 use std::io::Write;
 use std::net::Net;
 use std::sync::Arc;
-use std::sync::atomic::{AtomicBool, Ordering};
 use std::time::{Clock, Duration};
 
 /// How long a viewer may take for its opening, in seconds.
@@ -35,8 +35,8 @@ pub struct OneThread {
     pub record: Option<RecordWriter>,
     /// Whether viewers are taken without end, as many at once as the options say, and a further one is turned away.
     pub forever: bool,
-    /// What another thread makes true to have the server end: it is looked at five times a second.
-    pub stop: Option<Arc<AtomicBool, Global>>,
+    /// What another thread ends the server by: it is looked at five times a second.
+    pub stop: Option<Arc<Stop, Global>>,
 }
 
 /// The application, what it drew, where that is kept, and the receipts of the viewers that left, where these come to an end.
@@ -48,7 +48,7 @@ struct Showing {
     receipts: Vec<Receipt>,
     // how many viewers come in all
     viewers: Option<usize>,
-    stop: Option<Arc<AtomicBool, Global>>,
+    stop: Option<Arc<Stop, Global>>,
 }
 
 /// After how many milliseconds it is looked again whether the server is to end.
@@ -90,7 +90,7 @@ impl Showing {
     /// Whether the server is to end.
     fn is_stopped(&self) -> bool {
         match &self.stop {
-            Some(stop) => stop.load(Ordering::SeqCst),
+            Some(stop) => stop.is_stopped(),
             None => false,
         }
     }
@@ -316,7 +316,7 @@ fn serve<W: Write, R: Net + Clock>(
 /// `serve_on`, with one thread for all viewers. A viewer that has not had its ServerInit after ten seconds is let go, as `Closed`, and a
 /// connection too many is told so and closed at once. With `record` the session is written there; where that ended before the run, the last
 /// line is `record broken` and the status 5. With `forever` no number of viewers ends
-/// the server, and no viewer's line is printed. Once `stop` is true, viewers that are there are let go within a second, as `Gate`.
+/// the server, and no viewer's line is printed. Once `stop` is called, viewers that are there are let go within a second, as `Gate`.
 pub fn serve_in_one_thread<W: Write, R: Net + Clock>(
     rt: &R,
     alloc: Global,

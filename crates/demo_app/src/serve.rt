@@ -1,6 +1,6 @@
 //! `serve`: a screen over TCP, on which viewers paint places, ring bells and copy texts.
 
-ghost use Rattle.std.specs.Prelude.{◌≡◌, ◌<◌, ◌⊎◌, true, take, IfOk, OnOk, MatchOption, option_map};
+ghost use Rattle.std.specs.Prelude.{◌≡◌, ◌<◌, ◌⊎◌, [], true, take, IfOk, OnOk, MatchOption, option_map};
 ghost use Rattle.update_sender.specs.Ends.{drew};
 ghost use Rattle.demo_app.specs.Application.{event_for, painted, stroke_event};
 ghost use Rattle.demo_app.specs.Screens.{config_by};
@@ -13,7 +13,10 @@ use play_script::refusal_text;
 use play_script::trouble::{Trouble, print, report};
 use receipts::Receipt;
 use screen::{Config, History, LONGEST_TEXT, Listed, Rect, ScreenError, config_refusal};
-use serving::{Application, ServeError, Told, serve_viewers_with_queue};
+use serving::{
+    Application, ServeError, Stop, Told, serve_forever, serve_viewers_until,
+    serve_viewers_with_queue,
+};
 use std::alloc::{AllocError, Global};
 use std::io::Write;
 use std::marker::Brand;
@@ -25,7 +28,7 @@ use std::time::Clock;
 use update_sender::{Brush, Shared, finish};
 
 /// What `serve` is told.
-#[derive(Debug, Drop)]
+#[derive(Drop)]
 pub struct ServeOptions {
     /// Columns of the screen.
     pub width: u32,
@@ -35,10 +38,19 @@ pub struct ServeOptions {
     pub name: Listed<u8>,
     /// How many copies, and how many pixel rectangles, one update has at most.
     pub limit: u32,
-    /// How many connections are served.
+    /// How many connections are served, or may be there at once where viewers are taken without end.
     pub viewers: u32,
     /// Whether the history is kept, and the run is judged at its end.
     pub check: bool,
+}
+
+/// What a server with threads does besides.
+#[derive(Clone, Copy)]
+pub struct ByThreads<'a> {
+    /// Whether viewers are taken without end, as many at once as the options say, and a further one is turned away.
+    pub forever: bool,
+    /// What another thread ends the server by.
+    pub stop: Option<&'a Stop>,
 }
 
 /// The application: a pointer with its first button down paints its place white, a key that goes down rings the bell, and a text
@@ -131,6 +143,17 @@ impl<L: Ledger> Application<L> for Easel {
     }
 }
 
+/// Returns the application for the screen that the options say.
+fn easel_of(options: &ServeOptions) -> Easel
+    ensures width { result.width ≡ options.now.width }
+    ensures height { result.height ≡ options.now.height }
+{
+    Easel {
+        width: options.width,
+        height: options.height,
+    }
+}
+
 /// Why serving ended early, as it is printed.
 pub(crate) fn trouble_of(error: ServeError) -> Trouble {
     match error {
@@ -194,13 +217,75 @@ pub(crate) fn print_refusal<W: Write>(
     Ok(1)
 }
 
-/// Serves the viewers on a shared screen, and says how they ended. The status.
+/// Serves viewers until `stop` ends the server. Returns no receipt.
+fn serve_without_end<L: Ledger + Send + Sync, R: Threads + Wait + Clock + Net + Sync>(
+    rt: &R,
+    alloc: Global,
+    listener: &TcpListener,
+    shared: &Shared<L>,
+    brush: &mut Brush<L>,
+    options: &ServeOptions,
+    stop: &Stop,
+) -> Result<Vec<Receipt>, ServeError>
+    ensures { IfOk result (λ receipts. receipts.items ≡ []) }
+{
+    let viewers = options.viewers as usize;
+    let mut easel = easel_of(options);
+    serve_forever(
+        rt, alloc, listener, shared, brush, viewers, INPUTS, stop, &mut easel,
+    )?;
+    Ok(Vec::new(alloc))
+}
+
+/// Serves as many viewers as the options say, or fewer where `stop` ends the server, if there is one. Returns their receipts.
+fn serve_all<L: Ledger + Send + Sync, R: Threads + Wait + Clock + Net + Sync>(
+    rt: &R,
+    alloc: Global,
+    listener: &TcpListener,
+    shared: &Shared<L>,
+    brush: &mut Brush<L>,
+    options: &ServeOptions,
+    stop: Option<&Stop>,
+) -> Result<Vec<Receipt>, ServeError> {
+    let viewers = u64::from(options.viewers);
+    let mut easel = easel_of(options);
+    match stop {
+        Some(stop) => serve_viewers_until(
+            rt, alloc, listener, shared, brush, viewers, INPUTS, stop, &mut easel,
+        ),
+        None => serve_viewers_with_queue(
+            rt, alloc, listener, shared, brush, viewers, INPUTS, &mut easel,
+        ),
+    }
+}
+
+/// Serves viewers, a number of them or without end. Returns the receipts that there are at the end.
+fn receipts_of<L: Ledger + Send + Sync, R: Threads + Wait + Clock + Net + Sync>(
+    rt: &R,
+    alloc: Global,
+    listener: &TcpListener,
+    shared: &Shared<L>,
+    brush: &mut Brush<L>,
+    options: &ServeOptions,
+    besides: &ByThreads<'_>,
+) -> Result<Vec<Receipt>, ServeError> {
+    if !besides.forever {
+        return serve_all(rt, alloc, listener, shared, brush, options, besides.stop);
+    }
+    match besides.stop {
+        Some(stop) => serve_without_end(rt, alloc, listener, shared, brush, options, stop),
+        None => serve_without_end(rt, alloc, listener, shared, brush, options, &Stop::new()?),
+    }
+}
+
+/// Serves the viewers on a shared screen, and says how they ended. Returns the status.
 fn serve<L: Ledger + Send + Sync, W: Write, R: Threads + Wait + Clock + Net + Sync>(
     rt: &R,
     alloc: Global,
     blank: Blank,
     listener: &TcpListener,
     options: &ServeOptions,
+    besides: &ByThreads<'_>,
     writer: &mut W,
 ) -> Result<u8, Trouble>
     requires name { blank.name ≡ L.name }
@@ -215,15 +300,9 @@ fn serve<L: Ledger + Send + Sync, W: Write, R: Threads + Wait + Clock + Net + Sy
         Ok(made) => made,
         Err(refusal) => return print_refusal(alloc, writer, refusal),
     };
-    let mut easel = Easel {
-        width: options.width,
-        height: options.height,
-    };
-    let viewers = u64::from(options.viewers);
-    let receipts = serve_viewers_with_queue(
-        rt, alloc, listener, &shared, &mut brush, viewers, INPUTS, &mut easel,
-    )
-    .map_err(trouble_of)?;
+    let receipts = receipts_of(rt, alloc, listener, &shared, &mut brush, options, besides).map_err(
+        trouble_of,
+    )?;
     print_ends(alloc, writer, &receipts)?;
     if options.check {
         print_verdict(alloc, writer, shared, brush, receipts)
@@ -232,13 +311,14 @@ fn serve<L: Ledger + Send + Sync, W: Write, R: Threads + Wait + Clock + Net + Sy
     }
 }
 
-/// The same, and what it printed is written out.
+/// Does the same, and writes out what it printed.
 fn serve_and_flush<L: Ledger + Send + Sync, W: Write, R: Threads + Wait + Clock + Net + Sync>(
     rt: &R,
     alloc: Global,
     blank: Blank,
     listener: &TcpListener,
     options: &ServeOptions,
+    besides: &ByThreads<'_>,
     writer: &mut W,
 ) -> u8
     requires name { blank.name ≡ L.name }
@@ -248,7 +328,7 @@ fn serve_and_flush<L: Ledger + Send + Sync, W: Write, R: Threads + Wait + Clock 
     ensures judged { options.now.check ≡ true → ((result ≡ 0) ⊎ (result ≡ 4)) →
         Judged (W.contents writer.old) (W.contents writer.new) result }
 {
-    match serve::<L, W, R>(rt, alloc, blank, listener, options, writer) {
+    match serve::<L, W, R>(rt, alloc, blank, listener, options, besides, writer) {
         Ok(status) => written_out(writer, status),
         Err(trouble) => report(writer, trouble),
     }
@@ -271,5 +351,26 @@ pub fn serve_on<W: Write, R: Threads + Wait + Clock + Net + Sync>(
     ensures judged { options.now.check ≡ true → ((result ≡ 0) ⊎ (result ≡ 4)) →
         Judged (W.contents writer.old) (W.contents writer.new) result }
 {
-    serve_and_flush::<Brand, W, R>(rt, alloc, Blank::new(1), listener, options, writer)
+    let besides = ByThreads {
+        forever: false,
+        stop: None,
+    };
+    serve_by_threads(rt, alloc, listener, options, &besides, writer)
+}
+
+/// Does what `serve_on` does, and more besides. With `forever` no number of viewers ends the server, and no viewer's line is printed. Once
+/// `stop` is called, viewers that are there are let go, and what there is to print of them is printed, within a second.
+pub fn serve_by_threads<W: Write, R: Threads + Wait + Clock + Net + Sync>(
+    rt: &R,
+    alloc: Global,
+    listener: &TcpListener,
+    options: &ServeOptions,
+    besides: &ByThreads<'_>,
+    writer: &mut W,
+) -> u8
+    ensures status { (result ≡ 0) ⊎ (result ≡ 1) ⊎ (result ≡ 3) ⊎ (result ≡ 4) ⊎ (result ≡ 5) }
+    ensures judged { options.now.check ≡ true → ((result ≡ 0) ⊎ (result ≡ 4)) →
+        Judged (W.contents writer.old) (W.contents writer.new) result }
+{
+    serve_and_flush::<Brand, W, R>(rt, alloc, Blank::new(1), listener, options, besides, writer)
 }

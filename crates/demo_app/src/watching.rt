@@ -3,11 +3,11 @@
 ghost use Rattle.std.specs.Prelude.{◌≡◌, ℕ, ◌<◌, true, false, OnOk, slice_index};
 ghost use Rattle.demo_app.specs.Watching.{has_come, ShowsAt};
 
+use rfb_viewer::{Area, Fault, PixelFormat, Shown, Version};
 use std::alloc::Global;
 use std::io;
 use std::io::{Read, Write};
 use std::net::{Shutdown, TcpStream};
-use test_viewer::{Area, Fault, PixelFormat, Shown, Version};
 
 /// How many columns the screen has. It has one row.
 pub(crate) const COLUMNS: usize = 4;

@@ -13,7 +13,8 @@ use Rattle.screen.specs.declared.Input.{Input}
 use Rattle.connections.specs.Telling.{inputs_after, Stays, IsTold}
 use Rattle.connections.specs.TellingLemmas.{inputs-append, told-nothing, told-all, told-then, told-ended}
 use Rattle.connections.specs.Recording.{none_yet}
-use Rattle.connections.specs.Serving.{Began, Serving, Serves, GoesOn, GoesOnTelling}
+use Rattle.connections.specs.Serving.{Began, Carried, Serving, Serves, GoesOn, GoesOnTelling}
+use Rattle.event_loop.specs.Admitting.{GoesOnFrom}
 use Rattle.event_loop.specs.Sockets.{sockets_and, GoesOnServing, GoesOnServingTelling}
 
 pub on-then : (a b d : Serving) → GoesOnServing a b → GoesOnServing b d → GoesOnServing a d
@@ -32,16 +33,43 @@ on-same a b is held c list s = ([], subst (λ (l : List Event). Serves c (socket
 pub on-from : (a before b : Serving) → before ≡ a → GoesOn before b → GoesOnServing a b
 on-from a before b is g held c list s = g c (sockets_and held c) list (subst (λ (x : Serving). Serves c (sockets_and held c) list x) (sym is) s)
 
-pub on-by : (a before b : Serving) → before ≡ a → GoesOnServing before b → GoesOnServing a b
-on-by a before b is g held c list s = g held c list (subst (λ (x : Serving). Serves c (sockets_and held c) list x) (sym is) s)
-
--- a socket is admitted
-pub on-admitted : (a before b : Serving) → before ≡ a
-    → ((c : Config) (began : Began) (list : List Event) → Serves c began list before → began.carried before.next ≡ record { unread = None; written = None; sent = none_yet before.kept } → Serves c began (list ++ Connect before.next ∷ []) b)
-    → GoesOnServing a b
-on-admitted a before b is admits held c list s =
+-- what goes on from a socket goes on for sockets
+pub on-came : (a before b : Serving) → before ≡ a → GoesOnFrom (record { unread = None; written = None; sent = none_yet before.kept }) before b → GoesOnServing a b
+on-came a before b is g held c list s =
     let t : Serves c (sockets_and held c) list before = subst (λ (x : Serving). Serves c (sockets_and held c) list x) (sym is) s in
-    (Connect before.next ∷ [], admits c (sockets_and held c) list t (ap (λ kept. record { unread = None; written = None; sent = none_yet kept }) (sym t.kept)), refl)
+    g c (sockets_and held c) list t (ap (λ kept. record { unread = None; written = None; sent = none_yet kept }) (sym t.kept))
+
+-- ---- for any transports
+
+pub goes-same : (a b : Serving) → a ≡ b → GoesOn a b
+goes-same a b is c began list s = ([], subst (λ (l : List Event). Serves c began l b) (sym (append-nil list)) (subst (λ (x : Serving). Serves c began list x) is s), refl)
+
+pub goes-then : (a b d : Serving) → GoesOn a b → GoesOn b d → GoesOn a d
+goes-then a b d g h c began list s =
+    let first = g c began list s in
+    let second = h c began (list ++ first.0) first.1 in (
+      first.0 ++ second.0,
+      subst (λ (l : List Event). Serves c began l d) (append_assoc list first.0 second.0) second.1,
+      inputs-append c list first.0 second.0 ∙ ap (λ l. l ++ inputs_after c (list ++ first.0) second.0) first.2 ∙ second.2,
+    )
+
+-- nobody came
+pub from-same : (came : Carried) (a b : Serving) → a ≡ b → GoesOnFrom came a b
+from-same came a b is c began list s from = goes-same a b is c began list s
+
+-- a viewer came
+pub from-admitted : (came : Carried) (a b : Serving) → ((c : Config) (began : Began) (list : List Event) → Serves c began list a → began.carried a.next ≡ came → Serves c began (list ++ Connect a.next ∷ []) b) → GoesOnFrom came a b
+from-admitted came a b admits c began list s from = (Connect a.next ∷ [], admits c began list s from, refl)
+
+-- and then it went on
+pub from-then : (came : Carried) (a b d : Serving) → GoesOnFrom came a b → GoesOn b d → GoesOnFrom came a d
+from-then came a b d g h c began list s from =
+    let first = g c began list s from in
+    let second = h c began (list ++ first.0) first.1 in (
+      first.0 ++ second.0,
+      subst (λ (l : List Event). Serves c began l d) (append_assoc list first.0 second.0) second.1,
+      inputs-append c list first.0 second.0 ∙ ap (λ l. l ++ inputs_after c (list ++ first.0) second.0) first.2 ∙ second.2,
+    )
 
 module _ {A : Type 0} (stands : A → List (ℕ × Input) → Type 0) where
   -- an application was told all
@@ -67,6 +95,10 @@ module _ {A : Type 0} (stands : A → List (ℕ × Input) → Type 0) where
         subst (λ (l : List Event). Serves c (sockets_and held c) l d) (append_assoc list first.0 second.0) second.1,
         subst (λ l. IsTold stands l x z r) (sym (inputs-append c list first.0 second.0)) (told-then stands x y z (inputs_after c list first.0) (inputs_after c (list ++ first.0) second.0) r first.2 second.2),
       )
+
+  -- what it was told, however it ended
+  pub tells-any : {X E : Type 0} (x y : A) (r : Result X E) (a b : Serving) → TellsAll a b x y → GoesOnServingTelling stands a b x y r
+  tells-any x y r a b told = tells-then x y y r a b b told (tells-silently y y r b b (λ inputs h. h) (on-same b b refl))
 
   -- it was told, and then nothing more
   pub tells-before : {X E : Type 0} (x y : A) (r : Result X E) (a b d : Serving) → GoesOnServingTelling stands a b x y r → GoesOnServing b d → GoesOnServingTelling stands a d x y r

@@ -1,23 +1,25 @@
 //! The loop.
 
-ghost use Rattle.std.specs.Prelude.{◌≡◌, ◌≢◌, ℕ, [], None, Some, Ok, Err, false, IfOk, OnOk, MatchOption, is_some, IsSome, count_by, option_map};
+ghost use Rattle.std.specs.Prelude.{◌≡◌, ◌≢◌, ◌≤◌, ◌<◌, ℕ, [], None, Some, Ok, Err, true, false, IfOk, IfErr, OnOk, OnErr, MatchOption, is_some, IsSome, count_by, option_map};
 ghost use Rattle.std.specs.Borrow.{sem};
-ghost use Rattle.std.specs.Duration.{as_nanos};
 ghost use Rattle.screen.specs.declared.Config.{Config};
 ghost use Rattle.screen.specs.Alone.{config_refusal};
+ghost use Rattle.receipts.specs.declared.Ended.TheVariants as ended;
 ghost use Rattle.connections.specs.Telling.{Stays};
 ghost use Rattle.connections.specs.Serving.{Serves, number_at};
 ghost use Rattle.connections.specs.Recorded.{IsFlushed, held_by, is_broken};
 ghost use Rattle.record_writer.specs.Held.{bytes_held};
-ghost use Rattle.event_loop.specs.declared.event_loop.WhenFull.TheVariants as when_full;
 ghost use Rattle.event_loop.specs.Lending.{lends_canvas};
 ghost use Rattle.event_loop.specs.declared.event_loop.LoopError.TheVariants as error;
 ghost use Rattle.event_loop.specs.Sockets.{sockets, sockets_and, GoesOnServing, GoesOnServingTelling};
 ghost use Rattle.event_loop.specs.Opening.{IsOpenedOr};
+ghost use Rattle.event_loop.specs.Admitting.{IsAdmittedOr};
+ghost use Rattle.event_loop.specs.Parting.{IsLetGo};
 
-use crate::opening::Newcomers;
+use crate::limits::Limits;
 use crate::poller::{Found, Poller, found_in};
-use crate::socket::{Socket, set_up, turn_away};
+use crate::socket::Socket;
+use crate::viewers::{Admission, Viewers};
 use connections::{Application, Canvas, Config, Connections, RecordWriter, Screen, ScreenError};
 use mio::Waker;
 use mio::event::Event;
@@ -41,7 +43,7 @@ const RETRY: u64 = 100;
 pub enum LoopError {
     /// The poller failed.
     Network,
-    /// The clock failed.
+    /// The clock failed, or `run` took 2^64 - 1 turns.
     Clock,
     /// The application's call of the screen was refused, or memory was.
     Screen(ScreenError),
@@ -59,56 +61,13 @@ impl From<AllocError> for LoopError {
     }
 }
 
-/// What becomes of a connection that comes while as many viewers are live as may be.
-#[derive(Clone, Copy, Debug, PartialEq, Eq)]
-pub enum WhenFull {
-    /// It waits until a viewer has left.
-    Wait,
-    /// It is told that there are too many (RFC 6143, 7.1.2), and closed at once.
-    LetGo,
-}
-
-/// What a loop grants its viewers.
-#[derive(Clone, Copy, Debug)]
-pub struct Limits {
-    /// How many viewers may be live at once.
-    pub live_viewers: usize,
-    /// What becomes of a further one.
-    pub when_full: WhenFull,
-    /// How many viewers are served in all. A connection that comes behind them is told that there are too many, and closed at once.
-    pub all_viewers: u64,
-    /// How long a viewer may take until it had its ServerInit (RFC 6143, 7.3.2). Then it is let go.
-    pub opening_time: Duration,
-}
-
-impl Limits {
-    /// Returns the usual limits: 1,024 viewers at once, a further one waits, and without end; 10 seconds for an opening.
-    pub fn usual() -> Limits
-        ensures live { result.live_viewers ≡ 1024 }
-        ensures full { result.when_full ≡ when_full.Wait }
-        ensures all { result.all_viewers ≡ u64.MAX }
-        ensures time { as_nanos result.opening_time ≡ 10_000_000_000 }
-    {
-        Limits {
-            live_viewers: 1024,
-            when_full: WhenFull::Wait,
-            all_viewers: u64::MAX,
-            opening_time: Duration::from_secs(10),
-        }
-    }
-}
-
 /// A screen with its viewers' sockets.
 pub struct EventLoop {
     poller: Poller,
-    listener: TcpListener,
-    limits: Limits,
-    connections: Connections<Socket>,
-    newcomers: Newcomers,
+    listener: Option<TcpListener>,
+    viewers: Viewers<Socket<TcpStream>>,
     // when the first turn came
     began: Option<Instant>,
-    // how many viewers came
-    came: u64,
     // a connection may wait at the listener
     may_accept: bool,
     // the system had no room for one, and is asked again then
@@ -126,11 +85,8 @@ impl Drop for EventLoop {
         let EventLoop {
             poller: _poller,
             listener: _listener,
-            limits: _limits,
-            connections: _connections,
-            newcomers: _newcomers,
+            viewers: _viewers,
             began: _began,
-            came: _came,
             may_accept: _may_accept,
             retry: _retry,
             is_woken: _is_woken,
@@ -145,7 +101,7 @@ impl Model for EventLoop {
 
     ghost Value = { Serving };
 
-    ghost view = { λ a. a.connections };
+    ghost view = { λ a. a.viewers.connections };
 }
 
 /// What was found at a wait, besides sockets of viewers.
@@ -158,7 +114,7 @@ struct Noted {
 /// Records one event of the poller.
 fn note(
     event: &Event,
-    connections: &mut Connections<Socket>,
+    connections: &mut Connections<Socket<TcpStream>>,
     noted: &mut Noted,
 ) -> Result<(), AllocError>
     ensures served { GoesOnServing connections.old connections.new }
@@ -172,7 +128,10 @@ fn note(
 }
 
 /// Records what the poller found.
-fn note_found(poller: &Poller, connections: &mut Connections<Socket>) -> Result<Noted, AllocError>
+fn note_found(
+    poller: &Poller,
+    connections: &mut Connections<Socket<TcpStream>>,
+) -> Result<Noted, AllocError>
     ensures served { GoesOnServing connections.old connections.new }
 {
     let mut noted = Noted {
@@ -192,6 +151,25 @@ fn shorter(one: Option<Duration>, other: Option<Duration>) -> Option<Duration> {
         (Some(one), None) => Some(one),
         (None, other) => other,
     }
+}
+
+/// Returns a poller, which reports what waits at a listener, where there is one.
+fn poller_of<R: Net>(
+    rt: &R,
+    alloc: Global,
+    listener: &mut Option<TcpListener>,
+) -> Result<Poller, LoopError>
+    ensures { IfErr result (λ e. e ≡ error.Network) }
+{
+    let Ok(poller) = Poller::new(rt, alloc) else {
+        return Err(LoopError::Network);
+    };
+    if let Some(listener) = listener
+        && poller.add_listener(listener).is_err()
+    {
+        return Err(LoopError::Network);
+    }
+    Ok(poller)
 }
 
 /// Returns the clock's time.
@@ -214,7 +192,7 @@ impl EventLoop {
         ensures refused { MatchOption (config_refusal config) (IsOpenedOr result) (λ e. result ≡ Err (error.Screen e)) }
     {
         match Connections::new(alloc, config) {
-            Ok(connections) => EventLoop::of(rt, alloc, listener, connections, limits),
+            Ok(connections) => EventLoop::of(rt, alloc, Some(listener), connections, limits),
             Err(refusal) => Err(LoopError::Screen(refusal)),
         }
     }
@@ -234,7 +212,24 @@ impl EventLoop {
         ensures refused { MatchOption (config_refusal config) (IsOpenedOr result) (λ e. result ≡ Err (error.Screen e)) }
     {
         match Connections::recorded(alloc, config, writer) {
-            Ok(connections) => EventLoop::of(rt, alloc, listener, connections, limits),
+            Ok(connections) => EventLoop::of(rt, alloc, Some(listener), connections, limits),
+            Err(refusal) => Err(LoopError::Screen(refusal)),
+        }
+    }
+
+    /// Returns a loop that listens nowhere: it serves the connections that `adopt` gives it.
+    pub fn unbound<R: Net>(
+        rt: &R,
+        alloc: Global,
+        config: Config,
+        limits: Limits,
+    ) -> Result<EventLoop, LoopError>
+        ensures serves { IfOk result (λ served. Serves config (sockets config) [] served) }
+        ensures accepted { OnOk result (config_refusal config ≡ None) }
+        ensures refused { MatchOption (config_refusal config) (IsOpenedOr result) (λ e. result ≡ Err (error.Screen e)) }
+    {
+        match Connections::new(alloc, config) {
+            Ok(connections) => EventLoop::of(rt, alloc, None, connections, limits),
             Err(refusal) => Err(LoopError::Screen(refusal)),
         }
     }
@@ -243,26 +238,20 @@ impl EventLoop {
     fn of<R: Net>(
         rt: &R,
         alloc: Global,
-        mut listener: TcpListener,
-        connections: Connections<Socket>,
+        mut listener: Option<TcpListener>,
+        connections: Connections<Socket<TcpStream>>,
         limits: Limits,
     ) -> Result<EventLoop, LoopError>
         ensures opened { IsOpenedOr result }
         ensures same { IfOk result (λ served. served ≡ connections) }
     {
-        let poller = Poller::new(rt, alloc).map_err(|_| LoopError::Network)?;
-        if poller.add_listener(&mut listener).is_err() {
-            return Err(LoopError::Network);
-        }
+        let poller = poller_of(rt, alloc, &mut listener)?;
         Ok(EventLoop {
             poller,
+            may_accept: listener.is_some(),
             listener,
-            limits,
-            connections,
-            newcomers: Newcomers::new(alloc, limits.opening_time),
+            viewers: Viewers::new(alloc, connections, limits),
             began: None,
-            came: 0,
-            may_accept: true,
             retry: None,
             is_woken: false,
             has_ticked: false,
@@ -274,7 +263,7 @@ impl EventLoop {
     pub fn screen(&self) -> &Screen
         ensures { result.now ≡ self.now.surface.screen }
     {
-        self.connections.screen()
+        self.viewers.connections.screen()
     }
 
     /// Returns the screen to draw on. What is drawn is sent in the next turns.
@@ -282,7 +271,7 @@ impl EventLoop {
         ensures* writes_back { sem 𝓛 (lends_canvas self.entry result) }
         ensures value { result.now ≡ self.old.surface }
     {
-        self.connections.canvas()
+        self.viewers.connections.canvas()
     }
 
     /// Writes what waits of the record, where there is one.
@@ -290,14 +279,14 @@ impl EventLoop {
         ensures served { GoesOnServing self.old self.new }
         ensures flushed { IsFlushed self.new.surface.scribed }
     {
-        self.connections.flush_record();
+        self.viewers.connections.flush_record();
     }
 
     /// Returns what was written of the record so far, where it is written to memory; None without a record, and where it goes to a file.
     pub fn record_in_memory(&self) -> Option<&[u8]>
         ensures { option_map (λ bytes. bytes.now) result ≡ held_by self.now.surface.scribed }
     {
-        self.connections.record_in_memory()
+        self.viewers.connections.record_in_memory()
     }
 
     /// Returns whether the record has ended before its session: a write failed, or memory for a region's rectangles was refused. Nothing
@@ -305,14 +294,14 @@ impl EventLoop {
     pub fn is_record_broken(&self) -> bool
         ensures { result ≡ is_broken self.now.surface.scribed }
     {
-        self.connections.is_record_broken()
+        self.viewers.connections.is_record_broken()
     }
 
     /// Returns how many viewers are connected.
     pub fn viewer_count(&self) -> usize
         ensures { result ≡ count_by is_some self.now.slots }
     {
-        self.connections.len()
+        self.viewers.connections.len()
     }
 
     /// Returns the address and the port that a viewer's connection comes from (`host` of `rfbClientRec` in `rfb.h`), or why the system
@@ -321,8 +310,8 @@ impl EventLoop {
         ensures some { IsSome result → (key : ℕ) × (number_at self.now.slots key ≡ Some viewer) }
         ensures none { result ≡ None → (key : ℕ) → number_at self.now.slots key ≢ Some viewer }
     {
-        let key = self.connections.key_of(viewer)?;
-        let socket = self.connections.transport(key)?;
+        let key = self.viewers.connections.key_of(viewer)?;
+        let socket = self.viewers.connections.transport(key)?;
         Some(socket.address())
     }
 
@@ -336,13 +325,34 @@ impl EventLoop {
     /// `AllocError` it is connected still.
     pub fn close_viewer(&mut self, viewer: u64) -> Result<bool, AllocError>
         ensures served { GoesOnServing self.old self.new }
+        ensures let_go { result ≡ Ok true → IsLetGo ended.Gate viewer self.old self.new }
         ensures none { result ≡ Ok false → (key : ℕ) → number_at self.old.slots key ≢ Some viewer }
+        ensures nobody { result ≡ Ok false → self.new ≡ self.old }
+        ensures err { OnErr result (self.new.slots ≡ self.old.slots) }
     {
-        let Some(key) = self.connections.key_of(viewer) else {
+        let Some(key) = self.viewers.connections.key_of(viewer) else {
             return Ok(false);
         };
-        self.connections.refuse(key)?;
+        self.viewers.connections.refuse(key)?;
         Ok(true)
+    }
+
+    /// Takes in a connection that the program accepted or made itself, as one that the listener accepts, with the same limits: that of
+    /// inetd, an end of a pair of sockets, or a UNIX socket by its descriptor. The program has made it non-blocking. It is heard from the
+    /// next turn on. Where there is no room for it, it is turned away, since it can't wait. Where the application fails, it is the next
+    /// viewer's all the same, and where the clock does, nothing has changed.
+    pub fn adopt<C: Clock, A: Application>(
+        &mut self,
+        clock: &C,
+        stream: TcpStream,
+        application: &mut A,
+    ) -> Result<Admission, LoopError>
+        ensures served { GoesOnServing self.old self.new }
+        ensures stands { Stays A.stands application.old application.new }
+        ensures admitted { IfOk result (IsAdmittedOr self.old self.new) }
+    {
+        let now = now_by(clock)?;
+        self.admit(now, stream, application)
     }
 
     /// Returns how long a turn without a timeout would wait now, where no socket becomes ready; None without end. A program with a loop of
@@ -373,54 +383,61 @@ impl EventLoop {
         self.come_and_go(now, application)
     }
 
-    /// Takes turns until the application is done. Writes what waits of the record at the end, also after an error.
+    /// Takes turns until the application is done. Writes what waits of the record at the end, also after an error. It ends without one only
+    /// where the application is done (`is_done`).
     pub fn run<C: Clock, A: Application>(
         &mut self,
         clock: &C,
         application: &mut A,
     ) -> Result<(), LoopError>
         ensures served { GoesOnServingTelling A.stands self.old self.new application.old application.new result }
+        ensures done { OnOk result (A.done application.new) }
     {
         let ended = self.run_on(clock, application);
         self.flush_record();
         ended
     }
 
-    /// Takes turns until the application is done.
+    /// Takes turns until the application is done, or 2^64 - 1, which answers `Clock`.
     fn run_on<C: Clock, A: Application>(
         &mut self,
         clock: &C,
         application: &mut A,
     ) -> Result<(), LoopError>
         ensures served { GoesOnServingTelling A.stands self.old self.new application.old application.new result }
+        ensures done { OnOk result (A.done application.new) }
     {
-        for _ in 0..u64::MAX {
+        if self.take_turns(clock, u64::MAX, application)? < u64::MAX {
+            return Ok(());
+        }
+        Err(LoopError::Clock)
+    }
+
+    /// Takes turns until the application is done, at most `most`, and returns how many it took.
+    fn take_turns<C: Clock, A: Application>(
+        &mut self,
+        clock: &C,
+        most: u64,
+        application: &mut A,
+    ) -> Result<u64, LoopError>
+        ensures served { GoesOnServingTelling A.stands self.old self.new application.old application.new result }
+        ensures most { IfOk result (λ turns. turns ≤ most) }
+        ensures done { IfOk result (λ turns. turns < most → A.done application.new) }
+    {
+        let mut turns = 0;
+        'turns: while turns < most {
             if application.is_done() {
-                return Ok(());
+                return Ok(turns);
             }
             self.process_events(clock, None, application)?;
+            turns += 1;
         }
-        Ok(())
-    }
-
-    /// Returns whether all viewers that are served have come.
-    fn have_all_come(&self) -> bool {
-        self.came >= self.limits.all_viewers
-    }
-
-    /// Returns whether one viewer more may be live.
-    fn has_room(&self) -> bool {
-        !self.have_all_come() && self.connections.len() < self.limits.live_viewers
-    }
-
-    /// Returns whether a connection for which there is no room is turned away. Else it waits.
-    fn turns_away(&self) -> bool {
-        self.have_all_come() || self.limits.when_full == WhenFull::LetGo
+        Ok(turns)
     }
 
     /// Returns whether a connection that waits is accepted, be it to be turned away.
     fn accepts(&self) -> bool {
-        self.may_accept && (self.has_room() || self.turns_away())
+        self.may_accept && self.viewers.accepts_next()
     }
 
     /// Returns how long a turn may wait.
@@ -429,22 +446,25 @@ impl EventLoop {
             return Some(Duration::ZERO);
         }
         let until = |then: Instant| then.duration_since(now);
-        let mut wait = shorter(timeout, self.newcomers.next_after(now));
+        let mut wait = shorter(timeout, self.viewers.newcomers.next_after(now));
         wait = shorter(wait, self.next_tick.map(until));
         wait = shorter(wait, self.retry.map(until));
-        shorter(wait, self.connections.is_busy().then_some(Duration::ZERO))
+        shorter(
+            wait,
+            self.viewers.connections.is_busy().then_some(Duration::ZERO),
+        )
     }
 
     /// Waits until something is ready, the application's time comes, or the time is up, and notes what was found. Returns the time.
     fn wait<C: Clock>(&mut self, clock: &C, timeout: Option<Duration>) -> Result<Instant, LoopError>
         ensures served { GoesOnServing self.old self.new }
     {
-        self.connections.flush_record();
+        self.viewers.connections.flush_record();
         let wait = self.wait_for(now_by(clock)?, timeout);
         if self.poller.wait(wait).is_err() {
             return Err(LoopError::Network);
         }
-        let noted = note_found(&self.poller, &mut self.connections)?;
+        let noted = note_found(&self.poller, &mut self.viewers.connections)?;
         self.may_accept |= noted.may_accept;
         self.is_woken = noted.is_woken;
         now_by(clock)
@@ -474,7 +494,8 @@ impl EventLoop {
     {
         self.retry(now);
         self.accept_some(now, application)?;
-        self.let_go(now)
+        self.viewers.let_go(now)?;
+        Ok(())
     }
 
     /// Returns how many milliseconds passed since the first turn.
@@ -491,8 +512,8 @@ impl EventLoop {
         ensures served { GoesOnServingTelling A.stands self.old self.new application.old application.new result }
     {
         let milliseconds = self.milliseconds(now);
-        self.connections.set_time(milliseconds);
-        self.connections.turn(application)?;
+        self.viewers.connections.set_time(milliseconds);
+        self.viewers.connections.turn(application)?;
         self.part(application)
     }
 
@@ -504,7 +525,7 @@ impl EventLoop {
         if !self.is_woken {
             return Ok(());
         }
-        self.connections.tell_woken(application)?;
+        self.viewers.connections.tell_woken(application)?;
         Ok(())
     }
 
@@ -526,7 +547,7 @@ impl EventLoop {
         if self.has_ticked && !self.next_tick.is_some_and(|then| then <= now) {
             return Ok(());
         }
-        let after = self.connections.tick(application)?;
+        let after = self.viewers.connections.tick(application)?;
         self.has_ticked = true;
         self.next_tick = after.and_then(|after| now.checked_add(after));
         Ok(())
@@ -550,13 +571,28 @@ impl EventLoop {
         Ok(())
     }
 
-    /// Accepts a connection, if one waits. Where the system has no room for it, it is asked again a little later.
+    /// Accepts a connection, if one waits, and takes it in.
     fn accept<A: Application>(&mut self, now: Instant, application: &mut A) -> Result<(), LoopError>
         ensures served { GoesOnServing self.old self.new }
         ensures stands { Stays A.stands application.old application.new }
     {
-        match self.listener.accept() {
-            Ok((stream, _address)) => return self.admit(now, stream, application),
+        if let Some(stream) = self.next_stream(now) {
+            self.admit(now, stream, application)?;
+        }
+        Ok(())
+    }
+
+    /// Returns a connection that waited at the listener. None where none waits, and where the system has no room for one: then it is asked
+    /// again a little later.
+    fn next_stream(&mut self, now: Instant) -> Option<TcpStream>
+        ensures same { self.new ≡ self.old }
+    {
+        let Some(listener) = &self.listener else {
+            self.may_accept = false;
+            return None;
+        };
+        match listener.accept() {
+            Ok((stream, _address)) => return Some(stream),
             Err(e) => match e.kind() {
                 ErrorKind::ConnectionAborted | ErrorKind::Interrupted => {}
                 ErrorKind::WouldBlock => self.may_accept = false,
@@ -566,106 +602,30 @@ impl EventLoop {
                 }
             },
         }
-        Ok(())
+        None
     }
 
-    /// Takes in a connection, or turns it away where there is no room for it.
+    /// Takes in a connection that came, or turns it away where there is no room for it, as `Viewers::admit` does.
     fn admit<A: Application>(
         &mut self,
         now: Instant,
-        mut stream: TcpStream,
+        stream: TcpStream,
         application: &mut A,
-    ) -> Result<(), LoopError>
+    ) -> Result<Admission, LoopError>
         ensures served { GoesOnServing self.old self.new }
         ensures stands { Stays A.stands application.old application.new }
+        ensures admitted { IfOk result (IsAdmittedOr self.old self.new) }
     {
-        if !self.has_room() {
-            turn_away(&mut stream);
-            return Ok(());
-        }
-        let key = self.connections.next_key();
-        if self.poller.add(&mut stream, key).is_err() {
-            return Ok(());
-        }
-        set_up(&stream);
-        let Ok(key) = self.connections.admit(Socket::new(stream)) else {
-            return Ok(());
-        };
-        self.came = self.came.saturating_add(1);
-        self.welcome(now, key, application)
-    }
-
-    /// Notes until when a viewer may take for its opening, and tells the application that it came.
-    fn welcome<A: Application>(
-        &mut self,
-        now: Instant,
-        key: usize,
-        application: &mut A,
-    ) -> Result<(), LoopError>
-        ensures served { GoesOnServing self.old self.new }
-        ensures stands { Stays A.stands application.old application.new }
-    {
-        let Some(viewer) = self.connections.viewer(key) else {
-            return Ok(());
-        };
-        if self.newcomers.push(key, viewer, now).is_err() {
-            self.connections.close(key)?;
-            return Ok(());
-        }
-        self.connections.tell_came(viewer, application)?;
-        Ok(())
-    }
-
-    /// Forgets newcomers that are open or gone, up to the first one that is neither.
-    fn forget_opened(&mut self)
-        ensures served { GoesOnServing self.old self.new }
-    {
-        for _ in 0..self.newcomers.len() {
-            let Some((key, viewer)) = self.newcomers.first() else {
-                return;
-            };
-            if self.is_opening(key, viewer) {
-                return;
-            }
-            self.newcomers.pop_first();
-        }
-    }
-
-    /// Lets viewers go that took too long for their opening.
-    fn let_go(&mut self, now: Instant) -> Result<(), LoopError>
-        ensures served { GoesOnServing self.old self.new }
-    {
-        self.forget_opened();
-        for _ in 0..self.newcomers.len() {
-            let Some((key, viewer)) = self.newcomers.pop_late(now) else {
-                return Ok(());
-            };
-            self.let_go_unopened(key, viewer)?;
-        }
-        Ok(())
-    }
-
-    /// Returns whether a viewer is there that has not had its ServerInit.
-    fn is_opening(&self, key: usize, viewer: u64) -> bool {
-        self.connections.viewer(key) == Some(viewer) && !self.connections.is_open(key)
-    }
-
-    /// Lets a viewer go, unless it had its ServerInit.
-    fn let_go_unopened(&mut self, key: usize, viewer: u64) -> Result<(), LoopError>
-        ensures served { GoesOnServing self.old self.new }
-    {
-        if !self.is_opening(key, viewer) {
-            return Ok(());
-        }
-        self.connections.close(key)?;
-        Ok(())
+        let socket = Socket::new(stream);
+        let admission = self.viewers.admit(&self.poller, now, socket, application)?;
+        Ok(admission)
     }
 
     /// Parts with the viewers that ended, and tells the application.
     fn part<A: Application>(&mut self, application: &mut A) -> Result<(), LoopError>
         ensures served { GoesOnServingTelling A.stands self.old self.new application.old application.new result }
     {
-        for _ in 0..self.connections.len() {
+        for _ in 0..self.viewers.connections.len() {
             if !self.part_with_one(application)? {
                 return Ok(());
             }
@@ -677,11 +637,12 @@ impl EventLoop {
     fn part_with_one<A: Application>(&mut self, application: &mut A) -> Result<bool, LoopError>
         ensures served { GoesOnServingTelling A.stands self.old self.new application.old application.new result }
     {
-        let Some(departed) = self.connections.take_departed() else {
+        let Some(departed) = self.viewers.connections.take_departed() else {
             return Ok(false);
         };
         self.may_accept = true;
-        self.connections
+        self.viewers
+            .connections
             .tell_left(departed.held, departed.receipt, application)?;
         Ok(true)
     }

@@ -10,17 +10,25 @@
 //! served.run(rt, &mut application)?;
 //! ```
 //!
-//! No clause says what a socket delivers, or when: tests over loopback show it.
+//! A loop without a listener is made by `EventLoop::unbound`, and any loop takes in connections that the program has by
+//! `EventLoop::adopt`.
+//!
+//! What a viewer is sent is what its stream is written, whatever stream that is, and nothing else; no clause says what a socket delivers,
+//! or when: tests over loopback show it.
 #![tactic(auto)]
 
 mod event_loop;
+mod limits;
 mod opening;
 mod poller;
 mod socket;
+mod viewers;
 
 pub use connections::{
     Application, Canvas, Config, Ended, Fault, History, Input, Listed, PrivateFile, RecordWriter,
     Rect, Region, Screen, ScreenError, drawn_is_served,
 };
-pub use event_loop::{EventLoop, Limits, LoopError, WhenFull};
+pub use event_loop::{EventLoop, LoopError};
+pub use limits::{Limits, WhenFull};
 pub use mio::Waker;
+pub use viewers::Admission;

@@ -1,8 +1,9 @@
 //! Which viewers have not had their ServerInit, and until when they may take for it.
 
-ghost use Rattle.std.specs.Prelude.{◌≡◌, ◌≤◌, ◌-◌, ◌++◌, ◌∷◌, [], drop, None, Some, OnOk, OnErr, IfSome, MatchOption, length, slice_get};
+ghost use Rattle.std.specs.Prelude.{◌≡◌, ◌≤◌, ◌<◌, ◌-◌, ◌++◌, ◌∷◌, [], drop, None, Some, OnOk, IfSome, MatchOption, slice_get};
 ghost use Rattle.std.specs.Duration.{as_nanos};
 ghost use Rattle.std.specs.Time.{instant_nanos};
+ghost use Rattle.std.specs.VecDeque.{deque_capacity, deque_len};
 ghost use Rattle.event_loop.specs.declared.opening.Newcomer.{Newcomer};
 
 use std::alloc::{AllocError, Global};
@@ -36,22 +37,23 @@ impl Newcomers {
         }
     }
 
-    /// Returns how many there are.
-    pub fn len(&self) -> usize
-        ensures { result ≡ length self.now.waiting.items }
+    /// Makes room for one more.
+    pub fn make_room(&mut self) -> Result<(), AllocError>
+        ensures patience { self.new.patience ≡ self.old.patience }
+        ensures same { self.new.waiting.items ≡ self.old.waiting.items }
+        ensures room { OnOk result (deque_len self.new.waiting < deque_capacity self.new.waiting) }
     {
-        self.waiting.len()
+        self.waiting.reserve(1)
     }
 
-    /// Appends a viewer that connected at the time `since`.
-    pub fn push(&mut self, key: usize, viewer: u64, since: Instant) -> Result<(), AllocError>
+    /// Appends a viewer that connected at the time `since`, in room that was made.
+    pub fn push(&mut self, key: usize, viewer: u64, since: Instant)
+        requires { deque_len self.old.waiting < deque_capacity self.old.waiting }
         ensures patience { self.new.patience ≡ self.old.patience }
-        ensures ok { OnOk result (self.new.waiting.items ≡
-            self.old.waiting.items ++ (record { key = key; viewer = viewer; since = since }) ∷ []) }
-        ensures err { OnErr result (self.new.waiting.items ≡ self.old.waiting.items) }
+        ensures pushed { self.new.waiting.items ≡
+            self.old.waiting.items ++ (record { key = key; viewer = viewer; since = since }) ∷ [] }
     {
-        self.waiting.push_back(Newcomer { key, viewer, since })?;
-        Ok(())
+        let _pushed = self.waiting.push_back(Newcomer { key, viewer, since });
     }
 
     /// Returns the key and the number of the first.
@@ -70,15 +72,19 @@ impl Newcomers {
         self.waiting.pop_front();
     }
 
-    /// Takes out the first, where its time is up, and returns its key and number.
+    /// Takes out the first, where its time is up, and returns its key and number. None where there is nobody, or the first one's time is not
+    /// up.
     pub fn pop_late(&mut self, now: Instant) -> Option<(usize, u64)>
         ensures patience { self.new.patience ≡ self.old.patience }
         ensures late { IfSome result (λ late. (first : Newcomer) × (self.old.waiting.items ≡ first ∷ self.new.waiting.items) ×
             (late ≡ (first.key, first.viewer)) × (as_nanos self.old.patience ≤ instant_nanos now - instant_nanos first.since)) }
         ensures none { result ≡ None → self.new.waiting.items ≡ self.old.waiting.items }
+        ensures in_time { result ≡ None → IfSome (slice_get self.old.waiting.items 0)
+            (λ first. instant_nanos now - instant_nanos first.since < as_nanos self.old.patience) }
     {
         let first = self.waiting.front()?;
-        if now.duration_since(first.since) < self.patience {
+        let waited = now.duration_since(first.since);
+        if waited.as_nanos() < self.patience.as_nanos() {
             return None;
         }
         let first = self.waiting.pop_front()?;

@@ -2,7 +2,8 @@
 
 use connections::Readiness;
 use mio::event::Event;
-use mio::net::{TcpListener, TcpStream};
+use mio::net::TcpListener;
+use mio::unix::SourceFd;
 use mio::{Events, Interest, Poll, Token, Waker};
 use std::alloc::Global;
 use std::io;
@@ -38,6 +39,7 @@ pub(crate) enum Found {
 }
 
 impl Poller {
+    /// Returns a poller that reports nothing yet.
     pub fn new<R: Net>(rt: &R, alloc: Global) -> io::Result<Poller> {
         Ok(Poller {
             poll: Poll::new(rt)?,
@@ -45,15 +47,20 @@ impl Poller {
         })
     }
 
+    /// Reports from now on that a connection waits at the listener.
     pub fn add_listener(&self, listener: &mut TcpListener) -> io::Result<()> {
         self.poll
             .registry()
             .register(listener, LISTENER, Interest::READABLE)
     }
 
-    pub fn add(&self, stream: &mut TcpStream, key: usize) -> io::Result<()> {
+    /// Reports from now on what the socket of the connection with a key is ready for. It is looked at alone: what it holds stays.
+    pub fn add(&self, socket: &impl AsRawFd, key: usize) -> io::Result<()> {
         let both = Interest::READABLE | Interest::WRITABLE;
-        self.poll.registry().register(stream, Token(key), both)
+        let descriptor = socket.as_raw_fd();
+        self.poll
+            .registry()
+            .register(&mut SourceFd(&descriptor), Token(key), both)
     }
 
     /// Returns what ends a wait from another thread.

@@ -12,7 +12,7 @@ use play_script::play_over;
 use screen::{Screen, ScreenError};
 use std::alloc::{AllocError, Global};
 
-/// A transcript ends with this status.
+/// Compares `status` with the one that the transcript ends with.
 fn check_status(
     alloc: Global,
     transcript: &Transcript,
@@ -26,7 +26,7 @@ fn check_status(
     Ok(Some(make_difference(alloc, "played", transcript.line, wanted, &given)?))
 }
 
-/// What `play` prints of a script, and its status.
+/// Plays a script as `vncdemo play` does, and compares what that prints, and its status, with what is written.
 fn check_played(alloc: Global, transcript: &Transcript) -> Result<Option<Difference>, AllocError> {
     let script = text_of(alloc, &transcript.exchanges)?;
     let mut printed = Vec::new(alloc);
@@ -76,7 +76,7 @@ fn check_replayed(
     Ok(None)
 }
 
-/// Whether a script's screen is accepted.
+/// Returns whether a script's screen is accepted.
 fn is_accepted(alloc: Global, script: &Script) -> Result<bool, ScreenError> {
     match Screen::new(alloc, script.config.try_clone(alloc)?) {
         Ok(_) => Ok(true),
@@ -121,7 +121,7 @@ impl Answerer {
     }
 }
 
-/// Each line is answered as it is written.
+/// Gives `answerer` each line, compares its answer with what is written, and checks that the transcript ends with status 0.
 fn check_lines(
     alloc: Global,
     transcript: &Transcript,
@@ -138,7 +138,7 @@ fn check_lines(
     check_status(alloc, transcript, 0)
 }
 
-/// A test viewer answers the same, however the bytes are cut that it is told.
+/// Checks that a test viewer answers as written, whether it hears its bytes whole, byte by byte or in pieces of 3.
 fn check_viewing(alloc: Global, transcript: &Transcript) -> Result<Option<Difference>, AllocError> {
     for (length, tried) in [
         (usize::MAX, "told"),
@@ -154,7 +154,7 @@ fn check_viewing(alloc: Global, transcript: &Transcript) -> Result<Option<Differ
     Ok(None)
 }
 
-/// The first word that a transcript says, but for comments.
+/// Returns the first word that a transcript says, but for comments.
 fn first_word(exchanges: &[Exchange]) -> &str {
     for exchange in exchanges {
         if !exchange.said.is_empty() && !exchange.said.starts_with("#") {
@@ -164,7 +164,7 @@ fn first_word(exchanges: &[Exchange]) -> &str {
     ""
 }
 
-/// Where a transcript isn't as written, if it isn't.
+/// Checks a transcript, and returns the first difference from what is written, if there is one.
 pub fn check(alloc: Global, transcript: &Transcript) -> Result<Option<Difference>, ScreenError> {
     match first_word(&transcript.exchanges) {
         "encode" => Ok(check_lines(alloc, transcript, "encoded", Answerer::Encoder)?),

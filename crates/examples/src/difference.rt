@@ -14,7 +14,7 @@ pub struct Difference {
     pub given: String,
 }
 
-/// A difference with these texts.
+/// Makes a difference with copies of the texts.
 pub fn make_difference(
     alloc: Global,
     tried: &'static str,
@@ -49,7 +49,7 @@ impl<'a> Given<'a> {
         line.unwrap_or(NO_LINE)
     }
 
-    /// The first of an exchange's lines that is not the next one given.
+    /// Compares the lines answered in `exchange` with the next ones given, and returns the first that differs, if one does.
     fn compare(&mut self, exchange: &Exchange) -> Result<Option<Difference>, AllocError> {
         let mut line = exchange.line;
         for wanted in &exchange.answered {
@@ -72,7 +72,7 @@ impl<'a> Given<'a> {
     }
 }
 
-/// The first difference between what is answered in exchanges and a text of whole lines.
+/// Compares what is answered in `exchanges` with `text`, which has whole lines, and returns the first difference, if there is one.
 pub fn compare(
     alloc: Global,
     tried: &'static str,

@@ -16,7 +16,7 @@ struct Rectangle {
     colours: Vec<u32>,
 }
 
-/// The format of a word.
+/// Reads a format from `word`: its sixteen bytes, or `-` for the server's own. Returns None if it has no format.
 fn format_of(alloc: Global, word: &str) -> Result<Option<PixelFormat>, AllocError> {
     if word == "-" {
         return Ok(Some(PixelFormat::server()));
@@ -43,7 +43,7 @@ fn area_of(width: &str, height: &str) -> Option<Area> {
     })
 }
 
-/// The colours of so many places, one of which stands for all.
+/// Reads colours from `word`, where a single one stands for all `places`.
 fn colours_of(alloc: Global, word: &str, places: usize) -> Result<Option<Vec<u32>>, AllocError> {
     match hex_colours(alloc, word.as_bytes())? {
         Some(colours) if colours.len() == 1 => Ok(Some(vec![in alloc; colours[0]; places]?)),
@@ -69,7 +69,8 @@ fn rectangle_of(alloc: Global, words: &[&str]) -> Result<Option<Rectangle>, Allo
     }
 }
 
-/// The bytes of a rectangle in an encoding; None where there is no such encoding, or the rectangle has no places.
+/// Returns the bytes of `rectangle` in `encoding`, or None if there is no such encoding, or if the rectangle has no places or not a
+/// colour for each.
 fn encoded(
     alloc: Global,
     encoding: &str,
@@ -94,7 +95,7 @@ fn encoded(
     Ok(Some(out))
 }
 
-/// What a line of these words, behind `encode`, is answered.
+/// Answers a line, of which `words` are those behind `encode`.
 pub fn answer(alloc: Global, words: &[&str]) -> Result<String, AllocError> {
     let mut text = String::new(alloc);
     let [encoding, words @ ..] = words else {

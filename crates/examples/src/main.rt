@@ -3,7 +3,7 @@
 //!
 //! Each script is played whole as `vncdemo play` plays it. Its events are done again by `run`, by a screen that keeps its history,
 //! by one that is given that history, and with the viewers' bytes heard byte by byte and in pieces of 3 and updates encoded piece by
-//! piece; and each viewer's bytes are told to a test viewer, which shows the picture once nothing is owed to it.
+//! piece; and each viewer's bytes go to a test viewer, which shows the picture once nothing is owed to it.
 #![tactic(auto)]
 
 mod checking;
@@ -39,7 +39,7 @@ fn put_difference(text: &mut String, found: &Difference) -> Result<(), AllocErro
     )
 }
 
-/// The first of the transcripts that isn't as written.
+/// Checks the transcripts `all` in order, and returns the first difference from what is written, if there is one.
 fn first_difference(alloc: Global, all: &[Transcript]) -> Result<Option<Difference>, ScreenError> {
     for transcript in all {
         let found = check(alloc, transcript)?;
@@ -50,7 +50,7 @@ fn first_difference(alloc: Global, all: &[Transcript]) -> Result<Option<Differen
     Ok(None)
 }
 
-/// What is found in a file's text, and whether all is as written.
+/// Appends to `text` the first difference in `all`, or that all is as written, and returns whether it is.
 fn put_found(alloc: Global, text: &mut String, all: &[Transcript]) -> Result<bool, ScreenError> {
     match first_difference(alloc, all)? {
         Some(found) => {
@@ -64,7 +64,7 @@ fn put_found(alloc: Global, text: &mut String, all: &[Transcript]) -> Result<boo
     }
 }
 
-/// The same, of a text that may be no list of transcripts.
+/// Appends to `text` what is found in `file`, or the line that can't stand in it, and returns whether all is as written.
 fn put_judgement(alloc: Global, text: &mut String, file: &str) -> Result<bool, ScreenError> {
     match transcripts(alloc, file) {
         Ok(all) => put_found(alloc, text, &all),
@@ -76,7 +76,7 @@ fn put_judgement(alloc: Global, text: &mut String, file: &str) -> Result<bool, S
     }
 }
 
-/// Judges a file, and prints its name and the judgement.
+/// Judges the file `name`, prints its name and the judgement, and returns whether all is as written.
 fn judge<R: Runtime + AllocGlobal>(rt: &R, name: &str) -> io::Result<bool> {
     let alloc = rt.alloc();
     let file = fs::read_to_string(rt, name)?;

@@ -22,7 +22,7 @@ fn send(alloc: Global, sent: &mut Sent, viewer: u64, bytes: &[u8]) -> Result<(),
     }
 }
 
-/// What each viewer is sent in all, as `play` sends it: an update is encoded whole.
+/// Does the events as `play` does, which encodes an update whole, and returns what each viewer is sent in all.
 fn sent_whole(alloc: Global, script: &Script) -> Result<Sent, ScreenError> {
     let mut screen = Screen::new(alloc, script.config.try_clone(alloc)?)?;
     let mut sent = BTreeMap::new(alloc);
@@ -38,7 +38,7 @@ fn sent_whole(alloc: Global, script: &Script) -> Result<Sent, ScreenError> {
     Ok(sent)
 }
 
-/// A piece of a viewer's bytes is heard in shorter ones.
+/// Gives the screen `piece` of a viewer in pieces of at most `length`, and adds the answers to `sent`.
 fn hear_in(
     alloc: Global,
     screen: &mut Screen,
@@ -55,7 +55,7 @@ fn hear_in(
     Ok(())
 }
 
-/// An update's bytes, encoded piece by piece.
+/// Encodes an update piece by piece, and returns its bytes.
 fn streamed(alloc: Global, update: Update) -> Result<Vec<u8>, AllocError> {
     let mut bytes = Vec::new(alloc);
     let mut stream = update.into_stream();
@@ -68,7 +68,7 @@ fn streamed(alloc: Global, update: Update) -> Result<Vec<u8>, AllocError> {
     Ok(bytes)
 }
 
-/// What several viewers are likely to be sent is encoded once.
+/// Encodes, once for all, what several viewers are likely to be sent, until `viewer` is best cut.
 fn encode_ahead(screen: &mut Screen, viewer: u64) {
     for _ in 0..u64::MAX {
         if screen.encode_ahead(viewer).is_none() {
@@ -114,8 +114,8 @@ fn do_in(
     }
 }
 
-/// The same, where viewers' bytes are heard in pieces of at most this length, and updates are encoded piece by piece, and once for viewers
-/// that are alike.
+/// Does the events with viewers' bytes heard in pieces of at most `length`, and with updates encoded piece by piece, once for
+/// viewers that are alike. Returns what each viewer is sent in all.
 fn sent_in(alloc: Global, script: &Script, length: usize) -> Result<Sent, ScreenError> {
     let mut screen = Screen::new(alloc, script.config.try_clone(alloc)?)?;
     screen.share_encodings(true);
@@ -126,7 +126,7 @@ fn sent_in(alloc: Global, script: &Script, length: usize) -> Result<Sent, Screen
     Ok(sent)
 }
 
-/// The first viewer that is sent other bytes.
+/// Returns the first viewer that is sent other bytes in `pieces` than in `whole`, if there is one.
 fn first_unlike(whole: &Sent, pieces: &Sent) -> Option<u64> {
     for (viewer, bytes) in whole {
         let same = match pieces.get(viewer) {
@@ -140,7 +140,7 @@ fn first_unlike(whole: &Sent, pieces: &Sent) -> Option<u64> {
     None
 }
 
-/// Each viewer is sent the same in all, whether its bytes are heard as they stand in the script or in pieces of 1 and of 3.
+/// Checks that each viewer is sent the same in all with its bytes heard as they stand in the script, and in pieces of 1 and of 3.
 pub fn check_pieces(
     alloc: Global,
     transcript: &Transcript,

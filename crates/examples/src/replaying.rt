@@ -9,7 +9,7 @@ use receipts::same_event;
 use screen::{Answer, Config, Event, History, Screen, ScreenError, run};
 use std::alloc::{AllocError, Global};
 
-/// What is printed of answers.
+/// Returns what is printed of the answers to `events`.
 fn text_of(alloc: Global, events: &[Event], answers: &[Answer]) -> Result<String, AllocError> {
     let mut text = String::new(alloc);
     for (event, answer) in events.iter().zip(answers) {
@@ -28,14 +28,14 @@ fn put_answer(
     text.push_str(str::from_utf8(&bytes).unwrap_or("(no text)\n"))
 }
 
-/// The same screen, with its history kept or not.
+/// Returns a copy of `config` with this `history`: kept or not.
 fn config_with(alloc: Global, config: &Config, history: History) -> Result<Config, AllocError> {
     let mut config = config.try_clone(alloc)?;
     config.history = history;
     Ok(config)
 }
 
-/// What `run` answers to a script's events.
+/// Compares what `run` answers to a script's events with what is written.
 pub fn check_run(
     alloc: Global,
     transcript: &Transcript,
@@ -47,7 +47,7 @@ pub fn check_run(
     Ok(compare(alloc, "by run", &wanted, &text)?)
 }
 
-/// Whether an event happened, and changed something: a history keeps it.
+/// Returns whether `event` happened and changed something, so that a history keeps it.
 fn has_happened(event: &Event, answer: &Answer) -> bool {
     let is_idle = matches!(event, Event::Cut { .. }) && answer.bytes.is_empty();
     answer.refused.is_none() && !is_idle
@@ -73,7 +73,7 @@ fn run_kept(alloc: Global, screen: &mut Screen, events: &[Event]) -> Result<Kept
     Ok(Kept { text, happened })
 }
 
-/// The first of the events that happened which isn't the history's at its place.
+/// Returns the first of the events that `happened` which isn't the one that `history` has for it, if there is one.
 fn first_other(script: &Script, happened: &[usize], history: &[Event]) -> Option<usize> {
     for (at, kept) in happened.iter().zip(history) {
         match script.events.get(*at) {
@@ -92,7 +92,7 @@ fn line_of(transcript: &Transcript, script: &Script, event: usize) -> usize {
         .map_or(0, |exchange| exchange.line)
 }
 
-/// The exchanges of these events, by place.
+/// Returns where the exchanges of `events` stand in the transcript; `events` are places in the script.
 fn places_of(alloc: Global, script: &Script, events: &[usize]) -> Result<Vec<usize>, AllocError> {
     let mut places = Vec::new(alloc);
     for event in events {
@@ -101,7 +101,7 @@ fn places_of(alloc: Global, script: &Script, events: &[usize]) -> Result<Vec<usi
     Ok(places)
 }
 
-/// What a new screen answers to a history.
+/// Runs `history` on a new screen, and returns what is printed of its answers.
 fn answers_to(alloc: Global, config: Config, history: &[Event]) -> Result<String, ScreenError> {
     let answers = run(alloc, config, history)?;
     Ok(text_of(alloc, history, &answers)?)
@@ -109,7 +109,7 @@ fn answers_to(alloc: Global, config: Config, history: &[Event]) -> Result<String
 
 const KEPT: &str = "with the history kept";
 
-/// How the history that a screen keeps differs from the events that happened, if it does.
+/// Compares the `history` that a screen keeps with the events that `happened`.
 fn check_kept(
     alloc: Global,
     transcript: &Transcript,
@@ -133,7 +133,7 @@ fn check_kept(
     }
 }
 
-/// A screen that is given a history answers as the events in it were answered.
+/// Compares what a new screen answers to the events of `history` with what is written for those that `happened`.
 fn check_given(
     alloc: Global,
     transcript: &Transcript,
@@ -148,8 +148,8 @@ fn check_given(
     Ok(compare(alloc, "given its history", &wanted, &text)?)
 }
 
-/// With its history kept a screen answers the same, the history is the events that happened, and a screen that is given it answers
-/// the same again.
+/// Checks that with its history kept a screen answers the same, that the history is the events that happened, and that a screen
+/// that is given it answers the same again.
 pub fn check_history(
     alloc: Global,
     transcript: &Transcript,

@@ -25,7 +25,7 @@ pub struct Script {
     pub looks: Vec<Look>,
 }
 
-/// The viewer of a line `shows V`.
+/// Returns the viewer of `said`, if that is a line `shows V`.
 pub fn look_of(said: &str) -> Option<u64> {
     match said.strip_prefix("shows ")?.parse::<u64>() {
         Ok(viewer) => Some(viewer),
@@ -33,7 +33,7 @@ pub fn look_of(said: &str) -> Option<u64> {
     }
 }
 
-/// The text of a script: the lines that a transcript says, but for the looks.
+/// Returns the text of a script: the lines that a transcript says, but for the looks.
 pub fn text_of(alloc: Global, exchanges: &[Exchange]) -> Result<String, AllocError> {
     let mut text = String::new(alloc);
     for exchange in exchanges {
@@ -45,7 +45,7 @@ pub fn text_of(alloc: Global, exchanges: &[Exchange]) -> Result<String, AllocErr
     Ok(text)
 }
 
-/// The exchanges that `play` answers.
+/// Returns the exchanges that `play` answers: all but the looks.
 pub fn played<'t>(
     alloc: Global,
     exchanges: &'t [Exchange],
@@ -59,7 +59,7 @@ pub fn played<'t>(
     Ok(played)
 }
 
-/// The exchanges of events, by their places in the list of events.
+/// Returns the exchanges at `places` of the transcript's list.
 pub fn exchanges_of<'t>(
     alloc: Global,
     transcript: &'t Transcript,
@@ -84,7 +84,7 @@ struct Read {
 }
 
 impl Read {
-    /// The next line, which isn't a look. Whether the script goes on behind it.
+    /// Takes the next line, which isn't a look, and returns whether the script goes on behind it.
     fn take(&mut self, exchange: usize, line: Line) -> Result<bool, AllocError> {
         match line {
             Line::Skipped => Ok(true),
@@ -111,7 +111,7 @@ impl Read {
     }
 }
 
-/// The screen and the events of a script, up to its end or the first line that is bad; None where it makes no screen.
+/// Reads the screen and the events of a script, up to its end or the first line that is bad. Returns None if it makes no screen.
 pub fn script_of(alloc: Global, exchanges: &[Exchange]) -> Result<Option<Script>, AllocError> {
     let mut read = Read {
         config: None,

@@ -1,15 +1,15 @@
 //! What a test viewer shows, as text: a line a row, a place a word, its pixel in hexadecimal digits, two for each byte, or `.`
 //! where nothing is shown.
 
+use rfb_viewer::Shown;
 use std::alloc::AllocError;
-use test_viewer::Shown;
 
-/// The digits of a byte.
+/// Appends the two hexadecimal digits of `byte`.
 fn put_byte(text: &mut String, byte: u8) -> Result<(), AllocError> {
     write!(text, "{byte:02x}")
 }
 
-/// The digits of bytes, or `-` where there are none.
+/// Appends the hexadecimal digits of `bytes`, or `-` if there are none.
 pub fn put_bytes(text: &mut String, bytes: &[u8]) -> Result<(), AllocError> {
     if bytes.is_empty() {
         return text.push('-');
@@ -44,7 +44,7 @@ fn put_row(text: &mut String, shown: &Shown, width: u32, y: u32) -> Result<(), A
     text.push('\n')
 }
 
-/// What each place of so many columns and rows shows.
+/// Appends what each place of `width` columns and `height` rows shows.
 pub fn put_places(
     text: &mut String,
     shown: &Shown,

@@ -52,7 +52,7 @@ struct Read {
     begun: Vec<Exchange>,
 }
 
-/// What is said in a line, if it is a said one. `>` alone says an empty line.
+/// Returns what the line `text` says, if it is a said one. `>` alone says an empty line.
 fn said_in(text: &str) -> Option<&str> {
     if text == ">" {
         return Some("");
@@ -94,7 +94,7 @@ impl Read {
         Ok(())
     }
 
-    /// The next line of the file.
+    /// Takes the next line of the file; `line` is its number.
     fn take(&mut self, line: usize, text: &str) -> Result<(), Malformed> {
         if let Some(said) = said_in(text) {
             return self.say(line, said);
@@ -109,7 +109,7 @@ impl Read {
     }
 }
 
-/// The transcripts of a file's text.
+/// Reads the transcripts in the `text` of a file.
 pub fn transcripts(alloc: Global, text: &str) -> Result<Vec<Transcript>, Malformed> {
     let mut read = Read {
         alloc,

@@ -3,10 +3,10 @@
 
 use crate::showing::{put_bytes, put_places};
 use play_script::hex_bytes;
+use rfb_viewer::{Area, PixelFormat, Shown, Version};
 use std::alloc::{AllocError, Global};
-use test_viewer::{Area, PixelFormat, Shown, Version};
 
-/// A test viewer that is told its bytes in pieces of at most this length.
+/// A test viewer that hears its bytes in pieces of at most `length`.
 #[derive(Drop)]
 pub struct Viewing {
     alloc: Global,
@@ -23,7 +23,7 @@ fn version_of(word: &str) -> Option<Version> {
     }
 }
 
-/// What a viewer answers to the last of the pieces, or to none.
+/// Tells the viewer the bytes in pieces of at most `length`, and appends `ok`, or the fault that it has then.
 fn put_told(
     text: &mut String,
     shown: &mut Shown,
@@ -53,7 +53,7 @@ fn area_of(words: &[&str]) -> Option<Area> {
     })
 }
 
-/// How much of what was told has been read whole.
+/// Appends whether the viewer is open, and how many updates and texts it has read whole.
 fn put_counts(text: &mut String, shown: &Shown) -> Result<(), AllocError> {
     let opened = if shown.is_open() { "open" } else { "opening" };
     let (updates, texts) = (shown.updates(), shown.texts());
@@ -120,7 +120,7 @@ impl Viewing {
         }
     }
 
-    /// What a line of these words is answered.
+    /// Answers a line of these `words`.
     pub fn answer(&mut self, words: &[&str]) -> Result<String, AllocError> {
         let mut text = String::new(self.alloc);
         let [verb, words @ ..] = words else {

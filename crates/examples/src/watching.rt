@@ -1,4 +1,4 @@
-//! What viewers show while a script is played: each byte that a viewer is sent is told to a test viewer, which knows RFC 6143 and
+//! What viewers show while a script is played: each byte that a viewer is sent goes to a test viewer, which knows RFC 6143 and
 //! what the viewer said.
 
 use crate::difference::{Difference, compare, make_difference};
@@ -7,12 +7,12 @@ use crate::showing::put_places;
 use crate::transcripts::Transcript;
 use messages::{Ear, Item};
 use pixel_translate::{Area, PixelFormat, translate};
+use rfb_viewer::Shown;
 use screen::{Answer, Event, Screen, ScreenError};
 use std::alloc::{AllocError, Global};
 use std::collections::BTreeMap;
-use test_viewer::Shown;
 
-/// An entry of the server's colour map, by its number: red in the lowest three bits, green in the next three, and blue in the
+/// Returns the entry `pixel` of the server's colour map: red in the lowest three bits, green in the next three, and blue in the
 /// highest two, each of them spread over 0 to 65535.
 fn servers_entry(pixel: u8) -> (u16, u16, u16) {
     let red = u32::from(pixel % 8) * 65535 / 7;
@@ -21,7 +21,7 @@ fn servers_entry(pixel: u8) -> (u16, u16, u16) {
     (red as u16, green as u16, blue as u16)
 }
 
-/// Whether a viewer was told the server's whole colour map.
+/// Returns whether the viewer has the server's whole colour map.
 fn has_servers_map(shown: &Shown) -> bool {
     for pixel in 0..=u8::MAX {
         if shown.map(pixel) != Some(servers_entry(pixel)) {
@@ -31,7 +31,7 @@ fn has_servers_map(shown: &Shown) -> bool {
     true
 }
 
-/// The same, where the format that it asked for last needs one.
+/// Returns whether the viewer has the server's colour map, or `format`, for which it asked last, needs none.
 fn has_map_for(shown: &Shown, format: Option<PixelFormat>) -> bool {
     match format {
         Some(format) if format.is_colour_map() => has_servers_map(shown),
@@ -66,7 +66,7 @@ impl Watcher {
         }
     }
 
-    /// The server says these bytes.
+    /// Takes bytes that the server says. They wait in `greeting` until the viewer says its version.
     fn told(&mut self, bytes: &[u8]) -> Result<(), AllocError> {
         match &mut self.shown {
             Some(shown) => {
@@ -101,7 +101,7 @@ impl Watcher {
         }
     }
 
-    /// The viewer says these bytes, and is answered those.
+    /// Takes `piece`, which the viewer says, and then the bytes that it is `answered`.
     fn say(&mut self, piece: &[u8], answered: &[u8]) -> Result<(), AllocError> {
         let heard = self.ear.feed(piece)?;
         for item in heard.items.as_slice() {
@@ -110,13 +110,14 @@ impl Watcher {
         self.told(answered)
     }
 
-    /// What was cut for the viewer.
+    /// Takes the bytes that were cut for the viewer.
     fn cut(&mut self, bytes: &[u8]) -> Result<(), AllocError> {
         self.is_new = false;
         self.told(bytes)
     }
 
-    /// Whether a viewer that is open has the colour map that its format needs, once something could be sent behind the format.
+    /// Returns whether the viewer has the colour map that its format needs. One that isn't open needs none yet, and neither does
+    /// one for which nothing was cut since it asked for the format.
     fn has_map(&self) -> bool {
         match &self.shown {
             Some(shown) if self.ear.is_open() && !self.is_new => { has_map_for(shown, self.format) }
@@ -124,7 +125,7 @@ impl Watcher {
         }
     }
 
-    /// Whether all that was told is legal.
+    /// Returns whether all that the server said is legal.
     fn is_well(&mut self) -> bool {
         match &mut self.shown {
             Some(shown) => shown.told(b"").is_ok(),
@@ -149,7 +150,7 @@ impl World {
         Ok(())
     }
 
-    /// What an accepted event means for its viewer.
+    /// Passes an accepted event and its answer to the watcher of its viewer. Connecting makes a watcher, and closing removes it.
     fn follow(&mut self, event: &Event, answer: &Answer) -> Result<(), AllocError> {
         let bytes = answer.bytes.as_slice();
         match event {
@@ -178,7 +179,7 @@ impl World {
         self.follow(event, &answer)
     }
 
-    /// A viewer that was told what is no message, if there is one.
+    /// Returns a viewer to which the server said what is no message, if there is one.
     fn unwell(&mut self) -> Option<u64> {
         for (viewer, watcher) in self.watchers.iter_mut() {
             if !watcher.is_well() {
@@ -188,7 +189,7 @@ impl World {
         None
     }
 
-    /// A viewer that lacks its colour map, if there is one.
+    /// Returns a viewer that lacks its colour map, if there is one.
     fn without_map(&self) -> Option<u64> {
         for (viewer, watcher) in self.watchers.iter() {
             if !watcher.has_map() {
@@ -198,7 +199,7 @@ impl World {
         None
     }
 
-    /// What a viewer shows, a line a row.
+    /// Returns what `viewer` shows, a line a row.
     fn picture(&self, viewer: u64) -> Result<String, AllocError> {
         let mut text = String::new(self.alloc);
         if let Some(watcher) = self.watchers.get(&viewer)
@@ -210,7 +211,7 @@ impl World {
     }
 }
 
-/// The area of a whole screen, whose sides are at most 8192.
+/// Returns the area of the whole screen, whose sides are at most 8192.
 fn whole(screen: &Screen) -> Area {
     Area {
         x: 0,
@@ -220,10 +221,10 @@ fn whole(screen: &Screen) -> Area {
     }
 }
 
-/// So many updates take more than any script leaves owed.
+/// More updates than it takes to send what any script leaves owed.
 const MOST_UPDATES: u32 = 1 << 20;
 
-/// A viewer asks for what changed. Whether an update came, which it read.
+/// Asks for what changed as `viewer`, reads the update, and returns whether one came.
 fn ask(screen: &mut Screen, viewer: u64, shown: &mut Shown) -> Result<bool, ScreenError> {
     let request = shown.request(whole(screen), true);
     screen.hear(viewer, &request)?;
@@ -236,7 +237,7 @@ fn ask(screen: &mut Screen, viewer: u64, shown: &mut Shown) -> Result<bool, Scre
     }
 }
 
-/// A viewer asks for what changed until nothing is owed to it.
+/// Asks for what changed as `viewer` until nothing is owed to it.
 fn catch_up(screen: &mut Screen, viewer: u64, shown: &mut Shown) -> Result<(), ScreenError> {
     for _ in 0..MOST_UPDATES {
         if !ask(screen, viewer, shown)? {
@@ -246,7 +247,7 @@ fn catch_up(screen: &mut Screen, viewer: u64, shown: &mut Shown) -> Result<(), S
     Ok(())
 }
 
-/// Whether a place shows the picture's colour, in the format in which it was read.
+/// Returns whether the place (`x`, `y`) shows the picture's colour, in the format in which it was read.
 fn shows_colour(screen: &Screen, shown: &Shown, x: u32, y: u32) -> bool {
     match (shown.place(x, y), screen.colour(x, y)) {
         (Some((format, pixel)), Some(colour)) => pixel == translate(&format, colour),
@@ -254,7 +255,7 @@ fn shows_colour(screen: &Screen, shown: &Shown, x: u32, y: u32) -> bool {
     }
 }
 
-/// The first place that doesn't, of those that are within the viewer's size.
+/// Returns the first place within the viewer's size that doesn't show the picture's colour, if there is one.
 fn first_wrong(screen: &Screen, shown: &Shown) -> Option<(u32, u32)> {
     let (columns, rows) = shown.size();
     for y in 0..screen.height().min(u32::from(rows)) {
@@ -269,7 +270,7 @@ fn first_wrong(screen: &Screen, shown: &Shown) -> Option<(u32, u32)> {
 
 const SHOWN: &str = "by what viewers show";
 
-/// Whether a viewer that is open said its last message whole, so that it can ask for what changed.
+/// Returns whether a viewer is open and said its last message whole, so that it can ask for what changed.
 fn can_ask(screen: &Screen, ear: &Ear, shown: &mut Shown) -> Result<bool, AllocError> {
     let mut ear = ear.try_clone()?;
     let heard = ear.feed(&shown.request(whole(screen), true))?;
@@ -279,13 +280,14 @@ fn can_ask(screen: &Screen, ear: &Ear, shown: &mut Shown) -> Result<bool, AllocE
     ))
 }
 
-/// A viewer lacks the colour map.
+/// Makes the difference of a viewer that lacks the colour map.
 fn lacks_map(alloc: Global, viewer: u64, line: usize) -> Result<Difference, AllocError> {
     let wanted = format!(in alloc; "viewer {viewer} has the server's colour map")?;
     make_difference(alloc, SHOWN, line, &wanted, "it has not")
 }
 
-/// A viewer that was told all that is owed to it shows the picture, as far as its size goes, and has the colour map that its format needs.
+/// Checks that a viewer, once it has read all that is owed to it, shows the picture within its own size, and has the colour map
+/// that its format needs.
 fn check_viewer(
     alloc: Global,
     screen: &mut Screen,
@@ -315,7 +317,7 @@ fn check_viewer(
     }
 }
 
-/// All viewers show the picture once nothing is owed to them.
+/// Checks that all viewers show the picture once nothing is owed to them.
 fn check_viewers(
     alloc: Global,
     world: &mut World,
@@ -330,7 +332,7 @@ fn check_viewers(
     Ok(None)
 }
 
-/// What a viewer shows is what is written under a look.
+/// Checks that a viewer shows what is written under `look`.
 fn check_look(
     world: &World,
     transcript: &Transcript,
@@ -343,7 +345,7 @@ fn check_look(
     compare(world.alloc, SHOWN, &[exchange], &text)
 }
 
-/// The looks that come behind so many events.
+/// Checks the looks that come once `events` events have happened.
 fn check_looks(
     world: &World,
     transcript: &Transcript,
@@ -361,7 +363,7 @@ fn check_looks(
     Ok(None)
 }
 
-/// No viewer was told what is no message, and none lacks its colour map.
+/// Checks that the server said nothing but messages, and that no viewer lacks its colour map.
 fn check_told(world: &mut World, line: usize) -> Result<Option<Difference>, AllocError> {
     if let Some(viewer) = world.unwell() {
         let wanted = format!(in world.alloc; "messages for viewer {viewer}")?;
@@ -374,7 +376,7 @@ fn check_told(world: &mut World, line: usize) -> Result<Option<Difference>, Allo
     }
 }
 
-/// The looks, as the events happen; and what the viewers were told by then.
+/// Does the events, checks the looks between them, and checks after each event what the server said by then.
 fn check_events(
     world: &mut World,
     transcript: &Transcript,
@@ -394,13 +396,12 @@ fn check_events(
     Ok(check_looks(world, transcript, script, script.events.len())?)
 }
 
-/// Whether the viewers are told of all that an event draws.
+/// Returns whether the viewers learn of all that `event` draws.
 fn is_told(event: &Event) -> bool {
     !matches!(event, Event::Write { .. } | Event::ScheduleCopy { .. })
 }
 
-/// What viewers show while a script is played, and that they show the picture behind it, where they are told of all that is
-/// drawn.
+/// Checks what viewers show while a script is played, and that it is the picture in the end, if they learn of all that is drawn.
 pub fn check_shown(
     alloc: Global,
     transcript: &Transcript,

@@ -1,4 +1,4 @@
-//! Whether a hub is closed, and how its taker's end is told. A taker that looked at the queue before the flag would lose an
+//! Whether a hub is closed, and how its taker learns of the end. A taker that looked at the queue before the flag would lose an
 //! input that was put in between; so only `SeenClosed::then_take` makes an `AtEnd`, and only a look at the flag a `SeenClosed`.
 ghost use Rattle.std.specs.Prelude.{◌≡◌, [], ◌++◌, ◌∷◌, MatchResult};
 ghost use Rattle.input_queue.specs.Ends.{AllTaken};
@@ -38,7 +38,7 @@ impl Closing {
         self.is_woken.store(true, Ordering::SeqCst);
     }
 
-    /// Whether the taker was woken since this was asked.
+    /// Returns whether the taker was woken since this was asked last.
     pub(crate) fn take_wake(&self) -> bool {
         self.is_woken.swap(false, Ordering::SeqCst)
     }
@@ -51,7 +51,7 @@ impl Closing {
 }
 
 impl SeenClosed {
-    /// Takes the input in front, of a hub that was seen closed.
+    /// Takes the input in front of a hub that was seen closed; `AtEnd` says that it holds none.
     pub(crate) fn then_take<R: Wait>(
         self,
         rt: &R,

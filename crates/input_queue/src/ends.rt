@@ -49,7 +49,7 @@ impl InputEnds {
         }
     }
 
-    /// Puts an input behind the others, and wakes the taker, as `InputHub::put`.
+    /// Puts an input behind the others, and wakes the taker, as `InputHub::put` does. Gives the input back as `Full`.
     pub fn put<R: Wait>(&self, rt: &R, seat: &mut InputSeat, input: Input) -> Result<(), Full>
         requires { seat.old.queue ≡ self.now.queue }
         ensures accepted { IfOk result (λ _. seat.new ≡ accepting input seat.old) }
@@ -72,7 +72,7 @@ impl InputEnds {
         }
     }
 
-    /// Puts what the application has to be told at this seat, as `InputHub::settle`.
+    /// Puts what the application is owed at this seat, as `InputHub::settle` does.
     pub fn settle<R: Wait>(&self, rt: &R, seat: &mut InputSeat, held: &HeldInputs) -> bool
         requires { seat.old.queue ≡ self.now.queue }
         ensures put { (inputs : List Input) × Settles held.now inputs seat.old seat.new }
@@ -93,7 +93,7 @@ impl InputEnds {
         unreachable!()
     }
 
-    /// Does so for a viewer that has left, as `InputHub::let_go`.
+    /// Puts what the application is owed once the viewer has left, as `InputHub::let_go` does.
     pub fn let_go<R: Wait>(&self, rt: &R, seat: &mut InputSeat) -> bool
         requires { seat.old.queue ≡ self.now.queue }
         ensures put { (inputs : List Input) × Settles (let_go (held_by seat.old.accepted)) inputs seat.old seat.new }
@@ -108,7 +108,7 @@ impl InputEnds {
         self.settle(rt, seat, &held)
     }
 
-    /// Takes the input in front, as `InputHub::take`.
+    /// Takes the input in front, as `InputHub::take` does.
     pub fn take<R: Wait>(&self, rt: &R, taker: &mut Taker) -> Option<Told>
         requires { taker.old.queue ≡ self.now.queue }
         ensures { MatchOption result ((taker.new ≡ taker.old) ×
@@ -117,7 +117,7 @@ impl InputEnds {
         self.queue.pop_as::<Takes, R>(rt, &mut taker.pass)
     }
 
-    /// Takes the input in front once there is one, as `InputHub::take_wait`.
+    /// Takes the input in front once there is one, as `InputHub::take_wait` does.
     pub fn take_wait<R: Wait>(&self, rt: &R, taker: &mut Taker) -> Result<Told, AtEnd>
         requires { taker.old.queue ≡ self.now.queue }
         ensures { MatchResult result (λ told. taker.new ≡ record taker.old { taken = taker.old.taken ++ told ∷ [] })
@@ -135,7 +135,7 @@ impl InputEnds {
         unreachable!()
     }
 
-    /// Takes the input in front, or is woken, as `InputHub::take_or_woken`.
+    /// Takes the input in front, or is woken, as `InputHub::take_or_woken` says.
     pub fn take_or_woken<R: Wait>(&self, rt: &R, taker: &mut Taker) -> Result<Option<Told>, AtEnd>
         requires { taker.old.queue ≡ self.now.queue }
         ensures { MatchResult result (λ front. MatchOption front ((taker.new ≡ taker.old) × AllTaken taker.old.taken)
@@ -167,7 +167,7 @@ impl InputEnds {
         self.arrival.unpark();
     }
 
-    /// Ends the putting, as `InputHub::close`.
+    /// Closes the hub, as `InputHub::close` does.
     pub fn close(&self) {
         self.closing.close();
         self.arrival.unpark();

@@ -110,8 +110,8 @@ impl Model for InputSeat {
 }
 
 impl InputHub {
-    /// Makes an empty queue that can hold `capacity` inputs, with its taker. `BadCapacity` unless that is 1 to
-    /// 65,536. All room is made here.
+    /// Makes an empty queue that can hold `capacity` inputs, with its taker, and all room for them. Refuses a capacity that isn't 1 to
+    /// 65,536 as `BadCapacity`, and else for want of memory as `OutOfMemory`.
     pub fn new(alloc: Global, capacity: usize) -> Result<(InputHub, Taker), QueueError>
         ensures refused { MatchBool (nat_le 1 capacity && nat_le capacity 65536) (IsOkUnless result QueueError.OutOfMemory)
             (result ≡ Err QueueError.BadCapacity) }
@@ -147,7 +147,7 @@ impl InputHub {
         &self.ends
     }
 
-    /// Makes a seat for a viewer. The hub counts its seats; the count stops at 2^64 - 1.
+    /// Makes a seat for a viewer, and counts it; the count stops at 2^64 - 1.
     pub fn seat(&mut self, viewer: u64) -> InputSeat
         ensures hub { self.new ≡ record self.old { seats = min (self.old.seats + 1) (2 ^ 64 - 1) } }
         ensures queue { result.queue ≡ self.old.queue }
@@ -158,9 +158,9 @@ impl InputHub {
         self.maker.seat(&self.ends, viewer)
     }
 
-    /// Puts an input behind the others, and wakes the taker where it waits. The input comes back where the
-    /// queue held as many as it can at that step: that it does so nowhere else rests on this body, since no
-    /// clause can tell. After 2^62 accepted inputs this waits for ever.
+    /// Puts an input behind the others, and wakes the taker where it waits. Gives the input back as `Full` where the queue held as many
+    /// as it can at that step: that it does so nowhere else rests on this body, since no clause can tell. After 2^62 accepted inputs this
+    /// waits for ever.
     pub fn put<R: Wait>(&self, rt: &R, seat: &mut InputSeat, input: Input) -> Result<(), Full>
         requires { seat.old.queue ≡ self.now.queue }
         ensures accepted { IfOk result (λ _. seat.new ≡ accepting input seat.old) }
@@ -171,8 +171,8 @@ impl InputHub {
         self.ends.put(rt, seat, input)
     }
 
-    /// Puts what the application has to be told at this seat, so that no key is down for it that the viewer doesn't hold, and the same
-    /// buttons are: releases, and the pointer, as long as there is room. Returns whether nothing is left of it; else the queue held as many
+    /// Puts what the application is owed at this seat, so that no key is down for it that the viewer doesn't hold, and the same buttons
+    /// are: releases, and the pointer, as long as there is room. Returns whether nothing is left of it; else the queue held as many
     /// inputs as it can.
     pub fn settle<R: Wait>(&self, rt: &R, seat: &mut InputSeat, held: &HeldInputs) -> bool
         requires { seat.old.queue ≡ self.now.queue }
@@ -186,7 +186,7 @@ impl InputHub {
         self.ends.settle(rt, seat, held)
     }
 
-    /// Does the same for a viewer that has left, and holds nothing.
+    /// Does what `settle` does, for a viewer that has left, and holds nothing.
     pub fn let_go<R: Wait>(&self, rt: &R, seat: &mut InputSeat) -> bool
         requires { seat.old.queue ≡ self.now.queue }
         ensures put { (inputs : List Input) × Settles (let_go (held_by seat.old.accepted)) inputs seat.old seat.new }
@@ -200,8 +200,8 @@ impl InputHub {
         self.ends.let_go(rt, seat)
     }
 
-    /// Takes the input in front. None where the queue was empty at some moment of the call: that it comes
-    /// nowhere else rests on this body, since no clause can tell.
+    /// Takes the input in front. Returns None if the queue was empty at some moment of the call: that it does so nowhere else rests on
+    /// this body, since no clause can tell.
     pub fn take<R: Wait>(&self, rt: &R, taker: &mut Taker) -> Option<Told>
         requires { taker.old.queue ≡ self.now.queue }
         ensures { MatchOption result ((taker.new ≡ taker.old) ×
@@ -210,8 +210,8 @@ impl InputHub {
         self.ends.take(rt, taker)
     }
 
-    /// Takes the input in front, and sleeps until there is one or the hub is closed. A closed hub gives what it
-    /// still holds, and then tells `AtEnd`, as often as it is asked.
+    /// Takes the input in front, and sleeps until there is one or the hub is closed. A closed hub gives what it still holds, and then
+    /// `AtEnd`, as often as it is asked.
     pub fn take_wait<R: Wait>(&self, rt: &R, taker: &mut Taker) -> Result<Told, AtEnd>
         requires { taker.old.queue ≡ self.now.queue }
         ensures { MatchResult result (λ told. taker.new ≡ record taker.old { taken = taker.old.taken ++ told ∷ [] })
@@ -220,8 +220,9 @@ impl InputHub {
         self.ends.take_wait(rt, taker)
     }
 
-    /// Takes the input in front, and sleeps until there is one, or the taker is woken by `wake`, or the hub is closed. None where it was
-    /// woken, once what had been put before is taken. A closed hub gives what it still holds, and then tells `AtEnd`, as often as it is asked.
+    /// Takes the input in front, and sleeps until there is one, or `wake` wakes the taker, or the hub is closed. Returns None once the
+    /// taker was woken, and what had been put before is taken. A closed hub gives what it still holds, and then `AtEnd`, as often as it
+    /// is asked.
     pub fn take_or_woken<R: Wait>(&self, rt: &R, taker: &mut Taker) -> Result<Option<Told>, AtEnd>
         requires { taker.old.queue ≡ self.now.queue }
         ensures { MatchResult result (λ front. MatchOption front ((taker.new ≡ taker.old) × AllTaken taker.old.taken)
@@ -236,7 +237,7 @@ impl InputHub {
         self.ends.wake();
     }
 
-    /// Ends the putting: the taker waits for no further input. To be called once every seat has put its last.
+    /// Closes the hub: the taker waits for no further input. Call it once every seat has put its last.
     pub fn close(&self) {
         self.ends.close();
     }

@@ -18,7 +18,7 @@ const INTERVAL: u32 = 10;
 /// After how many signs that didn't come it is taken to be gone.
 const PROBES: u32 = 6;
 
-/// An option's value: a number, in the first four bytes.
+/// Returns an option's value: a number, in the first four bytes.
 fn number(value: u32) -> [u8; 16]
     ensures { result ≡ to_le_bytes w32 value ++ replicate 12 0 }
 {
@@ -27,10 +27,10 @@ fn number(value: u32) -> [u8; 16]
     bytes
 }
 
-/// Has the system ask the peer of a TCP socket for a sign once nothing came from it for 60 seconds, and every 10 seconds after that.
-/// After six that didn't come the connection is broken: each read and write of it fails. So a peer whose machine or line is gone is
-/// noticed within about two minutes, unless bytes were on their way to it: then once the system has given up on repeating them. An
-/// option that the system refuses stays as it was.
+/// Makes the system ask the peer of a TCP socket for a sign once nothing came from it for 60 seconds, and every 10 seconds after that.
+/// After six signs that didn't come the connection is broken: each read and write of it fails. So a peer whose machine or line is gone is
+/// noticed within about two minutes, unless bytes were on their way to it: then once the system has given up on repeating them. Leaves an
+/// option that the system refuses as it was.
 pub fn keep_alive(socket: &impl AsRawFd) {
     let descriptor = socket.as_raw_fd();
     unsafe {

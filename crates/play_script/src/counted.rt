@@ -16,7 +16,7 @@ pub struct CountedReader<'a, R, L: Ledger> {
 }
 
 impl<'a, R: Read, L: Ledger> CountedReader<'a, R, L> {
-    /// A reader, and the count to which each read of it adds one.
+    /// Returns `reader` with a count of its reads: each adds one to `steps`.
     pub fn new(reader: &'a mut R, steps: &'a mut Steps<L>) -> CountedReader<'a, R, L>
         ensures reader { result.reader.now ≡ reader.old }
         ensures count { result.steps.now ≡ steps.old }
@@ -25,7 +25,7 @@ impl<'a, R: Read, L: Ledger> CountedReader<'a, R, L> {
         CountedReader { reader, steps }
     }
 
-    /// One read, which is counted.
+    /// Reads once, and counts it.
     pub fn read(&mut self, piece: &mut [u8]) -> io::Result<usize>
         ensures count { self.new.steps.now ≡ self.old.steps.now + 1 }
         ensures same_count { self.new.steps.ghost_name ≡ self.old.steps.ghost_name }

@@ -26,14 +26,14 @@ const DIGIT_VALUES: [u8; 256] = [
     36, 36, 36, 36, 36, 36, 36, 36, 36, 36, 36, 36, 36, 36, 36, 36,
 ];
 
-// The value of a digit; 36 of any other byte.
+// Returns the value of a digit; 36 of any other byte.
 pub fn digit_value(byte: u8) -> u32
     ensures { result ≡ digit_value byte }
 {
     u32::from(DIGIT_VALUES[usize::from(byte)])
 }
 
-// The number that at most six hexadecimal digits spell.
+// Returns the number that at most six hexadecimal digits spell.
 fn value_of(digits: &[u8]) -> u32
     requires { length digits.now ≤ 6 }
     ensures { result ≡ value_in 16 digits.now }
@@ -51,7 +51,7 @@ fn all_digits(word: &[u8], base: u32) -> bool
     word.iter().all(|digit| digit_value(*digit) < base)
 }
 
-// Whether a word has digits of a base, and nothing else.
+// Returns whether a word has digits of `base`, and nothing else.
 pub fn are_digits(word: &[u8], base: u32) -> bool
     ensures { result ≡ are_digits base word.now }
 {
@@ -65,7 +65,7 @@ fn is_groups(word: &[u8], size: usize) -> bool
     are_digits(word, 16) && word.len() % size == 0
 }
 
-// The number that a group of digits spells, by the group's place among the groups.
+// Returns the number that a group of `size` digits spells, by its `place` among the groups.
 fn group_value(word: &[u8], size: usize, place: usize) -> u32
     requires few { size ≤ 6 }
     requires within { size * place + size ≤ length word.now }
@@ -75,7 +75,7 @@ fn group_value(word: &[u8], size: usize, place: usize) -> u32
     value_of(&word[start..start + size])
 }
 
-// The bytes that a word spells, two digits each.
+// Returns the bytes that a word spells, two digits each, and no bytes for `-`; else None.
 pub fn hex_bytes(alloc: Global, word: &[u8]) -> Result<Option<Vec<u8>>, AllocError>
     ensures { IfOk result (λ found. option_map (λ bytes. bytes.items) found ≡ bytes_of word.now) }
 {
@@ -92,7 +92,7 @@ pub fn hex_bytes(alloc: Global, word: &[u8]) -> Result<Option<Vec<u8>>, AllocErr
     Ok(Some(bytes))
 }
 
-// The colours that a word spells, six digits each.
+// Returns the colours that a word spells, six digits each, and no colours for `-`; else None.
 pub fn hex_colours(alloc: Global, word: &[u8]) -> Result<Option<Vec<u32>>, AllocError>
     ensures { IfOk result (λ found. option_map (λ colours. colours.items) found ≡ colours_of word.now) }
 {

@@ -101,7 +101,7 @@ fn verb_of(word: &[u8]) -> Option<Verb>
     }
 }
 
-// The name that a word stands for; `-` stands for the empty one.
+// Returns the name that a word stands for; `-` stands for the empty one, and the empty word for none.
 fn name_of(word: &[u8]) -> Option<&[u8]>
     ensures { option_map (λ name. name.now) result ≡ name_of word.now }
 {
@@ -148,7 +148,7 @@ fn asked_of(line: &[u8]) -> Option<Asked<'_>>
     })
 }
 
-// screen W H NAME [LIMIT]
+// Reads `screen W H NAME [LIMIT]`.
 fn screen_line(alloc: Global, line: &[u8]) -> Result<Line, AllocError>
     ensures { IfOk result (λ l. l ≡ started_by (config_of (words_of line.now))) }
 {
@@ -200,7 +200,7 @@ fn places_of(line: &[u8]) -> Option<Places>
     places_by(x, y, width, height)
 }
 
-// One colour alone stands for as many equal ones as there are places.
+// Returns `count` equal colours for one colour alone, and any others as they are.
 fn spread(alloc: Global, count: u32, colours: Vec<u32>) -> Result<Vec<u32>, AllocError>
     ensures { IfOk result (λ all. all.items ≡ spread count colours.items) }
 {
@@ -210,7 +210,7 @@ fn spread(alloc: Global, count: u32, colours: Vec<u32>) -> Result<Vec<u32>, Allo
     Ok(colours)
 }
 
-// X Y W H PIXELS
+// Reads `X Y W H PIXELS`.
 #[tactic(auto, unfolding(crate::specs::Lines::pixels_of))]
 fn pixels_of(alloc: Global, line: &[u8]) -> Result<Option<Pixels>, AllocError>
     ensures { IfOk result (λ pixels. pixels ≡ (if length (words_of line.now) == 6 then pixels_of (words_of line.now) else None)) }
@@ -231,7 +231,7 @@ fn pixels_of(alloc: Global, line: &[u8]) -> Result<Option<Pixels>, AllocError>
     }))
 }
 
-// paint X Y W H PIXELS
+// Reads `paint X Y W H PIXELS`.
 fn paint_line(alloc: Global, line: &[u8]) -> Result<Line, AllocError>
     ensures { IfOk result (λ l. l ≡ done_by (if length (words_of line.now) == 6 then paint_of (words_of line.now) else None)) }
 {
@@ -241,7 +241,7 @@ fn paint_line(alloc: Global, line: &[u8]) -> Result<Line, AllocError>
     }
 }
 
-// write X Y W H PIXELS
+// Reads `write X Y W H PIXELS`.
 fn write_line(alloc: Global, line: &[u8]) -> Result<Line, AllocError>
     ensures { IfOk result (λ l. l ≡ done_by (if length (words_of line.now) == 6 then write_of (words_of line.now) else None)) }
 {
@@ -251,7 +251,7 @@ fn write_line(alloc: Global, line: &[u8]) -> Result<Line, AllocError>
     }
 }
 
-// X1 Y1 X2 Y2
+// Reads `X1 Y1 X2 Y2`.
 #[tactic(auto, unfolding(crate::specs::Lines::corners_of))]
 fn corners_of(line: &[u8]) -> Option<Rect>
     ensures { result ≡ corners_of (words_of line.now) }
@@ -263,7 +263,7 @@ fn corners_of(line: &[u8]) -> Option<Rect>
     Some(Rect { x1, y1, x2, y2 })
 }
 
-// One rectangle as a list.
+// Returns one rectangle as a list.
 fn alone(alloc: Global, rect: Rect) -> Result<Listed<Rect>, AllocError>
     ensures { IfOk result (λ rects. rects ≡ rect ∷ []) }
 {
@@ -272,7 +272,7 @@ fn alone(alloc: Global, rect: Rect) -> Result<Listed<Rect>, AllocError>
     Ok(rects)
 }
 
-// mark X1 Y1 X2 Y2
+// Reads `mark X1 Y1 X2 Y2`.
 fn mark_line(alloc: Global, line: &[u8]) -> Result<Line, AllocError>
     ensures { IfOk result (λ l. l ≡ done_by (mark_of (words_of line.now))) }
 {
@@ -286,7 +286,7 @@ fn mark_line(alloc: Global, line: &[u8]) -> Result<Line, AllocError>
     Ok(Line::Do(Event::Mark { rects }))
 }
 
-// X1 Y1 X2 Y2 DX DY
+// Reads `X1 Y1 X2 Y2 DX DY`.
 #[tactic(auto, unfolding(crate::specs::Lines::move_of))]
 fn move_of(line: &[u8]) -> Option<Move>
     ensures { result ≡ move_of (words_of line.now) }
@@ -297,7 +297,7 @@ fn move_of(line: &[u8]) -> Option<Move>
     Some(Move { rect, dx, dy })
 }
 
-// schedule X1 Y1 X2 Y2 DX DY
+// Reads `schedule X1 Y1 X2 Y2 DX DY`.
 fn schedule_line(alloc: Global, line: &[u8]) -> Result<Line, AllocError>
     ensures { IfOk result (λ l. l ≡ done_by (schedule_of (words_of line.now))) }
 {
@@ -311,7 +311,7 @@ fn schedule_line(alloc: Global, line: &[u8]) -> Result<Line, AllocError>
     Ok(Line::Do(Event::ScheduleCopy { rects, dx, dy }))
 }
 
-// docopy X1 Y1 X2 Y2 DX DY
+// Reads `docopy X1 Y1 X2 Y2 DX DY`.
 fn copy_line(alloc: Global, line: &[u8]) -> Result<Line, AllocError>
     ensures { IfOk result (λ l. l ≡ done_by (copy_of (words_of line.now))) }
 {
@@ -325,7 +325,7 @@ fn copy_line(alloc: Global, line: &[u8]) -> Result<Line, AllocError>
     Ok(Line::Do(Event::DoCopy { rects, dx, dy }))
 }
 
-// bell
+// Reads `bell`.
 fn bell_line(line: &[u8]) -> Line
     ensures { result ≡ done_by (bell_of (words_of line.now)) }
 {
@@ -336,7 +336,7 @@ fn bell_line(line: &[u8]) -> Line
     }
 }
 
-// cuttext HEX
+// Reads `cuttext HEX`.
 fn text_line(alloc: Global, line: &[u8]) -> Result<Line, AllocError>
     ensures { IfOk result (λ l. l ≡ done_by (text_of (words_of line.now))) }
 {
@@ -351,7 +351,7 @@ fn text_line(alloc: Global, line: &[u8]) -> Result<Line, AllocError>
     }))
 }
 
-// resize W H
+// Reads `resize W H`.
 #[tactic(auto, unfolding(crate::specs::Lines::size_in))]
 fn resize_line(line: &[u8]) -> Line
     ensures { result ≡ done_by (resize_of (words_of line.now)) }
@@ -365,7 +365,7 @@ fn resize_line(line: &[u8]) -> Line
     }
 }
 
-// hear V HEX
+// Reads `hear V HEX`.
 #[tactic(auto, unfolding(crate::specs::Lines::hear_of))]
 fn hear_line(alloc: Global, line: &[u8]) -> Result<Line, AllocError>
     ensures { IfOk result (λ l. l ≡ done_by (if length (words_of line.now) == 3 then hear_of (words_of line.now) else None)) }
@@ -385,7 +385,7 @@ fn hear_line(alloc: Global, line: &[u8]) -> Result<Line, AllocError>
     }))
 }
 
-// The viewer's number, of a line that has no other argument.
+// Reads the viewer's number of a line that has no other argument.
 fn only_viewer(line: &[u8]) -> Option<u64>
     ensures { result ≡ only_viewer (words_of line.now) }
 {
@@ -404,7 +404,8 @@ fn done_by(event: Option<Event>) -> Line
     }
 }
 
-/// What a line says. Memory is wanted for a name, a viewer's bytes and the colours of a picture.
+/// Returns what a line says. Takes memory for a name, a text, a viewer's bytes, the colours of a picture, and a rectangle that is marked
+/// or copied to.
 pub fn parse_line(alloc: Global, line: &[u8]) -> Result<Line, AllocError>
     ensures { IfOk result (λ l. l ≡ line_of line.now) }
 {

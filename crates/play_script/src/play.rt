@@ -24,14 +24,14 @@ struct Said {
     status: Option<u8>,
 }
 
-// The script goes on behind the text.
+// Says `text`, behind which the script goes on.
 fn goes_on(text: Vec<u8>) -> Said
     ensures { result ≡ record { text = text; status = None } }
 {
     Said { text, status: None }
 }
 
-// The script ends behind the text.
+// Says `text`, behind which the script ends with the status 1.
 fn is_over(text: Vec<u8>) -> Said
     ensures { result ≡ record { text = text; status = Some 1 } }
 {
@@ -48,7 +48,7 @@ fn bad_line(alloc: Global, number: u64) -> Result<Said, AllocError>
     Ok(is_over(bad_line_text(alloc, number)?))
 }
 
-// A screen is made, where there is none yet.
+// Makes a screen, and says so. Ends the script where there is a screen already, and where `config` is refused.
 fn start(
     alloc: Global,
     screen: &mut Option<Screen>,
@@ -72,7 +72,7 @@ fn start(
     }
 }
 
-// The screen does an event, where there is one.
+// Does `event` on the screen, and says the answer. Ends the script where there is no screen.
 fn perform(
     alloc: Global,
     screen: &mut Option<Screen>,
@@ -90,7 +90,7 @@ fn perform(
     Ok(goes_on(answer_text(alloc, event, &answer)?))
 }
 
-// The line with a number is played.
+// Plays the line with a number.
 fn step(
     alloc: Global,
     screen: &mut Option<Screen>,
@@ -109,7 +109,7 @@ fn step(
     }
 }
 
-// A whole script is played, line by line. Its status is 0, or 1 where it ended early.
+// Plays a whole script, line by line. Returns its status: 0, or 1 where it ended early.
 fn play_text<W: Write>(alloc: Global, script: &[u8], writer: &mut W) -> Result<u8, Trouble>
     requires { length script.now ≤ 2 ^ 24 }
     ensures transcript { OnOk result (Appends (W.contents writer.old) (W.contents writer.new) (transcript script.now)) }
@@ -168,7 +168,7 @@ fn play_by_reads<R: Read, W: Write, L: Ledger>(
     }
 }
 
-/// `play_over`, each of whose reads is one step.
+/// Does what `play_over` does, and counts each read as one step.
 pub fn play_counted<R: Read, W: Write, L: Ledger>(
     alloc: Global,
     reader: &mut R,
@@ -184,7 +184,7 @@ pub fn play_counted<R: Read, W: Write, L: Ledger>(
     play_by_reads(alloc, &mut CountedReader::new(reader, steps), writer)
 }
 
-// The reads are counted on a ledger that nobody looks into.
+// Plays, and counts the reads on a ledger that nobody looks into.
 fn play_uncounted<R: Read, W: Write, L: Ledger>(
     alloc: Global,
     reader: &mut R,
@@ -202,9 +202,9 @@ fn play_uncounted<R: Read, W: Write, L: Ledger>(
     play_counted(alloc, reader, writer, &mut steps)
 }
 
-/// Reads a script whole and prints the answer to each line. The status is 0; 1 where the script ended
-/// with a bad line or a refused screen; 3 after `out of memory`; 5 after `read fault`, after `too long`,
-/// which is a script of more than 2^24 bytes, and after a write that failed. It reads at most 2^24 + 1 times (`play_counted`).
+/// Reads a script whole and prints the answer to each line. Returns the status: 0; 1 where the script ended with a bad line or a refused
+/// screen; 3 after `out of memory`; 5 after `read fault`, after `too long`, which is a script of more than 2^24 bytes, and after a write
+/// that failed. Reads at most 2^24 + 1 times (`play_counted`).
 pub fn play_over<R: Read, W: Write>(alloc: Global, reader: &mut R, writer: &mut W) -> u8
     // What it wrote is the transcript of what it read, where reader and writer tell their bytes.
     ensures transcript { (result ≡ 0) ⊎ (result ≡ 1) → IfSome (R.remaining reader.old) (λ script.

@@ -19,7 +19,7 @@ fn zeros(alloc: Global, count: usize) -> Result<Vec<u8>, AllocError>
     vec![in alloc; 0u8; count]
 }
 
-/// A script, read to its end in pieces.
+/// Reads a script to its end, in pieces. Fails as `ReadFault`, as `TooLong` where it has more than 2^24 bytes, or as `OutOfMemory`.
 pub fn read_script<R: Read, L: Ledger>(
     alloc: Global,
     reader: &mut CountedReader<'_, R, L>,

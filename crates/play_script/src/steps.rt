@@ -21,7 +21,7 @@ impl<L: Ledger> Model for Steps<L> {
 }
 
 impl<L: Ledger> Steps<L> {
-    /// A count of none, on a new ledger of one part.
+    /// Returns a count of none, on a new ledger of one part.
     pub fn new(blank: Blank) -> Steps<L>
         requires name { blank.name ≡ L.name }
         requires parts { blank.parts ≡ L.parts }
@@ -32,7 +32,7 @@ impl<L: Ledger> Steps<L> {
         Steps { book, share }
     }
 
-    /// One read more.
+    /// Counts one read more.
     pub fn tick(&mut self)
         ensures { self.new ≡ self.old + 1 }
     {

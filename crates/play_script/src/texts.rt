@@ -7,7 +7,7 @@ use messages::{Fault, Input};
 use screen::{Answer, Event, ScreenError};
 use std::alloc::{AllocError, Global};
 
-// One digit, in lower case.
+// Returns the digit of `value`, in lower case.
 fn hex_digit(value: u8) -> u8
     requires { value < 16 }
     ensures { result ≡ hex_digit value }
@@ -29,7 +29,7 @@ fn put_hex(out: &mut Vec<u8>, bytes: &[u8]) -> Result<(), AllocError>
     Ok(())
 }
 
-// `-` stands for no bytes.
+// Appends bytes in hexadecimal digits; `-` stands for no bytes.
 fn put_hex_word(out: &mut Vec<u8>, bytes: &[u8]) -> Result<(), AllocError>
     ensures { OnOk result (out.new.items ≡ out.old.items ++ hex_word bytes.now) }
 {
@@ -46,7 +46,7 @@ fn put_number(alloc: Global, out: &mut Vec<u8>, number: u64) -> Result<(), Alloc
     out.extend_from_slice(digits.as_bytes())
 }
 
-// The head of a line: its name, which ends with a blank, the viewer's number and a blank.
+// Appends the head of a line: `name`, which ends with a blank, the viewer's number and a blank.
 fn put_head(alloc: Global, out: &mut Vec<u8>, name: &[u8], viewer: u64) -> Result<(), AllocError>
     ensures { OnOk result (out.new.items ≡ out.old.items ++ (name.now ++ decimal viewer ++ codes " ")) }
 {
@@ -89,7 +89,7 @@ fn fault_name(fault: Fault) -> &'static [u8]
     }
 }
 
-// The type that no message has.
+// Returns the type that no message has, if the fault is such a type.
 fn unknown_type(fault: Fault) -> Option<u8>
     ensures { result ≡ unknown_type fault }
 {
@@ -238,14 +238,14 @@ fn put_answered(
     }
 }
 
-/// What is printed where a screen was made.
+/// Returns what is printed where a screen was made.
 pub fn ok_text(alloc: Global) -> Result<Vec<u8>, AllocError>
     ensures { IfOk result (λ text. text.items ≡ ok) }
 {
     b"ok\n".to_vec(alloc)
 }
 
-/// What is printed of a refusal.
+/// Returns what is printed of a refusal.
 pub fn refusal_text(alloc: Global, refusal: ScreenError) -> Result<Vec<u8>, AllocError>
     ensures { IfOk result (λ text. text.items ≡ refused refusal) }
 {
@@ -256,7 +256,7 @@ pub fn refusal_text(alloc: Global, refusal: ScreenError) -> Result<Vec<u8>, Allo
     Ok(out)
 }
 
-/// What is printed of a bad line, by its number from 1 on.
+/// Returns what is printed of a bad line, by its number from 1 on.
 pub fn bad_line_text(alloc: Global, number: u64) -> Result<Vec<u8>, AllocError>
     ensures { IfOk result (λ text. text.items ≡ bad_line number) }
 {
@@ -267,7 +267,7 @@ pub fn bad_line_text(alloc: Global, number: u64) -> Result<Vec<u8>, AllocError>
     Ok(out)
 }
 
-/// What is printed of the answer to an event: its lines.
+/// Returns what is printed of the answer to an event: its lines.
 pub fn answer_text(alloc: Global, event: &Event, answer: &Answer) -> Result<Vec<u8>, AllocError>
     ensures { IfOk result (λ text. text.items ≡ text_of event.now answer.now) }
 {

@@ -34,7 +34,7 @@ impl<T: Drop> From<AllocFailed<T>> for Trouble {
     }
 }
 
-/// Writes a text whole.
+/// Writes a text whole. Fails as `WriteFault`.
 pub fn print<W: Write>(writer: &mut W, text: &[u8]) -> Result<(), Trouble>
     ensures { OnOk result (Appends (W.contents writer.old) (W.contents writer.new) text.now) }
 {
@@ -44,7 +44,7 @@ pub fn print<W: Write>(writer: &mut W, text: &[u8]) -> Result<(), Trouble>
     Ok(())
 }
 
-/// Hands on what the writer may hold.
+/// Hands on what the writer may hold. Fails as `WriteFault`.
 pub fn flush<W: Write>(writer: &mut W) -> Result<(), Trouble>
     ensures { Keeps (W.contents writer.old) (W.contents writer.new) }
 {
@@ -54,7 +54,8 @@ pub fn flush<W: Write>(writer: &mut W) -> Result<(), Trouble>
     Ok(())
 }
 
-/// The last line printed, and the status. After a write fault nothing more is printed.
+/// Prints the last line, and returns the status: 3 for `OutOfMemory`, 5 for any other trouble. Prints nothing for a `WriteFault`; the
+/// status is 5 too where this print fails.
 pub fn report<W: Write>(writer: &mut W, trouble: Trouble) -> u8
     ensures { (result ≡ 3) ⊎ (result ≡ 5) }
 {

@@ -15,7 +15,7 @@ fn place_of(text: &[u8], separator: u8) -> Option<usize>
     text.iter().position(|byte| *byte == separator)
 }
 
-// What stands before the first separator, and what stands behind it.
+// Returns what stands before the first separator, and what stands behind it.
 fn split_at(text: &[u8], separator: u8) -> (&[u8], Option<&[u8]>)
     ensures parts { parts separator text.now ≡ result.0.now ∷ option_map_or (λ rest. parts separator rest.now) result.1 [] }
     ensures less { IfSome result.1 (λ rest. length rest.now < length text.now) }
@@ -26,7 +26,7 @@ fn split_at(text: &[u8], separator: u8) -> (&[u8], Option<&[u8]>)
     }
 }
 
-/// The first line of a text without its line feed, and what stands behind that, if there is one.
+/// Returns the first line of a text without its line feed, and what stands behind that, if there is one.
 pub fn split_line(text: &[u8]) -> (&[u8], Option<&[u8]>)
     ensures lines { lines_of text.now ≡ result.0.now ∷ option_map_or (λ rest. lines_of rest.now) result.1 [] }
     ensures less { IfSome result.1 (λ rest. length rest.now < length text.now) }
@@ -34,7 +34,7 @@ pub fn split_line(text: &[u8]) -> (&[u8], Option<&[u8]>)
     split_at(text, b'\n')
 }
 
-/// The first word of a line, and what stands behind its blank, if there is one.
+/// Returns the first word of a line, and what stands behind its blank, if there is one.
 pub fn split_word(line: &[u8]) -> (&[u8], Option<&[u8]>)
     ensures words { words_of line.now ≡ result.0.now ∷ option_map_or (λ rest. words_of rest.now) result.1 [] }
     ensures less { IfSome result.1 (λ rest. length rest.now < length line.now) }
@@ -42,7 +42,7 @@ pub fn split_word(line: &[u8]) -> (&[u8], Option<&[u8]>)
     split_at(line, b' ')
 }
 
-/// A line's word by its number; an empty one where there are not so many.
+/// Returns the word of a line with the number `index`, from 0 on; an empty one where the line has fewer.
 pub fn word(line: &[u8], index: usize) -> &[u8]
     ensures { result.now ≡ word_of (words_of line.now) index }
 {
@@ -56,14 +56,14 @@ pub fn word(line: &[u8], index: usize) -> &[u8]
     }
 }
 
-/// How many words a line has.
+/// Returns how many words a line has.
 pub fn word_count(line: &[u8]) -> usize
     ensures { result ≡ length (words_of line.now) }
 {
     line.iter().filter(|byte| **byte == b' ').count() + 1
 }
 
-// A decimal number with one digit more, if it fits.
+// Returns a decimal number with one digit more, if it fits.
 fn with_digit(value: u64, digit: u8) -> Option<u64>
     ensures { SomeIff result (10 * value + digit_value digit < 2 ^ 64) (10 * value + digit_value digit) }
 {
@@ -72,7 +72,7 @@ fn with_digit(value: u64, digit: u8) -> Option<u64>
         .checked_add(u64::from(digit_value(digit)))
 }
 
-// The decimal number that a word spells, if it is at most the limit.
+// Returns the decimal number that a word spells, if it is at most `limit`.
 fn number_up_to(word: &[u8], limit: u64) -> Option<u64>
     ensures { result ≡ number_up_to limit word.now }
 {
@@ -86,7 +86,7 @@ fn number_up_to(word: &[u8], limit: u64) -> Option<u64>
     if value <= limit { Some(value) } else { None }
 }
 
-// A number of at most 2^31 - 1.
+// Reads a number of at most 2^31 - 1.
 pub fn number(word: &[u8]) -> Option<u32>
     ensures value { result ≡ number_of word.now }
     ensures small { IfSome result (λ n. n < 2 ^ 31) }
@@ -95,7 +95,7 @@ pub fn number(word: &[u8]) -> Option<u32>
     Some(value as u32)
 }
 
-// A number, negative or not, of at most 2^31 - 1 without its sign.
+// Reads a number, negative or not, of at most 2^31 - 1 without its sign.
 pub fn signed(word: &[u8]) -> Option<i32>
     ensures { result ≡ signed_of word.now }
 {
@@ -105,7 +105,7 @@ pub fn signed(word: &[u8]) -> Option<i32>
     }
 }
 
-// A viewer's number.
+// Reads a viewer's number.
 pub fn viewer_number(word: &[u8]) -> Option<u64>
     ensures { result ≡ viewer_number_of word.now }
 {

@@ -15,10 +15,13 @@ use listed::Listed;
 use scene::{Config, Event};
 use std::alloc::{AllocError, Global};
 
-/// Whether a history's drawing calls are those that were drawn, and the receipts are what the history says of its viewers.
-/// Each viewer that connected has exactly one; its pieces, cuts and bytes heard are the history's; and its bytes sent are
-/// those that the viewer is sent where it is alone with the drawing calls, or begin them where its sender broke off.
-/// `OutOfMemory` may come in place of any other answer. The configuration is the screen's, and one that it accepts.
+/// Checks that a history's drawing calls are those that were drawn, and that the receipts are what the history says of its viewers. The
+/// configuration is the screen's, and one that it accepts.
+///
+/// Refuses the first that is wrong: as `Drawing` where the drawing calls differ; as `Missing` a viewer that connected and has not exactly
+/// one receipt, or that has one and never connected; as `Count` a receipt whose pieces, cuts or bytes heard are not the history's; as
+/// `Bytes` one whose bytes sent are not those that the viewer is sent where it is alone with the drawing calls, nor begin them where its
+/// sender broke off. `OutOfMemory` may come in place of any other answer.
 pub fn check(
     alloc: Global,
     config: &Config,
@@ -37,7 +40,7 @@ pub fn check(
     judged(alloc, config, history, drawn, receipts)
 }
 
-/// The same, step by step: the drawing calls, the viewers, then each receipt.
+/// Checks the drawing calls, the viewers, then each receipt.
 fn judged(
     alloc: Global,
     config: &Config,
@@ -61,8 +64,7 @@ fn judged(
     })
 }
 
-/// The first viewer that connected without having exactly one receipt, or else the first that has one without having
-/// connected.
+/// Returns the first viewer that connected without having exactly one receipt, or else the first that has one without having connected.
 fn missing(history: &[Event], receipts: &[Receipt]) -> Option<u64>
     ensures { result ≡ missing (connects history.now) receipts.now }
 {
@@ -72,7 +74,7 @@ fn missing(history: &[Event], receipts: &[Receipt]) -> Option<u64>
     }
 }
 
-/// How much each receipt's viewer was sent, or the first receipt that is wrong.
+/// Returns how much each receipt's viewer was sent. Refuses the first receipt that is wrong, as `sent_of` does.
 fn all_sent(
     alloc: Global,
     config: &Config,
@@ -90,7 +92,7 @@ fn all_sent(
     Ok(viewers)
 }
 
-/// How much the receipt's viewer was sent, or what is wrong with the receipt.
+/// Returns how much the receipt's viewer was sent. Refuses a receipt as `Count` for its pieces, cuts or bytes heard, then as `Bytes`.
 fn sent_of(
     alloc: Global,
     config: &Config,
@@ -115,7 +117,7 @@ fn sent_of(
     }
 }
 
-/// Whether a receipt's pieces, cuts and bytes heard are the history's.
+/// Returns whether a receipt's pieces, cuts and bytes heard are the history's.
 fn counts_are(alloc: Global, history: &[Event], receipt: &Receipt) -> Result<bool, AllocError>
     ensures { IfOk result (λ same. same ≡ counts_are history.now receipt.now) }
 {

@@ -9,7 +9,7 @@ ghost use Rattle.receipts.specs.Differences.{difference, same_rect, same_event};
 use region::Rect;
 use scene::Event;
 
-/// The first place at which two lists of bytes differ, or the shorter one's length; None where they are equal.
+/// Returns the first place at which two lists of bytes differ, or the shorter one's length; None if they are equal.
 pub fn difference(a: &[u8], b: &[u8]) -> Option<usize>
     ensures { result ≡ difference nat_eq a.now b.now }
 {
@@ -25,7 +25,8 @@ pub fn difference(a: &[u8], b: &[u8]) -> Option<usize>
     }
 }
 
-/// The same of a history's drawing calls and those that were drawn.
+/// Returns the first place at which a history's drawing calls and those that were drawn differ, or the shorter one's length; None if they
+/// are equal.
 pub fn drawing_difference(history: &[Event], drawn: &[Event]) -> Option<usize>
     ensures { result ≡ difference same_event (drawings history.now) drawn.now }
 {
@@ -41,7 +42,7 @@ pub fn drawing_difference(history: &[Event], drawn: &[Event]) -> Option<usize>
     if at < drawn.len() { Some(at) } else { None }
 }
 
-/// Whether an event is a drawing call.
+/// Returns whether an event is a drawing call.
 pub fn is_drawing(event: &Event) -> bool
     ensures { result ≡ is_drawing (owner_of event.now) }
 {
@@ -51,7 +52,7 @@ pub fn is_drawing(event: &Event) -> bool
     )
 }
 
-/// Whether two events are equal, with all that they hold.
+/// Returns whether two events are equal, with all that they hold.
 pub fn same_event(a: &Event, b: &Event) -> bool
     ensures { result ≡ same_event a.now b.now }
 {

@@ -10,7 +10,7 @@ use crate::Receipt;
 use scene::Event;
 use std::alloc::{AllocError, Global};
 
-/// The pieces that were heard of a viewer: how many, and all their bytes.
+/// Returns how many pieces were heard of a viewer, and all their bytes.
 pub fn pieces_of(
     alloc: Global,
     viewer: u64,
@@ -30,7 +30,7 @@ pub fn pieces_of(
     Ok((count, heard))
 }
 
-/// The piece that an event lets the server hear of a viewer.
+/// Returns the piece that an event lets the server hear of a viewer, if it lets it hear one.
 fn piece_of(viewer: u64, event: &Event) -> Option<&[u8]>
     ensures { option_map (λ piece. piece.now) result ≡ piece_of viewer event.now }
 {
@@ -43,7 +43,7 @@ fn piece_of(viewer: u64, event: &Event) -> Option<&[u8]>
     }
 }
 
-/// How many updates were cut for a viewer.
+/// Returns how many updates were cut for a viewer.
 pub fn cuts_of(viewer: u64, history: &[Event]) -> u64
     ensures { result ≡ cuts_of viewer history.now }
 {
@@ -53,7 +53,7 @@ pub fn cuts_of(viewer: u64, history: &[Event]) -> u64
         .count() as u64
 }
 
-/// Whether an event cuts an update for a viewer.
+/// Returns whether an event cuts an update for a viewer.
 fn is_cut_of(viewer: u64, event: &Event) -> bool
     ensures { result ≡ is_cut_of viewer event.now }
 {
@@ -63,7 +63,7 @@ fn is_cut_of(viewer: u64, event: &Event) -> bool
     }
 }
 
-/// The first viewer that connected and has not exactly one receipt.
+/// Returns the first viewer that connected and has not exactly one receipt, if there is one.
 pub fn without_one(history: &[Event], receipts: &[Receipt]) -> Option<u64>
     ensures { result ≡ without_one (connects history.now) receipts.now }
 {
@@ -77,7 +77,7 @@ pub fn without_one(history: &[Event], receipts: &[Receipt]) -> Option<u64>
     None
 }
 
-/// How many receipts a viewer has.
+/// Returns how many receipts a viewer has.
 fn receipts_for(viewer: u64, receipts: &[Receipt]) -> usize
     ensures { result ≡ receipts_for viewer receipts.now }
 {
@@ -87,7 +87,7 @@ fn receipts_for(viewer: u64, receipts: &[Receipt]) -> usize
         .count()
 }
 
-/// The viewer of the first receipt whose viewer never connected.
+/// Returns the viewer of the first receipt whose viewer never connected, if there is one.
 pub fn stranger(history: &[Event], receipts: &[Receipt]) -> Option<u64>
     ensures { result ≡ stranger (connects history.now) receipts.now }
 {
@@ -99,7 +99,7 @@ pub fn stranger(history: &[Event], receipts: &[Receipt]) -> Option<u64>
     None
 }
 
-/// Whether a viewer connected.
+/// Returns whether a viewer connected.
 fn has_connected(viewer: u64, history: &[Event]) -> bool
     ensures { result ≡ list_any (λ v. v == viewer) (connects history.now) }
 {

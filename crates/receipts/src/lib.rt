@@ -41,8 +41,8 @@ impl Ended {
     ghost use Rattle.std.specs.Prelude.{◌≡◌};
     ghost use Rattle.receipts.specs.Checking.{may_break_off};
 
-    /// Whether a sender that ended so may have left its last writes undone, so that what it sent is only the first bytes
-    /// of what was due.
+    /// Returns whether a sender that ended so may have left its last writes undone, so that what it sent is only the first bytes of what
+    /// was due.
     pub fn may_break_off(self) -> bool
         ensures { result ≡ may_break_off self }
     {

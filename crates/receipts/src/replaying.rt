@@ -8,7 +8,7 @@ ghost use Rattle.receipts.specs.Histories.{bytes_of};
 use scene::{Config, Event, Scene, one_viewer_is_alone};
 use std::alloc::{AllocError, Global};
 
-/// The bytes that a viewer is to be sent.
+/// Returns the bytes that a viewer is to be sent: those of a run of the drawing calls with its own events alone.
 pub fn bytes_of(
     alloc: Global,
     config: &Config,
@@ -32,7 +32,7 @@ pub fn bytes_of(
     Ok(sent)
 }
 
-/// Whether an event is a drawing call or the viewer's own.
+/// Returns whether an event is a drawing call or the viewer's own.
 fn is_own(viewer: u64, event: &Event) -> bool
     ensures { result ≡ is_owner viewer (owner_of event.now) }
 {

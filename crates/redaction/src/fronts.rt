@@ -14,7 +14,7 @@ use byteorder::{BigEndian, ByteOrder};
 use messages::{Item, Phase, Version, phase_after};
 use pixel_translate::PixelFormat;
 
-/// How many bytes the front of a message has, by its type.
+/// Returns how many bytes the front of a message has, by its type.
 fn front_length(kind: u8) -> usize
     ensures { result ≡ front_length kind }
 {
@@ -28,7 +28,7 @@ fn front_length(kind: u8) -> usize
     }
 }
 
-/// How many bytes are read at once, by where the conversation stands and by the first of them.
+/// Returns how many bytes are read at once, by where the conversation stands and by the first of them.
 pub fn head_length(phase: Phase, first: u8) -> usize
     ensures { result ≡ head_length phase first }
 {
@@ -39,14 +39,14 @@ pub fn head_length(phase: Phase, first: u8) -> usize
     }
 }
 
-/// Whether all bytes are ASCII digits.
+/// Returns whether all of `digits` are ASCII digits.
 fn is_number(digits: &[u8]) -> bool
     ensures { result ≡ list_all is_ascii_digit digits.now }
 {
     digits.iter().all(|digit| digit.is_ascii_digit())
 }
 
-/// Whether twelve bytes are a version but for its digits.
+/// Returns whether twelve bytes are a version but for its digits.
 fn has_form(bytes: &[u8]) -> bool
     requires { length bytes.now ≡ 12 }
     ensures { result ≡ has_form bytes.now }
@@ -54,7 +54,7 @@ fn has_form(bytes: &[u8]) -> bool
     bytes[..4] == b"RFB "[..] && bytes[7] == b'.' && bytes[11] == b'\n'
 }
 
-/// Whether twelve bytes are a version.
+/// Returns whether twelve bytes are a version.
 #[tactic(auto, using(messages::proofs::Versions::is_version_by_parts))]
 fn is_version(bytes: &[u8]) -> bool
     requires { length bytes.now ≡ 12 }
@@ -65,7 +65,7 @@ fn is_version(bytes: &[u8]) -> bool
     has_form(bytes) && major && minor
 }
 
-/// The version that is served to the digits of two numbers.
+/// Returns the version that is served to the digits of two numbers.
 fn version_of(major: &[u8], minor: &[u8]) -> Version
     ensures { result ≡ version_of major.now minor.now }
 {
@@ -79,7 +79,7 @@ fn version_of(major: &[u8], minor: &[u8]) -> Version
     }
 }
 
-/// What is kept behind the viewer's version.
+/// Returns what is kept behind the viewer's version.
 fn behind_version(bytes: &[u8]) -> Place
     requires { length bytes.now ≡ 12 }
     ensures { result ≡ head_spot phase.Version (head_of phase.Version bytes.now) }
@@ -91,7 +91,7 @@ fn behind_version(bytes: &[u8]) -> Place
     Place::begin(phase_after(Phase::Version, &Item::Version(version)))
 }
 
-/// Whether sixteen bytes are a pixel format that is served.
+/// Returns whether sixteen bytes are a pixel format that is served.
 fn is_format(bytes: &[u8]) -> bool
     requires { length bytes.now ≡ 16 }
     ensures { result ≡ is_ok (format_of bytes.now) }
@@ -100,7 +100,7 @@ fn is_format(bytes: &[u8]) -> bool
     PixelFormat::from_bytes(&format).is_ok()
 }
 
-/// What is kept behind a SetPixelFormat.
+/// Returns what is kept behind a SetPixelFormat.
 fn behind_format(version: Version, bytes: &[u8]) -> Place
     requires { length bytes.now ≡ 16 }
     ensures { result ≡ head_spot (phase.Open version) (head_meaning (format_meaning (format_of bytes.now))) }
@@ -112,7 +112,7 @@ fn behind_format(version: Version, bytes: &[u8]) -> Place
     }
 }
 
-/// What is kept behind the count of a list of encodings, of four bytes each.
+/// Returns what is kept behind the count of a list of encodings, of four bytes each.
 fn behind_count(version: Version, count: u16) -> Place
     ensures { result ≡ head_spot (phase.Open version) (encodings_head count) }
 {
@@ -123,7 +123,7 @@ fn behind_count(version: Version, count: u16) -> Place
     }
 }
 
-/// What is kept behind the length of a text.
+/// Returns what is kept behind the length of a text.
 fn behind_length(version: Version, length: u32) -> Place
     ensures { result ≡ head_spot (phase.Open version) (text_head length) }
 {
@@ -134,7 +134,7 @@ fn behind_length(version: Version, length: u32) -> Place
     }
 }
 
-/// What is kept behind the front of an open conversation's message.
+/// Returns what is kept behind the front of an open conversation's message.
 fn behind_message(version: Version, bytes: &[u8]) -> Place
     requires { length bytes.now ≡ front_length (slice_index bytes.now 0) }
     ensures { result ≡ head_spot (phase.Open version) (message_head bytes.now) }
@@ -148,7 +148,7 @@ fn behind_message(version: Version, bytes: &[u8]) -> Place
     }
 }
 
-/// What is kept behind a whole front.
+/// Returns what is kept behind a whole front.
 pub fn behind_front(phase: Phase, bytes: &[u8]) -> Place
     requires { length bytes.now ≡ head_length phase (slice_index bytes.now 0) }
     ensures { result ≡ head_spot phase (head_of phase bytes.now) }

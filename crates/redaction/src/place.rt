@@ -1,4 +1,4 @@
-//! Where the reading of a viewer's bytes stands, as far as it tells which of the next ones are secret.
+//! Where the reading of a viewer's bytes stands, to tell which of the next ones are secret.
 ghost use Rattle.std.specs.Prelude.{◌≡◌, [], if◌then◌else◌};
 ghost use Rattle.redaction.specs.Places.{front, list, text, over, is_secret_spot, spot_after, spot_behind, hidden_by};
 
@@ -41,7 +41,7 @@ impl Model for Place {
 }
 
 impl Place {
-    /// The next message hasn't begun.
+    /// Returns the place where the next message hasn't begun.
     pub fn begin(phase: Phase) -> Place
         ensures { result ≡ front phase [] }
     {
@@ -51,7 +51,7 @@ impl Place {
         }
     }
 
-    /// So many bytes of a list of encodings are to come.
+    /// Returns the place where `left` bytes of a list of encodings are to come.
     pub fn list(phase: Phase, left: u32) -> Place
         ensures { result ≡ list phase left }
     {
@@ -61,7 +61,7 @@ impl Place {
         }
     }
 
-    /// So many bytes of a text are to come.
+    /// Returns the place where `left` bytes of a text are to come.
     pub fn text(phase: Phase, left: u32) -> Place
         ensures { result ≡ text phase left }
     {
@@ -71,7 +71,7 @@ impl Place {
         }
     }
 
-    /// Nothing is read any more.
+    /// Returns the place behind a fault, where nothing is read any more.
     pub fn over(phase: Phase) -> Place
         ensures { result ≡ over }
     {
@@ -81,7 +81,7 @@ impl Place {
         }
     }
 
-    /// Whether the next byte is secret.
+    /// Returns whether the next byte is secret.
     fn is_secret(&self) -> bool
         ensures { result ≡ is_secret_spot self.now }
     {
@@ -112,7 +112,7 @@ impl Place {
         }
     }
 
-    /// Reads a byte, and says what is left of it: 0 where it is secret.
+    /// Reads a byte, and returns what is left of it: 0 where it is secret.
     fn redacted(&mut self, byte: u8) -> u8
         ensures place { self.new ≡ spot_after self.old byte }
         ensures byte { result ≡ (if is_secret_spot self.old then 0 else byte) }

@@ -31,7 +31,7 @@ impl Model for Redactor {
     ghost view = { λ r. r.places.entries };
 }
 
-/// Leaves zeros of a piece.
+/// Fills a piece with zeros.
 fn clear(piece: &mut [u8])
     ensures { piece.new ≡ replicate (length piece.old) 0 }
 {
@@ -39,7 +39,7 @@ fn clear(piece: &mut [u8])
 }
 
 impl Redactor {
-    /// Nothing has happened yet.
+    /// Returns the redactor of a session of which nothing has happened yet.
     pub fn new(alloc: Global) -> Redactor
         ensures { Follows result [] }
     {
@@ -48,7 +48,7 @@ impl Redactor {
         }
     }
 
-    /// A viewer connects. Where it is there already, nothing changes. An error is want of memory, and changes nothing.
+    /// Takes in that `viewer` connects. Changes nothing if the viewer is there already, and after an `AllocError`.
     pub fn connected(&mut self, viewer: u64) -> Result<(), AllocError>
         ensures follows { (es : List Event) → Follows self.old es →
             OnOk result (Follows self.new (es ++ event.Connect viewer ∷ [])) }
@@ -60,15 +60,14 @@ impl Redactor {
         Ok(())
     }
 
-    /// A viewer is closed.
+    /// Takes in that `viewer` is closed.
     pub fn closed(&mut self, viewer: u64)
         ensures { (es : List Event) → Follows self.old es → Follows self.new (es ++ event.Close viewer ∷ []) }
     {
         self.places.remove(&viewer);
     }
 
-    /// A piece of a viewer's bytes is heard: leaves zeros in the place of its secret bytes, and of all where the viewer isn't
-    /// there.
+    /// Takes in a piece of a viewer's bytes: leaves zeros in the place of its secret bytes, and of all if the viewer isn't there.
     pub fn redact(&mut self, viewer: u64, piece: &mut [u8])
         ensures piece { (es : List Event) → Follows self.old es →
             piece.new ≡ redacted_piece (conversation_of viewer es) piece.old }
@@ -81,8 +80,8 @@ impl Redactor {
         }
     }
 
-    /// The next event of the session, without what is secret. An error is want of memory for a viewer that connects, and
-    /// changes nothing.
+    /// Takes in the next event of the session, and returns it without what is secret. An `AllocError` says that memory was refused for a
+    /// viewer that connects; then nothing has changed.
     pub fn redacted(&mut self, event: Event) -> Result<Event, AllocError>
         ensures event { (es : List Event) → Follows self.old es → IfOk result (λ e. e ≡ redacted_event es event) }
         ensures follows { (es : List Event) → Follows self.old es → OnOk result (Follows self.new (es ++ event ∷ [])) }
@@ -119,11 +118,11 @@ mod tests {
     const SAID: &[u8] =
         b"RFB 003.008\n\x01\x01\x03\x01\0\0\0\0\0\x04\0\x03\x04\x01\0\0\0\0\xff\x0d\x05\x01\0\x02\0\x01\x06\0\0\0\0\0\0\x02hi\x03\0\0\0\0\0\0\x04\0\x03";
 
-    /// The same with zeros.
+    /// What is left of these bytes, with zeros for the secret ones.
     const LEFT: &[u8] =
         b"RFB 003.008\n\x01\x01\x03\x01\0\0\0\0\0\x04\0\x03\x04\0\0\0\0\0\0\0\x05\0\0\0\0\0\x06\0\0\0\0\0\0\x02\0\0\x03\0\0\0\0\0\0\x04\0\x03";
 
-    /// What is left of a viewer's bytes in pieces of this length, between those of another.
+    /// Returns what is left of a viewer's bytes in pieces of `length` bytes, between those of another.
     fn left_of(alloc: Global, length: usize) -> Result<Vec<u8>, AllocError> {
         let mut redactor = Redactor::new(alloc);
         redactor.redacted(Event::Connect { viewer: 0 })?;

@@ -2,53 +2,54 @@
 
 ghost use Rattle.replay.specs.Claims.{good_lines_are_read, lines_are_read, sessions_are_read, beginnings_are_sessions, said_is_answered_alike, accepted_is_sent, accepted_is_sound, recorded_is_replayed, redacted_is_read, secrets_are_not_written};
 
-/// The line of a sound event is one line, and says the event; and so does that of a sound configuration.
+/// Proves that the line of a sound event is one line, and says the event; and so does that of a sound configuration.
 pub fn lines_are_read()
     ensures { lines_are_read }
 {}
 
-/// What is read of a session's text is the session: all of it, and of its first lines the first events.
+/// Proves that what is read of a session's text is the session: all of it, and of its first lines the first events.
 pub fn sessions_are_read()
     ensures { sessions_are_read }
 {}
 
-/// A session's text that was cut anywhere is read as a session of the first events, or has not the line of its screen.
+/// Proves that a session's text that was cut anywhere is read as a session of the first events, or has not the line of its screen.
 pub fn beginnings_are_sessions()
     ensures { beginnings_are_sessions }
 {}
 
-/// What a session says is answered as what was recorded: the byte above a colour, which isn't said, changes nothing.
+/// Proves that what a session says is answered as what was recorded: the byte above a colour, which isn't said, changes nothing.
 pub fn said_is_answered_alike()
     ensures { said_is_answered_alike }
 {}
 
-/// What happened sends each viewer what all events send it: a refused event, and a cut that gave nothing, sent nothing.
+/// Proves that what happened sends each viewer what all events send it: a refused event, and a cut that gave nothing, sent nothing.
 pub fn accepted_is_sent()
     ensures { accepted_is_sent }
 {}
 
-/// What happened is sound, so its lines are read back: of values of their types, a screen refuses what a line can't say.
+/// Proves that what happened is sound, so its lines are read back: of values of their types, a screen refuses what a line can't say.
 pub fn accepted_is_sound()
     ensures { accepted_is_sound }
 {}
 
-/// What is read of a record sends each viewer what it was sent. Of a record that was cut anywhere, or of its first lines, it sends a
-/// beginning of that.
+/// Proves that what is read of a record sends each viewer what it was sent. Of a record that was cut anywhere, or of its first lines, it
+/// sends a beginning of that.
 pub fn recorded_is_replayed()
     ensures { recorded_is_replayed }
 {}
 
-/// What is read of a redacted text is the redacted session. So each viewer is sent the same bytes by it, and the same is drawn.
+/// Proves that what is read of a redacted text is the redacted session. So each viewer is sent the same bytes by it, and the same is
+/// drawn.
 pub fn redacted_is_read()
     ensures { redacted_is_read }
 {}
 
-/// Whichever a secret byte of a line is, the redacted text is the same.
+/// Proves that the redacted text is the same whichever a secret byte of a line is.
 pub fn secrets_are_not_written()
     ensures { secrets_are_not_written }
 {}
 
-/// Where no line is bad for a question, what was read is a session, or there is no screen yet.
+/// Proves that where no line is bad for a question, what was read is a session, or there is no screen yet.
 pub fn good_lines_are_read()
     ensures { good_lines_are_read }
 {}

@@ -59,7 +59,7 @@ fn corners_of(alloc: Global, line: &[u8]) -> Result<Option<Vec<i32>>, AllocError
     Ok(Some(numbers))
 }
 
-/// The rectangle of the first four numbers.
+/// Returns the rectangle of the first four numbers.
 fn rect_of(numbers: &[i32]) -> Rect
     requires { 4 ≤ length numbers.now }
     ensures rects { rects_of numbers.now ≡ result ∷ rects_of (drop 4 numbers.now) }
@@ -87,7 +87,7 @@ fn rects_of(alloc: Global, numbers: &[i32]) -> Result<(Listed<Rect>, &[i32]), Al
     Ok((rects, rest))
 }
 
-/// The event of a region, which numbers follow.
+/// Returns the event of a region, which the numbers of `behind` follow, if they are those that `verb` needs.
 fn region_event(verb: Verb, rects: Listed<Rect>, behind: &[i32]) -> Option<Event>
     ensures { result ≡ region_event verb rects behind.now }
 {
@@ -107,7 +107,7 @@ fn region_event(verb: Verb, rects: Listed<Rect>, behind: &[i32]) -> Option<Event
     }
 }
 
-// marks X1 Y1 X2 Y2 .., schedules X1 Y1 X2 Y2 .. DX DY
+// Reads `marks X1 Y1 X2 Y2 ..`, `schedules X1 Y1 X2 Y2 .. DX DY` and `docopies X1 Y1 X2 Y2 .. DX DY`.
 fn region_line(alloc: Global, verb: Verb, line: &[u8]) -> Result<Line, AllocError>
     ensures { IfOk result (λ l. l ≡ done_by (region_of verb (words_of line.now))) }
 {
@@ -121,7 +121,7 @@ fn region_line(alloc: Global, verb: Verb, line: &[u8]) -> Result<Line, AllocErro
     }
 }
 
-// desktop W H HEX LIMIT
+// Reads `desktop W H HEX LIMIT`.
 #[tactic(auto, unfolding(crate::specs::Lines::desktop_in))]
 fn desktop_line(alloc: Global, line: &[u8]) -> Result<Line, AllocError>
     ensures { IfOk result (λ l. l ≡ started_by (desktop_of (words_of line.now))) }
@@ -147,7 +147,7 @@ fn desktop_line(alloc: Global, line: &[u8]) -> Result<Line, AllocError>
     }))
 }
 
-/// What a line says that no script says.
+/// Reads a line that no script has.
 fn own_line(alloc: Global, line: &[u8]) -> Result<Line, AllocError>
     ensures { IfOk result (λ l. l ≡ own_line (words_of line.now)) }
 {
@@ -158,7 +158,7 @@ fn own_line(alloc: Global, line: &[u8]) -> Result<Line, AllocError>
     }
 }
 
-/// What a line of a session says. Beside the lines of a script there are
+/// Reads a line of a session. Beside the lines of a script there are
 ///
 /// ```text
 /// desktop W H HEX LIMIT                     a screen whose name a script can't say

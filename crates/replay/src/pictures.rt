@@ -23,7 +23,7 @@ pub(crate) const NOTHING: [u8; 3] = [0xff, 0, 0xff];
 /// A row of a picture: three bytes for each place.
 pub(crate) type Row = Vec<u8>;
 
-/// What stands before a picture's rows.
+/// Returns what stands before a picture's rows.
 fn head_of(alloc: Global, columns: u32, rows: u32) -> Result<Vec<u8>, AllocError>
     ensures { IfOk result (λ head. head.items ≡ pixmap_head columns rows) }
 {
@@ -48,7 +48,7 @@ pub(crate) fn write_head<W: Write>(
     print(writer, &head_of(alloc, columns, rows)?)
 }
 
-/// The red, green and blue of a colour.
+/// Returns the red, green and blue of a colour.
 fn colour_bytes(colour: u32) -> [u8; 3]
     ensures { result ≡ colour_bytes colour }
 {
@@ -59,7 +59,7 @@ fn colour_bytes(colour: u32) -> [u8; 3]
     ]
 }
 
-/// Puts a row of colours.
+/// Appends the bytes of `colours` to `row`.
 fn put_colours(colours: &[u32], row: &mut Row) -> Result<(), AllocError>
     ensures { OnOk result (row.new.items ≡ row.old.items ++ flat_map colour_bytes colours.now) }
 {
@@ -69,7 +69,7 @@ fn put_colours(colours: &[u32], row: &mut Row) -> Result<(), AllocError>
     Ok(())
 }
 
-/// Writes a row of what was drawn, and takes `row` for its bytes.
+/// Writes row `y` of what was drawn, and takes `row` for its bytes.
 fn write_row<W: Write>(
     writer: &mut W,
     screen: &Screen,
@@ -87,7 +87,7 @@ fn write_row<W: Write>(
     print(writer, row)
 }
 
-/// Writes what was drawn.
+/// Writes a picture of what was drawn.
 fn write_screen<W: Write>(alloc: Global, writer: &mut W, screen: &Screen) -> Result<(), Trouble>
     ensures { OnOk result (Appends (W.contents writer.old) (W.contents writer.new) (pixmap screen.now.picture)) }
 {
@@ -99,7 +99,7 @@ fn write_screen<W: Write>(alloc: Global, writer: &mut W, screen: &Screen) -> Res
     Ok(())
 }
 
-/// Draws to the end of a session. None where there is no screen.
+/// Draws to the end of a session, and returns its screen, if it has one.
 fn drawn<R: BufRead>(session: &mut Session<'_, R>) -> Result<Option<Screen>, Stop>
     ensures draws { IfOk result (λ screen. IfSome (ahead session.old.left (R.remaining session.old.reader.now)) (Draws screen)) }
     ensures judged { Judged question.Drawn (ahead session.old.left (R.remaining session.old.reader.now)) session.old.number session.new.number result }

@@ -53,7 +53,8 @@ fn piece_of(available: &[u8]) -> Piece
     }
 }
 
-/// Takes what the reader has at hand of a line, and appends it without its line feed. Takes nothing where the read was interrupted.
+/// Takes what the reader has at hand of a line, and appends it to `line` without its line feed. Takes nothing where the read was
+/// interrupted. Fails as `ReadFault`.
 fn try_piece<R: BufRead>(reader: &mut R, line: &mut Vec<u8>) -> Result<Option<PieceEnd>, Trouble>
     ensures { IfOk result (λ found. MatchOption found
         (Keeps (R.remaining reader.old) (R.remaining reader.new) × (line.new.items ≡ line.old.items))
@@ -70,7 +71,7 @@ fn try_piece<R: BufRead>(reader: &mut R, line: &mut Vec<u8>) -> Result<Option<Pi
     Ok(Some(piece.end))
 }
 
-/// Takes a piece of a line. A read that was interrupted is tried again.
+/// Takes a piece of a line. Tries a read that was interrupted again.
 fn take_piece<R: BufRead>(reader: &mut R, line: &mut Vec<u8>) -> Result<PieceEnd, Trouble>
     ensures { IfOk result (TakesPiece (R.remaining reader.old) (R.remaining reader.new) line.old.items line.new.items) }
 {
@@ -83,7 +84,7 @@ fn take_piece<R: BufRead>(reader: &mut R, line: &mut Vec<u8>) -> Result<PieceEnd
 }
 
 /// Reads the next whole line into `line`, without its line feed, and says whether there was one. What stands behind the last line feed is
-/// none, since it may be the beginning of a line that was cut.
+/// none, since it may be the beginning of a line that was cut. Refuses a line of more than 2^27 bytes as `TooLong`.
 pub(crate) fn read_line<R: BufRead>(reader: &mut R, line: &mut Vec<u8>) -> Result<bool, Trouble>
     ensures { IfOk result (TakesLine (R.remaining reader.old) (R.remaining reader.new) line.new.items) }
 {
@@ -98,7 +99,7 @@ pub(crate) fn read_line<R: BufRead>(reader: &mut R, line: &mut Vec<u8>) -> Resul
     Err(Trouble::TooLong)
 }
 
-/// Accepts a line of so many bytes, unless it is too long.
+/// Accepts a line of `count` bytes. Refuses more than 2^27 as `TooLong`.
 fn within_limit(count: usize) -> Result<bool, Trouble>
     ensures { IfOk result (λ found. found ≡ true) }
 {

@@ -20,7 +20,7 @@ use screen::{Config, Event, config_refusal};
 use std::alloc::Global;
 use std::io::{BufRead, Write};
 
-/// Whether a screen of this configuration is refused.
+/// Returns whether a screen of this configuration is refused.
 fn is_refused(config: &Config) -> bool
     ensures { result ≡ is_some (config_refusal config.now) }
 {
@@ -28,7 +28,7 @@ fn is_refused(config: &Config) -> bool
     config_refusal(config.width, config.height, name, config.rects_per_update).is_some()
 }
 
-/// Whether a line may stand behind the screen's, or before there is one.
+/// Returns whether a line may stand behind the screen's, which was read if `has_screen`, or before it.
 fn may_stand(has_screen: bool, said: &Line) -> bool
     ensures { result ≡ may_stand has_screen said.now }
 {
@@ -40,7 +40,7 @@ fn may_stand(has_screen: bool, said: &Line) -> bool
     }
 }
 
-/// Whether there is a screen behind a line.
+/// Returns whether there is a screen behind a line; `has_screen` says whether there was one before it.
 fn has_screen_with(has_screen: bool, said: &Line) -> bool
     ensures { result ≡ has_screen_with has_screen said.now }
 {
@@ -78,7 +78,8 @@ fn write_line<W: Write>(
     }
 }
 
-/// Writes a session's lines as they stand, but what was heard of viewers with zeros in the place of what is secret.
+/// Writes a session's lines as they stand, but what was heard of viewers with zeros in the place of what is secret. Refuses a line that
+/// may not stand where it does as `BadLine`.
 pub(crate) fn write_redacted<R: BufRead, W: Write>(
     alloc: Global,
     session: &mut Session<'_, R>,

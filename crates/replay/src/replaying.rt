@@ -60,7 +60,7 @@ fn answer<R: BufRead, W: Write>(
     }
 }
 
-/// Says which line is bad. The status.
+/// Says which line is bad, and returns the status: 1; 3 after `out of memory`; 5 after a write that failed.
 fn report_line<E: Write>(alloc: Global, errors: &mut E, number: u64) -> u8
     ensures status { (result ≡ 1) ⊎ (result ≡ 3) ⊎ (result ≡ 5) }
     ensures text { result ≡ 1 → Appends (E.contents errors.old) (E.contents errors.new) (bad_line number) }
@@ -74,11 +74,12 @@ fn report_line<E: Write>(alloc: Global, errors: &mut E, number: u64) -> u8
     1
 }
 
-/// Reads a session, and writes what is asked of it: a line for each viewer, the bytes that a viewer was sent, a picture, or
-/// the session without what is secret. What stands
-/// behind the last line feed is left out. The status is 0; 1 after `bad line N`, which is the first line that says nothing that a session
-/// may say there, or an event that is refused, of those that the question needs; 3 after `out of memory`; 5 after `read fault`, after
-/// `too long`, which is a line of more than 2^27 bytes, and after a write that failed. These words go to `errors`, and nothing else does.
+/// Reads a session, and writes what is asked of it: a line for each viewer, the bytes that a viewer was sent, a picture, or the session
+/// without what is secret. Leaves out what stands behind the last line feed.
+///
+/// Returns the status: 0; 1 after `bad line N`, which is the first line that says nothing that a session may say there, or an event that
+/// is refused, of those that the question needs; 3 after `out of memory`; 5 after `read fault`, after `too long`, which is a line of more
+/// than 2^27 bytes, and after a write that failed. These words go to `errors`, and nothing else does.
 pub fn replay_over<R: BufRead, W: Write, E: Write>(
     alloc: Global,
     reader: &mut R,
@@ -89,7 +90,7 @@ pub fn replay_over<R: BufRead, W: Write, E: Write>(
     // What it wrote is the answer to what it read, where reader and writer tell their bytes.
     ensures answers { result ≡ 0 → IfSome (R.remaining reader.old) (λ text.
         Answers asked text (W.contents writer.old) (W.contents writer.new)) }
-    // Then no line that was asked for is bad, and no error is told.
+    // Then no line that was asked for is bad, and no error is written.
     ensures good { result ≡ 0 → IfSome (R.remaining reader.old) (λ text. first_bad_line asked text ≡ None) }
     ensures silent { result ≡ 0 → E.contents errors.new ≡ E.contents errors.old }
     // The line that it names is the first bad one.

@@ -14,15 +14,15 @@ use crate::stop::Stop;
 use messages::Version;
 use pixel_translate::{Component, PixelFormat, Pixels};
 use play_script::trouble::{Trouble, print};
+use rfb_viewer::Shown;
 use screen::{Event, Settings};
 use std::alloc::{AllocError, Global};
 use std::io::{BufRead, Write};
-use test_viewer::Shown;
 
 /// How many bytes a version has (RFC 6143 section 7.1.1).
 const VERSION_LENGTH: usize = 12;
 
-/// A viewer by RFC 6143, which is told what it said, and what it was sent.
+/// A viewer by RFC 6143, which takes what it said, and what it was sent.
 #[derive(Drop)]
 struct Watcher {
     alloc: Global,
@@ -45,7 +45,7 @@ fn version_of(text: &[u8]) -> Version
     }
 }
 
-/// A component of a pixel, as a byte.
+/// Returns a component of a pixel, as a byte.
 fn part(pixel: u32, component: Component) -> u8 {
     if component.max == 0 {
         return 0;
@@ -54,7 +54,7 @@ fn part(pixel: u32, component: Component) -> u8 {
     (u64::from(value) * 255 / u64::from(component.max)).min(255) as u8
 }
 
-/// The colour that a pixel shows.
+/// Returns the colour that a pixel of `format` shows: red, green and blue.
 fn colour(shown: &Shown, format: PixelFormat, pixel: u32) -> [u8; 3] {
     match format.pixels {
         Pixels::TrueColour {
@@ -74,7 +74,7 @@ fn colour(shown: &Shown, format: PixelFormat, pixel: u32) -> [u8; 3] {
     }
 }
 
-/// Puts a row of what a viewer shows.
+/// Appends row `y` of what a viewer shows, of `columns` places.
 fn put_row(shown: &Shown, columns: u32, y: u32, row: &mut Row) -> Result<(), AllocError> {
     for x in 0..columns {
         let colour = match shown.place(x, y) {
@@ -86,7 +86,7 @@ fn put_row(shown: &Shown, columns: u32, y: u32, row: &mut Row) -> Result<(), All
     Ok(())
 }
 
-/// Writes what a viewer shows.
+/// Writes a picture of what a viewer shows.
 fn write_shown<W: Write>(alloc: Global, writer: &mut W, shown: &Shown) -> Result<(), Trouble>
     ensures { OnOk result (Grows (W.contents writer.old) (W.contents writer.new)) }
 {
@@ -122,7 +122,7 @@ impl Watcher {
         Ok(())
     }
 
-    /// Hears a piece of what the viewer said, behind which it has set this.
+    /// Hears a piece of what the viewer said, behind which it has set `settings`.
     fn hear(&mut self, piece: &[u8], settings: &Settings) -> Result<(), AllocError> {
         if self.shown.is_none() {
             self.open(piece)?;
@@ -145,8 +145,8 @@ impl Watcher {
         Ok(())
     }
 
-    /// Takes an event, which was answered, and behind which the viewer has set this, if it is there. A viewer that comes has neither said nor
-    /// seen anything.
+    /// Takes an event with its answer, behind which the viewer has set `settings`, if it is there. A viewer that comes has neither said
+    /// nor seen anything.
     fn watch(&mut self, answered: &Answered, settings: Option<Settings>) -> Result<(), AllocError> {
         match (&answered.event, settings) {
             (Event::Connect { .. }, _) => *self = Watcher::new(self.alloc),

@@ -34,7 +34,7 @@ pub(crate) struct Session<'a, R> {
     ghost counted: { number + left < 2 ^ 64 },
 }
 
-/// Makes the screen of a session.
+/// Makes the screen of a session. Refuses a configuration outside its limits as `BadLine`.
 fn screen_by(alloc: Global, config: Config) -> Result<Screen, Stop>
     ensures made { IfOk result (λ screen. screen ≡ state config []) }
     ensures refused { MatchResult result (λ _. config_refusal config ≡ None) (λ s. s ≡ stop.BadLine → is_some (config_refusal config) ≡ true) }
@@ -46,7 +46,7 @@ fn screen_by(alloc: Global, config: Config) -> Result<Screen, Stop>
     }
 }
 
-/// Does an event of a session.
+/// Does an event of a session. Refuses an event that the screen refuses as `BadLine`.
 fn perform(screen: &mut Screen, event: &Event) -> Result<Answer, Stop>
     ensures { (config : Config) (list : List Event) → screen.old ≡ state config list → Performs config list event.now screen.new result }
 {
@@ -57,7 +57,7 @@ fn perform(screen: &mut Screen, event: &Event) -> Result<Answer, Stop>
     Ok(answer)
 }
 
-/// Whether an event is a drawing call or the viewer's own: what the other viewers do changes nothing for it.
+/// Returns whether an event is a drawing call or the viewer's own: what the other viewers do changes nothing for it.
 fn is_own(viewer: u64, event: &Event) -> bool
     ensures { result ≡ is_owner viewer (owner_of event.now) }
 {
@@ -70,7 +70,7 @@ fn is_own(viewer: u64, event: &Event) -> bool
     }
 }
 
-/// Whether an event is a drawing call.
+/// Returns whether an event is a drawing call.
 fn is_drawing(event: &Event) -> bool
     ensures { result ≡ is_drawing (owner_of event.now) }
 {
@@ -80,7 +80,7 @@ fn is_drawing(event: &Event) -> bool
     )
 }
 
-/// Whether a question needs an event.
+/// Returns whether a question needs an event.
 fn is_needed(question: Question, event: &Event) -> bool
     ensures { result ≡ needs question event.now }
 {
@@ -92,7 +92,8 @@ fn is_needed(question: Question, event: &Event) -> bool
     }
 }
 
-/// Does the event of a line behind the screen's, if the question needs one.
+/// Does the event of a line behind the screen's, if the question needs one. Refuses a line that is bad, has another screen, or has an
+/// event that the screen refuses, as `BadLine`.
 fn step(screen: &mut Screen, question: Question, line: Line) -> Result<Option<Answered>, Stop>
     ensures steps { (config : Config) (list : List Event) → screen.old ≡ state config list → Steps question config list line screen.new result }
     ensures kept { IfOk result (λ found. found ≡ None → screen.new ≡ screen.old) }
@@ -111,7 +112,7 @@ fn step(screen: &mut Screen, question: Question, line: Line) -> Result<Option<An
 }
 
 impl<'a, R: BufRead> Session<'a, R> {
-    /// What a reader has, of which so many lines are read, at most.
+    /// Returns the session that `reader` has, of which at most `lines` lines are read.
     pub fn new(alloc: Global, reader: &'a mut R, lines: u64) -> Session<'a, R>
         ensures reader { result.reader.now ≡ reader.old }
         ensures left { result.left ≡ lines }
@@ -126,14 +127,14 @@ impl<'a, R: BufRead> Session<'a, R> {
         }
     }
 
-    /// The number of the line that was read last.
+    /// Returns the number of the line that was read last.
     pub fn number(&self) -> u64
         ensures { result ≡ self.now.number }
     {
         self.number
     }
 
-    /// The line that was read last, without its line feed.
+    /// Returns the line that was read last, without its line feed.
     pub fn line(&self) -> &[u8]
         ensures { result.now ≡ self.now.line.items }
     {
@@ -156,7 +157,8 @@ impl<'a, R: BufRead> Session<'a, R> {
         Ok(Some(session_line(self.alloc, &self.line)?))
     }
 
-    /// Reads on to the screen, which comes first, and makes it. None where there is no line of it yet.
+    /// Reads on to the line of the screen, which comes first, and makes the screen, if there is such a line yet. Refuses a line that is
+    /// bad, has an event, or has a configuration outside its limits, as `BadLine`.
     pub fn open(&mut self) -> Result<Option<Screen>, Stop>
         ensures { (q : Question) → Opens q (ahead self.old.left (R.remaining self.old.reader.now)) (ahead self.new.left (R.remaining self.new.reader.now)) self.old.number self.new.number result }
     {
@@ -170,7 +172,7 @@ impl<'a, R: BufRead> Session<'a, R> {
         Ok(None)
     }
 
-    /// Reads on to the next event that a question needs, if there is one more, and does it.
+    /// Reads on to the next event that a question needs, if there is one more, and does it. Refuses as `BadLine` what `step` refuses.
     pub fn next_answered(
         &mut self,
         screen: &mut Screen,

@@ -8,7 +8,7 @@ ghost use Rattle.recorder.specs.Words.{hex, hex_digit, hex_word};
 
 use std::alloc::{AllocError, Global};
 
-/// Puts a number.
+/// Appends a number, in decimal digits.
 pub(crate) fn put_number(alloc: Global, out: &mut Vec<u8>, number: u64) -> Result<(), AllocError>
     ensures { OnOk result (out.new.items ≡ out.old.items ++ decimal number) }
 {
@@ -16,7 +16,7 @@ pub(crate) fn put_number(alloc: Global, out: &mut Vec<u8>, number: u64) -> Resul
     out.extend_from_slice(digits.as_bytes())
 }
 
-/// One digit, in lower case.
+/// Returns the digit of `value`, in lower case.
 fn hex_digit(value: u8) -> u8
     requires { value < 16 }
     ensures { result ≡ hex_digit value }
@@ -28,7 +28,7 @@ fn hex_digit(value: u8) -> u8
     }
 }
 
-/// Puts two digits for each byte.
+/// Appends two digits for each byte.
 fn put_hex(out: &mut Vec<u8>, bytes: &[u8]) -> Result<(), AllocError>
     ensures { OnOk result (out.new.items ≡ out.old.items ++ hex bytes.now) }
 {
@@ -39,7 +39,7 @@ fn put_hex(out: &mut Vec<u8>, bytes: &[u8]) -> Result<(), AllocError>
     Ok(())
 }
 
-/// Puts bytes; `-` stands for none.
+/// Appends two digits for each byte; `-` stands for no bytes.
 fn put_bytes(out: &mut Vec<u8>, bytes: &[u8]) -> Result<(), AllocError>
     ensures { OnOk result (out.new.items ≡ out.old.items ++ hex_word bytes.now) }
 {
@@ -49,7 +49,7 @@ fn put_bytes(out: &mut Vec<u8>, bytes: &[u8]) -> Result<(), AllocError>
     put_hex(out, bytes)
 }
 
-/// The line of a piece that was heard of a viewer, with its line feed.
+/// Returns the line of a piece that was heard of a viewer, with its line feed.
 pub(crate) fn hear_line(alloc: Global, viewer: u64, piece: &[u8]) -> Result<Vec<u8>, AllocError>
     ensures { IfOk result (λ line. line.items ≡ event_line (event.Hear viewer piece.now)) }
 {

@@ -21,7 +21,7 @@ struct Visit {
     /// The lines of its first event and of its last one.
     first: u64,
     last: u64,
-    /// What it had set, once it was heard.
+    /// What it had set when it was there last.
     settings: Option<Settings>,
     heard: u64,
     updates: u64,
@@ -45,7 +45,7 @@ impl Visit {
         }
     }
 
-    /// Counts an event of the viewer, which was answered.
+    /// Counts an event of the viewer, with its answer.
     fn count(&mut self, line: u64, answered: &Answered) {
         let Answered { event, answer } = answered;
         self.last = line;
@@ -63,7 +63,7 @@ impl Visit {
         }
     }
 
-    /// How the viewer ended, or that it was there at the end.
+    /// Returns how the viewer ended, or that it was there at the end.
     fn end(&self) -> &'static str {
         match (self.is_closed, self.has_fault) {
             (true, false) => "closed",
@@ -73,7 +73,7 @@ impl Visit {
         }
     }
 
-    /// `viewer V lines A B encoding E bits N heard N updates N sent N END`
+    /// Returns `viewer V lines A B encoding E bits N heard N updates N sent N END`, with a line feed.
     fn text(&self, alloc: Global) -> Result<String, AllocError> {
         format!(in alloc;
             "viewer {} lines {} {} encoding {} bits {} heard {} updates {} sent {} {}\n",
@@ -90,7 +90,7 @@ impl Visit {
     }
 }
 
-/// The encoding that a viewer was sent last; the server's first one where it said nothing.
+/// Returns the name of the encoding that a viewer set; of Raw, the server's first one, where it set none.
 fn encoding_name(settings: Option<Settings>) -> &'static str {
     match settings.map(|settings| settings.encoding) {
         Some(Encoding::Rre) => "RRE",
@@ -99,7 +99,7 @@ fn encoding_name(settings: Option<Settings>) -> &'static str {
     }
 }
 
-/// The bits of its pixels, likewise.
+/// Returns the bits of the pixels that a viewer set; 32, the server's first, where it set none.
 fn bits_name(settings: Option<Settings>) -> &'static str {
     match settings.map(|settings| settings.format.bits()) {
         Some(BitsPerPixel::Eight) => "8",
@@ -131,7 +131,7 @@ impl Visits {
         Ok(())
     }
 
-    /// Counts an event of a viewer, if it is one.
+    /// Counts an event, if it is a viewer's.
     fn count(&mut self, line: u64, answered: &Answered, screen: &Screen) -> Result<(), Trouble> {
         let viewer = match &answered.event {
             Event::Connect { viewer } => {
@@ -182,8 +182,8 @@ fn visits_of<R: BufRead>(alloc: Global, session: &mut Session<'_, R>) -> Result<
     Ok(visits)
 }
 
-/// Writes a line for each viewer that was there: in which lines it came and had its last event, what it asked for, how many bytes of it were
-/// heard, how many updates and bytes it was sent, and how it ended.
+/// Writes a line for each viewer that was there: in which lines it came and had its last event, what it asked for, how many bytes of it
+/// were heard, how many updates and bytes it was sent, and how it ended.
 pub(crate) fn write_viewers<R: BufRead, W: Write>(
     alloc: Global,
     session: &mut Session<'_, R>,

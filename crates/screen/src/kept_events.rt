@@ -29,8 +29,8 @@ impl Drop for KeptEvents {
     }
 }
 
-/// Returns the event that a drawing call is, for a list that is kept; else `Bell`, since the list drops it. `AllocError` where memory
-/// for a list that is kept is refused.
+/// Returns the event that a drawing call is, for a list that is kept; else `Bell`, since the list drops it. `AllocError` where memory for
+/// a list that is kept is refused.
 pub fn event_in(kept: &KeptList<Event>, drawing: &Drawing<'_>) -> Result<Event, AllocError>
     ensures kept { is_some kept.now.items ≡ true → IfOk result (λ event. event ≡ event_of drawing.now) }
     ensures dropped { is_some kept.now.items ≡ false → result ≡ Ok Event.Bell }
@@ -107,7 +107,7 @@ impl KeptEvents {
         }
     }
 
-    /// Keeps one more, in the room that was made; it is dropped where none are kept.
+    /// Keeps one more, in the room that was made; drops it where none are kept.
     pub fn push(&mut self, event: Event)
         requires room { HasRoom 1 self.old.events }
         ensures { self.new.events.items ≡ option_map (λ events. events ++ event ∷ []) self.old.events.items }
@@ -116,7 +116,7 @@ impl KeptEvents {
         self.events.push(event);
     }
 
-    /// Returns a copy of what an event holds, for keeping; nothing where none are kept.
+    /// Returns a copy of what an event holds, for keeping; an empty list where none are kept.
     pub fn copied<T: Copy>(&self, items: &[T]) -> Result<Listed<T>, AllocError>
         ensures { is_some self.now.events.items ≡ true → IfOk result (λ copy. copy ≡ items.now) }
     {

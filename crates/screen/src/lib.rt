@@ -19,7 +19,7 @@
 //! ```
 //! let first = &framebuffer[8 * 1280 + 16 * 4..];
 //! let source = PixelSource::new(first, 1280, 64, 48, SourceFormat::TrueColour(TrueColour::server()))?;
-//! let places = screen.take(alloc, 16, 8, &source)?; // so many places changed
+//! let places = screen.take(alloc, 16, 8, &source)?; // how many places changed
 //! ```
 //!
 //! A program that draws through another type than `Screen` asks for the `differences`, and paints each piece in the `rect_of` it.

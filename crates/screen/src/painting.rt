@@ -17,7 +17,7 @@ use region::Rect;
 use scene::ScreenError;
 use source_pixels::{Band, PixelSource};
 
-/// Returns the rectangle of `columns` columns and `rows` rows from a place on.
+/// Returns the rectangle of `columns` columns and `rows` rows from the place in column `x` of row `y` on.
 pub(crate) fn rect_at(x: usize, y: usize, columns: usize, rows: usize) -> Rect
     requires right { x + columns < 2 ^ 31 }
     requires bottom { y + rows < 2 ^ 31 }
@@ -31,8 +31,8 @@ pub(crate) fn rect_at(x: usize, y: usize, columns: usize, rows: usize) -> Rect
     }
 }
 
-/// Paints a band of a program's pixels, whose corner is at column `left` of row `top`, with its colours, which are written over
-/// `colours`. A band that lies on the screen is refused for want of memory alone.
+/// Paints a band of a program's pixels, whose corner is at column `left` of row `top`, with its colours, which it writes over `colours`.
+/// Refuses a band that lies on the screen as `OutOfMemory` alone.
 fn paint_band<T: Witness>(
     screen: &mut Screen,
     witness: &mut T,
@@ -64,8 +64,8 @@ fn paint_band<T: Witness>(
     Ok(())
 }
 
-/// Paints bands of a program's pixels, whose corner is at column `left` of row `top`, each with its colours, which are written over
-/// `colours`. Refused for want of memory alone: then the first bands are painted, or none.
+/// Paints bands of a program's pixels, whose corner is at column `left` of row `top`, each with its colours, which it writes over
+/// `colours`. Refuses them as `OutOfMemory` alone: then the first bands are painted, or none.
 pub(crate) fn paint_bands<T: Witness>(
     screen: &mut Screen,
     witness: &mut T,

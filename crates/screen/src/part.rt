@@ -18,7 +18,7 @@ pub(crate) struct ScreenPart<'a> {
     pub top: u32,
 }
 
-/// Returns how many of a screen's columns, or rows, are left from one on.
+/// Returns how many of a screen's `all` columns, or rows, are left from `first` on.
 fn count_from(all: u32, first: u32) -> usize
     ensures { result ≡ min all longest_side - first }
 {
@@ -52,8 +52,8 @@ fn rows_at_a_time(columns: usize) -> usize
     (MOST_PLACES / columns.max(1)).max(1)
 }
 
-/// Returns the end of the next rows to be taken of a program's pixels, whose corner is at column `left` of row `top`, where those above row
-/// `y` are taken; None where no further row lies beside the picture.
+/// Returns the end of the next rows to be taken of a program's pixels, whose corner is at column `left` of row `top`, where those above
+/// row `y` are taken; None if no further row lies beside the picture.
 pub(crate) fn end_of_rows(
     screen: &Screen,
     left: u32,

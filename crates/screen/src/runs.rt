@@ -14,11 +14,13 @@ use scene::{
 };
 use std::alloc::Global;
 
-/// Returns the answers to events, each as if its viewer were alone. Each viewer that is there could read all that it was sent, by
-/// RFC 6143 and what it said: no rectangle was beyond the screen, and none in an encoding that it didn't list, but for Raw. One
-/// that is open, and whose format has a colour map, has the server's, but where it is owed the map. Where the viewers are told of
-/// all that is drawn, each shows what is drawn: at each clean place the place's colour, and at the source of each place that
-/// awaits a copy that place's.
+/// Returns the answers to events, each as if its viewer were alone. Refuses a configuration as `Screen::new` does, and else for want of
+/// memory as `OutOfMemory`.
+///
+/// Each viewer that is there could read all that it was sent, by RFC 6143 and what it said: no rectangle was beyond the screen, and none
+/// in an encoding that it didn't list, but for Raw. One that is open, and whose format has a colour map, has the server's, but where it
+/// is owed the map. Where the viewers are told of all that is drawn, each shows what is drawn: at each clean place the place's colour,
+/// and at the source of each place that awaits a copy that place's.
 pub fn run(alloc: Global, config: Config, events: &[Event]) -> Result<Vec<Answer>, ScreenError>
     ensures maps { IfOk result (λ given. HaveMaps config events.now given.items) }
     ensures pictures { IfOk result (λ given. list_all is_told events.now ≡ true → ShowPictures config events.now given.items) }
@@ -37,7 +39,7 @@ pub fn run(alloc: Global, config: Config, events: &[Event]) -> Result<Vec<Answer
     Ok(given)
 }
 
-/// A screen stands for the events that it keeps: those that are left out changed nothing.
+/// Proves that a screen stands for the events that it keeps: those that are left out changed nothing.
 pub fn kept_is_enough()
     ensures { kept_is_enough }
 {
@@ -45,7 +47,7 @@ pub fn kept_is_enough()
     accepted_happens_again();
 }
 
-/// A screen that is given the events that another one kept keeps them all.
+/// Proves that a screen that is given the events that another one kept keeps them all.
 pub fn kept_is_kept()
     ensures { kept_is_kept }
 {

@@ -30,7 +30,8 @@ use std::alloc::{AllocError, Global};
 use std::marker::Model;
 use viewer::{Settings, Update};
 
-/// A screen with its viewers: one framebuffer, drawn in by the application.
+/// A screen with its viewers: one framebuffer, in which the application draws. Besides what it says itself, each call that changes the
+/// screen may be refused as `OutOfMemory`; after a refusal nothing has changed, but for what `take` says.
 pub struct Screen {
     scene: Scene,
     events: KeptEvents,
@@ -56,7 +57,7 @@ impl Model for Screen {
 
 impl Screen {
     /// Returns a screen that is 0 everywhere, with no viewer. Refuses a configuration outside its limits as `BadSize`, `BadName` or
-    /// `BadRectLimit`, in this order.
+    /// `BadRectLimit`, in this order, and else for want of memory as `OutOfMemory`.
     pub fn new(alloc: Global, config: Config) -> Result<Screen, ScreenError>
         ensures made { IfOk result (λ screen. screen ≡ state config []) }
         ensures refused { MatchOption (config_refusal config) (IsOkUnless result ScreenError.OutOfMemory) (λ e. result ≡ Err e) }
@@ -75,9 +76,10 @@ impl Screen {
     }
 
     /// Encodes a piece of what several viewers want, where encodings are shared and the viewer would be sent that next: some 256 KB, at
-    /// most 16 rows of tiles in Hextile or 16 rectangles in RRE. Returns None where the viewer is best cut now. Else more is left to be
-    /// encoded, and its cut better waits until a further call answers None; the number is another where what it waited for is lost, as
-    /// by drawing, and then it had better be cut all the same. No byte that a viewer is sent depends on it.
+    /// most 16 rows of tiles in Hextile or 16 rectangles in RRE. No byte that a viewer is sent depends on it.
+    ///
+    /// Returns None if the viewer is best cut now. Else more is left to be encoded, and its cut better waits until a further call returns
+    /// None; the number is another where what it waited for is lost, as by drawing, and then it had better be cut all the same.
     #[inline(always)]
     pub fn encode_ahead(&mut self, number: u64) -> Option<u64>
         ensures { self.new ≡ self.old }
@@ -158,7 +160,7 @@ impl Screen {
         self.scene.is_live(number)
     }
 
-    /// Returns why a viewer is heard no further, if it met a fault. Refused as `NoViewer` where there is none with the number.
+    /// Returns why a viewer is heard no further, if it met a fault. Refuses a number that no live viewer has as `NoViewer`.
     pub fn fault(&self, number: u64) -> Result<Option<Fault>, ScreenError>
         ensures { MatchOption (viewer_at self.now number) (result ≡ Err ScreenError.NoViewer) (λ viewer. result ≡
             Ok (fault_in_rest viewer.heard)) }
@@ -166,8 +168,8 @@ impl Screen {
         self.scene.fault(number)
     }
 
-    /// Returns whether a viewer had its ServerInit (RFC 6143, 7.3.2) and met no fault. Refused as `NoViewer` where there is none with the
-    /// number.
+    /// Returns whether a viewer had its ServerInit (RFC 6143, 7.3.2) and met no fault. Refuses a number that no live viewer has as
+    /// `NoViewer`.
     pub fn is_open(&self, number: u64) -> Result<bool, ScreenError>
         ensures { MatchOption (viewer_at self.now number) (result ≡ Err ScreenError.NoViewer) (λ viewer. result ≡
             Ok (is_open_rest viewer.heard)) }
@@ -175,8 +177,8 @@ impl Screen {
         self.scene.is_open(number)
     }
 
-    /// Returns whether a viewer asked for places, and no update of places or of a size was cut for it since: a
-    /// FramebufferUpdateRequest (RFC 6143, 7.5.3) of its is unanswered. Refused as `NoViewer` where there is none with the number.
+    /// Returns whether a viewer asked for places, and no update of places or of a size was cut for it since: a FramebufferUpdateRequest
+    /// (RFC 6143, 7.5.3) of its is unanswered. Refuses a number that no live viewer has as `NoViewer`.
     pub fn is_asking(&self, number: u64) -> Result<bool, ScreenError>
         ensures { MatchOption (viewer_at self.now number) (result ≡ Err ScreenError.NoViewer) (λ viewer. result ≡
             Ok (is_asking viewer)) }
@@ -185,7 +187,7 @@ impl Screen {
     }
 
     /// Returns what a viewer has set by its messages: whether it would share the screen, its pixel format, its encoding (RFC 6143, 7.3.1,
-    /// 7.5.1 and 7.5.2; `format` and the like of `rfbClientRec`). Refused as `NoViewer` where there is none with the number.
+    /// 7.5.1 and 7.5.2; `format` and the like of `rfbClientRec`). Refuses a number that no live viewer has as `NoViewer`.
     pub fn settings(&self, number: u64) -> Result<Settings, ScreenError>
         ensures { MatchOption (viewer_at self.now number) (result ≡ Err ScreenError.NoViewer) (λ viewer. result ≡
             Ok (settings_of viewer)) }
@@ -193,8 +195,8 @@ impl Screen {
         self.scene.settings(number)
     }
 
-    /// Returns how many requests of a viewer were not incremental (RFC 6143, 7.5.3): `full_requests` of its settings. Refused as
-    /// `NoViewer` where there is none with the number.
+    /// Returns how many requests of a viewer were not incremental (RFC 6143, 7.5.3): `full_requests` of its settings. Refuses a number
+    /// that no live viewer has as `NoViewer`.
     pub fn full_requests(&self, number: u64) -> Result<u64, ScreenError>
         ensures { MatchOption (viewer_at self.now number) (result ≡ Err ScreenError.NoViewer) (λ viewer. result ≡
             Ok viewer.full_requests) }
@@ -202,7 +204,7 @@ impl Screen {
         self.scene.full_requests(number)
     }
 
-    /// Does a drawing call: one of the calls below, as a value. Refused as that call is.
+    /// Does a drawing call: one of the calls below, as a value. Refuses what that call refuses.
     pub fn draw(&mut self, drawing: &Drawing<'_>) -> Result<(), ScreenError>
         ensures step { (config : Config) (list : List Event) → self.old ≡ state config list →
             OnOk result (self.new ≡ state config (list ++ event_of drawing.now ∷ [])) }
@@ -223,9 +225,9 @@ impl Screen {
         Ok(())
     }
 
-    /// Replaces the colours of a rectangle by others, `0x00RRGGBB` row by row, whose top bytes are
-    /// cleared, and owes it to every viewer. Refused as `BadRect` unless 0 <= x1 <= x2 <= width and
-    /// 0 <= y1 <= y2 <= height, then as `BadPixelCount` unless there are as many colours as places.
+    /// Replaces the colours of `rect` by `colours`, `0x00RRGGBB` row by row, whose top bytes it clears, and owes the rectangle to every
+    /// viewer. Refuses it as `BadRect` unless 0 <= x1 <= x2 <= width and 0 <= y1 <= y2 <= height, then as `BadPixelCount` unless there
+    /// are as many colours as places.
     pub fn paint(&mut self, rect: Rect, colours: &[u32]) -> Result<(), ScreenError>
         ensures step { (config : Config) (list : List Event) → self.old ≡ state config list →
             OnOk result (self.new ≡ state config (list ++ Event.Paint rect colours.now ∷ [])) }
@@ -238,8 +240,8 @@ impl Screen {
         self.draw(&Drawing::Paint { rect, colours })
     }
 
-    /// Replaces the colours of a rectangle by others, `0x00RRGGBB` row by row, whose top bytes are
-    /// cleared, and tells no viewer: `mark_rect` and `mark_region` do. Refused as `paint` is.
+    /// Replaces the colours of `rect` by `colours`, `0x00RRGGBB` row by row, whose top bytes it clears, and tells no viewer: `mark_rect`
+    /// and `mark_region` do. Refuses what `paint` refuses.
     pub fn write_pixels(&mut self, rect: Rect, colours: &[u32]) -> Result<(), ScreenError>
         ensures step { (config : Config) (list : List Event) → self.old ≡ state config list →
             OnOk result (self.new ≡ state config (list ++ Event.Write rect colours.now ∷ [])) }
@@ -251,8 +253,8 @@ impl Screen {
         self.draw(&Drawing::Write { rect, colours })
     }
 
-    /// Owes the places of a rectangle that are on the screen to every viewer (`rfbMarkRectAsModified` of `rfb.h`). Corners in the wrong
-    /// order are swapped. Refused for want of memory alone.
+    /// Owes the places of a rectangle that are on the screen to every viewer (`rfbMarkRectAsModified` of `rfb.h`). Swaps corners in the
+    /// wrong order. Refuses it as `OutOfMemory` alone.
     pub fn mark_rect(&mut self, x1: i32, y1: i32, x2: i32, y2: i32) -> Result<(), ScreenError>
         ensures step { (config : Config) (list : List Event) → self.old ≡ state config list →
             OnOk result (self.new ≡ state config (list ++ Event.Mark (record { x1 = x1; y1 = y1; x2 = x2; y2 = y2 } ∷ []) ∷ [])) }
@@ -265,8 +267,8 @@ impl Screen {
         self.draw(&Drawing::MarkRect(Rect { x1, y1, x2, y2 }))
     }
 
-    /// Owes the places of a region that are on the screen to every viewer (`rfbMarkRegionAsModified` of `rfb.h`). Refused for want of
-    /// memory alone.
+    /// Owes the places of a region that are on the screen to every viewer (`rfbMarkRegionAsModified` of `rfb.h`). Refuses it as
+    /// `OutOfMemory` alone.
     pub fn mark_region(&mut self, region: &Region) -> Result<(), ScreenError>
         ensures step { (config : Config) (list : List Event) → self.old ≡ state config list →
             OnOk result (self.new ≡ state config (list ++ Event.Mark region.now.list ∷ [])) }
@@ -278,11 +280,12 @@ impl Screen {
         self.draw(&Drawing::MarkRegion(region))
     }
 
-    /// Tells every viewer that the places of a rectangle that are on the screen with their sources get the
-    /// colours of the places (dx, dy) before them (`rfbScheduleCopyRect` of `rfb.h`); the picture stays, since
-    /// the application moves them itself. A viewer that uses CopyRect may make the copy on its own side.
-    /// Corners in the wrong order are swapped; corners and offsets are any `i32`. A copy by (0, 0), or of no
-    /// place, does nothing. Refused for want of memory alone.
+    /// Tells every viewer that the places of a rectangle that are on the screen with their sources get the colours of the places (dx, dy)
+    /// before them (`rfbScheduleCopyRect` of `rfb.h`); the picture stays, since the application moves them itself. A viewer that uses
+    /// CopyRect may make the copy on its own side.
+    ///
+    /// Swaps corners in the wrong order; corners and offsets are any `i32`. A copy by (0, 0), or of no place, does nothing. Refuses it as
+    /// `OutOfMemory` alone.
     pub fn schedule_copy_rect(
         &mut self,
         x1: i32,
@@ -322,11 +325,11 @@ impl Screen {
         self.draw(&Drawing::ScheduleCopyRegion { region, dx, dy })
     }
 
-    /// Gives the places of a rectangle that are on the screen with their sources the colours that the places
-    /// (dx, dy) before them had, all at once, and tells every viewer (`rfbDoCopyRect` of `rfb.h`). A viewer
-    /// that uses CopyRect may make the copy on its own side. Corners in the wrong order are swapped; corners
-    /// and offsets are any `i32`. A copy by (0, 0), or of no place, does nothing. Refused for want of memory
-    /// alone.
+    /// Gives the places of a rectangle that are on the screen with their sources the colours that the places (dx, dy) before them had,
+    /// all at once, and tells every viewer (`rfbDoCopyRect` of `rfb.h`). A viewer that uses CopyRect may make the copy on its own side.
+    ///
+    /// Swaps corners in the wrong order; corners and offsets are any `i32`. A copy by (0, 0), or of no place, does nothing. Refuses it as
+    /// `OutOfMemory` alone.
     pub fn do_copy_rect(
         &mut self,
         x1: i32,
@@ -349,7 +352,7 @@ impl Screen {
         self.draw(&Drawing::DoCopyRect { rect, dx, dy })
     }
 
-    /// The same for the places of a region (`rfbDoCopyRegion` of `rfb.h`).
+    /// Does what `do_copy_rect` does for the places of a region (`rfbDoCopyRegion` of `rfb.h`).
     pub fn do_copy_region(&mut self, region: &Region, dx: i32, dy: i32) -> Result<(), ScreenError>
         ensures step { (config : Config) (list : List Event) → self.old ≡ state config list →
             OnOk result (self.new ≡ state config (list ++ Event.DoCopy region.now.list dx dy ∷ [])) }
@@ -361,7 +364,7 @@ impl Screen {
         self.draw(&Drawing::DoCopyRegion { region, dx, dy })
     }
 
-    /// Keeps a bell for every open viewer for which fewer than 64 notices wait (`rfbSendBell` of `rfb.h`). Refused for want of memory
+    /// Keeps a bell for every open viewer for which fewer than 64 notices wait (`rfbSendBell` of `rfb.h`). Refuses it as `OutOfMemory`
     /// alone.
     pub fn bell(&mut self) -> Result<(), ScreenError>
         ensures step { (config : Config) (list : List Event) → self.old ≡ state config list →
@@ -374,8 +377,8 @@ impl Screen {
         self.draw(&Drawing::Bell)
     }
 
-    /// Keeps a text for every open viewer for which fewer than 64 notices wait (`rfbSendServerCutText` of `rfb.h`). Refused as
-    /// `TextTooLong` above 65,536 bytes.
+    /// Keeps a text for every open viewer for which fewer than 64 notices wait (`rfbSendServerCutText` of `rfb.h`). Refuses more than
+    /// 65,536 bytes as `TextTooLong`.
     pub fn cut_text(&mut self, text: &[u8]) -> Result<(), ScreenError>
         ensures step { (config : Config) (list : List Event) → self.old ≡ state config list →
             OnOk result (self.new ≡ state config (list ++ Event.CutText text.now ∷ [])) }
@@ -387,9 +390,10 @@ impl Screen {
         self.draw(&Drawing::CutText(text))
     }
 
-    /// Replaces the framebuffer by one of `width` columns and `height` rows that is 0 everywhere (`rfbNewFramebuffer` of `rfb.h`). Every
-    /// place is owed to every viewer. One that lists DesktopSize is told the size before anything else of the screen, where it asks; any
-    /// other sees as much of the screen as its own size holds. Refused as `BadSize` unless each is 1 to 8192, with at most 2^24 places.
+    /// Replaces the framebuffer by one of `width` columns and `height` rows that is 0 everywhere (`rfbNewFramebuffer` of `rfb.h`), and
+    /// owes every place to every viewer. A viewer that lists DesktopSize learns the size before anything else of the screen, where it
+    /// asks; any other sees as much of the screen as its own size holds. Refuses a size as `BadSize` unless each is 1 to 8192, with at
+    /// most 2^24 places.
     pub fn new_framebuffer(&mut self, width: u32, height: u32) -> Result<(), ScreenError>
         ensures step { (config : Config) (list : List Event) → self.old ≡ state config list →
             OnOk result (self.new ≡ state config (list ++ Event.Resize width height ∷ [])) }
@@ -401,8 +405,8 @@ impl Screen {
         self.draw(&Drawing::NewFramebuffer { width, height })
     }
 
-    /// Lets a viewer connect, and returns the server's version for it (RFC 6143, 7.1.1). Refused as `NumberInUse` where a live viewer has
-    /// the number.
+    /// Connects a viewer, and returns the server's version for it (RFC 6143, 7.1.1). Refuses a number that a live viewer has as
+    /// `NumberInUse`.
     pub fn connect(&mut self, number: u64) -> Result<Listed<u8>, ScreenError>
         ensures step { (config : Config) (list : List Event) → self.old ≡ state config list →
             OnOk result (self.new ≡ state config (list ++ Event.Connect number ∷ [])) }
@@ -421,8 +425,8 @@ impl Screen {
         Ok(version)
     }
 
-    /// Closes a viewer's connection. Refused as `NoViewer` where there is none with the number. Where events are kept, room for this
-    /// one was made when the viewer connected.
+    /// Closes a viewer's connection. Refuses a number that no live viewer has as `NoViewer`. Where events are kept, room for this one was
+    /// made when the viewer connected.
     pub fn close(&mut self, number: u64) -> Result<(), ScreenError>
         ensures step { (config : Config) (list : List Event) → self.old ≡ state config list →
             OnOk result (self.new ≡ state config (list ++ Event.Close number ∷ [])) }
@@ -441,7 +445,7 @@ impl Screen {
     }
 
     /// Hears a piece of a viewer's bytes (RFC 6143, 7.1 to 7.5), and returns what it is answered, what it tells the application, and why
-    /// it is heard no further. Refused as `NoViewer` where there is none with the number.
+    /// it is heard no further. Refuses a number that no live viewer has as `NoViewer`.
     pub fn hear(&mut self, number: u64, piece: &[u8]) -> Result<Answer, ScreenError>
         ensures step { (config : Config) (list : List Event) → self.old ≡ state config list →
             OnOk result (self.new ≡ state config (list ++ Event.Hear number piece.now ∷ [])) }
@@ -463,7 +467,7 @@ impl Screen {
         Ok(answer)
     }
 
-    /// Returns whether a cut now would give something. Refused as `NoViewer` where there is no viewer with the number.
+    /// Returns whether a cut now would give something. Refuses a number that no live viewer has as `NoViewer`.
     pub fn pending(&self, number: u64) -> Result<bool, ScreenError>
         ensures answer { (config : Config) (list : List Event) → self.now ≡ state config list →
             result ≡ something_to_send (answer_to config list (Event.Cut number)) }
@@ -472,8 +476,8 @@ impl Screen {
         self.scene.pending(number)
     }
 
-    /// Cuts an update for a viewer: its rectangles, with their colours as they stand; None where there is
-    /// nothing to send. Refused as `NoViewer` where there is none with the number.
+    /// Cuts an update for a viewer: its rectangles, with their colours as they stand. Returns None if there is nothing to send. Refuses a
+    /// number that no live viewer has as `NoViewer`.
     pub fn cut(&mut self, number: u64) -> Result<Option<Update>, ScreenError>
         ensures step { (config : Config) (list : List Event) → self.old ≡ state config list →
             OnOk result (self.new ≡ state config (list ++ Event.Cut number ∷ [])) }
@@ -493,8 +497,8 @@ impl Screen {
         Ok(Some(update))
     }
 
-    /// Does an event. A refusal of another kind than want of memory stands in the answer, and then nothing has changed; a Cut gives the
-    /// encoded bytes, or none.
+    /// Does an event. Puts a refusal in the answer, and then nothing has changed, but returns an `AllocError` for want of memory; a Cut
+    /// gives the encoded bytes, or none.
     pub fn apply(&mut self, event: &Event) -> Result<Answer, AllocError>
         ensures step { (config : Config) (list : List Event) → self.old ≡ state config list →
             OnOk result (self.new ≡ state config (list ++ event.now ∷ [])) }

@@ -1,4 +1,4 @@
-//! What differs is found, and painted, some rows after others.
+//! Finds what differs, and paints it, some rows after others.
 
 ghost use Rattle.std.specs.Prelude.{◌≡◌, ◌+◌, ◌^◌, ◌<◌, ◌++◌, None, List, IfOk};
 ghost use Rattle.framebuffer.specs.Frame.{IsPicture};
@@ -35,9 +35,9 @@ pub fn rect_of(left: u32, top: u32, piece: &Piece) -> Rect
 }
 
 impl Screen {
-    /// Returns what differs between a program's pixels and the picture, where the pixels' corner is at column `left` of row `top`: to paint
-    /// each piece in the `rect_of` it makes the picture these pixels there. What lies off the screen is left out. Refused for want of
-    /// memory alone; where no place differs, none is taken.
+    /// Returns what differs between a program's pixels and the picture, where the pixels' corner is at column `left` of row `top`: to
+    /// paint each piece in the `rect_of` it makes the picture these pixels there. Leaves out what lies off the screen. Takes no memory if
+    /// no place differs; an `AllocError` says that it was refused.
     pub fn differences(
         &self,
         alloc: Global,
@@ -60,10 +60,11 @@ impl Screen {
         )
     }
 
-    /// Takes a program's pixels into the picture, with their corner at column `left` of row `top`, and answers how many places
-    /// changed. What differs is painted, in few rectangles, and owed to every viewer; where no place differs, nothing is painted. What lies
-    /// off the screen is left out. Refused for want of memory alone: then each place has its old colour or its new one, and another
-    /// call takes the rest.
+    /// Takes a program's pixels into the picture, with their corner at column `left` of row `top`, and returns how many places changed.
+    /// Paints what differs, in few rectangles, and owes it to every viewer; paints nothing if no place differs. Leaves out what lies off
+    /// the screen.
+    ///
+    /// Refuses the pixels as `OutOfMemory` alone: then each place has its old colour or its new one, and another call takes the rest.
     pub fn take(
         &mut self,
         alloc: Global,
@@ -80,7 +81,7 @@ impl Screen {
         self.take_told(alloc, left, top, source, &mut Nobody)
     }
 
-    /// Does what `take` does, and tells a witness of each rectangle that is painted.
+    /// Does what `take` does, and tells a witness of each rectangle that it paints.
     pub fn take_told<T: Witness>(
         &mut self,
         alloc: Global,

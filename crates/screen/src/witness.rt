@@ -1,27 +1,27 @@
-//! Who is told of what is painted while a program's pixels are taken in.
+//! Witnesses of what is painted while a program's pixels are taken in.
 
 ghost use Rattle.std.specs.Prelude.{List, ◌∷◌, ◌++◌, []};
 ghost use Rattle.scene.specs.declared.Event.{Event};
 
 use region::Rect;
 
-/// Who is told of paints, each behind the one before.
+/// A witness of paints, each behind the one before.
 pub trait Witness {
-    // It was told of these events.
+    // It noted these events.
     ghost was_told: { List Event → Self → Self → Type 0 };
 
-    // Who is told of nothing stays.
+    // One that notes nothing stays.
     ghost nothing: { (s : Self) → was_told [] s s };
 
-    // What is told behind other events is told with them.
+    // What it notes behind other events it has noted with them.
     ghost both: { (first second : List Event) (r s t : Self) → was_told first r s → was_told second s t → was_told (first ++ second) r t };
 
-    /// A rectangle was painted with these colours.
+    /// Notes that `rect` was painted with `colours`.
     fn painted(&mut self, rect: Rect, colours: &[u32])
         ensures { was_told (Event.Paint rect colours.now ∷ []) self.old self.new };
 }
 
-/// Nobody is told.
+/// A witness that notes nothing.
 #[derive(Clone, Copy, Drop)]
 pub struct Nobody;
 

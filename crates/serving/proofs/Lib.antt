@@ -1,1 +1,2 @@
-pub mod SeatLemmas
+pub mod Services
+pub mod Telling

@@ -1,3 +1,4 @@
 pub mod Reasons
 pub mod Services
 pub mod Serving
+pub mod Telling

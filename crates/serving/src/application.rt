@@ -1,9 +1,12 @@
 //! The application's thread.
 
-ghost use Rattle.std.specs.Prelude.{◌≡◌};
+ghost use Rattle.std.specs.Prelude.{◌≡◌, List, [], ◌∷◌, true, IfOk, OnOk};
+ghost use Rattle.input_queue.specs.declared.Told.{Told};
+ghost use Rattle.input_queue.specs.Ends.{AllTaken};
+ghost use Rattle.serving.specs.Telling.{IsTold, Stays, Took};
 
 use crate::open_connections::OpenConnections;
-use input_queue::{InputHub, Taker, Told};
+use input_queue::{InputEnds, Taker, Told};
 use screen::ScreenError;
 use std::sync::Wait;
 use std::sync::ledger::Ledger;
@@ -19,17 +22,24 @@ pub struct Departed {
 }
 
 /// What draws on a shared screen.
+///
+/// An application may say for which inputs it `stands`, those that it was told: the server tells it what viewers said, each input once and
+/// in order.
 pub trait Application<L: Ledger> {
-    /// A viewer's input came; what follows from it is drawn. The server ends where this answers an error.
+    /// That it was told these inputs, in the order in which they came.
+    ghost stands: { Self → List Told → Type 0 } = { λ _ _. Unit {0} };
+
+    /// Takes note that a viewer's input came; what follows from it is drawn. The server ends where this answers an error.
     fn on_input<R: Wait>(
         &mut self,
         rt: &R,
         shared: &Shared<L>,
         brush: &mut Brush<L>,
         told: &Told,
-    ) -> Result<(), ScreenError>;
+    ) -> Result<(), ScreenError>
+        ensures { IsTold stands (told.now ∷ []) self.old self.new };
 
-    /// A viewer left that had been open; its last inputs were told before. Keys that it held down were told as let go, and its
+    /// Takes note that a viewer left that had been open; its last inputs were told before. Keys that it held down were told as let go, and its
     /// pointer without a button, unless the server is ending. The server ends where this answers an error.
     fn left<R: Wait>(
         &mut self,
@@ -37,7 +47,9 @@ pub trait Application<L: Ledger> {
         _shared: &Shared<L>,
         _brush: &mut Brush<L>,
         _departed: Departed,
-    ) -> Result<(), ScreenError> {
+    ) -> Result<(), ScreenError>
+        ensures { Stays stands self.old self.new }
+    {
         Ok(())
     }
 }
@@ -49,7 +61,9 @@ fn tell_departed<L: Ledger, A: Application<L>, R: Wait>(
     brush: &mut Brush<L>,
     connections: &OpenConnections,
     application: &mut A,
-) -> Result<(), ScreenError> {
+) -> Result<(), ScreenError>
+    ensures { Stays A.stands application.old application.new }
+{
     for _ in rt.forever() {
         let Some(departed) = connections.take_departed(rt) else {
             return Ok(());
@@ -59,23 +73,55 @@ fn tell_departed<L: Ledger, A: Application<L>, R: Wait>(
     unreachable!()
 }
 
-/// Tells the application each input as it comes, and each viewer that left, until the hub is closed; in between it sleeps.
+/// Waits for what comes next, and tells the application: an input, or the viewers that left. Whether nothing more comes: the queue is
+/// closed, and all that was put is taken.
+fn tell_next<L: Ledger, A: Application<L>, R: Wait>(
+    rt: &R,
+    shared: &Shared<L>,
+    brush: &mut Brush<L>,
+    ends: &InputEnds,
+    connections: &OpenConnections,
+    taker: &mut Taker,
+    application: &mut A,
+) -> Result<bool, ScreenError>
+    requires { taker.old.queue ≡ ends.now.queue }
+    ensures told { (told : List Told) × Took told taker.old taker.new × IsTold A.stands told application.old application.new }
+    ensures over { IfOk result (λ over. over ≡ true → AllTaken taker.new.taken) }
+{
+    match ends.take_or_woken(rt, taker) {
+        Ok(Some(told)) => {
+            application.on_input(rt, shared, brush, &told)?;
+            Ok(false)
+        }
+        Ok(None) => {
+            tell_departed(rt, shared, brush, connections, application)?;
+            Ok(false)
+        }
+        Err(_) => {
+            tell_departed(rt, shared, brush, connections, application)?;
+            Ok(true)
+        }
+    }
+}
+
+/// Tells the application each input as it comes, in order, and each viewer that left, until the queue is closed and all is taken; in
+/// between it sleeps. An error of the application ends it.
 pub(crate) fn run_application<L: Ledger, A: Application<L>, R: Wait>(
     rt: &R,
     shared: &Shared<L>,
     brush: &mut Brush<L>,
-    hub: &InputHub,
+    ends: &InputEnds,
     connections: &OpenConnections,
     taker: &mut Taker,
     application: &mut A,
 ) -> Result<(), ScreenError>
-    requires { taker.old.queue ≡ hub.now.queue }
+    requires { taker.old.queue ≡ ends.now.queue }
+    ensures told { (told : List Told) × Took told taker.old taker.new × IsTold A.stands told application.old application.new }
+    ensures all { OnOk result (AllTaken taker.new.taken) }
 {
     for _ in rt.forever() {
-        match hub.take_or_woken(rt, taker) {
-            Ok(Some(told)) => application.on_input(rt, shared, brush, &told)?,
-            Ok(None) => tell_departed(rt, shared, brush, connections, application)?,
-            Err(_) => return tell_departed(rt, shared, brush, connections, application),
+        if tell_next(rt, shared, brush, ends, connections, taker, application)? {
+            return Ok(());
         }
     }
     unreachable!()

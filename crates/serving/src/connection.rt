@@ -7,7 +7,7 @@ use crate::application::Departed;
 use crate::open_connections::{OpenConnections, shut};
 use crate::opening_time::OpeningStream;
 use crate::serving::Server;
-use input_queue::{InputHub, InputSeat};
+use input_queue::{InputEnds, InputSeat};
 use receipts::{Ended, Receipt};
 use screen::ScreenError;
 use std::net::TcpStream;
@@ -17,8 +17,8 @@ use std::thread;
 use std::thread::{Promise, Scope, Threads};
 use std::time::{Clock, Duration, Instant};
 use update_sender::{
-    Line, Listener, OpenGate, Opened, ReadHalf, Shared, Speaker, WriteHalf, receipt, serve_opening,
-    serve_reader, serve_sender,
+    Line, Listener, OpenGate, Opened, ReadHalf, Shared, Speaker, WriteHalf, receipt,
+    serve_listener, serve_opening, serve_sender,
 };
 
 /// How many milliseconds a closing that is refused for memory is let wait.
@@ -45,7 +45,7 @@ pub(crate) fn serve_connection<L: Ledger + Send + Sync, R: Threads + Wait + Cloc
     stream: &TcpStream,
     seat: InputSeat,
 ) -> Receipt
-    requires queue { seat.queue ≡ server.now.hub.now.queue }
+    requires queue { seat.queue ≡ server.now.ends.now.queue }
     requires viewer { seat.viewer ≡ line.listener.viewer }
     ensures { result.viewer ≡ line.listener.viewer }
 {
@@ -59,8 +59,10 @@ pub(crate) fn serve_connection<L: Ledger + Send + Sync, R: Threads + Wait + Cloc
             wait_without_end(stream);
             serve_open(rt, server, listener, speaker, stream, seat)
         }
-        Opened::Over(receipt) => {
-            close_at_last(rt, server.shared, receipt.viewer);
+        Opened::Over(receipt, parting) => {
+            if !parting.is_gone() {
+                close_at_last(rt, server.shared, receipt.viewer);
+            }
             shut(stream);
             ended_late(receipt, reader.is_late())
         }
@@ -73,7 +75,7 @@ fn wait_without_end(stream: &TcpStream) {
     let _set = stream.set_write_timeout(None);
 }
 
-/// The receipt of an opening that is over: one whose reader had no time left was closed by the server.
+/// Returns the receipt of an opening that is over: one whose reader had no time left was closed by the server.
 fn ended_late(mut receipt: Receipt, is_late: bool) -> Receipt
     ensures { result ≡ record receipt { ended = ended_late is_late receipt.ended } }
 {
@@ -91,7 +93,7 @@ impl Promise<WriteHalf> for HalfOf {
     ghost kept_by = { λ p half. half.viewer ≡ p.0 };
 }
 
-/// The viewer's two threads. Whichever ends first ends the other one.
+/// Runs the viewer's two threads. Whichever ends first ends the other one.
 fn serve_open<L: Ledger + Send + Sync, R: Threads + Wait + Clock + Sync>(
     rt: &R,
     server: &Server<'_, L>,
@@ -100,17 +102,17 @@ fn serve_open<L: Ledger + Send + Sync, R: Threads + Wait + Clock + Sync>(
     stream: &TcpStream,
     seat: InputSeat,
 ) -> Receipt
-    requires seat { seat.queue ≡ server.now.hub.now.queue }
+    requires seat { seat.queue ≡ server.now.ends.now.queue }
     requires own { seat.viewer ≡ listener.viewer }
     requires viewer { listener.viewer ≡ speaker.viewer }
     ensures { result.viewer ≡ speaker.viewer }
 {
-    let (shared, hub, connections) = (server.shared, server.hub, server.connections);
+    let (shared, ends, connections) = (server.shared, server.ends, server.connections);
     let (read, write) = thread::scope(
         thread::scope_env(),
         rt,
         move |scope| -> (ReadHalf, WriteHalf)
-            requires queue { seat.queue ≡ hub.now.queue }
+            requires queue { seat.queue ≡ ends.now.queue }
             requires viewer { seat.viewer ≡ listener.viewer }
             ensures read { result.0.viewer ≡ listener.viewer }
             ensures write { result.1.viewer ≡ speaker.viewer }
@@ -121,7 +123,7 @@ fn serve_open<L: Ledger + Send + Sync, R: Threads + Wait + Clock + Sync>(
                 listener,
                 speaker,
                 stream,
-                hub,
+                ends,
                 connections,
                 seat,
                 scope,
@@ -131,7 +133,7 @@ fn serve_open<L: Ledger + Send + Sync, R: Threads + Wait + Clock + Sync>(
     receipt(Some(read), None, write).0
 }
 
-/// The same in a scope: the sender in a thread of it, the reader in this one. Where no thread can be started, the connection is
+/// Does the same in a scope: the sender in a thread of it, the reader in this one. Where no thread can be started, the connection is
 /// shut, and both find it so.
 fn serve_halves<'s, E, L: Ledger + Send + Sync + 's, R: Threads + Wait + Clock + Sync + 's>(
     rt: &'s R,
@@ -139,12 +141,12 @@ fn serve_halves<'s, E, L: Ledger + Send + Sync + 's, R: Threads + Wait + Clock +
     listener: Listener,
     speaker: Speaker,
     stream: &'s TcpStream,
-    hub: &InputHub,
+    ends: &InputEnds,
     connections: &OpenConnections,
     seat: InputSeat,
     scope: &Scope<'s, E>,
 ) -> (ReadHalf, WriteHalf)
-    requires queue { seat.queue ≡ hub.now.queue }
+    requires queue { seat.queue ≡ ends.now.queue }
     requires viewer { seat.viewer ≡ listener.viewer }
     ensures read { result.0.viewer ≡ listener.viewer }
     ensures write { result.1.viewer ≡ speaker.viewer }
@@ -157,12 +159,12 @@ fn serve_halves<'s, E, L: Ledger + Send + Sync + 's, R: Threads + Wait + Clock +
     );
     match sender {
         Ok(sender) => {
-            let read = read_half(rt, shared, listener, stream, hub, connections, seat);
+            let read = read_half(rt, shared, listener, stream, ends, connections, seat);
             (read, sender.join(rt))
         }
         Err(refused) => {
             shut(stream);
-            let read = read_half(rt, shared, listener, stream, hub, connections, seat);
+            let read = read_half(rt, shared, listener, stream, ends, connections, seat);
             (read, (refused.value)())
         }
     }
@@ -172,14 +174,14 @@ fn serve_halves<'s, E, L: Ledger + Send + Sync + 's, R: Threads + Wait + Clock +
 /// there is room, or all connections were shut.
 fn let_go<R: Wait + Clock>(
     rt: &R,
-    hub: &InputHub,
+    ends: &InputEnds,
     connections: &OpenConnections,
     seat: &mut InputSeat,
 )
-    requires { seat.old.queue ≡ hub.now.queue }
+    requires { seat.old.queue ≡ ends.now.queue }
 {
     for _ in rt.forever() {
-        if hub.let_go(rt, seat) || connections.are_shut(rt) {
+        if ends.let_go(rt, seat) || connections.are_shut(rt) {
             return;
         }
         thread::sleep(rt, Duration::from_millis(RETRY));
@@ -187,35 +189,35 @@ fn let_go<R: Wait + Clock>(
     unreachable!()
 }
 
-/// The reader's thread.
+/// Runs the reader's thread.
 fn read_half<L: Ledger, R: Wait + Clock>(
     rt: &R,
     shared: &Shared<L>,
     listener: Listener,
     stream: &TcpStream,
-    hub: &InputHub,
+    ends: &InputEnds,
     connections: &OpenConnections,
     seat: InputSeat,
 ) -> ReadHalf
-    requires queue { seat.queue ≡ hub.now.queue }
+    requires queue { seat.queue ≡ ends.now.queue }
     requires viewer { seat.viewer ≡ listener.viewer }
     ensures { result.viewer ≡ listener.viewer }
 {
     let mut reader = stream;
-    let mut half = serve_reader(rt, shared, listener, &mut reader, hub, seat);
+    let mut half = serve_listener(rt, shared, listener, &mut reader, ends, seat);
     shut(stream);
     close_at_last(rt, shared, half.viewer);
-    let_go(rt, hub, connections, &mut half.seat);
+    let_go(rt, ends, connections, &mut half.seat);
     let departed = Departed {
         viewer: half.viewer,
         dropped: half.dropped,
     };
     connections.depart(rt, departed);
-    hub.wake();
+    ends.wake();
     half
 }
 
-/// The sender's thread.
+/// Runs the sender's thread.
 fn write_half<L: Ledger, R: Wait>(
     rt: &R,
     shared: &Shared<L>,

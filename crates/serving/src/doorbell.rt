@@ -14,7 +14,9 @@ pub(crate) struct Doorbell {
 impl Drop for Doorbell {
     fn drop(self) {
         let Doorbell { counter } = self;
-        libc::close(counter);
+        if counter >= 0 {
+            libc::close(counter);
+        }
     }
 }
 
@@ -23,7 +25,7 @@ impl Drop for Doorbell {
 pub(crate) enum Woken {
     /// A connection can be accepted, or the listener failed.
     ByListener,
-    /// The bell was rung.
+    /// One of the bells was rung.
     ByBell,
     /// The system didn't wait.
     Refused,
@@ -39,7 +41,7 @@ fn watched(descriptor: RawFd) -> pollfd {
 }
 
 impl Doorbell {
-    /// A bell that wasn't rung. None where the system has no descriptor for it.
+    /// Makes a bell that wasn't rung. None where the system has no descriptor for it.
     pub fn new() -> Option<Doorbell> {
         let counter = eventfd(0, EFD_NONBLOCK | EFD_CLOEXEC);
         if counter < 0 {
@@ -48,16 +50,28 @@ impl Doorbell {
         Some(Doorbell { counter })
     }
 
+    /// Makes a bell that can't be rung, and takes no descriptor: the system looks at none below 0.
+    pub fn silent() -> Doorbell {
+        Doorbell { counter: -1 }
+    }
+
     /// Rings the bell: a wait ends, now or as soon as there is one.
     pub fn ring(&self) {
         libc::write(self.counter, &1u64.to_ne_bytes());
     }
 
-    /// Waits until a listener has a connection, or the bell is rung, which then is quiet again.
-    pub fn wait(&self, listener: &TcpListener) -> Woken {
-        let mut files = [watched(listener.as_raw_fd()), watched(self.counter)];
+    /// Waits until a listener has a connection, or the bell is rung, which then is quiet again, or another is, which stays so.
+    pub fn wait(&self, listener: &TcpListener, other: &Doorbell) -> Woken {
+        let mut files = [
+            watched(listener.as_raw_fd()),
+            watched(self.counter),
+            watched(other.counter),
+        ];
         if poll(&mut files, -1) < 0 {
             return Woken::Refused;
+        }
+        if files[2].revents != 0 {
+            return Woken::ByBell;
         }
         if files[1].revents == 0 {
             return Woken::ByListener;

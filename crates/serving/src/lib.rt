@@ -3,7 +3,7 @@
 //!
 //! No clause says what a socket delivers, or that two threads ran: tests over loopback show it.
 //!
-//! A server of one viewer, whole in the crate `follow_pointer`:
+//! A server of one viewer, whole in the crate `example_pointer`:
 //!
 //! ```
 //! let (shared, mut brush) = Shared::<L>::new(alloc, blank, config)?;
@@ -16,17 +16,23 @@ mod accepting;
 mod application;
 mod connection;
 mod doorbell;
+mod guests;
 mod open_connections;
 mod opening_time;
+mod receiving;
 mod service;
 mod serving;
+mod stop;
 mod turning_away;
 
 pub use application::{Application, Departed};
 pub use input_queue::Told;
 pub use listed::Listed;
 pub use messages::Input;
-pub use serving::{INPUTS, ServeError, serve_viewers, serve_viewers_with_queue};
+pub use serving::{
+    INPUTS, ServeError, serve_forever, serve_viewers, serve_viewers_until, serve_viewers_with_queue,
+};
+pub use stop::Stop;
 pub use update_sender::{
     Brush, Config, Ended, FinishError, History, Rect, Region, Report, ScreenError, Sent, Shared,
     finish,

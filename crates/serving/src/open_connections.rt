@@ -63,7 +63,7 @@ impl Streams {
         let _stream = self.streams.try_remove(slot.key);
     }
 
-    /// The same of a viewer's that has ended, which is noted.
+    /// Keeps a viewer's connection no longer that has ended, and notes its end.
     fn end(&mut self, slot: Slot, viewer: u64)
         ensures { self.new.are_shut ≡ self.old.are_shut }
     {
@@ -72,7 +72,7 @@ impl Streams {
         let _noted = self.ended.push(viewer);
     }
 
-    /// A viewer that was open is noted as gone.
+    /// Notes a viewer that was open as gone.
     fn depart(&mut self, departed: Departed)
         ensures { self.new.are_shut ≡ self.old.are_shut }
     {
@@ -80,7 +80,7 @@ impl Streams {
         let _noted = self.departed.push(departed);
     }
 
-    /// The earliest of those that left, which is noted no longer.
+    /// Returns the earliest of those that left, which is noted no longer.
     fn take_departed(&mut self) -> Option<Departed>
         ensures { self.new.are_shut ≡ self.old.are_shut }
     {
@@ -109,7 +109,7 @@ impl Streams {
 }
 
 impl OpenConnections {
-    /// No connection was let in yet. None where the system has no descriptor for the bell.
+    /// Makes a list in which no connection was let in yet. None where the system has no descriptor for the bell.
     pub fn new(alloc: Global) -> Option<OpenConnections> {
         let bell = Doorbell::new()?;
         let streams = Streams {
@@ -124,49 +124,49 @@ impl OpenConnections {
         })
     }
 
-    /// Waits until a listener has a connection, or a viewer has ended, or all connections were shut.
-    pub fn wait(&self, listener: &TcpListener) -> Woken {
-        self.bell.wait(listener)
+    /// Waits until a listener has a connection, or a viewer has ended, or all connections were shut, or another bell rings.
+    pub fn wait(&self, listener: &TcpListener, other: &Doorbell) -> Woken {
+        self.bell.wait(listener, other)
     }
 
-    /// A connection is let in.
+    /// Lets a connection in.
     pub fn admit<R: Wait>(&self, rt: &R, stream: &SharedStream) -> Result<Slot, AllocError> {
         self.streams.lock(rt).admit(stream)
     }
 
-    /// A connection that was let in becomes no viewer.
+    /// Keeps a connection no longer that was let in and becomes no viewer.
     pub fn leave<R: Wait>(&self, rt: &R, slot: Slot) {
         self.streams.lock(rt).leave(slot);
     }
 
-    /// A viewer has ended, and its thread has nothing left to do.
+    /// Notes that a viewer has ended, whose thread has nothing left to do.
     pub fn end<R: Wait>(&self, rt: &R, slot: Slot, viewer: u64) {
         self.streams.lock(rt).end(slot, viewer);
         self.bell.ring();
     }
 
-    /// A viewer that has ended since, each once.
+    /// Returns a viewer that has ended since, each once.
     pub fn take_ended<R: Wait>(&self, rt: &R) -> Option<u64> {
         self.streams.lock(rt).ended.pop()
     }
 
-    /// A viewer that was open has left, and its last input was put.
+    /// Notes that a viewer that was open has left, whose last input was put.
     pub fn depart<R: Wait>(&self, rt: &R, departed: Departed) {
         self.streams.lock(rt).depart(departed);
     }
 
-    /// A viewer that has left since, the earliest first, each once.
+    /// Returns a viewer that has left since, the earliest first, each once.
     pub fn take_departed<R: Wait>(&self, rt: &R) -> Option<Departed> {
         self.streams.lock(rt).take_departed()
     }
 
-    /// Whether no connection is served, or all were shut.
+    /// Returns whether no connection is served, or all were shut.
     pub fn are_over<R: Wait>(&self, rt: &R) -> bool {
         let streams = self.streams.lock(rt);
         streams.are_shut || streams.streams.is_empty()
     }
 
-    /// Whether all were shut.
+    /// Returns whether all were shut.
     pub fn are_shut<R: Wait>(&self, rt: &R) -> bool {
         self.streams.lock(rt).are_shut
     }

@@ -23,7 +23,7 @@ pub(crate) struct OpeningStream<'s, R: Clock> {
     is_late: bool,
 }
 
-/// Whether a read or a write ended since nothing came in time.
+/// Returns whether a read or a write ended since nothing came in time.
 fn is_late(outcome: &io::Result<usize>) -> bool
     ensures { MatchResult outcome.now (λ _. result ≡ false) (λ error. result ≡ is_timeout (error_kind error)) }
 {
@@ -34,7 +34,7 @@ fn is_late(outcome: &io::Result<usize>) -> bool
 }
 
 impl<'s, R: Clock> OpeningStream<'s, R> {
-    /// A connection whose opening began at a time.
+    /// Returns a connection whose opening began at a time.
     pub fn new(
         clock: &'s R,
         stream: &'s TcpStream,
@@ -48,14 +48,14 @@ impl<'s, R: Clock> OpeningStream<'s, R> {
         }
     }
 
-    /// Whether the last read failed since the time was up.
+    /// Returns whether the last read failed since the time was up.
     pub fn is_late(&self) -> bool
         ensures { result ≡ self.now.is_late }
     {
         self.is_late
     }
 
-    /// What is left of the time. An error where nothing is.
+    /// Returns what is left of the time. An error where nothing is.
     fn left(&self) -> io::Result<Duration> {
         let Some(began) = self.began else {
             return Err(io::Error::from(ErrorKind::TimedOut));
@@ -67,7 +67,7 @@ impl<'s, R: Clock> OpeningStream<'s, R> {
         Ok(left)
     }
 
-    /// Reads, and waits for as long as is left.
+    /// Reads bytes, and waits for as long as is left.
     fn read_in_time(&self, buffer: &mut [u8]) -> io::Result<usize>
         ensures { ReadsAtMost result buffer.new }
     {
@@ -76,7 +76,7 @@ impl<'s, R: Clock> OpeningStream<'s, R> {
         stream.read(buffer)
     }
 
-    /// Writes, and waits for as long as is left.
+    /// Writes bytes, and waits for as long as is left.
     fn write_in_time(&self, bytes: &[u8]) -> io::Result<usize>
         ensures { WritesAtMost result bytes.now }
     {

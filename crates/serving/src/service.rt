@@ -28,8 +28,8 @@ pub(crate) enum Service {
 }
 
 impl Service {
-    /// The receipt, once the thread has ended.
-    fn receipt<R: Threads>(self, rt: &R) -> Receipt
+    /// Returns the receipt, once the thread has ended.
+    pub fn receipt<R: Threads>(self, rt: &R) -> Receipt
         ensures { result.viewer ≡ viewer_of self }
     {
         match self {
@@ -48,7 +48,7 @@ impl Service {
     }
 }
 
-/// What stands in a receipt's place while its thread is joined.
+/// Returns what stands in a receipt's place while its thread is joined.
 fn no_receipt(alloc: Global) -> Receipt {
     Receipt {
         viewer: 0,
@@ -81,7 +81,7 @@ pub(crate) fn settle_viewer<R: Threads>(
     }
 }
 
-/// The receipts by number, in a list that was empty, once all threads have ended.
+/// Returns the receipts by number, in a list that was empty, once all threads have ended.
 pub(crate) fn receipts_of<R: Threads>(
     rt: &R,
     services: Vec<Service>,

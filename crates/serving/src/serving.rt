@@ -1,12 +1,13 @@
 //! The whole server: a thread that accepts, threads for each viewer, and the application's.
 
-ghost use Rattle.std.specs.Prelude.{◌≡◌, All, IfOk, length, max, min};
-ghost use Rattle.serving.specs.Serving.{AreNumbered, AreSeated};
+ghost use Rattle.std.specs.Prelude.{◌≡◌, ◌≤◌, IfOk, length, max, min};
+ghost use Rattle.serving.specs.Serving.{AreNumbered, Gives};
 
 use crate::accepting::{accept_all, end_all};
 use crate::application::{Application, run_application};
 use crate::open_connections::OpenConnections;
-use input_queue::{InputHub, InputSeat, Taker};
+use crate::stop::{Door, Stop};
+use input_queue::{InputEnds, InputHub, SeatMaker, Taker};
 use receipts::Receipt;
 use screen::ScreenError;
 use std::alloc::{AllocError, AllocFailed, Global};
@@ -54,56 +55,63 @@ pub(crate) struct Server<'s, L: Ledger> {
     pub alloc: Global,
     pub shared: &'s Shared<L>,
     // where the viewers' inputs wait for the application
-    pub hub: &'s InputHub,
+    pub ends: &'s InputEnds,
     pub connections: &'s OpenConnections,
 }
 
-/// The inputs' queue, its taker, and a seat for each viewer, the first one's last.
+/// Which viewers a server takes.
+#[derive(Clone, Copy)]
+pub(crate) enum Plan {
+    /// So many in all, whose receipts are kept.
+    InAll(u64),
+    /// So many at once, without end.
+    AtOnce(usize),
+}
+
+/// The inputs' queue: what threads share of it, what makes its seats, and its taker.
 #[derive(Drop)]
 struct Seating {
-    hub: InputHub,
+    ends: InputEnds,
+    maker: SeatMaker,
     taker: Taker,
-    seats: Vec<InputSeat>,
 }
 
-/// A queue for so many viewers, of so many inputs, 1 to 65,536.
-fn seating_for(alloc: Global, viewers: u64, inputs: usize) -> Result<Seating, AllocError>
-    ensures taker { IfOk result (λ q. q.taker.queue ≡ q.hub.queue) }
-    ensures seats { IfOk result (λ q. All (λ s. s.queue ≡ q.hub.queue) q.seats.items) }
-    ensures seated { IfOk result (λ q. AreSeated viewers q.seats.items) }
-    ensures capacity { IfOk result (λ q. q.hub.capacity ≡ min (max inputs 1) 65536) }
+/// Makes a queue of so many inputs, 1 to 65,536.
+fn seating_for(alloc: Global, inputs: usize) -> Result<Seating, AllocError>
+    ensures maker { IfOk result (λ q. q.maker.queue ≡ q.ends.queue) }
+    ensures taker { IfOk result (λ q. q.taker.queue ≡ q.ends.queue) }
+    ensures capacity { IfOk result (λ q. q.ends.capacity ≡ min (max inputs 1) 65536) }
 {
     // the capacity is one that a hub may have
-    let Ok((mut hub, taker)) = InputHub::new(alloc, inputs.max(1).min(INPUTS)) else {
+    let Ok((hub, taker)) = InputHub::new(alloc, inputs.max(1).min(INPUTS)) else {
         return Err(AllocError);
     };
-    let mut seats = Vec::new(alloc);
-    let mut viewer = viewers;
-    while viewer > 0 {
-        seats.push(hub.seat(viewer))?;
-        viewer -= 1;
-    }
-    Ok(Seating { hub, taker, seats })
+    let (ends, maker) = hub.split();
+    Ok(Seating { ends, maker, taker })
 }
 
-/// The thread that accepts gives receipts of so many viewers.
+/// The thread that accepts gives the receipts of a plan.
 #[derive(Clone, Copy)]
-struct ReceiptsOf(usize);
+struct ReceiptsOf {
+    plan: Plan,
+    may_stop: bool,
+}
 
 impl Promise<Result<Vec<Receipt>, ServeError>> for ReceiptsOf {
     ghost use Rattle.std.specs.Prelude.{IfOk};
-    ghost use Rattle.serving.specs.Serving.{AreNumbered};
+    ghost use Rattle.serving.specs.Serving.{Gives};
 
-    ghost kept_by = { λ p result. IfOk result (λ receipts. AreNumbered p.0 receipts.items) };
+    ghost kept_by = { λ p result. IfOk result (λ receipts. Gives p.plan p.may_stop receipts.items) };
 }
 
-/// Accepts a connection for each seat in a thread of a scope, while the application is told inputs in this one. Where no thread
-/// can be started, nothing is accepted.
+/// Accepts connections by a plan in a thread of a scope, while the application is told inputs in this one. Where no thread can be started,
+/// nothing is accepted.
 fn serve_seats<'s, E, L, A, R>(
     rt: &'s R,
     server: &Server<'s, L>,
-    listener: &'s TcpListener,
-    seats: Vec<InputSeat>,
+    door: &Door<'s>,
+    maker: SeatMaker,
+    plan: Plan,
     brush: &mut Brush<L>,
     mut taker: Taker,
     application: &mut A,
@@ -113,45 +121,122 @@ where
     L: Ledger + Send + Sync + 's,
     A: Application<L>,
     R: Threads + Wait + Net + Clock + Sync + 's,
-    requires queue { All (λ s. s.queue ≡ server.now.hub.now.queue) seats.items }
-    requires seated { AreSeated (length seats.items) seats.items }
-    requires taker { taker.queue ≡ server.now.hub.now.queue }
-    ensures { IfOk result (λ receipts. AreNumbered (length seats.items) receipts.items) }
+    requires maker { maker.queue ≡ server.now.ends.now.queue }
+    requires taker { taker.queue ≡ server.now.ends.now.queue }
+    ensures { IfOk result (λ receipts. Gives plan door.now.may_stop receipts.items) }
 {
     let Server {
         alloc,
         shared,
-        hub,
+        ends,
         connections,
     } = *server;
+    let Door {
+        listener,
+        stop,
+        may_stop,
+    } = *door;
     let accepting = scope.spawn_with(
-        ReceiptsOf(seats.len()),
+        ReceiptsOf { plan, may_stop },
         move || -> Result<Vec<Receipt>, ServeError>
-            requires queue { All (λ s. s.queue ≡ hub.now.queue) seats.items }
-            requires seated { AreSeated (length seats.items) seats.items }
-            ensures { IfOk result (λ receipts. AreNumbered (length seats.items) receipts.items) }
+            requires { maker.queue ≡ ends.now.queue }
+            ensures { IfOk result (λ receipts. Gives plan may_stop receipts.items) }
         {
             let server = Server {
                 alloc,
                 shared,
-                hub,
+                ends,
                 connections,
             };
-            let receipts = accept_all(rt, server, listener, seats);
-            hub.close();
+            let door = Door {
+                listener,
+                stop,
+                may_stop,
+            };
+            let receipts = accept_all(rt, server, &door, maker, plan);
+            ends.close();
             receipts
         },
     );
     let Ok(accepting) = accepting else {
         return Err(ServeError::Network);
     };
-    let drawn = run_application(rt, shared, brush, hub, connections, &mut taker, application);
+    let drawn = run_application(
+        rt,
+        shared,
+        brush,
+        ends,
+        connections,
+        &mut taker,
+        application,
+    );
     if drawn.is_err() {
         end_all(rt, server);
     }
     let receipts = accepting.join(rt);
     drawn?;
     receipts
+}
+
+/// Serves by a plan, where so many inputs may wait for the application.
+fn serve_by<L, A, R>(
+    rt: &R,
+    alloc: Global,
+    door: &Door<'_>,
+    shared: &Shared<L>,
+    brush: &mut Brush<L>,
+    plan: Plan,
+    inputs: usize,
+    application: &mut A,
+) -> Result<Vec<Receipt>, ServeError>
+where
+    L: Ledger + Send + Sync,
+    A: Application<L>,
+    R: Threads + Wait + Net + Clock + Sync,
+    ensures { IfOk result (λ receipts. Gives plan door.now.may_stop receipts.items) }
+{
+    let Seating { ends, maker, taker } = seating_for(alloc, inputs)?;
+    let Some(connections) = OpenConnections::new(alloc) else {
+        return Err(ServeError::Network);
+    };
+    let Door {
+        listener,
+        stop,
+        may_stop,
+    } = *door;
+    let (ends, connections) = (&ends, &connections);
+    thread::scope(
+        thread::scope_env(),
+        rt,
+        move |scope| -> Result<Vec<Receipt>, ServeError>
+            requires maker { maker.queue ≡ ends.now.queue }
+            requires taker { taker.queue ≡ ends.now.queue }
+            ensures { IfOk result (λ receipts. Gives plan may_stop receipts.items) }
+        {
+            let server = Server {
+                alloc,
+                shared,
+                ends,
+                connections,
+            };
+            let door = Door {
+                listener,
+                stop,
+                may_stop,
+            };
+            serve_seats(
+                rt,
+                &server,
+                &door,
+                maker,
+                plan,
+                brush,
+                taker,
+                application,
+                scope,
+            )
+        },
+    )
 }
 
 /// Accepts so many connections, and serves each as a viewer until it ends; they are numbered from 1 on. The application is told
@@ -194,7 +279,7 @@ where
     )
 }
 
-/// `serve_viewers`, where so many inputs may wait for the application, at least 1 and at most 65,536. One takes 112 bytes, which are taken
+/// Serves as `serve_viewers` does, where so many inputs may wait for the application, at least 1 and at most 65,536. One takes 112 bytes, which are taken
 /// for all at the start.
 pub fn serve_viewers_with_queue<L, A, R>(
     rt: &R,
@@ -212,36 +297,78 @@ where
     R: Threads + Wait + Net + Clock + Sync,
     ensures { IfOk result (λ receipts. AreNumbered viewers receipts.items) }
 {
-    let Seating { hub, taker, seats } = seating_for(alloc, viewers, inputs)?;
-    let Some(connections) = OpenConnections::new(alloc) else {
-        return Err(ServeError::Network);
+    let never = Stop::never();
+    let door = Door {
+        listener,
+        stop: &never,
+        may_stop: false,
     };
-    let (hub, connections) = (&hub, &connections);
-    thread::scope(
-        thread::scope_env(),
-        rt,
-        move |scope| -> Result<Vec<Receipt>, ServeError>
-            requires queue { All (λ s. s.queue ≡ hub.now.queue) seats.items }
-            requires seated { AreSeated (length seats.items) seats.items }
-            requires taker { taker.queue ≡ hub.now.queue }
-            ensures { IfOk result (λ receipts. AreNumbered (length seats.items) receipts.items) }
-        {
-            let server = Server {
-                alloc,
-                shared,
-                hub,
-                connections,
-            };
-            serve_seats(
-                rt,
-                &server,
-                listener,
-                seats,
-                brush,
-                taker,
-                application,
-                scope,
-            )
-        },
-    )
+    let plan = Plan::InAll(viewers);
+    serve_by(rt, alloc, &door, shared, brush, plan, inputs, application)
+}
+
+/// Serves as `serve_viewers_with_queue` does, and ends early once `stop` is called: with the receipts of the viewers that came until then, numbered
+/// from 1 on, in order. All connections are shut then, and it returns as soon as all threads have ended, within a second unless the
+/// application takes longer for what it is told.
+pub fn serve_viewers_until<L, A, R>(
+    rt: &R,
+    alloc: Global,
+    listener: &TcpListener,
+    shared: &Shared<L>,
+    brush: &mut Brush<L>,
+    viewers: u64,
+    inputs: usize,
+    stop: &Stop,
+    application: &mut A,
+) -> Result<Vec<Receipt>, ServeError>
+where
+    L: Ledger + Send + Sync,
+    A: Application<L>,
+    R: Threads + Wait + Net + Clock + Sync,
+    ensures { IfOk result (λ receipts. AreNumbered (length receipts.items) receipts.items × (length receipts.items ≤ viewers)) }
+{
+    let door = Door {
+        listener,
+        stop,
+        may_stop: true,
+    };
+    let plan = Plan::InAll(viewers);
+    serve_by(rt, alloc, &door, shared, brush, plan, inputs, application)
+}
+
+/// Serves viewers without end, at most `viewers` at once, until `stop` is called or a call of the screen is refused. They are numbered
+/// from 1 on as they come. The application is told their inputs, in this thread, and of each that left. A connection that comes while so
+/// many are there is told that there are too many, and closed. One that never opens has its place for 10 seconds at most, and the
+/// application is told nothing of it. What an ended viewer held is given back while the server goes on, its receipt too.
+///
+/// What the system refuses costs at most the connection that it is refused for, as for `serve_viewers`. `inputs` may wait for the
+/// application, at least 1 and at most 65,536.
+///
+/// Once it is stopped all connections are shut, and it returns as soon as all threads have ended, within a second unless the application
+/// takes longer for what it is told. `Network` where no thread that accepts could be started, or there was no descriptor to wake it by;
+/// `Screen` where a call of the screen was refused, as one of the application's: then everything is ended too.
+pub fn serve_forever<L, A, R>(
+    rt: &R,
+    alloc: Global,
+    listener: &TcpListener,
+    shared: &Shared<L>,
+    brush: &mut Brush<L>,
+    viewers: usize,
+    inputs: usize,
+    stop: &Stop,
+    application: &mut A,
+) -> Result<(), ServeError>
+where
+    L: Ledger + Send + Sync,
+    A: Application<L>,
+    R: Threads + Wait + Net + Clock + Sync,
+{
+    let door = Door {
+        listener,
+        stop,
+        may_stop: true,
+    };
+    let plan = Plan::AtOnce(viewers);
+    serve_by(rt, alloc, &door, shared, brush, plan, inputs, application)?;
+    Ok(())
 }

@@ -56,12 +56,12 @@ gathered_more s p start y bands now places d b low h other top bottom from to ad
   are_bands = ⊎_elim
       (λ pushed. subst (λ (l : List Band). AreBands (columns_beside s p) (IsSameAt s p) start (y + 1) l) (sym pushed)
       (row_pushed (columns_beside s p) (IsSameAt s p) start y bands b h.are_bands fits top outside))
-      (λ joined. subst (λ (l : List Band). AreBands (columns_beside s p) (IsSameAt s p) start (y + 1) l) (sym joined.2.1)
+      (λ joined. subst (λ (l : List Band). AreBands (columns_beside s p) (IsSameAt s p) start (y + 1) l) (sym joined.2.1.1)
       (row_joined (columns_beside s p) (IsSameAt s p) start y bands b joined.1 h.are_bands fits top outside joined.0 joined.2.0))
       adds;
   counted = let more = total_more s p start y low in let so_far = h.counted in let here = other.places in omega arith;
   few = let so_far = h.few in let here = other.some_places in
-      ⊎_elim (λ pushed. let e = ap length pushed ∙ length_push bands b in omega arith) (λ joined. let e = ap length joined.2.1 ∙ length-set bands (length bands - 1) joined.1 in omega arith) adds;
+      ⊎_elim (λ pushed. let e = ap length pushed ∙ length_push bands b in omega arith) (λ joined. let e = ap length joined.2.1.1 ∙ length-set bands (length bands - 1) joined.1 in omega arith) adds;
   small =
       let so_far = h.small in let here = other.places in
       let most = count_at_most (colours_at s 0 y (length (row_beside s p y))) (row_beside s p y) (length (row_beside s p y)) in

@@ -1,5 +1,5 @@
 -- Rows that differ, gathered from the top into bands.
-use Rattle.std.specs.Prelude.{◌≡◌, ℕ, ◌-◌, ◌<◌, ◌≤◌, min, max, Bool, false, ◌&&◌, nat_le, nat_lt, ◌⊎◌, List, [], ◌∷◌, ◌++◌, length, slice_set, get_or, All, AllPairs}
+use Rattle.std.specs.Prelude.{◌≡◌, ℕ, ◌+◌, ◌-◌, ◌*◌, ◌<◌, ◌≤◌, min, max, Bool, false, ◌&&◌, nat_le, nat_lt, ◌⊎◌, List, [], ◌∷◌, ◌++◌, length, slice_set, get_or, All, AllPairs}
 use Rattle.source_pixels.specs.declared.bands.Band.{Band}
 
 abbrev pub is_in_band : Band → ℕ → ℕ → Bool
@@ -20,10 +20,17 @@ pub record IsJoint (a b joint : Band) : Type 0 where
   pub bottom : joint.bottom ≡ b.bottom
   pub from : joint.from ≡ min a.from b.from
   pub to : joint.to ≡ max a.to b.to
+  -- so many places from the first to the last that differs in each of its rows, or fewer
+  pub spans : joint.spans ≤ a.spans + b.spans
 
--- a band comes behind others, or is joined with the last of them
+-- a band has at most twice as many places as there are from the first to the last that differs in its rows, and 64; and at most 16,384
+pub record IsThrifty (b : Band) : Type 0 where
+  pub near : (b.to - b.from) * (b.bottom - b.top) ≤ b.spans * 2 + 64
+  pub small : (b.to - b.from) * (b.bottom - b.top) ≤ 16384
+
+-- a band comes behind others, or is joined with the last of them, where both are thrifty
 abbrev pub Adds : List Band → Band → List Band → Type 0
-Adds old b new = (new ≡ old ++ b ∷ []) ⊎ ((0 < length old) × (joint : Band) × (IsJoint (get_or old (length old - 1) b) b joint × (new ≡ slice_set old (length old - 1) joint)))
+Adds old b new = (new ≡ old ++ b ∷ []) ⊎ ((0 < length old) × (joint : Band) × (IsJoint (get_or old (length old - 1) b) b joint × (IsThrifty joint × (new ≡ slice_set old (length old - 1) joint))))
 
 -- a place is in none of the bands
 abbrev pub IsOutside : List Band → ℕ → ℕ → Type 0

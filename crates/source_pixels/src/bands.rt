@@ -1,7 +1,7 @@
 //! Rows that differ, gathered from the top into few rectangles.
 
 ghost use Rattle.std.specs.Prelude.{◌≡◌, IsTrue, OnOk};
-ghost use Rattle.source_pixels.specs.Bands.{IsJoint, Adds};
+ghost use Rattle.source_pixels.specs.Bands.{IsJoint, IsThrifty, Adds};
 
 use std::alloc::AllocError;
 
@@ -23,21 +23,16 @@ pub struct Band {
     pub spans: usize,
 }
 
-/// Whether a row belongs to the band above it: it lies directly below, and together they are not far larger than what differs, nor
-/// too large for a cache.
-fn belongs(band: Band, row: Band) -> bool
-    ensures { IsTrue result → band.bottom ≡ row.top }
+/// Returns whether a band of several rows is not far larger than what differs in them, nor too large for a cache.
+fn is_thrifty(band: Band) -> bool
+    ensures { IsTrue result → IsThrifty band }
 {
-    let joint = join(band, row);
-    let places = (joint.to.saturating_sub(joint.from)).saturating_mul(
-        joint.bottom.saturating_sub(joint.top),
-    );
-    band.bottom == row.top
-        && places <= joint.spans.saturating_mul(2).saturating_add(SLACK)
-        && places <= MOST_PLACES
+    let columns = band.to.saturating_sub(band.from);
+    let places = columns.saturating_mul(band.bottom.saturating_sub(band.top));
+    places <= MOST_PLACES && places <= band.spans.saturating_mul(2).saturating_add(SLACK)
 }
 
-/// Two bands as one.
+/// Returns `band` and `row`, which lies directly below it, as one.
 fn join(band: Band, row: Band) -> Band
     ensures { band.bottom ≡ row.top → IsJoint band row result }
 {
@@ -50,14 +45,18 @@ fn join(band: Band, row: Band) -> Band
     }
 }
 
-/// Puts a row behind the bands above it, or joins it with the last. Refused for want of memory alone.
+/// Puts a row behind the bands above it, or joins it with the last where it lies directly below that one, and both are not far larger
+/// than what differs in them. Refused for want of memory alone.
 pub(crate) fn add(bands: &mut Vec<Band>, row: Band) -> Result<(), AllocError>
     ensures { OnOk result (Adds bands.old.items row bands.new.items) }
 {
     let count = bands.len();
-    if count > 0 && belongs(bands[count - 1], row) {
-        bands[count - 1] = join(bands[count - 1], row);
-        return Ok(());
+    if count > 0 && bands[count - 1].bottom == row.top {
+        let joint = join(bands[count - 1], row);
+        if is_thrifty(joint) {
+            bands[count - 1] = joint;
+            return Ok(());
+        }
     }
     bands.push(row)?;
     Ok(())

@@ -9,7 +9,7 @@ use crate::scales::Scale;
 
 /// What gives the colours `0x00RRGGBB` of pixels.
 pub(crate) trait Colours<P: Copy> {
-    /// The colour of a pixel.
+    /// Returns the colour of `pixel`.
     ghost colour_of: { Self → P → ℕ };
 
     fn colour(&self, pixel: P) -> u32
@@ -45,7 +45,7 @@ impl Components {
         }
     }
 
-    /// The colour `0x00RRGGBB` of a pixel, by its number.
+    /// Returns the colour `0x00RRGGBB` of the pixel with this number.
     fn colour_by(&self, number: u32) -> u32
         ensures { result ≡ true_colour self.now.format number }
     {
@@ -78,7 +78,7 @@ impl Colours<[u8; 4]> for Direct {
     }
 }
 
-/// The number of one byte, in either order.
+/// Returns the number of one byte, in either order.
 fn number_1(big_endian: bool, bytes: [u8; 1]) -> u32
     ensures { result ≡ number_of big_endian bytes }
 {
@@ -90,7 +90,7 @@ fn number_1(big_endian: bool, bytes: [u8; 1]) -> u32
     }
 }
 
-/// The number of two bytes.
+/// Returns the number of two bytes.
 fn number_2(big_endian: bool, bytes: [u8; 2]) -> u32
     ensures { result ≡ number_of big_endian bytes }
 {
@@ -102,7 +102,7 @@ fn number_2(big_endian: bool, bytes: [u8; 2]) -> u32
     }
 }
 
-/// The number of three bytes.
+/// Returns the number of three bytes.
 fn number_3(big_endian: bool, bytes: [u8; 3]) -> u32
     ensures { result ≡ number_of big_endian bytes }
 {
@@ -114,7 +114,7 @@ fn number_3(big_endian: bool, bytes: [u8; 3]) -> u32
     }
 }
 
-/// The number of four bytes.
+/// Returns the number of four bytes.
 fn number_4(big_endian: bool, bytes: [u8; 4]) -> u32
     ensures { result ≡ number_of big_endian bytes }
 {

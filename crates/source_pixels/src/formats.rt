@@ -37,7 +37,7 @@ pub enum SourceFormat<'a> {
 }
 
 impl BytesPerPixel {
-    /// How many bytes, as a number.
+    /// Returns the number of bytes.
     pub fn count(self) -> usize
         ensures { result ≡ byte_count self }
     {
@@ -50,7 +50,7 @@ impl BytesPerPixel {
     }
 }
 
-/// Whether a component has a value above 0, and fits in a pixel of so many bits, in its place.
+/// Returns whether a component has a value above 0, and fits in a pixel of `bits` bits, in its place.
 fn fits(bits: u32, at: Component) -> bool
     requires { bits ≤ 32 }
     ensures { result ≡ fits bits at }
@@ -59,7 +59,7 @@ fn fits(bits: u32, at: Component) -> bool
     at.max >= 1 && u64::from(at.max) < 1u64 << room
 }
 
-/// The value of a component of 0 to 255 in a pixel, which needs no scale.
+/// Returns the value of a component of 0 to 255, which needs no scale, in the pixel `number`.
 pub(crate) fn whole_byte(at: Component, number: u32) -> u8
     requires max { at.max ≡ 255 }
     requires fits { fits 32 at ≡ true }
@@ -69,7 +69,8 @@ pub(crate) fn whole_byte(at: Component, number: u32) -> u8
 }
 
 impl TrueColour {
-    /// 32 bits, the lowest byte first, red at 16, green at 8 and blue at 0, each 0 to 255: a pixel is a colour `0x00RRGGBB`.
+    /// Returns the server's own format: 32 bits, the lowest byte first, red at 16, green at 8 and blue at 0, each 0 to 255. A pixel is a
+    /// colour `0x00RRGGBB`.
     pub fn server() -> TrueColour
         ensures { result ≡ server_format }
     {
@@ -85,7 +86,7 @@ impl TrueColour {
         }
     }
 
-    /// Whether each component has a value above 0, and fits in the pixel.
+    /// Returns whether each component has a value above 0, and fits in the pixel.
     pub(crate) fn fits(&self) -> bool
         ensures { result ≡ are_fitting self.now }
     {
@@ -93,14 +94,14 @@ impl TrueColour {
         fits(bits, self.red) && fits(bits, self.green) && fits(bits, self.blue)
     }
 
-    /// Whether a pixel is a colour `0x00RRGGBB`, the lowest byte first, in four bytes.
+    /// Returns whether a pixel is a colour `0x00RRGGBB`, the lowest byte first, in four bytes.
     pub(crate) fn is_direct(&self) -> bool
         ensures { IsTrue result ↔ (self.now ≡ server_format) }
     {
         *self == TrueColour::server()
     }
 
-    /// Whether each component is 0 to 255.
+    /// Returns whether each component is 0 to 255.
     pub(crate) fn has_whole_bytes(&self) -> bool
         ensures { IsTrue result ↔ HasWholeBytes self.now }
     {

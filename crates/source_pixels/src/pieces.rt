@@ -1,6 +1,6 @@
 //! What differs between pixels and the part of a picture beside them, as rectangles with their colours.
 
-ghost use Rattle.std.specs.Prelude.{◌≡◌, ◌+◌, ◌<◌, ◌≤◌, length, take, MatchOption, IfOk, None};
+ghost use Rattle.std.specs.Prelude.{◌≡◌, ◌+◌, ◌-◌, ◌<◌, ◌≤◌, length, take, MatchOption, IfOk, None};
 ghost use Rattle.source_pixels.specs.Source.{colours_at, source_refusal};
 ghost use Rattle.source_pixels.specs.Rows.{AreSame, IsDifference};
 ghost use Rattle.source_pixels.specs.Parts.{Part};
@@ -18,15 +18,15 @@ pub trait Beside {
     /// Its size, and its colours.
     ghost part: { Self → Part };
 
-    /// How many columns it has.
+    /// Returns how many columns it has.
     fn columns(&self) -> usize
         ensures { result ≡ (part self.now).columns };
 
-    /// How many rows it has.
+    /// Returns how many rows it has.
     fn rows(&self) -> usize
         ensures { result ≡ (part self.now).rows };
 
-    /// The colours `0x00RRGGBB` of row y, from the left.
+    /// Returns the colours `0x00RRGGBB` of row `y`, from the left.
     fn row(&self, y: usize) -> &[u32]
         requires { y < (part self.now).rows }
         ensures { result.now ≡ (part self.now).row y };
@@ -56,7 +56,7 @@ pub struct FoundBands {
     pub places: usize,
 }
 
-/// Where a row differs from the picture's, of which only the first columns are looked at.
+/// Returns where the first `columns` places of row `y` differ from the picture's; `None` where none does.
 fn row_difference<B: Beside>(
     source: &PixelSource<'_>,
     picture: &B,
@@ -73,13 +73,14 @@ fn row_difference<B: Beside>(
     source.compare_row(y, &row[..row.len().min(columns)])
 }
 
-/// The band of a row that differs.
+/// Returns row `y`, which differs, as a band.
 fn band_of(y: usize, difference: RowDifference) -> Band
     requires { y < usize.MAX }
     ensures top { result.top ≡ y }
     ensures bottom { result.bottom ≡ y + 1 }
     ensures from { result.from ≡ difference.from }
     ensures to { result.to ≡ difference.to }
+    ensures spans { result.spans ≡ difference.to - difference.from }
 {
     Band {
         top: y,
@@ -90,9 +91,9 @@ fn band_of(y: usize, difference: RowDifference) -> Band
     }
 }
 
-/// What differs in the rows from `top` to below `bottom` between a program's pixels and the part of a picture beside them, as
-/// `find_differences` gathers it, without colours: `copy_band` gives those of a band. Where no place differs, no memory is taken.
-/// Refused for want of memory alone.
+/// Returns what differs in the rows from `top` to below `bottom` between a program's pixels and the part of a picture beside them, as
+/// `find_differences` gathers it, without colours: `copy_band` gives those of a band. Takes no memory where no place differs, and is
+/// refused for want of memory alone.
 pub fn find_bands<B: Beside>(
     alloc: Global,
     source: &PixelSource<'_>,
@@ -120,7 +121,7 @@ pub fn find_bands<B: Beside>(
     })
 }
 
-/// A band of the source with its colours.
+/// Returns a band of the source with its colours.
 fn make_piece(alloc: Global, source: &PixelSource<'_>, band: Band) -> Result<Piece, AllocError>
     requires wide { band.to ≤ source.now.width }
     requires high { band.bottom ≤ source.now.height }
@@ -139,9 +140,9 @@ fn make_piece(alloc: Global, source: &PixelSource<'_>, band: Band) -> Result<Pie
     })
 }
 
-/// What differs between a program's pixels and the part of a picture beside them. Rows that differ one below the other go into one
-/// rectangle, unless that were far larger than what differs. Where no place differs, no rectangle is made, and no memory is taken.
-/// Refused for want of memory alone.
+/// Returns what differs between a program's pixels and the part of a picture beside them. Joins rows that differ one below the other to
+/// one rectangle, unless that has more than 16,384 places, or more than twice as many as there are from the first to the last that
+/// differs in each row, and 64. Takes no memory where no place differs, and is refused for want of memory alone.
 pub fn find_differences<B: Beside>(
     alloc: Global,
     source: &PixelSource<'_>,

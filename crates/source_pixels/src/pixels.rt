@@ -9,7 +9,7 @@ use crate::colours::{Components, Direct, Places, WholeBytes};
 use crate::formats::{BytesPerPixel, SourceFormat, TrueColour};
 use crate::rows::{RowDifference, compare, write_colours};
 
-/// How many bytes a pixel has.
+/// Returns how many bytes a pixel has.
 pub(crate) fn pixel_size(format: SourceFormat<'_>) -> usize
     ensures { result ≡ pixel_size format.entry }
 {
@@ -19,7 +19,7 @@ pub(crate) fn pixel_size(format: SourceFormat<'_>) -> usize
     }
 }
 
-/// Compares pixels of four bytes with a row. In the server's own format, and where no component is scaled, this goes by vectors.
+/// Compares pixels of four bytes with a row, by vectors in the server's own format, and where no component is scaled.
 fn compare_four(format: TrueColour, pixels: &[u8], row: &[u32]) -> Option<RowDifference>
     requires fitting { are_fitting format ≡ true }
     requires four { format.bytes ≡ BytesPerPixel.Four }

@@ -19,7 +19,7 @@ pub struct RowDifference {
     pub places: usize,
 }
 
-/// Whether the pixels' colours are a row's. No place ends the loop, so that it goes by vectors.
+/// Returns whether the pixels' colours are a row's. No place ends the loop, so that it goes by vectors.
 fn are_same<P: Copy, C: Colours<P>>(colours: &C, pixels: &[P], row: &[u32]) -> bool
     requires { length row.now ≤ length pixels.now }
     ensures { IsTrue result ↔ AreSame (map (C.colour_of colours.now) pixels.now) row.now 0 (length row.now) }
@@ -31,7 +31,7 @@ fn are_same<P: Copy, C: Colours<P>>(colours: &C, pixels: &[P], row: &[u32]) -> b
     other == 0
 }
 
-/// In how many places the pixels' colours differ from a row's.
+/// Counts the places in which the pixels' colours differ from a row's.
 fn count_differences<P: Copy, C: Colours<P>>(colours: &C, pixels: &[P], row: &[u32]) -> usize
     requires { length row.now ≤ length pixels.now }
     ensures { result ≡ difference_count (map (C.colour_of colours.now) pixels.now) row.now (length row.now) }
@@ -45,7 +45,7 @@ fn count_differences<P: Copy, C: Colours<P>>(colours: &C, pixels: &[P], row: &[u
     places
 }
 
-/// The first column whose colours differ, or behind the last.
+/// Returns the first column whose colours differ, or the row's length.
 fn first_difference<P: Copy, C: Colours<P>>(colours: &C, pixels: &[P], row: &[u32]) -> usize
     requires { length row.now ≤ length pixels.now }
     ensures within { result ≤ length row.now }
@@ -60,7 +60,7 @@ fn first_difference<P: Copy, C: Colours<P>>(colours: &C, pixels: &[P], row: &[u3
     row.len()
 }
 
-/// Behind the last column whose colours differ, or 0.
+/// Returns the column behind the last whose colours differ, or 0.
 fn end_of_differences<P: Copy, C: Colours<P>>(colours: &C, pixels: &[P], row: &[u32]) -> usize
     requires { length row.now ≤ length pixels.now }
     ensures within { result ≤ length row.now }
@@ -75,7 +75,7 @@ fn end_of_differences<P: Copy, C: Colours<P>>(colours: &C, pixels: &[P], row: &[
     0
 }
 
-/// Where the pixels' colours differ from a row's, if they do: a block, or what is left behind the last.
+/// Returns where the pixels' colours differ from a row's, if they do: of a block, or of what is left behind the last.
 fn compare_block<P: Copy, C: Colours<P>>(
     colours: &C,
     pixels: &[P],
@@ -96,7 +96,7 @@ fn compare_block<P: Copy, C: Colours<P>>(
     })
 }
 
-/// Where a row differs, from where it does in its columns to below one, and in a block from that one on.
+/// Joins where a row differs in its columns to below one with where it does in the block from that one on.
 fn with_block(
     so_far: Option<RowDifference>,
     from: usize,
@@ -123,7 +123,7 @@ fn with_block(
     })
 }
 
-/// Where pixels' colours differ from a row's, if they do. Only a block that differs is looked at again.
+/// Returns where the pixels' colours differ from a row's, if they do. Looks again only at a block that differs.
 pub(crate) fn compare<P: Copy, C: Colours<P>>(
     colours: &C,
     pixels: &[P],

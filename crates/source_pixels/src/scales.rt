@@ -25,7 +25,7 @@ impl Scale {
         }
     }
 
-    /// The component's value in a pixel, by the pixel's number, at the scale of 0 to 255.
+    /// Returns the component's value in the pixel `number`, at the scale of 0 to 255.
     pub fn value(&self, number: u32) -> u8
         ensures { result ≡ scaled self.now.at (value_in self.now.at number) }
     {

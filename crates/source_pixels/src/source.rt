@@ -35,7 +35,7 @@ impl<'a> Model for PixelSource<'a> {
     ghost invariant = { λ s. source_refusal (record { width = s.width; height = s.height; stride = s.stride; bytes = s.bytes.now; format = s.format }) ≡ None };
 }
 
-/// Why a format is refused, if it is.
+/// Returns why a format is refused, if it is.
 fn format_refusal(format: SourceFormat<'_>) -> Option<SourceError>
     ensures { result ≡ format_refusal format.entry }
 {
@@ -47,7 +47,7 @@ fn format_refusal(format: SourceFormat<'_>) -> Option<SourceError>
     }
 }
 
-/// Whether so many bytes are enough for rows at a stride, each with so many bytes of pixels.
+/// Returns whether `bytes` bytes are enough for `height` rows at a stride, each with `row` bytes of pixels.
 fn are_enough(bytes: usize, row: usize, stride: usize, height: usize) -> bool
     ensures { IsTrue result ↔ (bytes_needed row stride height ≤ bytes) }
 {
@@ -62,8 +62,8 @@ fn are_enough(bytes: usize, row: usize, stride: usize, height: usize) -> bool
 }
 
 impl<'a> PixelSource<'a> {
-    /// Bytes as pixels. Refused as `BadComponent` or `BadTable` for the format, then as `StrideTooShort` where a row's pixels take
-    /// more bytes than the stride, then as `TooFewBytes`; behind the last row's pixels none are needed.
+    /// Returns `bytes` as pixels. Refused as `BadComponent` or `BadTable` for the format, then as `StrideTooShort` where a row's pixels
+    /// take more bytes than the stride, then as `TooFewBytes`; behind the last row's pixels none are needed.
     pub fn new(
         bytes: &'a [u8],
         stride: usize,
@@ -95,7 +95,7 @@ impl<'a> PixelSource<'a> {
         })
     }
 
-    /// How many columns there are.
+    /// Returns how many columns there are.
     pub fn width(&self) -> usize
         ensures value { result ≡ self.now.width }
         ensures accepted { source_refusal self.now ≡ None }
@@ -104,14 +104,14 @@ impl<'a> PixelSource<'a> {
         self.width
     }
 
-    /// How many rows there are.
+    /// Returns how many rows there are.
     pub fn height(&self) -> usize
         ensures { result ≡ self.now.height }
     {
         self.height
     }
 
-    /// The bytes of so many pixels of row y, from column x on.
+    /// Returns the bytes of `count` pixels of row `y`, from column `x` on.
     fn pixels(&self, x: usize, y: usize, count: usize) -> &[u8]
         requires left { x + count ≤ self.now.width }
         requires top { y < self.now.height }
@@ -122,8 +122,8 @@ impl<'a> PixelSource<'a> {
         &self.bytes[start..start + count * size]
     }
 
-    /// Where the first places of row y differ from a row of a picture, colours `0x00RRGGBB`, of which there are at most as many as
-    /// the row has places; None where no place differs. It takes no memory.
+    /// Returns where the first places of row `y` differ from a row of a picture, colours `0x00RRGGBB`, of which there are at most as
+    /// many as the row has places; `None` where no place differs. Takes no memory.
     pub fn compare_row(&self, y: usize, row: &[u32]) -> Option<RowDifference>
         requires top { y < self.now.height }
         requires wide { length row.now ≤ self.now.width }
@@ -133,7 +133,7 @@ impl<'a> PixelSource<'a> {
         compare_pixels(self.format, self.pixels(0, y, row.len()), row)
     }
 
-    /// Writes the colours `0x00RRGGBB` of places of row y, from column x on, over others. It takes no memory.
+    /// Writes the colours `0x00RRGGBB` of places of row `y`, from column `x` on, over `places`. Takes no memory.
     pub fn copy_colours(&self, x: usize, y: usize, places: &mut [u32])
         requires top { y < self.now.height }
         requires left { x + length places.old ≤ self.now.width }
@@ -142,7 +142,7 @@ impl<'a> PixelSource<'a> {
         write_pixels(self.format, self.pixels(x, y, places.len()), places);
     }
 
-    /// How many places a band has.
+    /// Returns how many places a band has.
     pub fn band_places(&self, band: Band) -> usize
         requires wide { band.to ≤ self.now.width }
         requires high { band.bottom ≤ self.now.height }
@@ -152,7 +152,7 @@ impl<'a> PixelSource<'a> {
         band.bottom.saturating_sub(band.top) * band.to.saturating_sub(band.from)
     }
 
-    /// Writes the colours `0x00RRGGBB` of a band's places, row by row, over as many others. It takes no memory.
+    /// Writes the colours `0x00RRGGBB` of a band's places, row by row, over as many in `colours`. Takes no memory.
     pub fn copy_band(&self, band: Band, colours: &mut [u32])
         requires wide { band.to ≤ self.now.width }
         requires high { band.bottom ≤ self.now.height }
@@ -168,7 +168,7 @@ impl<'a> PixelSource<'a> {
         }
     }
 
-    /// The colour `0x00RRGGBB` of the place in column x of row y; None outside.
+    /// Returns the colour `0x00RRGGBB` of the place in column `x` of row `y`; `None` outside.
     pub fn colour(&self, x: usize, y: usize) -> Option<u32>
         ensures inside { IsSome result ↔ ((x < self.now.width) × (y < self.now.height)) }
         ensures colour { IfSome result (λ colour. colour ≡ colour_at self.now x y) }

@@ -7,7 +7,7 @@ use std::io;
 use std::io::{BufReader, ErrorKind, Read};
 use std::test::Fail;
 
-/// A session, what is asked of it and of how many lines, what is written, and the status.
+/// A session, what is asked of it and of how many lines, and what is written.
 #[derive(Clone, Copy)]
 struct Case {
     name: &'static str,
@@ -17,7 +17,7 @@ struct Case {
     answer: &'static [u8],
 }
 
-// Whether a session is answered so, with nothing said of errors.
+/// Returns whether the session of `case` is answered as that says, with nothing said of errors.
 fn is_answered(alloc: Global, case: &Case) -> bool {
     let asked = Asked {
         question: case.question,
@@ -38,7 +38,7 @@ fn sessions_are_answered(rt: HostRuntime) -> Result<(), Fail> {
     Ok(())
 }
 
-// What a session answers; None where it isn't answered.
+/// Returns what `session` answers to `question`, or None if it isn't answered.
 fn answer_of(alloc: Global, session: &[u8], question: Question) -> Option<Vec<u8>> {
     let asked = Asked {
         question,
@@ -51,7 +51,8 @@ fn answer_of(alloc: Global, session: &[u8], question: Question) -> Option<Vec<u8
     (status == 0).then_some(written)
 }
 
-// A viewer is sent the same bytes by a session without what is secret, and such a session has nothing more to leave out.
+/// Checks that a session without what is secret sends a viewer the same bytes and draws the same, and that it has nothing more to
+/// leave out.
 #[test]
 fn a_redacted_session_sends_the_same(rt: HostRuntime) -> Result<(), Fail> {
     let alloc = rt.alloc();
@@ -63,7 +64,7 @@ fn a_redacted_session_sends_the_same(rt: HostRuntime) -> Result<(), Fail> {
     Ok(())
 }
 
-// Whether the fourth line of a session, which is this one, ends it.
+/// Returns whether `line`, as the fourth of a session, ends it.
 fn ends_session(alloc: Global, line: &str) -> Result<bool, Fail> {
     let session = format!(in alloc; "{OPENED}{line}\nbell\n")?;
     let asked = Asked {
@@ -85,7 +86,7 @@ fn bad_lines_end_a_session(rt: HostRuntime) -> Result<(), Fail> {
     Ok(())
 }
 
-// A writer with room for 20 bytes takes the first 20 and then fails.
+/// Checks the status with a writer that has room for 20 bytes: it takes the first 20 and then fails.
 #[test]
 fn a_write_that_fails(rt: HostRuntime) -> Result<(), Fail> {
     let asked = Asked {
@@ -101,7 +102,7 @@ fn a_write_that_fails(rt: HostRuntime) -> Result<(), Fail> {
     Ok(())
 }
 
-// Hands out at most three bytes a read. Each read is interrupted first; at the end the next one may fail.
+/// Hands out at most three bytes a read. Each read is interrupted first; at the end the next one may fail.
 #[derive(Drop)]
 struct Reading<'a> {
     rest: &'a [u8],
@@ -126,7 +127,8 @@ impl Read for Reading<'_> {
     }
 }
 
-// Whether a session that is read with interruptions is answered so, of what a viewer was sent, with this status.
+/// Reads a session with interruptions and, if the reader `fails`, a fault at its end. Returns whether viewer 1 was sent `answer`, with
+/// this `status` and with `said` said of errors.
 fn is_sent(
     alloc: Global,
     fails: bool,
@@ -162,14 +164,14 @@ fn reads_that_are_interrupted_are_tried_again(rt: HostRuntime) -> Result<(), Fai
     Ok(())
 }
 
-// A screen, and a viewer that has opened.
+/// A screen, and a viewer that has opened.
 const OPENED: &str = "\
 screen 4 3 demo
 connect 1
 hear 1 524642203030332e3030380a0101
 ";
 
-// A session with a key, a pointer and a text, cut in two, and a piece of a viewer that isn't there; and what is left of it.
+/// A session with a key, a pointer and a text, cut in two, and a piece of a viewer that isn't there; and what is left of it.
 const SECRETS: &[u8] =
     b"# by hand\nscreen 4 3 demo\n\nconnect 1\nhear 1 524642203030332e3030380a0101\nhear 1 03000000000000040003\ncut 1\nhear 1 040100000000FF0D\npaint 0 0 1 1 FF8000\nhear 1 050100020001060000000000000268\nhear 1 6903010000000000040003\ncut 1\nhear 7 0301\nclose 1\nhear 1";
 

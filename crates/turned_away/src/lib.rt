@@ -7,8 +7,8 @@ ghost use Rattle.turned_away.specs.Refusal.{refusal, reason};
 /// How many bytes a refusal has.
 pub const REFUSAL_LENGTH: usize = 36;
 
-/// All that a server says to a connection that is one too many: the version 3.3, in which the server may say so at once, that the
-/// connection failed, and the reason, `too many viewers`.
+/// Returns all that a server says to a connection that is one too many: the version 3.3, in which the server may say so at once, that
+/// the connection failed, and the reason, `too many viewers`.
 pub fn refusal() -> [u8; REFUSAL_LENGTH]
     ensures { result ≡ refusal reason }
 {

@@ -1,12 +1,13 @@
 -- Which refusal is due, handed on.
 use Rattle.std.specs.Prelude.{Result, Ok, Err, IsErrAnd, MatchOption}
 use Rattle.std.proofs.lemmas.Result.{err_from_is_err_and}
-use Rattle.std.proofs.Common.{◌≡◌, Option, Some, None, sym, ap, ◌∙◌, subst}
+use Rattle.std.proofs.Common.{◌≡◌, Option, Some, None, refl, sym, ap, ◌∙◌, subst}
 use Rattle.screen.specs.declared.ScreenError.{ScreenError}
 use Rattle.screen.specs.declared.ScreenError.TheVariants as refusals
 use Rattle.screen.specs.declared.Answer.{Answer}
 use Rattle.screen.specs.Alone.{Tells}
-use Rattle.screen.specs.Refusals.{Refuses}
+use Rattle.screen.specs.Refusals.{absence, Refuses}
+use Rattle.viewer.specs.Viewer.{KeptViewer}
 
 -- an error that is handed on
 pub same-error : {X : Type 0} (r : Result X ScreenError) (e : ScreenError) → IsErrAnd r (λ y. y ≡ e) → r ≡ Err e
@@ -38,6 +39,11 @@ told-is {X = X} f x a told = go a.refused told
     go : (o : Option ScreenError) → MatchOption o (f x ≡ a) (λ e. ◌≡◌ {A = Result X ScreenError} (Ok x) (Err e)) → f x ≡ a
     go None h = h
     go (Some e) h = absurd cc
+
+-- a viewer that a closing was refused for isn't there
+pub not-there : (e : ScreenError) (o : Option KeptViewer) → e ≡ refusals.NoViewer → Refuses {X = Unit {0}} (Err e) (absence o) → o ≡ None
+not-there e None is h = refl
+not-there e (Some viewer) is h = absurd cc
 
 -- where memory was refused, what is due comes before that
 pub due-told : (X : Type 0) (due : Option ScreenError) (e : ScreenError) → MatchOption due (e ≡ refusals.OutOfMemory) (λ x. e ≡ x) → Refuses {X = X} (Err e) due

@@ -126,30 +126,31 @@ after_updates-append : (us vs : List (List ℕ)) (s : Speaking) → after_update
 after_updates-append [] vs s = refl
 after_updates-append (u ∷ us) vs s = after_updates-append us vs (after_update u s)
 
-pub updates-none : (a : Option (List ℕ)) (s : Speaking) → SendsUpdates a a s s
-updates-none a s = record { updates = []; each = All-nil (λ update. update ≢ []); cut = refl; bytes = Appends-nil a }
+pub updates-none : (P : List ℕ → Type 0) (a : Option (List ℕ)) (s : Speaking) → SendsUpdates P a a s s
+updates-none P a s = record { updates = []; each = All-nil P; cut = refl; bytes = Appends-nil a }
 
-pub updates-more : (a b c : Option (List ℕ)) (s t u : Speaking) → SendsUpdates a b s t → SendsUpdate b c t u → SendsUpdates a c s u
-updates-more a b c s t u p q = record {
+pub updates-more : (P : List ℕ → Type 0) (a b c : Option (List ℕ)) (s t u : Speaking) → SendsUpdates P a b s t → SendsUpdate P b c t u → SendsUpdates P a c s u
+updates-more P a b c s t u p q = record {
   updates = p.updates ++ q.0 ∷ [];
-  each = All-append (λ update. update ≢ []) p.updates (q.0 ∷ []) p.each (All-cons (λ update. update ≢ []) q.0 [] q.1 (All-nil (λ update. update ≢ [])));
+  each = All-append P p.updates (q.0 ∷ []) p.each (All-cons P q.0 [] q.1 (All-nil P));
   cut = q.3 ∙ ap (after_update q.0) p.cut ∙ sym (after_updates-append p.updates (q.0 ∷ []) s);
   bytes = subst (Appends a c) (sym (concat-append p.updates (q.0 ∷ []) ∙ ap (λ l. concat p.updates ++ l) (append-nil q.0))) (Appends-trans a b c (concat p.updates) q.0 p.bytes q.2);
 }
 
-pub updates-end : (a b c : Option (List ℕ)) (s t u : Speaking) (e : Ended) → SendsUpdates a b s t → SendsNoMore b c t u e → CutsAndSends a c s u e
-updates-end a b c s t u e p q = record {
+pub updates-end : (P : List ℕ → Type 0) (W : Type 0) (a b c : Option (List ℕ)) (s t u : Speaking) (e : Ended) → SendsUpdates P a b s t → SendsNoMore W b c t u e → CutsAndSends P W a c s u e
+updates-end P W a b c s t u e p q = record {
   updates = p.updates;
   each = p.each;
   last = q.0;
   cut = q.2 ∙ ap (after_last q.0) p.cut;
   bytes = Appends-trans a b c (concat p.updates) (bytes_of q.0) p.bytes q.1;
   ends = q.3;
+  passed = q.4;
 }
 
 -- an update was cut, and its sender broke off before anything was written of it
-pub broken-unwritten : (a : Option (List ℕ)) (s t : Speaking) (update : List ℕ) (e : Ended) → t ≡ has_cut s → (e ≡ Gate) ⊎ (e ≡ Memory) → SendsNoMore a a s t e
-broken-unwritten a s t update e cut why = (Some (record { update = update; written = [] }), Appends-nil a, cut ∙ sent-nothing (has_cut s), go why)
+pub broken-unwritten : (W : Type 0) (a : Option (List ℕ)) (s t : Speaking) (update : List ℕ) (e : Ended) → t ≡ has_cut s → (e ≡ Gate) ⊎ (e ≡ Memory) → SendsNoMore W a a s t e
+broken-unwritten W a s t update e cut why = (Some (record { update = update; written = [] }), Appends-nil a, cut ∙ sent-nothing (has_cut s), go why, λ some. absurd (some refl))
   where
     go : (e ≡ Gate) ⊎ (e ≡ Memory) → SendingEnds e (Some (record { update = update; written = [] }))
     go (inl h) = subst (λ (d : Ended). SendingEnds d (Some (record { update = update; written = [] }))) (sym h) refl
@@ -166,11 +167,11 @@ writing-broken Closed written update h = absurd h
 writing-broken Stopped written update h = absurd h
 
 -- some of it was written
-pub broken-written : (a b : Option (List ℕ)) (s t u : Speaking) (update : List ℕ) (e : Ended) → t ≡ has_cut s → (added : List ℕ) × Appends a b added × (u ≡ has_sent added t) × WritingEnds e added update → SendsNoMore a b s u e
-broken-written a b s t u update e cut w = (Some (record { update = update; written = w.0 }), w.1, w.2 ∙ ap (has_sent w.0) cut, writing-broken e w.0 update w.3)
+pub broken-written : (W : Type 0) (a b : Option (List ℕ)) (s t u : Speaking) (update : List ℕ) (e : Ended) → W → t ≡ has_cut s → (added : List ℕ) × Appends a b added × (u ≡ has_sent added t) × WritingEnds e added update → SendsNoMore W a b s u e
+broken-written W a b s t u update e may cut w = (Some (record { update = update; written = w.0 }), w.1, w.2 ∙ ap (has_sent w.0) cut, writing-broken e w.0 update w.3, λ some. may)
 
-pub sent-whole : (a b : Option (List ℕ)) (s t u : Speaking) (update : List ℕ) → update ≢ [] → t ≡ has_cut s → (added : List ℕ) × Appends a b added × (u ≡ has_sent added t) × (added ≡ update) → SendsUpdate a b s u
-sent-whole a b s t u update some cut w = (update, some, subst (Appends a b) w.3 w.1, w.2 ∙ ap (has_sent w.0) cut ∙ ap (λ (l : List ℕ). has_sent l (has_cut s)) w.3)
+pub sent-whole : (P : List ℕ → Type 0) (a b : Option (List ℕ)) (s t u : Speaking) (update : List ℕ) → P update → t ≡ has_cut s → (added : List ℕ) × Appends a b added × (u ≡ has_sent added t) × (added ≡ update) → SendsUpdate P a b s u
+sent-whole P a b s t u update some cut w = (update, some, subst (Appends a b) w.3 w.1, w.2 ∙ ap (has_sent w.0) cut ∙ ap (λ (l : List ℕ). has_sent l (has_cut s)) w.3)
 
 -- ---- writing a buffer at a time
 

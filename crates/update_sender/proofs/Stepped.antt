@@ -12,7 +12,7 @@ use Rattle.screen.specs.Answers.{answer_to, is_drawing}
 use Rattle.screen.specs.History.{has_happened, accepted_after, accepted, drawings, connects}
 use Rattle.screen.specs.State.{State, state, kept_is_enough}
 use Rattle.update_sender.specs.Numbers.{rises, newest, is_next}
-use Rattle.update_sender.specs.Locked.{Stands}
+use Rattle.update_sender.specs.Locked.{Locked, Stands, Steps}
 use Rattle.screen.specs.Calls.{event_of}
 use Rattle.screen.specs.declared.Drawing.{Drawing}
 use Rattle.screen.specs.declared.Drawing.TheVariants as calls
@@ -219,3 +219,7 @@ cut-idle enough answer x s t h greatest counted v k is told empty =
     ∙ sym (enough s.config (h ++ Cut v ∷ []))
     ∙ ap (state s.config) (unhappened-last s.config h (Cut v) (cut-nothing answer x v (answer_to s.config h (Cut v)) told empty) ∙ k.happened)
     ∙ sym k.stands
+
+-- no event changes the configuration
+pub config-kept : (e : Event) (old new : Locked) (h : List Event) (greatest : Option ℕ) (counted : ℕ) → Stands old.screen h greatest counted → Steps e old new → new.screen.config ≡ old.screen.config
+config-kept e old new h greatest counted stands steps = ap (λ (s : State). s.config) (steps old.screen.config h stands.stands)

@@ -1,5 +1,5 @@
 -- What contracts see of a viewer's two ends, and of the application's brush.
-use Rattle.std.specs.Prelude.{◌≡◌, ℕ, ◌+◌, ◌-◌, ◌^◌, min, length, List, [], ◌∷◌, ◌++◌, Option, Some, None, option_map, unwrap_or}
+use Rattle.std.specs.Prelude.{◌≡◌, ℕ, Bool, ◌+◌, ◌-◌, ◌^◌, min, length, List, [], ◌∷◌, ◌++◌, Option, Some, None, option_map, unwrap_or}
 use Rattle.messages.specs.declared.Input.{Input}
 use Rattle.messages.specs.Server.{server_version}
 use Rattle.screen.specs.declared.Event.{Event}
@@ -33,6 +33,11 @@ pub record Greeting : Type 0 where
   pub listener : Listening
   pub speaker : Speaking
   pub version : List ℕ
+
+-- how a viewer left: whether it is there no more
+pub record Parted : Type 0 where
+  pub viewer : ℕ
+  pub gone : Bool
 
 -- one that has just connected
 abbrev pub greeted : ℕ → History → Greeting

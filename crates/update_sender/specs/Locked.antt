@@ -1,14 +1,17 @@
 -- What stands behind the lock, and what each hold does to it.
-use Rattle.std.specs.Prelude.{◌≡◌, ◌≢◌, ℕ, suc, Bool, true, false, List, [], ◌∷◌, ◌++◌, length, Option, Some, None}
+use Rattle.std.specs.Prelude.{◌≡◌, ◌≢◌, ◌⊎◌, ℕ, suc, Bool, true, false, List, [], ◌∷◌, ◌++◌, length, Option, Some, None, Ok, is_some}
 use Rattle.messages.specs.Reading.{fault_in_rest, is_open_rest}
 use Rattle.viewer.specs.Viewer.{KeptViewer}
 use Rattle.screen.specs.declared.Answer.{Answer}
 use Rattle.screen.specs.declared.Event.{Event}
-use Rattle.screen.specs.declared.Event.TheVariants.{Cut}
-use Rattle.screen.specs.Alone.{gives}
+use Rattle.screen.specs.declared.Event.TheVariants.{Close, Cut}
+use Rattle.screen.specs.declared.Config.{Config}
+use Rattle.screen.specs.Alone.{gives, something_to_send}
+use Rattle.screen.specs.Answers.{answer_to}
 use Rattle.screen.specs.History.{accepted, drawings, connects}
 use Rattle.screen.specs.State.{State, state, viewer_at}
 use Rattle.update_sender.specs.declared.next_step.NextStep.{NextStep}
+use Rattle.update_sender.specs.declared.next_step.Turn.{Turn}
 use Rattle.update_sender.specs.declared.next_step.NextStep.TheVariants.{Send, Stopped, Closed, Faulty}
 use Rattle.update_sender.specs.Numbers.{rises, newest}
 
@@ -36,6 +39,11 @@ Steps e old new = (c : _) (list : List Event) → old.screen ≡ state c list �
 abbrev pub StepsAlone : Event → Locked → Locked → Type 0
 StepsAlone e old new = Steps e old new × (new ≡ record old { screen = new.screen })
 
+-- A viewer leaves: it is closed now, or it was there no more; or else it stays, and nothing is another.
+abbrev pub Parts : ℕ → Bool → Locked → Locked → Type 0
+Parts v true old new = StepsAlone (Close v) old new ⊎ ((new ≡ old) × (viewer_at old.screen v ≡ None))
+Parts v false old new = new ≡ old
+
 -- a viewer that connects is the newest
 abbrev pub Joins : ℕ → Event → Locked → Locked → Type 0
 Joins v e old new = Steps e old new × (new ≡ record old { screen = new.screen; newest = Some v })
@@ -59,6 +67,12 @@ ending held v = if_stopped held.stopped (ending_of (viewer_at held.screen v))
     if_stopped true rest = Some Stopped
     if_stopped false rest = rest
 
+-- whether a viewer's sender need not wait: it ends, or a cut has something to send
+abbrev pub NeedsNoWait : Locked → ℕ → Bool → Type 0
+NeedsNoWait held v has_step =
+    (is_some (ending held v) ≡ true → has_step ≡ true)
+    × ((config : Config) (list : List Event) → held.screen ≡ state config list → ending held v ≡ None → Ok has_step ≡ something_to_send (answer_to config list (Cut v)))
+
 -- a live viewer had its ServerInit, and met no fault
 abbrev pub is_open_now : Option KeptViewer → Bool
 is_open_now None = false
@@ -68,6 +82,10 @@ is_open_now (Some viewer) = is_open_rest viewer.heard
 abbrev pub HasBytes : NextStep → Type 0
 HasBytes (Send update) = update ≢ []
 HasBytes step = Unit {0}
+
+-- a turn is a viewer's, and an update that it sends has bytes
+abbrev pub IsTurnOf : ℕ → Turn → Type 0
+IsTurnOf v turn = (turn.viewer ≡ v) × HasBytes turn.step
 
 -- a step is an event where it sends
 abbrev pub Takes : ℕ → Locked → Locked → Option NextStep → Type 0

@@ -10,7 +10,7 @@ use Rattle.receipts.specs.declared.Ended.TheVariants.{EndOfInput, Fault, ReadFai
 use Rattle.update_sender.specs.declared.opening.Opened.{Opened}
 use Rattle.update_sender.specs.declared.opening.Opened.TheVariants.{Ready, Over}
 use Rattle.update_sender.specs.Ends.{all_of}
-use Rattle.update_sender.specs.Ends.{Listening, Speaking, Greeting, listened, without_waiting, has_cut, has_sent}
+use Rattle.update_sender.specs.Ends.{Listening, Speaking, Greeting, counted, listened, without_waiting, has_cut, has_sent}
 
 -- Reading. The readers' and the writers' bytes are known, or nothing is said of them.
 
@@ -108,29 +108,39 @@ SendingEnds _ last = ⊥
 abbrev pub CuttingEnds : Ended → Type 0
 CuttingEnds ended = SendingEnds ended None
 
+-- An update that was written whole has bytes. Its gate let it be encoded and written, and was told how many bytes it had.
+abbrev pub IsSent : Type 0 → Type 0 → (ℕ → Type 0) → List ℕ → Type 0
+IsSent lets_encode lets_write was_told update = (update ≢ []) × lets_encode × lets_write × was_told (counted (length update))
+
+-- where something was written of the update in which the sender broke off, its gate let it be written
+abbrev pub IsLet : Type 0 → Option BrokenOff → Type 0
+IsLet lets_write last = bytes_of last ≢ [] → lets_write
+
 -- an update was cut, and written whole
-abbrev pub SendsUpdate : Option (List ℕ) → Option (List ℕ) → Speaking → Speaking → Type 0
-SendsUpdate wrote written before after = (update : List ℕ) × (update ≢ []) × Appends wrote written update × (after ≡ after_update update before)
+abbrev pub SendsUpdate : (List ℕ → Type 0) → Option (List ℕ) → Option (List ℕ) → Speaking → Speaking → Type 0
+SendsUpdate sent wrote written before after = (update : List ℕ) × sent update × Appends wrote written update × (after ≡ after_update update before)
 
 -- nothing was cut any more, or an update in which the sender broke off
-abbrev pub SendsNoMore : Option (List ℕ) → Option (List ℕ) → Speaking → Speaking → Ended → Type 0
-SendsNoMore wrote written before after ended = (last : Option BrokenOff) × Appends wrote written (bytes_of last) × (after ≡ after_last last before) × SendingEnds ended last
+abbrev pub SendsNoMore : Type 0 → Option (List ℕ) → Option (List ℕ) → Speaking → Speaking → Ended → Type 0
+SendsNoMore lets_write wrote written before after ended =
+    (last : Option BrokenOff) × Appends wrote written (bytes_of last) × (after ≡ after_last last before) × SendingEnds ended last × IsLet lets_write last
 
 -- updates were cut, and each was written whole
-pub record SendsUpdates (wrote written : Option (List ℕ)) (before after : Speaking) : Type 0 where
+pub record SendsUpdates (sent : List ℕ → Type 0) (wrote written : Option (List ℕ)) (before after : Speaking) : Type 0 where
   pub updates : List (List ℕ)
-  pub each : All (λ update. update ≢ []) updates
+  pub each : All sent updates
   pub cut : after ≡ after_updates updates before
   pub bytes : Appends wrote written (concat updates)
 
 -- What a sender did until it ended: it cut updates and wrote each whole, and perhaps one more, in which it broke off. It wrote nothing else.
-pub record CutsAndSends (wrote written : Option (List ℕ)) (before after : Speaking) (ended : Ended) : Type 0 where
+pub record CutsAndSends (sent : List ℕ → Type 0) (lets_write : Type 0) (wrote written : Option (List ℕ)) (before after : Speaking) (ended : Ended) : Type 0 where
   pub updates : List (List ℕ)
-  pub each : All (λ update. update ≢ []) updates
+  pub each : All sent updates
   pub last : Option BrokenOff
   pub cut : after ≡ after_last last (after_updates updates before)
   pub bytes : Appends wrote written (concat updates ++ bytes_of last)
   pub ends : SendingEnds ended last
+  pub passed : IsLet lets_write last
 
 -- The opening.
 
@@ -164,9 +174,9 @@ IsOver left remains wrote written listener speaker version r =
 abbrev pub Opens : Option (List ℕ) → Option (List ℕ) → Option (List ℕ) → Option (List ℕ) → Greeting → Opened → Type 0
 Opens left remains wrote written line (Ready listener speaker) =
     (answers : List ℕ) × Hears left remains line.listener listener [] × Sends wrote written line.speaker speaker (line.version ++ answers)
-Opens left remains wrote written line (Over r) = IsOver left remains wrote written line.listener line.speaker line.version r
+Opens left remains wrote written line (Over r parting) = IsOver left remains wrote written line.listener line.speaker line.version r
 
--- an opening's two ends, or its receipt, are one viewer's
+-- an opening's two ends, or its receipt and how it left, are one viewer's
 abbrev pub IsOf : ℕ → Opened → Type 0
 IsOf v (Ready listener speaker) = (listener.viewer ≡ v) × (speaker.viewer ≡ v)
-IsOf v (Over r) = r.viewer ≡ v
+IsOf v (Over r parting) = (r.viewer ≡ v) × (parting.viewer ≡ v)

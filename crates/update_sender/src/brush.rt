@@ -40,7 +40,7 @@ impl<L: Ledger> Model for Brush<L> {
     ghost invariant = { λ a. (a.share.parts ≡ L.parts) × (0 < a.share.parts) × Counts a.share.amount a.drawn.items };
 }
 
-/// The event that a call is, where the calls are kept; else any, which is dropped.
+/// Returns the event that a call is, where the calls are kept; else any, which is dropped.
 fn event_in(drawn: &KeptList<Event>, drawing: &Drawing<'_>) -> Result<Event, AllocError>
     ensures { is_some drawn.now.items ≡ true → IfOk result (λ event. event ≡ event_of drawing.now) }
 {
@@ -51,7 +51,7 @@ fn event_in(drawn: &KeptList<Event>, drawing: &Drawing<'_>) -> Result<Event, All
     }
 }
 
-/// The same, and room for it.
+/// Returns the same, and makes room for it.
 fn event_for(drawn: &mut KeptList<Event>, drawing: &Drawing<'_>) -> Result<Event, AllocError>
     ensures event { is_some drawn.old.items ≡ true → IfOk result (λ event. event ≡ event_of drawing.now) }
     ensures room { OnOk result (HasRoom 1 drawn.new) }
@@ -63,7 +63,7 @@ fn event_for(drawn: &mut KeptList<Event>, drawing: &Drawing<'_>) -> Result<Event
 }
 
 impl<L: Ledger> Brush<L> {
-    /// A brush that has drawn nothing, with all parts of its ledger.
+    /// Makes a brush that has drawn nothing, with all parts of its ledger.
     pub(crate) fn new(alloc: Global, history: History, share: Share<L>) -> Brush<L>
         requires parts { share.parts ≡ L.parts }
         requires some { 0 < L.parts }
@@ -76,7 +76,7 @@ impl<L: Ledger> Brush<L> {
         }
     }
 
-    /// One hold: a drawing call, which is kept once it is accepted, and after which waiting senders are woken.
+    /// Makes a drawing call in one hold, which is kept once it is accepted, and after which waiting senders are woken.
     fn draw<R: Wait>(
         &mut self,
         shared: &Shared<L>,
@@ -98,7 +98,7 @@ impl<L: Ledger> Brush<L> {
         Ok(())
     }
 
-    /// `Screen::write_pixels`. No sender is woken, since no viewer is told.
+    /// Calls `Screen::write_pixels`. No sender is woken, since no viewer is told.
     pub fn write_pixels<R: Wait>(
         &mut self,
         shared: &Shared<L>,
@@ -113,7 +113,7 @@ impl<L: Ledger> Brush<L> {
         self.draw(shared, rt, &Drawing::Write { rect, colours })
     }
 
-    /// `Screen::paint`.
+    /// Calls `Screen::paint`.
     pub fn paint<R: Wait>(
         &mut self,
         shared: &Shared<L>,
@@ -128,7 +128,7 @@ impl<L: Ledger> Brush<L> {
         self.draw(shared, rt, &Drawing::Paint { rect, colours })
     }
 
-    /// `Screen::mark_rect`.
+    /// Calls `Screen::mark_rect`.
     pub fn mark_rect<R: Wait>(
         &mut self,
         shared: &Shared<L>,
@@ -145,7 +145,7 @@ impl<L: Ledger> Brush<L> {
         self.draw(shared, rt, &Drawing::MarkRect(Rect { x1, y1, x2, y2 }))
     }
 
-    /// `Screen::mark_region`.
+    /// Calls `Screen::mark_region`.
     pub fn mark_region<R: Wait>(
         &mut self,
         shared: &Shared<L>,
@@ -159,7 +159,7 @@ impl<L: Ledger> Brush<L> {
         self.draw(shared, rt, &Drawing::MarkRegion(region))
     }
 
-    /// `Screen::schedule_copy_rect`.
+    /// Calls `Screen::schedule_copy_rect`.
     pub fn schedule_copy_rect<R: Wait>(
         &mut self,
         shared: &Shared<L>,
@@ -187,7 +187,7 @@ impl<L: Ledger> Brush<L> {
         )
     }
 
-    /// `Screen::schedule_copy_region`.
+    /// Calls `Screen::schedule_copy_region`.
     pub fn schedule_copy_region<R: Wait>(
         &mut self,
         shared: &Shared<L>,
@@ -203,7 +203,7 @@ impl<L: Ledger> Brush<L> {
         self.draw(shared, rt, &Drawing::ScheduleCopyRegion { region, dx, dy })
     }
 
-    /// `Screen::do_copy_rect`.
+    /// Calls `Screen::do_copy_rect`.
     pub fn do_copy_rect<R: Wait>(
         &mut self,
         shared: &Shared<L>,
@@ -231,7 +231,7 @@ impl<L: Ledger> Brush<L> {
         )
     }
 
-    /// `Screen::do_copy_region`.
+    /// Calls `Screen::do_copy_region`.
     pub fn do_copy_region<R: Wait>(
         &mut self,
         shared: &Shared<L>,
@@ -247,7 +247,7 @@ impl<L: Ledger> Brush<L> {
         self.draw(shared, rt, &Drawing::DoCopyRegion { region, dx, dy })
     }
 
-    /// `Screen::bell`.
+    /// Calls `Screen::bell`.
     pub fn bell<R: Wait>(&mut self, shared: &Shared<L>, rt: &R) -> Result<(), ScreenError>
         ensures drawn { OnOk result (self.new ≡ drew (Event.Bell) self.old) }
         ensures refused { IsOkUnless result refusals.OutOfMemory }
@@ -256,7 +256,7 @@ impl<L: Ledger> Brush<L> {
         self.draw(shared, rt, &Drawing::Bell)
     }
 
-    /// `Screen::cut_text`.
+    /// Calls `Screen::cut_text`.
     pub fn cut_text<R: Wait>(
         &mut self,
         shared: &Shared<L>,
@@ -270,7 +270,7 @@ impl<L: Ledger> Brush<L> {
         self.draw(shared, rt, &Drawing::CutText(text))
     }
 
-    /// `Screen::new_framebuffer`.
+    /// Calls `Screen::new_framebuffer`.
     pub fn new_framebuffer<R: Wait>(
         &mut self,
         shared: &Shared<L>,

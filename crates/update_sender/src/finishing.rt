@@ -19,7 +19,7 @@ use screen::{Config, Event, History};
 use std::alloc::Global;
 use std::sync::ledger::Ledger;
 
-/// A viewer's receipt, and its reader's seat. Exactly one of the first two is given: the half of the viewer's reader, or its
+/// Returns a viewer's receipt, and its reader's seat. Exactly one of the first two is given: the half of the viewer's reader, or its
 /// listener where it had no reader.
 pub fn receipt(
     read: Option<ReadHalf>,
@@ -50,7 +50,7 @@ pub fn receipt(
     (receipt, seat)
 }
 
-/// Whether the receipts are those of a run: `receipts::check` of the screen's configuration, the history behind the lock, the
+/// Returns whether the receipts are those of a run: `receipts::check` of the screen's configuration, the history behind the lock, the
 /// brush's drawing calls and the receipts. `NotKept` where no history is kept. `OutOfMemory` may come in place of any other
 /// answer.
 pub fn finish<L: Ledger>(
@@ -66,7 +66,7 @@ pub fn finish<L: Ledger>(
     }
 }
 
-/// The same where the history is kept.
+/// Does the same where the history is kept.
 fn judge_kept<L: Ledger>(
     shared: Shared<L>,
     brush: Brush<L>,
@@ -89,7 +89,7 @@ fn judge_kept<L: Ledger>(
     }
 }
 
-/// What the check says of a history in which viewers connected by rising numbers, and that has as many drawing calls as were
+/// Returns what the check says of a history in which viewers connected by rising numbers, and that has as many drawing calls as were
 /// drawn.
 fn judge(
     alloc: Global,

@@ -4,8 +4,9 @@ ghost use Rattle.std.specs.Prelude.{◌≡◌, OnOk, OnErr, MatchResult, length}
 ghost use Rattle.update_sender.specs.Serving.{HearsPiece, HearsNoMore};
 
 use crate::line::Listener;
+use crate::locked_screen::HearOutcome;
 use crate::reasons::{count_read, unheard_for};
-use crate::shared::{HearOutcome, Shared};
+use crate::shared::Shared;
 use receipts::Ended;
 use std::io::Read;
 use std::sync::Wait;

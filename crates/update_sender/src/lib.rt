@@ -36,6 +36,7 @@ pub use brush::Brush;
 pub use finishing::{finish, receipt};
 pub use gate::{Gate, OpenGate};
 pub use line::{Line, Listener, Speaker};
+pub use locked_screen::Parting;
 pub use opening::{Opened, serve_opening};
 pub use reader::{ReadHalf, serve_listener, serve_reader};
 pub use receipts::{Ended, FinishError, Report, Sent, check};

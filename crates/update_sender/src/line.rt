@@ -33,14 +33,14 @@ impl Model for Listener {
 }
 
 impl Listener {
-    /// The viewer's number.
+    /// Returns the viewer's number.
     pub fn viewer(&self) -> u64
         ensures { result ≡ self.now.viewer }
     {
         self.viewer
     }
 
-    /// The inputs that wait, which are then no more.
+    /// Takes the inputs that wait, which are then no more.
     pub(crate) fn take_waiting(&mut self) -> Listed<Input>
         ensures waiting { result ≡ self.old.waiting }
         ensures rest { self.new ≡ without_waiting self.old }
@@ -67,14 +67,14 @@ impl Model for Speaker {
 }
 
 impl Speaker {
-    /// The viewer's number.
+    /// Returns the viewer's number.
     pub fn viewer(&self) -> u64
         ensures { result ≡ self.now.viewer }
     {
         self.viewer
     }
 
-    /// An update more was cut.
+    /// Counts an update more that was cut.
     pub(crate) fn count_cut(&mut self)
         ensures cut { self.new ≡ has_cut self.old }
         ensures grows { self.old.cuts ≤ self.new.cuts }
@@ -103,14 +103,14 @@ impl Model for Line {
 }
 
 impl Line {
-    /// The viewer's number.
+    /// Returns the viewer's number.
     pub fn viewer(&self) -> u64
         ensures { result ≡ self.now.listener.viewer }
     {
         self.listener.viewer
     }
 
-    /// The line of a viewer that has just connected.
+    /// Makes the line of a viewer that has just connected.
     pub(crate) fn new(alloc: Global, viewer: u64, history: History, version: Listed<u8>) -> Line
         requires { version ≡ server_version }
         ensures { result ≡ greeted viewer history }
@@ -134,7 +134,7 @@ impl Line {
         }
     }
 
-    /// Its ends, and the version.
+    /// Returns its ends, and the version.
     pub(crate) fn ends(self) -> (Listener, Speaker, Listed<u8>)
         ensures listener { result.0 ≡ self.listener }
         ensures speaker { result.1 ≡ self.speaker }

@@ -14,9 +14,9 @@ ghost use Rattle.screen.specs.Refusals.{absence, Refuses};
 ghost use Rattle.screen.specs.State.{state, viewer_at, refusal};
 ghost use Rattle.screen.specs.Calls.{call_refusal, event_of};
 ghost use Rattle.update_sender.specs.Numbers.{is_next};
-ghost use Rattle.update_sender.specs.Locked.{Draws, Joins, Stands, StepsAlone, Takes, TellsStep, HasBytes, ending, is_open_now};
+ghost use Rattle.update_sender.specs.Locked.{Draws, Joins, NeedsNoWait, Parts, Stands, StepsAlone, Takes, TellsStep, HasBytes, IsTurnOf, ending, is_open_now};
 
-use crate::next_step::NextStep;
+use crate::next_step::{NextStep, Turn};
 use listed::Listed;
 use screen::{Answer, Drawing, Event, Screen, ScreenError, Update, kept_is_enough};
 use std::alloc::AllocError;
@@ -46,7 +46,49 @@ impl<L: Ledger> Model for LockedScreen<L> {
     ghost invariant = { λ a. (history : List Event) × Stands a.screen history a.newest a.drawings.total };
 }
 
-/// Whether a number is greater than the greatest.
+/// How a viewer left: whether it is there no more. Only a look behind the lock makes one.
+#[derive(Drop)]
+pub struct Parting {
+    viewer: u64,
+    is_gone: bool,
+}
+
+impl Model for Parting {
+    ghost use Rattle.update_sender.specs.Ends.{Parted};
+
+    ghost Value = { Parted };
+
+    ghost view = { λ a. record { viewer = a.viewer; gone = a.is_gone } };
+}
+
+impl Parting {
+    /// Returns the viewer's number.
+    pub fn viewer(&self) -> u64
+        ensures { result ≡ self.now.viewer }
+    {
+        self.viewer
+    }
+
+    /// Returns whether the viewer is there no more: it is closed. Else memory was refused for that.
+    pub fn is_gone(&self) -> bool
+        ensures { result ≡ self.now.gone }
+    {
+        self.is_gone
+    }
+}
+
+/// What a piece brought.
+#[derive(Drop)]
+pub struct HearOutcome {
+    /// What is said to the viewer, and its inputs.
+    pub answer: Answer,
+    /// Whether the viewer had its ServerInit, and met no fault.
+    pub is_open: bool,
+    /// Whether its sender need not wait.
+    pub has_step: bool,
+}
+
+/// Returns whether a number is greater than the greatest.
 fn is_next(greatest: Option<u64>, number: u64) -> bool
     ensures { result ≡ is_next greatest number }
 {
@@ -57,7 +99,7 @@ fn is_next(greatest: Option<u64>, number: u64) -> bool
 }
 
 impl<L: Ledger> LockedScreen<L> {
-    /// A screen on which nothing has happened yet.
+    /// Makes a screen on which nothing has happened yet.
     pub fn new(screen: Screen, drawings: Book<L>) -> LockedScreen<L>
         requires screen { screen ≡ state screen.config [] }
         requires drawings { drawings.total ≡ 0 }
@@ -71,7 +113,7 @@ impl<L: Ledger> LockedScreen<L> {
         }
     }
 
-    /// A viewer connects, where its number is greater than each before.
+    /// Connects a viewer, where its number is greater than each before.
     pub fn connect(&mut self, number: u64) -> Result<Listed<u8>, ScreenError>
         ensures joins { OnOk result (Joins number (Event.Connect number) self.old self.new) }
         ensures version { IfOk result (λ bytes. bytes ≡ server_version) }
@@ -87,7 +129,7 @@ impl<L: Ledger> LockedScreen<L> {
         Ok(version)
     }
 
-    /// A viewer's connection is closed.
+    /// Closes a viewer's connection.
     pub fn close(&mut self, number: u64) -> Result<(), ScreenError>
         ensures step { OnOk result (StepsAlone (Event.Close number) self.old self.new) }
         ensures refused { Refuses result (absence (viewer_at self.old.screen number)) }
@@ -97,7 +139,28 @@ impl<L: Ledger> LockedScreen<L> {
         Ok(())
     }
 
-    /// A piece of a viewer's bytes is heard.
+    /// Lets a viewer leave: closes it, if it is there. It stays where memory is refused for that.
+    pub fn part(&mut self, number: u64) -> Parting
+        ensures viewer { result.viewer ≡ number }
+        ensures parts { Parts number result.gone self.old self.new }
+    {
+        match self.close(number) {
+            Ok(()) => Parting {
+                viewer: number,
+                is_gone: true,
+            },
+            Err(ScreenError::NoViewer) => Parting {
+                viewer: number,
+                is_gone: true,
+            },
+            Err(_) => Parting {
+                viewer: number,
+                is_gone: false,
+            },
+        }
+    }
+
+    /// Hears a piece of a viewer's bytes.
     pub fn hear(&mut self, number: u64, piece: &[u8]) -> Result<Answer, ScreenError>
         ensures step { OnOk result (StepsAlone (Event.Hear number piece.now) self.old self.new) }
         ensures answer { (config : Config) (list : List Event) → self.old.screen ≡ state config list →
@@ -109,7 +172,23 @@ impl<L: Ledger> LockedScreen<L> {
         Ok(answer)
     }
 
-    /// Why a piece of a viewer's bytes is not heard for want of memory: the refusal that is due, and else that want.
+    /// Hears a piece, and tells how the viewer stands then.
+    pub fn hear_further(&mut self, number: u64, piece: &[u8]) -> Result<HearOutcome, ScreenError>
+        ensures step { OnOk result (StepsAlone (Event.Hear number piece.now) self.old self.new) }
+        ensures opened { IfOk result (λ heard. heard.is_open ≡ is_open_now (viewer_at self.new.screen number)) }
+        ensures due { IfOk result (λ heard. NeedsNoWait self.new number heard.has_step) }
+        ensures refused { Refuses result (absence (viewer_at self.old.screen number)) }
+        ensures err { OnErr result (self.new ≡ self.old) }
+    {
+        let answer = self.hear(number, piece)?;
+        Ok(HearOutcome {
+            answer,
+            is_open: self.is_open(number),
+            has_step: self.has_step(number),
+        })
+    }
+
+    /// Returns why a piece of a viewer's bytes is not heard for want of memory: the refusal that is due, and else that want.
     pub fn refusal_of_hearing(&self, number: u64) -> ScreenError
         ensures { MatchOption (absence (viewer_at self.now.screen number)) (result ≡ refusals.OutOfMemory) (λ e. result ≡ e) }
     {
@@ -119,14 +198,14 @@ impl<L: Ledger> LockedScreen<L> {
         }
     }
 
-    /// Whether a viewer had its ServerInit and met no fault.
+    /// Returns whether a viewer had its ServerInit and met no fault.
     pub fn is_open(&self, number: u64) -> bool
         ensures { result ≡ is_open_now (viewer_at self.now.screen number) }
     {
         matches!(self.screen.is_open(number), Ok(true))
     }
 
-    /// Whether a viewer's sender need not wait: it ends, or has something to send.
+    /// Returns whether a viewer's sender need not wait: it ends, or has something to send.
     pub fn has_step(&self, number: u64) -> bool
         ensures ends { is_some (ending self.now number) ≡ true → result ≡ true }
         ensures sends { (config : Config) (list : List Event) → self.now.screen ≡ state config list →
@@ -139,7 +218,7 @@ impl<L: Ledger> LockedScreen<L> {
         matches!(self.screen.pending(number), Ok(true))
     }
 
-    /// A drawing call, which is counted.
+    /// Makes a drawing call, which is counted.
     pub fn draw(&mut self, share: &mut Share<L>, drawing: &Drawing<'_>) -> Result<(), ScreenError>
         requires { 0 < share.old.parts }
         ensures drawn { OnOk result (Draws (event_of drawing.now) self.old self.new) }
@@ -155,7 +234,7 @@ impl<L: Ledger> LockedScreen<L> {
         Ok(())
     }
 
-    /// Why a drawing call is not made for want of memory: the refusal that is due, and else that want.
+    /// Returns why a drawing call is not made for want of memory: the refusal that is due, and else that want.
     pub fn refusal_of(&self, drawing: &Drawing<'_>) -> ScreenError
         ensures { MatchOption (call_refusal self.now.screen.picture.width self.now.screen.picture.height drawing.now)
             (result ≡ refusals.OutOfMemory) (λ e. result ≡ e) }
@@ -183,7 +262,7 @@ impl<L: Ledger> LockedScreen<L> {
         Ok(Some(update))
     }
 
-    /// What a viewer's sender does next; None where it waits.
+    /// Returns what a viewer's sender does next; None where it waits.
     pub fn take_step(&mut self, number: u64) -> Result<Option<NextStep>, AllocError>
         ensures ends { MatchOption (ending self.old number) (Unit {0}) (λ turn. result ≡ Ok (Some turn)) }
         ensures takes { IfOk result (λ turn. Takes number self.old self.new turn) }
@@ -208,14 +287,30 @@ impl<L: Ledger> LockedScreen<L> {
         }
     }
 
-    /// Nothing is sent any more.
+    /// Returns the same, with the viewer that it is for.
+    pub fn take_turn(&mut self, number: u64) -> Result<Option<Turn>, AllocError>
+        ensures own { IfOk result (λ turn. IfSome turn (IsTurnOf number)) }
+        ensures takes { IfOk result (λ turn. IfSome turn (λ t. Takes number self.old self.new (Some t.step))) }
+        ensures err { OnErr result (self.new ≡ self.old) }
+    {
+        match self.take_step(number) {
+            Ok(Some(step)) => Ok(Some(Turn {
+                viewer: number,
+                step,
+            })),
+            Ok(None) => Ok(None),
+            Err(error) => Err(error),
+        }
+    }
+
+    /// Ends the sending.
     pub fn stop(&mut self)
         ensures { self.new ≡ record self.old { stopped = true } }
     {
         self.stopped = true;
     }
 
-    /// The screen and the count of drawing calls.
+    /// Returns the screen and the count of drawing calls.
     pub fn parts(self) -> (Screen, Book<L>)
         ensures stands { (history : List Event) × Stands result.0 history self.newest result.1.total }
     {

@@ -21,8 +21,17 @@ pub enum NextStep {
     Faulty(Fault),
 }
 
+/// What a viewer's sender does next, and whose sender that is.
+#[derive(Drop)]
+pub struct Turn {
+    /// The viewer's number.
+    pub viewer: u64,
+    /// What its sender does.
+    pub step: NextStep,
+}
+
 impl NextStep {
-    /// The update that is sent, or why the sender ends.
+    /// Returns the update that is sent, or why the sender ends.
     pub fn update(self) -> Result<Update, Ended>
         ensures step { result ≡ sent_in self }
         ensures bytes { HasBytes self → IfOk result (λ update. update ≢ []) }

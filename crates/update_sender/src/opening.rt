@@ -5,8 +5,9 @@ ghost use Rattle.update_sender.specs.Serving.{GreetingEnds, Opens, IsOf, Hears, 
 
 use crate::hearing::hear_piece;
 use crate::line::{Line, Listener, Speaker};
+use crate::locked_screen::{HearOutcome, Parting};
 use crate::reasons::no_fault;
-use crate::shared::{HearOutcome, Shared};
+use crate::shared::Shared;
 use receipts::{Ended, Receipt};
 use screen::Answer;
 use std::io::{Read, Write};
@@ -18,9 +19,9 @@ use std::sync::ledger::Ledger;
 pub enum Opened {
     /// The ServerInit is written. The viewer's two ends: one for `serve_reader`, one for `serve_sender`.
     Ready(Listener, Speaker),
-    /// It broke off, and the viewer is closed, unless that was refused for memory (`Shared::close`). What was heard and sent until
-    /// then.
-    Over(Receipt),
+    /// It broke off. What was heard and sent until then, and whether the viewer is closed: it is, unless memory was refused for that
+    /// (`Shared::close`).
+    Over(Receipt, Parting),
 }
 
 /// Writes the server's version, then hears the viewer and writes each answer as its piece is heard, until the ServerInit is
@@ -51,13 +52,13 @@ pub fn serve_opening<L: Ledger, Rd: Read, W: Write, R: Wait>(
     match greeted {
         Ok(()) => Opened::Ready(listener, speaker),
         Err(ended) => {
-            let _closed = shared.close(rt, listener.viewer());
-            Opened::Over(receipt_of(listener, speaker, ended))
+            let parting = shared.part(rt, listener.viewer());
+            Opened::Over(receipt_of(listener, speaker, ended), parting)
         }
     }
 }
 
-/// A viewer's receipt, of its two ends.
+/// Makes a viewer's receipt, of its two ends.
 fn receipt_of(listener: Listener, speaker: Speaker, ended: Ended) -> Receipt
     ensures { result ≡ receipt_of listener speaker ended }
 {

@@ -1,6 +1,6 @@
 //! Why a viewer's thread ends: one reason for each thing that ends it.
 
-ghost use Rattle.std.specs.Prelude.{◌≡◌, ◌<◌, nat_lt, IfErr, IfOk, IsOk, MatchBool, MatchOption, MatchResult};
+ghost use Rattle.std.specs.Prelude.{◌≡◌, ◌<◌, nat_lt, true, IfErr, IfOk, IsOk, OnOk, MatchBool, MatchOption, MatchResult};
 ghost use Rattle.receipts.specs.declared.Ended.TheVariants as ended;
 ghost use Rattle.update_sender.specs.Reasons.{unheard_for};
 
@@ -8,14 +8,15 @@ use receipts::Ended;
 use screen::{Fault, ScreenError};
 use std::io;
 
-/// A gate's answer: the sender goes on where it is true.
+/// Passes where a gate's answer is true.
 pub fn passed(answer: bool) -> Result<(), Ended>
-    ensures { MatchBool answer (IsOk result) (result ≡ Err ended.Gate) }
+    ensures ends { MatchBool answer (IsOk result) (result ≡ Err ended.Gate) }
+    ensures through { OnOk result (answer ≡ true) }
 {
     if answer { Ok(()) } else { Err(Ended::Gate) }
 }
 
-/// What a read gave: how many bytes. None is the end of the reader.
+/// Returns what a read gave: how many bytes. None is the end of the reader.
 pub fn count_read(read: io::Result<usize>) -> Result<usize, Ended>
     ensures some { IfOk result (λ count. (read ≡ Ok count) × (0 < count)) }
     ensures none { IfErr result (λ e. MatchResult read (λ count. (count ≡ 0) × (e ≡ ended.EndOfInput)) (λ _. e ≡ ended.ReadFailed)) }
@@ -27,7 +28,7 @@ pub fn count_read(read: io::Result<usize>) -> Result<usize, Ended>
     }
 }
 
-/// How many bytes a writer took of those that were due, before a write failed or took none.
+/// Returns how many bytes a writer took of those that were due, before a write failed or took none.
 pub fn all_written(taken: usize, due: usize) -> Result<(), Ended>
     ensures { MatchBool (nat_lt taken due) (result ≡ Err ended.WriteFailed) (IsOk result) }
 {
@@ -37,7 +38,7 @@ pub fn all_written(taken: usize, due: usize) -> Result<(), Ended>
     Ok(())
 }
 
-/// The fault that a piece brought, if it brought one.
+/// Returns the fault that a piece brought, if it brought one.
 pub fn no_fault(fault: Option<Fault>) -> Result<(), Ended>
     ensures { MatchOption fault (IsOk result) (λ fault. result ≡ Err (ended.Fault fault)) }
 {
@@ -47,7 +48,7 @@ pub fn no_fault(fault: Option<Fault>) -> Result<(), Ended>
     }
 }
 
-/// Why a piece was not heard: the viewer is closed, or memory was refused.
+/// Returns why a piece was not heard: the viewer is closed, or memory was refused.
 pub fn unheard_for(refusal: ScreenError) -> Ended
     ensures { result ≡ unheard_for refusal }
 {

@@ -6,13 +6,13 @@ ghost use Rattle.screen.specs.declared.ScreenError.TheVariants as refusals;
 ghost use Rattle.screen.specs.Alone.{config_refusal};
 ghost use Rattle.update_sender.specs.Ends.{greeted, listened, has_cut};
 ghost use Rattle.kept_list.specs.Kept.{HasRoom};
-ghost use Rattle.screen.specs.State.{history_by};
-ghost use Rattle.update_sender.specs.Locked.{HasBytes};
+ghost use Rattle.screen.specs.State.{history_by, state};
+ghost use Rattle.update_sender.specs.Locked.{IsTurnOf};
 
 use crate::brush::Brush;
 use crate::line::{Line, Listener, Speaker};
-use crate::locked_screen::LockedScreen;
-use crate::next_step::NextStep;
+use crate::locked_screen::{HearOutcome, LockedScreen, Parting};
+use crate::next_step::{NextStep, Turn};
 use kept_list::KeptList;
 use screen::{Answer, Config, Screen, ScreenError, Update};
 use std::alloc::{AllocError, Global};
@@ -42,18 +42,8 @@ impl<L: Ledger> Model for Shared<L> {
     ghost invariant = { λ a. config_refusal a.config ≡ None };
 }
 
-/// What a piece brought.
-#[derive(Drop)]
-pub(crate) struct HearOutcome {
-    pub(crate) answer: Answer,
-    // the viewer had its ServerInit, and met no fault
-    pub(crate) is_open: bool,
-    // its sender need not wait
-    has_step: bool,
-}
-
 impl<L: Ledger> Shared<L> {
-    /// A screen behind a lock, and its one brush. The blank is one of the ledger that the type names; the drawing calls are
+    /// Makes a screen behind a lock, and its one brush. The blank is one of the ledger that the type names; the drawing calls are
     /// counted in it. Refused as `Screen::new` is.
     pub fn new(
         alloc: Global,
@@ -72,16 +62,26 @@ impl<L: Ledger> Shared<L> {
         let config = copy?;
         let (book, share) = blank.open::<L>();
         let brush = Brush::new(alloc, config.history, share);
-        let shared = Shared {
-            alloc,
-            config,
-            screen: Mutex::new(LockedScreen::new(screen, book)),
-            wake: Condvar::new(),
-        };
+        let shared = Shared::of(alloc, config, LockedScreen::new(screen, book));
         Ok((shared, brush))
     }
 
-    /// A viewer connects. Refused as `NumberInUse` unless its number is greater than each that connected before.
+    /// Puts a screen of a configuration behind a lock, on which nothing has happened yet. No screen comes there otherwise, and no event
+    /// changes a screen's configuration.
+    fn of(alloc: Global, config: Config, screen: LockedScreen<L>) -> Shared<L>
+        requires config { config_refusal config ≡ None }
+        requires screen { screen.screen ≡ state config [] }
+        ensures { result ≡ config }
+    {
+        Shared {
+            alloc,
+            config,
+            screen: Mutex::new(screen),
+            wake: Condvar::new(),
+        }
+    }
+
+    /// Connects a viewer. Refused as `NumberInUse` unless its number is greater than each that connected before.
     pub fn connect<R: Wait>(&self, rt: &R, number: u64) -> Result<Line, ScreenError>
         ensures line { IfOk result (λ line. line ≡ greeted number self.now.history) }
         ensures refused { IfErr result (λ e. (e ≡ refusals.NumberInUse) ⊎ (e ≡ refusals.OutOfMemory)) }
@@ -90,7 +90,7 @@ impl<L: Ledger> Shared<L> {
         Ok(Line::new(self.alloc, number, self.config.history, version))
     }
 
-    /// A viewer's connection is closed. Refused as `NoViewer` where there is none with the number, and as `OutOfMemory`: then the viewer
+    /// Closes a viewer's connection. Refused as `NoViewer` where there is none with the number, and as `OutOfMemory`: then the viewer
     /// stays, and whoever serves it closes it later, or its sender may wait for an update that nobody can be sent.
     pub fn close<R: Wait>(&self, rt: &R, number: u64) -> Result<(), ScreenError>
         ensures refused { IfErr result (λ e. (e ≡ refusals.NoViewer) ⊎ (e ≡ refusals.OutOfMemory)) }
@@ -100,13 +100,22 @@ impl<L: Ledger> Shared<L> {
         Ok(())
     }
 
-    /// Every later `cut_wait` gives None.
+    /// Lets a viewer leave: closes it, if it is there. Returns whether it is there no more; else memory was refused for that.
+    pub(crate) fn part<R: Wait>(&self, rt: &R, number: u64) -> Parting
+        ensures { result.viewer ≡ number }
+    {
+        let parting = self.screen.lock(rt).part(number);
+        self.wake.notify_all();
+        parting
+    }
+
+    /// Ends the sending: every later `cut_wait` gives None.
     pub fn stop<R: Wait>(&self, rt: &R) {
         self.screen.lock(rt).stop();
         self.wake.notify_all();
     }
 
-    /// A piece of a viewer's bytes is heard. Refused as `NoViewer` where the viewer is gone.
+    /// Hears a piece of a viewer's bytes. Refused as `NoViewer` where the viewer is gone.
     pub fn hear<R: Wait>(
         &self,
         rt: &R,
@@ -121,7 +130,7 @@ impl<L: Ledger> Shared<L> {
         Ok(heard.answer)
     }
 
-    /// The same, and whether the viewer is open then.
+    /// Hears a piece, and tells whether the viewer is open then.
     pub(crate) fn hear_further<R: Wait>(
         &self,
         rt: &R,
@@ -144,7 +153,7 @@ impl<L: Ledger> Shared<L> {
         Ok(heard)
     }
 
-    /// One hold of it, once there is room for the piece among those that were heard: what the screen has heard is kept.
+    /// Hears it in one hold, once there is room for the piece among those that were heard: what the screen has heard is kept.
     fn hear_in_hold<R: Wait>(
         &self,
         rt: &R,
@@ -155,23 +164,18 @@ impl<L: Ledger> Shared<L> {
         requires room { HasRoom (length piece.now) _kept.now }
         ensures refused { IfErr result (λ e. (e ≡ refusals.NoViewer) ⊎ (e ≡ refusals.OutOfMemory)) }
     {
-        let mut locked = self.screen.lock(rt);
-        let answer = locked.hear(viewer, piece)?;
-        Ok(HearOutcome {
-            answer,
-            is_open: locked.is_open(viewer),
-            has_step: locked.has_step(viewer),
-        })
+        let heard = self.screen.lock(rt).hear_further(viewer, piece)?;
+        Ok(heard)
     }
 
     /// Waits until a viewer's sender has something to do.
-    pub(crate) fn wait_for_step<R: Wait>(&self, rt: &R, viewer: u64) -> Result<NextStep, AllocError>
-        ensures { IfOk result HasBytes }
+    pub(crate) fn wait_for_turn<R: Wait>(&self, rt: &R, viewer: u64) -> Result<Turn, AllocError>
+        ensures { IfOk result (IsTurnOf viewer) }
     {
         let mut locked = self.screen.lock(rt);
         for _ in rt.forever() {
-            if let Some(step) = locked.take_step(viewer)? {
-                return Ok(step);
+            if let Some(turn) = locked.take_turn(viewer)? {
+                return Ok(turn);
             }
             locked = self.wake.wait(rt, locked);
         }
@@ -189,7 +193,8 @@ impl<L: Ledger> Shared<L> {
             (speaker.new ≡ has_cut speaker.old))) }
         ensures err { OnErr result (speaker.new ≡ speaker.old) }
     {
-        match self.wait_for_step(rt, speaker.viewer)? {
+        let Turn { step, .. } = self.wait_for_turn(rt, speaker.viewer)?;
+        match step {
             NextStep::Send(update) => {
                 speaker.count_cut();
                 Ok(Some(update))

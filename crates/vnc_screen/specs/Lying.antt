@@ -3,8 +3,8 @@ use base.Fraction.{full_share}
 use base.Fml.{Fml, fex, fsep}
 use denote.RattleType.{RattleType}
 use denote.RawPtr.{Ptr, lies_at}
-use Rattle.screen_desk.specs.contracts.desk.Desk.{the_row}
-use Rattle.screen_desk.specs.contracts.update.DeskUpdate as update
+use Rattle.c_screen.specs.contracts.desk.Desk.{the_row}
+use Rattle.c_screen.specs.contracts.update.DeskUpdate as update
 
 abbrev pub desk_row : RattleType
 desk_row = the_row

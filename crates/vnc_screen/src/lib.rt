@@ -1,8 +1,9 @@
-//! A screen for programs in C: doors to `screen_desk`, one for each of its calls. The program has the sockets and the loop; nothing
+//! A screen for programs in C: doors to `c_screen`, one for each of its calls. The program has the sockets and the loop; nothing
 //! here waits, locks or starts a thread.
 //!
 //! Each door takes a pointer to memory of the program's in which a desk lies: `vnc_screen_init` puts one there, which is shut. Its
-//! contract is that of the desk's call, from the desk that lies there before to the one that lies there after it.
+//! contract is that of the desk's call, from the desk that lies there before to the one that lies there after it. Its comment names that
+//! call, and the call's comment says what it answers.
 #![tactic(auto)]
 
 ghost use types.Logic.{sem};
@@ -14,32 +15,32 @@ ghost use Rattle.screen.specs.Reading.{fault_in_rest, is_open_rest};
 ghost use Rattle.screen.specs.Viewer.{is_asking};
 ghost use Rattle.screen.specs.declared.Event.{Event};
 ghost use Rattle.screen.specs.State.{viewer_at};
-ghost use Rattle.screen_desk.specs.Codes as codes;
-ghost use Rattle.screen_desk.specs.Calls.{Opens, Draws, DrawsRegion, Connects, Hears, Cuts, CutsInto, Closes, TellsPending, Gives, GivesHeld, Fetches, Shows, ShowsSettings, ShowsText, TakesPixels, Tells, numbers_of, of_viewer, colour_at};
-ghost use Rattle.screen_desk.specs.Desk.{nothing_there, rect_of, config_of};
-ghost use Rattle.screen_desk.specs.Pixels.{format_of, source_from};
+ghost use Rattle.c_screen.specs.Codes as codes;
+ghost use Rattle.c_screen.specs.Calls.{Opens, Draws, DrawsRegion, Connects, Hears, Cuts, CutsInto, Closes, TellsPending, Gives, GivesHeld, Fetches, Shows, ShowsSettings, ShowsText, TakesPixels, Tells, numbers_of, of_viewer, colour_at};
+ghost use Rattle.c_screen.specs.Desk.{nothing_there, rect_of, config_of};
+ghost use Rattle.c_screen.specs.Pixels.{format_of, source_from};
 ghost use Rattle.source_pixels.specs.declared.formats.SourceFormat.TheVariants as format;
 
-use screen_desk::{Corners, Desk, DeskUpdate, PixelLayout, Told};
+use c_screen::{Corners, Desk, DeskUpdate, PixelLayout, Told};
 use std::alloc::Global;
 use std::mem::size_of;
 use std::ptr;
 
-/// What C sees behind its pointer: nothing.
+/// `struct vnc_screen`, opaque to C.
 #[repr(C)]
 #[derive(Drop)]
 pub struct Place {
     unseen: u8,
 }
 
-/// What C sees behind its pointer to an update: nothing.
+/// `struct vnc_update`, opaque to C.
 #[repr(C)]
 #[derive(Drop)]
 pub struct UpdatePlace {
     unseen: u8,
 }
 
-/// The number of this interface: `VNC_SCREEN_ABI` of the header.
+/// Returns the number of this interface: `VNC_SCREEN_ABI` of the header.
 #[unsafe(no_mangle)]
 pub extern "C" fn vnc_screen_abi() -> u32
     ensures { result ≡ 5 }
@@ -47,7 +48,7 @@ pub extern "C" fn vnc_screen_abi() -> u32
     5
 }
 
-/// How many bytes of memory C has to give for a screen; their address is a multiple of 16.
+/// Returns how many bytes of memory C has to give for a screen; their address is a multiple of 16.
 #[unsafe(no_mangle)]
 pub extern "C" fn vnc_screen_size() -> usize
     ensures { result ≡ type_size desk_row }
@@ -64,7 +65,7 @@ pub unsafe extern "C" fn vnc_screen_init(at: *mut Place, alloc: Global)
     ptr::write(at as *mut Desk, Desk::new(alloc))
 }
 
-/// `Desk::paint`.
+/// Paints a rectangle (`Desk::paint`).
 #[unsafe(no_mangle)]
 pub unsafe extern "C" fn vnc_screen_paint(
     at: *mut Place,
@@ -81,7 +82,7 @@ pub unsafe extern "C" fn vnc_screen_paint(
     Desk::paint(&mut *(at as *mut Desk), x1, y1, x2, y2, colours)
 }
 
-/// `Desk::write_pixels`.
+/// Paints a rectangle, which no viewer is sent before it is marked (`Desk::write_pixels`).
 #[unsafe(no_mangle)]
 pub unsafe extern "C" fn vnc_screen_write_pixels(
     at: *mut Place,
@@ -98,7 +99,7 @@ pub unsafe extern "C" fn vnc_screen_write_pixels(
     Desk::write_pixels(&mut *(at as *mut Desk), x1, y1, x2, y2, colours)
 }
 
-/// `Desk::mark_rect`.
+/// Marks a rectangle as changed (`Desk::mark_rect`).
 #[unsafe(no_mangle)]
 pub unsafe extern "C" fn vnc_screen_mark_rect(
     at: *mut Place,
@@ -114,7 +115,7 @@ pub unsafe extern "C" fn vnc_screen_mark_rect(
     Desk::mark_rect(&mut *(at as *mut Desk), x1, y1, x2, y2)
 }
 
-/// `Desk::schedule_copy_rect`.
+/// Tells the viewers that pixels move into a rectangle, and leaves the picture (`Desk::schedule_copy_rect`).
 #[unsafe(no_mangle)]
 pub unsafe extern "C" fn vnc_screen_schedule_copy_rect(
     at: *mut Place,
@@ -132,7 +133,7 @@ pub unsafe extern "C" fn vnc_screen_schedule_copy_rect(
     Desk::schedule_copy_rect(&mut *(at as *mut Desk), x1, y1, x2, y2, dx, dy)
 }
 
-/// `Desk::do_copy_rect`.
+/// Moves pixels into a rectangle, and tells the viewers (`Desk::do_copy_rect`).
 #[unsafe(no_mangle)]
 pub unsafe extern "C" fn vnc_screen_do_copy_rect(
     at: *mut Place,
@@ -150,7 +151,7 @@ pub unsafe extern "C" fn vnc_screen_do_copy_rect(
     Desk::do_copy_rect(&mut *(at as *mut Desk), x1, y1, x2, y2, dx, dy)
 }
 
-/// `Desk::update_from`.
+/// Takes a program's own pixels into the picture (`Desk::update_from`).
 #[unsafe(no_mangle)]
 pub unsafe extern "C" fn vnc_screen_update_from(
     at: *mut Place,
@@ -180,7 +181,7 @@ pub unsafe extern "C" fn vnc_screen_update_from(
     )
 }
 
-/// `Desk::bell`.
+/// Rings the viewers' bells (`Desk::bell`).
 #[unsafe(no_mangle)]
 pub unsafe extern "C" fn vnc_screen_bell(at: *mut Place) -> i32
     ghost before: { desk_row.Denot }
@@ -190,7 +191,7 @@ pub unsafe extern "C" fn vnc_screen_bell(at: *mut Place) -> i32
     Desk::bell(&mut *(at as *mut Desk))
 }
 
-/// `Desk::cut_text`.
+/// Sends the viewers a copied text (`Desk::cut_text`).
 #[unsafe(no_mangle)]
 pub unsafe extern "C" fn vnc_screen_cut_text(at: *mut Place, text: &[u8]) -> i32
     ghost before: { desk_row.Denot }
@@ -200,7 +201,7 @@ pub unsafe extern "C" fn vnc_screen_cut_text(at: *mut Place, text: &[u8]) -> i32
     Desk::cut_text(&mut *(at as *mut Desk), text)
 }
 
-/// `Desk::new_framebuffer`.
+/// Replaces the picture by a black one of `width` columns and `height` rows (`Desk::new_framebuffer`).
 #[unsafe(no_mangle)]
 pub unsafe extern "C" fn vnc_screen_new_framebuffer(at: *mut Place, width: u32, height: u32) -> i32
     ghost before: { desk_row.Denot }
@@ -210,7 +211,7 @@ pub unsafe extern "C" fn vnc_screen_new_framebuffer(at: *mut Place, width: u32, 
     Desk::new_framebuffer(&mut *(at as *mut Desk), width, height)
 }
 
-/// `Desk::mark_region`.
+/// Marks the places of the rectangles in `list` as changed (`Desk::mark_region`).
 #[unsafe(no_mangle)]
 pub unsafe extern "C" fn vnc_screen_mark_region(at: *mut Place, list: &[Corners]) -> i32
     ghost before: { desk_row.Denot }
@@ -220,7 +221,7 @@ pub unsafe extern "C" fn vnc_screen_mark_region(at: *mut Place, list: &[Corners]
     Desk::mark_region(&mut *(at as *mut Desk), list)
 }
 
-/// `Desk::schedule_copy_region`.
+/// Tells the viewers that pixels move into the rectangles of `list`, and leaves the picture (`Desk::schedule_copy_region`).
 #[unsafe(no_mangle)]
 pub unsafe extern "C" fn vnc_screen_schedule_copy_region(
     at: *mut Place,
@@ -235,7 +236,7 @@ pub unsafe extern "C" fn vnc_screen_schedule_copy_region(
     Desk::schedule_copy_region(&mut *(at as *mut Desk), list, dx, dy)
 }
 
-/// `Desk::do_copy_region`.
+/// Moves pixels into the rectangles of `list`, and tells the viewers (`Desk::do_copy_region`).
 #[unsafe(no_mangle)]
 pub unsafe extern "C" fn vnc_screen_do_copy_region(
     at: *mut Place,
@@ -250,7 +251,7 @@ pub unsafe extern "C" fn vnc_screen_do_copy_region(
     Desk::do_copy_region(&mut *(at as *mut Desk), list, dx, dy)
 }
 
-/// `Desk::open`.
+/// Opens a black screen, and closes what was open; `name` has no zero at its end (`Desk::open`).
 #[unsafe(no_mangle)]
 pub unsafe extern "C" fn vnc_screen_open_n(
     at: *mut Place,
@@ -272,7 +273,7 @@ pub unsafe extern "C" fn vnc_screen_open_n(
     )
 }
 
-/// `Desk::close`.
+/// Closes the screen, and drops all that it holds (`Desk::close`).
 #[unsafe(no_mangle)]
 pub unsafe extern "C" fn vnc_screen_close(at: *mut Place) -> i32
     ghost before: { desk_row.Denot }
@@ -282,7 +283,7 @@ pub unsafe extern "C" fn vnc_screen_close(at: *mut Place) -> i32
     Desk::close(&mut *(at as *mut Desk))
 }
 
-/// `Desk::connect`.
+/// Connects `viewer`; the server's version waits for it then (`Desk::connect`).
 #[unsafe(no_mangle)]
 pub unsafe extern "C" fn vnc_screen_connect(at: *mut Place, viewer: u64) -> i32
     ghost before: { desk_row.Denot }
@@ -292,7 +293,7 @@ pub unsafe extern "C" fn vnc_screen_connect(at: *mut Place, viewer: u64) -> i32
     Desk::connect(&mut *(at as *mut Desk), viewer)
 }
 
-/// `Desk::hear`.
+/// Hears `piece`, which the program read of `viewer` (`Desk::hear`).
 #[unsafe(no_mangle)]
 pub unsafe extern "C" fn vnc_screen_hear(at: *mut Place, viewer: u64, piece: &[u8]) -> i32
     ghost before: { desk_row.Denot }
@@ -302,7 +303,7 @@ pub unsafe extern "C" fn vnc_screen_hear(at: *mut Place, viewer: u64, piece: &[u
     Desk::hear(&mut *(at as *mut Desk), viewer, piece)
 }
 
-/// `Desk::is_pending`.
+/// Returns 1 where `vnc_screen_cut` would cut an update for `viewer`, else 0 (`Desk::is_pending`).
 #[unsafe(no_mangle)]
 pub unsafe extern "C" fn vnc_screen_is_pending(at: *mut Place, viewer: u64) -> i32
     ghost before: { desk_row.Denot }
@@ -312,7 +313,7 @@ pub unsafe extern "C" fn vnc_screen_is_pending(at: *mut Place, viewer: u64) -> i
     Desk::is_pending(&mut *(at as *mut Desk), viewer)
 }
 
-/// `Desk::cut`.
+/// Cuts an update for `viewer`, which waits for it then (`Desk::cut`).
 #[unsafe(no_mangle)]
 pub unsafe extern "C" fn vnc_screen_cut(at: *mut Place, viewer: u64) -> i32
     ghost before: { desk_row.Denot }
@@ -322,7 +323,7 @@ pub unsafe extern "C" fn vnc_screen_cut(at: *mut Place, viewer: u64) -> i32
     Desk::cut(&mut *(at as *mut Desk), viewer)
 }
 
-/// `Desk::cut_into`.
+/// Cuts an update for `viewer` into `update` (`Desk::cut_into`).
 #[unsafe(no_mangle)]
 pub unsafe extern "C" fn vnc_screen_cut_into(
     at: *mut Place,
@@ -340,7 +341,7 @@ pub unsafe extern "C" fn vnc_screen_cut_into(
     )
 }
 
-/// `Desk::close_viewer`.
+/// Closes `viewer`, and drops what waits for it (`Desk::close_viewer`).
 #[unsafe(no_mangle)]
 pub unsafe extern "C" fn vnc_screen_close_viewer(at: *mut Place, viewer: u64) -> i32
     ghost before: { desk_row.Denot }
@@ -350,7 +351,7 @@ pub unsafe extern "C" fn vnc_screen_close_viewer(at: *mut Place, viewer: u64) ->
     Desk::close_viewer(&mut *(at as *mut Desk), viewer)
 }
 
-/// `Desk::output`.
+/// Fetches the next bytes that wait for `viewer` into `room` (`Desk::output`).
 #[unsafe(no_mangle)]
 pub unsafe extern "C" fn vnc_screen_output(at: *mut Place, viewer: u64, room: &mut [u8]) -> i32
     ghost before: { desk_row.Denot }
@@ -360,7 +361,7 @@ pub unsafe extern "C" fn vnc_screen_output(at: *mut Place, viewer: u64, room: &m
     Desk::output(&mut *(at as *mut Desk), viewer, room)
 }
 
-/// `Desk::next_inputs`.
+/// Fetches the next inputs of all viewers into `room`, up to the first text (`Desk::next_inputs`).
 #[unsafe(no_mangle)]
 pub unsafe extern "C" fn vnc_screen_next_inputs(at: *mut Place, room: &mut [Told]) -> i64
     ghost before: { desk_row.Denot }
@@ -370,7 +371,7 @@ pub unsafe extern "C" fn vnc_screen_next_inputs(at: *mut Place, room: &mut [Told
     Desk::next_inputs(&mut *(at as *mut Desk), room)
 }
 
-/// `Desk::text`.
+/// Puts the first bytes of the text that `vnc_screen_next_inputs` fetched last into `room` (`Desk::text`).
 #[unsafe(no_mangle)]
 pub unsafe extern "C" fn vnc_screen_text(at: *mut Place, room: &mut [u8]) -> i32
     ghost before: { desk_row.Denot }
@@ -380,7 +381,7 @@ pub unsafe extern "C" fn vnc_screen_text(at: *mut Place, room: &mut [u8]) -> i32
     Desk::text(&mut *(at as *mut Desk), room)
 }
 
-/// `Desk::numbers`.
+/// Puts the viewers' numbers into `room`, in order of connecting (`Desk::numbers`).
 #[unsafe(no_mangle)]
 pub unsafe extern "C" fn vnc_screen_numbers(at: *mut Place, room: &mut [u64]) -> i32
     ghost before: { desk_row.Denot }
@@ -390,7 +391,7 @@ pub unsafe extern "C" fn vnc_screen_numbers(at: *mut Place, room: &mut [u64]) ->
     Desk::numbers(&mut *(at as *mut Desk), room)
 }
 
-/// `Desk::viewer_count`.
+/// Returns how many viewers there are (`Desk::viewer_count`).
 #[unsafe(no_mangle)]
 pub unsafe extern "C" fn vnc_screen_viewer_count(at: *mut Place) -> i32
     ghost before: { desk_row.Denot }
@@ -400,7 +401,7 @@ pub unsafe extern "C" fn vnc_screen_viewer_count(at: *mut Place) -> i32
     Desk::viewer_count(&mut *(at as *mut Desk))
 }
 
-/// `Desk::is_live`.
+/// Returns 1 where a viewer has this number, else 0 (`Desk::is_live`).
 #[unsafe(no_mangle)]
 pub unsafe extern "C" fn vnc_screen_is_live(at: *mut Place, viewer: u64) -> i32
     ghost before: { desk_row.Denot }
@@ -410,7 +411,7 @@ pub unsafe extern "C" fn vnc_screen_is_live(at: *mut Place, viewer: u64) -> i32
     Desk::is_live(&mut *(at as *mut Desk), viewer)
 }
 
-/// `Desk::is_open`.
+/// Returns 1 where the opening of `viewer` is over and it met no fault, else 0 (`Desk::is_open`).
 #[unsafe(no_mangle)]
 pub unsafe extern "C" fn vnc_screen_is_open(at: *mut Place, viewer: u64) -> i32
     ghost before: { desk_row.Denot }
@@ -420,7 +421,7 @@ pub unsafe extern "C" fn vnc_screen_is_open(at: *mut Place, viewer: u64) -> i32
     Desk::is_open(&mut *(at as *mut Desk), viewer)
 }
 
-/// `Desk::is_asking`.
+/// Returns 1 where a request of the viewer's is unanswered, else 0 (`Desk::is_asking`).
 #[unsafe(no_mangle)]
 pub unsafe extern "C" fn vnc_screen_is_asking(at: *mut Place, viewer: u64) -> i32
     ghost before: { desk_row.Denot }
@@ -430,7 +431,7 @@ pub unsafe extern "C" fn vnc_screen_is_asking(at: *mut Place, viewer: u64) -> i3
     Desk::is_asking(&mut *(at as *mut Desk), viewer)
 }
 
-/// `Desk::fault`.
+/// Returns the `vnc_fault` of `viewer`, or 0 (`Desk::fault`).
 #[unsafe(no_mangle)]
 pub unsafe extern "C" fn vnc_screen_fault(at: *mut Place, viewer: u64) -> i32
     ghost before: { desk_row.Denot }
@@ -440,7 +441,7 @@ pub unsafe extern "C" fn vnc_screen_fault(at: *mut Place, viewer: u64) -> i32
     Desk::fault(&mut *(at as *mut Desk), viewer)
 }
 
-/// `Desk::settings`.
+/// Puts the first words of what `viewer` has set into `room` (`Desk::settings`).
 #[unsafe(no_mangle)]
 pub unsafe extern "C" fn vnc_screen_settings_n(at: *mut Place, viewer: u64, room: &mut [u32]) -> i32
     ghost before: { desk_row.Denot }
@@ -450,7 +451,7 @@ pub unsafe extern "C" fn vnc_screen_settings_n(at: *mut Place, viewer: u64, room
     Desk::settings(&mut *(at as *mut Desk), viewer, room)
 }
 
-/// `Desk::width`.
+/// Returns the picture's columns (`Desk::width`).
 #[unsafe(no_mangle)]
 pub unsafe extern "C" fn vnc_screen_width(at: *mut Place) -> i64
     ghost before: { desk_row.Denot }
@@ -460,7 +461,7 @@ pub unsafe extern "C" fn vnc_screen_width(at: *mut Place) -> i64
     Desk::width(&mut *(at as *mut Desk))
 }
 
-/// `Desk::height`.
+/// Returns the picture's rows (`Desk::height`).
 #[unsafe(no_mangle)]
 pub unsafe extern "C" fn vnc_screen_height(at: *mut Place) -> i64
     ghost before: { desk_row.Denot }
@@ -470,7 +471,7 @@ pub unsafe extern "C" fn vnc_screen_height(at: *mut Place) -> i64
     Desk::height(&mut *(at as *mut Desk))
 }
 
-/// `Desk::colour`.
+/// Returns the colour of the place in column `x` of row `y` (`Desk::colour`).
 #[unsafe(no_mangle)]
 pub unsafe extern "C" fn vnc_screen_colour(at: *mut Place, x: u32, y: u32) -> i64
     ghost before: { desk_row.Denot }
@@ -480,7 +481,7 @@ pub unsafe extern "C" fn vnc_screen_colour(at: *mut Place, x: u32, y: u32) -> i6
     Desk::colour(&mut *(at as *mut Desk), x, y)
 }
 
-/// How many bytes of memory C has to give for an update; their address is a multiple of 16.
+/// Returns how many bytes of memory C has to give for an update; their address is a multiple of 16.
 #[unsafe(no_mangle)]
 pub extern "C" fn vnc_update_size() -> usize
     ensures { result ≡ type_size update_row }
@@ -497,7 +498,7 @@ pub unsafe extern "C" fn vnc_update_init(at: *mut UpdatePlace)
     ptr::write(at as *mut DeskUpdate, DeskUpdate::new())
 }
 
-/// `DeskUpdate::output`.
+/// Fetches the update's next bytes into `room` (`DeskUpdate::output`).
 #[unsafe(no_mangle)]
 pub unsafe extern "C" fn vnc_update_output(at: *mut UpdatePlace, room: &mut [u8]) -> i32
     ghost before: { update_row.Denot }
@@ -507,7 +508,7 @@ pub unsafe extern "C" fn vnc_update_output(at: *mut UpdatePlace, room: &mut [u8]
     DeskUpdate::output(&mut *(at as *mut DeskUpdate), room)
 }
 
-/// `DeskUpdate::clear`.
+/// Drops what the update holds (`DeskUpdate::clear`).
 #[unsafe(no_mangle)]
 pub unsafe extern "C" fn vnc_update_clear(at: *mut UpdatePlace) -> i32
     ghost before: { update_row.Denot }

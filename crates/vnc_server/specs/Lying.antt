@@ -4,8 +4,8 @@ use base.Fraction.{full_share}
 use base.Fml.{Fml, fex, fsep}
 use denote.RattleType.{RattleType}
 use denote.RawPtr.{Ptr, lies_at, room_at}
-use Rattle.server_desk.specs.contracts.desk.ServerDesk.{the_row}
-use Rattle.server_desk.specs.contracts.waker.ServerWaker as waker
+use Rattle.c_server.specs.contracts.desk.ServerDesk.{the_row}
+use Rattle.c_server.specs.contracts.waker.ServerWaker as waker
 
 abbrev pub desk_row : RattleType
 desk_row = the_row

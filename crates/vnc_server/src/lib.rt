@@ -1,4 +1,4 @@
-//! A server in one thread for programs in C: doors to `server_desk`, one for each of its calls. Nothing here locks or starts a thread,
+//! A server in one thread for programs in C: doors to `c_server`, one for each of its calls. Nothing here locks or starts a thread,
 //! and only `vnc_server_process_events` waits, for as long as it is told.
 //!
 //! Each door takes a pointer to memory of the program's in which a desk lies: `vnc_server_init` puts one there, which is shut. Its
@@ -12,15 +12,15 @@ ghost use Rattle.std.specs.Mem.{type_size};
 ghost use Rattle.std.specs.Prelude.{◌≡◌, ◌∷◌, [], ◌^◌, pos, map, min, length, false, is_some, count_by};
 ghost use Rattle.screen.specs.Reading.{is_open_rest};
 ghost use Rattle.screen.specs.declared.Event.{Event};
-ghost use Rattle.screen_desk.specs.Codes as codes;
-ghost use Rattle.screen_desk.specs.Calls.{colour_at, of_viewer};
-ghost use Rattle.screen_desk.specs.Desk.{rect_of, config_of};
-ghost use Rattle.server_desk.specs.Desk.{nothing_there, rects_per_update};
-ghost use Rattle.server_desk.specs.Calls.{Listens, NamesRecord, record_state, TakesTurn, Draws, DrawsRegion, FetchesInputs, FetchesVisits, ShowsNumbers, ShowsText, ShowsSettings, Tells, TellsAddress, TellsSome, LetsGo, TakesPixels, Wakes};
-ghost use Rattle.screen_desk.specs.Pixels.{format_of, source_from};
+ghost use Rattle.c_screen.specs.Codes as codes;
+ghost use Rattle.c_screen.specs.Calls.{colour_at, of_viewer};
+ghost use Rattle.c_screen.specs.Desk.{rect_of, config_of};
+ghost use Rattle.c_server.specs.Desk.{nothing_there, rects_per_update};
+ghost use Rattle.c_server.specs.Calls.{Listens, NamesRecord, record_state, TakesTurn, Draws, DrawsRegion, FetchesInputs, FetchesVisits, ShowsNumbers, ShowsText, ShowsSettings, Tells, TellsAddress, TellsSome, TellsWait, LetsGo, TakesPixels, Wakes};
+ghost use Rattle.c_screen.specs.Pixels.{format_of, source_from};
 ghost use Rattle.source_pixels.specs.declared.formats.SourceFormat.TheVariants as format;
 
-use server_desk::{Corners, PixelLayout, ServerDesk, ServerWaker, Told, Visit};
+use c_server::{Corners, PixelLayout, ServerDesk, ServerWaker, Told, Visit};
 use std::alloc::Global;
 use std::mem::size_of;
 use std::ptr;
@@ -97,7 +97,7 @@ pub unsafe extern "C" fn vnc_server_listen_n(
 ) -> i32
     ghost before: { desk_row.Denot }
     requires* { sem 𝓛 (holds at before) }
-    ensures* { sem 𝓛 (leaves at (λ after. Listens (config_of width height name.now rects_per_update) port before after result)) }
+    ensures* { sem 𝓛 (leaves at (λ after. Listens (config_of width height name.now rects_per_update) address.now port before after result)) }
 {
     ServerDesk::listen(
         &mut *(at as *mut ServerDesk),
@@ -169,7 +169,7 @@ pub unsafe extern "C" fn vnc_server_fd(at: *mut Place) -> i32
 pub unsafe extern "C" fn vnc_server_timeout(at: *mut Place) -> i32
     ghost before: { desk_row.Denot }
     requires* { sem 𝓛 (holds at before) }
-    ensures* { sem 𝓛 (leaves at (λ after. TellsSome before after result)) }
+    ensures* { sem 𝓛 (leaves at (λ after. TellsWait before after result)) }
 {
     ServerDesk::timeout(&mut *(at as *mut ServerDesk))
 }

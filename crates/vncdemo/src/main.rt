@@ -4,8 +4,8 @@
 
 use clap::error::ErrorKind;
 use demo_app::{
-    Asked, Chosen, OneThread, RecordWriter, ServeOptions, is_refused, line_of, play_over,
-    replay_over, self_in_one_thread, self_on, serve_in_one_thread, serve_on,
+    Asked, ByThreads, Chosen, OneThread, RecordWriter, ServeOptions, Stop, is_refused, line_of,
+    play_over, replay_over, self_in_one_thread, self_on, serve_by_threads, serve_in_one_thread,
 };
 use std::alloc::Global;
 use std::fs::{File, OpenOptions};
@@ -14,7 +14,6 @@ use std::net::{Ipv4Addr, Net, SocketAddr, TcpListener, TcpStream};
 use std::os::unix::fs::OpenOptionsExt;
 use std::process::ExitCode;
 use std::rt::{Files, Runtime};
-use std::sync::atomic::{AtomicBool, Ordering};
 use std::sync::{Arc, Wait};
 use std::thread::Threads;
 use std::time::Clock;
@@ -77,15 +76,6 @@ fn play(rt: &HostRuntime) -> ExitCode {
     ExitCode::from(status)
 }
 
-fn serve_by_threads<
-    W: Write,
-    R: Runtime + Threads + Wait + Net<Listener = TcpListener, Stream = TcpStream> + Sync,
->(rt: &R, alloc: Global, port: u16, options: &ServeOptions, writer: &mut W) -> io::Result<u8> {
-    let listener = TcpListener::bind(rt, (Ipv4Addr::LOCALHOST, port))?;
-    say_where(rt, options, listener.local_addr());
-    Ok(serve_on(rt, alloc, &listener, options, writer))
-}
-
 /// Makes a file that wasn't there, which its owner alone may read.
 fn new_file<R: Files<File = File>>(rt: &R, path: &str) -> io::Result<File> {
     OpenOptions::new()
@@ -122,40 +112,89 @@ fn read_to_end() {
     }
 }
 
-/// Starts a thread that reads standard input to its end, and makes this true then. Nobody waits for the thread.
-fn stop_at_end<R: Threads>(rt: &R, alloc: Global) -> io::Result<Arc<AtomicBool, Global>> {
-    let stop = Arc::new(alloc, AtomicBool::new(false))?;
-    let theirs = Arc::try_clone(&stop)?;
+/// Why viewers aren't served: what is printed, and the status.
+#[derive(Clone, Copy)]
+struct NotServed {
+    line: &'static [u8],
+    status: u8,
+}
+
+const NO_MEMORY: NotServed = NotServed {
+    line: b"out of memory\n",
+    status: 3,
+};
+
+const NO_DESCRIPTOR: NotServed = NotServed {
+    line: b"network fault\n",
+    status: 5,
+};
+
+const NO_RECORD: NotServed = NotServed {
+    line: b"cannot record\n",
+    status: 5,
+};
+
+/// Says why viewers aren't served, and gives the status. It is the same where this can't be written.
+fn not_served<W: Write>(writer: &mut W, why: NotServed) -> u8 {
+    let _ = writer.write_all(why.line);
+    let _ = writer.flush();
+    why.status
+}
+
+/// Starts a thread that reads standard input to its end, and ends the server then. Nobody waits for the thread.
+fn stop_at_end<R: Threads>(rt: &R, alloc: Global) -> Result<Arc<Stop, Global>, NotServed> {
+    let stop = Stop::new().map_err(|_| NO_DESCRIPTOR)?;
+    let stop = Arc::new(alloc, stop).map_err(|_| NO_MEMORY)?;
+    let theirs = Arc::try_clone(&stop).map_err(|_| NO_MEMORY)?;
     let started = thread::spawn(rt, move || {
         read_to_end();
-        theirs.store(true, Ordering::SeqCst);
+        theirs.stop();
     });
     match started {
         Ok(_reading) => Ok(stop),
-        Err(_) => Err(io::Error::from(io::ErrorKind::OutOfMemory)),
+        Err(_) => Err(NO_MEMORY),
     }
 }
 
-/// The same, where it is wanted.
+/// Starts such a thread where it is wanted.
 fn stop_if<R: Threads>(
     rt: &R,
     alloc: Global,
     ends_with_input: bool,
-) -> io::Result<Option<Arc<AtomicBool, Global>>> {
+) -> Result<Option<Arc<Stop, Global>>, NotServed> {
     if !ends_with_input {
         return Ok(None);
     }
     Ok(Some(stop_at_end(rt, alloc)?))
 }
 
-/// Says why viewers aren't served, and gives the status. It is the same where this can't be written.
-fn not_served<W: Write>(writer: &mut W, why: &[u8], status: u8) -> u8 {
-    let _ = writer.write_all(why);
-    let _ = writer.flush();
-    status
+/// Serves viewers by two threads each.
+fn serve_with_threads<
+    W: Write,
+    R: Runtime + Threads + Wait + Net<Listener = TcpListener, Stream = TcpStream> + Sync,
+>(
+    rt: &R,
+    alloc: Global,
+    port: u16,
+    options: &ServeOptions,
+    besides: Besides<'_>,
+    writer: &mut W,
+) -> io::Result<u8> {
+    let listener = TcpListener::bind(rt, (Ipv4Addr::LOCALHOST, port))?;
+    let stop = match stop_if(rt, alloc, besides.ends_with_input) {
+        Ok(stop) => stop,
+        Err(why) => return Ok(not_served(writer, why)),
+    };
+    say_where(rt, options, listener.local_addr());
+    let besides = ByThreads {
+        forever: besides.forever,
+        stop: stop.as_deref(),
+    };
+    Ok(serve_by_threads(rt, alloc, &listener, options, &besides, writer))
 }
 
-fn serve_by_one<W: Write, R: Runtime + Threads + Net + Files<File = File>>(
+/// Serves them by one thread for all.
+fn serve_with_one<W: Write, R: Runtime + Threads + Net + Files<File = File>>(
     rt: &R,
     alloc: Global,
     port: u16,
@@ -165,11 +204,12 @@ fn serve_by_one<W: Write, R: Runtime + Threads + Net + Files<File = File>>(
 ) -> io::Result<u8> {
     let address = SocketAddr::from((Ipv4Addr::LOCALHOST, port));
     let listener = mio::net::TcpListener::bind(rt, address)?;
-    let Ok(stop) = stop_if(rt, alloc, besides.ends_with_input) else {
-        return Ok(not_served(writer, b"out of memory\n", 3));
+    let stop = match stop_if(rt, alloc, besides.ends_with_input) {
+        Ok(stop) => stop,
+        Err(why) => return Ok(not_served(writer, why)),
     };
     let Ok(record) = record_in(rt, options, besides.record) else {
-        return Ok(not_served(writer, b"cannot record\n", 5));
+        return Ok(not_served(writer, NO_RECORD));
     };
     say_where(rt, options, listener.local_addr());
     let besides = OneThread {
@@ -187,19 +227,12 @@ enum Way {
     OneThread,
 }
 
-/// In which file one thread records the session, whether it takes viewers without end, and whether it ends with standard input.
+/// In which file one thread records the session, whether viewers are taken without end, and whether the server ends with standard input.
 #[derive(Clone, Copy)]
 struct Besides<'a> {
     record: Option<&'a str>,
     forever: bool,
     ends_with_input: bool,
-}
-
-/// How `serve` works for its viewers.
-#[derive(Clone, Copy)]
-enum Serving<'a> {
-    ByThreads,
-    ByOne(Besides<'a>),
 }
 
 fn serve<
@@ -209,13 +242,20 @@ fn serve<
         + Wait
         + Net<Listener = TcpListener, Stream = TcpStream>
         + Sync,
->(rt: &R, alloc: Global, way: Serving<'_>, port: u16, options: &ServeOptions) -> ExitCode {
+>(
+    rt: &R,
+    alloc: Global,
+    way: Way,
+    port: u16,
+    options: &ServeOptions,
+    besides: Besides<'_>,
+) -> ExitCode {
     let Ok(mut writer) = BufWriter::new(alloc, io::writer(rt)) else {
         return out_of_memory(rt);
     };
     let served = match way {
-        Serving::ByThreads => serve_by_threads(rt, alloc, port, options, &mut writer),
-        Serving::ByOne(besides) => serve_by_one(rt, alloc, port, options, besides, &mut writer),
+        Way::Threads => serve_with_threads(rt, alloc, port, options, besides, &mut writer),
+        Way::OneThread => serve_with_one(rt, alloc, port, options, besides, &mut writer),
     };
     // After a write fault nothing more is written: what the buffer holds is let go.
     let _ = writer.into_parts();
@@ -270,8 +310,20 @@ fn main(rt: HostRuntime) -> ExitCode {
     let alloc = rt.alloc();
     match line_of(alloc, &words) {
         Ok(Chosen::Play) => play(&rt),
-        Ok(Chosen::Serve { port, options }) => {
-            serve(&rt, alloc, Serving::ByThreads, port, &options)
+        Ok(
+            Chosen::Serve {
+                port,
+                options,
+                forever,
+                ends_with_input,
+            },
+        ) => {
+            let besides = Besides {
+                record: None,
+                forever,
+                ends_with_input,
+            };
+            serve(&rt, alloc, Way::Threads, port, &options, besides)
         }
         Ok(
             Chosen::ServeInOneThread {
@@ -287,7 +339,7 @@ fn main(rt: HostRuntime) -> ExitCode {
                 forever,
                 ends_with_input,
             };
-            serve(&rt, alloc, Serving::ByOne(besides), port, &options)
+            serve(&rt, alloc, Way::OneThread, port, &options, besides)
         }
         Ok(Chosen::Own { viewers }) => own(&rt, alloc, Way::Threads, viewers),
         Ok(Chosen::OwnInOneThread { viewers }) => own(&rt, alloc, Way::OneThread, viewers),

@@ -3,7 +3,7 @@
 use std::alloc::AllocError;
 use std::test::Fail;
 
-/// Whether a call was refused memory, as each crate names it.
+/// Returns whether `answer` says that memory was refused, as each crate names it.
 fn is_refused(answer: &Result<(), AllocError>) -> [bool; 11] {
     [
         matches!(answer, Err(region::OutOfMemory)),

@@ -41,7 +41,7 @@ fn a_screen_behind_a_lock(rt: HostRuntime) -> Result<(), Fail> {
     Ok(())
 }
 
-/// Whether a run of no viewer is judged: a receipt of one is one too many.
+/// Returns whether a run of no viewer is judged: a receipt of one is one too many.
 fn is_judged(alloc: Global) -> Result<bool, ScreenError> {
     let config = Config {
         width: 2,

@@ -283,7 +283,7 @@ const RUN: Run = Run {
     ],
 };
 
-static RUNS: [Run; 12] = [
+static RUNS: [Run; 13] = [
     RUN,
     // one takes 7 bytes at a time, in each second write; one takes 60 bytes and no more; one says a byte at a time
     Run {
@@ -454,6 +454,33 @@ static RUNS: [Run; 12] = [
             Step::Admits(TALK),
             Step::Turns(3),
             Step::HaveLeft(&[End { colour: 11, ..END }], false),
+        ],
+        ..RUN
+    },
+    // the second piece asks for what changes
+    Run {
+        name: "who asks for what changes pulls nothing",
+        history: History::NotKept,
+        steps: &[
+            Step::Paints(10),
+            Step::Admits(Talk {
+                says: ASKS_AGAIN,
+                piece: 24,
+                then: Then::Waits,
+                ..TALK
+            }),
+            Step::Turns(1),
+            Step::Pulls,
+            Step::Turns(2),
+            Step::Closes(0),
+            Step::HaveLeft(
+                &[End {
+                    ended: Ended::Closed,
+                    pieces: 2,
+                    ..END
+                }],
+                false,
+            ),
         ],
         ..RUN
     },

@@ -31,8 +31,8 @@ pub enum Parting {
     Left,
 }
 
-/// Counts what it is told. The first button of a pointer paints the screen in 00000b, and so does a request of all of it, where that
-/// is wished.
+/// Counts what it is told, and keeps the number of the viewer that came last. The first button of a pointer paints the screen in
+/// 00000b, and so does a request of all of it, where that is wished.
 #[derive(Drop)]
 pub struct Counting {
     pub came: u64,
@@ -79,10 +79,10 @@ impl Application for Counting {
         Ok(())
     }
 
-    fn came(&mut self, _canvas: &mut Canvas, _viewer: u64) -> Result<(), ScreenError>
+    fn came(&mut self, _canvas: &mut Canvas, viewer: u64) -> Result<(), ScreenError>
         ensures draws { Draws _canvas.old _canvas.new }
     {
-        self.came = self.came.saturating_add(1);
+        self.came = viewer;
         Ok(())
     }
 

@@ -38,11 +38,35 @@ fn text_of_serve(
     )
 }
 
+// The name of a way of serving, until its viewers have left, without end, or until standard input ends.
+fn command_of(by_one: bool, forever: bool, ends_with_input: bool) -> &'static str {
+    match (by_one, forever, ends_with_input) {
+        (false, false, false) => "serve",
+        (false, true, false) => "serve without end",
+        (false, false, true) => "serve with input",
+        (false, true, true) => "serve without end with input",
+        (true, false, false) => "serve in one thread",
+        (true, true, false) => "serve in one thread without end",
+        (true, false, true) => "serve in one thread with input",
+        (true, true, true) => "serve in one thread without end with input",
+    }
+}
+
 // What is chosen, as a text.
 fn text_of(alloc: Global, chosen: &Chosen) -> Result<String, AllocError> {
     match chosen {
         Chosen::Play => String::from_str(alloc, "play"),
-        Chosen::Serve { port, options } => text_of_serve(alloc, "serve", *port, options),
+        Chosen::Serve {
+            port,
+            options,
+            forever,
+            ends_with_input,
+        } => text_of_serve(
+            alloc,
+            command_of(false, *forever, *ends_with_input),
+            *port,
+            options,
+        ),
         Chosen::ServeInOneThread {
             port,
             options,
@@ -50,12 +74,7 @@ fn text_of(alloc: Global, chosen: &Chosen) -> Result<String, AllocError> {
             forever,
             ends_with_input,
         } => {
-            let command = match (forever, ends_with_input) {
-                (false, false) => "serve in one thread",
-                (true, false) => "serve in one thread without end",
-                (false, true) => "serve in one thread with input",
-                (true, true) => "serve in one thread without end with input",
-            };
+            let command = command_of(true, *forever, *ends_with_input);
             let text = text_of_serve(alloc, command, *port, options)?;
             match record {
                 Some(file) => format!(in alloc; "{text}, recorded in {file}"),
@@ -135,7 +154,7 @@ const OTHER_COMMANDS: &[&str] = &[
 
 const VIEWERS_OF_SELF: &str = " how many viewers there are, 1 to 8 [default: 2]\n";
 
-static LINES: [(&str, Outcome); 46] = [
+static LINES: [(&str, Outcome); 48] = [
     ("vncdemo play", Is("play")),
     ("vncdemo", REFUSED),
     ("vncdemo --help", Has("refused: ", OTHER_COMMANDS)),
@@ -207,17 +226,19 @@ static LINES: [(&str, Outcome); 46] = [
         ),
     ),
     (
-        "vncdemo serve --end-with-input",
-        Has(
-            "refused: ",
-            &["a server ends with its input with '--one-thread' alone"],
-        ),
+        "vncdemo serve --end-with-input --check",
+        Is("serve with input 5900, 640 by 480, demo, 50, 1, check: true"),
     ),
     (
-        "vncdemo serve --forever",
+        "vncdemo serve --forever --end-with-input --viewers 64",
+        Is("serve without end with input 5900, 640 by 480, demo, 50, 64, check: false"),
+    ),
+    ("vncdemo serve --forever --viewers 65", REFUSED),
+    (
+        "vncdemo serve --forever --check",
         Has(
             "refused: ",
-            &["viewers are taken without end with '--one-thread' alone"],
+            &["what '--check' judges at the end, '--forever' doesn't come to"],
         ),
     ),
     (

@@ -55,7 +55,7 @@ fn region(alloc: Global, rects: &[Rect]) -> Result<Region, AllocError> {
     }
 }
 
-/// A call with a region.
+/// Makes a call with a region; does nothing for another.
 fn draw_region<W: Write + Drop>(
     recorder: &mut Recorder<W>,
     alloc: Global,
@@ -76,7 +76,7 @@ fn draw_region<W: Write + Drop>(
     Ok(())
 }
 
-/// A drawing call with no region.
+/// Makes a drawing call with no region; does nothing for another.
 fn draw<W: Write + Drop>(recorder: &mut Recorder<W>, call: Call<'_>) {
     match call {
         Call::Write(corners, colours) => {
@@ -101,7 +101,7 @@ fn draw<W: Write + Drop>(recorder: &mut Recorder<W>, call: Call<'_>) {
     }
 }
 
-/// Does a call.
+/// Makes `call`.
 pub fn make<W: Write + Drop>(
     recorder: &mut Recorder<W>,
     alloc: Global,
@@ -120,7 +120,7 @@ pub fn make<W: Write + Drop>(
     Ok(())
 }
 
-/// A screen of 4 by 3 with a name.
+/// Returns the configuration of a screen of 4 by 3 with this `name`.
 pub fn config(alloc: Global, name: &[u8]) -> Result<Config, AllocError> {
     Ok(Config {
         width: 4,

@@ -91,7 +91,7 @@ static LINES: [(Call<'static>, &[u8]); 35] = [
 /// The line of a screen named `d`.
 const FIRST: &[u8] = b"screen 4 3 d 50\n";
 
-/// Returns what is written of a screen with a name, and of a call where there is one.
+/// Returns what is written of a screen with this `name`, and of `call` if there is one.
 fn written(alloc: Global, name: &[u8], call: Option<Call<'_>>) -> Result<Vec<u8>, AllocError> {
     let config = config(alloc, name)?;
     let mut recorder = Recorder::new(alloc, Vec::new(alloc), &config)?;
@@ -133,7 +133,7 @@ fn each_name_is_in_its_line(rt: HostRuntime) -> Result<(), AllocError> {
     Ok(())
 }
 
-/// Returns so many copies of a word between two others.
+/// Returns 255 copies of `word` between `first` and `last`.
 fn copies(alloc: Global, first: &[u8], word: &[u8], last: &[u8]) -> Result<Vec<u8>, AllocError> {
     let mut text = Vec::from_slice(alloc, first)?;
     for _ in 0..255 {

@@ -10,7 +10,7 @@ use std::io::{ErrorKind, Write};
 /// What a write does.
 #[derive(Clone, Copy)]
 enum Step {
-    /// Takes at most so many bytes.
+    /// Takes at most this many bytes.
     Takes(usize),
     IsInterrupted,
     Fails,
@@ -65,7 +65,7 @@ static WRITERS: [(&[Step], &[u8], bool); 12] = [
     (&[Takes(9), Takes(9), Takes(9), Fails], b"onetwosix", false),
 ];
 
-/// Three words are put, and written one by one; then it is tried once more.
+/// Puts three words, and writes them one by one; then tries once more.
 fn put_words(scribe: &mut Scribe<Stepper>) {
     for word in [b"one", b"two", b"six"] {
         scribe.put(word);
@@ -89,7 +89,7 @@ fn nothing_comes_behind_a_gap(rt: HostRuntime) -> Result<(), AllocError> {
 /// How many bytes are put at a time: the buffer has 8,192.
 static LENGTHS: [usize; 12] = [1, 8191, 8192, 1, 8192, 8193, 4096, 4097, 0, 20_000, 8191, 2];
 
-/// Puts so many bytes at a time, and notes them.
+/// Puts as many of `bytes` at a time as each of `LENGTHS` says, and appends them to `noted`.
 fn put_lengths(
     scribe: &mut Scribe<Vec<u8>>,
     bytes: &[u8],
@@ -126,7 +126,7 @@ static CALLS: [Call<'static>; 3] = [
 
 const TEXT: &[u8] = b"screen 4 3 d 50\nmarks 0 0 4 1 1 2 2 3\ndocopies 0 0 4 1 1 2 2 3 1 1\nbell\n";
 
-/// Records the calls. Returns whether the record is a beginning of their text, and all of it where nothing is lost.
+/// Records the calls. Returns whether the record is a beginning of their text, and all of it if nothing is lost.
 fn is_beginning(alloc: Global) -> Result<bool, AllocError> {
     let config = config(alloc, b"d")?;
     let mut recorder = Recorder::new(alloc, Vec::new(alloc), &config)?;

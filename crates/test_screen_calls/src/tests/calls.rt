@@ -9,7 +9,7 @@ use std::alloc::{AllocError, Global};
 use std::process::Abort;
 use std::test::Fail;
 
-/// Whether these bytes were sent, or nothing where there are none.
+/// Returns whether `given` is these `bytes`, or nothing if there are none.
 fn is_given(given: &Option<Vec<u8>>, bytes: &[u8]) -> bool {
     match given {
         Some(given) => !bytes.is_empty() && given.as_slice() == bytes,
@@ -17,7 +17,7 @@ fn is_given(given: &Option<Vec<u8>>, bytes: &[u8]) -> bool {
     }
 }
 
-/// Viewer 1 is sent these bytes now, or nothing where there are none.
+/// Checks that viewer 1 is sent these `bytes` now, or nothing if there are none, and that `pending` says which.
 fn expect_sent(rt: &impl Abort, screen: &mut Screen, bytes: &[u8]) -> Result<(), ScreenError> {
     let pending = screen.pending(1)?;
     let given = sent(screen, 1)?;
@@ -26,12 +26,12 @@ fn expect_sent(rt: &impl Abort, screen: &mut Screen, bytes: &[u8]) -> Result<(),
     Ok(())
 }
 
-/// These bytes are those.
+/// Checks that the bytes `given` are those `wanted`.
 fn expect_bytes(rt: &impl Abort, given: &[u8], wanted: &[u8]) {
     assert_eq!(rt; given, wanted);
 }
 
-/// The whole of a screen of 1 by 4 with these colours, as an update.
+/// Returns the whole of a screen of 1 by 4 with these `colours`, as an update.
 fn column(colours: [u8; 4]) -> [u8; 32] {
     let [a, b, c, d] = colours;
     [
@@ -46,7 +46,8 @@ const COPIED_DOWN: &[u8] = &[0, 0, 0, 1, 0, 0, 0, 1, 0, 1, 0, 3, 0, 0, 0, 1, 0, 
 /// A copy by one of the calls on a screen of 1 by 4.
 type Copied = (Copying, Rect, (i32, i32));
 
-/// After a copy of the colours 1 to 4: what viewer 1 is sent of it, and the picture.
+/// Shows viewer 1 the colours 1 to 4, makes a copy, and checks that the viewer is sent the bytes `sent` of it, and that the picture
+/// has these `colours` then.
 fn expect_copied(
     rt: &impl Abort,
     alloc: Global,
@@ -88,7 +89,7 @@ static DOWN: [(Copying, Rect, [u8; 4]); 4] = [
     (Copying::ScheduleRegion, LOWER, [1, 2, 3, 4]),
 ];
 
-/// Each of them.
+/// Checks each copy of `DOWN`.
 fn expect_copied_down(
     rt: &impl Abort,
     alloc: Global,
@@ -104,7 +105,7 @@ fn expect_copied_down(
 /// By nothing, and to places whose sources are off the screen.
 static NOWHERE: [(i32, i32); 4] = [(0, 0), (0, 9), (0, i32::MIN), (i32::MAX, 1)];
 
-/// Copies by (0, 0), and from places that are off the screen, by one of the calls.
+/// Checks that the call `copying` moves and marks nothing by (0, 0), or from places that are off the screen.
 fn expect_unmoved_by(
     rt: &impl Abort,
     alloc: Global,
@@ -118,7 +119,7 @@ fn expect_unmoved_by(
     Ok(())
 }
 
-/// The same by each of them.
+/// Checks this for each of the calls that copy.
 fn expect_unmoved(rt: &impl Abort, alloc: Global, screen: &mut Screen) -> Result<(), ScreenError> {
     for copying in &COPYING {
         expect_unmoved_by(rt, alloc, screen, *copying)?;
@@ -149,20 +150,20 @@ const BLUE: &[u8] = &[
     0, 0, 0, 1, 0, 1, 0, 0, 0, 1, 0, 1, 0, 0, 0, 0, 0xff, 0, 0, 0,
 ];
 
-/// Marks a region of one rectangle.
+/// Marks the region of the rectangle `to`.
 fn mark_region(alloc: Global, screen: &mut Screen, to: Rect) -> Result<(), ScreenError> {
     let places = region(alloc, to)?;
     screen.mark_region(&places)
 }
 
-/// What is marked beyond the screen.
+/// Marks places beyond the screen.
 fn mark_beyond(alloc: Global, screen: &mut Screen) -> Result<(), ScreenError> {
     screen.mark_rect(2, 0, i32::MAX, i32::MAX)?;
     screen.mark_rect(0, i32::MIN, 2, 0)?;
     mark_region(alloc, screen, rect(-9, -9, 0, 9))
 }
 
-/// That is not sent; what is marked on the screen is, and what was written once it is marked.
+/// Checks that what is marked beyond the screen isn't sent, but what is marked on it is, and what was written once it is marked.
 fn expect_marked(rt: &impl Abort, alloc: Global, screen: &mut Screen) -> Result<(), ScreenError> {
     let all = request(true, 0, 0, 2, 2);
     show(screen, (2, 2), &[1, 2, 3, 4])?;
@@ -186,28 +187,28 @@ fn marks_by_each_call(rt: HostRuntime) -> Result<(), Fail> {
     Ok(())
 }
 
-/// An update of the place (1, 0) in the colour 2.
+/// Cuts an update of the place (1, 0) in the colour 2.
 fn cut_second(screen: &mut Screen) -> Result<Option<Update>, ScreenError> {
     show(screen, (2, 2), &[1, 2, 3, 4])?;
     say(screen, 1, &request(false, 1, 0, 1, 1))?;
     screen.cut(1)
 }
 
-/// All is painted anew, the screen has another size, and the viewer is closed.
+/// Paints all anew, gives the screen another size, and closes the viewer.
 fn draw_over(screen: &mut Screen) -> Result<(), ScreenError> {
     screen.paint(rect(0, 0, 2, 2), &[7; 4])?;
     screen.new_framebuffer(3, 1)?;
     screen.close(1)
 }
 
-/// That update, when all was drawn over.
+/// Cuts that update, then draws all over, and returns the update.
 fn cut_and_draw_over(screen: &mut Screen) -> Result<Option<Update>, ScreenError> {
     let update = cut_second(screen)?;
     draw_over(screen)?;
     Ok(update)
 }
 
-/// The same, when the screen is gone.
+/// Returns that update once the screen is gone.
 fn kept_update(alloc: Global) -> Result<Option<Update>, ScreenError> {
     let mut screen = new_screen(alloc, (2, 2))?;
     cut_and_draw_over(&mut screen)
@@ -220,7 +221,7 @@ fn an_update_keeps_the_colours_of_its_cut(rt: HostRuntime) -> Result<(), Fail> {
     Ok(())
 }
 
-/// An update of a whole screen of this blue in Raw (7.6.1, 7.7.1).
+/// Returns an update of a whole screen of this `blue` in Raw (7.6.1, 7.7.1).
 fn whole_update(alloc: Global, (w, h): (u16, u16), blue: u8) -> Result<Vec<u8>, AllocError> {
     let [w1, w0] = w.to_be_bytes();
     let [h1, h0] = h.to_be_bytes();
@@ -232,7 +233,7 @@ fn whole_update(alloc: Global, (w, h): (u16, u16), blue: u8) -> Result<Vec<u8>, 
     Ok(bytes)
 }
 
-/// An update of a whole screen that is drawn over once it is cut.
+/// Cuts an update of the whole screen in the colours `before`, then draws it over with `after`, and returns the update.
 fn cut_before(
     screen: &mut Screen,
     (w, h): (u16, u16),
@@ -246,7 +247,7 @@ fn cut_before(
     Ok(update)
 }
 
-/// The same on a new screen.
+/// Returns such an update of a new screen, which is gone then.
 fn drawn_over(
     alloc: Global,
     size: (u16, u16),
@@ -257,7 +258,7 @@ fn drawn_over(
     cut_before(&mut screen, size, before, after)
 }
 
-/// What an update gives, if there is one.
+/// Returns the bytes of an update, or none if there is no update.
 fn encoded(alloc: Global, update: Option<Update>) -> Result<Vec<u8>, ScreenError> {
     match update {
         Some(update) => Ok(update.encode()?),
@@ -265,7 +266,7 @@ fn encoded(alloc: Global, update: Option<Update>) -> Result<Vec<u8>, ScreenError
     }
 }
 
-/// What an update gives that was cut before the whole screen was drawn over with other colours.
+/// Returns the bytes of an update that was cut in the colours `before`, when the whole screen was drawn over with `after`.
 fn cut_and_drawn_with(
     alloc: Global,
     size: (u16, u16),
@@ -276,7 +277,7 @@ fn cut_and_drawn_with(
     encoded(alloc, update)
 }
 
-/// The same of the colour 1, and then the colour 2.
+/// Returns the bytes of an update that was cut in the colour 1, when the whole screen was drawn over with the colour 2.
 fn cut_and_drawn_over(alloc: Global, (w, h): (u16, u16)) -> Result<Vec<u8>, ScreenError> {
     let places = usize::from(w) * usize::from(h);
     let before = vec![in alloc; 1u32; places]?;
@@ -284,7 +285,7 @@ fn cut_and_drawn_over(alloc: Global, (w, h): (u16, u16)) -> Result<Vec<u8>, Scre
     cut_and_drawn_with(alloc, (w, h), &before, &after)
 }
 
-/// An update of a screen of this size keeps its colours.
+/// Checks that an update of a screen of this `size` keeps its colours.
 fn expect_colours(rt: &impl Abort, alloc: Global, size: (u16, u16)) -> Result<(), ScreenError> {
     let wanted = whole_update(alloc, size, 1)?;
     let sent = cut_and_drawn_over(alloc, size)?;

@@ -8,13 +8,13 @@ use std::alloc::Global;
 /// The calls that copy.
 #[derive(Clone, Copy)]
 pub enum Copying {
-    /// The copy is made, to the places of a rectangle.
+    /// Makes the copy, to the places of a rectangle.
     DoRect,
-    /// The same, to those of a region.
+    /// Makes the copy, to those of a region.
     DoRegion,
-    /// The viewers are told of it, and the picture stays.
+    /// Tells the viewers of the copy, to the places of a rectangle; the picture stays.
     ScheduleRect,
-    /// The same, to the places of a region.
+    /// Tells the viewers of the copy, to those of a region; the picture stays.
     ScheduleRegion,
 }
 
@@ -26,7 +26,8 @@ pub static COPYING: [Copying; 4] = [
     Copying::ScheduleRegion,
 ];
 
-/// A copy to a rectangle from the places `by` before it, by one of the calls. Refused as that call is, or as the region is.
+/// Makes a copy to the rectangle `to` from the places `by` before it, with the call `copying`. Refuses what that call refuses, and
+/// what makes no region.
 pub fn copy(
     alloc: Global,
     screen: &mut Screen,

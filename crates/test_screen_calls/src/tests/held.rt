@@ -4,14 +4,14 @@ use crate::tests::screens::{new_screen, rect, say};
 use screen::{Fault, Screen, ScreenError};
 use std::test::Fail;
 
-/// A place is painted, and viewer 5 sends what is no version.
+/// Paints a place, and sends what is no version as viewer 5.
 fn draw_and_fail(screen: &mut Screen) -> Result<(), ScreenError> {
     screen.paint(rect(2, 1, 3, 2), &[0xff8000])?;
     screen.connect(5)?;
     say(screen, 5, b"hello world\n")
 }
 
-/// Whether the screen holds that then.
+/// Returns whether the screen holds what those calls left.
 fn is_held(screen: &Screen) -> bool {
     (screen.width(), screen.height()) == (4, 3)
         && screen.viewer_count() == 1

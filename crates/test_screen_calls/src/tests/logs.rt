@@ -7,12 +7,12 @@ use std::alloc::Global;
 use std::process::Abort;
 use std::test::Fail;
 
-/// So many entries stand in the log.
+/// Checks that `count` entries stand in the log.
 fn expect_log(rt: &impl Abort, screen: &Screen, count: usize) {
     assert_eq!(rt; screen.log_len(), count);
 }
 
-/// Two viewers show a black screen of 4 by 3.
+/// Shows two viewers a black screen of 4 by 3.
 fn show_two(screen: &mut Screen) -> Result<(), ScreenError> {
     show(screen, (4, 3), &[0; 12])?;
     open(screen, 2)?;
@@ -21,8 +21,8 @@ fn show_two(screen: &mut Screen) -> Result<(), ScreenError> {
     Ok(())
 }
 
-/// Calls that mark no place: of nothing, off the screen, from beyond it, to where a place stands already; and colours that are only
-/// written.
+/// Makes calls that mark no place: of nothing, off the screen, from beyond it, to where a place stands already; and one that only
+/// writes colours.
 fn mark_nothing(alloc: Global, screen: &mut Screen) -> Result<(), ScreenError> {
     screen.paint(rect(1, 1, 1, 1), &[])?;
     screen.write_pixels(rect(0, 0, 1, 1), &[7])?;
@@ -34,7 +34,7 @@ fn mark_nothing(alloc: Global, screen: &mut Screen) -> Result<(), ScreenError> {
     screen.do_copy_region(&region(alloc, rect(3, 3, 3, 3))?, 1, 0)
 }
 
-/// Calls that mark a place, each of another kind: seven.
+/// Makes seven calls that mark a place, each of another kind.
 fn mark_some(alloc: Global, screen: &mut Screen) -> Result<(), ScreenError> {
     let (one, two) = (rect(1, 1, 2, 2), rect(2, 1, 4, 3));
     screen.paint(one, &[5])?;
@@ -46,7 +46,7 @@ fn mark_some(alloc: Global, screen: &mut Screen) -> Result<(), ScreenError> {
     screen.do_copy_region(&region(alloc, one)?, -1, 0)
 }
 
-/// Both viewers ask for what changed, and are sent it.
+/// Asks for what changed as each of both viewers, and cuts it.
 fn bring_up(screen: &mut Screen) -> Result<(), ScreenError> {
     for viewer in [1, 2] {
         say(screen, viewer, &request(true, 0, 0, 4, 3))?;
@@ -55,7 +55,8 @@ fn bring_up(screen: &mut Screen) -> Result<(), ScreenError> {
     Ok(())
 }
 
-/// Nothing stands where there are no viewers, nor where nothing is marked; else an entry a call, until all viewers have them.
+/// Checks that no entry stands while there are no viewers, nor for calls that mark nothing; else one stands for each call, until
+/// all viewers have them.
 fn expect_entries(rt: &impl Abort, alloc: Global, screen: &mut Screen) -> Result<(), ScreenError> {
     mark_some(alloc, screen)?;
     expect_log(rt, screen, 0);

@@ -4,7 +4,7 @@
 //!
 //! A function that owns a screen lends it to others: each place where it may end on its way would be one more to prove.
 
-/// What a call gives, at the second time where the first is refused.
+/// Makes a call, once more if the first time is refused, and gives what that gives.
 macro_rules! again {
     ($rt:expr, $call:expr) => {
         match $call {
@@ -15,6 +15,7 @@ macro_rules! again {
 }
 
 mod alike;
+mod closing;
 mod many;
 mod marks;
 mod named;
@@ -22,22 +23,22 @@ mod named;
 use screen::{Answer, Screen, Update};
 use std::process::Abort;
 
-/// A viewer sends bytes.
+/// Sends `piece` as `viewer`, and returns the answer.
 fn hear_again(rt: &impl Abort, screen: &mut Screen, viewer: u64, piece: &[u8]) -> Answer {
     again!(rt, screen.hear(viewer, piece))
 }
 
-/// What is cut for a viewer now.
+/// Cuts what there is for `viewer` now.
 fn cut_again(rt: &impl Abort, screen: &mut Screen, viewer: u64) -> Option<Update> {
     again!(rt, screen.cut(viewer))
 }
 
-/// The bytes of an update.
+/// Returns the bytes of `update`.
 fn encode_again(rt: &impl Abort, update: &Update) -> Vec<u8> {
     again!(rt, update.encode())
 }
 
-/// A viewer is sent an update of these bytes now.
+/// Checks that `viewer` is sent an update of the bytes `wanted` now.
 fn expect_sent(rt: &impl Abort, screen: &mut Screen, viewer: u64, wanted: &[u8]) {
     let update = cut_again(rt, screen, viewer).expect(rt, "an update");
     let bytes = encode_again(rt, &update);

@@ -51,19 +51,19 @@ pub fn request(incremental: bool, x: u16, y: u16, w: u16, h: u16) -> [u8; 10] {
     [3, u8::from(incremental), x1, x0, y1, y0, w1, w0, h1, h0]
 }
 
-/// Has a viewer send bytes, whatever it is answered.
+/// Sends bytes as `viewer`, whatever it is answered.
 pub fn say(screen: &mut Screen, viewer: u64, piece: &[u8]) -> Result<(), ScreenError> {
     screen.hear(viewer, piece)?;
     Ok(())
 }
 
-/// Has a viewer connect and open.
+/// Connects and opens as `viewer`.
 pub fn open(screen: &mut Screen, viewer: u64) -> Result<(), ScreenError> {
     screen.connect(viewer)?;
     say(screen, viewer, OPENING)
 }
 
-/// Paints the whole of a screen; viewer 1, which uses CopyRect, opens and is sent it.
+/// Paints the whole of a screen, opens viewer 1, which uses CopyRect, and sends it the screen.
 pub fn show(screen: &mut Screen, size: (u16, u16), colours: &[u32]) -> Result<(), ScreenError> {
     let (w, h) = size;
     screen.paint(rect(0, 0, i32::from(w), i32::from(h)), colours)?;

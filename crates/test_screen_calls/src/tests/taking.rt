@@ -9,7 +9,7 @@ use screen::{
 use std::alloc::{AllocError, Global};
 use std::test::Fail;
 
-/// Red, green and blue, each by its greatest value and its shift.
+/// Returns the format with these components: red, green and blue, each by its greatest value and its shift.
 const fn components(
     bytes: BytesPerPixel,
     big_endian: bool,
@@ -40,7 +40,8 @@ const BGR233: [(u16, u8); 3] = [(7, 0), (7, 3), (3, 6)];
 
 const RED_LOWEST: [(u16, u8); 3] = [(255, 0), (255, 8), (255, 16)];
 
-/// How many places change where one row of two pixels is taken in at the place (1, 1), and whether they then have these colours.
+/// Takes in one row of two pixels at the place (1, 1), and returns how many places change, or None if they don't have these
+/// `colours` then.
 fn takes(
     alloc: Global,
     bytes: &[u8],
@@ -59,8 +60,8 @@ fn takes(
 
 use BytesPerPixel::{Four, One, Three, Two};
 
-/// Two pixels by their format, the colours that they have, and how many of these are not black, as the screen is. 32 of 63 is 129.5
-/// of 255, and 1 of 3 is 85.
+/// Checks two pixels by their format, the colours that they have, and how many of these are not black, as the screen is. 32 of 63
+/// is 129.5 of 255, and 1 of 3 is 85.
 #[test]
 fn pixels_of_each_format(rt: HostRuntime) -> Result<(), Fail> {
     let table = SourceFormat::Table(&[0x12_3456, 0xff_ab_cdef]);
@@ -193,12 +194,12 @@ fn pixels_are_refused(rt: HostRuntime) -> Result<(), Fail> {
     Ok(())
 }
 
-/// How many columns and rows a screen has whose rows are taken 218 at a time.
+/// How many columns and rows a screen has whose rows are taken 54 at a time.
 const COLUMNS: u32 = 300;
 
 const ROWS: u32 = 500;
 
-/// The colours of pixels of that screen: those of 280 columns and 350 rows in its midst are not black.
+/// Returns the colour of the pixel (`x`, `y`) of that screen: those of 280 columns and 350 rows in its midst are not black.
 fn new_colour(x: u32, y: u32) -> u32 {
     if 10 <= x && x < 290 && 100 <= y && y < 450 {
         256 * x + y
@@ -207,7 +208,7 @@ fn new_colour(x: u32, y: u32) -> u32 {
     }
 }
 
-/// The pixels of that screen, of 32 bits.
+/// Returns the pixels of that screen, of 32 bits.
 fn large_pixels(alloc: Global) -> Result<Vec<u8>, AllocError> {
     let mut bytes = Vec::with_capacity(alloc, 600_000)?;
     for y in 0..ROWS {
@@ -218,7 +219,7 @@ fn large_pixels(alloc: Global) -> Result<Vec<u8>, AllocError> {
     Ok(bytes)
 }
 
-/// How many of them are not black.
+/// Counts those of them that are not black.
 fn count_new() -> usize {
     let mut places: usize = 0;
     for y in 0..ROWS {
@@ -231,7 +232,7 @@ fn count_new() -> usize {
     places
 }
 
-/// How many places of a screen have neither their new colour nor, where that may be, black.
+/// Counts the places of `screen` that have neither their new colour nor, if `may_be_black`, black.
 fn count_wrong(screen: &Screen, may_be_black: bool) -> usize {
     let mut wrong: usize = 0;
     for y in 0..ROWS {
@@ -263,7 +264,8 @@ fn a_large_picture_is_taken_in_parts(rt: HostRuntime) -> Result<(), Fail> {
     Ok(())
 }
 
-// The last of this test's allocations are those of taking: rt try --test --fail-alloc N refuses the Nth.
+/// Shows that a second call takes what is left where the first was refused memory. The last of this test's allocations are those of
+/// taking: `rt try --test --fail-alloc N` refuses the Nth.
 #[test]
 fn a_second_call_takes_the_rest(rt: HostRuntime) -> Result<(), Fail> {
     let mut screen = new_screen(rt.alloc(), (COLUMNS as u16, ROWS as u16))?;

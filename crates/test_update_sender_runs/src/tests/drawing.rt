@@ -27,13 +27,13 @@ pub const WHOLE: usize = 110;
 pub enum Picture {
     /// A screen of 4 by 3 that is black. One place of it, (1, 1), may get the colour 00000a.
     Black,
-    /// The same screen, all in that colour.
+    /// That screen, all in that colour.
     Coloured,
     /// A screen of 200 by 100 in the colours 0, 1, 2 and so on. Its update has more than 64 KB, and is encoded and written in parts.
     Long,
 }
 
-/// What a picture is. Its first place has a colour, and each further one, row by row, that of the one before and so much more.
+/// What a picture is. Its first place has the colour `first`, and each further one, row by row, that of the one before plus `step`.
 struct Look {
     width: u32,
     height: u32,
@@ -51,7 +51,7 @@ pub const HEAD: &[u8] =
     b"RFB 003.008\n\x01\x01\0\0\0\0\0\x04\0\x03\x20\x18\0\x01\0\xff\0\xff\0\xff\x10\x08\0\0\0\0\0\0\0\x04demo\
         \0\0\0\x01\0\0\0\0\0\x04\0\x03\0\0\0\0";
 
-/// The same of 200 by 100 places.
+/// What a viewer of 200 by 100 places is sent before the pixels.
 const LONG_HEAD: &[u8] =
     b"RFB 003.008\n\x01\x01\0\0\0\0\0\xc8\0\x64\x20\x18\0\x01\0\xff\0\xff\0\xff\x10\x08\0\0\0\0\0\0\0\x04long\
         \0\0\0\x01\0\0\0\0\0\xc8\0\x64\0\0\0\0";
@@ -86,7 +86,7 @@ static LONG: Look = Look {
     head: LONG_HEAD,
 };
 
-/// What it is.
+/// Returns what `picture` is.
 fn look_of(picture: Picture) -> &'static Look {
     match picture {
         Picture::Black => &BLACK,
@@ -95,7 +95,7 @@ fn look_of(picture: Picture) -> &'static Look {
     }
 }
 
-/// The screen that it is on.
+/// Returns the configuration of the screen that `picture` is on.
 pub fn config(alloc: Global, picture: Picture, history: History) -> Result<Config, AllocError> {
     let look = look_of(picture);
     Ok(Config {
@@ -107,7 +107,7 @@ pub fn config(alloc: Global, picture: Picture, history: History) -> Result<Confi
     })
 }
 
-/// Its colours.
+/// Returns the colours of `picture`, row by row.
 pub fn colours(alloc: Global, picture: Picture) -> Result<Vec<u32>, AllocError> {
     let look = look_of(picture);
     let mut colours = Vec::new(alloc);
@@ -117,7 +117,7 @@ pub fn colours(alloc: Global, picture: Picture) -> Result<Vec<u32>, AllocError> 
     Ok(colours)
 }
 
-/// What a viewer is sent of it: each pixel in the server's format, the lowest byte first.
+/// Returns what a viewer is sent of `picture`, and may be sent later: each pixel in the server's format, the lowest byte first.
 pub fn bytes(alloc: Global, picture: Picture) -> Result<Vec<u8>, AllocError> {
     let mut bytes = look_of(picture).head.to_vec(alloc)?;
     for colour in colours(alloc, picture)? {
@@ -127,7 +127,7 @@ pub fn bytes(alloc: Global, picture: Picture) -> Result<Vec<u8>, AllocError> {
     Ok(bytes)
 }
 
-/// What is drawn: so many places, an offset, and one colour for them all.
+/// What is drawn: a rectangle and how many places it has, an offset, and one colour for them all.
 #[derive(Clone, Copy)]
 struct Drawn {
     pub rect: Rect,
@@ -137,7 +137,7 @@ struct Drawn {
     pub colour: u32,
 }
 
-/// Draws by the call of this kind, of ten.
+/// Draws by the call `kind`, of ten.
 fn draw<L: Ledger, R: Wait>(
     rt: &R,
     alloc: Global,
@@ -173,7 +173,7 @@ fn draw<L: Ledger, R: Wait>(
     }
 }
 
-/// Each of the ten calls once, on the whole screen of 4 by 3, which is in the colour 00000a then.
+/// Makes each of the ten calls once, on the whole screen of 4 by 3, which is in the colour 00000a then.
 pub fn draw_each<L: Ledger, R: Wait>(
     rt: &R,
     alloc: Global,
@@ -204,8 +204,8 @@ const WITH_COPYRECT: &[u8] = b"\x02\0\0\x02\0\0\0\x01\0\0\0\0\x03\x01\0\0\0\0\0\
 
 const WITHOUT: &[u8] = b"\x02\0\0\x01\0\0\0\0\x03\x01\0\0\0\0\0\x04\0\x03";
 
-/// 300 calls; after each tenth the viewer asks, with CopyRect and without in turn. The kinds of call and what is drawn, the places
-/// from a column to the right border, in one row, come from a sequence of numbers: each is the one before times
+/// Makes 300 calls, and asks as the viewer after each tenth, with CopyRect and without in turn. The kinds of call and what is drawn,
+/// the places from a column to the right border, in one row, come from a sequence of numbers: each is the one before times
 /// 6364136223846793005 plus 1442695040888963407, of 64 bits, from 9 on; its highest bytes are used.
 pub fn draw_many<L: Ledger, R: Wait>(
     rt: &R,

@@ -30,13 +30,13 @@ pub enum Hold {
     Nobody,
     /// Viewer 1, until viewer 2's sender has ended.
     First(Point),
-    /// The same, and then it is refused.
+    /// Viewer 1 as long, and then the gate refuses it.
     Refused(Point),
     /// Each of two threads, until the other has come as far.
     Both(Point),
 }
 
-/// Holds senders, and notes what it is told of viewers 1 and 2.
+/// Holds senders, and notes what they report of viewers 1 and 2.
 #[derive(Drop)]
 pub struct Guard {
     pub hold: Hold,
@@ -46,7 +46,7 @@ pub struct Guard {
     pub met: AtomicU64,
 }
 
-/// Waits until a count is reached, for so many turns at most. Whether it is.
+/// Waits until `count` is at least `least`, for at most `turns` turns, and returns whether it is.
 pub fn waits(count: &AtomicU64, least: u64, turns: u64) -> bool {
     for _ in 0..turns {
         if count.load(Ordering::SeqCst) >= least {
@@ -71,7 +71,7 @@ impl Progress {
 }
 
 impl Guard {
-    /// Nothing has been done.
+    /// Returns a guard that has noted nothing yet.
     pub fn new(hold: Hold) -> Guard {
         Guard {
             hold,
@@ -81,12 +81,12 @@ impl Guard {
         }
     }
 
-    /// How far a viewer's sender is.
+    /// Returns how far the sender of `viewer` is.
     pub fn progress(&self, viewer: u64) -> &Progress {
         if viewer == 1 { &self.one } else { &self.two }
     }
 
-    /// Whether a viewer's sender goes on from a point, where it may be held.
+    /// Holds the sender of `viewer` if it is to be held at the point `at`, and returns whether it goes on.
     pub fn passes(&self, viewer: u64, at: Point) -> bool {
         match self.hold {
             Hold::First(point) if viewer == 1 && point as u8 == at as u8 => {

@@ -5,7 +5,8 @@ use super::gates::{Guard, Point};
 use std::io;
 use std::io::{Read, Write};
 
-/// Gives bytes, in a first piece of so many at most and then in pieces of so many; then it is at its end, or fails.
+/// Gives the bytes of `rest`, in a first piece of at most `first` bytes and then in pieces of at most `others`; then it is at its end,
+/// or fails.
 #[derive(Drop)]
 pub struct Source<'a> {
     pub rest: &'a [u8],
@@ -28,7 +29,7 @@ impl Read for Source<'_> {
     }
 }
 
-/// Takes so many bytes of a viewer in all, and then fails. The first write after the opening may be held.
+/// Takes `room` bytes of a viewer in all, and then fails. The first write after the opening may be held.
 #[derive(Drop)]
 pub struct Sink<'a> {
     pub written: Vec<u8>,

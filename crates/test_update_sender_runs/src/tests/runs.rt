@@ -39,7 +39,7 @@ enum Change {
 /// What a run is found to be.
 #[derive(Clone, Copy)]
 enum Verdict {
-    /// It has at least so many events, and at most so many; viewers from 1 on were sent so much.
+    /// The least and the greatest number of events that it may have, and what the viewers from 1 on were sent.
     Accepted(u64, u64, &'static [Sent]),
     Refused(FinishError),
     /// It is accepted, whatever it has, or memory is refused.
@@ -58,7 +58,7 @@ struct Run {
     verdict: Verdict,
 }
 
-/// Makes the change.
+/// Makes `change` in `receipts`.
 fn make_change(
     alloc: Global,
     receipts: &mut Vec<Receipt>,
@@ -103,7 +103,7 @@ fn make_change(
     Ok(())
 }
 
-/// Whether that is what was found.
+/// Returns whether `found` is what is `wanted`.
 fn is_found(found: &Result<Report, FinishError>, wanted: Verdict) -> bool {
     match (found, wanted) {
         (Ok(report), Verdict::Accepted(least, most, sent)) => {
@@ -122,7 +122,7 @@ fn is_found(found: &Result<Report, FinishError>, wanted: Verdict) -> bool {
     }
 }
 
-/// Makes the steps: the number, from 1 on, of the first one that does not hold, and 0 where all do.
+/// Makes the steps, and returns the number, from 1 on, of the first one that does not hold, or 0 if all do.
 fn first_wrong<L: Ledger, R: Wait>(
     rt: &R,
     alloc: Global,
@@ -140,7 +140,8 @@ fn first_wrong<L: Ledger, R: Wait>(
     0
 }
 
-/// Runs the viewers' threads, and puts their receipts behind the others, with the change. Whether all went as is said.
+/// Runs the viewers' threads, puts their receipts behind the others, with the change, and returns whether all went as `crew` says,
+/// which it need not for the verdict `Sound`.
 fn settle<L: Ledger + Send + Sync, R: Threads + Wait + Sync>(
     rt: &R,
     alloc: Global,
@@ -170,7 +171,7 @@ fn settle<L: Ledger + Send + Sync, R: Threads + Wait + Sync>(
     Ok(is_right || matches!(run.verdict, Verdict::Sound))
 }
 
-/// The same, with viewers that have not connected.
+/// Runs the crew of `run`, if it has one, as `settle` does, with viewers that have not connected.
 fn crew_works<L: Ledger + Send + Sync, R: Threads + Wait + Sync>(
     rt: &R,
     alloc: Global,
@@ -190,7 +191,8 @@ fn crew_works<L: Ledger + Send + Sync, R: Threads + Wait + Sync>(
     )
 }
 
-/// Makes the steps and runs the threads. The number of what is wrong: that behind the last step's stands for the threads.
+/// Makes the steps, runs the threads, and returns the number of what is wrong, or 0: the number behind the last step's stands for the
+/// threads.
 fn goes<L: Ledger + Send + Sync, R: Threads + Wait + Sync>(
     rt: &R,
     alloc: Global,
@@ -210,7 +212,8 @@ fn goes<L: Ledger + Send + Sync, R: Threads + Wait + Sync>(
     Ok(run.steps.unwrap_or_default().len().saturating_add(1))
 }
 
-/// The same, and what is found of the run: the next number stands for that.
+/// Makes a shared screen, does so with it, and judges the run. Returns the number of what is wrong, or 0: the next number stands for
+/// what is found of the run.
 fn run_of<L: Ledger + Send + Sync, R: Threads + Wait + Sync>(
     rt: &R,
     alloc: Global,
@@ -231,7 +234,7 @@ fn run_of<L: Ledger + Send + Sync, R: Threads + Wait + Sync>(
     }
 }
 
-/// What is wrong with a run, by its number, or nothing, 0.
+/// Returns the number of what is wrong with `run`, or 0 if nothing is.
 fn wrong_in<R: Threads + Wait + Sync>(
     rt: &R,
     alloc: Global,
@@ -251,8 +254,8 @@ fn runs_come_to_what_they_say(rt: HostRuntime) -> Result<(), Fail> {
     Ok(())
 }
 
-// The second writer takes fewer bytes than the version, or than the opening, or than all; and the second reader gives nothing, or
-// less than its version, or the opening without its last byte.
+/// Checks a second writer that takes fewer bytes than the version, or than the opening, or than all; and a second reader that gives
+/// nothing, or less than its version, or the opening without its last byte.
 #[test]
 fn a_writer_or_a_reader_fails_anywhere(rt: HostRuntime) -> Result<(), Fail> {
     for takes in 0..WHOLE {
@@ -287,7 +290,7 @@ fn a_writer_or_a_reader_fails_anywhere(rt: HostRuntime) -> Result<(), Fail> {
     Ok(())
 }
 
-// Written for a growth that is refused anywhere: the run has no screen then, or its receipts are still those of its history.
+/// Shows, for a growth that is refused anywhere, that the run has no screen then, or that its receipts are still those of its history.
 #[test]
 fn whichever_growth_is_refused_the_receipts_are_right(rt: HostRuntime) {
     let run = Run {
@@ -298,7 +301,7 @@ fn whichever_growth_is_refused_the_receipts_are_right(rt: HostRuntime) {
     assert!(rt; matches!(wrong, Ok(0) | Err(ScreenError::OutOfMemory)));
 }
 
-/// Whether drawing calls that were made are found to differ at a place from those of a history.
+/// Returns whether the drawing calls `drawn`, which were made, are found to differ from those of `history` at the place `at`.
 fn differ(alloc: Global, history: &[Event], drawn: &[Event], at: u64) -> Result<bool, AllocError> {
     let config = Config {
         width: 4,
@@ -311,7 +314,7 @@ fn differ(alloc: Global, history: &[Event], drawn: &[Event], at: u64) -> Result<
     Ok(is_found(&found, Verdict::Refused(FinishError::Drawing { at })))
 }
 
-// A call that did not happen is found, and one that is not told.
+/// Shows that `check` finds a call that did not happen, and one that is left out.
 #[test]
 fn drawing_calls_are_compared(rt: HostRuntime) -> Result<(), Fail> {
     let calls = [
@@ -375,7 +378,7 @@ const HELD: Run = Run {
     verdict: Verdict::Accepted(7, 7, SECOND_BROKE_OFF),
 };
 
-/// The same with another second viewer, and so many events.
+/// Returns that run with another second viewer; it has `events` events, and the viewers were sent what `found` says.
 fn second(
     given: &'static [u8],
     takes: usize,

@@ -19,17 +19,18 @@ use update_sender::{
 /// A viewer that is served in one thread, once all is stopped.
 #[derive(Clone, Copy)]
 pub struct Case {
-    /// What its reader gives, in a first piece of so many bytes at most and then in pieces of so many; then it is at its end, or fails.
+    /// What its reader gives, in a first piece of at most `first` bytes and then in pieces of at most `others`; then it is at its end,
+    /// or fails.
     pub given: &'static [u8],
     pub first: usize,
     pub others: usize,
     pub fails: bool,
     /// Whether it is closed as soon as it has connected.
     pub is_closed: bool,
-    /// It is sent so many bytes of these.
+    /// It is sent the first `sent` bytes of these.
     pub greeting: &'static [u8],
     pub sent: usize,
-    /// It is heard in so many pieces, so many bytes of what it was given, and why its opening or its reader ends.
+    /// It is heard in this many pieces, `heard` bytes of what it was given, and why its opening or its reader ends.
     pub pieces: u64,
     pub heard: usize,
     pub ended: Ended,
@@ -76,7 +77,7 @@ pub struct Seat {
     pub speaker: Option<Speaker>,
 }
 
-/// A viewer connects, and opens over memory. Whether it does.
+/// Connects a viewer by `number`, opens it over memory, and returns whether it is open.
 fn opens<L: Ledger, R: Wait>(
     rt: &R,
     alloc: Global,
@@ -95,11 +96,11 @@ fn opens<L: Ledger, R: Wait>(
             seat.speaker = Some(speaker);
             true
         }
-        Opened::Over(_) => false,
+        Opened::Over(..) => false,
     }
 }
 
-/// Whether what the viewer is sent next is this, or nothing any more.
+/// Returns whether the viewer is sent `wanted` next, or nothing any more if that is None.
 fn is_sent<L: Ledger, R: Wait>(
     rt: &R,
     shared: &Shared<L>,
@@ -119,7 +120,7 @@ fn is_sent<L: Ledger, R: Wait>(
     }
 }
 
-/// Whether the viewer's sender ends so, and has sent nothing.
+/// Serves the viewer's sender, and returns whether it ends as `ended` says and has sent nothing.
 fn ends<L: Ledger, R: Wait>(
     rt: &R,
     alloc: Global,
@@ -135,7 +136,7 @@ fn ends<L: Ledger, R: Wait>(
     half.ended == ended && written.is_empty()
 }
 
-/// Whether these are so many of a viewer's inputs, in order: a key, a pointer and a text.
+/// Returns whether `told` is the input at place `at` of a key, a pointer and a text of `viewer`, or nothing from the place `count` on.
 fn is_due(at: usize, told: &Option<Told>, viewer: u64, count: usize) -> bool {
     let Some(told) = told else {
         return at >= count;
@@ -168,7 +169,7 @@ fn is_due(at: usize, told: &Option<Told>, viewer: u64, count: usize) -> bool {
     is_right && at < count && told.viewer == viewer
 }
 
-/// Whether so many of them are taken, in order, and no other.
+/// Takes inputs, and returns whether they are the first `count` of those, in order, and no other.
 fn are_taken<R: Wait>(rt: &R, hub: &InputHub, taker: &mut Taker, viewer: u64, count: usize) -> bool
     requires { taker.old.queue ≡ hub.now.queue }
 {
@@ -182,7 +183,7 @@ fn are_taken<R: Wait>(rt: &R, hub: &InputHub, taker: &mut Taker, viewer: u64, co
         && fourth.is_none()
 }
 
-/// The receipt of a viewer that is open, whose reader and then its sender end as they should.
+/// Serves the reader and then the sender of a viewer that is open, and returns its receipt if they end as `case` says.
 fn receipt_of<L: Ledger, R: Wait>(
     rt: &R,
     alloc: Global,
@@ -209,7 +210,7 @@ fn receipt_of<L: Ledger, R: Wait>(
     Some(receipt(Some(read), None, write).0)
 }
 
-/// Whether a receipt is what the case says.
+/// Returns whether `receipt`, and what was `written`, are what `case` says.
 fn is_of(receipt: &Receipt, written: &[u8], case: &Case) -> bool {
     let sent = case.greeting.get(..case.sent);
     sent == Some(written)
@@ -219,7 +220,7 @@ fn is_of(receipt: &Receipt, written: &[u8], case: &Case) -> bool {
         && receipt.cuts == 0
 }
 
-/// Serves a viewer, of the next number. Whether that comes to what the case says; then its receipt is put behind the others.
+/// Serves a viewer, of the next number, and returns whether that comes to what `case` says; then its receipt is behind the others.
 fn serves<L: Ledger, R: Wait>(
     rt: &R,
     alloc: Global,
@@ -250,7 +251,7 @@ fn serves<L: Ledger, R: Wait>(
             &mut written,
             case,
         ),
-        Opened::Over(receipt) => (receipt.ended == case.ended).then_some(receipt),
+        Opened::Over(receipt, _) => (receipt.ended == case.ended).then_some(receipt),
     };
     match left {
         Some(receipt) => {
@@ -262,7 +263,7 @@ fn serves<L: Ledger, R: Wait>(
     }
 }
 
-/// Whether each case comes to what it says.
+/// Serves each case, and returns whether it comes to what it says.
 fn serve_each<L: Ledger, R: Wait>(
     rt: &R,
     alloc: Global,
@@ -277,7 +278,7 @@ fn serve_each<L: Ledger, R: Wait>(
     true
 }
 
-/// Whether a step comes to what it says.
+/// Makes `step`, and returns whether it comes to what it says.
 pub fn holds<L: Ledger, R: Wait>(
     rt: &R,
     alloc: Global,

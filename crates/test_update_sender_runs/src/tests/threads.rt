@@ -85,7 +85,7 @@ pub struct Viewer<'a> {
 }
 
 impl Viewer<'_> {
-    /// A viewer that has not connected, and whose writer takes so many bytes.
+    /// Makes a viewer that has not connected, and whose writer takes `room` bytes.
     pub fn new(alloc: Global, viewer: u64, room: usize, guard: &Guard) -> Viewer<'_> {
         Viewer {
             hearing: Hearing {
@@ -106,7 +106,7 @@ impl Viewer<'_> {
         }
     }
 
-    /// It connects, and goes through its opening.
+    /// Connects the viewer, and takes it through its opening.
     fn open<L: Ledger, R: Wait>(
         &mut self,
         rt: &R,
@@ -126,12 +126,12 @@ impl Viewer<'_> {
                 self.hearing.listener = Some(listener);
                 self.sending.speaker = Some(speaker);
             }
-            Opened::Over(receipt) => self.over = Some(receipt),
+            Opened::Over(receipt, _) => self.over = Some(receipt),
         }
         Ok(())
     }
 
-    /// Whether it is there no more: it is neither heard nor closed.
+    /// Returns whether the viewer is there no more: the screen neither hears nor closes it.
     fn is_gone<L: Ledger, R: Wait>(&mut self, rt: &R, shared: &Shared<L>) -> bool {
         let is_deaf = match &mut self.hearing.listener {
             Some(listener) => matches!(shared.hear(rt, listener, &[0]), Err(ScreenError::NoViewer)),
@@ -144,8 +144,8 @@ impl Viewer<'_> {
             )
     }
 
-    /// How many updates were cut for it, and why it was sent no more; None where what is kept as sent isn't what its writer took, or
-    /// isn't nothing where nothing is kept.
+    /// Returns how many updates were cut for the viewer, and why it was sent no more. Returns None if what is kept as sent isn't what
+    /// its writer took or, unless `is_kept`, isn't nothing.
     fn left(&self, is_kept: bool) -> Option<(u64, Ended)> {
         let written = self.sending.sink.written.as_slice();
         let (is_written, is_empty, cuts, ended) = match (&self.over, &self.sending.write) {
@@ -167,8 +167,8 @@ impl Viewer<'_> {
         is_right.then_some((cuts, ended))
     }
 
-    /// Whether its writer took what was due, which is kept where it is to be; its gate was told of each update that was written
-    /// whole, and once of the end; and unless it was stopped it is there no more.
+    /// Returns whether the viewer's writer took what was due of `bytes`, and that is kept if `is_kept`; whether its gate heard of each
+    /// update that was written whole, and once of the end; and whether the viewer is there no more, unless it was stopped.
     pub fn is_served<L: Ledger, R: Wait>(
         &mut self,
         rt: &R,
@@ -202,7 +202,7 @@ impl Viewer<'_> {
             && told.steps.load(Ordering::SeqCst) == updates.saturating_add(1)
     }
 
-    /// Its receipt.
+    /// Takes the viewer's receipt, if there is one.
     pub fn receipt(&mut self) -> Option<Receipt> {
         if self.over.is_some() {
             return self.over.take();
@@ -221,7 +221,7 @@ impl Viewer<'_> {
 }
 
 impl Sending<'_> {
-    /// The viewer's thread, until there is nothing more to come.
+    /// Serves the viewer in its thread, until there is nothing more to come.
     fn run<L: Ledger, R: Wait>(&mut self, rt: &R, shared: &Shared<L>) {
         let guard = self.sink.guard;
         match self.speaker.take() {
@@ -237,7 +237,7 @@ impl Sending<'_> {
 /// A request of what changes in the whole screen of 4 by 3 (RFC 6143, 7.5.3).
 const CHANGES: &[u8] = b"\x03\x01\0\0\0\0\0\x04\0\x03";
 
-/// Whether a viewer asks for what changes, if it is open.
+/// Asks for what changes, if the viewer is open, and returns whether that was not refused.
 fn asks<L: Ledger, R: Wait>(rt: &R, shared: &Shared<L>, hearing: &mut Hearing) -> bool {
     match &mut hearing.listener {
         Some(listener) => shared.hear(rt, listener, CHANGES).is_ok(),
@@ -245,7 +245,7 @@ fn asks<L: Ledger, R: Wait>(rt: &R, shared: &Shared<L>, hearing: &mut Hearing) -
     }
 }
 
-/// The viewers ask, and a place is painted while their senders wait. Whether each is sent that.
+/// Asks as both viewers, paints a place while their senders wait, and returns whether each is sent that.
 fn wakes<L: Ledger, R: Wait>(
     rt: &R,
     shared: &Shared<L>,
@@ -272,7 +272,8 @@ fn wakes<L: Ledger, R: Wait>(
         && waits(&guard.two.steps, senders, TURNS)
 }
 
-/// Viewer 1 is ended while its sender writes, where it is held there, or waits. Whether its reader ends as is said.
+/// Stops all or closes viewer 1, if `reading` says so, while its sender writes, if it is held there, or else waits. Then serves its
+/// reader, and returns whether that ends as `reading` says.
 fn reads<L: Ledger, R: Wait>(
     rt: &R,
     alloc: Global,
@@ -310,7 +311,7 @@ fn reads<L: Ledger, R: Wait>(
     waits(&guard.one.ended, 1, TURNS) && is_right
 }
 
-/// The third thread. Whether all went as is said.
+/// Does what the third thread does, and returns whether all went as `way` says.
 fn act<L: Ledger, R: Wait>(
     rt: &R,
     alloc: Global,
@@ -334,7 +335,7 @@ fn act<L: Ledger, R: Wait>(
     is_right
 }
 
-/// The viewers open, and the three threads run. Whether all went as is said, but for what the viewers were sent.
+/// Opens the viewers, runs the three threads, and returns whether all went as `crew` says, but for what the viewers were sent.
 pub fn work<L: Ledger + Send + Sync, R: Threads + Wait + Sync>(
     rt: &R,
     alloc: Global,

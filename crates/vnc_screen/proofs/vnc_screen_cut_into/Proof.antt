@@ -3,12 +3,12 @@ use Rattle.vnc_screen.proofs.Steps.{ℕ, List, [], ◌∷◌, ◌++◌, refl, vp
 use contract.Monad.{fact}
 use denote.Steps.{heard}
 use Rattle.vnc_screen.specs.Lying.{desk_row, update_row, holds, holds_update, holds_both}
-use Rattle.screen_desk.specs.Calls.{CutsInto}
+use Rattle.c_screen.specs.Calls.{CutsInto}
 use Rattle.vnc_screen.specs.contracts.vnc_screen_cut_into as f
 use Rattle.vnc_screen.proofs.vnc_screen_cut_into.Statement.{statement}
 use Rattle.vnc_screen.proofs.vnc_screen_cut_into.Code as code
-use Rattle.screen_desk.specs.contracts.desk.Desk.cut_into as g
-use Rattle.screen_desk.proofs.desk.Desk.cut_into.Met.{met}
+use Rattle.c_screen.specs.contracts.desk.Desk.cut_into as g
+use Rattle.c_screen.proofs.desk.Desk.cut_into.Met.{met}
 
 abbrev stayed : Stays f.ended.signature.params f.ended.kept
 stayed = (stay_dropped _ yes, (stay_dropped _ yes, (stay_dropped _ yes, tt)))
@@ -46,7 +46,7 @@ vnc_screen_cut_into_spec 𝓤 𝓛 𝓜 𝓡 wired =
     move ! (0 ∷ 6 ∷ []) $ fjoin ! $ move ! (6 ∷ 0 ∷ []) $ fjoin ! $ move ! (3 ∷ 0 ∷ []) $ fjoin ! $
     -- [what it is given; what the update's lender keeps; the token of β; what the desk's lender keeps; the token of α; the tokens]
     move ! (2 ∷ 5 ∷ []) $ join ! $ move ! (4 ∷ 0 ∷ []) $ join ! $ join ! $ nothing ! $ move ! (1 ∷ 0 ∷ []) $ use2 𝓛 (raw (G.pre z)) (id⊢ 𝓤 _) $
-    calls_at ! (framed 𝓤 𝓛.H 𝓜 (tables 𝓤 𝓛.H 𝓜 𝓡 𝓡.env)) G (met 𝓤 𝓛 𝓜 𝓡 (code.calls-screen_desk::desk::Desk::cut_into 𝓡.env wired)) z
+    calls_at ! (framed 𝓤 𝓛.H 𝓜 (tables 𝓤 𝓛.H 𝓜 𝓡 𝓡.env)) G (met 𝓤 𝓛 𝓜 𝓡 (code.calls-c_screen::desk::Desk::cut_into 𝓡.env wired)) z
     (and_then ! (get ! refl) (and_then ! (get ! refl) (and_then ! (get ! refl) (no_more !)))) (λ v.
     use1 𝓛 (later (some (λ (r : i32.Denot). ((‵ (flft κ full_share) ⊛ (‵ (flft ι full_share) ⊛ ‵ ftrue)) ⊛ ‵ (i32.own_val r (v ∷ []))) ⊛ some (λ (ws : Lasts g.ended z.0.0 z.0.3). ‵ (lasts g.ended z.0.0 z.0.3 ws) ⊛ raw (fact 𝓤 (CutsInto a.1.0 s.0 ws.0 s.1 ws.1.1.0 r)))))) (id⊢ 𝓤 _) $
     await ! tt $ pick ! (λ r. split ! $ split ! $ split ! $ lft_end ! tt $ move ! (1 ∷ []) $ split ! $ lft_end ! tt $

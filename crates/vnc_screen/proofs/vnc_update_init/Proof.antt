@@ -4,13 +4,13 @@ use contract.Monad.{fact}
 use denote.Steps.{heard}
 use borrow.Table.OneValue.{part_in}
 use base.Fml.{fex}
-use Rattle.screen_desk.proofs.update.DeskUpdate.TheLaws.{the_row_laws}
+use Rattle.c_screen.proofs.update.DeskUpdate.TheLaws.{the_row_laws}
 use Rattle.vnc_screen.specs.Lying.{update_row, holds_update}
 use Rattle.vnc_screen.specs.contracts.vnc_update_init as f
 use Rattle.vnc_screen.proofs.vnc_update_init.Statement.{statement}
 use Rattle.vnc_screen.proofs.vnc_update_init.Code as code
-use Rattle.screen_desk.specs.contracts.update.DeskUpdate.new as g
-use Rattle.screen_desk.proofs.update.DeskUpdate.new.Met.{met}
+use Rattle.c_screen.specs.contracts.update.DeskUpdate.new as g
+use Rattle.c_screen.proofs.update.DeskUpdate.new.Met.{met}
 
 abbrev stayed : Stays f.ended.signature.params f.ended.kept
 stayed = (stay_dropped _ yes, tt)
@@ -31,7 +31,7 @@ vnc_update_init_spec 𝓤 𝓛 𝓜 𝓡 wired =
     let G = triple_of 𝓛 g.signature (g.spec 𝓛 𝓜.mem 𝓡.returns) in
     let z : G.Ghost = ((tt, tt, tt, tt, tt), tt) in
     move ! (2 ∷ 1 ∷ []) $ join ! $ nothing ! $ move ! (1 ∷ 0 ∷ []) $ use2 𝓛 (raw (G.pre z)) (id⊢ 𝓤 _) $
-    calls_at ! (framed 𝓤 𝓛.H 𝓜 (tables 𝓤 𝓛.H 𝓜 𝓡 𝓡.env)) G (met 𝓤 𝓛 𝓜 𝓡 (code.calls-screen_desk::update::DeskUpdate::new 𝓡.env wired)) z (no_more !) (λ v.
+    calls_at ! (framed 𝓤 𝓛.H 𝓜 (tables 𝓤 𝓛.H 𝓜 𝓡 𝓡.env)) G (met 𝓤 𝓛 𝓜 𝓡 (code.calls-c_screen::update::DeskUpdate::new 𝓡.env wired)) z (no_more !) (λ v.
     use1 𝓛 (later (some (λ (r : update_row.Denot). (‵ ftrue ⊛ ‵ (update_row.own_val r (v ∷ []))) ⊛ some (λ (ws : Lasts g.ended tt tt). ‵ (lasts g.ended tt tt ws) ⊛ raw (fact 𝓤 (r ≡ [])))))) (id⊢ 𝓤 _) $
     await ! tt $ pick ! (λ r. split ! $ split ! $ drop ! $ move ! (1 ∷ []) $ pick ! (λ ws. split ! $ drop ! $ heard ! _ (λ made.
     -- [the update; the room]

@@ -6,14 +6,14 @@ use borrow.Table.OneValue.{part_in}
 use base.Fml.{fex}
 use Rattle.std.specs.contracts.alloc.Global as heap
 use Rattle.std.proofs.alloc.Global.TheLaws as heap_laws
-use Rattle.server_desk.specs.Desk.{nothing_there}
-use Rattle.server_desk.proofs.desk.ServerDesk.TheLaws.{the_row_laws}
+use Rattle.c_server.specs.Desk.{nothing_there}
+use Rattle.c_server.proofs.desk.ServerDesk.TheLaws.{the_row_laws}
 use Rattle.vnc_server.specs.Lying.{desk_row, holds, leaves}
 use Rattle.vnc_server.specs.contracts.vnc_server_init as f
 use Rattle.vnc_server.proofs.vnc_server_init.Statement.{statement}
 use Rattle.vnc_server.proofs.vnc_server_init.Code as code
-use Rattle.server_desk.specs.contracts.desk.ServerDesk.new as g
-use Rattle.server_desk.proofs.desk.ServerDesk.new.Met.{met}
+use Rattle.c_server.specs.contracts.desk.ServerDesk.new as g
+use Rattle.c_server.proofs.desk.ServerDesk.new.Met.{met}
 
 abbrev stayed : Stays f.ended.signature.params f.ended.kept
 stayed = (stay_dropped _ yes, (stay_dropped _ yes, tt))
@@ -34,7 +34,7 @@ vnc_server_init_spec 𝓤 𝓛 𝓜 𝓡 wired =
     let G = triple_of 𝓛 g.signature (g.spec 𝓛 𝓜.mem 𝓡.returns) in
     let z : G.Ghost = ((tt, tt, tt, (a.1.0, tt), (heap_laws.lowers.lowered a.1.0 ∷ [], tt)), tt) in
     move ! (2 ∷ 1 ∷ []) $ join ! $ nothing ! $ move ! (1 ∷ 0 ∷ []) $ use2 𝓛 (raw (G.pre z)) (id⊢ 𝓤 _) $
-    calls_at ! (framed 𝓤 𝓛.H 𝓜 (tables 𝓤 𝓛.H 𝓜 𝓡 𝓡.env)) G (met 𝓤 𝓛 𝓜 𝓡 (code.calls-server_desk::desk::ServerDesk::new 𝓡.env wired)) z (and_then ! (get ! refl) (no_more !)) (λ v.
+    calls_at ! (framed 𝓤 𝓛.H 𝓜 (tables 𝓤 𝓛.H 𝓜 𝓡 𝓡.env)) G (met 𝓤 𝓛 𝓜 𝓡 (code.calls-c_server::desk::ServerDesk::new 𝓡.env wired)) z (and_then ! (get ! refl) (no_more !)) (λ v.
     use1 𝓛 (later (some (λ (r : desk_row.Denot). (‵ ftrue ⊛ ‵ (desk_row.own_val r (v ∷ []))) ⊛ some (λ (ws : Lasts g.ended tt (a.1.0, tt)). ‵ (lasts g.ended tt (a.1.0, tt) ws) ⊛ raw (fact 𝓤 (r ≡ nothing_there)))))) (id⊢ 𝓤 _) $
     await ! tt $ pick ! (λ r. split ! $ split ! $ drop ! $ move ! (1 ∷ []) $ pick ! (λ ws. split ! $ drop ! $ heard ! _ (λ made.
     -- [the desk; the room]

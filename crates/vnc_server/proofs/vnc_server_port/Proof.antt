@@ -7,18 +7,18 @@ use Rattle.std.specs.Mem.{type_size}
 use Rattle.std.specs.Prelude.{◌≡◌, ◌∷◌, [], ◌^◌, pos, map, min, length, false, is_some, count_by}
 use Rattle.screen.specs.Reading.{is_open_rest}
 use Rattle.screen.specs.declared.Event.{Event}
-use Rattle.screen_desk.specs.Codes as codes
-use Rattle.screen_desk.specs.Calls.{colour_at, of_viewer}
-use Rattle.screen_desk.specs.Desk.{rect_of, config_of}
-use Rattle.server_desk.specs.Desk.{nothing_there, rects_per_update}
-use Rattle.server_desk.specs.Calls.{Listens, NamesRecord, record_state, TakesTurn, Draws, DrawsRegion, FetchesInputs, FetchesVisits, ShowsNumbers, ShowsText, ShowsSettings, Tells, TellsAddress, TellsSome, LetsGo, TakesPixels, Wakes}
-use Rattle.screen_desk.specs.Pixels.{format_of, source_from}
+use Rattle.c_screen.specs.Codes as codes
+use Rattle.c_screen.specs.Calls.{colour_at, of_viewer}
+use Rattle.c_screen.specs.Desk.{rect_of, config_of}
+use Rattle.c_server.specs.Desk.{nothing_there, rects_per_update}
+use Rattle.c_server.specs.Calls.{Listens, NamesRecord, record_state, TakesTurn, Draws, DrawsRegion, FetchesInputs, FetchesVisits, ShowsNumbers, ShowsText, ShowsSettings, Tells, TellsAddress, TellsSome, TellsWait, LetsGo, TakesPixels, Wakes}
+use Rattle.c_screen.specs.Pixels.{format_of, source_from}
 use Rattle.source_pixels.specs.declared.formats.SourceFormat.TheVariants as format
 use Rattle.vnc_server.specs.contracts.vnc_server_port as f
 use Rattle.vnc_server.proofs.vnc_server_port.Statement.{statement}
 use Rattle.vnc_server.proofs.vnc_server_port.Code as code
-use Rattle.server_desk.specs.contracts.desk.ServerDesk.port as g
-use Rattle.server_desk.proofs.desk.ServerDesk.port.Met.{met}
+use Rattle.c_server.specs.contracts.desk.ServerDesk.port as g
+use Rattle.c_server.proofs.desk.ServerDesk.port.Met.{met}
 
 abbrev stayed : Stays f.ended.signature.params f.ended.kept
 stayed = (stay_dropped _ yes, tt)
@@ -44,7 +44,7 @@ vnc_server_port_spec 𝓤 𝓛 𝓜 𝓡 wired =
     let G = triple_of 𝓛 g.signature (g.spec 𝓛 𝓜.mem 𝓡.returns) in
     let z : G.Ghost = (((κ, κs), (full_share, qs), tt, (record { ref_ptr = (b, o); ghost_name = γ; now = s }, a.1), (vptr b o ∷ [], (y a.0).0.4.1)), tt) in
     move ! (0 ∷ 3 ∷ []) $ fjoin ! $ move ! (2 ∷ 3 ∷ 0 ∷ []) $ join ! $ join ! $ nothing ! $ move ! (1 ∷ 0 ∷ []) $ use2 𝓛 (raw (G.pre z)) (id⊢ 𝓤 _) $
-    calls_at ! (framed 𝓤 𝓛.H 𝓜 (tables 𝓤 𝓛.H 𝓜 𝓡 𝓡.env)) G (met 𝓤 𝓛 𝓜 𝓡 (code.calls-server_desk::desk::ServerDesk::port 𝓡.env wired)) z
+    calls_at ! (framed 𝓤 𝓛.H 𝓜 (tables 𝓤 𝓛.H 𝓜 𝓡 𝓡.env)) G (met 𝓤 𝓛 𝓜 𝓡 (code.calls-c_server::desk::ServerDesk::port 𝓡.env wired)) z
     (and_then ! (get ! refl) (no_more !)) (λ v.
     use1 𝓛 (later (some (λ (r : i32.Denot). ((‵ (flft κ full_share) ⊛ (‵ ftrue)) ⊛ ‵ (i32.own_val r (v ∷ []))) ⊛ some (λ (ws : Lasts g.ended z.0.0 z.0.3). ‵ (lasts g.ended z.0.0 z.0.3 ws) ⊛ raw (fact 𝓤 (Tells (λ _. pos s.port) s ws.0 r)))))) (id⊢ 𝓤 _) $
     await ! tt $ pick ! (λ r. split ! $ split ! $ split ! $ lft_end ! tt $

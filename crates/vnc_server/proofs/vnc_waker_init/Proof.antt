@@ -4,13 +4,13 @@ use Rattle.vnc_server.proofs.Steps.{◌≡◌, ℕ, List, [], ◌∷◌, ◌++�
 use contract.Monad.{fact}
 use denote.Steps.{heard}
 use borrow.Table.OneValue.{part_in}
-use Rattle.server_desk.proofs.waker.ServerWaker.TheLaws.{the_row_laws}
+use Rattle.c_server.proofs.waker.ServerWaker.TheLaws.{the_row_laws}
 use Rattle.vnc_server.specs.Lying.{desk_row, waker_row, holds, holds_waker, leaves_beside_waker}
 use Rattle.vnc_server.specs.contracts.vnc_waker_init as f
 use Rattle.vnc_server.proofs.vnc_waker_init.Statement.{statement}
 use Rattle.vnc_server.proofs.vnc_waker_init.Code as code
-use Rattle.server_desk.specs.contracts.desk.ServerDesk.waker as g
-use Rattle.server_desk.proofs.desk.ServerDesk.waker.Met.{met}
+use Rattle.c_server.specs.contracts.desk.ServerDesk.waker as g
+use Rattle.c_server.proofs.desk.ServerDesk.waker.Met.{met}
 
 abbrev stayed : Stays f.ended.signature.params f.ended.kept
 stayed = (stay_dropped _ yes, (stay_dropped _ yes, tt))
@@ -40,7 +40,7 @@ vnc_waker_init_spec 𝓤 𝓛 𝓜 𝓡 wired =
     let G = triple_of 𝓛 g.signature (g.spec 𝓛 𝓜.mem 𝓡.returns) in
     let z : G.Ghost = (((κ, tt), (full_share, tt), tt, (record { ref_ptr = (b, o); ghost_name = γ; now = s }, tt), (vptr b o ∷ [], tt)), tt) in
     move ! (0 ∷ 3 ∷ []) $ fjoin ! $ move ! (2 ∷ 3 ∷ 0 ∷ []) $ join ! $ join ! $ nothing ! $ move ! (1 ∷ 0 ∷ []) $ use2 𝓛 (raw (G.pre z)) (id⊢ 𝓤 _) $
-    calls_at ! (framed 𝓤 𝓛.H 𝓜 (tables 𝓤 𝓛.H 𝓜 𝓡 𝓡.env)) G (met 𝓤 𝓛 𝓜 𝓡 (code.calls-server_desk::desk::ServerDesk::waker 𝓡.env wired)) z
+    calls_at ! (framed 𝓤 𝓛.H 𝓜 (tables 𝓤 𝓛.H 𝓜 𝓡 𝓡.env)) G (met 𝓤 𝓛 𝓜 𝓡 (code.calls-c_server::desk::ServerDesk::waker 𝓡.env wired)) z
     (and_then ! (get ! refl) (no_more !)) (λ v.
     use1 𝓛 (later (some (λ (r : waker_row.Denot). ((‵ (flft κ full_share) ⊛ (‵ ftrue)) ⊛ ‵ (waker_row.own_val r (v ∷ []))) ⊛ some (λ (ws : Lasts g.ended z.0.0 z.0.3). ‵ (lasts g.ended z.0.0 z.0.3 ws) ⊛ raw (fact 𝓤 (ws.0 ≡ s)))))) (id⊢ 𝓤 _) $
     await ! tt $ pick ! (λ r. split ! $ split ! $ split ! $ lft_end ! tt $

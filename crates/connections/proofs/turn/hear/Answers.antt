@@ -1,4 +1,4 @@
-use Rattle.std.proofs.Common.{◌≡◌, Ok, Some, refl, sym, ap, ◌∙◌, subst, ◌++◌, false}
+use Rattle.std.proofs.Common.{◌≡◌, Ok, Some, refl, ap, ◌∙◌, subst, ◌++◌, false}
 use Rattle.screen.specs.declared.ScreenError.{ScreenError}
 use Rattle.receipts.specs.declared.Ended.TheVariants.{Memory}
 use Rattle.connections.specs.Attending.{Known}
@@ -6,15 +6,30 @@ use Rattle.connections.specs.Drawing.{Surface}
 use Rattle.connections.specs.Waiting.{Waiting, waiting_bytes}
 use Rattle.connections.specs.Telling.{said_by, held_behind, IsTold}
 use Rattle.connections.specs.Serving.{ViewerConnection, breaks_off}
-use Rattle.connections.proofs.Recorded.{heard-more}
-use Rattle.connections.proofs.Turns.{turn-unheard, turn-heard, counted-same}
+use Rattle.screen.specs.Answers.{answer_to}
+use Rattle.screen.specs.declared.Event.TheVariants.{Hear}
+use Rattle.connections.specs.Counting.{with_piece}
+use Rattle.connections.proofs.Recorded.{heard-more, heard-happens}
+use Rattle.connections.proofs.Turns.{turn-unheard, turn-heard, ended-memory, ended-fault}
 use Rattle.connections.proofs.turn.hear.Goals as goal
 
-pub returns-then-is_err-clause-heard : goal.returns-then-is_err-clause-heard
-returns-then-is_err-clause-heard g c = turn-unheard {X = Unit {0}} {E = ScreenError} g.A.Application.stands _ (Ok tt) _ _ _ _ _ refl (c.end.ensures ∙ ap (λ (e : ViewerConnection). record e { ended = Some Memory }) c.make_room.ensures)
-
 pub returns-in_default-clause-heard : goal.returns-in_default-clause-heard
-returns-in_default-clause-heard g c = turn-unheard {X = Unit {0}} {E = ScreenError} g.A.Application.stands _ (Ok tt) _ _ _ _ _ c.in_default.ensures.err (c.end-in_default.ensures ∙ ap (λ (e : ViewerConnection). record e { ended = Some Memory }) c.make_room.ensures)
+returns-in_default-clause-heard g c = turn-unheard {X = Unit {0}} {E = ScreenError} g.A.Application.stands _ (Ok tt) _ _ _ _ c.make_room.new.self.room _ refl (c.end.ensures ∙ ap (λ (e : ViewerConnection). record e { ended = Some Memory }) c.make_room.ensures.same)
+
+pub returns-in_default-clause-fault : goal.returns-in_default-clause-fault
+returns-in_default-clause-fault g c = λ config list h. ended-memory _ _ (ap (λ (x : ViewerConnection). x.ended) c.end.ensures)
+
+pub returns-in_default-hear-clause-heard : goal.returns-in_default-hear-clause-heard
+returns-in_default-hear-clause-heard g c =
+    turn-unheard {X = Unit {0}} {E = ScreenError} g.A.Application.stands _ (Ok tt) _ _ _ _ c.make_room.new.self.room _ c.in_default-hear.ensures.err (c.end-in_default-hear.ensures ∙ ap (λ (e : ViewerConnection). record e { ended = Some Memory }) c.make_room.ensures.same)
+
+pub returns-in_default-hear-clause-fault : goal.returns-in_default-hear-clause-fault
+returns-in_default-hear-clause-fault g c = λ config list h. ended-memory _ _ (ap (λ (x : ViewerConnection). x.ended) c.end-in_default-hear.ensures)
+
+pub returns-clause-fault : goal.returns-clause-fault
+returns-clause-fault g c = λ config list h.
+    ended-fault _ _ c.count_piece.new.self.ended c.give.new.self.ended
+    (c.in-Ok-hear.ensures.closed config list h ∙ ap (λ n. (answer_to config list (Hear n c.args.piece.now)).closed) c.number-viewer.ensures) c.give.ensures.ended
 
 pub returns-clause-heard : goal.returns-clause-heard
 returns-clause-heard g c =
@@ -24,11 +39,13 @@ returns-clause-heard g c =
     let f = c.give.new.self in
     let bytes = c.as_slice.result.now in
     let inputs = c.as_slice-inputs.result.now in
-    let still : p ≡ record m { held = p.held; known = p.known } = c.count_piece.ensures.same ∙ ap (λ (k : Known). record m { held = p.held; known = k }) (sym (ap (λ (x : ViewerConnection). x.known) c.count_piece.ensures.same)) in
-    let counted : p ≡ record e { held = p.held; known = p.known } = subst (λ (x : ViewerConnection). p ≡ record x { held = p.held; known = p.known }) c.make_room.ensures still in
     let known = ap (λ (x : ViewerConnection). x.known) c.give.ensures.same ∙ ap (λ (x : ViewerConnection). x.known) c.count_piece.ensures.same in
-    let holds : f.held ≡ held_behind e.held inputs = ap (λ (x : ViewerConnection). x.held) c.give.ensures.same ∙ c.count_piece.ensures.held ∙ ap (λ (x : ViewerConnection). held_behind x.held inputs) c.make_room.ensures in
-    let waiting : p.waiting ≡ e.waiting = ap (λ (x : ViewerConnection). x.waiting) counted in
+    let holds : f.held ≡ held_behind e.held inputs = ap (λ (x : ViewerConnection). x.held) c.give.ensures.same ∙ c.count_piece.ensures.held ∙ ap (λ (x : ViewerConnection). held_behind x.held inputs) c.make_room.ensures.same in
+    let waiting : p.waiting ≡ e.waiting = ap (λ (x : ViewerConnection). x.waiting) c.count_piece.ensures.same ∙ ap (λ (x : ViewerConnection). x.waiting) c.make_room.ensures.same in
+    let number : f.number ≡ e.number = ap (λ (x : ViewerConnection). x.number) c.give.ensures.same ∙ ap (λ (x : ViewerConnection). x.number) c.count_piece.ensures.same ∙ ap (λ (x : ViewerConnection). x.number) c.make_room.ensures.same in
+    let carried : f.carried ≡ e.carried = ap (λ (x : ViewerConnection). x.carried) c.give.ensures.same ∙ ap (λ (x : ViewerConnection). x.carried) c.count_piece.ensures.same ∙ ap (λ (x : ViewerConnection). x.carried) c.make_room.ensures.same in
+    let counts : f.counts ≡ with_piece c.args.piece.now e.counts =
+    ap (λ (x : ViewerConnection). x.counts) c.give.ensures.same ∙ ap (λ (x : ViewerConnection). x.counts) c.count_piece.ensures.same ∙ ap (λ (x : ViewerConnection). with_piece c.args.piece.now x.counts) c.make_room.ensures.same in
     let a = c.args.canvas.now in
     let b = c.hear.new.self in
     let d = c.record_heard.new.self in
@@ -36,9 +53,10 @@ returns-clause-heard g c =
     turn-heard g.A.Application.stands c.args.application.now c.tell.new.application c.tell.result inputs a d c.tell.new.canvas e f c.number-viewer.result c.args.piece.now bytes c.number-viewer.ensures
     (ap (λ (x : Surface). x.drawn) c.record_heard.ensures.same ∙ ap (λ (x : Surface). x.drawn) c.hear.ensures.same)
     (ap (λ (x : Surface). x.noticed) c.record_heard.ensures.same ∙ ap (λ (x : Surface). x.noticed) c.hear.ensures.same) (ap (λ (k : Known). k.may_cut) known) (ap (λ (k : Known). k.may_ask) known)
-    (λ config list h. screen ∙ c.in-Ok.ensures.step config list h)
-    (λ config list h. heard-more config list _ _ _ a b d (c.in-Ok.ensures.told config list h) (ap (λ (x : Surface). x.scribed) c.hear.ensures.same) c.record_heard.ensures.puts)
-    (λ config list h. c.as_slice.ensures ∙ c.in-Ok.ensures.answer config list h) (λ config list h. c.as_slice-inputs.ensures ∙ c.in-Ok.ensures.inputs config list h)
-    (counted-same e p f counted c.give.ensures.same)
+    (λ config list h. screen ∙ c.in-Ok-hear.ensures.step config list h)
+    (λ config list h. heard-more config list _ _ _ a b d (c.in-Ok-hear.ensures.told config list h) (ap (λ (x : Surface). x.scribed) c.hear.ensures.same) c.record_heard.ensures.puts)
+    (λ config list h. heard-happens config list _ _ _ (c.in-Ok-hear.ensures.told config list h))
+    (λ config list h. c.as_slice.ensures ∙ c.in-Ok-hear.ensures.answer config list h) (λ config list h. c.as_slice-inputs.ensures ∙ c.in-Ok-hear.ensures.inputs config list h)
+    number carried counts
     (subst (λ (w : Waiting). breaks_off f.ended ≡ false → waiting_bytes f.waiting ≡ waiting_bytes w ++ bytes) waiting c.give.ensures.bytes) c.give.ensures.few holds c.tell.ensures.draws
     (subst (λ n. IsTold g.A.Application.stands (said_by n inputs) c.args.application.now c.tell.new.application c.tell.result) refl c.tell.ensures.told)

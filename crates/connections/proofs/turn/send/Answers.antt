@@ -13,6 +13,7 @@ loop-writes-preserved g c =
     record {
       turn = turn-then _ _ _ _ _ _ (turn-then _ _ _ _ _ _ c.loop-writes.invariant.turn c.prepare.ensures.turn)
           (turn-written c.prepare.new.canvas c.prepare.new.canvas e c.write.new.self known w.0 w.1 refl (c.prepare.ensures.whole (search rules)) c.write.ensures.same refl refl w.2 w.3 w.4 c.write.ensures.few);
+      drawn = c.prepare.ensures.drawn ∙ c.loop-writes.invariant.drawn;
       asks = λ ask. c.loop-writes.invariant.asks (c.prepare.ensures.asks (sym (ap (λ (x : ViewerConnection). x.known.may_ask) c.write.ensures.same) ∙ ask));
       bound = one-write c.loop-writes._writes _ c.args.connection.now.carried c.loop-writes.connection.carried c.prepare.new.connection.carried c.write.new.self.carried c.loop-writes.invariant.bound c.prepare.ensures.carried c.write.ensures.bound (omega (arith));
     }

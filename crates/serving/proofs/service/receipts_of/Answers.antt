@@ -2,7 +2,7 @@ use Rattle.std.proofs.Common.{◌≡◌, ◌∙◌, map, map-id, rules}
 use Rattle.std.proofs.lemmas.Iterator.Consumers.{YieldsList-end}
 use Rattle.std.proofs.lemmas.Iterator.Adapters.{YieldsList-from_vec}
 use Rattle.serving.specs.Services.{viewer_of}
-use Rattle.serving.proofs.SeatLemmas.{numbered}
+use Rattle.serving.proofs.Services.{numbered}
 use Rattle.serving.proofs.service.receipts_of.Goals as goal
 
 pub returns : goal.returns

@@ -10,7 +10,7 @@ use std::alloc::Global;
 use std::process::Abort;
 use std::test::Fail;
 
-/// Whether an answer is these bytes, and has nothing else.
+/// Returns whether `answer` is these `bytes`, and has nothing else.
 fn is_answer(answer: &Answer, bytes: &[u8]) -> bool {
     answer.bytes.as_slice() == bytes
         && answer.closed.is_none()
@@ -18,7 +18,7 @@ fn is_answer(answer: &Answer, bytes: &[u8]) -> bool {
         && answer.inputs.is_empty()
 }
 
-/// The answer to the event with a number is as its row says.
+/// Checks that `answer` is as the row with this `number` says.
 fn expect_answer(rt: &impl Abort, rows: &[Row], number: usize, answer: &Answer) {
     let is_wanted = match rows.get(number) {
         Some((_, bytes)) => is_answer(answer, bytes),
@@ -27,7 +27,7 @@ fn expect_answer(rt: &impl Abort, rows: &[Row], number: usize, answer: &Answer) 
     assert!(rt; is_wanted, "event {number}");
 }
 
-/// What an event is answered, at the second time where the first is refused for want of memory.
+/// Applies `event`, once more if memory is refused at the first time, and returns the answer.
 fn answer_at_last(rt: &impl Abort, screen: &mut Screen, event: &Event) -> Answer {
     match screen.apply(event) {
         Ok(answer) => answer,
@@ -35,7 +35,7 @@ fn answer_at_last(rt: &impl Abort, screen: &mut Screen, event: &Event) -> Answer
     }
 }
 
-/// Each of these events is answered as a list says, at the second time at the latest.
+/// Checks that each of `events` is answered as its row says, at the second time at the latest.
 fn expect_answers(rt: &impl Abort, screen: &mut Screen, events: &[Event], rows: &[Row]) {
     for (number, event) in events.iter().enumerate() {
         let answer = answer_at_last(rt, screen, event);
@@ -43,7 +43,8 @@ fn expect_answers(rt: &impl Abort, screen: &mut Screen, events: &[Event], rows: 
     }
 }
 
-/// Each event is answered as wanted, and kept. Where memory is refused before the first, nothing is asked.
+/// Checks that each event of `rows` is answered as wanted, and kept, on a screen of this `size`. If memory is refused before the
+/// first, nothing is checked.
 fn expect_answers_at_last(
     rt: &impl Abort,
     alloc: Global,
@@ -85,7 +86,7 @@ static NO_RECTANGLES: [Call; 4] = [
     Paint([2, 0, 1, 1], &[]),
 ];
 
-/// Each of them is refused.
+/// Checks that each of `NO_RECTANGLES` is refused.
 fn expect_refused(rt: &impl Abort, alloc: Global, screen: &mut Screen) -> Result<(), ScreenError> {
     for call in &NO_RECTANGLES {
         let answer = screen.apply(&event(alloc, *call)?)?;

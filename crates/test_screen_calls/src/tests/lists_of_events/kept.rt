@@ -9,7 +9,7 @@ use std::alloc::Global;
 use std::process::Abort;
 use std::test::Fail;
 
-/// Whether these rectangles have those corners.
+/// Returns whether `rects` have these `corners`, in order.
 fn are_of(rects: &[Rect], corners: &[[i32; 4]]) -> bool {
     for (number, rect) in rects.iter().enumerate() {
         match corners.get(number) {
@@ -20,7 +20,7 @@ fn are_of(rects: &[Rect], corners: &[[i32; 4]]) -> bool {
     rects.len() == corners.len()
 }
 
-/// Whether a kept event is that of a drawing call, with all that it holds.
+/// Returns whether the kept `event` is that of the drawing call `call`, with all that it holds.
 fn is_drawing(event: &Event, call: Call) -> bool {
     match (event, call) {
         (Event::Write { rect, colours }, Write(corners, given)) => {
@@ -40,7 +40,7 @@ fn is_drawing(event: &Event, call: Call) -> bool {
     }
 }
 
-/// The same of another call.
+/// Returns whether the kept `event` is that of `call`, if that is none of those drawing calls, with all that it holds.
 fn is_of_a_viewer(event: &Event, call: Call) -> bool {
     match (event, call) {
         (Event::Bell, Call::Bell) => true,
@@ -58,12 +58,12 @@ fn is_of_a_viewer(event: &Event, call: Call) -> bool {
     }
 }
 
-/// Whether a kept event is that of a call.
+/// Returns whether the kept `event` is that of `call`.
 fn is_of(event: &Event, call: Call) -> bool {
     is_drawing(event, call) || is_of_a_viewer(event, call)
 }
 
-/// The event with a number is that of a call.
+/// Checks that the event with this `number` is that of `call`.
 fn expect_event(rt: &impl Abort, kept: &[Event], number: usize, call: Call) {
     let is_kept = match kept.get(number) {
         Some(event) => is_of(event, call),
@@ -72,7 +72,7 @@ fn expect_event(rt: &impl Abort, kept: &[Event], number: usize, call: Call) {
     assert!(rt; is_kept, "event {number}");
 }
 
-/// The screen keeps the events of these calls, in order, and no others: a cut that gave nothing is not among them.
+/// Checks that the screen keeps the events of the calls in `rows`, in order, and no others, not even a cut that gave nothing.
 pub(crate) fn expect_kept(rt: &impl Abort, screen: &Screen, rows: &[Row]) {
     let kept = screen.history().expect(rt, "the events are kept");
     let mut number: usize = 0;
@@ -85,7 +85,7 @@ pub(crate) fn expect_kept(rt: &impl Abort, screen: &Screen, rows: &[Row]) {
     assert!(rt; number == kept.len(), "{number} events");
 }
 
-/// Each drawing call for a rectangle or a region.
+/// Makes each call that marks or copies, for a rectangle and for the region `places`.
 fn draw_in(screen: &mut Screen, places: &Region) -> Result<(), ScreenError> {
     screen.mark_rect(3, 2, 1, 0)?;
     screen.mark_region(places)?;
@@ -95,7 +95,7 @@ fn draw_in(screen: &mut Screen, places: &Region) -> Result<(), ScreenError> {
     screen.do_copy_region(places, -1, 0)
 }
 
-/// Calls that are refused or give nothing, of a viewer that comes and goes.
+/// Makes a call that is refused, and a cut that gives nothing, of a viewer that comes and goes.
 fn come_and_go(screen: &mut Screen) -> Result<(), ScreenError> {
     let refused = screen.paint(rect_of([0, 0, 1, 1]), &[]);
     let _ = refused.is_err();
@@ -104,7 +104,7 @@ fn come_and_go(screen: &mut Screen) -> Result<(), ScreenError> {
     screen.close(1)
 }
 
-/// Each drawing call for a rectangle or a region, and calls that are refused or give nothing.
+/// Makes each call that marks or copies, for a rectangle and for a region, and calls that are refused or give nothing.
 fn draw(alloc: Global, screen: &mut Screen) -> Result<(), ScreenError> {
     let places = region(alloc, rect_of([0, 0, 2, 1]))?;
     draw_in(screen, &places)?;

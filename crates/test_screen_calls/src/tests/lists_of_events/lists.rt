@@ -197,7 +197,7 @@ fn listed<T: Copy>(alloc: Global, items: &[T]) -> Result<Listed<T>, AllocError> 
     Listed::from_slice(alloc, items)
 }
 
-/// A rectangle by its corners.
+/// Returns the rectangle with these corners.
 pub(crate) fn rect_of([x1, y1, x2, y2]: [i32; 4]) -> Rect {
     rect(x1, y1, x2, y2)
 }
@@ -210,7 +210,7 @@ fn rects(alloc: Global, corners: &[[i32; 4]]) -> Result<Listed<Rect>, AllocError
     Ok(Listed::from_vec(rects))
 }
 
-/// The event of a call.
+/// Makes the event of `call`.
 pub(crate) fn event(alloc: Global, call: Call) -> Result<Event, AllocError> {
     Ok(match call {
         Write(corners, colours) => Event::Write {
@@ -249,7 +249,7 @@ pub(crate) fn event(alloc: Global, call: Call) -> Result<Event, AllocError> {
     })
 }
 
-/// The events of a list.
+/// Makes the events of the calls in `rows`.
 pub(crate) fn events(alloc: Global, rows: &[Row]) -> Result<Vec<Event>, AllocError> {
     let mut events = Vec::with_capacity(alloc, rows.len())?;
     for (call, _) in rows {

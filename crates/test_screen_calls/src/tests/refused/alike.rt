@@ -14,7 +14,7 @@ static BLACK: [u8; 24] = [
     0, 0, 0, 1, 0, 0, 0, 0, 0, 8, 0, 8, 0, 0, 0, 2, 0, 0, 0, 0, 0, 0, 0, 0,
 ];
 
-/// The same with its first place in another colour.
+/// That screen with its first place in another colour.
 static PAINTED: [u8; 36] = [
     0, 0, 0, 1, 0, 0, 0, 0, 0, 8, 0, 8, 0, 0, 0, 2, 0, 0, 0, 1, 0, 0, 0, 0, 10, 0, 0, 0, 0, 0, 0,
     0, 0, 1, 0, 1,
@@ -29,13 +29,13 @@ static TALL: [u8; 39] = [
     0, 0, 0, 0, 0, 0, 0, 0,
 ];
 
-/// The same with its first place in another colour.
+/// That screen with its first place in another colour.
 static TALL_PAINTED: [u8; 46] = [
     0, 0, 0, 1, 0, 0, 0, 0, 0, 4, 1, 44, 0, 0, 0, 5, 14, 0, 0, 0, 0, 10, 0, 0, 0, 1, 0, 0, 0, 0, 0,
     0, 0, 0, 0, 0, 0, 0, 0, 0, 0, 0, 0, 0, 0, 0,
 ];
 
-/// A screen that shares encodings, with three viewers of one encoding.
+/// Makes a screen of this `size` that shares encodings, with three viewers of one `encoding`.
 fn prepared(alloc: Global, size: (u16, u16), encoding: &[u8]) -> Result<Screen, ScreenError> {
     let mut screen = new_screen(alloc, size)?;
     screen.share_encodings(true);
@@ -46,7 +46,7 @@ fn prepared(alloc: Global, size: (u16, u16), encoding: &[u8]) -> Result<Screen, 
     Ok(screen)
 }
 
-/// All of what the viewer is likely to be sent as others are is encoded.
+/// Encodes all of what `viewer` is likely to be sent as others are.
 fn encode_ahead(screen: &mut Screen, viewer: u64) {
     for _ in 0..100 {
         if screen.encode_ahead(viewer).is_none() {
@@ -55,7 +55,7 @@ fn encode_ahead(screen: &mut Screen, viewer: u64) {
     }
 }
 
-/// Each viewer asks for all of the screen, and is sent these bytes.
+/// Asks for all of the screen as each viewer, and checks that each is sent the bytes `wanted`.
 fn expect_all_sent(rt: &impl Abort, screen: &mut Screen, wanted: &[u8]) {
     for viewer in 1..4 {
         hear_again(rt, screen, viewer, &request(false, 0, 0, 8, 8));
@@ -73,14 +73,15 @@ fn viewers_that_are_alike_whichever_allocation_is_refused(rt: HostRuntime) {
     }
 }
 
-/// Each asks for all of the tall screen.
+/// Asks for all of the tall screen as each viewer.
 fn all_ask(rt: &impl Abort, screen: &mut Screen) {
     for viewer in 1..4 {
         hear_again(rt, screen, viewer, &request(false, 0, 0, 4, 300));
     }
 }
 
-/// A viewer is sent these bytes. Then another is likely to be sent what others are, and has more to wait for after 16 rows of tiles.
+/// Checks that viewer 1 is sent the bytes `wanted`, and that viewer 2, which is likely to be sent what others are, has more to wait
+/// for after 16 rows of tiles. Returns what `encode_ahead` answered.
 fn expect_waiting(rt: &impl Abort, screen: &mut Screen, wanted: &[u8]) -> Option<u64> {
     all_ask(rt, screen);
     expect_sent(rt, screen, 1, wanted);

@@ -11,7 +11,7 @@ use std::test::Fail;
 /// How many viewers connect.
 const VIEWERS: u64 = 200;
 
-/// So many viewers connect and open.
+/// Connects and opens all viewers.
 fn open_all(screen: &mut Screen) -> Result<(), ScreenError> {
     for viewer in 0..VIEWERS {
         open(screen, viewer)?;
@@ -19,21 +19,21 @@ fn open_all(screen: &mut Screen) -> Result<(), ScreenError> {
     Ok(())
 }
 
-/// Each call that draws by a region once, with one of the first row.
+/// Makes each call that draws by a region once, with `top`, one of the first row.
 fn draw_with(screen: &mut Screen, top: &Region) -> Result<(), ScreenError> {
     screen.mark_region(top)?;
     screen.schedule_copy_region(top, 1, 0)?;
     screen.do_copy_region(top, 1, 0)
 }
 
-/// All viewers open and each of those calls is made; then the last viewer asks for everything.
+/// Opens all viewers, makes each of those calls, and then asks for everything as the last viewer.
 fn draw_for_all(screen: &mut Screen, top: &Region) -> Result<(), ScreenError> {
     open_all(screen)?;
     draw_with(screen, top)?;
     say(screen, 199, &request(false, 0, 0, 4, 3))
 }
 
-/// All viewers are there, and the last one has an update waiting.
+/// Checks that all viewers are there then, and that the last one has an update waiting.
 fn expect_drawn(rt: &impl Abort, alloc: Global, screen: &mut Screen) -> Result<(), ScreenError> {
     let top = region(alloc, rect(0, 0, 4, 1))?;
     draw_for_all(screen, &top)?;

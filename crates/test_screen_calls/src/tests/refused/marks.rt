@@ -12,7 +12,7 @@ const FIVE_BLACK: &[u8] = &[
     0, 0, 0, 0,
 ];
 
-/// Two viewers are sent a screen of 9 by 1, which is black.
+/// Shows two viewers a screen of 9 by 1, which is black.
 fn show_black(screen: &mut Screen) -> Result<(), ScreenError> {
     show(screen, (9, 1), &[0; 9])?;
     open(screen, 2)?;
@@ -21,38 +21,38 @@ fn show_black(screen: &mut Screen) -> Result<(), ScreenError> {
     Ok(())
 }
 
-/// That screen with both viewers.
+/// Makes that screen with both viewers.
 fn two_that_show_black(alloc: Global) -> Result<Screen, ScreenError> {
     let mut screen = new_screen(alloc, (9, 1))?;
     show_black(&mut screen)?;
     Ok(screen)
 }
 
-/// Each of the first five places is marked, one after the other.
+/// Marks each of the first five places, one after the other.
 fn mark_five(rt: &impl Abort, screen: &mut Screen) {
     for column in 0..5i32 {
         again!(rt, screen.mark_rect(column, 0, column + 1, 1));
     }
 }
 
-/// That is done sixty times.
+/// Marks them sixty times.
 fn mark_often(rt: &impl Abort, screen: &mut Screen) {
     for _ in 0..60u8 {
         mark_five(rt, screen);
     }
 }
 
-/// The viewer asks for what changed.
+/// Asks for what changed as `viewer`.
 fn ask_nine(rt: &impl Abort, screen: &mut Screen, viewer: u64) {
     hear_again(rt, screen, viewer, &request(true, 0, 0, 9, 1));
 }
 
-/// So many entries stand in the log.
+/// Checks that `count` entries stand in the log.
 fn expect_log(rt: &impl Abort, screen: &Screen, count: usize) {
     assert_eq!(rt; screen.log_len(), count);
 }
 
-/// The first viewer asks once all is marked, and then the second.
+/// Checks what the viewers are sent if the first asks once all is marked, and then the second.
 fn expect_marks(rt: &impl Abort, screen: &mut Screen) {
     mark_often(rt, screen);
     expect_log(rt, screen, 44);
@@ -71,7 +71,7 @@ fn many_marks_whichever_allocation_is_refused(rt: HostRuntime) {
     }
 }
 
-/// The first viewer has asked before the marks come.
+/// Checks what they are sent if the first has asked before the marks come.
 fn expect_marks_once_asked(rt: &impl Abort, screen: &mut Screen) {
     ask_nine(rt, screen, 1);
     mark_often(rt, screen);

@@ -10,27 +10,27 @@ use std::process::Abort;
 /// What the server says first.
 const VERSION: &[u8] = b"RFB 003.008\n";
 
-/// A second viewer connects.
+/// Connects a second viewer, and checks that it is sent the version.
 fn connect_again(rt: &impl Abort, screen: &mut Screen) {
     let version = again!(rt, screen.connect(2));
     assert!(rt; version.as_slice() == VERSION, "{version:?}");
 }
 
-/// It opens.
+/// Opens it, and checks that it is sent 34 bytes.
 fn open_again(rt: &impl Abort, screen: &mut Screen) {
     let opened = hear_again(rt, screen, 2, OPENING);
     let count = opened.bytes.len();
     assert!(rt; count == 34, "{count} bytes");
 }
 
-/// A place is written and marked, and a text is sent.
+/// Writes a place, marks `zone`, and sends a text.
 fn draw_again(rt: &impl Abort, screen: &mut Screen, zone: &Region) {
     again!(rt, screen.write_pixels(rect(0, 0, 1, 1), &[10]));
     again!(rt, screen.mark_region(zone));
     again!(rt, screen.cut_text(b"hi"));
 }
 
-/// A copy by each of the calls.
+/// Makes a copy with each of the calls.
 fn copy_again(rt: &impl Abort, screen: &mut Screen, zone: &Region) {
     again!(rt, screen.do_copy_rect(2, 0, 4, 1, 1, 0));
     again!(rt, screen.schedule_copy_rect(5, 0, 6, 1, 1, 0));
@@ -45,7 +45,7 @@ static COPIES: [u8; 62] = [
     0,
 ];
 
-/// The first viewer is sent that, and then nothing.
+/// Checks that the first viewer is sent that, and then nothing.
 fn expect_copies(rt: &impl Abort, screen: &mut Screen) {
     hear_again(rt, screen, 1, &request(true, 0, 0, 6, 1));
     expect_sent(rt, screen, 1, &COPIES);
@@ -57,21 +57,21 @@ static BLACK: [u8; 24] = [
     0, 0, 0, 1, 0, 0, 0, 0, 0, 2, 0, 1, 0, 0, 0, 0, 0, 0, 0, 0, 0, 0, 0, 0,
 ];
 
-/// The screen is smaller, and the first viewer is sent what it sees of it.
+/// Makes the screen smaller, and checks that the first viewer is sent what it sees of it.
 fn resize_again(rt: &impl Abort, screen: &mut Screen) {
     again!(rt, screen.new_framebuffer(2, 1));
     hear_again(rt, screen, 1, &request(true, 0, 0, 6, 1));
     expect_sent(rt, screen, 1, &BLACK);
 }
 
-/// The screen with viewer 1, that was sent all of it.
+/// Makes the screen, and sends viewer 1 all of it.
 fn prepared(alloc: Global) -> Result<Screen, ScreenError> {
     let mut screen = new_screen(alloc, (6, 1))?;
     show(&mut screen, (6, 1), &[1, 2, 3, 4, 5, 6])?;
     Ok(screen)
 }
 
-/// Each of these calls, with a region of the screen's first place.
+/// Checks each of these calls, with `zone`, the region of the screen's first place.
 fn expect_named_calls(rt: &impl Abort, alloc: Global, zone: &Region) {
     if let Ok(mut screen) = prepared(alloc) {
         connect_again(rt, &mut screen);

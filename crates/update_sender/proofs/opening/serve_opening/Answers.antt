@@ -13,6 +13,5 @@ returns-in-Ok-clause-viewer g c =
 
 pub returns-clause-viewer : goal.returns-clause-viewer
 returns-clause-viewer g c =
-    ap (λ (r : Receipt). r.viewer) c.receipt_of.ensures
-    ∙ hears-one-viewer _ _ _ _ _ c.in-Err.ensures.heard.1
-    ∙ ap (λ (l : Listening). l.viewer) c.ends-listener.ensures.listener
+    let own = hears-one-viewer _ _ _ _ _ c.in-Err.ensures.heard.1 ∙ ap (λ (l : Listening). l.viewer) c.ends-listener.ensures.listener in
+    (ap (λ (r : Receipt). r.viewer) c.receipt_of.ensures ∙ own, c.part-parting.ensures ∙ c.viewer.ensures ∙ own)

@@ -25,6 +25,7 @@ returns-clause-serves g c = λ config began list s start.
     (ap (λ (x : ViewerConnection). x.number) c.give.ensures.same ∙ c.new-connection.ensures.number)
     (ap (λ (x : ViewerConnection). x.carried) c.give.ensures.same ∙ c.new-connection.ensures.carried)
     (ap (λ (x : ViewerConnection). x.held) c.give.ensures.same ∙ c.new-connection.ensures.held)
+    (ap (λ (x : ViewerConnection). x.counts) c.give.ensures.same ∙ c.new-connection.ensures.counts)
     (λ fine. c.give.ensures.bytes fine ∙ ap (λ l. l ++ c.as_slice.result.now) c.new-connection.ensures.waiting)
     c.give.ensures.few c.connect.ensures.same (ap (λ k. k.may_cut) known) (ap (λ k. k.may_ask) known) agenda asking
     s (start ∙ ap (λ (kept : Bool). record { unread = g.T.Transport.unread c.args.transport; written = g.T.Transport.written c.args.transport; sent = none_yet kept }) (sym (ap (λ (x : Serving). x.kept) c.self.view_is)))

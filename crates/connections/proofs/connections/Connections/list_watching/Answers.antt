@@ -11,4 +11,5 @@ returns g c = record {
       (ap (λ (x : Serving). record x { surface = c.settle.new.self }) c.self-2.view_is)
       (ap (λ (x : Surface). x.screen) c.settle.ensures ∙ ap (λ (x : Serving). x.surface.screen) c.self-2.view_is)
       (ap (λ (x : Surface). x.scribed) c.settle.ensures ∙ ap (λ (x : Serving). x.surface.scribed) c.self-2.view_is);
+  settled = ap (λ (x : Surface). x.drawn) c.settle.ensures;
 }

@@ -1,5 +1,8 @@
-use Rattle.event_loop.proofs.Steps.{on-then, on-admitted}
+use Rattle.event_loop.proofs.Steps.{on-came}
 use Rattle.event_loop.proofs.event_loop.EventLoop.admit.Goals as goal
 
-pub returns : goal.returns
-returns g c = record { served = on-then _ _ _ (on-admitted c.args.self.now c.self.inside.connections c.admit.new.self c.self.view_is c.in-Ok.ensures.serves) c.welcome.ensures.served; stands = c.welcome.ensures.stands }
+pub returns-in_err-admission-clause-served : goal.returns-in_err-admission-clause-served
+returns-in_err-admission-clause-served g c = on-came c.args.self.now c.self.inside.viewers.connections c.admit.new.self.connections c.self.view_is c.admit.ensures.served
+
+pub returns-clause-served : goal.returns-clause-served
+returns-clause-served g c = on-came c.args.self.now c.self.inside.viewers.connections c.admit.new.self.connections c.self.view_is c.admit.ensures.served

@@ -11,7 +11,7 @@ returns-in_default g c =
     let before = c.args.application.now in
     record {
       served = tells-silently g.A.Application.stands {E = LoopError} before before (Ok false) _ _ (λ inputs h. h)
-          (on-from c.args.self.now c.self.inside.connections c.take_departed.new.self c.self.view_is (λ config began list s. let h = c.in_default.ensures.served config began list s in (h.0, h.1, h.2)));
+          (on-from c.args.self.now c.self.inside.viewers.connections c.take_departed.new.self c.self.view_is (λ config began list s. let h = c.in_default.ensures.served config began list s in (h.0, h.1, h.2)));
     }
 
 pub returns-in_err-tell_left : goal.returns-in_err-tell_left
@@ -23,7 +23,7 @@ returns-in_err-tell_left g c =
     let after = c.tell_left.new.application in
     let error = err_from_is_err_and c.from_residual.result c.from_residual.ensures.1 in
     record {
-      served = tells-parted stands before after c.from_residual.result c.args.self.now c.self.inside.connections c.take_departed.new.self c.tell_left.new.self told c.self.view_is
+      served = tells-parted stands before after c.from_residual.result c.args.self.now c.self.inside.viewers.connections c.take_departed.new.self c.tell_left.new.self told c.self.view_is
           (λ config began list s. let h = c.in-Some.ensures.served config began list s in (h.0, h.1, h.2.0)) c.tell_left.ensures.served
           (told-ended stands before after told c.tell_left.result c.from_residual.result error.0 error.1 c.tell_left.ensures.told);
     }
@@ -36,7 +36,7 @@ returns g c =
     let before = c.args.application.now in
     let after = c.tell_left.new.application in
     record {
-      served = tells-parted stands {E = LoopError} before after (Ok true) c.args.self.now c.self.inside.connections c.take_departed.new.self c.tell_left.new.self told c.self.view_is
+      served = tells-parted stands {E = LoopError} before after (Ok true) c.args.self.now c.self.inside.viewers.connections c.take_departed.new.self c.tell_left.new.self told c.self.view_is
           (λ config began list s. let h = c.in-Some.ensures.served config began list s in (h.0, h.1, h.2.0)) c.tell_left.ensures.served
           (told-all stands before after told c.tell_left.result c.in_ok-tell_left.field-0 c.in_ok-tell_left.was c.tell_left.ensures.told);
     }

@@ -1,20 +1,18 @@
-use Rattle.std.proofs.Common.{Ok}
+use Rattle.std.proofs.Common.{Ok, Err}
 use Rattle.std.proofs.lemmas.Result.{err_from_is_err_and}
 use Rattle.event_loop.specs.declared.event_loop.LoopError.{LoopError}
-use Rattle.event_loop.proofs.Steps.{tells-all, tells-then, tells-ended}
+use Rattle.event_loop.specs.declared.event_loop.LoopError.TheVariants.{Clock}
+use Rattle.event_loop.proofs.Steps.{tells-all, tells-ended, tells-any}
 use Rattle.event_loop.proofs.event_loop.EventLoop.run_on.Goals as goal
 
-pub returns-in_err-process_events : goal.returns-in_err-process_events
-returns-in_err-process_events g c =
+pub returns-in_err-take_turns-clause-served : goal.returns-in_err-take_turns-clause-served
+returns-in_err-take_turns-clause-served g c =
     let stands = g.A.Application.stands in
     let error = err_from_is_err_and c.from_residual.result c.from_residual.ensures.1 in
-    record {
-      served = tells-then stands c.args.application.now c.loop.application c.process_events.new.application c.from_residual.result _ _ _ c.loop.invariant
-          (tells-ended stands c.loop.application c.process_events.new.application c.process_events.result c.from_residual.result error.0 _ _ error.1 c.process_events.ensures.served);
-    }
+    tells-ended stands c.args.application.now c.take_turns.new.application c.take_turns.result c.from_residual.result error.0 _ _ error.1 c.take_turns.ensures.served
 
-pub loop-preserved : goal.loop-preserved
-loop-preserved g c =
+pub returns-clause-served : goal.returns-clause-served
+returns-clause-served g c =
     let stands = g.A.Application.stands in
-    tells-then stands {X = Unit {0}} {E = LoopError} c.args.application.now c.loop.application c.process_events.new.application (Ok tt) _ _ _ c.loop.invariant
-    (tells-all stands c.loop.application c.process_events.new.application c.process_events.result c.in_ok-process_events.field-0 _ _ c.in_ok-process_events.was c.process_events.ensures.served)
+    tells-any stands {X = Unit {0}} {E = LoopError} c.args.application.now c.take_turns.new.application (Err Clock) _ _
+    (tells-all stands c.args.application.now c.take_turns.new.application c.take_turns.result c.in_ok-take_turns.field-0 _ _ c.in_ok-take_turns.was c.take_turns.ensures.served)

@@ -1,0 +1,52 @@
+-- The numbers that calls of a server answer, besides those of a screen's desk.
+use Rattle.std.specs.Prelude.{ℕ, ℤ, pos, Bool, true, false, Result, Ok, Err, Some}
+use Rattle.std.specs.declared.alloc.AllocError.{AllocError}
+use Rattle.receipts.specs.declared.Ended.{Ended}
+use Rattle.receipts.specs.declared.Ended.TheVariants as ended
+use Rattle.event_loop.specs.declared.event_loop.LoopError.{LoopError}
+use Rattle.event_loop.specs.declared.event_loop.LoopError.TheVariants.{Network, Clock, Screen}
+use Rattle.c_screen.specs.Codes.{minus, done, no_viewer, out_of_memory, code_of, fault_code}
+
+abbrev pub bad_address : ℤ
+bad_address = minus 13
+
+abbrev pub cannot_listen : ℤ
+cannot_listen = minus 14
+
+abbrev pub network_failed : ℤ
+network_failed = minus 15
+
+abbrev pub clock_failed : ℤ
+clock_failed = minus 16
+
+abbrev pub cannot_record : ℤ
+cannot_record = minus 20
+
+-- why a turn ended, or 0
+abbrev pub turn_code : Result (Unit {0}) LoopError → ℤ
+turn_code (Ok x) = done
+turn_code (Err Network) = network_failed
+turn_code (Err Clock) = clock_failed
+turn_code (Err (Screen e)) = code_of e
+
+-- a viewer is let go, or why not
+abbrev pub closed_code : Result Bool AllocError → ℤ
+closed_code (Ok true) = done
+closed_code (Ok false) = no_viewer
+closed_code (Err e) = out_of_memory
+
+-- why a viewer left
+abbrev pub reason_code : Ended → ℕ
+reason_code ended.EndOfInput = 1
+reason_code (ended.Fault f) = 2
+reason_code ended.ReadFailed = 3
+reason_code ended.WriteFailed = 4
+reason_code ended.Memory = 5
+reason_code ended.Gate = 6
+reason_code ended.Closed = 7
+reason_code ended.Stopped = 8
+
+-- by which fault, or 0
+abbrev pub fault_of : Ended → ℤ
+fault_of (ended.Fault f) = fault_code (Some f)
+fault_of e = pos 0

@@ -1,0 +1,7 @@
+pub mod Codes
+pub mod Visits
+pub mod Listening
+pub mod Desk
+pub mod Gathering
+pub mod System
+pub mod Calls

@@ -1,0 +1,73 @@
+//! The numbers that calls answer besides those of `c_screen`.
+
+ghost use Rattle.std.specs.Prelude.{◌≡◌};
+ghost use Rattle.c_screen.specs.Codes.{code_of};
+ghost use Rattle.c_server.specs.Codes as code;
+
+use c_screen::{code_of, fault_code};
+use event_loop::{Ended, LoopError, ScreenError};
+use std::alloc::AllocError;
+
+/// The address is no IP address in digits, as `127.0.0.1` or `::1`.
+pub const BAD_ADDRESS: i32 = -13;
+
+/// The system doesn't let the program listen there, or has no more handles.
+pub const CANNOT_LISTEN: i32 = -14;
+
+/// The system failed to say which sockets are ready.
+pub const NETWORK_FAILED: i32 = -15;
+
+/// The system failed to say what time it is.
+pub const CLOCK_FAILED: i32 = -16;
+
+/// The file of a record is there already, or can't be made.
+pub const CANNOT_RECORD: i32 = -20;
+
+/// Returns 0, or why a turn ended.
+pub(crate) fn turn_code(answer: Result<(), LoopError>) -> i32
+    ensures { result ≡ code.turn_code answer }
+{
+    match answer {
+        Ok(()) => 0,
+        Err(LoopError::Network) => NETWORK_FAILED,
+        Err(LoopError::Clock) => CLOCK_FAILED,
+        Err(LoopError::Screen(e)) => code_of(e),
+    }
+}
+
+/// Returns 0 where a viewer is let go, or why it isn't.
+pub(crate) fn closed_code(answer: Result<bool, AllocError>) -> i32
+    ensures { result ≡ code.closed_code answer }
+{
+    match answer {
+        Ok(true) => 0,
+        Ok(false) => code_of(ScreenError::NoViewer),
+        Err(_) => code_of(ScreenError::OutOfMemory),
+    }
+}
+
+/// Returns why a viewer left: 1 to 8, in the order of the reasons of `Ended`.
+pub(crate) fn reason_code(ended: Ended) -> u32
+    ensures { result ≡ code.reason_code ended }
+{
+    match ended {
+        Ended::EndOfInput => 1,
+        Ended::Fault(_) => 2,
+        Ended::ReadFailed => 3,
+        Ended::WriteFailed => 4,
+        Ended::Memory => 5,
+        Ended::Gate => 6,
+        Ended::Closed => 7,
+        Ended::Stopped => 8,
+    }
+}
+
+/// Returns the number of the fault that a viewer left for, or 0.
+pub(crate) fn fault_of(ended: Ended) -> i32
+    ensures { result ≡ code.fault_of ended }
+{
+    match ended {
+        Ended::Fault(fault) => fault_code(Some(fault)),
+        _ => 0,
+    }
+}

@@ -1,0 +1,692 @@
+//! The desk: the calls of a server, and what waits to be fetched.
+
+ghost use Rattle.std.specs.Prelude.{◌≡◌, ◌≤◌, ◌<◌, ◌<ℤ◌, ◌+◌, ◌-◌, ◌∷◌, ◌++◌, [], ◌^◌, take, pos, map, min, length, None, Some, IfOk, IfErr, OnOk, is_some, count_by};
+ghost use Rattle.screen.specs.declared.Event.{Event};
+ghost use Rattle.screen.specs.Alone.{config_refusal};
+ghost use Rattle.screen.specs.Calls.{event_of};
+ghost use Rattle.screen.specs.Reading.{is_open_rest};
+ghost use Rattle.c_screen.specs.Codes as codes;
+ghost use Rattle.c_screen.specs.Codes.{IsRefusal};
+ghost use Rattle.c_screen.specs.Calls.{colour_at, of_viewer};
+ghost use Rattle.c_screen.specs.Desk.{rect_of, config_of, IsListOf};
+ghost use Rattle.std.specs.VecDeque.{deque_capacity};
+ghost use Rattle.c_server.specs.Desk.{fitting, texts_limit, is_named, nothing_there, rects_per_update, region_due};
+ghost use Rattle.c_server.specs.Calls.{Listens, NamesRecord, record_state, TakesTurn, Draws, DrawsRegion, FetchesInputs, FetchesVisits, ShowsNumbers, ShowsText, ShowsSettings, Tells, TellsAddress, TellsSome, TellsWait, AreDigitsIn, LetsGo, TakesPixels};
+ghost use Rattle.std.specs.Net.Text.{ip_text};
+ghost use Rattle.c_screen.specs.Pixels.{format_of, source_from};
+ghost use Rattle.source_pixels.specs.declared.formats.SourceFormat.TheVariants as format;
+
+use crate::codes::{CLOCK_FAILED, NETWORK_FAILED, closed_code, turn_code};
+use crate::gathering::Gathering;
+use crate::listening::{Address, Listening, listen_on};
+use crate::news::{
+    MOST_INPUTS, MOST_TEXT, MOST_VISITS, fetch_inputs, fetch_visits, make_room, put_all, put_inputs,
+};
+use crate::system::{SystemClock, digits_of, milliseconds_of, timeout_of};
+use crate::told::ToldBy;
+use crate::visits::Visit;
+use crate::waker::ServerWaker;
+use c_screen::{
+    Corners, OFF_SCREEN, OUT_OF_RANGE, PixelLayout, SHUT, Told, are_far, code_of, copy_to, done_or,
+    places_code, region_of, show_settings, source_of, truth_or,
+};
+use event_loop::{EventLoop, Listed, Rect, Region, ScreenError, drawn_is_served};
+use screen::Drawing;
+use std::alloc::{AllocError, Global};
+use std::collections::VecDeque;
+use std::marker::Model;
+use std::mem;
+use std::net::IpAddr;
+use std::os::fd::AsRawFd;
+
+/// A server in one thread, or none where the desk is shut; and what came of its viewers and wasn't fetched. Each call answers `SHUT`
+/// where it is shut, but for `listen` and `close`. A number below 0 is the code of a refusal, and nothing has changed then, but for
+/// `process_events`, which says what holds.
+///
+/// At most 4,096 inputs wait, 4 MB of texts, and 1,024 comings and goings. What comes when there is no more room, and an input for which
+/// memory is refused, is lost, and counted: `lost`.
+pub struct ServerDesk {
+    alloc: Global,
+    events: Option<EventLoop>,
+    port: u16,
+    inputs: VecDeque<ToldBy>,
+    visits: VecDeque<Visit>,
+    // the room for the comings and goings of a turn
+    turn_visits: VecDeque<Visit>,
+    text: Listed<u8>,
+    // how many bytes of texts may come before they are too many
+    text_room: usize,
+    lost: u64,
+    full_requests: u64,
+    // the file in which the screen that is served next is recorded, empty for none
+    record_path: Listed<u8>,
+    // what is served now is recorded
+    is_recorded: bool,
+}
+
+// Written out, so that who holds one proves one call here, and not the drop of each field.
+impl Drop for ServerDesk {
+    fn drop(self) {
+        let ServerDesk {
+            alloc: _alloc,
+            events: _events,
+            port: _port,
+            inputs: _inputs,
+            visits: _visits,
+            turn_visits: _turn_visits,
+            text: _text,
+            text_room: _text_room,
+            lost: _lost,
+            full_requests: _full_requests,
+            record_path: _record_path,
+            is_recorded: _is_recorded,
+        } = self;
+    }
+}
+
+impl Model for ServerDesk {
+    ghost use Rattle.c_server.specs.Desk.{Standing};
+
+    ghost Value = { Standing };
+
+    ghost view = { λ a. record { served = a.events; port = a.port; inputs = a.inputs.items; visits = a.visits.items; text = a.text; lost = a.lost; full_requests = a.full_requests; text_room = a.text_room; record_path = a.record_path; recorded = a.is_recorded } };
+}
+
+/// Makes room for as many inputs, and comings and goings, as may wait, and for those of a turn.
+fn make_all_room(
+    inputs: &mut VecDeque<ToldBy>,
+    visits: &mut VecDeque<Visit>,
+    turn_visits: &mut VecDeque<Visit>,
+) -> Result<(), AllocError>
+    ensures inputs { inputs.new.items ≡ inputs.old.items }
+    ensures visits { visits.new.items ≡ visits.old.items }
+    ensures input_room { OnOk result (4096 ≤ deque_capacity inputs.new) }
+    ensures visit_room { OnOk result (1024 ≤ deque_capacity visits.new) }
+    ensures turn_room { OnOk result (1024 ≤ deque_capacity turn_visits.new) }
+{
+    make_room(inputs, MOST_INPUTS)?;
+    make_room(visits, MOST_VISITS)?;
+    make_room(turn_visits, MOST_VISITS)?;
+    Ok(())
+}
+
+/// What is known once what came in a turn was put behind what waits.
+#[derive(Drop)]
+struct Kept {
+    // how much of it is lost
+    lost: u64,
+    // how many bytes more may wait in texts
+    text_room: usize,
+    // the room for the comings and goings of the next turn
+    turn_visits: VecDeque<Visit>,
+}
+
+/// Puts what came behind what waits, in room that was made, where so many bytes more may wait in texts.
+fn keep(
+    inputs: &mut VecDeque<ToldBy>,
+    visits: &mut VecDeque<Visit>,
+    text_room: usize,
+    came: Gathering,
+) -> Kept
+    requires inputs { 4096 ≤ deque_capacity inputs.old }
+    requires visits { 1024 ≤ deque_capacity visits.old }
+    ensures inputs { inputs.new.items ≡ inputs.old.items ++ (fitting (4096 - length inputs.old.items) text_room came.inputs.items).0 }
+    ensures visits { visits.new.items ≡ visits.old.items ++ take (1024 - length visits.old.items) came.visits.items }
+    ensures lost { result.lost ≡ min (came.lost + ((fitting (4096 - length inputs.old.items) text_room came.inputs.items).1 + (length came.visits.items - (1024 - length visits.old.items)))) (2 ^ 64 - 1) }
+    ensures room { result.text_room ≡ (fitting (4096 - length inputs.old.items) text_room came.inputs.items).2 }
+{
+    let (lost_inputs, text_room) = put_inputs(inputs, came.inputs, text_room);
+    let mut turn_visits = came.visits;
+    let lost_visits = put_all(visits, &mut turn_visits, MOST_VISITS);
+    let lost = came
+        .lost
+        .saturating_add(lost_inputs.saturating_add(lost_visits) as u64);
+    Kept {
+        lost,
+        text_room,
+        turn_visits,
+    }
+}
+
+/// Puts an address in digits at the room's start, as much of it as fits. Returns how many bytes that are, or `OutOfMemory`'s code where
+/// memory for the digits is refused; the rest of the room stays.
+fn show_address(alloc: Global, address: IpAddr, room: &mut [u8]) -> i32
+    ensures digits { AreDigitsIn (ip_text address) room.old room.new result }
+    ensures refused { result <ℤ pos 0 → room.new ≡ room.old }
+{
+    match digits_of(alloc, address) {
+        Ok(digits) => copy_to(room, digits.as_bytes()) as i32,
+        Err(_) => code_of(ScreenError::OutOfMemory),
+    }
+}
+
+impl ServerDesk {
+    /// Returns a desk that is shut. It takes no memory.
+    pub fn new(alloc: Global) -> ServerDesk
+        ensures { result ≡ nothing_there }
+    {
+        ServerDesk {
+            alloc,
+            events: None,
+            port: 0,
+            inputs: VecDeque::new(alloc),
+            visits: VecDeque::new(alloc),
+            turn_visits: VecDeque::new(alloc),
+            text: Listed::new(alloc),
+            text_room: MOST_TEXT,
+            lost: 0,
+            full_requests: 0,
+            record_path: Listed::new(alloc),
+            is_recorded: false,
+        }
+    }
+
+    /// Names the file in which the screen that `listen` serves next is recorded, by its path of at most 4,095 bytes; none by a path of no
+    /// bytes. `listen` makes the file, and `vncdemo replay` reads it. Returns `OutOfMemory`'s code where memory for the path is refused.
+    pub fn record_next(&mut self, path: &[u8]) -> i32
+        ensures { NamesRecord path.now self.old self.new result }
+    {
+        match Listed::from_slice(self.alloc, path) {
+            Ok(path) => {
+                self.record_path = path;
+                0
+            }
+            Err(_) => code_of(ScreenError::OutOfMemory),
+        }
+    }
+
+    /// Returns whether what is served is recorded: 0 for no, 1 for yes, and 2 where the record has ended before its session, since a write
+    /// of it failed, or memory for a region's rectangles was refused.
+    pub fn record_state(&mut self) -> i32
+        ensures { Tells (record_state self.old.recorded) self.old self.new result }
+    {
+        let Some(events) = &self.events else {
+            return SHUT;
+        };
+        if !self.is_recorded {
+            return 0;
+        }
+        if events.is_record_broken() { 2 } else { 1 }
+    }
+
+    /// Listens on a port of an address, and serves a black screen to as many viewers at once as `viewers` says (`rfbGetScreen` and
+    /// `rfbInitServer` of `rfb.h`); a further one waits until one has left. What was open is closed. `address` is an IP address in
+    /// digits, as `127.0.0.1`, `0.0.0.0` for all of the machine's, or `::1`; of port 0 the system chooses one, which `port` tells.
+    /// `name` is the desktop's (RFC 6143, 7.3.2), of at most 255 bytes. `BAD_ADDRESS` where the address isn't one, `CANNOT_LISTEN`
+    /// where the system refuses it, and `CANNOT_RECORD` where `record_next` named a file that is there already, or can't be made.
+    pub fn listen(
+        &mut self,
+        address: &[u8],
+        port: u16,
+        width: u32,
+        height: u32,
+        name: &[u8],
+        viewers: u32,
+    ) -> i32
+        ensures { Listens (config_of width height name.now rects_per_update) address.now port self.old self.new result }
+    {
+        let digits = address;
+        let path = self.record_path.as_slice();
+        match listen_on(
+            self.alloc,
+            Address { digits, port },
+            width,
+            height,
+            name,
+            viewers,
+            path,
+        ) {
+            Ok(Listening { events, port }) => {
+                self.serve(events, port);
+                0
+            }
+            Err(e) => e.code(),
+        }
+    }
+
+    /// Serves by a loop that was made, in place of another. A file for the next record isn't named any more.
+    fn serve(&mut self, events: EventLoop, port: u16)
+        ensures { self.new ≡ record { served = Some events; port = port; inputs = []; visits = []; text = []; lost = 0; full_requests = 0; text_room = texts_limit; record_path = []; recorded = is_named self.old.record_path } }
+    {
+        self.end();
+        self.is_recorded = !self.record_path.is_empty();
+        self.record_path = Listed::new(self.alloc);
+        self.events = Some(events);
+        self.port = port;
+    }
+
+    /// Ends what is served, writes what waits of a record, and drops what waits to be fetched.
+    fn end(&mut self)
+        ensures { self.new ≡ record nothing_there { record_path = self.old.record_path } }
+    {
+        if let Some(events) = &mut self.events {
+            events.flush_record();
+        }
+        self.events = None;
+        self.port = 0;
+        self.is_recorded = false;
+        self.clear();
+    }
+
+    /// Drops what waits to be fetched.
+    fn clear(&mut self)
+        ensures { self.new ≡ record self.old { inputs = []; visits = []; text = []; lost = 0; full_requests = 0; text_room = texts_limit } }
+    {
+        self.inputs = VecDeque::new(self.alloc);
+        self.visits = VecDeque::new(self.alloc);
+        self.turn_visits = VecDeque::new(self.alloc);
+        self.text = Listed::new(self.alloc);
+        self.text_room = MOST_TEXT;
+        self.lost = 0;
+        self.full_requests = 0;
+    }
+
+    /// Closes the server: its port is free, its viewers' connections are closed, and its record is written to its end
+    /// (`rfbShutdownServer` and `rfbScreenCleanup` of `rfb.h`). Returns 0, also where the desk is shut.
+    pub fn close(&mut self) -> i32
+        ensures { (self.new ≡ nothing_there) × (result ≡ codes.done) }
+    {
+        self.end();
+        self.record_path = Listed::new(self.alloc);
+        0
+    }
+
+    /// Takes one turn of the loop (`rfbProcessEvents` of `rfb.h`): it waits until something is ready, at most `milliseconds`, and below 0
+    /// without end; then it hears what viewers sent, writes what they are owed, and accepts who came. Returns 0, or why the turn ended
+    /// early: a code of `code_of`, `NETWORK_FAILED` or `CLOCK_FAILED`; also then each viewer is served as far as the turn came, and what it
+    /// brought waits.
+    pub fn process_events(&mut self, milliseconds: i32) -> i32
+        ensures { TakesTurn self.old self.new result }
+    {
+        let Some(events) = &mut self.events else {
+            return SHUT;
+        };
+        if make_all_room(&mut self.inputs, &mut self.visits, &mut self.turn_visits).is_err() {
+            return code_of(ScreenError::OutOfMemory);
+        }
+        let turn_visits = mem::replace(&mut self.turn_visits, VecDeque::new(self.alloc));
+        let mut came = Gathering::new(self.alloc, self.text_room, turn_visits);
+        let answer = events.process_events(&SystemClock, timeout_of(milliseconds), &mut came);
+        self.full_requests = self.full_requests.saturating_add(came.full_requests);
+        let kept = keep(&mut self.inputs, &mut self.visits, self.text_room, came);
+        self.text_room = kept.text_room;
+        self.turn_visits = kept.turn_visits;
+        self.lost = self.lost.saturating_add(kept.lost);
+        turn_code(answer)
+    }
+
+    /// Lets a viewer go in a later turn, by `EventLoop::close_viewer` (`rfbCloseClient` of `rfb.h`). Returns `NoViewer`'s code where none
+    /// has the number.
+    pub fn close_viewer(&mut self, viewer: u64) -> i32
+        ensures { LetsGo viewer self.old self.new result }
+    {
+        let Some(events) = &mut self.events else {
+            return SHUT;
+        };
+        closed_code(events.close_viewer(viewer))
+    }
+
+    /// Puts the address that a viewer's connection comes from, in digits as `127.0.0.1` or `::1`, at the room's start, as much of it as
+    /// fits (`host` of `rfbClientRec` in `rfb.h`). Returns how many bytes that are; the rest of the room stays. Returns `NoViewer`'s code
+    /// where it isn't connected, and `NETWORK_FAILED` where the system doesn't tell.
+    pub fn viewer_address(&mut self, viewer: u64, room: &mut [u8]) -> i32
+        ensures { TellsAddress viewer self.old self.new room.old room.new result }
+    {
+        let Some(events) = &self.events else {
+            return SHUT;
+        };
+        let Some(told) = events.viewer_address(viewer) else {
+            return code_of(ScreenError::NoViewer);
+        };
+        let Ok(address) = told else {
+            return NETWORK_FAILED;
+        };
+        show_address(self.alloc, address.ip(), room)
+    }
+
+    /// Returns the system's handle that is ready to be read where a turn has something to do that came over the network.
+    pub fn fd(&mut self) -> i32
+        ensures { TellsSome self.old self.new result }
+    {
+        match &self.events {
+            Some(events) => events.as_raw_fd(),
+            None => SHUT,
+        }
+    }
+
+    /// Returns for how many milliseconds a turn without end would wait now where nothing comes over the network, at most 2^31 - 1, which
+    /// also stands for no end; `CLOCK_FAILED` where the system doesn't tell the time.
+    pub fn timeout(&mut self) -> i32
+        ensures { TellsWait self.old self.new result }
+    {
+        let Some(events) = &self.events else {
+            return SHUT;
+        };
+        match events.longest_wait(&SystemClock) {
+            Ok(wait) => milliseconds_of(wait),
+            Err(_) => CLOCK_FAILED,
+        }
+    }
+
+    /// Draws by `Canvas::draw`: one of the calls below, as a value.
+    fn draw(&mut self, drawing: &Drawing<'_>) -> i32
+        ensures { Draws (event_of drawing.now) self.old self.new result }
+    {
+        let Some(events) = &mut self.events else {
+            return SHUT;
+        };
+        drawn_is_served();
+        done_or(events.canvas().draw(drawing))
+    }
+
+    /// Returns the places of a list of rectangles, or the code of the refusal: `OUT_OF_RANGE` where a coordinate is not from -2^20 to 2^20.
+    fn places_of(&self, list: &[Corners]) -> Result<Region, i32>
+        ensures places { IfOk result (λ region. IsListOf (map rect_of list.now) region.list) }
+        ensures accepted { OnOk result (region_due self.now (map rect_of list.now) ≡ None) }
+        ensures refused { IfErr result (λ number. IsRefusal (region_due self.now (map rect_of list.now)) number) }
+    {
+        if self.events.is_none() {
+            return Err(SHUT);
+        }
+        if are_far(list) {
+            return Err(OUT_OF_RANGE);
+        }
+        match region_of(self.alloc, list) {
+            Ok(region) => Ok(region),
+            Err(e) => Err(code_of(e)),
+        }
+    }
+
+    /// Does what `Canvas::paint` does.
+    pub fn paint(&mut self, x1: i32, y1: i32, x2: i32, y2: i32, colours: &[u32]) -> i32
+        ensures { Draws (Event.Paint (record { x1 = x1; y1 = y1; x2 = x2; y2 = y2 }) colours.now) self.old self.new result }
+    {
+        let rect = Rect { x1, y1, x2, y2 };
+        self.draw(&Drawing::Paint { rect, colours })
+    }
+
+    /// Does what `Canvas::write_pixels` does.
+    pub fn write_pixels(&mut self, x1: i32, y1: i32, x2: i32, y2: i32, colours: &[u32]) -> i32
+        ensures { Draws (Event.Write (record { x1 = x1; y1 = y1; x2 = x2; y2 = y2 }) colours.now) self.old self.new result }
+    {
+        let rect = Rect { x1, y1, x2, y2 };
+        self.draw(&Drawing::Write { rect, colours })
+    }
+
+    /// Does what `Canvas::mark_rect` does (`rfbMarkRectAsModified` of `rfb.h`).
+    pub fn mark_rect(&mut self, x1: i32, y1: i32, x2: i32, y2: i32) -> i32
+        ensures { Draws (Event.Mark (record { x1 = x1; y1 = y1; x2 = x2; y2 = y2 } ∷ [])) self.old self.new result }
+    {
+        let rect = Rect { x1, y1, x2, y2 };
+        self.draw(&Drawing::MarkRect(rect))
+    }
+
+    /// Does what `Canvas::schedule_copy_rect` does (`rfbScheduleCopyRect` of `rfb.h`).
+    pub fn schedule_copy_rect(
+        &mut self,
+        x1: i32,
+        y1: i32,
+        x2: i32,
+        y2: i32,
+        dx: i32,
+        dy: i32,
+    ) -> i32
+        ensures { Draws (Event.ScheduleCopy (record { x1 = x1; y1 = y1; x2 = x2; y2 = y2 } ∷ []) dx dy) self.old self.new result }
+    {
+        let rect = Rect { x1, y1, x2, y2 };
+        self.draw(&Drawing::ScheduleCopyRect { rect, dx, dy })
+    }
+
+    /// Does what `Canvas::do_copy_rect` does (`rfbDoCopyRect` of `rfb.h`).
+    pub fn do_copy_rect(&mut self, x1: i32, y1: i32, x2: i32, y2: i32, dx: i32, dy: i32) -> i32
+        ensures { Draws (Event.DoCopy (record { x1 = x1; y1 = y1; x2 = x2; y2 = y2 } ∷ []) dx dy) self.old self.new result }
+    {
+        let rect = Rect { x1, y1, x2, y2 };
+        self.draw(&Drawing::DoCopyRect { rect, dx, dy })
+    }
+
+    /// Does what `Canvas::bell` does (`rfbSendBell` of `rfb.h`).
+    pub fn bell(&mut self) -> i32
+        ensures { Draws (Event.Bell) self.old self.new result }
+    {
+        self.draw(&Drawing::Bell)
+    }
+
+    /// Does what `Canvas::cut_text` does (`rfbSendServerCutText` of `rfb.h`).
+    pub fn cut_text(&mut self, text: &[u8]) -> i32
+        ensures { Draws (Event.CutText text.now) self.old self.new result }
+    {
+        self.draw(&Drawing::CutText(text))
+    }
+
+    /// Does what `Canvas::new_framebuffer` does (`rfbNewFramebuffer` of `rfb.h`).
+    pub fn new_framebuffer(&mut self, width: u32, height: u32) -> i32
+        ensures { Draws (Event.Resize width height) self.old self.new result }
+    {
+        self.draw(&Drawing::NewFramebuffer { width, height })
+    }
+
+    /// Does what `Canvas::mark_region` does (`rfbMarkRegionAsModified` of `rfb.h`) for the places of a list of rectangles. Answers
+    /// `OUT_OF_RANGE` where a coordinate is not from -2^20 to 2^20.
+    pub fn mark_region(&mut self, list: &[Corners]) -> i32
+        ensures { DrawsRegion (map rect_of list.now) (λ places. Event.Mark places) self.old self.new result }
+    {
+        match self.places_of(list) {
+            Ok(region) => self.draw(&Drawing::MarkRegion(&region)),
+            Err(code) => code,
+        }
+    }
+
+    /// Does what `Canvas::schedule_copy_region` does (`rfbScheduleCopyRegion` of `rfb.h`) for such places, with that refusal.
+    pub fn schedule_copy_region(&mut self, list: &[Corners], dx: i32, dy: i32) -> i32
+        ensures { DrawsRegion (map rect_of list.now) (λ places. Event.ScheduleCopy places dx dy) self.old self.new result }
+    {
+        match self.places_of(list) {
+            Ok(region) => {
+                let region = &region;
+                self.draw(&Drawing::ScheduleCopyRegion { region, dx, dy })
+            }
+            Err(code) => code,
+        }
+    }
+
+    /// Does what `Canvas::do_copy_region` does (`rfbDoCopyRegion` of `rfb.h`) for such places, with that refusal.
+    pub fn do_copy_region(&mut self, list: &[Corners], dx: i32, dy: i32) -> i32
+        ensures { DrawsRegion (map rect_of list.now) (λ places. Event.DoCopy places dx dy) self.old self.new result }
+    {
+        match self.places_of(list) {
+            Ok(region) => {
+                let region = &region;
+                self.draw(&Drawing::DoCopyRegion { region, dx, dy })
+            }
+            Err(code) => code,
+        }
+    }
+
+    /// Takes a program's own pixels into the picture by `Canvas::take` (`rfbMarkRectAsModified` of `rfb.h`), from column `left` of row
+    /// `top` on, and owes every viewer what differs. `bytes` has `width` columns and `height` rows of pixels, `stride` bytes from one row
+    /// to the next; their format is a layout, or a table of colours, or where both are empty 32 bits `0x00RRGGBB` in little-endian order.
+    /// What lies off the screen is left out. Returns how many places changed; where memory is refused, each place has its old colour or its
+    /// new one.
+    pub fn update_from(
+        &mut self,
+        left: u32,
+        top: u32,
+        width: u32,
+        height: u32,
+        bytes: &[u8],
+        stride: u64,
+        layouts: &[PixelLayout],
+        table: &[u32],
+    ) -> i64
+        ensures { TakesPixels (source_from width height stride bytes.now (format_of layouts.now (length table.now) (format.Table table.entry))) left top self.old self.new result }
+    {
+        let Some(events) = &mut self.events else {
+            return i64::from(SHUT);
+        };
+        let source = match source_of(bytes, stride, width, height, layouts, table) {
+            Ok(source) => source,
+            Err(code) => return i64::from(code),
+        };
+        drawn_is_served();
+        places_code(events.canvas().take(self.alloc, left, top, &source))
+    }
+
+    /// Puts the first inputs that wait at the room's start, up to the first text, and takes them from what waits (`kbdAddEvent`,
+    /// `ptrAddEvent` and `setXCutText` of `rfb.h`). Returns how many they are; the rest of the room stays. The text's bytes are had by
+    /// `text`, until a call fetches another.
+    pub fn next_inputs(&mut self, room: &mut [Told]) -> i64
+        ensures { FetchesInputs self.old self.new room.old room.new result }
+    {
+        if self.events.is_none() {
+            return i64::from(SHUT);
+        }
+        let (count, length) = fetch_inputs(&mut self.inputs, room, &mut self.text);
+        self.text_room = self.text_room.saturating_add(length);
+        count as i64
+    }
+
+    /// Puts the first bytes of the text that was fetched last at the room's start, at most 2^30. Returns how many they are; the rest of the
+    /// room stays.
+    pub fn text(&mut self, room: &mut [u8]) -> i32
+        ensures { ShowsText self.old self.new room.old room.new result }
+    {
+        if self.events.is_none() {
+            return SHUT;
+        }
+        copy_to(room, self.text.as_slice()) as i32
+    }
+
+    /// Puts the first comings and goings that wait at the room's start, and takes them from what waits (`newClientHook` and
+    /// `clientGoneHook` of `rfb.h`). Returns how many they are; the rest of the room stays.
+    pub fn next_events(&mut self, room: &mut [Visit]) -> i64
+        ensures { FetchesVisits self.old self.new room.old room.new result }
+    {
+        if self.events.is_none() {
+            return i64::from(SHUT);
+        }
+        fetch_visits(&mut self.visits, room) as i64
+    }
+
+    /// Returns how many inputs, comings and goings were lost since `listen`, at most 2^62.
+    pub fn lost_count(&mut self) -> i64
+        ensures { Tells (λ _. pos (min self.old.lost (2 ^ 62))) self.old self.new result }
+    {
+        if self.events.is_none() {
+            return i64::from(SHUT);
+        }
+        self.lost.min(1 << 62) as i64
+    }
+
+    /// Returns how often, since `listen`, a viewer was heard to ask for places whether these changed or not, by a request that isn't
+    /// incremental (RFC 6143, 7.5.3; `clientFramebufferUpdateRequestHook` of `rfb.h` is called for each request): more than before where
+    /// one did in the last turns. At most 2^62. `settings` tells how many of a viewer's requests were such.
+    pub fn full_request_count(&mut self) -> i64
+        ensures { Tells (λ _. pos (min self.old.full_requests (2 ^ 62))) self.old self.new result }
+    {
+        if self.events.is_none() {
+            return i64::from(SHUT);
+        }
+        self.full_requests.min(1 << 62) as i64
+    }
+
+    /// Returns what ends a wait of `process_events` from another thread. It is shut where the desk is, or the system refuses it; and once
+    /// the desk is closed it wakes nobody. A desk has one at a time.
+    pub fn waker(&mut self) -> ServerWaker
+        ensures { self.new ≡ self.old }
+    {
+        match &self.events {
+            Some(events) => ServerWaker::new(events.waker().ok()),
+            None => ServerWaker::new(None),
+        }
+    }
+
+    /// Returns the port that it listens on.
+    pub fn port(&mut self) -> i32
+        ensures { Tells (λ _. pos self.old.port) self.old self.new result }
+    {
+        if self.events.is_none() {
+            return SHUT;
+        }
+        i32::from(self.port)
+    }
+
+    /// Returns how many viewers are connected, at most 2^30.
+    pub fn viewer_count(&mut self) -> i32
+        ensures { Tells (λ served. pos (min (count_by is_some served.slots) (2 ^ 30))) self.old self.new result }
+    {
+        let Some(events) = &self.events else {
+            return SHUT;
+        };
+        events.viewer_count().min(1 << 30) as i32
+    }
+
+    /// Puts the connected viewers' numbers at the room's start, in order of connecting, as many as fit, at most 2^30, and returns how many;
+    /// the rest of the room stays. Returns `OutOfMemory`'s code where memory for them is refused.
+    pub fn numbers(&mut self, room: &mut [u64]) -> i32
+        ensures { ShowsNumbers self.old self.new room.old room.new result }
+    {
+        let Some(events) = &self.events else {
+            return SHUT;
+        };
+        match events.screen().numbers() {
+            Ok(numbers) => copy_to(room, numbers.as_slice()) as i32,
+            Err(_) => code_of(ScreenError::OutOfMemory),
+        }
+    }
+
+    /// Returns 1 where a viewer's opening is over and it met no fault, else 0, as `Screen::is_open` says. Returns `NoViewer`'s code where
+    /// none has the number.
+    pub fn is_open(&mut self, viewer: u64) -> i32
+        ensures { Tells (λ served. of_viewer viewer (λ seen. codes.one_or_zero (is_open_rest seen.heard)) served.surface.screen) self.old self.new result }
+    {
+        let Some(events) = &self.events else {
+            return SHUT;
+        };
+        truth_or(events.screen().is_open(viewer))
+    }
+
+    /// Puts what `Screen::settings` says of a viewer at the room's start (`format` and the like of `rfbClientRec` in `rfb.h`), in 32-bit
+    /// words, as many as fit, and returns how many; the rest of the room stays. Returns `NoViewer`'s code where none has the number.
+    pub fn settings(&mut self, viewer: u64, room: &mut [u32]) -> i32
+        ensures { ShowsSettings viewer self.old self.new room.old room.new result }
+    {
+        let Some(events) = &self.events else {
+            return SHUT;
+        };
+        show_settings(events.screen().settings(viewer), room)
+    }
+
+    /// Returns `Screen::width`: 1 to 8192.
+    pub fn width(&mut self) -> i64
+        ensures { Tells (λ served. pos served.surface.screen.picture.width) self.old self.new result }
+    {
+        let Some(events) = &self.events else {
+            return i64::from(SHUT);
+        };
+        i64::from(events.screen().width())
+    }
+
+    /// Returns `Screen::height`: 1 to 8192.
+    pub fn height(&mut self) -> i64
+        ensures { Tells (λ served. pos served.surface.screen.picture.height) self.old self.new result }
+    {
+        let Some(events) = &self.events else {
+            return i64::from(SHUT);
+        };
+        i64::from(events.screen().height())
+    }
+
+    /// Returns `Screen::colour`: `0x00RRGGBB`; `OFF_SCREEN` off the screen.
+    pub fn colour(&mut self, x: u32, y: u32) -> i64
+        ensures { Tells (λ served. colour_at x y served.surface.screen) self.old self.new result }
+    {
+        let Some(events) = &self.events else {
+            return i64::from(SHUT);
+        };
+        match events.screen().colour(x, y) {
+            Some(colour) => i64::from(colour),
+            None => i64::from(OFF_SCREEN),
+        }
+    }
+}

@@ -1,0 +1,31 @@
+//! What a program in another language is given of a server in one thread: `listen` opens a port, and each call of
+//! `process_events` is a turn of `EventLoop` (`rfbProcessEvents` of `rfb.h`). Each call answers a number, 0 or more where it is done,
+//! and below 0 the code of its refusal. What viewers told, and who came and went, waits until it is fetched.
+//!
+//! ```
+//! let mut desk = ServerDesk::new(alloc);
+//! desk.listen(b"127.0.0.1", 5900, 640, 480, b"demo", 16);
+//! desk.paint(0, 0, 1, 1, &[0xff_ffff]);
+//! desk.process_events(1000);
+//! let count = desk.next_inputs(&mut room);
+//! ```
+#![tactic(auto)]
+
+mod codes;
+mod desk;
+mod gathering;
+mod listening;
+mod news;
+mod system;
+mod told;
+mod visits;
+mod waker;
+
+pub use c_screen::{
+    BAD_FORMAT, BAD_STRIDE, Corners, OFF_SCREEN, OUT_OF_RANGE, PixelLayout, SHUT, TOO_FEW_BYTES,
+    Told, code_of, fault_code,
+};
+pub use codes::{BAD_ADDRESS, CANNOT_LISTEN, CLOCK_FAILED, NETWORK_FAILED};
+pub use desk::ServerDesk;
+pub use visits::Visit;
+pub use waker::ServerWaker;

@@ -1,5 +1,0 @@
-use Rattle.event_loop.specs.Sockets.{GoesOnServing}
-use Rattle.event_loop.proofs.event_loop.EventLoop.let_go.Given as goal
-
-abbrev pub invariant-loop : goal.invariant-loop
-invariant-loop l = GoesOnServing l.fn.self l.self

@@ -1,6 +1,0 @@
-use Rattle.std.proofs.Common.{rules}
-use Rattle.server_desk.proofs.Turning.{lets_go}
-use Rattle.server_desk.proofs.desk.ServerDesk.close_viewer.Goals as goal
-
-pub returns : goal.returns
-returns c = lets_go _ _ c.in-Some.events c.close_viewer.new.self c.args.viewer c.close_viewer.result _ _ _ _ _ _ _ _ _ _ _ (search rules) c.self.view_is c.in-Some.is c.closed_code.ensures c.close_viewer.ensures.none c.close_viewer.ensures.served

@@ -1,9 +1,0 @@
-use Rattle.std.proofs.Common.{rules}
-use Rattle.server_desk.proofs.Turning.{listens, listens-not}
-use Rattle.server_desk.proofs.desk.ServerDesk.listen.Goals as goal
-
-pub returns-in-Ok : goal.returns-in-Ok
-returns-in-Ok c = listens c.listen_on.result c.in-Ok.field-0 _ _ _ c.in-Ok.field-0.events _ _ c.as_slice-path.result.now (search rules) c.serve.ensures c.in-Ok.ensures.serves c.in-Ok.is c.listen_on.ensures.refused c.in-Ok.ensures.port
-
-pub returns-in-Err : goal.returns-in-Err
-returns-in-Err c = listens-not c.listen_on.result c.in-Err.e _ _ _ _ c.as_slice-path.result.now (search rules) (search rules) c.in-Err.is c.listen_on.ensures.refused

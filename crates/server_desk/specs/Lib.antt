@@ -1,5 +1,0 @@
-pub mod Codes
-pub mod Visits
-pub mod Listening
-pub mod Desk
-pub mod Calls
