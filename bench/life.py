@@ -2,8 +2,8 @@
 """life.py PROGRAM [--connections 200000] [--at-once 8] [--threads]: a long life of `vncdemo serve --forever`, by one thread, or with --threads
 by two a viewer. So many viewers come and go, some at once: each opens, asks for the whole screen, takes it, holds a key down and leaves, every
 eighth by a reset and every ninth in its opening. It prints what memory the server takes after a thousand of them, after each tenth of all, and at
-the end. The status is 1 where the server ended, a picture had another length, or it took a tenth of a MB more at the end than after the first
-thousand."""
+the end. The status is 1 where the server ended, a picture had another length, or it took more at the end than after the first thousand: a
+tenth of a MB, and with threads, whose memory the C library keeps in arenas, a whole one."""
 import argparse
 import re
 import socket
@@ -88,7 +88,7 @@ def main():
         print(f"{done} connections: {taken} KB, {len(failed)} failed", flush=True)
     server.kill()
     print("\n".join(failed[:5]))
-    return 1 if failed or taken > first + GROWTH_KB else 0
+    return 1 if failed or taken > first + (1024 if opts.threads else GROWTH_KB) else 0
 
 
 if __name__ == "__main__":

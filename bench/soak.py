@@ -145,6 +145,10 @@ class Viewer:
             if left > 0:
                 self.ask(1)
 
+    def is_white(self, x, y):
+        start = (y * self.width + x) * self.size
+        return self.shown[start : start + self.size] == self.white
+
     def close(self, by_reset=False):
         if by_reset:
             self.stream.setsockopt(socket.SOL_SOCKET, socket.SO_LINGER, struct.pack("ii", 1, 0))
@@ -154,8 +158,9 @@ class Viewer:
 class Painting:
     """Which places were asked to be painted, and which of these are known to be."""
 
-    def __init__(self, port):
+    def __init__(self, port, by_threads):
         self.asked, self.known, self.all = set(), set(), []
+        self.by_threads = by_threads
         self.viewer = Viewer(port)
         self.longest = 0
 
@@ -170,13 +175,14 @@ class Painting:
         self.viewer.ask(0, 0, 0, 1, 1)  # what is answered behind the pointers is drawn behind them
         self.viewer.update()
         self.longest = max(self.longest, time.monotonic() - began)
+        while self.by_threads and not all(self.viewer.is_white(x, y) for x, y in places):
+            self.viewer.picture()  # there the application draws when it comes to it
         self.known |= set(places)
 
 
 def judge(viewer, known, asked):
     for x, y in known:
-        start = (y * WIDTH + x) * viewer.size
-        if viewer.shown[start : start + viewer.size] != viewer.white:
+        if not viewer.is_white(x, y):
             raise Wrong(f"({x}, {y}) isn't white")
     rest = bytearray(viewer.shown)
     for x, y in asked:
@@ -221,7 +227,7 @@ class Soak:
         if not said:
             sys.exit("soak.py: the program doesn't serve")
         self.port = int(said.group(1))
-        self.painting = Painting(self.port)
+        self.painting = Painting(self.port, by_threads)
         self.count, self.wrong, self.is_over = 0, [], False
 
     def memory(self):
