@@ -51,7 +51,7 @@ OUT = [
     ("connections/src/backlog.rt", "write_some"),
     ("connections/src/backlog.rt", "write_update"),
     ("connections/src/backlog.rt", "make"),
-    ("connections/src/backlog.rt", "fill"),
+    ("updates/src/stream.rt", "fill"),
     ("updates/src/stream.rt", "put"),
     ("updates/src/remaining.rt", "put_short"),
     ("updates/src/remaining.rt", "put_short"),

@@ -81,7 +81,8 @@ int main(void)
     vnc_screen *screen = (vnc_screen *)&here;
     vnc_server *server = (vnc_server *)&here;
     return vnc_screen_new(2, 1, "x", 1, &screen) != VNC_ERROR_VERSION || vnc_server_new("127.0.0.1", 0, 2, 1, "x", 1, &server) != VNC_ERROR_VERSION ||
-           screen || server || vnc_screen_open(0, 2, 1, "x", 1) != VNC_ERROR_VERSION || vnc_server_listen(0, "127.0.0.1", 0, 2, 1, "x", 1) != VNC_ERROR_VERSION;
+           screen || server || vnc_screen_open(0, 2, 1, "x", 1) != VNC_ERROR_VERSION || vnc_server_listen(0, "127.0.0.1", 0, 2, 1, "x", 1) != VNC_ERROR_VERSION ||
+           vnc_server_new_unbound(2, 1, "x", 1, &server) != VNC_ERROR_VERSION || vnc_server_serve(0, 2, 1, "x", 1) != VNC_ERROR_VERSION;
 }
 END
 other_number() {
@@ -153,12 +154,13 @@ run() { # NAME PROGRAM HOW..: each example, as it is to be run
     shift 2
     case $name in
     play) "$@" "$program" | cmp - "$here/../crates/vncdemo/stdout" ;;
-    edges | server_edges | rfb_edges | screen_calls | server_calls | server_viewers | server_events | server_limits | server_record) says_ok "$name" "$@" "$program" ;;
+    edges | server_edges | rfb_edges | screen_calls | server_calls | server_adopt | server_viewers | server_events | server_limits | server_record) says_ok "$name" "$@" "$program" ;;
     serve) looked_at "640 by 480, . colours, demo" "$@" "$program" PORT 3 ;;
     threads) looked_at "640 by 480, [23] colours, threads" "$@" "$program" PORT 3 ;;
     clock) looked_at "172 by 44, 3 colours, clock" "$@" "$program" PORT 10 ;;
     sketch) looked_at "640 by 480, [1-4] colours, sketch" "$@" "$program" PORT 5 ;;
     own_pixels) looked_at "320 by 200, 20[0-9][0-9] colours, own pixels" "$@" "$program" PORT 5 ;;
+    inetd) looked_at "320 by 200, [12] colours, inetd" python3 "$here/tools/inetd.py" PORT 3 "$@" "$program" ;;
     own_loop) looked_at "320 by 200, 1 colours, own loop" with_input 5 "$@" "$program" PORT ;;
     *) "$@" "$program" ;;
     esac
@@ -173,7 +175,7 @@ if ! { $CC $sanitize -o "$room/none" "$room/none.c" && "$room/none"; } 2>/dev/nu
     sanitize=
     left+=("sanitizers: not installed")
 fi
-for source in "$here"/examples/*.c "$here"/tools/{rfb_edges,screen_calls,server_calls,server_viewers,server_events,server_limits,server_record}.c; do
+for source in "$here"/examples/*.c "$here"/tools/{rfb_edges,screen_calls,server_calls,server_adopt,server_viewers,server_events,server_limits,server_record}.c; do
     name=$(basename "$source" .c)
     for standard in c99 c11 c++17; do
         case $standard in c++*) have "${CXX:-c++}" || continue ;; esac
@@ -318,7 +320,7 @@ refused() { # PROGRAM FIRST LAST ARGUMENT..
 if $CC -Wall -Wextra -Werror -shared -fPIC -o "$room/refuse.so" "$here/tools/refuse.c" -ldl; then
     for name in play edges server_edges rfb_edges screen_calls; do try "$name: each of its first 150 allocations is refused" refused "$name" 1 150; done
     try "rfb_edges, its second half first: each of its first 150 allocations is refused" refused rfb_edges 1 150 second
-    for name in server_calls server_viewers server_events server_limits server_record; do
+    for name in server_calls server_adopt server_viewers server_events server_limits server_record; do
         try "$name: each of its first 150 allocations is refused" refused "$name" 1 150 soon
     done
     for name in clock sketch own_pixels own_loop; do try "$name: each of its first 40 allocations is refused" refused "$name" 1 40 0 1; done

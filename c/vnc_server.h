@@ -2,7 +2,8 @@
  * the library does is proved; this header, and the C that includes it, are not.
  *
  * A server has a picture, a port on which it listens, and the sockets of its
- * viewers. The program draws (vnc_server_paint), takes turns
+ * viewers; or it listens nowhere, and has those that vnc_server_adopt takes in.
+ * The program draws (vnc_server_paint), takes turns
  * (vnc_server_process_events), and fetches what its viewers told
  * (vnc_server_next_inputs) and which of them came and went
  * (vnc_server_next_events). vnc_screen.h has the same picture for programs with
@@ -15,21 +16,24 @@
  *            closed server holds no other memory and no descriptor: the
  *            program may free its memory, or listen there again. Memory that
  *            a call is given is used during that call alone, and the library
- *            hands out no pointers but constant texts.
+ *            hands out no pointers but constant texts. vnc_server_adopt says
+ *            whose a descriptor is.
  * Threads    One call at a time for each server, from any thread: where several
  *            threads use one, the program has a lock around each call, and a
  *            turn that waits holds it; vnc_waker_wake ends the wait. Two
  *            servers have nothing in common. No call locks or starts a thread,
  *            and only vnc_server_process_events waits; a signal ends its wait.
  * Results    0 or more: done. Below 0: a vnc_code, which vnc_code_text tells,
- *            and nothing has changed; vnc_server_process_events and
- *            vnc_server_update_from say what has. A call of a closed server
- *            answers VNC_ERROR_CLOSED, but for those that say otherwise.
+ *            and nothing has changed; vnc_server_process_events,
+ *            vnc_server_update_from and vnc_server_adopt say what has. A call
+ *            of a closed server answers VNC_ERROR_CLOSED, but for those that
+ *            say otherwise.
  *            VNC_ERROR_NO_MEMORY may come from each call that draws,
  *            listens, takes a turn or says so.
  * errno      Says why, where the system refused: behind
  *            VNC_ERROR_CANNOT_LISTEN, VNC_ERROR_CANNOT_RECORD,
- *            VNC_ERROR_NETWORK and VNC_ERROR_CLOCK.
+ *            VNC_ERROR_NETWORK, VNC_ERROR_CLOCK, VNC_ERROR_BAD_SOCKET and
+ *            VNC_ERROR_CANNOT_ADOPT.
  * Held       For each viewer one update on its way, which holds 4 bytes for
  *            each pixel, and what its socket didn't take of 64 KB. Inputs and
  *            events wait until they are fetched: at most 4,096 inputs with 4 MB
@@ -37,12 +41,14 @@
  *            and an input for which there is no memory, is lost and counted:
  *            vnc_server_lost_count.
  * Security   None but the address: who reaches the port sees the picture, and
- *            can send inputs. No call raises SIGPIPE.
+ *            can send inputs. Whose connection is adopted, the program
+ *            decides. No call raises SIGPIPE.
  * Undefined  A pointer to a server that is null, freed, not initialised or
  *            moved; a buffer or data that is smaller than its count says; two
  *            calls for one server at once; a call from a signal handler, or
  *            from the child of a fork of a program with threads; closing a
- *            descriptor of the library's. Anything else gets an answer.
+ *            descriptor of the library's, or having it adopted once more.
+ *            Anything else gets an answer.
  */
 #ifndef VNC_SERVER_H
 #define VNC_SERVER_H
@@ -93,8 +99,8 @@ VNC_LAYOUT(vnc_event, 24, 8);
 
 /* ---- Beginning and end ---- */
 
-/* Returns the number of the library's interface. vnc_server_new and
- * vnc_server_listen compare it with VNC_SERVER_ABI. */
+/* Returns the number of the library's interface. vnc_server_new,
+ * vnc_server_listen and vnc_server_serve compare it with VNC_SERVER_ABI. */
 uint32_t vnc_server_abi(void);
 
 /* Returns how many bytes a server takes. */
@@ -135,6 +141,32 @@ static inline int32_t vnc_server_listen(vnc_server *server,
                                strlen(address), port, width, height,
                                (const uint8_t *)name, strlen(name),
                                viewers ? viewers : VNC_SERVER_VIEWERS);
+}
+
+/* Does what vnc_server_serve does, for a name of so many bytes, and `viewers`
+ * as it stands. */
+int32_t vnc_server_serve_n(vnc_server *server,
+                           uint32_t width, uint32_t height,
+                           const uint8_t *name, size_t name_count,
+                           uint32_t viewers);
+
+/* Serves a black picture as vnc_server_listen does, but listens nowhere: its
+ * viewers are those that vnc_server_adopt takes in, and its port is 0.
+ * Returns 0, or VNC_ERROR_VERSION, VNC_ERROR_BAD_SIZE, VNC_ERROR_BAD_NAME,
+ * VNC_ERROR_NETWORK, VNC_ERROR_NO_MEMORY, or VNC_ERROR_CANNOT_RECORD where
+ * vnc_server_record named a file: what listens nowhere is not recorded, and
+ * errno is ENOTSUP. A closed server may be told to serve. */
+static inline int32_t vnc_server_serve(vnc_server *server,
+                                       uint32_t width, uint32_t height,
+                                       const char *name, uint32_t viewers)
+{
+    int32_t code;
+    if (vnc_server_abi() != VNC_SERVER_ABI) return VNC_ERROR_VERSION;
+    code = vnc_server_serve_n(server, width, height, (const uint8_t *)name,
+                              strlen(name),
+                              viewers ? viewers : VNC_SERVER_VIEWERS);
+    if (code == VNC_ERROR_CANNOT_RECORD) errno = ENOTSUP;
+    return code;
 }
 
 /* Does what vnc_server_record does, for a path of so many bytes. */
@@ -220,6 +252,27 @@ static inline int32_t vnc_server_new(const char *address, uint16_t port,
                                    "", out);
 }
 
+/* Makes a server in memory of malloc's, which listens nowhere. The arguments
+ * and the codes are those of vnc_server_serve. `*out` is NULL where it is
+ * refused, and then nothing is made. */
+static inline int32_t vnc_server_new_unbound(uint32_t width, uint32_t height,
+                                             const char *name,
+                                             uint32_t viewers,
+                                             vnc_server **out)
+{
+    int32_t code;
+    vnc_server *server;
+    *out = NULL;
+    if (vnc_server_abi() != VNC_SERVER_ABI) return VNC_ERROR_VERSION;
+    server = (vnc_server *)malloc(vnc_server_size());
+    if (!server) return VNC_ERROR_NO_MEMORY;
+    vnc_server_init(server);
+    code = vnc_server_serve(server, width, height, name, viewers);
+    if (code == 0) *out = server;
+    else vnc_server_free(server);
+    return code;
+}
+
 /* ---- Turns ---- */
 
 /* Takes a turn (rfbProcessEvents): waits until something can be done, at most
@@ -275,11 +328,33 @@ int64_t vnc_server_full_request_count(const vnc_server *server);
 
 /* ---- Viewers ---- */
 
+/* Takes in a connection that the program accepted or made itself: from inetd or
+ * systemd, an end of a socketpair, a UNIX socket, one that it connected
+ * (inetdSock, rfbNewClient, rfbReverseConnection). Also of a server that
+ * listens. It is read from in the next turn, and vnc_server_next_events tells
+ * that it came.
+ *   fd  a stream socket, connected; it is made non-blocking, and so is each
+ *       descriptor of the same socket
+ * Returns the viewer's number, above 0, or a code:
+ *   VNC_ERROR_BAD_SOCKET    it is no socket, or not connected
+ *   VNC_ERROR_FULL          as many viewers are connected as may be; it was
+ *                           told "too many viewers" (7.1.2)
+ *   VNC_ERROR_CANNOT_ADOPT  the system refused to watch it, or there was no
+ *                           memory for it
+ *   VNC_ERROR_NO_MEMORY, VNC_ERROR_NETWORK, VNC_ERROR_CLOCK  as elsewhere
+ * Behind VNC_ERROR_BAD_SOCKET and VNC_ERROR_CLOSED the descriptor stays the
+ * program's. Otherwise it is the server's, also behind the other codes: these
+ * have closed it, and the server closes it once the viewer has gone, or with
+ * itself. The other end reads its end then, unless the program has another
+ * descriptor of the same socket, as 1 and 2 of inetd's. */
+int64_t vnc_server_adopt(vnc_server *server, int32_t fd);
+
 /* Returns how many viewers are connected. */
 int32_t vnc_server_viewer_count(const vnc_server *server);
 
 /* Copies the numbers of the connected viewers into `buffer`, in the order in
- * which they came, as many as fit. Returns how many, or
+ * which they came, as many as fit. Returns how many: where that is `count`,
+ * there may be more, and vnc_server_viewer_count says how many there are. Or
  * VNC_ERROR_NO_MEMORY. */
 int32_t vnc_server_numbers(const vnc_server *server,
                            uint64_t *buffer, size_t count);
@@ -306,8 +381,8 @@ int32_t vnc_server_viewer_address_n(const vnc_server *server, uint64_t viewer,
  * much of it as fits with a zero behind it: VNC_ADDRESS_SIZE bytes are enough
  * (host of rfbClientRec). On "::" an address of IPv4 is "::ffff:127.0.0.1".
  * Returns 0, or VNC_ERROR_NO_VIEWER, VNC_ERROR_NO_MEMORY, or VNC_ERROR_NETWORK
- * where the system doesn't tell, as when the viewer has just gone; `buffer` is
- * "" then. */
+ * where the system doesn't tell, as when the viewer has just gone, and where
+ * its socket has no IP address, as a UNIX socket; `buffer` is "" then. */
 static inline int32_t vnc_server_viewer_address(const vnc_server *server,
                                                 uint64_t viewer, char *buffer,
                                                 size_t size)
@@ -430,7 +505,7 @@ int64_t vnc_server_update_from(vnc_server *server, uint32_t left, uint32_t top,
 
 /* ---- What there is ---- */
 
-/* Returns the port on which it listens. */
+/* Returns the port on which it listens; 0 where it listens nowhere. */
 int32_t vnc_server_port(const vnc_server *server);
 
 /* Returns the picture's columns, and its rows. */

@@ -38,6 +38,9 @@ enum vnc_code {
     VNC_ERROR_TOO_FEW_BYTES = -19,  /* the rows take more than there are */
     VNC_ERROR_CANNOT_RECORD = -20,  /* the file can't be made: see errno */
     VNC_ERROR_VERSION = -21,        /* header and library differ */
+    VNC_ERROR_BAD_SOCKET = -22,     /* no socket that is connected: see errno */
+    VNC_ERROR_FULL = -23,           /* as many viewers as may be connected */
+    VNC_ERROR_CANNOT_ADOPT = -24,   /* the system refused it: see errno */
     VNC_ERROR_CLOSED = -32          /* the screen, or the server, is closed */
 };
 
@@ -66,6 +69,9 @@ static inline const char *vnc_code_text(int32_t code)
     case VNC_ERROR_TOO_FEW_BYTES: return "the rows take more bytes";
     case VNC_ERROR_CANNOT_RECORD: return "the record's file can't be made";
     case VNC_ERROR_VERSION: return "the library is of another version";
+    case VNC_ERROR_BAD_SOCKET: return "not a socket that is connected";
+    case VNC_ERROR_FULL: return "too many viewers";
+    case VNC_ERROR_CANNOT_ADOPT: return "the connection can't be taken in";
     case VNC_ERROR_CLOSED: return "closed";
     default: return code < 0 ? "an unknown error" : "done";
     }

@@ -1,9 +1,9 @@
 #!/usr/bin/env python3
 """check.py: holds the documents to the repository. Each file, folder, crate, function and type that a document names between backticks
 is there, and where a document says in which file, in that one; docs/DEFINITIONS.md names each file of definitions that a contract rests
-on; the comments of functions begin with what these do, but in the crates of ODD_COMMENTS; and the proofs of the C libraries' doors are
-what c/tools/walks.py writes. It prints a line for each thing that isn't so, and ends with status 1 where there is one. CHANGELOG.md,
-which speaks of names that are gone, isn't looked at."""
+on; the comments of functions begin with what these do; and the proofs of the C libraries' doors are what c/tools/walks.py writes. It
+prints a line for each thing that isn't so, and ends with status 1 where there is one. CHANGELOG.md, which speaks of names that are
+gone, isn't looked at."""
 import glob
 import os
 import re
@@ -21,13 +21,6 @@ FOREIGN = re.compile(r"(rfb|sra)[A-Z]\w*|rfb\w*\.h|\w+_t|lib\w+|x\w*vnc\w*|gvnc\
 
 # A function with its comment's first word, its attributes between.
 COMMENTED = re.compile(r"^[ \t]*///[ \t]*(\S*)[^\n]*\n(?:[ \t]*(?:///|#\[)[^\n]*\n)*[ \t]*(?:pub(?:\([a-z]+\))? )?(?:const |unsafe |extern \"C\" )*fn (\w+)", re.M)
-# Crates in which some comments begin otherwise, still.
-ODD_COMMENTS = {
-    "client_list", "copy_schedule", "demo_app", "encode_hextile", "encode_raw", "encode_rre", "example_pointer", "framebuffer", "kept_list",
-    "listed", "pixel_translate", "region", "region_bands", "region_rows", "region_sets", "scene", "span_arena", "subrectangles",
-    "test_connections_memory", "test_demo_app_commands", "test_input_queue_threads", "test_parts_calls", "test_region_lists",
-    "viewer_picture", "vnc_server",
-}
 
 
 def text_of(path):
@@ -108,8 +101,7 @@ def definitions(files):
 def comments(files):
     """The functions whose comments don't begin with a verb in the third person, as "Returns"."""
     for path in files:
-        it = re.match(r"crates/(\w+)/src/.*\.rt$", path)
-        if it and it[1] not in ODD_COMMENTS:
+        if re.match(r"crates/\w+/src/.*\.rt$", path):
             yield from (f"{path}: the comment of {name} begins with `{word}`, no verb in the third person" for word, name in COMMENTED.findall(text_of(path))
                         if not re.fullmatch(r"[A-Z][a-z]+s,?", word) or word in ("Its", "This", "Is"))
 

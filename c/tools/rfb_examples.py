@@ -90,6 +90,7 @@ def resize(viewer):
 def vncev(viewer):
     viewer.key(*b"xyz")
     viewer.point(1, 7, 8)
+    viewer.point(0, 7, 8)
 
 
 def fontsel(viewer):

@@ -58,6 +58,7 @@ static int refuses_all(void)
     IS(vnc_server_width(s), VNC_ERROR_CLOSED);
     IS(vnc_server_height(s), VNC_ERROR_CLOSED);
     IS(vnc_server_process_events(s, 0), VNC_ERROR_CLOSED);
+    IS(vnc_server_adopt(s, -1), VNC_ERROR_CLOSED);
     IS(vnc_server_close_viewer(s, 1), VNC_ERROR_CLOSED);
     IS(vnc_server_viewer_address_n(s, 1, room, 2), VNC_ERROR_CLOSED);
     IS(vnc_server_settings(s, 1, set), VNC_ERROR_CLOSED);
@@ -176,12 +177,12 @@ static int says_why(void)
 static int has_texts(void)
 {
     int32_t code, other;
-    for (code = VNC_ERROR_VERSION; code <= 0; code++) {
+    for (code = VNC_ERROR_CANNOT_ADOPT; code <= 0; code++) {
         HOLDS(strcmp(vnc_code_text(code), vnc_code_text(VNC_ERROR_CLOSED)) != 0);
-        for (other = VNC_ERROR_VERSION - 1; other < code; other++) HOLDS(strcmp(vnc_code_text(code), vnc_code_text(other)) != 0);
+        for (other = VNC_ERROR_CANNOT_ADOPT - 1; other < code; other++) HOLDS(strcmp(vnc_code_text(code), vnc_code_text(other)) != 0);
     }
     IS(strcmp(vnc_code_text(7), vnc_code_text(0)), 0);
-    IS(strcmp(vnc_code_text(INT32_MIN), vnc_code_text(VNC_ERROR_VERSION - 1)), 0);
+    IS(strcmp(vnc_code_text(INT32_MIN), vnc_code_text(VNC_ERROR_CANNOT_ADOPT - 1)), 0);
     return 0;
 }
 

@@ -151,6 +151,38 @@ static int lets_go(void)
     return is_over();
 }
 
+/* The next input is a key of the first viewer that goes down or up. */
+static int is_told(int down, uint32_t key)
+{
+    vnc_input in, told = {1, VNC_INPUT_KEY, 0, 0, 0, 0, 0, 0, 0};
+    told.down = down;
+    told.key = key;
+    return next_input(&in) && is_input(&in, &told);
+}
+
+/* Nothing stays down: of 512 keys that are down the earliest is let go before a further input, and the others where their viewer leaves. */
+static int lets_keys_go(void)
+{
+    enum { KEYS = 512, KEY = 0x1000 };
+    uint32_t k;
+    IS(listens(2, 1), 0);
+    HOLDS(opens(&first));
+    HOLDS(comes(1));
+    for (k = 0; k <= KEYS; k++) {
+        char press[] = {4, 1, 0, 0, 0, 0, 0, 0};
+        press[6] = (char)((KEY + k) / 256);
+        press[7] = (char)((KEY + k) % 256);
+        HOLDS(says(first, press, sizeof press));
+        if (k == KEYS) HOLDS(is_told(0, KEY));
+        HOLDS(is_told(1, KEY + k));
+    }
+    leaves(&first);
+    for (k = 1; k <= KEYS; k++) HOLDS(is_told(0, KEY + k));
+    HOLDS(goes(1, VNC_REASON_LEFT, 0));
+    IS(vnc_server_lost_count(s), 0);
+    return is_over();
+}
+
 /* Where as many viewers are connected as may be, a further one waits until one has gone. */
 static int is_full(void)
 {
@@ -185,6 +217,7 @@ int main(int argc, char **argv)
     EACH(k, faults) ROW(k, is_at_fault(k));
     DO(resets());
     DO(lets_go());
+    DO(lets_keys_go());
     DO(is_full());
     vnc_server_free(s);
     puts("server_events ok");

@@ -24,13 +24,16 @@ static void puts_number(uint8_t *at, uint32_t number)
     at[0] = (uint8_t)(number >> 24), at[1] = (uint8_t)(number >> 16), at[2] = (uint8_t)(number >> 8), at[3] = (uint8_t)number;
 }
 
-/* A viewer says that so many keys go down, numbered from 0 on (7.5.4); and so many texts of so many letters, at most 2,049 (7.5.6). */
+/* A viewer says that so many keys go down, numbered from 0 to 499 again and again (7.5.4), so that none is let go for another; and so many
+ * texts of so many letters, at most 2,049 (7.5.6). */
+enum { KEYS = 500 };
+
 static int says_keys(uint32_t count)
 {
     uint8_t message[8] = {4, 1, 0, 0, 0, 0, 0, 0};
-    uint32_t key;
-    for (key = 0; key < count; key++) {
-        puts_number(message + 4, key);
+    uint32_t k;
+    for (k = 0; k < count; k++) {
+        puts_number(message + 4, k % KEYS);
         if (!says(first, message, 8)) return 0;
     }
     return 1;
@@ -46,12 +49,15 @@ static int says_texts(uint32_t count, uint32_t length)
     return 1;
 }
 
-/* The next inputs, which are there, are so many keys, numbered from 0 on; and so many texts, each of so many letters. */
+/* The next inputs, which are there, are so many of these keys; and so many texts, each of so many letters. */
 static int told_keys(uint32_t count)
 {
     vnc_input in = {0, 0, 0, 0, 0, 0, 0, 0, 0}, want = {1, VNC_INPUT_KEY, 1, 0, 0, 0, 0, 0, 0};
-    for (want.key = 0; want.key < count; want.key++)
+    uint32_t k;
+    for (k = 0; k < count; k++) {
+        want.key = k % KEYS;
         if (vnc_server_next_inputs(s, &in, 1) != 1 || !is_input(&in, &want)) return 0;
+    }
     return 1;
 }
 

@@ -47,7 +47,7 @@ format_of [] n table = if n == 0 then Some (TrueColour server_format) else Some 
 format_of (l ∷ []) n table = if n == 0 then option_map TrueColour (true_colour_of l) else None
 format_of (l ∷ m ∷ ls) n table = None
 
-abbrev pub source_from : ℕ → ℕ → ℕ → List ℕ → Option SourceFormat → Option Source
+abbrev pub source_from : (width height stride : ℕ) → List ℕ → Option SourceFormat → Option Source
 source_from width height stride bytes format = option_map (λ f. record { width = width; height = height; stride = stride; bytes = bytes; format = f }) format
 
 abbrev pub source_code : SourceError → ℤ

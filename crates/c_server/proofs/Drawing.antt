@@ -73,18 +73,18 @@ call_undrawn c list e a b noted screen still = record {
   quiet = λ fine. ((or_parts _ _ (sym noted.noticed ∙ fine)).1, refl);
 }
 
-pub draws : drawn_is_served → (desk : Standing) (before : Option Serving) (s : Serving) (a t : Surface) (e : Event) (result : Result (Unit {0}) ScreenError) (number code : ℤ) (port : ℕ) (inputs : List (ℕ × Input)) (visits : List Visit) (text : List ℕ) (lost full texts : ℕ) (path : List ℕ) (on : Bool)
-    → number ≡ code → record { served = before; port = port; inputs = inputs; visits = visits; text = text; lost = lost; full_requests = full; text_room = texts; record_path = path; recorded = on } ≡ desk → before ≡ Some s → a ≡ s.surface → is_drawing (owner_of e) ≡ true → IsCodeOf result code
+pub draws : drawn_is_served → (desk : Standing) (before : Option Serving) (s : Serving) (a t : Surface) (e : Event) (result : Result (Unit {0}) ScreenError) (number code : ℤ) (port granted : ℕ) (inputs : List (ℕ × Input)) (visits : List Visit) (text : List ℕ) (lost full texts : ℕ) (path : List ℕ) (on : Bool)
+    → number ≡ code → record { served = before; port = port; viewers = granted; inputs = inputs; visits = visits; text = text; lost = lost; full_requests = full; text_room = texts; record_path = path; recorded = on } ≡ desk → before ≡ Some s → a ≡ s.surface → is_drawing (owner_of e) ≡ true → IsCodeOf result code
     → ((due : Option ScreenError) → Refuses result due → Answers (option_map code_of due) (λ n. n ≡ done) code)
     → ((c : Config) (list : List Event) → a.screen ≡ state c list → OnOk result (t.screen ≡ state c (list ++ e ∷ [])))
     → ((c : Config) (list : List Event) → a.screen ≡ state c list → OnOk result (RecordsMore c list (e ∷ []) a.scribed t.scribed)) → OnErr result (t.scribed ≡ a.scribed) → Refuses result (refusal a.screen e) → OnErr result (t.screen ≡ a.screen) → IsNotedAfter e a t
-    → Draws e desk (record { served = Some (record s { surface = t }); port = port; inputs = inputs; visits = visits; text = text; lost = lost; full_requests = full; text_room = texts; record_path = path; recorded = on }) number
+    → Draws e desk (record { served = Some (record s { surface = t }); port = port; viewers = granted; inputs = inputs; visits = visits; text = text; lost = lost; full_requests = full; text_room = texts; record_path = path; recorded = on }) number
 unfolding call_drawn call_undrawn
-draws law desk before s a t e result number code port inputs visits text lost full texts path on number_is view is same own code_is answers step recorded unrecorded refuses err noted =
+draws law desk before s a t e result number code port granted inputs visits text lost full texts path on number_is view is same own code_is answers step recorded unrecorded refuses err noted =
     rw (sym view) (rw is (rw number_is (subst (λ (x : Surface). ((c : Config) (list : List Event) → x.screen ≡ state c list → OnOk result (t.screen ≡ state c (list ++ e ∷ []))) → ((c : Config) (list : List Event) → x.screen ≡ state c list → OnOk result (RecordsMore c list (e ∷ []) x.scribed t.scribed)) → OnErr result (t.scribed ≡ x.scribed) → Refuses result (refusal x.screen e) → OnErr result (t.screen ≡ x.screen) → IsNotedAfter e x t → Draws e (standing s) (standing later) code) (sym same) drawn step recorded unrecorded refuses err noted)))
   where
     standing : Serving → Standing
-    standing s = record { served = Some s; port = port; inputs = inputs; visits = visits; text = text; lost = lost; full_requests = full; text_room = texts; record_path = path; recorded = on }
+    standing s = record { served = Some s; port = port; viewers = granted; inputs = inputs; visits = visits; text = text; lost = lost; full_requests = full; text_room = texts; record_path = path; recorded = on }
 
     later : Serving
     later = record s { surface = t }

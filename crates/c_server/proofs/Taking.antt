@@ -64,11 +64,11 @@ taken_in law on s left top a t (Err e) code is takes drawn noticed = λ c list f
       },
     )
 
-pub takes : drawn_is_served → (desk : Standing) (before : Option Serving) (s : Serving) (a t : Surface) (source : Option Source) (made : Source) (left top : ℕ) (r : Result ℕ ScreenError) (number code : ℤ) (port : ℕ) (inputs : List (ℕ × Input)) (visits : List Visit) (text : List ℕ) (lost full texts : ℕ) (path : List ℕ) (on : Bool)
-    → number ≡ code → record { served = before; port = port; inputs = inputs; visits = visits; text = text; lost = lost; full_requests = full; text_room = texts; record_path = path; recorded = on } ≡ desk → before ≡ Some s → a ≡ s.surface → source_due source ≡ None → source ≡ Some made → IsCode r code
+pub takes : drawn_is_served → (desk : Standing) (before : Option Serving) (s : Serving) (a t : Surface) (source : Option Source) (made : Source) (left top : ℕ) (r : Result ℕ ScreenError) (number code : ℤ) (port granted : ℕ) (inputs : List (ℕ × Input)) (visits : List Visit) (text : List ℕ) (lost full texts : ℕ) (path : List ℕ) (on : Bool)
+    → number ≡ code → record { served = before; port = port; viewers = granted; inputs = inputs; visits = visits; text = text; lost = lost; full_requests = full; text_room = texts; record_path = path; recorded = on } ≡ desk → before ≡ Some s → a ≡ s.surface → source_due source ≡ None → source ≡ Some made → IsCode r code
     → ((config : Config) (list : List Event) → config_refusal config ≡ None → a.screen ≡ state config list → TakesTelling (λ es. RecordsMore config list es a.scribed t.scribed) made left top config list a.screen t.screen r) → t.drawn ≡ true → t.noticed ≡ a.noticed
-    → TakesPixels source left top desk (record { served = Some (record s { surface = t }); port = port; inputs = inputs; visits = visits; text = text; lost = lost; full_requests = full; text_room = texts; record_path = path; recorded = on }) number
-takes law desk before s a t source made left top r number code port inputs visits text lost full texts path on number_is view is same accepted source_is code_is taking drawn noticed =
+    → TakesPixels source left top desk (record { served = Some (record s { surface = t }); port = port; viewers = granted; inputs = inputs; visits = visits; text = text; lost = lost; full_requests = full; text_room = texts; record_path = path; recorded = on }) number
+takes law desk before s a t source made left top r number code port granted inputs visits text lost full texts path on number_is view is same accepted source_is code_is taking drawn noticed =
     rw (sym view) (rw is (rw number_is (record {
       refused = λ refusal due. let two : ◌≡◌ {A = Option ℤ} None (Some refusal) = sym accepted ∙ due in absurd cc;
       taken = λ fine. subst (λ (o : Option Source). TakesIn left top code on o (Some s) (Some later)) (sym source_is)

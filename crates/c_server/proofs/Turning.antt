@@ -19,8 +19,8 @@ use Rattle.c_server.specs.declared.listening.ListenError.{ListenError}
 use Rattle.c_server.specs.declared.listening.ListenError.TheVariants.{Refused, BadAddress, CannotListen, CannotRecord}
 use Rattle.c_server.specs.declared.visits.Visit.{Visit}
 use Rattle.c_server.specs.Codes.{closed_code, turn_code}
-use Rattle.c_server.specs.Listening.{IsOfSystem, IsRefusedBy, listen_code}
-use Rattle.c_server.specs.Calls.{IsListenCode, LetsGo, Listens, TakesTurn}
+use Rattle.c_server.specs.Listening.{IsOfSystem, IsRefusedBy, listen_code, unbound_code}
+use Rattle.c_server.specs.Calls.{IsListenCode, IsServeCode, LetsGo, Listens, ServesUnbound, TakesTurn}
 use Rattle.c_server.specs.Desk.{Standing, IsPartOf, IsPutBehind, desk_sockets, held_where, is_named, fitting, texts_limit, texts_size}
 use Rattle.c_server.specs.Gathering.{IsKept}
 use Rattle.c_server.specs.System.{IsAddress, IsNoAddress}
@@ -68,14 +68,15 @@ listens-err {X = X} digits path result e None is h bad = of-system digits path e
 listens-err digits path result e (Some r) is h bad = let same : e ≡ Refused r = cc in ap listen_code same
 
 -- it listens
-pub listens : {X : Type 0} (result : Result X ListenError) (x : X) (c : Config) (desk new : Standing) (s : Serving) (digits : List ℕ) (asked port : ℕ) (path : List ℕ) → path ≡ desk.record_path
-    → new ≡ record { served = Some s; port = port; inputs = []; visits = []; text = []; lost = 0; full_requests = 0; text_room = texts_limit; record_path = []; recorded = is_named desk.record_path }
-    → Serves c (desk_sockets (is_named path) c) [] s → result ≡ Ok x → IsRefusedBy path (config_refusal c) result → (asked ≢ 0 → port ≡ asked) → IsAddress digits → Listens c digits asked desk new done
-listens result x c desk new s digits asked port path same so serves is h port_is spelled = rw so (record {
+pub listens : {X : Type 0} (result : Result X ListenError) (x : X) (c : Config) (desk new : Standing) (s : Serving) (viewers : ℕ) (digits : List ℕ) (asked port granted : ℕ) (path : List ℕ) → path ≡ desk.record_path
+    → new ≡ record { served = Some s; port = port; viewers = granted; inputs = []; visits = []; text = []; lost = 0; full_requests = 0; text_room = texts_limit; record_path = []; recorded = is_named desk.record_path }
+    → Serves c (desk_sockets (is_named path) c) [] s → result ≡ Ok x → IsRefusedBy path (config_refusal c) result → (asked ≢ 0 → port ≡ asked) → IsAddress digits → granted ≡ viewers → Listens c viewers digits asked desk new done
+listens result x c desk new s viewers digits asked port granted path same so serves is h port_is spelled as_many = rw so (record {
   answer = subst (λ (p : List ℕ). Answers (option_map code_of (config_refusal c)) (IsListenCode digits p) done) same (listens-ok digits path result x (config_refusal c) is h);
   spelled = λ is_done. spelled;
   serves = λ is_done. subst (λ (p : List ℕ). Serves c (desk_sockets (is_named p) c) [] s) same serves;
   port_is = λ is_done some. port_is some;
+  granted = λ is_done. as_many;
   recorded = λ is_done. refl;
   unnamed = λ is_done. refl;
   inputs = λ is_done. refl;
@@ -88,12 +89,13 @@ listens result x c desk new s digits asked port path same so serves is h port_is
 })
 
 -- it does not
-pub listens-not : {X : Type 0} (result : Result X ListenError) (e : ListenError) (c : Config) (digits : List ℕ) (asked : ℕ) (desk : Standing) (code : ℤ) (path : List ℕ) → path ≡ desk.record_path → code ≡ listen_code e → result ≡ Err e → IsRefusedBy path (config_refusal c) result → IfErr result (λ e. e ≡ BadAddress → IsNoAddress digits) → Listens c digits asked desk desk code
-listens-not result e c digits asked desk code path same code_is is h bad = rw code_is (record {
+pub listens-not : {X : Type 0} (result : Result X ListenError) (e : ListenError) (c : Config) (viewers : ℕ) (digits : List ℕ) (asked : ℕ) (desk : Standing) (code : ℤ) (path : List ℕ) → path ≡ desk.record_path → code ≡ listen_code e → result ≡ Err e → IsRefusedBy path (config_refusal c) result → IfErr result (λ e. e ≡ BadAddress → IsNoAddress digits) → Listens c viewers digits asked desk desk code
+listens-not result e c viewers digits asked desk code path same code_is is h bad = rw code_is (record {
   answer = subst (λ (p : List ℕ). Answers (option_map code_of (config_refusal c)) (IsListenCode digits p) (listen_code e)) same (listens-err digits path result e (config_refusal c) is h bad);
   spelled = λ is_done. absurd (never-listens e is_done);
   serves = λ is_done. absurd (never-listens e is_done);
   port_is = λ is_done. absurd (never-listens e is_done);
+  granted = λ is_done. absurd (never-listens e is_done);
   recorded = λ is_done. absurd (never-listens e is_done);
   unnamed = λ is_done. absurd (never-listens e is_done);
   inputs = λ is_done. absurd (never-listens e is_done);
@@ -102,6 +104,58 @@ listens-not result e c digits asked desk code path same code_is is h bad = rw co
   lost = λ is_done. absurd (never-listens e is_done);
   full_requests = λ is_done. absurd (never-listens e is_done);
   text_room = λ is_done. absurd (never-listens e is_done);
+  refused = λ not_done. refl;
+})
+
+-- ---- listening nowhere
+
+pub at-path : {X : Type 0} (path : List ℕ) (result : Result X ListenError) → IfErr result (λ e. (p : List ℕ) → IsOfSystem p e) → IfErr result (IsOfSystem path)
+at-path path (Ok x) h = tt
+at-path path (Err e) h = h path
+
+never-serves : (e : ListenError) → unbound_code e ≢ done
+never-serves (Refused e) = never_done e
+never-serves BadAddress = λ same. absurd (cc)
+never-serves CannotListen = λ same. absurd (cc)
+never-serves CannotRecord = λ same. absurd (cc)
+
+serves-ok : {X : Type 0} (path : List ℕ) (result : Result X ListenError) (x : X) (o : Option ScreenError) → result ≡ Ok x → is_named path ≡ false → IsRefusedBy path o result → Answers (option_map code_of o) (IsServeCode path) done
+serves-ok path result x None is unnamed h = inl (inl (refl, unnamed))
+serves-ok path result x (Some e) is unnamed h = absurd (cc)
+
+unbound-of-system : (path : List ℕ) (e : ListenError) → IsOfSystem path e → e ≢ BadAddress → IsServeCode path (unbound_code e) ⊎ (unbound_code e ≡ out_of_memory)
+unbound-of-system path (Refused e) h later = inr (ap code_of h)
+unbound-of-system path BadAddress h later = absurd (later refl)
+unbound-of-system path CannotListen h later = inl (inr (inl refl))
+unbound-of-system path CannotRecord h later = inl (inr (inr (refl, h)))
+
+serves-err : {X : Type 0} (path : List ℕ) (result : Result X ListenError) (e : ListenError) (o : Option ScreenError) → result ≡ Err e → IsRefusedBy path o result → IfErr result (λ e. e ≢ BadAddress) → Answers (option_map code_of o) (IsServeCode path) (unbound_code e)
+serves-err {X = X} path result e None is h later = unbound-of-system path e (subst (λ (r : Result X ListenError). IfErr r (IsOfSystem path)) is h) (subst (λ (r : Result X ListenError). IfErr r (λ e. e ≢ BadAddress)) is later)
+serves-err path result e (Some r) is h later = let same : e ≡ Refused r = cc in ap unbound_code same
+
+-- it serves
+pub serves-unbound : {X : Type 0} (result : Result X ListenError) (x : X) (c : Config) (desk new : Standing) (s : Serving) (viewers granted : ℕ) (path : List ℕ) → path ≡ desk.record_path
+    → new ≡ record { served = Some s; port = 0; viewers = granted; inputs = []; visits = []; text = []; lost = 0; full_requests = 0; text_room = texts_limit; record_path = []; recorded = is_named desk.record_path }
+    → Serves c (desk_sockets false c) [] s → result ≡ Ok x → IsRefusedBy path (config_refusal c) result → granted ≡ viewers → is_named path ≡ false → ServesUnbound c viewers desk new done
+serves-unbound result x c desk new s viewers granted path same so serves is h as_many unnamed = rw so (record {
+  answer = subst (λ (p : List ℕ). Answers (option_map code_of (config_refusal c)) (IsServeCode p) done) same (serves-ok path result x (config_refusal c) is unnamed h);
+  serves = λ is_done. subst (λ (b : Bool). Serves c (desk_sockets b c) [] s) (sym unrecorded) serves;
+  others = λ is_done. subst (λ (b : Bool). standing granted (is_named desk.record_path) ≡ standing viewers b) unrecorded (ap (λ n. standing n (is_named desk.record_path)) as_many);
+  refused = λ not_done. absurd (not_done refl);
+})
+  where
+    standing : ℕ → Bool → Standing
+    standing n b = record { served = Some s; port = 0; viewers = n; inputs = []; visits = []; text = []; lost = 0; full_requests = 0; text_room = texts_limit; record_path = []; recorded = b }
+
+    unrecorded : is_named desk.record_path ≡ false
+    unrecorded = ap is_named (sym same) ∙ unnamed
+
+-- it does not
+pub serves-not : {X : Type 0} (result : Result X ListenError) (e : ListenError) (c : Config) (viewers : ℕ) (desk : Standing) (code : ℤ) (path : List ℕ) → path ≡ desk.record_path → code ≡ unbound_code e → result ≡ Err e → IsRefusedBy path (config_refusal c) result → IfErr result (λ e. e ≢ BadAddress) → ServesUnbound c viewers desk desk code
+serves-not result e c viewers desk code path same code_is is h later = rw code_is (record {
+  answer = subst (λ (p : List ℕ). Answers (option_map code_of (config_refusal c)) (IsServeCode p) (unbound_code e)) same (serves-err path result e (config_refusal c) is h later);
+  serves = λ is_done. absurd (never-serves e is_done);
+  others = λ is_done. absurd (never-serves e is_done);
   refused = λ not_done. refl;
 })
 
@@ -142,14 +196,14 @@ all-counted told came came_lost fit others all visits waited kept_lost lost now 
 texts-kept : (inputs kept put fit : List (ℕ × Input)) (texts now left : ℕ) → kept ≡ inputs → put ≡ kept ++ fit → now ≡ left → texts_size fit + left ≡ texts → texts_size put + now ≡ texts_size inputs + texts
 texts-kept inputs kept put fit texts now left same is now_is sum = rw is (rw same (rw now_is (omega (texts-append inputs fit, sum, arith))))
 
-pub turns : (desk : Standing) (before : Option Serving) (s t : Serving) (answer : Result (Unit {0}) LoopError) (code : ℤ) (port : ℕ) (inputs inputs_kept inputs_put came : List (ℕ × Input)) (visits visits_kept visits_put visits_come : List Visit) (room : ℕ) (text : List ℕ) (lost lost_now came_lost kept_lost full full_now texts texts_now : ℕ) (path : List ℕ) (on : Bool)
-    → record { served = before; port = port; inputs = inputs; visits = visits; text = text; lost = lost; full_requests = full; text_room = texts; record_path = path; recorded = on } ≡ desk → before ≡ Some s → code ≡ turn_code answer
+pub turns : (desk : Standing) (before : Option Serving) (s t : Serving) (answer : Result (Unit {0}) LoopError) (code : ℤ) (port granted : ℕ) (inputs inputs_kept inputs_put came : List (ℕ × Input)) (visits visits_kept visits_put visits_come : List Visit) (room : ℕ) (text : List ℕ) (lost lost_now came_lost kept_lost full full_now texts texts_now : ℕ) (path : List ℕ) (on : Bool)
+    → record { served = before; port = port; viewers = granted; inputs = inputs; visits = visits; text = text; lost = lost; full_requests = full; text_room = texts; record_path = path; recorded = on } ≡ desk → before ≡ Some s → code ≡ turn_code answer
     → ((c : Config) (list : List Event) → Serves c (desk_sockets on c) list s → (more : List Event) × Serves c (desk_sockets on c) (list ++ more) t
     × ((told rest : List (ℕ × Input)) × (told ++ rest ≡ inputs_after c list more) × OnOk answer (rest ≡ []) × IsKept told came visits_come room came_lost))
     → inputs_kept ≡ inputs → visits_kept ≡ visits → inputs_put ≡ inputs_kept ++ (fitting (4096 - length inputs_kept) texts came).0 → kept_lost ≡ min (came_lost + ((fitting (4096 - length inputs_kept) texts came).1 + (length visits_come - (1024 - length visits_kept)))) (2 ^ 64 - 1) → texts_now ≡ (fitting (4096 - length inputs_kept) texts came).2 → visits_put ≡ visits_kept ++ take (1024 - length visits_kept) visits_come
     → lost_now ≡ min (lost + kept_lost) (2 ^ 64 - 1) → lost ≤ lost_now → full ≤ full_now
-    → TakesTurn desk (record { served = Some t; port = port; inputs = inputs_put; visits = visits_put; text = text; lost = lost_now; full_requests = full_now; text_room = texts_now; record_path = path; recorded = on }) code
-turns desk before s t answer code port inputs inputs_kept inputs_put came visits visits_kept visits_put visits_come room text lost lost_now came_lost kept_lost full full_now texts texts_now path on view is code_is goes inputs_are visits_are inputs_come all_lost texts_are visits_are_put lost_is more more_full =
+    → TakesTurn desk (record { served = Some t; port = port; viewers = granted; inputs = inputs_put; visits = visits_put; text = text; lost = lost_now; full_requests = full_now; text_room = texts_now; record_path = path; recorded = on }) code
+turns desk before s t answer code port granted inputs inputs_kept inputs_put came visits visits_kept visits_put visits_come room text lost lost_now came_lost kept_lost full full_now texts texts_now path on view is code_is goes inputs_are visits_are inputs_come all_lost texts_are visits_are_put lost_is more more_full =
     let fit = fitting (4096 - length inputs_kept) texts came in
     rw (sym view) (rw is (record {
       answer = (answer, code_is);
@@ -187,10 +241,10 @@ turns desk before s t answer code port inputs inputs_kept inputs_put came visits
     part told kept = part-of-part (fitting (4096 - length inputs_kept) texts came).0 came told (fits-part (4096 - length inputs_kept) texts came) kept.part
 
 -- memory is refused before it begins
-pub no-turn : (desk : Standing) (before : Option Serving) (s : Serving) (port : ℕ) (inputs inputs_kept : List (ℕ × Input)) (visits visits_kept : List Visit) (text : List ℕ) (lost full texts : ℕ) (path : List ℕ) (on : Bool) (code : ℤ)
-    → record { served = before; port = port; inputs = inputs; visits = visits; text = text; lost = lost; full_requests = full; text_room = texts; record_path = path; recorded = on } ≡ desk → before ≡ Some s → code ≡ out_of_memory → inputs_kept ≡ inputs → visits_kept ≡ visits
-    → TakesTurn desk (record { served = Some s; port = port; inputs = inputs_kept; visits = visits_kept; text = text; lost = lost; full_requests = full; text_room = texts; record_path = path; recorded = on }) code
-no-turn desk before s port inputs inputs_kept visits visits_kept text lost full texts path on code view is code_is inputs_are visits_are =
+pub no-turn : (desk : Standing) (before : Option Serving) (s : Serving) (port granted : ℕ) (inputs inputs_kept : List (ℕ × Input)) (visits visits_kept : List Visit) (text : List ℕ) (lost full texts : ℕ) (path : List ℕ) (on : Bool) (code : ℤ)
+    → record { served = before; port = port; viewers = granted; inputs = inputs; visits = visits; text = text; lost = lost; full_requests = full; text_room = texts; record_path = path; recorded = on } ≡ desk → before ≡ Some s → code ≡ out_of_memory → inputs_kept ≡ inputs → visits_kept ≡ visits
+    → TakesTurn desk (record { served = Some s; port = port; viewers = granted; inputs = inputs_kept; visits = visits_kept; text = text; lost = lost; full_requests = full; text_room = texts; record_path = path; recorded = on }) code
+no-turn desk before s port granted inputs inputs_kept visits visits_kept text lost full texts path on code view is code_is inputs_are visits_are =
     rw (sym view) (rw is (rw code_is (record {
       answer = (Err (Screen OutOfMemory), refl);
       served = λ c list stands. record {
@@ -217,11 +271,11 @@ no-turn desk before s port inputs inputs_kept visits visits_kept text lost full 
     })))
 
 -- a viewer is let go, where one has the number
-pub lets_go : (desk : Standing) (before : Option Serving) (s t : Serving) (v : ℕ) (there : Result Bool AllocError) (number code : ℤ) (port : ℕ) (inputs : List (ℕ × Input)) (visits : List Visit) (text : List ℕ) (lost full texts : ℕ) (path : List ℕ) (on : Bool)
-    → number ≡ code → record { served = before; port = port; inputs = inputs; visits = visits; text = text; lost = lost; full_requests = full; text_room = texts; record_path = path; recorded = on } ≡ desk → before ≡ Some s → code ≡ closed_code there
+pub lets_go : (desk : Standing) (before : Option Serving) (s t : Serving) (v : ℕ) (there : Result Bool AllocError) (number code : ℤ) (port granted : ℕ) (inputs : List (ℕ × Input)) (visits : List Visit) (text : List ℕ) (lost full texts : ℕ) (path : List ℕ) (on : Bool)
+    → number ≡ code → record { served = before; port = port; viewers = granted; inputs = inputs; visits = visits; text = text; lost = lost; full_requests = full; text_room = texts; record_path = path; recorded = on } ≡ desk → before ≡ Some s → code ≡ closed_code there
     → (there ≡ Ok false → (key : ℕ) → number_at s.slots key ≢ Some v) → GoesOnServing s t
-    → LetsGo v desk (record { served = Some t; port = port; inputs = inputs; visits = visits; text = text; lost = lost; full_requests = full; text_room = texts; record_path = path; recorded = on }) number
-lets_go desk before s t v there number code port inputs visits text lost full texts path on number_is view is code_is none goes =
+    → LetsGo v desk (record { served = Some t; port = port; viewers = granted; inputs = inputs; visits = visits; text = text; lost = lost; full_requests = full; text_room = texts; record_path = path; recorded = on }) number
+lets_go desk before s t v there number code port granted inputs visits text lost full texts path on number_is view is code_is none goes =
     rw (sym view) (rw is (rw number_is (record {
       answer = (there, code_is, none);
       served = λ c list stands. let p = goes (held_where on) c list stands in (p.0, p.1);

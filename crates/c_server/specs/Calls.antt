@@ -1,5 +1,5 @@
 -- What the calls of a server's desk do: the number that each answers, and the desk before and after it.
-use Rattle.std.specs.Prelude.{◌≡◌, ◌≢◌, ◌⊎◌, ℕ, ◌^◌, ◌+◌, ◌-◌, ◌<◌, ◌≤◌, min, ℤ, pos, Bool, true, false, if◌then◌else◌, ◌<ℤ◌, ◌≤ℤ◌, List, [], ◌∷◌, ◌++◌, length, drop, take, Option, Some, None, Result, Ok, MatchOption, option_map}
+use Rattle.std.specs.Prelude.{◌≡◌, ◌≢◌, ◌⊎◌, ℕ, is_some, count_by, ◌^◌, ◌+◌, ◌-◌, ◌<◌, ◌≤◌, min, ℤ, pos, Bool, true, false, if◌then◌else◌, ◌<ℤ◌, ◌≤ℤ◌, List, [], ◌∷◌, ◌++◌, length, drop, take, Option, Some, None, Result, Ok, IfOk, MatchOption, option_map}
 use Rattle.std.specs.declared.alloc.AllocError.{AllocError}
 use Rattle.std.specs.Map.{keys_of}
 use Rattle.std.specs.declared.time.Duration.{Duration}
@@ -18,28 +18,32 @@ use Rattle.source_pixels.specs.Source.{Source}
 use Rattle.screen.specs.Takes.{IsTaken, IsPartlyTaken}
 use Rattle.screen.specs.Paints.{paints_of}
 use Rattle.event_loop.specs.declared.event_loop.LoopError.{LoopError}
+use Rattle.event_loop.specs.declared.viewers.Admission.{Admission}
+use Rattle.event_loop.specs.Admitting.{IsAdmittedOr}
 use Rattle.c_screen.specs.Codes.{Answers, code_of, done, no_viewer, out_of_memory, shut}
 use Rattle.c_screen.specs.Calls.{settings_code, settings_room, shown_in}
 use Rattle.c_screen.specs.Desk.{IsListOf}
 use Rattle.c_screen.specs.Inputs.{IsFetched}
 use Rattle.c_screen.specs.declared.told.Told.{Told}
 use Rattle.c_server.specs.declared.visits.Visit.{Visit}
-use Rattle.c_server.specs.Codes.{bad_address, cannot_listen, cannot_record, network_failed, clock_failed, closed_code, turn_code}
+use Rattle.c_server.specs.Codes.{adopt_code, bad_address, bad_socket, cannot_listen, cannot_record, full, network_failed, clock_failed, closed_code, turn_code}
 use Rattle.c_server.specs.System.{IsAddress, IsNoAddress, milliseconds_of}
 use Rattle.c_server.specs.Visits.{AreVisits}
+use Rattle.c_server.specs.Gathering.{PutsComing}
 use Rattle.c_screen.specs.Pixels.{source_due}
-use Rattle.c_server.specs.Desk.{texts_limit, texts_size, Standing, StandsFor, IsAsBefore, IsPartOf, IsPutBehind, desk_sockets, due, is_named, region_due}
+use Rattle.c_server.specs.Desk.{nothing_there, texts_limit, texts_size, Standing, StandsFor, IsAsBefore, IsPartOf, IsPutBehind, desk_sockets, due, is_named, region_due}
 
 -- what a call of `listen` answers where the screen is none that is refused, by the digits of the address, and the path of the file in which it is to be recorded
 abbrev pub IsListenCode : List ℕ → List ℕ → ℤ → Type 0
 IsListenCode digits path code = (code ≡ done) ⊎ (((code ≡ bad_address) × IsNoAddress digits) ⊎ ((code ≡ cannot_listen) ⊎ ((code ≡ cannot_record) × (is_named path ≡ true))))
 
--- the desk listens, on this port unless it is 0 of the IP address that the digits spell, and serves a screen with nothing on it to no viewer yet, which is recorded where a file was named; or it is as it was
-pub record Listens (c : Config) (digits : List ℕ) (port : ℕ) (old new : Standing) (code : ℤ) : Type 0 where
+-- the desk listens, on this port unless it is 0 of the IP address that the digits spell, and serves a screen with nothing on it to no viewer yet, and to so many at once at most, which is recorded where a file was named; or it is as it was
+pub record Listens (c : Config) (viewers : ℕ) (digits : List ℕ) (port : ℕ) (old new : Standing) (code : ℤ) : Type 0 where
   pub answer : Answers (option_map code_of (config_refusal c)) (IsListenCode digits old.record_path) code
   pub spelled : code ≡ done → IsAddress digits
   pub serves : code ≡ done → StandsFor c [] new
   pub port_is : code ≡ done → port ≢ 0 → new.port ≡ port
+  pub granted : code ≡ done → new.viewers ≡ viewers
   pub recorded : code ≡ done → new.recorded ≡ is_named old.record_path
   pub unnamed : code ≡ done → new.record_path ≡ []
   pub inputs : code ≡ done → new.inputs ≡ []
@@ -49,6 +53,40 @@ pub record Listens (c : Config) (digits : List ℕ) (port : ℕ) (old new : Stan
   pub full_requests : code ≡ done → new.full_requests ≡ 0
   pub text_room : code ≡ done → new.text_room ≡ texts_limit
   pub refused : code ≢ done → new ≡ old
+
+-- what a call of `serve` answers where the screen is none that is refused, by the path of the file in which it was to be recorded: what listens nowhere is not recorded
+abbrev pub IsServeCode : List ℕ → ℤ → Type 0
+IsServeCode path code = ((code ≡ done) × (is_named path ≡ false)) ⊎ ((code ≡ network_failed) ⊎ ((code ≡ cannot_record) × (is_named path ≡ true)))
+
+-- the desk listens nowhere, and serves a screen with nothing on it to no viewer yet, and to so many at once at most; or it is as it was
+pub record ServesUnbound (c : Config) (viewers : ℕ) (old new : Standing) (code : ℤ) : Type 0 where
+  pub answer : Answers (option_map code_of (config_refusal c)) (IsServeCode old.record_path) code
+  pub serves : code ≡ done → StandsFor c [] new
+  pub others : code ≡ done → new ≡ record nothing_there { served = new.served; viewers = viewers }
+  pub refused : code ≢ done → new ≡ old
+
+-- why a descriptor of the program's is no connection: it is no connected socket, and stays the program's; or the system refuses not to wait at it
+abbrev pub IsSocketRefusal : ℤ → ℤ → Type 0
+IsSocketRefusal fd code = (code ≡ bad_socket) ⊎ ((pos 0 ≤ℤ fd) × (code ≡ network_failed))
+
+-- The loop was asked to take a connection in, and its answer is the code. It is the viewer with the next number, whose coming is put behind those that wait, or counted as lost; or it was refused, and nothing has changed; or the answer is a failure.
+pub record IsAdopted (s : Serving) (old new : Standing) (code : ℤ) : Type 0 where
+  pub now : Serving
+  pub served : new.served ≡ Some now
+  pub answer : Result Admission LoopError
+  pub number : code ≡ adopt_code answer
+  pub admitted : IfOk answer (IsAdmittedOr s now)
+  pub came : PutsComing answer old.visits new.visits old.lost new.lost
+
+-- a connection is turned away where as many viewers are connected as were granted; else the loop was asked, unless memory is refused
+abbrev pub IsAdoptedOrFull : Serving → Standing → Standing → ℤ → Type 0
+IsAdoptedOrFull s old new code = (old.viewers ≤ count_by is_some s.slots → (code ≡ full) × (new ≡ old)) × (count_by is_some s.slots < old.viewers → ((code ≡ out_of_memory) × (new ≡ old)) ⊎ IsAdopted s old new code)
+
+-- A connection that the program has by a descriptor is taken in, or refused. Whatever list of events the screen stood for, it stands for it with others behind it, none of which has an input, and by that list each viewer is served.
+pub record Adopts (fd : ℤ) (old new : Standing) (code : ℤ) : Type 0 where
+  pub answer : MatchOption old.served ((code ≡ shut) × (new ≡ old)) (λ s. (IsSocketRefusal fd code × (new ≡ old)) ⊎ ((pos 0 ≤ℤ fd) × IsAdoptedOrFull s old new code))
+  pub served : (c : Config) (list : List Event) → StandsFor c list old → (more : List Event) × StandsFor c (list ++ more) new × (inputs_after c list more ≡ [])
+  pub same : new ≡ record old { served = new.served; visits = new.visits; lost = new.lost }
 
 -- the next screen is recorded in the file of this path, or in none; or memory for the path is refused
 pub record NamesRecord (path : List ℕ) (old new : Standing) (code : ℤ) : Type 0 where

@@ -1,10 +1,12 @@
 -- The numbers that calls of a server answer, besides those of a screen's desk.
-use Rattle.std.specs.Prelude.{ℕ, ℤ, pos, Bool, true, false, Result, Ok, Err, Some}
+use Rattle.std.specs.Prelude.{ℕ, ◌^◌, min, ℤ, pos, Bool, true, false, Result, Ok, Err, Some}
 use Rattle.std.specs.declared.alloc.AllocError.{AllocError}
 use Rattle.receipts.specs.declared.Ended.{Ended}
 use Rattle.receipts.specs.declared.Ended.TheVariants as ended
 use Rattle.event_loop.specs.declared.event_loop.LoopError.{LoopError}
 use Rattle.event_loop.specs.declared.event_loop.LoopError.TheVariants.{Network, Clock, Screen}
+use Rattle.event_loop.specs.declared.viewers.Admission.{Admission}
+use Rattle.event_loop.specs.declared.viewers.Admission.TheVariants.{Viewer, TurnedAway, Refused}
 use Rattle.c_screen.specs.Codes.{minus, done, no_viewer, out_of_memory, code_of, fault_code}
 
 abbrev pub bad_address : ℤ
@@ -22,12 +24,28 @@ clock_failed = minus 16
 abbrev pub cannot_record : ℤ
 cannot_record = minus 20
 
+abbrev pub bad_socket : ℤ
+bad_socket = minus 22
+
+abbrev pub full : ℤ
+full = minus 23
+
+abbrev pub cannot_adopt : ℤ
+cannot_adopt = minus 24
+
 -- why a turn ended, or 0
 abbrev pub turn_code : Result (Unit {0}) LoopError → ℤ
 turn_code (Ok x) = done
 turn_code (Err Network) = network_failed
 turn_code (Err Clock) = clock_failed
 turn_code (Err (Screen e)) = code_of e
+
+-- the number of the viewer whose connection it is now, or why it is nobody's
+abbrev pub adopt_code : Result Admission LoopError → ℤ
+adopt_code (Ok (Viewer v)) = pos (min v (2 ^ 62))
+adopt_code (Ok TurnedAway) = cannot_adopt
+adopt_code (Ok Refused) = cannot_adopt
+adopt_code (Err e) = turn_code (Err e)
 
 -- a viewer is let go, or why not
 abbrev pub closed_code : Result Bool AllocError → ℤ

@@ -39,10 +39,11 @@ fitting places room (i ∷ inputs) = if nat_lt 0 places && nat_le (text_size i.1
 abbrev pub texts_limit : ℕ
 texts_limit = 2 ^ 22
 
--- the screen and its viewers' connections, unless the desk is shut; the port; what came and wasn't fetched, the inputs with their viewers' numbers; the text that was fetched last; how much was lost; how many full requests were told; how many bytes more may wait in texts; the path of the file in which the next screen is recorded, empty for none; and whether this one is recorded
+-- the screen and its viewers' connections, unless the desk is shut; the port; how many viewers are granted at once; what came and wasn't fetched, the inputs with their viewers' numbers; the text that was fetched last; how much was lost; how many full requests were told; how many bytes more may wait in texts; the path of the file in which the next screen is recorded, empty for none; and whether this one is recorded
 pub record Standing : Type 0 where
   pub served : Option Serving
   pub port : ℕ
+  pub viewers : ℕ
   pub inputs : List (ℕ × Input)
   pub visits : List Visit
   pub text : List ℕ
@@ -57,7 +58,7 @@ abbrev pub rects_per_update : ℕ
 rects_per_update = 1000
 
 abbrev pub nothing_there : Standing
-nothing_there = record { served = None; port = 0; inputs = []; visits = []; text = []; lost = 0; full_requests = 0; text_room = texts_limit; record_path = []; recorded = false }
+nothing_there = record { served = None; port = 0; viewers = 0; inputs = []; visits = []; text = []; lost = 0; full_requests = 0; text_room = texts_limit; record_path = []; recorded = false }
 
 -- a path names a file
 abbrev pub is_named : List ℕ → Bool

@@ -1,14 +1,17 @@
 -- What is kept of what comes in a turn.
-use Rattle.std.specs.Prelude.{◌≡◌, ◌⊎◌, ℕ, ◌+◌, ◌-◌, ◌^◌, ◌<◌, ◌≤◌, min, List, [], ◌∷◌, ◌++◌, length, take}
+use Rattle.std.specs.Prelude.{◌≡◌, ◌⊎◌, ℕ, ◌+◌, ◌-◌, ◌^◌, ◌<◌, ◌≤◌, min, List, [], ◌∷◌, ◌++◌, length, take, Result, Ok}
 use Rattle.std.specs.VecDeque.{deque_capacity}
 use Rattle.screen.specs.declared.Input.{Input}
 use Rattle.c_server.specs.declared.visits.Visit.{Visit}
 use Rattle.c_server.specs.declared.gathering.Gathering.{Gathering}
-use Rattle.c_server.specs.Visits.{AreVisits}
+use Rattle.event_loop.specs.declared.event_loop.LoopError.{LoopError}
+use Rattle.event_loop.specs.declared.viewers.Admission.{Admission}
+use Rattle.event_loop.specs.declared.viewers.Admission.TheVariants.{Viewer}
+use Rattle.c_server.specs.Visits.{AreVisits, coming_of}
 use Rattle.c_server.specs.Desk.{IsPartOf, text_size}
 
 -- an input is put behind others, and takes from the room for texts; or it is lost, and counted
-abbrev pub IsPutOrLost : ℕ × Input → List (ℕ × Input) → List (ℕ × Input) → ℕ → ℕ → ℕ → ℕ → Type 0
+abbrev pub IsPutOrLost : ℕ × Input → (old new : List (ℕ × Input)) → (room_old room_new lost_old lost_new : ℕ) → Type 0
 IsPutOrLost input old new room_old room_new lost_old lost_new =
     ((new ≡ old ++ input ∷ []) × (room_new + text_size input.1 ≡ room_old) × (lost_new ≡ lost_old))
     ⊎ ((new ≡ old) × (room_new ≡ room_old) × (lost_new ≡ min (lost_old + 1) (2 ^ 64 - 1)))
@@ -17,6 +20,11 @@ IsPutOrLost input old new room_old room_new lost_old lost_new =
 pub record IsPut (visit : Visit) (old new : List Visit) (lost_old lost_new : ℕ) : Type 0 where
   pub put : length old < 1024 → (new ≡ old ++ visit ∷ []) × (lost_new ≡ lost_old)
   pub lost : 1024 ≤ length old → (new ≡ old) × (lost_new ≡ min (lost_old + 1) (2 ^ 64 - 1))
+
+-- the coming of a viewer whose connection was taken in is put, or counted as lost; nothing else is
+abbrev pub PutsComing : Result Admission LoopError → (old new : List Visit) → (lost_old lost_new : ℕ) → Type 0
+PutsComing (Ok (Viewer v)) old new lost_old lost_new = IsPut (coming_of v) old new lost_old lost_new
+PutsComing answer old new lost_old lost_new = (new ≡ old) × (lost_new ≡ lost_old)
 
 -- Of the inputs that came some are kept, in order, and of those who came and went the first 1,024, for whom there is room. All else is counted as lost, and no more, as far as that is counted.
 pub record IsKept (came kept : List (ℕ × Input)) (visits : List Visit) (room lost : ℕ) : Type 0 where

@@ -3,7 +3,7 @@ use Rattle.std.specs.Prelude.{◌≡◌, ℕ, ℤ, true, List, Option, Result, E
 use Rattle.screen.specs.declared.ScreenError.{ScreenError}
 use Rattle.screen.specs.declared.ScreenError.TheVariants.{OutOfMemory}
 use Rattle.c_screen.specs.Codes.{code_of}
-use Rattle.c_server.specs.Codes.{bad_address, cannot_listen, cannot_record}
+use Rattle.c_server.specs.Codes.{bad_address, cannot_listen, cannot_record, network_failed}
 use Rattle.c_server.specs.Desk.{is_named}
 use Rattle.c_server.specs.declared.listening.ListenError.{ListenError}
 use Rattle.c_server.specs.declared.listening.ListenError.TheVariants.{Refused, BadAddress, CannotListen, CannotRecord}
@@ -13,6 +13,11 @@ listen_code (Refused e) = code_of e
 listen_code BadAddress = bad_address
 listen_code CannotListen = cannot_listen
 listen_code CannotRecord = cannot_record
+
+-- the same where the server was to listen nowhere
+abbrev pub unbound_code : ListenError → ℤ
+unbound_code CannotListen = network_failed
+unbound_code e = listen_code e
 
 -- not for what the screen is to be: the address is no address, the system refused it, memory was refused, or the file that was named can't be made
 abbrev pub IsOfSystem : List ℕ → ListenError → Type 0

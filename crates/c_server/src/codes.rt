@@ -5,7 +5,7 @@ ghost use Rattle.c_screen.specs.Codes.{code_of};
 ghost use Rattle.c_server.specs.Codes as code;
 
 use c_screen::{code_of, fault_code};
-use event_loop::{Ended, LoopError, ScreenError};
+use event_loop::{Admission, Ended, LoopError, ScreenError};
 use std::alloc::AllocError;
 
 /// The address is no IP address in digits, as `127.0.0.1` or `::1`.
@@ -23,6 +23,15 @@ pub const CLOCK_FAILED: i32 = -16;
 /// The file of a record is there already, or can't be made.
 pub const CANNOT_RECORD: i32 = -20;
 
+/// The descriptor is no socket that is connected.
+pub const BAD_SOCKET: i32 = -22;
+
+/// As many viewers are connected as may be at once.
+pub const FULL: i32 = -23;
+
+/// The system or memory refused a connection for which there is room.
+pub const CANNOT_ADOPT: i32 = -24;
+
 /// Returns 0, or why a turn ended.
 pub(crate) fn turn_code(answer: Result<(), LoopError>) -> i32
     ensures { result ≡ code.turn_code answer }
@@ -32,6 +41,18 @@ pub(crate) fn turn_code(answer: Result<(), LoopError>) -> i32
         Err(LoopError::Network) => NETWORK_FAILED,
         Err(LoopError::Clock) => CLOCK_FAILED,
         Err(LoopError::Screen(e)) => code_of(e),
+    }
+}
+
+/// Returns the number of the viewer whose connection it is now, at most 2^62, or why it is nobody's.
+pub(crate) fn adopt_code(answer: Result<Admission, LoopError>) -> i64
+    ensures { result ≡ code.adopt_code answer }
+{
+    match answer {
+        Ok(Admission::Viewer(viewer)) => viewer.min(1 << 62) as i64,
+        Ok(Admission::TurnedAway) => i64::from(CANNOT_ADOPT),
+        Ok(Admission::Refused) => i64::from(CANNOT_ADOPT),
+        Err(e) => i64::from(turn_code(Err(e))),
     }
 }
 

@@ -11,16 +11,18 @@ ghost use Rattle.c_screen.specs.Calls.{colour_at, of_viewer};
 ghost use Rattle.c_screen.specs.Desk.{rect_of, config_of, IsListOf};
 ghost use Rattle.std.specs.VecDeque.{deque_capacity};
 ghost use Rattle.c_server.specs.Desk.{fitting, texts_limit, is_named, nothing_there, rects_per_update, region_due};
-ghost use Rattle.c_server.specs.Calls.{Listens, NamesRecord, record_state, TakesTurn, Draws, DrawsRegion, FetchesInputs, FetchesVisits, ShowsNumbers, ShowsText, ShowsSettings, Tells, TellsAddress, TellsSome, TellsWait, AreDigitsIn, LetsGo, TakesPixels};
+ghost use Rattle.c_server.specs.Calls.{Listens, ServesUnbound, Adopts, NamesRecord, record_state, TakesTurn, Draws, DrawsRegion, FetchesInputs, FetchesVisits, ShowsNumbers, ShowsText, ShowsSettings, Tells, TellsAddress, TellsSome, TellsWait, AreDigitsIn, LetsGo, TakesPixels};
 ghost use Rattle.std.specs.Net.Text.{ip_text};
 ghost use Rattle.c_screen.specs.Pixels.{format_of, source_from};
 ghost use Rattle.source_pixels.specs.declared.formats.SourceFormat.TheVariants as format;
 
-use crate::codes::{CLOCK_FAILED, NETWORK_FAILED, closed_code, turn_code};
+use crate::adopting::{Silent, stream_of, turn_away};
+use crate::codes::{CLOCK_FAILED, FULL, NETWORK_FAILED, adopt_code, closed_code, turn_code};
 use crate::gathering::Gathering;
-use crate::listening::{Address, Listening, listen_on};
+use crate::listening::{Address, listen_on, serve_unbound};
 use crate::news::{
-    MOST_INPUTS, MOST_TEXT, MOST_VISITS, fetch_inputs, fetch_visits, make_room, put_all, put_inputs,
+    MOST_INPUTS, MOST_TEXT, MOST_VISITS, fetch_inputs, fetch_visits, make_room, put_all,
+    put_coming, put_inputs,
 };
 use crate::system::{SystemClock, digits_of, milliseconds_of, timeout_of};
 use crate::told::ToldBy;
@@ -49,6 +51,8 @@ pub struct ServerDesk {
     alloc: Global,
     events: Option<EventLoop>,
     port: u16,
+    // how many viewers are granted at once
+    viewers: usize,
     inputs: VecDeque<ToldBy>,
     visits: VecDeque<Visit>,
     // the room for the comings and goings of a turn
@@ -71,6 +75,7 @@ impl Drop for ServerDesk {
             alloc: _alloc,
             events: _events,
             port: _port,
+            viewers: _viewers,
             inputs: _inputs,
             visits: _visits,
             turn_visits: _turn_visits,
@@ -89,7 +94,7 @@ impl Model for ServerDesk {
 
     ghost Value = { Standing };
 
-    ghost view = { λ a. record { served = a.events; port = a.port; inputs = a.inputs.items; visits = a.visits.items; text = a.text; lost = a.lost; full_requests = a.full_requests; text_room = a.text_room; record_path = a.record_path; recorded = a.is_recorded } };
+    ghost view = { λ a. record { served = a.events; port = a.port; viewers = a.viewers; inputs = a.inputs.items; visits = a.visits.items; text = a.text; lost = a.lost; full_requests = a.full_requests; text_room = a.text_room; record_path = a.record_path; recorded = a.is_recorded } };
 }
 
 /// Makes room for as many inputs, and comings and goings, as may wait, and for those of a turn.
@@ -169,6 +174,7 @@ impl ServerDesk {
             alloc,
             events: None,
             port: 0,
+            viewers: 0,
             inputs: VecDeque::new(alloc),
             visits: VecDeque::new(alloc),
             turn_visits: VecDeque::new(alloc),
@@ -223,7 +229,7 @@ impl ServerDesk {
         name: &[u8],
         viewers: u32,
     ) -> i32
-        ensures { Listens (config_of width height name.now rects_per_update) address.now port self.old self.new result }
+        ensures { Listens (config_of width height name.now rects_per_update) viewers address.now port self.old self.new result }
     {
         let digits = address;
         let path = self.record_path.as_slice();
@@ -236,23 +242,40 @@ impl ServerDesk {
             viewers,
             path,
         ) {
-            Ok(Listening { events, port }) => {
-                self.serve(events, port);
+            Ok(made) => {
+                self.begin(made.events, made.port, made.viewers);
                 0
             }
             Err(e) => e.code(),
         }
     }
 
+    /// Serves a black screen to as many viewers at once as `viewers` says, and listens nowhere: they come by `adopt`. What was open is
+    /// closed. `name` is the desktop's (RFC 6143, 7.3.2), of at most 255 bytes. `NETWORK_FAILED` where the system has no more handles, and
+    /// `CANNOT_RECORD` where `record_next` named a file, since what listens nowhere isn't recorded.
+    pub fn serve(&mut self, width: u32, height: u32, name: &[u8], viewers: u32) -> i32
+        ensures { ServesUnbound (config_of width height name.now rects_per_update) viewers self.old self.new result }
+    {
+        let path = self.record_path.as_slice();
+        match serve_unbound(self.alloc, width, height, name, viewers, path) {
+            Ok(made) => {
+                self.begin(made.events, 0, made.limits.live_viewers);
+                0
+            }
+            Err(e) => e.unbound_code(),
+        }
+    }
+
     /// Serves by a loop that was made, in place of another. A file for the next record isn't named any more.
-    fn serve(&mut self, events: EventLoop, port: u16)
-        ensures { self.new ≡ record { served = Some events; port = port; inputs = []; visits = []; text = []; lost = 0; full_requests = 0; text_room = texts_limit; record_path = []; recorded = is_named self.old.record_path } }
+    fn begin(&mut self, events: EventLoop, port: u16, viewers: usize)
+        ensures { self.new ≡ record { served = Some events; port = port; viewers = viewers; inputs = []; visits = []; text = []; lost = 0; full_requests = 0; text_room = texts_limit; record_path = []; recorded = is_named self.old.record_path } }
     {
         self.end();
         self.is_recorded = !self.record_path.is_empty();
         self.record_path = Listed::new(self.alloc);
         self.events = Some(events);
         self.port = port;
+        self.viewers = viewers;
     }
 
     /// Ends what is served, writes what waits of a record, and drops what waits to be fetched.
@@ -264,6 +287,7 @@ impl ServerDesk {
         }
         self.events = None;
         self.port = 0;
+        self.viewers = 0;
         self.is_recorded = false;
         self.clear();
     }
@@ -313,6 +337,35 @@ impl ServerDesk {
         self.turn_visits = kept.turn_visits;
         self.lost = self.lost.saturating_add(kept.lost);
         turn_code(answer)
+    }
+
+    /// Takes in a connection that the program accepted or made itself, by its descriptor, which is a connected stream socket: it is the next
+    /// viewer's, and heard from the next turn on. Returns the viewer's number, at most 2^62, and `next_events` tells that it came.
+    ///
+    /// The descriptor is the desk's then, which closes it once the viewer has gone; and it is closed at once where the answer is below 0, but
+    /// for two codes behind which it stays the program's: `SHUT`, and `BAD_SOCKET` where it is no socket, or isn't connected. `FULL` where as
+    /// many viewers are connected as were granted: it is told so (RFC 6143, 7.1.2). `CANNOT_ADOPT` where the system or memory refuses to
+    /// have it watched, `NETWORK_FAILED` where it can't be made not to wait, and `CLOCK_FAILED`.
+    pub fn adopt(&mut self, fd: i32) -> i64
+        ensures { Adopts fd self.old self.new result }
+    {
+        let Some(events) = &mut self.events else {
+            return i64::from(SHUT);
+        };
+        let stream = match stream_of(fd) {
+            Ok(stream) => stream,
+            Err(code) => return i64::from(code),
+        };
+        if events.viewer_count() >= self.viewers {
+            turn_away(stream);
+            return i64::from(FULL);
+        }
+        if make_room(&mut self.visits, MOST_VISITS).is_err() {
+            return i64::from(code_of(ScreenError::OutOfMemory));
+        }
+        let answer = events.adopt(&SystemClock, stream, &mut Silent);
+        self.lost = put_coming(&mut self.visits, self.lost, answer);
+        adopt_code(answer)
     }
 
     /// Lets a viewer go in a later turn, by `EventLoop::close_viewer` (`rfbCloseClient` of `rfb.h`). Returns `NoViewer`'s code where none

@@ -11,6 +11,7 @@
 //! ```
 #![tactic(auto)]
 
+mod adopting;
 mod codes;
 mod desk;
 mod gathering;
@@ -25,7 +26,9 @@ pub use c_screen::{
     BAD_FORMAT, BAD_STRIDE, Corners, OFF_SCREEN, OUT_OF_RANGE, PixelLayout, SHUT, TOO_FEW_BYTES,
     Told, code_of, fault_code,
 };
-pub use codes::{BAD_ADDRESS, CANNOT_LISTEN, CLOCK_FAILED, NETWORK_FAILED};
+pub use codes::{
+    BAD_ADDRESS, BAD_SOCKET, CANNOT_ADOPT, CANNOT_LISTEN, CLOCK_FAILED, FULL, NETWORK_FAILED,
+};
 pub use desk::ServerDesk;
 pub use visits::Visit;
 pub use waker::ServerWaker;

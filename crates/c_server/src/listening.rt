@@ -1,16 +1,16 @@
 //! How a server begins.
 
-ghost use Rattle.std.specs.Prelude.{◌≡◌, ◌≢◌, ℕ, List, [], true, IfOk, IfErr};
+ghost use Rattle.std.specs.Prelude.{◌≡◌, ◌≢◌, ℕ, List, [], true, false, IfOk, IfErr, OnOk};
 ghost use Rattle.std.specs.Duration.{as_nanos};
 ghost use Rattle.event_loop.specs.declared.limits.WhenFull.TheVariants as when_full;
 ghost use Rattle.connections.specs.Serving.{Serves};
 ghost use Rattle.screen.specs.Alone.{config_refusal};
 ghost use Rattle.c_screen.specs.Desk.{config_of};
 ghost use Rattle.c_server.specs.Desk.{desk_sockets, is_named, rects_per_update};
-ghost use Rattle.c_server.specs.Listening.{IsOfSystem, IsRefusedBy, listen_code};
+ghost use Rattle.c_server.specs.Listening.{IsOfSystem, IsRefusedBy, listen_code, unbound_code};
 ghost use Rattle.c_server.specs.System.{IsAddress, IsNoAddress};
 
-use crate::codes::{BAD_ADDRESS, CANNOT_LISTEN, CANNOT_RECORD};
+use crate::codes::{BAD_ADDRESS, CANNOT_LISTEN, CANNOT_RECORD, NETWORK_FAILED};
 use crate::system::{Network, address_of};
 use c_screen::code_of;
 use event_loop::{
@@ -50,6 +50,16 @@ impl ListenError {
             ListenError::CannotRecord => CANNOT_RECORD,
         }
     }
+
+    /// Returns its code where the server was to listen nowhere.
+    pub fn unbound_code(self) -> i32
+        ensures { result ≡ unbound_code self }
+    {
+        match self {
+            ListenError::CannotListen => NETWORK_FAILED,
+            other => other.code(),
+        }
+    }
 }
 
 /// An IP address in digits, as `127.0.0.1` or `::1`, and a port, 0 for one that the system chooses.
@@ -59,11 +69,19 @@ pub(crate) struct Address<'a> {
     pub port: u16,
 }
 
-/// A loop, and the port on which it listens.
+/// A loop, and what it grants its viewers.
+#[derive(Drop)]
+pub(crate) struct Granting {
+    pub events: EventLoop,
+    pub limits: Limits,
+}
+
+/// A loop, the port on which it listens, and how many viewers it grants at once.
 #[derive(Drop)]
 pub(crate) struct Listening {
     pub events: EventLoop,
     pub port: u16,
+    pub viewers: usize,
 }
 
 /// Binds a socket that listens, and returns it with its port: the one that was asked for, or the system's choice.
@@ -119,8 +137,9 @@ fn serve_recorded(
     config: Config,
     limits: Limits,
     record_path: &[u8],
-) -> Result<EventLoop, ListenError>
-    ensures serves { IfOk result (λ events. Serves config (desk_sockets true config) [] events) }
+) -> Result<Granting, ListenError>
+    ensures serves { IfOk result (λ made. Serves config (desk_sockets true config) [] made.events) }
+    ensures granted { IfOk result (λ made. made.limits ≡ limits) }
     ensures err { IfErr result (λ e. (path : List ℕ) → is_named path ≡ true → IsOfSystem path e) }
     ensures later { IfErr result (λ e. e ≢ ListenError.BadAddress) }
 {
@@ -129,7 +148,7 @@ fn serve_recorded(
     };
     let writer = RecordWriter::PrivateFile(file);
     match EventLoop::recorded(&Network, alloc, listener, config, limits, writer) {
-        Ok(events) => Ok(events),
+        Ok(events) => Ok(Granting { events, limits }),
         Err(e) => Err(refused(e)),
     }
 }
@@ -141,8 +160,9 @@ fn serve(
     config: Config,
     viewers: u32,
     record_path: &[u8],
-) -> Result<EventLoop, ListenError>
-    ensures serves { IfOk result (λ events. Serves config (desk_sockets (is_named record_path.now) config) [] events) }
+) -> Result<Granting, ListenError>
+    ensures serves { IfOk result (λ made. Serves config (desk_sockets (is_named record_path.now) config) [] made.events) }
+    ensures viewers { IfOk result (λ made. made.limits.live_viewers ≡ viewers) }
     ensures err { IfErr result (IsOfSystem record_path.now) }
     ensures later { IfErr result (λ e. e ≢ ListenError.BadAddress) }
 {
@@ -151,7 +171,7 @@ fn serve(
         return serve_recorded(alloc, listener, config, limits, record_path);
     }
     match EventLoop::new(&Network, alloc, listener, config, limits) {
-        Ok(events) => Ok(events),
+        Ok(events) => Ok(Granting { events, limits }),
         Err(e) => Err(refused(e)),
     }
 }
@@ -160,6 +180,7 @@ fn serve(
 fn config_of(alloc: Global, width: u32, height: u32, name: &[u8]) -> Result<Config, ListenError>
     ensures ok { IfOk result (λ config. config ≡ config_of width height name.now rects_per_update) }
     ensures err { IfErr result (IsOfSystem []) }
+    ensures system { IfErr result (λ e. (path : List ℕ) → IsOfSystem path e) }
     ensures later { IfErr result (λ e. e ≢ ListenError.BadAddress) }
 {
     let Ok(name) = Listed::from_slice(alloc, name) else {
@@ -185,6 +206,7 @@ fn open(
     record_path: &[u8],
 ) -> Result<Listening, ListenError>
     ensures serves { IfOk result (λ made. Serves (config_of width height name.now rects_per_update) (desk_sockets (is_named record_path.now) (config_of width height name.now rects_per_update)) [] made.events) }
+    ensures viewers { IfOk result (λ made. made.viewers ≡ viewers) }
     ensures port { IfOk result (λ made. at.entry.port ≢ 0 → made.port ≡ at.entry.port) }
     ensures spelled { IfOk result (λ made. IsAddress at.entry.digits.now) }
     ensures unspelled { IfErr result (λ e. e ≡ ListenError.BadAddress → IsNoAddress at.entry.digits.now) }
@@ -192,8 +214,12 @@ fn open(
 {
     let (listener, port) = bind(at)?;
     let config = config_of(alloc, width, height, name)?;
-    let events = serve(alloc, listener, config, viewers, record_path)?;
-    Ok(Listening { events, port })
+    let made = serve(alloc, listener, config, viewers, record_path)?;
+    Ok(Listening {
+        events: made.events,
+        port,
+        viewers: made.limits.live_viewers,
+    })
 }
 
 /// Returns a loop that serves a black screen to no viewer yet, on a port of an address. It is recorded where a path names a file.
@@ -207,6 +233,7 @@ pub(crate) fn listen_on(
     record_path: &[u8],
 ) -> Result<Listening, ListenError>
     ensures serves { IfOk result (λ made. Serves (config_of width height name.now rects_per_update) (desk_sockets (is_named record_path.now) (config_of width height name.now rects_per_update)) [] made.events) }
+    ensures viewers { IfOk result (λ made. made.viewers ≡ viewers) }
     ensures port { IfOk result (λ made. at.entry.port ≢ 0 → made.port ≡ at.entry.port) }
     ensures spelled { IfOk result (λ made. IsAddress at.entry.digits.now) }
     ensures unspelled { IfErr result (λ e. e ≡ ListenError.BadAddress → IsNoAddress at.entry.digits.now) }
@@ -215,5 +242,49 @@ pub(crate) fn listen_on(
     match config_refusal(width, height, name, RECTS_PER_UPDATE) {
         Some(refusal) => Err(ListenError::Refused(refusal)),
         None => open(alloc, at, width, height, name, viewers, record_path),
+    }
+}
+
+/// Returns a loop that listens nowhere and serves a black screen to no viewer yet, whose configuration is within the limits.
+fn open_unbound(
+    alloc: Global,
+    width: u32,
+    height: u32,
+    name: &[u8],
+    viewers: u32,
+) -> Result<Granting, ListenError>
+    ensures serves { IfOk result (λ made. Serves (config_of width height name.now rects_per_update) (desk_sockets false (config_of width height name.now rects_per_update)) [] made.events) }
+    ensures viewers { IfOk result (λ made. made.limits.live_viewers ≡ viewers) }
+    ensures err { IfErr result (λ e. (path : List ℕ) → IsOfSystem path e) }
+    ensures later { IfErr result (λ e. e ≢ ListenError.BadAddress) }
+{
+    let config = config_of(alloc, width, height, name)?;
+    let limits = limits_of(viewers);
+    match EventLoop::unbound(&Network, alloc, config, limits) {
+        Ok(events) => Ok(Granting { events, limits }),
+        Err(e) => Err(refused(e)),
+    }
+}
+
+/// Returns a loop that listens nowhere and serves a black screen to no viewer yet. Refused as `CannotRecord` where a path names a file:
+/// such a loop isn't recorded.
+pub(crate) fn serve_unbound(
+    alloc: Global,
+    width: u32,
+    height: u32,
+    name: &[u8],
+    viewers: u32,
+    record_path: &[u8],
+) -> Result<Granting, ListenError>
+    ensures serves { IfOk result (λ made. Serves (config_of width height name.now rects_per_update) (desk_sockets false (config_of width height name.now rects_per_update)) [] made.events) }
+    ensures viewers { IfOk result (λ made. made.limits.live_viewers ≡ viewers) }
+    ensures unnamed { OnOk result (is_named record_path.now ≡ false) }
+    ensures refused { IsRefusedBy record_path.now (config_refusal (config_of width height name.now rects_per_update)) result }
+    ensures later { IfErr result (λ e. e ≢ ListenError.BadAddress) }
+{
+    match config_refusal(width, height, name, RECTS_PER_UPDATE) {
+        Some(refusal) => Err(ListenError::Refused(refusal)),
+        None if record_path.is_empty() => open_unbound(alloc, width, height, name, viewers),
+        None => Err(ListenError::CannotRecord),
     }
 }

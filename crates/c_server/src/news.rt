@@ -4,11 +4,12 @@ ghost use Rattle.std.specs.Prelude.{◌≡◌, ◌≤◌, ◌+◌, ◌-◌, ◌+
 ghost use Rattle.std.specs.VecDeque.{deque_len, deque_capacity};
 ghost use Rattle.c_screen.specs.Inputs.{IsFetched};
 ghost use Rattle.c_server.specs.Desk.{fitting, texts_size};
+ghost use Rattle.c_server.specs.Gathering.{IsPut, PutsComing};
 
 use crate::told::ToldBy;
-use crate::visits::Visit;
+use crate::visits::{Visit, coming_of};
 use c_screen::{Told, told_as};
-use event_loop::{Input, Listed};
+use event_loop::{Admission, Input, Listed, LoopError};
 use std::alloc::AllocError;
 use std::collections::VecDeque;
 
@@ -54,6 +55,37 @@ pub(crate) fn put_inputs(
         }
     }
     (lost, room)
+}
+
+/// Puts a coming or going behind those that wait, in room that was made, unless 1,024 wait. Returns how much is lost, where `lost` was
+/// before.
+fn put_visit(waiting: &mut VecDeque<Visit>, lost: u64, visit: Visit) -> u64
+    requires { 1024 ≤ deque_capacity waiting.old }
+    ensures { IsPut visit waiting.old.items waiting.new.items lost result }
+{
+    if waiting.len() >= MOST_VISITS {
+        return lost.saturating_add(1);
+    }
+    waiting.push_back_reserved(visit);
+    lost
+}
+
+/// Puts the coming of a viewer whose connection was taken in behind those that wait, in room that was made, unless 1,024 wait. Returns how
+/// much is lost, where `lost` was before.
+pub(crate) fn put_coming(
+    waiting: &mut VecDeque<Visit>,
+    lost: u64,
+    answer: Result<Admission, LoopError>,
+) -> u64
+    requires { 1024 ≤ deque_capacity waiting.old }
+    ensures { PutsComing answer waiting.old.items waiting.new.items lost result }
+{
+    match answer {
+        Ok(Admission::Viewer(viewer)) => put_visit(waiting, lost, coming_of(viewer)),
+        Ok(Admission::TurnedAway) => lost,
+        Ok(Admission::Refused) => lost,
+        Err(_) => lost,
+    }
 }
 
 /// Puts what came behind what waits, as much as may wait, in room that was made. Returns how much of it is lost, which stays in `came`.

@@ -21,7 +21,7 @@ connected_code {T} code =
     (λ _. refl)
 
 -- where x comes first in a list; the list's length where it doesn't come
-abbrev pub index_of : List ℕ → ℕ → ℕ
+abbrev pub index_of : (list : List ℕ) → (x : ℕ) → ℕ
 index_of [] x = 0
 index_of (y ∷ ys) x = if y == x then 0 else suc (index_of ys x)
 

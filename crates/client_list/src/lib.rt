@@ -40,12 +40,12 @@ impl Model for Position {
     ghost inverse = { λ key. record { key = key } };
 }
 
-/// Why a viewer is not taken in.
+/// Why `connect` takes in no viewer.
 #[derive(Clone, Copy, Debug, PartialEq, Eq)]
 pub enum ConnectError {
     /// A viewer has the number.
     NumberInUse,
-    /// A growth was refused.
+    /// Memory was refused.
     OutOfMemory,
 }
 
@@ -68,7 +68,7 @@ pub struct Clients<T> {
     first: Option<Position>,
     last: Option<Position>,
     by_number: HashMap<u64, Position>,
-    // where the viewer is that was found last, unless one came or left since: who is asked for again is found there
+    // the position of the viewer that was found last, unless one came or left since: the next call for that viewer finds it there
     recent: Option<Position>,
 }
 
@@ -90,7 +90,7 @@ impl<T> Model for Clients<T> {
 impl<T> Clients<T> {
     ghost use Rattle.client_list.specs.Lending.{lends_at, lends_number};
 
-    /// No viewers. This takes no memory.
+    /// Creates a list of no viewers. Takes no memory.
     pub fn new(alloc: Global) -> Self
         ensures pairs { result.pairs ≡ [] }
         ensures positions { result.positions ≡ [] }
@@ -104,7 +104,7 @@ impl<T> Clients<T> {
         }
     }
 
-    /// How many viewers there are.
+    /// Returns how many viewers there are.
     pub fn len(&self) -> usize
         ensures pairs { result ≡ length self.now.pairs }
         ensures positions { result ≡ length self.now.positions }
@@ -113,14 +113,14 @@ impl<T> Clients<T> {
         self.nodes.len()
     }
 
-    /// Whether there are none.
+    /// Says whether there are no viewers.
     pub fn is_empty(&self) -> bool
         ensures { IsTrue result ↔ (self.now.pairs ≡ []) }
     {
         self.nodes.is_empty()
     }
 
-    /// The position of the viewer that connected first; `None` where there are no viewers.
+    /// Returns the position of the viewer that connected first; `None` if there are no viewers.
     pub fn first(&self) -> Option<Position>
         ensures first { result ≡ slice_get self.now.positions 0 }
         ensures position { IfSome result (IsPosition self.now) }
@@ -130,7 +130,7 @@ impl<T> Clients<T> {
         self.first
     }
 
-    /// The position of the viewer that connected next; `None` behind the last.
+    /// Returns the position of the viewer that connected next after the one at `position`; `None` if that is the last.
     pub fn next(&self, position: Position) -> Option<Position>
         requires { IsPosition self.now position }
         ensures next { result ≡ slice_get self.now.positions (index_of self.now.positions position + 1) }
@@ -140,7 +140,7 @@ impl<T> Clients<T> {
         self.nodes[position.key].next
     }
 
-    /// The number of the viewer at a position.
+    /// Returns the number of the viewer at `position`.
     pub fn number_at(&self, position: Position) -> u64
         requires { IsPosition self.now position }
         ensures { number_at self.now position ≡ Some result }
@@ -148,7 +148,7 @@ impl<T> Clients<T> {
         self.nodes[position.key].number
     }
 
-    /// The value of the viewer at a position.
+    /// Returns the value of the viewer at `position`.
     pub fn at(&self, position: Position) -> &T
         requires { IsPosition self.now position }
         ensures { value_at self.now position ≡ Some result.now }
@@ -156,8 +156,8 @@ impl<T> Clients<T> {
         &self.nodes[position.key].value
     }
 
-    /// The value of the viewer at a position, for writing. The other values stay, and so do all numbers, positions and their
-    /// order.
+    /// Lends the value of the viewer at `position`, for writing. The other values stay, and so do all numbers, positions
+    /// and their order.
     pub fn at_mut(&mut self, position: Position) -> &mut T
         requires { IsPosition self.old position }
         ensures* writes_back { sem 𝓛 (lends_at T.row self.entry position result) }
@@ -167,7 +167,7 @@ impl<T> Clients<T> {
         &mut node.value
     }
 
-    /// The viewers' numbers, in the order in which they connected.
+    /// Returns the viewers' numbers, in the order in which they connected. `AllocError` if memory is refused.
     pub fn numbers(&self, alloc: Global) -> Result<Vec<u64>, AllocError>
         ensures { IfOk result (λ numbers. numbers.items ≡ keys_of self.now.pairs) }
     {
@@ -180,8 +180,8 @@ impl<T> Clients<T> {
         Ok(numbers)
     }
 
-    /// The position of the viewer with a number, found in one look-up, or in none where it was found last; `None` where no viewer
-    /// has the number.
+    /// Returns the position of the viewer with `number`; `None` if no viewer has it. Takes one look-up, or none if that
+    /// viewer was found last.
     pub fn position_of(&self, number: u64) -> Option<Position>
         ensures position { result ≡ slice_get self.now.positions (index_of_number self.now number) }
         ensures found { MatchOption result (value_of self.now number ≡ None) (IsPositionOf self.now number) }
@@ -193,7 +193,7 @@ impl<T> Clients<T> {
         }
     }
 
-    /// Whether a viewer has the number. Calls for it that follow need no further look-up.
+    /// Says whether a viewer has `number`. Calls for it that follow need no further look-up.
     pub fn find(&mut self, number: u64) -> bool
         ensures found { result ≡ is_some (value_of self.old number) }
         ensures same { self.new ≡ self.old }
@@ -205,7 +205,7 @@ impl<T> Clients<T> {
         true
     }
 
-    /// The position of the viewer that was found last, where it has the number.
+    /// Returns the position of the viewer that was found last, if that has `number`.
     fn recent_of(&self, number: u64) -> Option<Position>
         ensures found { IfSome result (IsPositionOf self.now number) }
         ensures listed { IsListed self.now }
@@ -220,7 +220,7 @@ impl<T> Clients<T> {
         }
     }
 
-    /// The position of the viewer with a number, by the map.
+    /// Looks up the position of the viewer with `number` in the map; `None` if no viewer has it.
     fn looked_up(&self, number: u64) -> Option<Position>
         ensures position { result ≡ slice_get self.now.positions (index_of_number self.now number) }
         ensures found { MatchOption result (value_of self.now number ≡ None) (IsPositionOf self.now number) }
@@ -229,7 +229,7 @@ impl<T> Clients<T> {
         self.by_number.get(&number).copied()
     }
 
-    /// The value of the viewer with a number; `None` where no viewer has it.
+    /// Returns the value of the viewer with `number`; `None` if no viewer has it.
     pub fn get(&self, number: u64) -> Option<&T>
         ensures { option_copied result ≡ value_of self.now number }
     {
@@ -239,7 +239,7 @@ impl<T> Clients<T> {
         }
     }
 
-    /// The value of the viewer with a number, for writing; `None` where no viewer has it. The other values stay, and so
+    /// Lends the value of the viewer with `number`, for writing; `None` if no viewer has it. The other values stay, and so
     /// do all numbers, positions and their order.
     pub fn get_mut(&mut self, number: u64) -> Option<&mut T>
         ensures* writes_back { sem 𝓛 (lends_number T.row self.entry number result) }
@@ -254,8 +254,8 @@ impl<T> Clients<T> {
         }
     }
 
-    /// Takes out the viewer with a number; the others stay in their order, each at its position. `NoViewer` where no viewer
-    /// has the number, and then nothing changes. This takes no memory.
+    /// Takes out the viewer with `number`, and returns its value; the others stay in their order, each at its position.
+    /// `NoViewer` if no viewer has the number, and then nothing changes. Takes no memory.
     pub fn remove(&mut self, number: u64) -> Result<T, NoViewer>
         ensures value { MatchResult result (λ value. value_of self.old number ≡ Some value) (λ _. value_of self.old number ≡ None) }
         ensures pairs { OnOk result (self.new.pairs ≡ without_index self.old.pairs (index_of_number self.old number)) }
@@ -275,8 +275,8 @@ impl<T> Clients<T> {
 }
 
 impl<T: Drop> Clients<T> {
-    /// Takes in a viewer, behind all others. `NumberInUse` where a viewer has the number, then `OutOfMemory` where the
-    /// room is refused; either way the value is dropped, and nothing else changes.
+    /// Takes in a viewer with `number`, behind all others. `NumberInUse` if a viewer has the number, else `OutOfMemory` if
+    /// the room is refused; either way drops the value, and changes nothing else.
     pub fn connect(&mut self, number: u64, value: T) -> Result<(), ConnectError>
         ensures pairs { OnOk result (self.new.pairs ≡ self.old.pairs ++ (number, value) ∷ []) }
         ensures positions { OnOk result ((position : ℕ) × (self.new.positions ≡ self.old.positions ++ position ∷ [])) }

@@ -17,7 +17,7 @@ pub struct Node<T> {
     pub next: Option<Position>,
 }
 
-/// Leads on to `next` behind the viewer at a position, or from the front where there is no such position.
+/// Links the viewer at `position` to `next` behind it; makes `next` the first if `position` is `None`.
 pub fn set_next<T>(
     nodes: &mut Slab<Node<T>>,
     first: &mut Option<Position>,
@@ -34,7 +34,7 @@ pub fn set_next<T>(
     }
 }
 
-/// Leads back to `previous` before the viewer at a position, or from the end where there is no such position.
+/// Links the viewer at `position` to `previous` before it; makes `previous` the last if `position` is `None`.
 pub fn set_previous<T>(
     nodes: &mut Slab<Node<T>>,
     last: &mut Option<Position>,
@@ -51,8 +51,8 @@ pub fn set_previous<T>(
     }
 }
 
-/// Puts in a node that leads back to `previous` and on to none; no link leads to it yet. `OutOfMemory` where the room is
-/// refused; then the value is dropped, and no node changes.
+/// Inserts a node that leads back to `previous` and on to none; no link leads to it yet. `OutOfMemory` if the room is
+/// refused; then drops the value, and no node changes.
 pub fn add<T: Drop>(
     nodes: &mut Slab<Node<T>>,
     number: u64,

@@ -5,10 +5,6 @@ use Rattle.screen.specs.Alone.{some_bytes}
 use Rattle.viewer.specs.Given.{bytes_given}
 use Rattle.connections.specs.Waiting.{Waiting, waiting_bytes, IsFew}
 
--- less is left once more is in the buffer
-pub less-left : (old new left rest : List ℕ) → new ++ rest ≡ old ++ left → length old < length new → length rest < length left
-less-left old new left rest e more = omega (arith, more, ap (λ (l : List ℕ). length l) e, length-append new rest, length-append old left)
-
 -- some bytes that are made are left
 pub some_made : (n : ℕ) (made rest : List ℕ) → n < length made → some_bytes (drop n made ++ rest) ≡ true
 some_made n [] rest more = absurd (omega (arith, more))

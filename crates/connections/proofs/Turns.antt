@@ -30,7 +30,7 @@ use Rattle.connections.specs.Reasons.{ended_by_read, known_by_read, ended_by_fau
 use Rattle.connections.specs.declared.connection.Got.{Got}
 use Rattle.connections.specs.declared.connection.Got.TheVariants.{Piece}
 use Rattle.connections.specs.Serving.{Carried, ViewerConnection, Moves, breaks_off, IsServed}
-use Rattle.connections.specs.Telling.{said_by, held_behind, held_of, inputs_after, IsTold}
+use Rattle.connections.specs.Telling.{said_by, held_behind, held_of, told_behind, inputs_after, IsTold}
 use Rattle.connections.specs.Turns.{got_bytes, are_of, Knows, IsTurnFrom, HasRead, HearsPiece, TakesTurn, TakesTurnTelling}
 use Rattle.connections.specs.TellingLemmas.{inputs-append, inputs-drawings, told-nothing}
 use Rattle.connections.proofs.Given.{SameFor, bytes-own, heard-own, heard-same, held-own, held-same, counts-heard, counts-cut, counts-uncut, same-drawings, drawings-own}
@@ -227,7 +227,7 @@ heard-turn : (c : Config) (list : List Event) (began : Carried) (v : ℕ) (said 
     → (h : HasRead c list began v said piece since a e) → b.drawn ≡ a.drawn → b.noticed ≡ a.noticed → f.known.may_cut ≡ true → f.known.may_ask ≡ true → b.screen ≡ state c ((list ++ h.events) ++ Hear v piece ∷ []) → RecordsMore c (list ++ h.events) (Hear v piece ∷ []) a.scribed b.scribed → AllHappen c (list ++ h.events) (Hear v piece ∷ []) → bytes ≡ (answer_to c (list ++ h.events) (Hear v piece)).bytes
     → f.number ≡ e.number → f.carried ≡ e.carried → f.counts ≡ with_piece piece e.counts → (breaks_off f.ended ≡ false → waiting_bytes f.waiting ≡ waiting_bytes e.waiting ++ bytes) → IsFew f.waiting
     → f.held ≡ held_behind e.held (answer_to c (list ++ h.events) (Hear v piece)).inputs
-    → IsTurnFrom c list began v (said ++ said_by v (answer_to c (list ++ h.events) (Hear v piece)).inputs) since b f
+    → IsTurnFrom c list began v (said ++ said_by v (told_behind (held_of c v (list ++ h.events)) (answer_to c (list ++ h.events) (Hear v piece)).inputs)) since b f
 heard-turn c list began v said since a b e f piece bytes h drawn noticed cut ask stands recorded happened answered its carried counts waits few holds =
     let number : f.number ≡ v = its ∙ h.number in
     let es = list ++ h.events in
@@ -235,7 +235,7 @@ heard-turn c list began v said since a b e f piece bytes h drawn noticed cut ask
     let far : fs ≡ list ++ (h.events ++ Hear v piece ∷ []) = append_assoc list h.events (Hear v piece ∷ []) in
     record {
       events = h.events ++ Hear v piece ∷ [];
-      inputs = inputs-append c list h.events (Hear v piece ∷ []) ∙ ap (λ l. l ++ inputs_after c es (Hear v piece ∷ [])) h.inputs ∙ ap (λ l. said ++ l) (append-nil (said_by v (answer_to c es (Hear v piece)).inputs));
+      inputs = inputs-append c list h.events (Hear v piece ∷ []) ∙ ap (λ l. l ++ inputs_after c es (Hear v piece ∷ [])) h.inputs ∙ ap (λ l. said ++ l) (append-nil (said_by v (told_behind (held_of c v es) (answer_to c es (Hear v piece)).inputs)));
       own = own-then v h.events (Hear v piece ∷ []) h.own (own-one v (Hear v piece) refl);
       screen = stands ∙ ap (state c) far;
       recorded = records-then c list h.events (Hear v piece ∷ []) since.scribed a.scribed b.scribed h.recorded recorded;
@@ -269,14 +269,15 @@ pub turn-heard : {A X E : Type 0} (stands : A → List (ℕ × Input) → Type 0
     → ((c : Config) (list : List Event) → a.screen ≡ state c list → inputs ≡ (answer_to c list (Hear n piece)).inputs)
     → f.number ≡ e.number → f.carried ≡ e.carried → f.counts ≡ with_piece piece e.counts → (breaks_off f.ended ≡ false → waiting_bytes f.waiting ≡ waiting_bytes e.waiting ++ bytes) → IsFew f.waiting
     → f.held ≡ held_behind e.held inputs → Draws b d
-    → IsTold stands (said_by n inputs) x y r → HearsPiece stands piece a e d f x y r
+    → IsTold stands (said_by n (told_behind e.held inputs)) x y r → HearsPiece stands piece a e d f x y r
 turn-heard stands x y r inputs a b d e f n piece bytes its drawn noticed cut ask steps records happens answers hears numbered carried counts waits few holds draws told c list began v said since h =
     let es = list ++ h.events in
     let number : n ≡ v = its ∙ h.number in
     let heard : inputs ≡ (answer_to c es (Hear v piece)).inputs = subst (λ (m : ℕ). inputs ≡ (answer_to c es (Hear m piece)).inputs) number (hears c es h.screen) in
-    let is : said_by n inputs ≡ said_by v (answer_to c es (Hear v piece)).inputs = ap (λ m. said_by m inputs) number ∙ ap (said_by v) heard in (
-      said_by v (answer_to c es (Hear v piece)).inputs,
-      turn-drawn b d f draws c list began v (said ++ said_by v (answer_to c es (Hear v piece)).inputs) since
+    let all : List (ℕ × Input) = said_by v (told_behind (held_of c v es) (answer_to c es (Hear v piece)).inputs) in
+    let is : said_by n (told_behind e.held inputs) ≡ all = ap (λ m. said_by m (told_behind e.held inputs)) number ∙ ap (λ k. said_by v (told_behind k inputs)) h.held ∙ ap (λ l. said_by v (told_behind (held_of c v es) l)) heard in (
+      all,
+      turn-drawn b d f draws c list began v (said ++ all) since
           (heard-turn c list began v said since a b e f piece bytes h drawn noticed cut ask
           (subst (λ (m : ℕ). b.screen ≡ state c (es ++ Hear m piece ∷ [])) number (steps c es h.screen))
           (subst (λ (m : ℕ). RecordsMore c es (Hear m piece ∷ []) a.scribed b.scribed) number (records c es h.screen))

@@ -11,7 +11,8 @@ use Rattle.screen.specs.declared.Input.{Input}
 use Rattle.screen.specs.Alone.{owner_of}
 use Rattle.screen.specs.Answers.{is_drawing}
 use Rattle.connections.specs.Drawing.{are_drawings}
-use Rattle.connections.specs.Telling.{said_by, inputs_by, inputs_after, IsTold, Stays}
+use Rattle.held_inputs.specs.Held.{Held, after, roomy}
+use Rattle.connections.specs.Telling.{said_by, held_behind, told_for, told_behind, inputs_by, inputs_after, IsTold, Stays}
 
 pub inputs-append : (c : Config) (before es fs : List Event) → inputs_after c before (es ++ fs) ≡ inputs_after c before es ++ inputs_after c (before ++ es) fs
 inputs-append c before [] fs = ap (λ l. inputs_after c l fs) (sym (append-nil before))
@@ -40,6 +41,27 @@ inputs-drawings c before [] h = refl
 inputs-drawings c before (e ∷ es) h =
     let p = and_parts (is_drawing (owner_of e)) (are_drawings es) h in
     ap (λ l. l ++ inputs_after c (before ++ e ∷ []) es) (drawing-none c before e p.0) ∙ inputs-drawings c (before ++ e ∷ []) es p.1
+
+-- what is held behind inputs, and told of them, behind others
+pub held-append : (held : Held) (first rest : List Input) → held_behind held (first ++ rest) ≡ held_behind (held_behind held first) rest
+held-append held [] rest = refl
+held-append held (i ∷ first) rest = held-append (after (roomy held) i) first rest
+
+pub told-append : (held : Held) (first rest : List Input) → told_behind held (first ++ rest) ≡ told_behind held first ++ told_behind (held_behind held first) rest
+told-append held [] rest = refl
+told-append held (i ∷ first) rest =
+    ap (λ l. told_for held i ++ l) (told-append (after (roomy held) i) first rest) ∙ sym (append_assoc (told_for held i) (told_behind (after (roomy held) i) first) (told_behind (held_behind (after (roomy held) i) first) rest))
+
+-- of one input more
+pub held-more : (held : Held) (inputs : List Input) (k : ℕ) (input : Input) → k < length inputs → get_or inputs k input ≡ input → held_behind held (take (k + 1) inputs) ≡ after (roomy (held_behind held (take k inputs))) input
+held-more held inputs k input inside is =
+    ap (held_behind held) (take_more inputs k input inside ∙ ap (λ i. take k inputs ++ i ∷ []) is) ∙ held-append held (take k inputs) (input ∷ [])
+
+pub told-for-more : (held : Held) (inputs : List Input) (k : ℕ) (input : Input) → k < length inputs → get_or inputs k input ≡ input
+    → told_behind held (take (k + 1) inputs) ≡ told_behind held (take k inputs) ++ told_for (held_behind held (take k inputs)) input
+told-for-more held inputs k input inside is =
+    ap (told_behind held) (take_more inputs k input inside ∙ ap (λ i. take k inputs ++ i ∷ []) is) ∙ told-append held (take k inputs) (input ∷ [])
+    ∙ ap (λ l. told_behind held (take k inputs) ++ l) (append-nil (told_for (held_behind held (take k inputs)) input))
 
 module _ {A : Type 0} (stands : A → List (ℕ × Input) → Type 0) where
   -- an application is told some inputs, and all of them
@@ -76,6 +98,17 @@ module _ {A : Type 0} (stands : A → List (ℕ × Input) → Type 0) where
   pub told-ended : {X Y E F : Type 0} (x m : A) (inputs : List (ℕ × Input)) (q : Result X E) (r : Result Y F) (f : F) → r ≡ Err f → IsTold stands inputs x m q → IsTold stands inputs x m r
   told-ended {Y = Y} {F = F} x m inputs q r f err told before h = let p = told before h in (p.0, p.1, p.2, subst (λ (r : Result Y F). OnOk r (p.1 ≡ [])) (sym err) tt, p.4)
 
+  -- the first of some, as an error says that ended it
+  pub told-cut : {X Y E F : Type 0} (x n : A) (first rest all : List (ℕ × Input)) (q : Result X E) (r : Result Y F) (f : F) → r ≡ Err f → first ++ rest ≡ all → IsTold stands first x n q → IsTold stands all x n r
+  told-cut {Y = Y} {F = F} x n first rest all q r f err parts told before h =
+      let p = told before h in (
+        p.0,
+        p.1 ++ rest,
+        sym (append_assoc p.0 p.1 rest) ∙ ap (λ l. l ++ rest) p.2 ∙ parts,
+        subst (λ (r : Result Y F). OnOk r (p.1 ++ rest ≡ [])) (sym err) tt,
+        p.4,
+      )
+
   -- a viewer's input more
   pub told-one : (x m n : A) (v : ℕ) (first : List Input) (input : Input) → ((before : List (ℕ × Input)) → stands m before → stands n (before ++ (v, input) ∷ [])) → IsToldAll (said_by v first) x m → IsToldAll (said_by v (first ++ input ∷ [])) x n
   told-one x m n v first input step told before h =
@@ -109,6 +142,25 @@ module _ {A : Type 0} (stands : A → List (ℕ × Input) → Type 0) where
 
   pub told-first : {X F : Type 0} (x n : A) (v : ℕ) (inputs : List Input) (k : ℕ) (r : Result X F) (f : F) → r ≡ Err f → IsToldAll (said_by v (take k inputs)) x n → IsTold stands (said_by v inputs) x n r
   told-first x n v inputs k r f err told = told-part x n v (take k inputs) (drop k inputs) inputs r f err (take-append-drop k inputs) told
+
+  -- what it is told of a viewer's inputs goes on with those of one more
+  pub told-on : {X E : Type 0} (x m n : A) (v : ℕ) (held : Held) (inputs : List Input) (k : ℕ) (input : Input) (r : Result X E) → k < length inputs → get_or inputs k input ≡ input
+      → IsToldAll (said_by v (told_behind held (take k inputs))) x m → IsTold stands (said_by v (told_for (held_behind held (take k inputs)) input)) m n r
+      → IsTold stands (said_by v (told_behind held (take (k + 1) inputs))) x n r
+  told-on {X = X} {E = E} x m n v held inputs k input r inside is all one =
+      let first = told_behind held (take k inputs) in
+      let second = told_for (held_behind held (take k inputs)) input in
+      subst (λ l. IsTold {X = X} {E = E} stands l x n r) (sym (map-append (λ i. (v, i)) first second) ∙ ap (said_by v) (sym (told-for-more held inputs k input inside is)))
+      (told-then x m n (said_by v first) (said_by v second) r all one)
+
+  -- and ends there, as an error says
+  pub told-until : {X Y E F : Type 0} (x n : A) (v : ℕ) (held : Held) (inputs : List Input) (k : ℕ) (q : Result X E) (r : Result Y F) (f : F) → r ≡ Err f
+      → IsTold stands (said_by v (told_behind held (take k inputs))) x n q → IsTold stands (said_by v (told_behind held inputs)) x n r
+  told-until x n v held inputs k q r f err told =
+      let first = told_behind held (take k inputs) in
+      let rest = told_behind (held_behind held (take k inputs)) (drop k inputs) in
+      told-cut x n (said_by v first) (said_by v rest) (said_by v (told_behind held inputs)) q r f err
+      (sym (map-append (λ i. (v, i)) first rest) ∙ ap (said_by v) (sym (told-append held (take k inputs) (drop k inputs)) ∙ ap (told_behind held) (take-append-drop k inputs))) told
 
   -- all, and what it stands for stays so, whatever the result
   pub told-stays : {X E : Type 0} (x m n : A) (inputs : List (ℕ × Input)) (r : Result X E) → IsToldAll inputs x m → Stays stands m n → IsTold stands inputs x n r

@@ -16,13 +16,7 @@ use std::alloc::{AllocError, Global};
 use std::io::ErrorKind;
 use std::marker::Model;
 use std::{io, mem};
-use viewer::Stream;
-
-/// How many bytes of an update are encoded before they are written, at most: 64 KB.
-pub(crate) const BUFFER: usize = 65_536;
-
-/// How many bytes a stream appends at once, at most.
-const PIECE: usize = 8192;
+use viewer::{STREAM_BUFFER, Stream};
 
 /// Bytes on their way to a viewer: those that are made, from `done` on, then those that an update is still to give, and then those
 /// that came behind it. Only an opening is answered, before any update, so nothing ever comes behind one. With nothing on its way
@@ -54,7 +48,7 @@ fn append(all: &mut Vec<u8>, bytes: &[u8]) -> Result<(), AllocError>
     ensures few { length all.new.items ≤ 65536 }
     ensures err { OnErr result (all.new.items ≡ all.old.items) }
 {
-    if bytes.len() > BUFFER - all.len() {
+    if bytes.len() > STREAM_BUFFER - all.len() {
         return Err(AllocError);
     }
     all.extend_from_slice(bytes)
@@ -71,18 +65,6 @@ pub(crate) enum Written {
     Failed,
     /// Memory was refused.
     Memory,
-}
-
-/// Fills `buffer` with the next bytes of an update, until all are in it or it has no room for a further piece.
-fn fill(buffer: &mut Vec<u8>, update: &mut Stream) -> Result<(), AllocError>
-    ensures bytes { buffer.new.items ++ update.new ≡ update.old }
-    ensures bound { length buffer.new.items ≤ 65536 }
-{
-    buffer.clear();
-    while buffer.len() <= BUFFER - PIECE && !update.is_ended() {
-        update.put(buffer)?;
-    }
-    Ok(())
 }
 
 /// Returns what a write is that failed with this kind of error.
@@ -114,7 +96,7 @@ fn write_once<T: Transport>(transport: &mut Recording<T>, bytes: &[u8]) -> (usiz
     ensures most { result.0 ≤ 65536 }
     ensures moved { Moves (carried_by T.unread T.written transport.old) (carried_by T.unread T.written transport.new) [] (take result.0 bytes.now) }
 {
-    let first = &bytes[..bytes.len().min(BUFFER)];
+    let first = &bytes[..bytes.len().min(STREAM_BUFFER)];
     written_of(transport.send(first))
 }
 
@@ -233,7 +215,7 @@ impl Backlog {
     {
         match self.update.take() {
             Some(mut update) => {
-                fill(buffer, &mut update)?;
+                update.fill(buffer)?;
                 if !update.is_ended() {
                     self.update = Some(update);
                 }

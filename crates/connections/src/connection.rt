@@ -12,7 +12,7 @@ ghost use Rattle.connections.specs.Serving.{Carried, ViewerConnection, Moves, Ca
 ghost use Rattle.connections.specs.Recording.{none_yet};
 ghost use Rattle.connections.specs.Telling.{held_behind};
 ghost use Rattle.connections.specs.Turns.{IsWithin, got_bytes};
-ghost use Rattle.held_inputs.specs.Held.{nothing};
+ghost use Rattle.held_inputs.specs.Held.{after, nothing, room_release, roomy};
 
 use crate::backlog::{Backlog, Written};
 use crate::connections::{Departed, Readiness};
@@ -143,15 +143,6 @@ fn got_of(read: io::Result<usize>) -> Got
         Ok(0) => Got::End,
         Ok(count) => Got::Piece(count),
         Err(error) => got_error(error.kind()),
-    }
-}
-
-/// Takes in what a viewer's inputs change in what it holds down.
-fn hold(held: &mut HeldInputs, inputs: &[Input])
-    ensures { held.new ≡ held_behind held.old inputs.now }
-{
-    for input in inputs {
-        held.change(Change::of(input));
     }
 }
 
@@ -398,18 +389,37 @@ impl<T: Transport> Connection<T> {
         self.heard.reserve(piece.len())
     }
 
-    /// Counts a piece that was heard, whose inputs were `inputs`: an update may be ready, a request may be open, and the viewer holds down
-    /// what the inputs leave. Keeps the piece, in room that was made.
-    pub fn count_piece(&mut self, piece: &[u8], inputs: &[Input])
+    /// Counts a piece that was heard: an update may be ready, and a request may be open. Keeps the piece, in room that was made.
+    pub fn count_piece(&mut self, piece: &[u8])
         requires { CanKeep (length piece.now) self.old }
-        ensures same { self.new ≡ record self.old { held = self.new.held; known = record self.old.known { may_cut = true; may_ask = true }; counts = with_piece piece.now self.old.counts; room = self.new.room } }
-        ensures held { self.new.held ≡ held_behind self.old.held inputs.now }
+        ensures { self.new ≡ record self.old { known = record self.old.known { may_cut = true; may_ask = true }; counts = with_piece piece.now self.old.counts; room = self.new.room } }
     {
         self.pieces = self.pieces.saturating_add(1);
         self.may_cut = true;
         self.may_ask = true;
         self.heard.append(piece);
-        hold(&mut self.held, inputs);
+    }
+
+    /// Takes in what an input changes in what the viewer holds down. Before it lets the earliest key go where no other could go down, and
+    /// returns its release.
+    pub fn hold(&mut self, input: &Input) -> Option<Input>
+        ensures same { self.new ≡ record self.old { held = self.new.held } }
+        ensures held { self.new.held ≡ after (roomy self.old.held) input.now }
+        ensures release { result ≡ room_release self.old.held.keys }
+    {
+        let release = self.held.let_earliest_go();
+        self.held.change(Change::of(input));
+        release
+    }
+
+    /// Does the same with inputs in order, whose releases nobody is told.
+    pub fn hold_all(&mut self, inputs: &[Input])
+        ensures same { self.new ≡ record self.old { held = self.new.held } }
+        ensures held { self.new.held ≡ held_behind self.old.held inputs.now }
+    {
+        for input in inputs {
+            let _release = self.hold(input);
+        }
     }
 
     /// Takes an update that was cut, where nothing waits. `is_asking` says whether the update left a request open; only then a further one

@@ -16,7 +16,6 @@ ghost use Rattle.connections.specs.Telling.{inputs_after, releases, said_by, IsT
 ghost use Rattle.connections.specs.Lending.{lends_canvas};
 
 use crate::application::Application;
-use crate::backlog::BUFFER;
 use crate::canvas::Canvas;
 use crate::connection::Connection;
 use crate::keys::KeySet;
@@ -33,6 +32,7 @@ use std::alloc::{AllocError, Global};
 use std::marker::Model;
 use std::mem;
 use std::time::Duration;
+use viewer::STREAM_BUFFER;
 
 /// In how many turns one viewer that floods is heard, while others have something to do.
 const TURNS: u32 = 8;
@@ -184,7 +184,7 @@ impl<T: Transport> Connections<T> {
             since_flood: 0,
             time: 0,
             read_buffer: [0; PIECE],
-            write_buffer: Vec::with_capacity(alloc, BUFFER)?,
+            write_buffer: Vec::with_capacity(alloc, STREAM_BUFFER)?,
         })
     }
 

@@ -11,7 +11,8 @@ ghost use Rattle.connections.specs.Waiting.{waiting_bytes};
 ghost use Rattle.connections.specs.Bounds.{AreWrittenAtMost, AreReadAtMost};
 ghost use Rattle.connections.specs.Drawing.{Draws};
 ghost use Rattle.connections.specs.Serving.{breaks_off};
-ghost use Rattle.connections.specs.Telling.{said_by, releases, IsTold};
+ghost use Rattle.held_inputs.specs.Held.{after, roomy};
+ghost use Rattle.connections.specs.Telling.{held_behind, releases, said_by, told_behind, told_for, IsTold};
 ghost use Rattle.connections.specs.Turns.{HearsPiece, TakesTurn, TakesTurnTelling};
 
 use crate::application::Application;
@@ -74,25 +75,66 @@ fn hear<T: Transport, A: Application>(
     };
     let inputs = answer.inputs.as_slice();
     canvas.record_heard(viewer, piece);
-    connection.count_piece(piece, inputs);
+    connection.count_piece(piece);
     connection.give(answer.bytes.as_slice(), answer.closed);
-    tell(canvas, viewer, inputs, full_requests, application)
+    tell(canvas, connection, inputs, full_requests, application)
+}
+
+/// Tells the application an input of a viewer, and before it the release of a key that is let go so that another may go down.
+fn tell_input<T: Transport, A: Application>(
+    canvas: &mut Canvas,
+    connection: &mut Connection<T>,
+    input: &Input,
+    application: &mut A,
+) -> Result<(), ScreenError>
+    ensures draws { Draws canvas.old canvas.new }
+    ensures same { connection.new ≡ record connection.old { held = connection.new.held } }
+    ensures held { connection.new.held ≡ after (roomy connection.old.held) input.now }
+    ensures told { IsTold A.stands (said_by connection.old.number (told_for connection.old.held input.now)) application.old application.new result }
+{
+    let viewer = connection.number();
+    if let Some(release) = connection.hold(input) {
+        application.on_input(canvas, viewer, &release)?;
+    }
+    application.on_input(canvas, viewer, input)
+}
+
+/// Does the same with inputs in order. The viewer holds down what all of them leave, even where an error ends the telling.
+fn tell_inputs<T: Transport, A: Application>(
+    canvas: &mut Canvas,
+    connection: &mut Connection<T>,
+    inputs: &[Input],
+    application: &mut A,
+) -> Result<(), ScreenError>
+    ensures draws { Draws canvas.old canvas.new }
+    ensures same { connection.new ≡ record connection.old { held = connection.new.held } }
+    ensures held { connection.new.held ≡ held_behind connection.old.held inputs.now }
+    ensures told { IsTold A.stands (said_by connection.old.number (told_behind connection.old.held inputs.now)) application.old application.new result }
+{
+    for index in 0..inputs.len() {
+        if let Err(error) = tell_input(canvas, connection, &inputs[index], application) {
+            connection.hold_all(&inputs[index + 1..]);
+            return Err(error);
+        }
+    }
+    Ok(())
 }
 
 /// Tells the application a viewer's inputs, in order, and whether there are more full requests of it now than there were.
-fn tell<A: Application>(
+fn tell<T: Transport, A: Application>(
     canvas: &mut Canvas,
-    viewer: u64,
+    connection: &mut Connection<T>,
     inputs: &[Input],
     full_requests: u64,
     application: &mut A,
 ) -> Result<(), ScreenError>
     ensures draws { Draws canvas.old canvas.new }
-    ensures told { IsTold A.stands (said_by viewer inputs.now) application.old application.new result }
+    ensures same { connection.new ≡ record connection.old { held = connection.new.held } }
+    ensures held { connection.new.held ≡ held_behind connection.old.held inputs.now }
+    ensures told { IsTold A.stands (said_by connection.old.number (told_behind connection.old.held inputs.now)) application.old application.new result }
 {
-    for input in inputs {
-        application.on_input(canvas, viewer, input)?;
-    }
+    tell_inputs(canvas, connection, inputs, application)?;
+    let viewer = connection.number();
     if canvas.has_asked_since(viewer, full_requests) {
         application.asked(canvas, viewer)?;
     }

@@ -1,4 +1,5 @@
--- What a viewer's screen lacks, place by place, and what one update sends of it.
+-- What a viewer's screen lacks, place by place, and what one update sends of it (RFC 6143, 7.5.3 and 7.6.1). An update that an application
+-- draws by a copy may be sent as CopyRect (7.7.2).
 use Rattle.std.specs.Prelude.{◌≡◌, length, ◌≤◌, ℕ, ◌*◌, Bool, true, false, not, ◌&&◌, ◌||◌, if◌then◌else◌, List, take, replicate, ℤ, pos, ◌+ℤ◌, ◌-ℤ◌, Option, Some, None}
 use Rattle.std.specs.List.{All, list_any}
 use Rattle.region.specs.declared.Rect.{Rect}
@@ -9,12 +10,15 @@ use Rattle.copy_schedule.specs.declared.Mark.TheVariants.{Clean, Copied, Owed}
 use Rattle.region.specs.Places.{by_place, at_place, some_place}
 use Rattle.region.specs.Places.{same_offset, IsOnScreen, source_rect}
 
--- the marks of a screen's places, the offset of the copies, and the places that were asked for
 pub record Marks : Type 0 where
+  -- the screen's size (7.3.2)
   pub width : ℕ
   pub height : ℕ
+  -- a mark for each place, row by row
   pub marks : List Mark
+  -- how far right of its source, and below it, each copy is that is awaited
   pub offset : ℤ × ℤ
+  -- for each place whether it was asked for (7.5.3)
   pub asked : List Bool
 
 abbrev pub is_clean : Mark → Bool
@@ -47,13 +51,13 @@ has_asked m = list_any (λ is_asked. is_asked) m.asked
 abbrev pub with_marks : Marks → (ℤ → ℤ → Mark) → Marks
 with_marks m mark = record m { marks = by_place m.width m.height mark }
 
--- at connecting every place is owed, and none is asked for
+-- once a viewer has connected every place is owed, and none is asked for (7.3.2)
 abbrev pub new_marks : ℕ → ℕ → Marks
 new_marks w h = record { width = w; height = h; marks = replicate (w * h) Owed; offset = (pos 0, pos 0); asked = replicate (w * h) false }
 
 -- Drawing. A set of places is a test.
 
--- the places of the set become owed
+-- the places of the set become owed: they are sent as pixels (7.6.1)
 abbrev pub marked : (ℤ → ℤ → Bool) → Marks → Marks
 marked set m = with_marks m (λ x y. if set x y then Owed else mark_at m x y)
 
@@ -69,7 +73,7 @@ moved_mark is_drawn Copied source = if is_owed source then Owed else Copied
 moved_mark true Clean source = if is_owed source then Owed else Copied
 moved_mark false Clean source = Clean
 
--- a viewer with CopyRect may have the set's pixels moved by the offset; all places at once
+-- a viewer with CopyRect may move the set's pixels itself, by the offset, all places at once (7.7.2)
 abbrev pub moved_marks : (ℤ → ℤ → Bool) → ℤ × ℤ → Marks → Marks
 moved_marks set by m = record (with_marks m (λ x y. moved_mark (set x y) (mark_at m x y) (mark_at m (x -ℤ by.0) (y -ℤ by.1)))) { offset = by }
 
@@ -92,24 +96,24 @@ abbrev pub requested : (ℤ → ℤ → Bool) → Bool → Marks → Marks
 requested set true m = asked_for set m
 requested set false m = forgotten set (asked_for set m)
 
--- the viewer no longer uses CopyRect
+-- a list of encodings came in which CopyRect isn't (7.5.2)
 abbrev pub without_copyrect : Marks → Marks
 without_copyrect m = with_marks m (λ x y. if is_copied (mark_at m x y) then Owed else mark_at m x y)
 
 -- A new size.
 
--- Every place is owed, and nothing awaits a copy. Of the places that were asked for those stay asked for that are on the new screen
+-- Every place is owed, and nothing awaits a copy (DesktopSize, 7.8.2). Of the places that were asked for those stay asked for that are on the new screen
 -- and in the view.
 abbrev pub resized : ℕ → ℕ → (ℤ → ℤ → Bool) → Marks → Marks
 resized w h view m = record (new_marks w h) { asked = by_place w h (λ x y. asked_at m x y && view x y) }
 
 -- One update.
 
--- the places that are asked for and not clean
+-- the places that are asked for and not clean (7.5.3)
 abbrev pub wanted : Marks → ℤ → ℤ → Bool
 wanted m x y = asked_at m x y && not (is_clean (mark_at m x y))
 
--- those of them whose pixels the viewer has at places that are asked for too
+-- those of them whose pixels the viewer has at places that are asked for too (7.7.2)
 abbrev pub copyable : Marks → ℤ → ℤ → Bool
 copyable m x y = asked_at m x y && is_copied (mark_at m x y) && asked_at m (x -ℤ m.offset.0) (y -ℤ m.offset.1)
 
@@ -117,7 +121,7 @@ copyable m x y = asked_at m x y && is_copied (mark_at m x y) && asked_at m (x -�
 abbrev pub copies_of : ℕ → Marks → List Rect
 copies_of limit m = take limit (order m.offset.0 m.offset.1 (rects_of m.width m.height (copyable m)))
 
--- the first rectangles of the rest
+-- the first rectangles of the rest (7.6.1)
 abbrev pub pixels_of : ℕ → Marks → List Rect
 pixels_of limit m = take limit (rects_of m.width m.height (λ x y. wanted m x y && not (copyable m x y)))
 
@@ -134,7 +138,7 @@ after_sending copies pixels m = record (with_marks m (λ x y.
 abbrev pub IsCutTo : ℕ → ℕ → ℤ × ℤ → List Rect → Type 0
 IsCutTo w h by rs = (x y : ℤ) → covers rs x y ≡ true → (on_screen w h x y && on_screen w h (x -ℤ by.0) (y -ℤ by.1)) ≡ true
 
--- what one update sends, and the marks after it
+-- what one update sends, and the marks after it (7.6.1)
 pub record Sent : Type 0 where
   pub copies : List Rect
   pub offset : ℤ × ℤ

@@ -10,8 +10,8 @@ use crate::sets::{is_screen, moved_by};
 use region::{Rect, Region};
 use std::alloc::{AllocError, Global};
 
-/// The places that are asked for and not clean: those that are sent as copies, and those that are sent as pixels. Beside
-/// them all places that are not clean.
+/// The places that the viewer asked for and that are not clean: those that an update may send as copies, and those that it may send
+/// as pixels. Beside them, all places that are not clean.
 #[derive(Drop)]
 pub struct Chosen {
     pub copies: Region,
@@ -19,7 +19,8 @@ pub struct Chosen {
     pub unclean: Region,
 }
 
-/// The places that may be sent as copies: they and their sources, (dx, dy) before them, are asked for.
+/// Returns the places of `copied` that an update may send as copies: the viewer asked for them, and for their sources, `offset`
+/// (dx, dy) before them.
 fn copyable(
     alloc: Global,
     copied: &Region,
@@ -38,7 +39,7 @@ fn copyable(
     Ok(all)
 }
 
-/// What may be sent next.
+/// Returns what the next update may send.
 pub fn choose(
     alloc: Global,
     sets: &MarkSets,
@@ -76,7 +77,7 @@ pub struct Sending {
     pub owed: Region,
 }
 
-/// The first rectangles of a region, at most `limit`, in the order for copies by (dx, dy).
+/// Returns the first rectangles of `region`, at most `limit`, in the order for copies by `offset`, (dx, dy).
 pub fn first_copies(
     alloc: Global,
     region: &Region,
@@ -91,7 +92,7 @@ pub fn first_copies(
     Ok(rects)
 }
 
-/// The first rectangles of a region, at most `limit`, from the top.
+/// Returns the first rectangles of `region`, at most `limit`, from the top.
 pub fn first_pixels(region: &Region, limit: u32) -> Result<Vec<Rect>, AllocError>
     ensures rects { IfOk result (λ rects. rects.items ≡ take limit region.now.list) }
     ensures canonical { IsCanonical region.now.list }
@@ -100,7 +101,7 @@ pub fn first_pixels(region: &Region, limit: u32) -> Result<Vec<Rect>, AllocError
     Ok(rects.into_vec())
 }
 
-/// The places that are left once the rectangles are sent.
+/// Returns the places of `unclean` that are left once an update sends the rectangles of `copies` and `pixels`.
 pub fn left_after(
     alloc: Global,
     unclean: &Region,
@@ -119,7 +120,8 @@ pub fn left_after(
     Ok(left)
 }
 
-/// Whether all places of the screen are asked for and none awaits a copy, so that what is wanted is what is owed.
+/// Says whether no place awaits a copy, and the viewer is known to have asked for all places of the screen. Then what is wanted is
+/// what is owed.
 pub fn sends_owed_alone(sets: &MarkSets, asked: &Region, width: u32, height: u32) -> bool
     ensures copied { result ≡ true → sets.now.copied.list ≡ [] }
     ensures asked { result ≡ true → (x y : ℤ) → covers asked.now.list x y ≡ on_screen width height x y }
@@ -127,8 +129,8 @@ pub fn sends_owed_alone(sets: &MarkSets, asked: &Region, width: u32, height: u32
     sets.copied.is_empty() && is_screen(asked, width, height)
 }
 
-/// What is sent where all that is wanted is owed: no more rectangles are listed than are sent. Where they are fewer than the limit,
-/// nothing is left.
+/// Returns what an update sends, at most `limit` rectangles, if all that is wanted is `owed`. Lists no more rectangles than it
+/// sends. Leaves nothing owed if they are fewer than `limit`.
 pub fn send_owed(alloc: Global, owed: &Region, limit: u32) -> Result<Sending, AllocError>
     requires { LiesOn longest_side longest_side owed.now.list }
     ensures copies { IfOk result (λ s. s.copies.items ≡ []) }

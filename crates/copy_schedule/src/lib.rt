@@ -29,7 +29,7 @@ use region::{Rect, Region};
 /// The error of a call that is refused memory.
 pub use std::alloc::AllocError as OutOfMemory;
 
-/// A law: in the order in which an update sends copies, none is drawn over what a later one is copied from.
+/// Proves that an update sends its copies in an order in which none is drawn over the source of a later one.
 pub fn copies_are_in_order()
     ensures { copies_are_in_order }
 {}
@@ -41,7 +41,7 @@ pub enum Mark {
     Clean,
     /// The viewer has its colour at the place less the offset.
     Copied,
-    /// Neither.
+    /// The viewer has neither.
     Owed,
 }
 
@@ -67,7 +67,7 @@ pub enum LogEntry {
 }
 
 impl LogEntry {
-    /// The places that the call drew.
+    /// Returns the places that the call drew.
     pub fn region(&self) -> &Region
         ensures { result.now.list ≡ drawn_by self.now }
     {

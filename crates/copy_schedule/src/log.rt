@@ -10,13 +10,13 @@ use crate::marks::Marks;
 use region::Region;
 use std::alloc::{AllocError, Global};
 
-/// The most rectangles of a region that are put into another where they stand.
+/// `joined` puts a region of at most this many rectangles into the other one, in place.
 const FEW: usize = 64;
 
-/// How many rectangles a mark has at most to which another is joined before there are parts.
+/// In parts, `joined_log` joins a mark to the next one only if the next one has at most this many rectangles.
 const PART: usize = 16;
 
-/// The places of both regions. A region of few rectangles is put into the other; a larger one is copied with it.
+/// Returns a region with the places of both. Puts `region` into `next` if it has few rectangles; copies both if it is larger.
 fn joined(region: &Region, mut next: Region) -> Result<Region, AllocError>
     ensures { IfOk result (λ both. (x y : ℤ) → covers both.list x y ≡ (covers region.now.list x y || covers next.list x y)) }
 {
@@ -27,7 +27,7 @@ fn joined(region: &Region, mut next: Region) -> Result<Region, AllocError>
     Ok(next)
 }
 
-/// Whether the last entry is a mark of so many rectangles at most.
+/// Says whether the last entry is a mark of at most `most` rectangles.
 fn ends_with_few(out: &[LogEntry], most: usize) -> bool {
     match out.last() {
         Some(LogEntry::Mark(region)) => region.count_rects() <= most,
@@ -35,8 +35,8 @@ fn ends_with_few(out: &[LogEntry], most: usize) -> bool {
     }
 }
 
-/// A region that is marked comes before the entries, which stand from the last to the first: in one with what is marked next, where
-/// that has so many rectangles at most.
+/// Puts a mark of `region` before the entries of `out`, which stand from the last to the first. Joins it to the mark that comes
+/// next, if that has at most `most` rectangles.
 fn mark_before(out: &mut Vec<LogEntry>, region: &Region, most: usize) -> Result<(), AllocError>
     ensures same { OnOk result ((uses_copyrect : Bool) (m : Marks) →
         logged uses_copyrect (reverse out.new.items) m ≡
@@ -63,8 +63,8 @@ fn mark_before(out: &mut Vec<LogEntry>, region: &Region, most: usize) -> Result<
     Ok(())
 }
 
-/// An entry comes before the others, which stand from the last to the first, as it is for a viewer that uses CopyRect or for
-/// another.
+/// Puts `entry` before the entries of `out`, which stand from the last to the first: as it is for a viewer that uses CopyRect, if
+/// `uses_copyrect`, and else as it is for another. Joins it as a mark to the next one if that has at most `most` rectangles.
 fn put_before(
     out: &mut Vec<LogEntry>,
     entry: &LogEntry,
@@ -94,9 +94,9 @@ fn put_before(
     }
 }
 
-/// The same drawing for a viewer that uses CopyRect, or for another, where a mark is joined to the next one if that has so many
-/// rectangles at most. They are joined from the last to the first, so that a large region that stands before many small ones is gone
-/// through once.
+/// Returns the same drawing for a viewer that uses CopyRect, if `uses_copyrect`, and else for another. Joins a mark to the next one
+/// if that has at most `most` rectangles. Joins from the last to the first, so that it goes only once through a large region that
+/// stands before many small ones.
 fn joined_up_to(
     alloc: Global,
     entries: &[LogEntry],
@@ -116,8 +116,9 @@ fn joined_up_to(
     Ok(out)
 }
 
-/// The same drawing for a viewer that uses CopyRect, or for another, in fewer entries: neighbouring marks are one region. They are
-/// joined in parts first, so that many small ones aren't put one by one into a region that grows with them.
+/// Returns the same drawing for a viewer that uses CopyRect, if `uses_copyrect`, and else for another. Joins neighbouring marks to
+/// one region, so that there are fewer entries. Joins them in parts first, so that it doesn't put many small ones one by one into a
+/// region that grows with them.
 pub fn joined_log(
     alloc: Global,
     entries: &[LogEntry],
@@ -130,7 +131,7 @@ pub fn joined_log(
     joined_up_to(alloc, &parts, uses_copyrect, usize::MAX)
 }
 
-/// The marks after one entry.
+/// Changes the marks by the drawing of one entry: a `Mark` by `mark`, a `Copy` by `copy`.
 fn take_entry(marks: &mut Marks, entry: &LogEntry, uses_copyrect: bool) -> Result<(), AllocError>
     requires cut { IsCutEntry marks.old.width marks.old.height entry.now }
     ensures { OnOk result (marks.new ≡ after_entry uses_copyrect entry.now marks.old) }
@@ -141,7 +142,7 @@ fn take_entry(marks: &mut Marks, entry: &LogEntry, uses_copyrect: bool) -> Resul
     }
 }
 
-/// The entries in their order.
+/// Changes the marks by the drawing of the entries, in their order.
 pub(crate) fn take_entries(
     marks: &mut Marks,
     entries: &[LogEntry],

@@ -19,7 +19,7 @@ pub struct MarkSets {
     pub copied: Region,
 }
 
-/// The same places. `AllocError` where memory is refused.
+/// Returns a copy of `sets`. `AllocError` if memory is refused.
 pub fn clone_of(alloc: Global, sets: &MarkSets) -> Result<MarkSets, AllocError>
     ensures owed { IfOk result (λ k. k.owed.list ≡ sets.now.owed.list) }
     ensures copied { IfOk result (λ k. k.copied.list ≡ sets.now.copied.list) }
@@ -29,7 +29,7 @@ pub fn clone_of(alloc: Global, sets: &MarkSets) -> Result<MarkSets, AllocError>
     Ok(MarkSets { owed, copied })
 }
 
-/// The set's places become owed.
+/// Returns `sets` after the places of `set` became owed.
 pub fn owing(sets: &MarkSets, set: &Region) -> Result<MarkSets, AllocError>
     ensures marks { IfOk result (λ k. (x y : ℤ) →
         mark_in_sets k x y ≡ (if covers set.now.list x y then Owed else mark_in_sets sets.now x y)) }
@@ -40,7 +40,8 @@ pub fn owing(sets: &MarkSets, set: &Region) -> Result<MarkSets, AllocError>
     Ok(MarkSets { owed, copied })
 }
 
-/// The set's places that are on a screen become owed. A set that lies on it is borrowed as it is.
+/// Returns `sets` after those places of `set` became owed that are on a screen of `width` columns and `height` rows. Borrows `set`
+/// as it is if its box lies on the screen.
 pub fn owing_on_screen(
     alloc: Global,
     sets: &MarkSets,
@@ -62,7 +63,7 @@ pub fn owing_on_screen(
     Ok(left)
 }
 
-/// The copied places become owed.
+/// Returns `sets` after the copied places became owed.
 pub fn owing_copies(sets: &MarkSets) -> Result<MarkSets, AllocError>
     ensures marks { IfOk result (λ k. (x y : ℤ) →
         mark_in_sets k x y ≡ (if covers sets.now.copied.list x y then Owed else mark_in_sets sets.now x y)) }
@@ -79,8 +80,8 @@ fn opposite(by: i32) -> i32
     -by
 }
 
-/// The copied places that a copy of a set by (dx, dy) makes owed: those that wait by another offset, or from which the copy
-/// takes colours that they wait for themselves.
+/// Returns the copied places that a copy of `drawn` by `offset`, (dx, dy), makes owed. Unless the offset `stays`, these are all,
+/// since they wait by another one. If it stays, they are those from which the copy takes colours that they wait for themselves.
 fn lost_places(
     alloc: Global,
     copied: &Region,
@@ -106,8 +107,8 @@ fn lost_places(
     Ok(lost)
 }
 
-/// Before a copy of a set by (dx, dy), which stays the offset or becomes it, the copied places that are lost to it become
-/// owed.
+/// Returns `sets` after the copied places became owed that are lost to a copy of `drawn` by `offset`, (dx, dy). If the offset
+/// `stays`, the copied places wait by it already; else it becomes theirs.
 pub fn losing(
     alloc: Global,
     sets: &MarkSets,
@@ -127,7 +128,8 @@ pub fn losing(
     Ok(left)
 }
 
-/// A copy of a set by (dx, dy): what was copied or is drawn is owed where its source is, and copied elsewhere.
+/// Returns `sets` after a copy of `drawn` by `offset`, (dx, dy). An owed place stays owed. Of the others, those that were copied or
+/// are drawn become owed if their sources are owed, and copied if not.
 pub fn moving(
     alloc: Global,
     sets: &MarkSets,
@@ -148,7 +150,7 @@ pub fn moving(
     Ok(MarkSets { owed, copied })
 }
 
-/// A set and those of the copied places that are in another become owed.
+/// Returns `sets` after the places of `set` became owed, and with them the copied places that are in `other`.
 pub fn forgetting(sets: &MarkSets, set: &Region, other: &Region) -> Result<MarkSets, AllocError>
     ensures marks { IfOk result (λ k. (x y : ℤ) →
         mark_in_sets k x y ≡ (if covers set.now.list x y ||

@@ -27,8 +27,8 @@ use region::{Rect, Region};
 use std::alloc::{AllocError, Global};
 use std::marker::Model;
 
-/// One viewer's marks: the places of the screen that are owed to it, those that await a copy and by which offset, and those
-/// that it asked for. All other places are clean.
+/// One viewer's marks: the places of the screen that are owed to it, those that await a copy and by which offset, and those that it
+/// asked for. All places that are neither owed nor await a copy are clean.
 pub struct Marks {
     alloc: Global,
     width: u32,
@@ -74,7 +74,7 @@ impl Model for Marks {
     ghost invariant = { λ a. IsScreen a.width a.height a.sets a.asked.list };
 }
 
-/// Marks that a call would leave, ready for `Marks::commit`.
+/// The marks that a call would leave, ready for `Marks::commit`.
 #[derive(Drop)]
 pub struct Prepared {
     marks: Marks,
@@ -96,7 +96,7 @@ pub struct PreparedCut {
 }
 
 impl Prepared {
-    /// The marks themselves. This takes no memory.
+    /// Returns the marks themselves. Takes no memory.
     pub fn into_marks(self) -> Marks
         ensures { result ≡ self }
     {
@@ -105,8 +105,8 @@ impl Prepared {
 }
 
 impl Marks {
-    /// At connecting every place is owed, and none is asked for. The width and the height are in places, at most 8192 each.
-    /// This takes no memory.
+    /// Makes the marks of a viewer that connects: every place is owed, and none is asked for. `width` and `height` are in places,
+    /// at most 8192 each. Takes no memory.
     pub fn new(alloc: Global, width: u32, height: u32) -> Marks
         requires columns { width ≤ longest_side }
         requires rows { height ≤ longest_side }
@@ -126,7 +126,7 @@ impl Marks {
         }
     }
 
-    /// Equal marks. `AllocError` where memory is refused.
+    /// Returns equal marks. `AllocError` if memory is refused.
     pub fn try_clone(&self) -> Result<Marks, AllocError>
         ensures { IfOk result (λ marks. marks ≡ self.now) }
     {
@@ -143,7 +143,7 @@ impl Marks {
         })
     }
 
-    /// The marks as `mark` would leave them. `AllocError` where memory is refused.
+    /// Returns the marks as `mark` would leave them. `AllocError` if memory is refused.
     pub fn prepare_mark(&self, region: &Region) -> Result<Prepared, AllocError>
         ensures { IfOk result (λ prepared. prepared ≡ marked (covers region.now.list) self.now) }
     {
@@ -152,7 +152,7 @@ impl Marks {
         Ok(prepared)
     }
 
-    /// The marks as `copy` would leave them. `AllocError` where memory is refused.
+    /// Returns the marks as `copy` would leave them. `AllocError` if memory is refused.
     pub fn prepare_copy(
         &self,
         region: &Region,
@@ -173,7 +173,7 @@ impl Marks {
         Ok(prepared)
     }
 
-    /// The marks as `apply_log` would leave them. `AllocError` where memory is refused.
+    /// Returns the marks as `apply_log` would leave them. `AllocError` if memory is refused.
     pub fn prepare_log(
         &self,
         entries: &[LogEntry],
@@ -190,8 +190,9 @@ impl Marks {
         Ok(Prepared { marks })
     }
 
-    /// The marks once the screen has another size, 1 to 8192 columns and rows: every place is owed, none awaits a copy, and of the
-    /// places that were asked for those stay so that are on the new screen and in the view. `AllocError` where memory is refused.
+    /// Returns the marks for a screen of another size, `width` columns and `height` rows, 1 to 8192 each: every place is owed, and
+    /// none awaits a copy. Of the places that were asked for, those stay so that are on the new screen and in `view`. `AllocError`
+    /// if memory is refused.
     pub fn prepare_resize(
         &self,
         width: u32,
@@ -222,15 +223,15 @@ impl Marks {
         })
     }
 
-    /// The marks are the prepared ones from now on. This takes no memory.
+    /// Replaces the marks by the prepared ones. Takes no memory.
     pub fn commit(&mut self, prepared: Prepared)
         ensures { self.new ≡ prepared }
     {
         *self = prepared.marks;
     }
 
-    /// The region's places on the screen become owed (`rfbMarkRegionAsModified` of `rfb.h`). After an `AllocError` the marks
-    /// are as they were.
+    /// Marks the region's places on the screen as owed (`rfbMarkRegionAsModified` of `rfb.h`). After an `AllocError` the marks are
+    /// as they were.
     pub fn mark(&mut self, region: &Region) -> Result<(), AllocError>
         ensures ok { OnOk result (self.new ≡ marked (covers region.now.list) self.old) }
         ensures err { OnErr result (self.new ≡ self.old) }
@@ -240,9 +241,10 @@ impl Marks {
         Ok(())
     }
 
-    /// A copy drew the region with the pixels of the places less (dx, dy) (`rfbScheduleCopyRegion` of `rfb.h`). A viewer that
-    /// uses CopyRect may copy them itself, where it has their sources; for another they are owed. Places that await
-    /// pixels by another offset are owed from then on, and so are those from which this copy takes pixels that they still await.
+    /// Notes that a copy drew `region` with the pixels of the places less (`dx`, `dy`) (`rfbScheduleCopyRegion` of `rfb.h`). If
+    /// `uses_copyrect`, places that await pixels by another offset first become owed, and so do those from which this copy takes
+    /// pixels that they still await; then the viewer may copy those of the region's places itself that aren't owed and whose
+    /// sources aren't. The other places of the region become owed.
     ///
     /// The region is on the screen with its sources. It is meant to have places, and the offset not to be (0, 0). After an
     /// `AllocError` the marks are as they were.
@@ -262,8 +264,8 @@ impl Marks {
         Ok(())
     }
 
-    /// The drawing of a log, the first entry's first: each `Mark` by `mark`, each `Copy` by `copy`. Each entry makes new regions,
-    /// so a long log is first made shorter by `joined_log`. After an `AllocError` the marks are as they were.
+    /// Applies the drawing of a log, the first entry's first: each `Mark` by `mark`, each `Copy` by `copy`. Makes new regions for
+    /// each entry, so `joined_log` first makes a long log shorter. After an `AllocError` the marks are as they were.
     pub fn apply_log(&mut self, entries: &[LogEntry], uses_copyrect: bool) -> Result<(), AllocError>
         requires cut { All (IsCutEntry self.old.width self.old.height) entries.now }
         ensures ok { OnOk result (self.new ≡ logged uses_copyrect entries.now self.old) }
@@ -274,9 +276,9 @@ impl Marks {
         Ok(())
     }
 
-    /// A FramebufferUpdateRequest (RFC 6143, section 7.5.3): the rectangle's places on the screen are asked for. Where it is not
-    /// incremental, they are owed, and so are the places that await a copy from one of them. After an `AllocError` the marks
-    /// are as they were.
+    /// Takes a FramebufferUpdateRequest (RFC 6143, section 7.5.3): the viewer asks for the places of `rect` on the screen. Unless
+    /// `incremental`, marks them as owed, and with them the places that await a copy from one of them. After an `AllocError` the
+    /// marks are as they were.
     pub fn request(&mut self, rect: Rect, incremental: bool) -> Result<(), AllocError>
         ensures ok { OnOk result (self.new ≡ requested (in_rect rect) incremental self.old) }
         ensures err { OnErr result (self.new ≡ self.old) }
@@ -296,8 +298,8 @@ impl Marks {
         Ok(())
     }
 
-    /// The viewer's SetEncodings lists no CopyRect (RFC 6143, section 7.5.2): the places that await a copy are owed. After an
-    /// `AllocError` the marks are as they were.
+    /// Marks the places that await a copy as owed, where the viewer's SetEncodings lists no CopyRect (RFC 6143, section 7.5.2).
+    /// After an `AllocError` the marks are as they were.
     pub fn no_copyrect(&mut self) -> Result<(), AllocError>
         ensures ok { OnOk result (self.new ≡ without_copyrect self.old) }
         ensures err { OnErr result (self.new ≡ self.old) }
@@ -307,7 +309,7 @@ impl Marks {
         Ok(())
     }
 
-    /// Whether a place is asked for.
+    /// Says whether the viewer asks for any place.
     pub fn has_asked(&self) -> bool
         ensures { result ≡ has_asked self.now }
     {
@@ -315,14 +317,14 @@ impl Marks {
         !self.asked.is_empty()
     }
 
-    /// Whether a place is asked for and not clean (`FB_UPDATE_PENDING` of `rfb.h`): whether `cut` gives something.
+    /// Says whether any place is asked for and not clean (`FB_UPDATE_PENDING` of `rfb.h`), so that `cut` gives something.
     pub fn pending(&self) -> bool
         ensures { result ≡ pending self.now }
     {
         self.asked.meets(&self.sets.owed) || self.asked.meets(&self.sets.copied)
     }
 
-    /// The same once the drawing is known that stands in a log, whether the viewer uses CopyRect or not. This takes no memory.
+    /// Says what `pending` would say after `apply_log` with `entries`, whether the viewer uses CopyRect or not. Takes no memory.
     pub fn pending_after(&self, entries: &[LogEntry]) -> bool
         ensures { (uses_copyrect : Bool) → result ≡ pending (logged uses_copyrect entries.now self.now) }
     {
@@ -333,12 +335,12 @@ impl Marks {
         self.pending() || self.some_draws_asked(entries)
     }
 
-    /// What the next update sends (`rfbSendFramebufferUpdate` of `rfb.h`), and the marks once it is sent: its places are clean,
-    /// every other place that is not clean is owed, none is asked for, and the offset is (0, 0).
+    /// Returns what the next update sends (`rfbSendFramebufferUpdate` of `rfb.h`), and the marks once it is sent: its places are
+    /// clean, every other place that is not clean is owed, none is asked for, and the offset is (0, 0).
     ///
-    /// A place is sent as a copy where it awaits one and its source is asked for too. Of the copies, and of the pixel
-    /// rectangles, the first ones go, at most `limit` of each (`maxRectsPerUpdate` of `rfb.h`). None where no place is asked for
-    /// and not clean. `AllocError` where memory is refused.
+    /// The update sends a place as a copy if the place awaits one and its source is asked for too. It sends the first ones of the
+    /// copies, and of the pixel rectangles, at most `limit` of each (`maxRectsPerUpdate` of `rfb.h`). `None` if no place is asked
+    /// for and not clean. `AllocError` if memory is refused.
     pub fn prepare_cut(&self, limit: u32) -> Result<Option<PreparedCut>, AllocError>
         ensures sent { IfOk result (λ p. option_map (λ q. q.cut) p ≡ option_map cut_of_sent (cut_of limit self.now)) }
         ensures after { IfOk result (λ p. IfSome p (λ q. q.marks ≡ marks_after limit self.now)) }
@@ -366,8 +368,8 @@ impl Marks {
         }))
     }
 
-    /// What `prepare_cut` gives, marked as sent. Where it is None nothing changes; after an `AllocError` the marks are as they
-    /// were.
+    /// Returns what `prepare_cut` gives, and marks it as sent. Changes nothing if that is `None`. After an `AllocError` the marks
+    /// are as they were.
     pub fn cut(&mut self, limit: u32) -> Result<Option<Cut>, AllocError>
         ensures sent { IfOk result (λ cut. cut ≡ option_map cut_of_sent (cut_of limit self.old)) }
         ensures after { OnOk result (self.new ≡ marks_after limit self.old) }
@@ -384,7 +386,7 @@ impl Marks {
         Ok(Some(cut))
     }
 
-    /// The columns of the screen, at most 8192.
+    /// Returns the columns of the screen, at most 8192.
     pub fn width(&self) -> u32
         ensures same { result ≡ self.now.width }
         ensures limit { result ≤ longest_side }
@@ -392,7 +394,7 @@ impl Marks {
         self.width
     }
 
-    /// The rows of the screen, at most 8192.
+    /// Returns the rows of the screen, at most 8192.
     pub fn height(&self) -> u32
         ensures same { result ≡ self.now.height }
         ensures limit { result ≤ longest_side }
@@ -400,14 +402,14 @@ impl Marks {
         self.height
     }
 
-    /// The offset (dx, dy) of the pending copies.
+    /// Returns the offset (dx, dy) of the pending copies.
     pub fn offset(&self) -> (i32, i32)
         ensures { result ≡ self.now.offset }
     {
         (self.offset_x, self.offset_y)
     }
 
-    /// The owed places.
+    /// Returns the owed places.
     pub fn modified(&self) -> &Region
         ensures { result.now.list ≡ rects_of self.now.width self.now.height (λ x y. is_owed (mark_at self.now x y)) }
     {
@@ -415,7 +417,7 @@ impl Marks {
         &self.sets.owed
     }
 
-    /// The places that await a copy.
+    /// Returns the places that await a copy.
     pub fn copied(&self) -> &Region
         ensures { result.now.list ≡ rects_of self.now.width self.now.height (λ x y. is_copied (mark_at self.now x y)) }
     {
@@ -423,7 +425,7 @@ impl Marks {
         &self.sets.copied
     }
 
-    /// The places that are asked for.
+    /// Returns the places that the viewer asks for.
     pub fn requested(&self) -> &Region
         ensures { result.now.list ≡ rects_of self.now.width self.now.height (asked_at self.now) }
     {
@@ -431,7 +433,7 @@ impl Marks {
         &self.asked
     }
 
-    // These places and this offset, with the places that are asked for.
+    // Returns the marks with `sets` and `offset` in place of their own.
     fn prepared(&self, sets: MarkSets, offset: (i32, i32)) -> Result<Prepared, AllocError>
         requires { AreMarkSets self.now.width self.now.height sets }
         ensures { IfOk result (λ prepared. prepared ≡ record (with_sets sets self.now) { offset = offset }) }
@@ -450,7 +452,7 @@ impl Marks {
         })
     }
 
-    // What the next update sends, and what is owed after it.
+    // Returns what the next update sends, at most `limit` copies and `limit` pixel rectangles, and what is owed after it.
     fn sending(&self, limit: u32) -> Result<Sending, AllocError>
         ensures copies { IfOk result (λ s. s.copies.items ≡ copies_of limit self.now) }
         ensures pixels { IfOk result (λ s. s.pixels.items ≡ pixels_of limit self.now) }
@@ -473,7 +475,7 @@ impl Marks {
         })
     }
 
-    // The marks where these places are owed and no others, and none is asked for.
+    // Returns the marks with the places of `owed` owed and no others, and none asked for.
     fn settled(&self, owed: Region) -> Prepared
         requires { LiesOn self.now.width self.now.height owed.list }
         ensures { result ≡ record (with_marks self.now (λ x y. if covers owed.list x y then Owed else Clean)) {
@@ -498,14 +500,14 @@ impl Marks {
         }
     }
 
-    // Whether an entry of a log draws a place that is asked for.
+    // Says whether an entry of a log draws a place that the viewer asks for.
     fn draws_asked(&self, entry: &LogEntry) -> bool
         ensures { result ≡ draws_asked self.now entry.now }
     {
         self.asked.meets(entry.region())
     }
 
-    // Whether one of the entries does.
+    // Says whether one of the entries draws a place that the viewer asks for.
     fn some_draws_asked(&self, entries: &[LogEntry]) -> bool
         ensures { result ≡ list_any (draws_asked self.now) entries.now }
     {

@@ -16,14 +16,14 @@ fn is_far(by: i32) -> bool
     by <= -LONGEST_SIDE || LONGEST_SIDE <= by
 }
 
-/// Whether (dx, dy) leads from every place of a screen off it.
+/// Says whether `offset`, (dx, dy), leads from every place of a screen, whatever its size, off it.
 pub fn leads_off(offset: (i32, i32)) -> bool
     ensures { result ≡ (is_far_by offset.0 || is_far_by offset.1) }
 {
     is_far(offset.0) || is_far(offset.1)
 }
 
-/// The places whose places (dx, dy) before them are in the region, as far as a screen goes.
+/// Returns the places whose places `offset`, (dx, dy), before them are in `region`, as far as the largest screen goes.
 pub fn moved_by(alloc: Global, region: &Region, offset: (i32, i32)) -> Result<Region, AllocError>
     requires { LiesOn longest_side longest_side region.now.list }
     ensures { IfOk result (λ moved. (x y : ℤ) → on_screen longest_side longest_side x y ≡ true →
@@ -38,7 +38,7 @@ pub fn moved_by(alloc: Global, region: &Region, offset: (i32, i32)) -> Result<Re
     Ok(moved)
 }
 
-/// The places of a screen.
+/// Returns the places of a screen of `width` columns and `height` rows.
 pub fn screen_places(alloc: Global, width: u32, height: u32) -> Region
     requires width { width ≤ longest_side }
     requires height { height ≤ longest_side }
@@ -53,7 +53,7 @@ pub fn screen_places(alloc: Global, width: u32, height: u32) -> Region
     Region::from_rect_in_range(alloc, screen)
 }
 
-/// The rectangle of a window of a screen.
+/// Returns the rectangle of a window of a screen.
 fn window_rect(window: Window) -> Rect
     requires left { window.x1 ≤ longest_side }
     requires top { window.y1 ≤ longest_side }
@@ -69,7 +69,7 @@ fn window_rect(window: Window) -> Rect
     }
 }
 
-/// The places of a screen whose places (dx, dy) before them are in a rectangle.
+/// Returns the places of a screen of `width` columns and `height` rows whose places `offset`, (dx, dy), before them are in `rect`.
 pub fn part_of(alloc: Global, rect: Rect, offset: (i32, i32), width: u32, height: u32) -> Region
     requires width { width ≤ longest_side }
     requires height { height ≤ longest_side }
@@ -80,21 +80,21 @@ pub fn part_of(alloc: Global, rect: Rect, offset: (i32, i32), width: u32, height
     Region::from_rect_in_range(alloc, window_rect(window))
 }
 
-/// Whether the numbers from `low` to before `high` are from 0 to before `end`.
+/// Says whether 0 <= `low` and `high` <= `end`. Then the numbers from `low` to before `high` are from 0 to before `end`.
 fn is_between(low: i32, high: i32, end: u32) -> bool
     ensures { result ≡ lies_between end low high }
 {
     0 <= low && i64::from(high) <= i64::from(end)
 }
 
-/// Whether a rectangle lies on the screen.
+/// Says whether a rectangle lies on a screen of `width` columns and `height` rows.
 fn is_rect_on_screen(rect: Rect, width: u32, height: u32) -> bool
     ensures { result ≡ (lies_between width rect.x1 rect.x2 && lies_between height rect.y1 rect.y2) }
 {
     is_between(rect.x1, rect.x2, width) && is_between(rect.y1, rect.y2, height)
 }
 
-/// Whether a region's box is on the screen.
+/// Says whether a region's box is on a screen of `width` columns and `height` rows, or the region has no box, being empty.
 pub fn fits(region: &Region, width: u32, height: u32) -> bool
     ensures { result ≡ true → LiesOn width height region.now.list }
 {
@@ -104,7 +104,7 @@ pub fn fits(region: &Region, width: u32, height: u32) -> bool
     }
 }
 
-/// Whether a rectangle is all of a screen.
+/// Says whether a rectangle is all of a screen of `width` columns and `height` rows.
 fn is_screen_rect(rect: Rect, width: u32, height: u32) -> bool
     ensures { result ≡ true → (x y : ℤ) → in_rect rect x y ≡ on_screen width height x y }
 {
@@ -113,7 +113,7 @@ fn is_screen_rect(rect: Rect, width: u32, height: u32) -> bool
     rect.x1 == 0 && rect.y1 == 0 && right == i64::from(width) && bottom == i64::from(height)
 }
 
-/// Whether a region is known to be all of a screen.
+/// Says whether a region is known to be all of a screen of `width` columns and `height` rows.
 pub fn is_screen(region: &Region, width: u32, height: u32) -> bool
     ensures { result ≡ true → (x y : ℤ) → covers region.now.list x y ≡ on_screen width height x y }
 {
@@ -123,7 +123,7 @@ pub fn is_screen(region: &Region, width: u32, height: u32) -> bool
     }
 }
 
-/// The region's places that are on a screen, as a region of its own.
+/// Returns the places of `region` that are on a screen of `width` columns and `height` rows, as a region of its own.
 pub fn part_on_screen(
     alloc: Global,
     region: &Region,

@@ -15,7 +15,7 @@ pub struct Window {
     pub y2: usize,
 }
 
-/// The number from 0 to `end` next to `at`.
+/// Returns the number from 0 to `end` that is nearest to `at`.
 fn clamped(at: i64, end: u32) -> usize
     ensures bound { result ≤ end }
     ensures from { (k : ℕ) → k < end → nat_le result k ≡ int_le at (pos k) }
@@ -30,7 +30,7 @@ fn clamped(at: i64, end: u32) -> usize
     }
 }
 
-/// The number from 0 to `end` next to an edge `at`, moved by `by`.
+/// Moves an edge from `at` by `by`, and returns the number from 0 to `end` that is nearest to it.
 fn moved_edge(at: i32, by: i32, end: u32) -> usize
     ensures bound { result ≤ end }
     ensures from { (k : ℕ) → k < end → nat_le result k ≡ int_le at (pos k -ℤ by) }
@@ -39,7 +39,7 @@ fn moved_edge(at: i32, by: i32, end: u32) -> usize
     clamped(i64::from(at) + i64::from(by), end)
 }
 
-/// The part of a rectangle, moved by (dx, dy), that is on a screen of `width` columns and `height` rows.
+/// Moves a rectangle by (`dx`, `dy`), and returns the part that is on a screen of `width` columns and `height` rows.
 pub fn window_of(rect: Rect, dx: i32, dy: i32, width: u32, height: u32) -> Window
     ensures left { result.x1 ≤ width }
     ensures top { result.y1 ≤ height }

@@ -1,1 +1,3 @@
 mod JudgedLemmas
+mod PrintedLemmas
+mod LoopLemmas

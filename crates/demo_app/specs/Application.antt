@@ -1,11 +1,14 @@
 -- What an input has the application of `serve` draw.
-use Rattle.std.specs.Prelude.{ℕ, ◌+◌, nat_lt, ◌==◌, ◌&&◌, bit_and, true, false, if◌then◌else◌, pos, List, [], ◌∷◌, take, Option, Some, None, option_map}
+use Rattle.std.specs.Prelude.{ℕ, ◌≡◌, ◌+◌, nat_lt, ◌==◌, ◌&&◌, bit_and, true, false, if◌then◌else◌, pos, List, [], ◌∷◌, take, map, Option, Some, None, option_map, IfSome}
 use Rattle.std.specs.Global.{Vec}
+use Rattle.std.specs.List.{flat_map}
+use Rattle.std.specs.Option.{option_to_list}
 use Rattle.region.specs.declared.Rect.{Rect}
 use Rattle.messages.specs.declared.Input.{Input}
 use Rattle.messages.specs.declared.Input.TheVariants as input
 use Rattle.screen.specs.declared.Event.{Event}
 use Rattle.screen.specs.declared.Event.TheVariants as event
+use Rattle.demo_app.specs.declared.serve.Easel.{Easel}
 use Rattle.demo_app.specs.declared.serve.Stroke.{Stroke}
 use Rattle.demo_app.specs.declared.serve.Stroke.TheVariants.{Place, Bell, Text}
 
@@ -13,7 +16,7 @@ abbrev pub white : ℕ
 white = 0xff_ffff
 
 -- the place of a pointer whose first button is down, where that is on the screen
-abbrev pub painted : ℕ → ℕ → ℕ → ℕ → ℕ → Option Rect
+abbrev pub painted : (width height mask x y : ℕ) → Option Rect
 painted w h mask x y = if (bit_and mask 1 == 1) && (nat_lt x w && nat_lt y h) then Some (record { x1 = pos x; y1 = pos y; x2 = pos (x + 1); y2 = pos (y + 1) }) else None
 
 -- A pointer paints its place, a key that goes down rings the bell, and a text is sent back, its first 65,536 bytes.
@@ -32,3 +35,21 @@ stroke_event (Text text) = event.CutText text.now
 -- the calls that are kept, where they are
 abbrev pub kept_in : Option (Vec Event) → Option (List Event)
 kept_in drawn = option_map (λ v. v.items) drawn
+
+-- the drawing call of an input, if it has one
+abbrev pub drawn_for : (width height : ℕ) → Input → List Event
+drawn_for w h input = option_to_list (event_for w h input)
+
+-- the drawing calls of inputs, in order
+abbrev pub drawn_by : (width height : ℕ) → List Input → List Event
+drawn_by w h inputs = flat_map (drawn_for w h) inputs
+
+-- what viewers said, whoever said it
+abbrev pub said : List (ℕ × Input) → List Input
+said inputs = map (λ i. i.1) inputs
+
+-- The application of one thread draws on a screen of so many columns and rows, and was told these inputs: the drawing calls that it keeps, if any, are those of these inputs.
+pub record WasTold (w h : ℕ) (easel : Easel) (drawn : Option (Vec Event)) (inputs : List (ℕ × Input)) : Type 0 where
+  pub wide : easel.width ≡ w
+  pub high : easel.height ≡ h
+  pub kept : IfSome (kept_in drawn) (λ events. events ≡ drawn_by w h (said inputs))

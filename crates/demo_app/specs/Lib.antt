@@ -3,3 +3,4 @@ pub mod Watching
 pub mod Screens
 pub mod Application
 pub mod Endings
+pub mod Runs

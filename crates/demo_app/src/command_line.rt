@@ -241,12 +241,12 @@ const MOST_BY_THREADS: u32 = 64;
 
 const MOST_BY_ONE: u32 = 1024;
 
-/// How many viewers the options of `serve` ask for.
+/// Returns how many viewers the options of `serve` ask for.
 fn viewers_of(matches: &ArgMatches<'_>) -> u32 {
     matches.get_one("viewers").unwrap_or(1)
 }
 
-/// What the options of `serve` say of the screen and its viewers.
+/// Returns what the options of `serve` say of the screen, for so many `viewers`.
 fn options_of(
     alloc: Global,
     matches: &ArgMatches<'_>,
@@ -265,7 +265,7 @@ fn options_of(
     })
 }
 
-/// The file that the options of `serve` have the session recorded in, if any.
+/// Returns the file in which the options of `serve` have the session recorded, or `None` if they name none.
 fn record_of(alloc: Global, matches: &ArgMatches<'_>) -> Result<Option<String>, AllocError> {
     match matches.get_str("record") {
         Some(path) => Ok(Some(String::from_str(alloc, path)?)),
@@ -273,7 +273,7 @@ fn record_of(alloc: Global, matches: &ArgMatches<'_>) -> Result<Option<String>, 
     }
 }
 
-/// What the options of `serve` choose. All other numbers of viewers are refused before.
+/// Returns what the options of `serve` choose. clap and `objection` refuse all other numbers of viewers before.
 fn serve_of(alloc: Global, matches: &ArgMatches<'_>) -> Result<Chosen, AllocError>
     ensures { IfOk result HasViewers }
 {
@@ -301,7 +301,7 @@ fn serve_of(alloc: Global, matches: &ArgMatches<'_>) -> Result<Chosen, AllocErro
     })
 }
 
-/// What is said to options of `serve` of which each is fine, but not all of them.
+/// Returns what is wrong with options of `serve` of which each is fine alone, or `None` if they are fine together.
 fn objection(matches: &ArgMatches<'_>) -> Option<&'static str> {
     let by_threads = !matches.get_flag("one-thread");
     if by_threads && viewers_of(matches) > MOST_BY_THREADS {
@@ -313,7 +313,7 @@ fn objection(matches: &ArgMatches<'_>) -> Option<&'static str> {
     (matches.get_flag("forever") && matches.get_flag("check")).then_some(NO_END)
 }
 
-/// What a line that begins with `serve` chooses.
+/// Returns what a line that begins with `serve` chooses.
 fn serve_line(alloc: Global, words: &[String]) -> Result<Chosen, Error>
     ensures { IfOk result HasViewers }
 {
@@ -332,7 +332,7 @@ fn serve_line(alloc: Global, words: &[String]) -> Result<Chosen, Error>
     Ok(serve_of(alloc, matches)?)
 }
 
-/// The command `self`.
+/// Returns the command `self`.
 fn own_command<'a>(alloc: Global) -> Result<Command<'a>, AllocError> {
     let viewers = option(alloc, "viewers", "how many viewers there are, 1 to 8")
         .value_parser(value_parser!(u32).range(1..=8))
@@ -344,7 +344,7 @@ fn own_command<'a>(alloc: Global) -> Result<Command<'a>, AllocError> {
         .arg(one_thread_option(alloc))
 }
 
-/// What the options of `self` choose. clap refuses all other numbers, and says so.
+/// Returns what the options of `self` choose. clap refuses all other numbers, and says so.
 fn own_of(matches: &ArgMatches<'_>) -> Chosen
     ensures { HasViewers result }
 {
@@ -356,7 +356,7 @@ fn own_of(matches: &ArgMatches<'_>) -> Chosen
     }
 }
 
-/// What a line that begins with `self` chooses.
+/// Returns what a line that begins with `self` chooses.
 fn own_line(alloc: Global, words: &[String]) -> Result<Chosen, Error>
     ensures { IfOk result HasViewers }
 {
@@ -371,7 +371,7 @@ fn own_line(alloc: Global, words: &[String]) -> Result<Chosen, Error>
     }
 }
 
-/// The command `replay`.
+/// Returns the command `replay`.
 fn replay_command<'a>(alloc: Global) -> Result<Command<'a>, AllocError> {
     let file = Arg::new(alloc, "FILE")
         .help("the file of the session")
@@ -398,7 +398,7 @@ fn replay_command<'a>(alloc: Global) -> Result<Command<'a>, AllocError> {
         .arg(redacted)
 }
 
-/// What the options of `replay` ask.
+/// Returns what the options of `replay` ask.
 fn question_of(matches: &ArgMatches<'_>) -> Question {
     if matches.get_flag("redacted") {
         return Question::Redacted;
@@ -411,7 +411,7 @@ fn question_of(matches: &ArgMatches<'_>) -> Question {
     }
 }
 
-/// What the options of `replay` choose.
+/// Returns what the options of `replay` choose.
 fn replay_of(alloc: Global, matches: &ArgMatches<'_>) -> Result<Chosen, AllocError>
     ensures { IfOk result HasViewers }
 {
@@ -423,7 +423,7 @@ fn replay_of(alloc: Global, matches: &ArgMatches<'_>) -> Result<Chosen, AllocErr
     Ok(Chosen::Replay { file, asked })
 }
 
-/// What a line that begins with `replay` chooses.
+/// Returns what a line that begins with `replay` chooses.
 fn replay_line(alloc: Global, words: &[String]) -> Result<Chosen, Error>
     ensures { IfOk result HasViewers }
 {
@@ -438,7 +438,7 @@ fn replay_line(alloc: Global, words: &[String]) -> Result<Chosen, Error>
     }
 }
 
-/// What each other line chooses.
+/// Returns what each other line chooses.
 fn other_line(alloc: Global, words: &[String]) -> Result<Chosen, Error>
     ensures play { (program : List ℕ) → map string_bytes words.now ≡ program ∷ codes "play" ∷ [] →
         IfErr result (λ e. kind_of e ≡ ErrorKind.OutOfMemory) }
@@ -459,7 +459,7 @@ fn other_line(alloc: Global, words: &[String]) -> Result<Chosen, Error>
     Ok(Chosen::Play)
 }
 
-/// Whether a line's first word behind the program's name is `serve`.
+/// Says whether a line's first word behind the program's name is `serve`.
 fn is_serve(words: &[String]) -> bool
     ensures { result ≡ option_map_or (λ word. bytes_eq word (codes "serve")) (slice_get (map string_bytes words.now) 1) false }
 {
@@ -469,7 +469,7 @@ fn is_serve(words: &[String]) -> bool
     }
 }
 
-/// Whether it is `self`.
+/// Says whether that word is `self`.
 fn is_self(words: &[String]) -> bool
     ensures { result ≡ option_map_or (λ word. bytes_eq word (codes "self")) (slice_get (map string_bytes words.now) 1) false }
 {
@@ -479,7 +479,7 @@ fn is_self(words: &[String]) -> bool
     }
 }
 
-/// Whether it is `replay`.
+/// Says whether that word is `replay`.
 fn is_replay(words: &[String]) -> bool
     ensures { result ≡ option_map_or (λ word. bytes_eq word (codes "replay")) (slice_get (map string_bytes words.now) 1) false }
 {
@@ -489,7 +489,7 @@ fn is_replay(words: &[String]) -> bool
     }
 }
 
-/// What a command line chooses; its first word is the program's name. An error's text is what is to be printed,
+/// Returns what a command line chooses; its first word is the program's name. An error's text is what is to be printed,
 /// of `--help` and `--version` too.
 pub fn line_of(alloc: Global, words: &[String]) -> Result<Chosen, Error>
     // `play` is refused for want of memory alone, and a line without a command always.

@@ -9,7 +9,7 @@ use receipts::{Ended, FinishError, Receipt, Report};
 use std::alloc::{AllocError, Global};
 use std::io::Write;
 
-/// The name of how a viewer ended.
+/// Returns the name of how a viewer ended.
 fn end_name(ended: Ended) -> &'static [u8]
     ensures { result.now ≡ end_name ended }
 {
@@ -25,7 +25,7 @@ fn end_name(ended: Ended) -> &'static [u8]
     }
 }
 
-/// The code and the name of what is wrong with a run.
+/// Returns the code and the name of what is wrong with a run.
 fn wrong_name(error: FinishError) -> &'static [u8]
     ensures { result.now ≡ wrong_name error }
 {
@@ -39,7 +39,7 @@ fn wrong_name(error: FinishError) -> &'static [u8]
     }
 }
 
-/// The line of how a viewer ended.
+/// Returns the line of how a viewer ended.
 fn end_line(alloc: Global, receipt: &Receipt) -> Result<Vec<u8>, AllocError>
     ensures { IfOk result (λ line. line.items ≡ end_line receipt.now) }
 {
@@ -52,7 +52,7 @@ fn end_line(alloc: Global, receipt: &Receipt) -> Result<Vec<u8>, AllocError>
     Ok(line)
 }
 
-/// Prints a line for each viewer.
+/// Prints a line for each receipt.
 pub(crate) fn print_ends<W: Write>(
     alloc: Global,
     writer: &mut W,
@@ -66,7 +66,7 @@ pub(crate) fn print_ends<W: Write>(
     Ok(())
 }
 
-/// The line of a judgement that is not `ok`.
+/// Returns the line of a judgement that is not `ok`.
 fn wrong_line(alloc: Global, error: FinishError) -> Result<Vec<u8>, AllocError>
     ensures { IfOk result (λ line. line.items ≡ wrong_line error) }
 {
@@ -77,7 +77,7 @@ fn wrong_line(alloc: Global, error: FinishError) -> Result<Vec<u8>, AllocError>
     Ok(line)
 }
 
-/// Prints a judgement. The status: 0, or 4 where it is not `ok`.
+/// Prints a judgement. Returns the status: 0, or 4 where the judgement is not `ok`.
 pub(crate) fn print_judgement<W: Write>(
     alloc: Global,
     writer: &mut W,
@@ -99,7 +99,7 @@ pub(crate) fn print_judgement<W: Write>(
     }
 }
 
-/// The status of a run, once what it printed is written out.
+/// Writes out what a run printed. Returns the `status` of the run, or that of the trouble where this fails.
 pub(crate) fn written_out<W: Write>(writer: &mut W, status: u8) -> u8
     ensures { ((result ≡ status) × Keeps (W.contents writer.old) (W.contents writer.new)) ⊎ ((result ≡ 3) ⊎ (result ≡ 5)) }
 {

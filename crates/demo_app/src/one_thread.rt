@@ -1,17 +1,22 @@
 //! `serve --one-thread`: the same screen, served by an event loop.
 
-ghost use Rattle.std.specs.Prelude.{◌≡◌, ◌⊎◌, ◌++◌, ◌∷◌, [], List, None, true, IfOk, OnOk, option_map};
+ghost use Rattle.std.specs.Prelude.{◌≡◌, ◌⊎◌, ◌++◌, ◌∷◌, [], ℕ, List, Option, None, true, IfOk, OnOk, OnErr, option_map};
 ghost use Rattle.std.specs.Option.{option_to_list};
 ghost use Rattle.screen.specs.declared.Config.{Config};
 ghost use Rattle.screen.specs.declared.Event.{Event};
+ghost use Rattle.screen.specs.declared.Input.{Input};
 ghost use Rattle.screen.specs.State.{state};
-ghost use Rattle.demo_app.specs.Application.{event_for, kept_in, stroke_event};
-ghost use Rattle.demo_app.specs.Endings.{Judged};
+ghost use Rattle.demo_app.specs.Application.{event_for, kept_in, stroke_event, WasTold};
+ghost use Rattle.demo_app.specs.Endings.{Judged, PrintsOf};
+ghost use Rattle.demo_app.specs.Runs.{JudgesLoop, PrintsLoop};
+ghost use Rattle.demo_app.specs.Screens.{config_by};
 ghost use Rattle.screen.specs.Alone.{config_refusal};
 ghost use Rattle.connections.specs.Drawing.{Draws};
+ghost use Rattle.connections.specs.Serving.{Serves};
+ghost use Rattle.event_loop.specs.Sockets.{sockets_and, GoesOnServing, GoesOnServingTelling};
 
 use crate::endings::{print_ends, print_judgement, written_out};
-use crate::serve::{Easel, ServeOptions, Stroke, WHITE, config_of, print_refusal};
+use crate::serve::{Easel, ServeOptions, Stroke, WHITE, config_of, easel_of, print_refusal};
 use event_loop::{Application, Canvas, EventLoop, Limits, LoopError, RecordWriter, WhenFull};
 use messages::Input;
 use mio::net::TcpListener;
@@ -21,6 +26,7 @@ use screen::{Config, Event, Listed, ScreenError};
 use serving::Stop;
 use std::alloc::{AllocError, Global};
 use std::io::Write;
+use std::marker::{Brand, PhantomData};
 use std::net::Net;
 use std::sync::Arc;
 use std::time::{Clock, Duration};
@@ -39,11 +45,27 @@ pub struct OneThread {
     pub stop: Option<Arc<Stop, Global>>,
 }
 
+/// The columns and rows of a run's screen, as contracts name them: whatever the loop tells the application, it draws on a screen of this
+/// size. A call picks them for `Brand`.
+trait Size {
+    ghost width: { ℕ };
+
+    ghost height: { ℕ };
+}
+
+impl Size for Brand {
+    ghost width = { 0 };
+
+    ghost height = { 0 };
+}
+
 /// The application, what it drew, where that is kept, and the receipts of the viewers that left, where these come to an end.
 #[derive(Drop)]
-struct Showing {
+struct Showing<S: Size> {
     alloc: Global,
+    size: PhantomData<S>,
     easel: Easel,
+    // the drawing calls, where they are kept; `None` too once memory for one of them was refused
     drawn: Option<Vec<Event>>,
     receipts: Vec<Receipt>,
     // how many viewers come in all
@@ -57,7 +79,7 @@ const LOOK: u64 = 200;
 /// In how many turns viewers are let go at the end, at most, of which one or two are needed unless more keep coming.
 const LAST_TURNS: u32 = 1000;
 
-/// The drawing call that a stroke is.
+/// Returns the drawing call that a stroke is.
 fn event_of(alloc: Global, stroke: Stroke<'_>) -> Result<Event, AllocError>
     ensures { IfOk result (λ event. event ≡ stroke_event stroke.entry) }
 {
@@ -86,8 +108,8 @@ fn draw(canvas: &mut Canvas, stroke: Stroke<'_>) -> Result<(), ScreenError>
     }
 }
 
-impl Showing {
-    /// Whether the server is to end.
+impl<S: Size> Showing<S> {
+    /// Says whether the server is to end.
     fn is_stopped(&self) -> bool {
         match &self.stop {
             Some(stop) => stop.is_stopped(),
@@ -95,18 +117,24 @@ impl Showing {
         }
     }
 
-    /// A stroke is kept, where what is drawn is.
+    /// Keeps the drawing call of a stroke, where drawing calls are kept. After an `AllocError` none is kept any longer.
     fn keep(&mut self, stroke: Stroke<'_>) -> Result<(), AllocError>
-        ensures { OnOk result (kept_in self.new.drawn ≡ option_map (λ events. events ++ stroke_event stroke.entry ∷ []) (kept_in self.old.drawn)) }
+        ensures kept { OnOk result (kept_in self.new.drawn ≡ option_map (λ events. events ++ stroke_event stroke.entry ∷ []) (kept_in self.old.drawn)) }
+        ensures refused { OnErr result (self.new.drawn ≡ None) }
+        ensures easel { self.new.easel ≡ self.old.easel }
     {
-        if let Some(drawn) = &mut self.drawn {
-            drawn.push(event_of(self.alloc, stroke)?)?;
-        }
+        let Some(mut drawn) = self.drawn.take() else {
+            return Ok(());
+        };
+        drawn.push(event_of(self.alloc, stroke)?)?;
+        self.drawn = Some(drawn);
         Ok(())
     }
 }
 
-impl Application for Showing {
+impl<S: Size> Application for Showing<S> {
+    ghost stands = { λ showing inputs. WasTold S.width S.height showing.easel showing.drawn inputs };
+
     fn on_input(
         &mut self,
         canvas: &mut Canvas,
@@ -119,6 +147,8 @@ impl Application for Showing {
         ensures kept { OnOk result (kept_in self.new.drawn ≡ option_map (λ events.
             events ++ option_to_list (event_for self.old.easel.width self.old.easel.height input.now)) (kept_in self.old.drawn)) }
         ensures draws { Draws canvas.old canvas.new }
+        ensures told { (inputs : List (ℕ × Input)) → WasTold S.width S.height self.old.easel self.old.drawn inputs →
+            WasTold S.width S.height self.new.easel self.new.drawn (inputs ++ (_viewer, input.now) ∷ []) }
     {
         let Some(stroke) = self.easel.stroke(input) else {
             return Ok(());
@@ -150,7 +180,7 @@ impl Application for Showing {
     }
 }
 
-/// Why a loop ended early, as it is printed.
+/// Returns what is printed of why a loop ended early.
 pub(crate) fn trouble_of(error: LoopError) -> Trouble {
     match error {
         LoopError::Network | LoopError::Clock => Trouble::NetworkFault,
@@ -159,22 +189,27 @@ pub(crate) fn trouble_of(error: LoopError) -> Trouble {
     }
 }
 
-/// Judges a run whose history is kept.
-fn judge(
+/// Judges a run by its history, by what was drawn, and by the receipts. `NotKept` where the history isn't kept, and `OutOfMemory` also where
+/// a drawing call isn't.
+fn judge<S: Size>(
     alloc: Global,
     config: &Config,
     served: &EventLoop,
-    showing: &Showing,
+    showing: &Showing<S>,
 ) -> Result<Report, FinishError>
     requires { config_refusal config.now ≡ None }
+    ensures { JudgesLoop config.now served.now.surface.screen.history (kept_in showing.now.drawn) showing.now.receipts.items result }
 {
-    match (served.screen().history(), &showing.drawn) {
-        (Some(history), Some(drawn)) => check(alloc, config, history, drawn, &showing.receipts),
-        _ => Err(FinishError::NotKept),
-    }
+    let Some(history) = served.screen().history() else {
+        return Err(FinishError::NotKept);
+    };
+    let Some(drawn) = &showing.drawn else {
+        return Err(FinishError::OutOfMemory);
+    };
+    check(alloc, config, history, drawn, &showing.receipts)
 }
 
-/// What a loop grants the viewers that the options tell.
+/// Returns what a loop grants the viewers that the options tell.
 fn limits_of(options: &ServeOptions, forever: bool) -> Limits {
     let viewers = u64::from(options.viewers);
     Limits {
@@ -185,12 +220,12 @@ fn limits_of(options: &ServeOptions, forever: bool) -> Limits {
     }
 }
 
-/// Prints how the viewers ended, and what the run is judged to be, where that is wished. Returns the status.
-fn print_run<W: Write>(
+/// Prints how the viewers ended, in the order in which they came, and with `check` what the run is judged to be. Returns the status.
+fn print_run<S: Size, W: Write>(
     alloc: Global,
     config: &Config,
     served: &EventLoop,
-    showing: &Showing,
+    showing: &mut Showing<S>,
     options: &ServeOptions,
     writer: &mut W,
 ) -> Result<u8, Trouble>
@@ -198,16 +233,25 @@ fn print_run<W: Write>(
     ensures status { IfOk result (λ status. (status ≡ 0) ⊎ (status ≡ 1) ⊎ (status ≡ 4)) }
     ensures judged { options.now.check ≡ true →
         IfOk result (λ status. (status ≡ 1) ⊎ Judged (W.contents writer.old) (W.contents writer.new) status) }
+    ensures printed { IfOk result (PrintsOf options.now.check showing.new.receipts.items
+        (JudgesLoop config.now served.now.surface.screen.history (kept_in showing.old.drawn) showing.new.receipts.items)
+        (W.contents writer.old) (W.contents writer.new)) }
 {
+    showing
+        .receipts
+        .sort_unstable_by_key(|receipt| receipt.viewer);
     print_ends(alloc, writer, &showing.receipts)?;
     if options.check {
-        return print_judgement(alloc, writer, judge(alloc, config, served, showing));
+        let judgement = judge(alloc, config, served, showing);
+        return print_judgement(alloc, writer, judgement);
     }
     Ok(0)
 }
 
 /// Lets all viewers go that are there.
-fn let_go(served: &mut EventLoop) -> Result<(), LoopError> {
+fn let_go(served: &mut EventLoop) -> Result<(), LoopError>
+    ensures served { GoesOnServing served.old served.new }
+{
     let numbers = served.screen().numbers()?;
     for viewer in numbers.as_slice() {
         served.close_viewer(*viewer)?;
@@ -215,47 +259,134 @@ fn let_go(served: &mut EventLoop) -> Result<(), LoopError> {
     Ok(())
 }
 
-/// The same, and parts with them.
-fn let_all_go<R: Net + Clock>(
+/// Lets all viewers go, and takes a turn.
+fn let_go_and_turn<A: Application, R: Net + Clock>(
     rt: &R,
     served: &mut EventLoop,
-    showing: &mut Showing,
-) -> Result<(), LoopError> {
+    application: &mut A,
+) -> Result<(), LoopError>
+    ensures served { GoesOnServingTelling A.stands served.old served.new application.old application.new result }
+{
+    let_go(served)?;
+    served.process_events(rt, Some(Duration::ZERO), application)
+}
+
+/// Lets all viewers go, and parts with them.
+fn let_all_go<A: Application, R: Net + Clock>(
+    rt: &R,
+    served: &mut EventLoop,
+    application: &mut A,
+) -> Result<(), LoopError>
+    ensures served { GoesOnServingTelling A.stands served.old served.new application.old application.new result }
+{
     for _ in 0..LAST_TURNS {
         if served.viewer_count() == 0 {
             return Ok(());
         }
-        let_go(served)?;
-        served.process_events(rt, Some(Duration::ZERO), showing)?;
+        let_go_and_turn(rt, served, application)?;
     }
     Ok(())
 }
 
+/// Runs the loop to its end, and parts with the viewers that are there.
+fn run_to_end<A: Application, R: Net + Clock>(
+    rt: &R,
+    served: &mut EventLoop,
+    application: &mut A,
+) -> Result<(), LoopError>
+    ensures served { GoesOnServingTelling A.stands served.old served.new application.old application.new result }
+{
+    served.run(rt, application)?;
+    let_all_go(rt, served, application)
+}
+
+/// Opens a loop for the screen of a configuration, with a `record` one that records its session.
+fn open_loop<R: Net>(
+    rt: &R,
+    alloc: Global,
+    listener: TcpListener,
+    config: Config,
+    limits: Limits,
+    record: Option<RecordWriter>,
+) -> Result<EventLoop, LoopError>
+    ensures serves { IfOk result (λ served.
+        (held : Option (Option (List ℕ))) × Serves config (sockets_and held config) [] served) }
+    ensures accepted { OnOk result (config_refusal config ≡ None) }
+{
+    match record {
+        Some(record) => EventLoop::recorded(rt, alloc, listener, config, limits, record),
+        None => EventLoop::new(rt, alloc, listener, config, limits),
+    }
+}
+
+/// Returns the application, which was told nothing yet.
+fn showing_of<S: Size>(
+    alloc: Global,
+    options: &ServeOptions,
+    forever: bool,
+    stop: Option<Arc<Stop, Global>>,
+) -> Showing<S>
+    requires width { options.now.width ≡ S.width }
+    requires height { options.now.height ≡ S.height }
+    ensures { WasTold S.width S.height result.easel result.drawn [] }
+{
+    Showing {
+        alloc,
+        size: PhantomData,
+        easel: easel_of(options),
+        drawn: options.check.then(|| Vec::new(alloc)),
+        receipts: Vec::new(alloc),
+        viewers: (!forever).then_some(options.viewers as usize),
+        stop,
+    }
+}
+
 /// Runs the loop to its end, and prints how the viewers ended. Returns the status.
-fn run_and_print<W: Write, R: Net + Clock>(
+fn run_and_print<S: Size, W: Write, R: Net + Clock>(
     rt: &R,
     alloc: Global,
     config: &Config,
     served: &mut EventLoop,
-    showing: &mut Showing,
+    showing: &mut Showing<S>,
     options: &ServeOptions,
     writer: &mut W,
 ) -> Result<u8, Trouble>
-    requires { config_refusal config.now ≡ None }
+    requires accepted { config_refusal config.now ≡ None }
+    requires config { config.now ≡ config_by options.now }
+    requires serves { (held : Option (Option (List ℕ))) × Serves config.now (sockets_and held config.now) [] served.old }
+    requires width { options.now.width ≡ S.width }
+    requires height { options.now.height ≡ S.height }
+    requires told { WasTold S.width S.height showing.old.easel showing.old.drawn [] }
     ensures status { IfOk result (λ status. (status ≡ 0) ⊎ (status ≡ 1) ⊎ (status ≡ 4)) }
     ensures judged { options.now.check ≡ true →
         IfOk result (λ status. (status ≡ 1) ⊎ Judged (W.contents writer.old) (W.contents writer.new) status) }
+    ensures printed { IfOk result (PrintsLoop options.now (W.contents writer.old) (W.contents writer.new)) }
 {
-    served.run(rt, showing).map_err(trouble_of)?;
-    let_all_go(rt, served, showing).map_err(trouble_of)?;
-    showing
-        .receipts
-        .sort_unstable_by_key(|receipt| receipt.viewer);
-    print_run(alloc, config, served, showing, options, writer)
+    match run_to_end(rt, served, showing) {
+        Ok(()) => print_run(alloc, config, served, showing, options, writer),
+        Err(error) => Err(trouble_of(error)),
+    }
 }
 
-/// Serves the viewers, and says how they ended. The status.
-fn serve<W: Write, R: Net + Clock>(
+/// Returns what a run `ended` by. Where its record is broken it says so instead, and prints first why the run ended early, if it did.
+fn unless_broken<W: Write>(
+    writer: &mut W,
+    is_broken: bool,
+    ended: Result<u8, Trouble>,
+) -> Result<u8, Trouble>
+    ensures { IfOk result (λ status. (ended ≡ Ok status) × (writer.new ≡ writer.old)) }
+{
+    if !is_broken {
+        return ended;
+    }
+    if let Err(trouble) = ended {
+        let _status = report(writer, trouble);
+    }
+    Err(Trouble::RecordBroken)
+}
+
+/// Serves the viewers, and says how they ended. Returns the status.
+fn serve<S: Size, W: Write, R: Net + Clock>(
     rt: &R,
     alloc: Global,
     listener: TcpListener,
@@ -263,9 +394,13 @@ fn serve<W: Write, R: Net + Clock>(
     besides: OneThread,
     writer: &mut W,
 ) -> Result<u8, Trouble>
+    requires width { options.now.width ≡ S.width }
+    requires height { options.now.height ≡ S.height }
     ensures status { IfOk result (λ status. (status ≡ 0) ⊎ (status ≡ 1) ⊎ (status ≡ 4)) }
     ensures judged { options.now.check ≡ true →
         IfOk result (λ status. (status ≡ 1) ⊎ Judged (W.contents writer.old) (W.contents writer.new) status) }
+    ensures printed { IfOk result (λ status. (status ≡ 1) ⊎
+        PrintsLoop options.now (W.contents writer.old) (W.contents writer.new) status) }
 {
     let config = config_of(alloc, options)?;
     let asked = config_of(alloc, options)?;
@@ -275,27 +410,13 @@ fn serve<W: Write, R: Net + Clock>(
         stop,
     } = besides;
     let limits = limits_of(options, forever);
-    let opened = match record {
-        Some(record) => EventLoop::recorded(rt, alloc, listener, asked, limits, record),
-        None => EventLoop::new(rt, alloc, listener, asked, limits),
-    };
-    let mut served = match opened {
+    let mut served = match open_loop(rt, alloc, listener, asked, limits, record) {
         Ok(served) => served,
         Err(LoopError::Screen(refusal)) => return print_refusal(alloc, writer, refusal),
         Err(error) => return Err(trouble_of(error)),
     };
-    let mut showing = Showing {
-        alloc,
-        easel: Easel {
-            width: options.width,
-            height: options.height,
-        },
-        drawn: options.check.then(|| Vec::new(alloc)),
-        receipts: Vec::new(alloc),
-        viewers: (!forever).then_some(options.viewers as usize),
-        stop,
-    };
-    let status = run_and_print(
+    let mut showing = showing_of::<S>(alloc, options, forever, stop);
+    let ended = run_and_print(
         rt,
         alloc,
         &config,
@@ -304,19 +425,13 @@ fn serve<W: Write, R: Net + Clock>(
         options,
         writer,
     );
-    if !served.is_record_broken() {
-        return status;
-    }
-    if let Err(trouble) = status {
-        let _status = report(writer, trouble);
-    }
-    Err(Trouble::RecordBroken)
+    unless_broken(writer, served.is_record_broken(), ended)
 }
 
-/// `serve_on`, with one thread for all viewers. A viewer that has not had its ServerInit after ten seconds is let go, as `Closed`, and a
-/// connection too many is told so and closed at once. With `record` the session is written there; where that ended before the run, the last
-/// line is `record broken` and the status 5. With `forever` no number of viewers ends
-/// the server, and no viewer's line is printed. Once `stop` is called, viewers that are there are let go within a second, as `Gate`.
+/// Does what `serve_on` does, with one thread for all viewers. A viewer that has not had its ServerInit after ten seconds is let go, as
+/// `Closed`, and a connection too many is told so and closed at once. With `record` the session is written there; where that ended before
+/// the run, the last line is `record broken` and the status 5. With `forever` no number of viewers ends the server, and no viewer's line is
+/// printed. Once `stop` is called, viewers that are there are let go within a second, as `Gate`.
 pub fn serve_in_one_thread<W: Write, R: Net + Clock>(
     rt: &R,
     alloc: Global,
@@ -328,8 +443,10 @@ pub fn serve_in_one_thread<W: Write, R: Net + Clock>(
     ensures status { (result ≡ 0) ⊎ (result ≡ 1) ⊎ (result ≡ 3) ⊎ (result ≡ 4) ⊎ (result ≡ 5) }
     ensures judged { options.now.check ≡ true → ((result ≡ 0) ⊎ (result ≡ 4)) →
         Judged (W.contents writer.old) (W.contents writer.new) result }
+    ensures printed { ((result ≡ 0) ⊎ (result ≡ 4)) →
+        PrintsLoop options.now (W.contents writer.old) (W.contents writer.new) result }
 {
-    match serve(rt, alloc, listener, options, besides, writer) {
+    match serve::<Brand, W, R>(rt, alloc, listener, options, besides, writer) {
         Ok(status) => written_out(writer, status),
         Err(trouble) => report(writer, trouble),
     }

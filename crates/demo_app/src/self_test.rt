@@ -1,13 +1,20 @@
 //! `self`: a server and its viewers in one process, over loopback. The application draws the stored run, and each viewer says
 //! whether it shows what was drawn.
 
-ghost use Rattle.std.specs.Prelude.{◌≡◌, ◌-◌, ◌<◌, ◌⊎◌, true, None, IfOk};
+ghost use Rattle.std.specs.Prelude.{◌≡◌, ◌-◌, ◌<◌, ◌⊎◌, true, None, IfOk, OnOk, length};
+ghost use Rattle.std.specs.List.{list_all};
+ghost use Rattle.std.specs.Io.KnownBytes.{Appends};
 ghost use Rattle.screen.specs.Alone.{config_refusal};
+ghost use Rattle.serving.specs.Serving.{AreNumbered};
+ghost use Rattle.demo_app.specs.Endings.{PrintsOwn, show_line, shown_text, shows_text, status_where};
+ghost use Rattle.demo_app.specs.Runs.{IsOwnFinish};
+ghost use Rattle.demo_app.specs.Screens.{own_config};
 
+use crate::endings::written_out;
 use crate::serve::{print_verdict, trouble_of};
 use crate::watching::{COLUMNS, shut_all, watch};
 use messages::Input;
-use play_script::trouble::{Trouble, flush, print, report};
+use play_script::trouble::{Trouble, print, report};
 use receipts::Receipt;
 use screen::{Config, History, Listed, Rect, ScreenError};
 use serving::{Application, Told, serve_viewers};
@@ -63,7 +70,7 @@ impl Drawer {
         Drawer { awaited }
     }
 
-    /// A key went down. Whether it was the last one that is awaited.
+    /// Takes note that a key went down. Says whether it was the last one that is awaited.
     pub(crate) fn is_last_key(&mut self) -> bool
         ensures awaited { self.new.awaited ≡ self.old.awaited - 1 }
         ensures last { (result ≡ true → self.old.awaited ≡ 1) × (self.old.awaited ≡ 1 → result ≡ true) }
@@ -74,7 +81,7 @@ impl Drawer {
     }
 }
 
-/// The drawing calls of the stored run, and the text that ends them.
+/// Draws the stored run, and sends the text that ends it.
 fn draw<L: Ledger, R: Wait>(
     rt: &R,
     shared: &Shared<L>,
@@ -100,7 +107,7 @@ impl<L: Ledger> Application<L> for Drawer {
     }
 }
 
-/// Why the network gives no listener or connection.
+/// Returns what is printed of why the network gives no listener or connection.
 pub(crate) fn network_trouble(error: io::Error) -> Trouble {
     match error.kind() {
         ErrorKind::OutOfMemory => Trouble::OutOfMemory,
@@ -108,33 +115,37 @@ pub(crate) fn network_trouble(error: io::Error) -> Trouble {
     }
 }
 
-/// A connection on which a read fails once nothing came for a while.
+/// Connects to `address`. A read of the connection fails once nothing came for a while.
 fn connect<R: Net<Stream = TcpStream>>(rt: &R, address: SocketAddr) -> io::Result<TcpStream> {
     let stream = rt.connect(address)?;
     stream.set_read_timeout(Some(Duration::from_secs(READ_SECONDS)))?;
     Ok(stream)
 }
 
-/// So many connections to a listener's address, in the order in which it accepts them.
+/// Makes as many connections to a listener's address as there are `viewers`, in the order in which the listener accepts them.
 pub(crate) fn connect_all<R: Net<Stream = TcpStream>>(
     rt: &R,
     alloc: Global,
     address: SocketAddr,
     viewers: u32,
-) -> io::Result<Vec<TcpStream>> {
+) -> io::Result<Vec<TcpStream>>
+    ensures { IfOk result (λ streams. length streams.items ≡ viewers) }
+{
     let mut streams = Vec::new(alloc);
-    for _ in 0..viewers {
+    for _number in 0..viewers {
         streams.push(connect(rt, address)?)?;
     }
     Ok(streams)
 }
 
-/// A thread for each viewer.
+/// Starts a thread for each viewer. `NetworkFault` where one does not start.
 pub(crate) fn spawn_all<'s, E>(
     alloc: Global,
     streams: &'s [TcpStream],
     scope: &Scope<'s, E>,
-) -> Result<Vec<JoinHandle<bool>>, Trouble> {
+) -> Result<Vec<JoinHandle<bool>>, Trouble>
+    ensures { IfOk result (λ threads. length threads.items ≡ length streams.now) }
+{
     let mut threads = Vec::with_capacity(alloc, streams.len())?;
     for stream in streams {
         match scope.spawn(move || watch(alloc, streams, stream, &PICTURE)) {
@@ -145,12 +156,14 @@ pub(crate) fn spawn_all<'s, E>(
     Ok(threads)
 }
 
-/// Whether each viewer shows the picture, in their order.
+/// Waits for the threads. Says of each viewer whether it shows the picture, in their order.
 pub(crate) fn join_all<R: Threads>(
     rt: &R,
     alloc: Global,
     threads: Vec<JoinHandle<bool>>,
-) -> Result<Vec<bool>, AllocError> {
+) -> Result<Vec<bool>, AllocError>
+    ensures { IfOk result (λ shows. length shows.items ≡ length threads.items) }
+{
     let mut shows = Vec::with_capacity(alloc, threads.len())?;
     for thread in threads {
         shows.push(thread.join(rt))?;
@@ -178,18 +191,22 @@ fn run_in_scope<'s, E, L, R>(
 where
     L: Ledger + Send + Sync,
     R: Threads + Wait + Clock + Net + Sync,
+    ensures shows { IfOk result (λ run. length run.shows.items ≡ length streams.now) }
+    ensures receipts { IfOk result (λ run. AreNumbered (length streams.now) run.receipts.items) }
 {
     let threads = spawn_all(alloc, streams, scope)?;
     let viewers = streams.len() as u64;
     let mut drawer = Drawer::new(viewers);
-    let receipts = serve_viewers(rt, alloc, listener, shared, brush, viewers, &mut drawer).map_err(
-        trouble_of,
-    )?;
+    let served = serve_viewers(rt, alloc, listener, shared, brush, viewers, &mut drawer);
+    let receipts = match served {
+        Ok(receipts) => receipts,
+        Err(error) => return Err(trouble_of(error)),
+    };
     let shows = join_all(rt, alloc, threads)?;
     Ok(Run { shows, receipts })
 }
 
-/// The server and its viewers, until all have ended. The viewers connect before the server accepts them, so that they have
+/// Runs the server and its viewers, until all have ended. The viewers connect before the server accepts them, so that they have
 /// their numbers in their order.
 fn run_with_viewers<L, R>(
     rt: &R,
@@ -201,19 +218,70 @@ fn run_with_viewers<L, R>(
 where
     L: Ledger + Send + Sync,
     R: Threads + Wait + Clock + Net<Listener = TcpListener, Stream = TcpStream> + Sync,
+    ensures shows { IfOk result (λ run. length run.shows.items ≡ viewers) }
+    ensures receipts { IfOk result (λ run. AreNumbered viewers run.receipts.items) }
 {
     let bound = rt.bind(SocketAddr::from((Ipv4Addr::LOCALHOST, 0)));
     let listener = bound.map_err(network_trouble)?;
     let address = listener.local_addr().map_err(network_trouble)?;
-    let streams = connect_all(rt, alloc, address, viewers).map_err(network_trouble)?;
-    let (listener, streams) = (&listener, streams.as_slice());
-    thread::scope(thread::scope_env(), rt, move |scope| {
-        let run = run_in_scope(rt, alloc, listener, streams, shared, brush, scope);
-        if run.is_err() {
-            shut_all(streams);
-        }
-        run
-    })
+    let streams = match connect_all(rt, alloc, address, viewers) {
+        Ok(streams) => streams,
+        Err(error) => return Err(network_trouble(error)),
+    };
+    run_on(rt, alloc, &listener, &streams, shared, brush)
+}
+
+/// Does the same once the viewers have connected.
+fn run_on<L, R>(
+    rt: &R,
+    alloc: Global,
+    listener: &TcpListener,
+    streams: &[TcpStream],
+    shared: &Shared<L>,
+    brush: &mut Brush<L>,
+) -> Result<Run, Trouble>
+where
+    L: Ledger + Send + Sync,
+    R: Threads + Wait + Clock + Net<Listener = TcpListener, Stream = TcpStream> + Sync,
+    ensures shows { IfOk result (λ run. length run.shows.items ≡ length streams.now) }
+    ensures receipts { IfOk result (λ run. AreNumbered (length streams.now) run.receipts.items) }
+{
+    thread::scope(
+        thread::scope_env(),
+        rt,
+        move |scope| -> Result<Run, Trouble>
+            ensures shows { IfOk result (λ run. length run.shows.items ≡ length streams.entry.now) }
+            ensures receipts { IfOk result (λ run. AreNumbered (length streams.entry.now) run.receipts.items) }
+        {
+            let run = run_in_scope(rt, alloc, listener, streams, shared, brush, scope);
+            if run.is_err() {
+                shut_all(streams);
+            }
+            run
+        },
+    )
+}
+
+/// Returns what is printed behind the number of a viewer that shows the screen, or doesn't.
+fn shown_text(shows: bool) -> &'static [u8]
+    ensures { result.now ≡ shown_text shows }
+{
+    if shows {
+        b" shows the screen\n"
+    } else {
+        b" does not show the screen\n"
+    }
+}
+
+/// Returns the line of what a viewer shows.
+fn show_line(alloc: Global, viewer: u64, shows: bool) -> Result<Vec<u8>, AllocError>
+    ensures { IfOk result (λ line. line.items ≡ show_line viewer shows) }
+{
+    let mut line = Vec::new(alloc);
+    line.extend_from_slice(b"viewer ")?;
+    line.extend_from_slice(viewer.to_string(alloc)?.as_bytes())?;
+    line.extend_from_slice(shown_text(shows))?;
+    Ok(line)
 }
 
 /// Prints a line for each viewer.
@@ -221,26 +289,36 @@ pub(crate) fn print_shows<W: Write>(
     alloc: Global,
     writer: &mut W,
     shows: &[bool],
-) -> Result<(), Trouble> {
-    for (viewer, shows) in (1u64..).zip(shows) {
-        let what = if *shows { "shows" } else { "does not show" };
-        let line = format!(in alloc; "viewer {viewer} {what} the screen\n")?;
-        print(writer, line.as_bytes())?;
+) -> Result<(), Trouble>
+    ensures { OnOk result (Appends (W.contents writer.old) (W.contents writer.new) (shows_text 1 shows.now)) }
+{
+    for (index, shows) in shows.iter().enumerate() {
+        let viewer = index as u64 + 1;
+        print(writer, &show_line(alloc, viewer, *shows)?)?;
     }
     Ok(())
 }
 
-/// The status where each viewer shows the screen or doesn't, and the judgement has one.
-pub(crate) fn status_of(shows: &[bool], judged: u8) -> u8
-    requires { (judged ≡ 0) ⊎ (judged ≡ 4) }
-    ensures { (result ≡ 0) ⊎ (result ≡ 4) }
+/// Says whether each viewer shows the screen.
+fn do_all_show(shows: &[bool]) -> bool
+    ensures { result ≡ list_all (λ shows. shows) shows.now }
 {
-    if shows.contains(&false) { 4 } else { judged }
+    shows.iter().all(|shows| *shows)
 }
 
-/// The screen of the stored run, whose history is kept. There is such a screen.
+/// Returns the status of a run: `judged`, that of its judgement, where each viewer shows the screen, else 4.
+pub(crate) fn status_of(shows: &[bool], judged: u8) -> u8
+    requires { (judged ≡ 0) ⊎ (judged ≡ 4) }
+    ensures either { (result ≡ 0) ⊎ (result ≡ 4) }
+    ensures status { result ≡ status_where shows.now judged }
+{
+    if do_all_show(shows) { judged } else { 4 }
+}
+
+/// Returns the screen of the stored run, whose history is kept. There is such a screen.
 pub(crate) fn config(alloc: Global) -> Result<Config, AllocError>
-    ensures { IfOk result (λ config. config_refusal config ≡ None) }
+    ensures accepted { IfOk result (λ config. config_refusal config ≡ None) }
+    ensures own { IfOk result (λ config. config ≡ own_config) }
 {
     Ok(Config {
         width: 4,
@@ -251,7 +329,7 @@ pub(crate) fn config(alloc: Global) -> Result<Config, AllocError>
     })
 }
 
-/// Runs a server with its viewers, and says what each shows, and how the run is judged. The status.
+/// Runs a server with its viewers, and prints what each shows, and how the run is judged. Returns the status.
 fn own<L, W, R>(
     rt: &R,
     alloc: Global,
@@ -266,7 +344,8 @@ where
     requires name { blank.name ≡ L.name }
     requires parts { blank.parts ≡ L.parts }
     requires some { 0 < L.parts }
-    ensures { IfOk result (λ status. (status ≡ 0) ⊎ (status ≡ 4)) }
+    ensures either { IfOk result (λ status. (status ≡ 0) ⊎ (status ≡ 4)) }
+    ensures printed { IfOk result (PrintsOwn viewers (IsOwnFinish viewers) (W.contents writer.old) (W.contents writer.new)) }
 {
     // there is such a screen, so that it is refused for memory alone
     let Ok((shared, mut brush)) = Shared::<L>::new(alloc, blank, config(alloc)?) else {
@@ -278,7 +357,7 @@ where
     Ok(status_of(&shows, judged))
 }
 
-/// The same, and what it printed is written out.
+/// Does the same, and writes out what it printed.
 fn own_and_flush<L, W, R>(rt: &R, alloc: Global, blank: Blank, viewers: u32, writer: &mut W) -> u8
 where
     L: Ledger + Send + Sync,
@@ -287,11 +366,12 @@ where
     requires name { blank.name ≡ L.name }
     requires parts { blank.parts ≡ L.parts }
     requires some { 0 < L.parts }
-    ensures { (result ≡ 0) ⊎ (result ≡ 3) ⊎ (result ≡ 4) ⊎ (result ≡ 5) }
+    ensures status { (result ≡ 0) ⊎ (result ≡ 3) ⊎ (result ≡ 4) ⊎ (result ≡ 5) }
+    ensures printed { ((result ≡ 0) ⊎ (result ≡ 4)) →
+        PrintsOwn viewers (IsOwnFinish viewers) (W.contents writer.old) (W.contents writer.new) result }
 {
-    let judged = own::<L, W, R>(rt, alloc, blank, viewers, writer);
-    match judged.and_then(|status| flush(writer).map(|()| status)) {
-        Ok(status) => status,
+    match own::<L, W, R>(rt, alloc, blank, viewers, writer) {
+        Ok(status) => written_out(writer, status),
         Err(trouble) => report(writer, trouble),
     }
 }
@@ -306,7 +386,9 @@ pub fn self_on<W, R>(rt: &R, alloc: Global, viewers: u32, writer: &mut W) -> u8
 where
     W: Write,
     R: Threads + Wait + Clock + Net<Listener = TcpListener, Stream = TcpStream> + Sync,
-    ensures { (result ≡ 0) ⊎ (result ≡ 3) ⊎ (result ≡ 4) ⊎ (result ≡ 5) }
+    ensures status { (result ≡ 0) ⊎ (result ≡ 3) ⊎ (result ≡ 4) ⊎ (result ≡ 5) }
+    ensures printed { ((result ≡ 0) ⊎ (result ≡ 4)) →
+        PrintsOwn viewers (IsOwnFinish viewers) (W.contents writer.old) (W.contents writer.new) result }
 {
     own_and_flush::<Brand, W, R>(rt, alloc, Blank::new(1), viewers, writer)
 }

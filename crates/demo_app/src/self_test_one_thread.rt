@@ -1,10 +1,12 @@
 //! `self --one-thread`: the same viewers and the same drawing, served by an event loop.
 
-ghost use Rattle.std.specs.Prelude.{◌≡◌, ◌⊎◌, None, IfOk};
+ghost use Rattle.std.specs.Prelude.{◌≡◌, ◌⊎◌, None, IfOk, length};
 ghost use Rattle.screen.specs.Alone.{config_refusal};
 ghost use Rattle.connections.specs.Drawing.{Draws};
+ghost use Rattle.demo_app.specs.Endings.{PrintsOwn};
+ghost use Rattle.demo_app.specs.Runs.{IsOwnCheck, JudgesOwn};
 
-use crate::endings::print_judgement;
+use crate::endings::{print_judgement, written_out};
 use crate::one_thread::trouble_of;
 use crate::self_test::{
     COLOURS, Drawer, END, PLACES, TARGET, config, connect_all, join_all, network_trouble,
@@ -14,7 +16,7 @@ use crate::watching::shut_all;
 use event_loop::{Application, Canvas, EventLoop, Limits, WhenFull};
 use messages::Input;
 use mio::net::TcpListener;
-use play_script::trouble::{Trouble, flush, report};
+use play_script::trouble::{Trouble, report};
 use receipts::{FinishError, Receipt, Report, check};
 use screen::{Config, Event, Listed, ScreenError};
 use std::alloc::{AllocError, Global};
@@ -38,7 +40,7 @@ struct Drawing {
     viewers: usize,
 }
 
-/// The drawing calls of the stored run, and the text that ends them.
+/// Draws the stored run, and sends the text that ends it.
 fn draw(canvas: &mut Canvas) -> Result<(), ScreenError>
     ensures draws { Draws canvas.old canvas.new }
 {
@@ -47,7 +49,7 @@ fn draw(canvas: &mut Canvas) -> Result<(), ScreenError>
     canvas.cut_text(END)
 }
 
-/// The same, as events.
+/// Returns these drawing calls, as events.
 fn events(alloc: Global) -> Result<Vec<Event>, AllocError> {
     let mut events = Vec::with_capacity(alloc, 3)?;
     events.push(Event::Paint {
@@ -91,7 +93,7 @@ impl Application for Drawing {
     }
 }
 
-/// So many viewers, and no more.
+/// Returns limits for so many `viewers`, and no more.
 fn limits(viewers: u32) -> Limits {
     Limits {
         live_viewers: viewers as usize,
@@ -101,8 +103,8 @@ fn limits(viewers: u32) -> Limits {
     }
 }
 
-/// Serves the viewers of these connections, which run in threads of a scope: whether each shows the picture. After an error these
-/// may still run.
+/// Serves the viewers of these connections, which run in threads of a scope. Says of each whether it shows the picture. After an error
+/// these may still run.
 fn run_in_scope<'s, E, R: Threads + Clock>(
     rt: &R,
     alloc: Global,
@@ -110,30 +112,40 @@ fn run_in_scope<'s, E, R: Threads + Clock>(
     served: &mut EventLoop,
     drawing: &mut Drawing,
     scope: &Scope<'s, E>,
-) -> Result<Vec<bool>, Trouble> {
+) -> Result<Vec<bool>, Trouble>
+    ensures { IfOk result (λ shows. length shows.items ≡ length streams.now) }
+{
     let threads = spawn_all(alloc, streams, scope)?;
     served.run(rt, drawing).map_err(trouble_of)?;
     Ok(join_all(rt, alloc, threads)?)
 }
 
-/// The loop and its viewers, until all have ended: whether each shows the picture.
+/// Runs the loop and its viewers, until all have ended. Says of each viewer whether it shows the picture.
 fn run_with_viewers<R: Threads + Wait + Clock>(
     rt: &R,
     alloc: Global,
     streams: &[TcpStream],
     served: &mut EventLoop,
     drawing: &mut Drawing,
-) -> Result<Vec<bool>, Trouble> {
-    thread::scope(thread::scope_env(), rt, move |scope| {
-        let shows = run_in_scope(rt, alloc, streams, served, drawing, scope);
-        if shows.is_err() {
-            shut_all(streams);
-        }
-        shows
-    })
+) -> Result<Vec<bool>, Trouble>
+    ensures { IfOk result (λ shows. length shows.items ≡ length streams.now) }
+{
+    thread::scope(
+        thread::scope_env(),
+        rt,
+        move |scope| -> Result<Vec<bool>, Trouble>
+            ensures { IfOk result (λ shows. length shows.items ≡ length streams.entry.now) }
+        {
+            let shows = run_in_scope(rt, alloc, streams, served, drawing, scope);
+            if shows.is_err() {
+                shut_all(streams);
+            }
+            shows
+        },
+    )
 }
 
-/// Judges a run.
+/// Judges a run by its history, by what was drawn, and by the receipts. `NotKept` where the history isn't kept.
 fn judge(
     alloc: Global,
     config: &Config,
@@ -141,6 +153,7 @@ fn judge(
     drawing: &Drawing,
 ) -> Result<Report, FinishError>
     requires { config_refusal config.now ≡ None }
+    ensures { JudgesOwn config.now served.now.surface.screen.history drawing.now.drawn.items drawing.now.receipts.items result }
 {
     match served.screen().history() {
         Some(history) => check(alloc, config, history, &drawing.drawn, &drawing.receipts),
@@ -148,7 +161,24 @@ fn judge(
     }
 }
 
-/// Runs the loop with its viewers, and says what each shows, and how the run is judged. The status.
+/// Prints what each viewer shows, and how the run is judged. Returns the status.
+fn print_run<W: Write>(
+    alloc: Global,
+    shows: &[bool],
+    served: &EventLoop,
+    drawing: &Drawing,
+    writer: &mut W,
+) -> Result<u8, Trouble>
+    ensures either { IfOk result (λ status. (status ≡ 0) ⊎ (status ≡ 4)) }
+    ensures printed { IfOk result (PrintsOwn (length shows.now) IsOwnCheck (W.contents writer.old) (W.contents writer.new)) }
+{
+    print_shows(alloc, writer, shows)?;
+    let judgement = judge(alloc, &config(alloc)?, served, drawing);
+    let judged = print_judgement(alloc, writer, judgement)?;
+    Ok(status_of(shows, judged))
+}
+
+/// Runs the loop with its viewers, and prints what each shows, and how the run is judged. Returns the status.
 fn run_and_judge<W: Write, R: Threads + Wait + Clock>(
     rt: &R,
     alloc: Global,
@@ -157,30 +187,32 @@ fn run_and_judge<W: Write, R: Threads + Wait + Clock>(
     drawing: &mut Drawing,
     writer: &mut W,
 ) -> Result<u8, Trouble>
-    ensures { IfOk result (λ status. (status ≡ 0) ⊎ (status ≡ 4)) }
+    ensures either { IfOk result (λ status. (status ≡ 0) ⊎ (status ≡ 4)) }
+    ensures printed { IfOk result (PrintsOwn (length streams.now) IsOwnCheck (W.contents writer.old) (W.contents writer.new)) }
 {
     let shows = run_with_viewers(rt, alloc, streams, served, drawing)?;
-    print_shows(alloc, writer, &shows)?;
     drawing
         .receipts
         .sort_unstable_by_key(|receipt| receipt.viewer);
-    let judgement = judge(alloc, &config(alloc)?, served, drawing);
-    let judged = print_judgement(alloc, writer, judgement)?;
-    Ok(status_of(&shows, judged))
+    print_run(alloc, &shows, served, drawing, writer)
 }
 
-/// A loop for viewers that connect to it, and the same as above. The status.
+/// Makes a loop, and viewers that connect to it, and does the same with them. Returns the status.
 fn own<W, R>(rt: &R, alloc: Global, viewers: u32, writer: &mut W) -> Result<u8, Trouble>
 where
     W: Write,
     R: Threads + Wait + Clock + Net<Stream = TcpStream>,
-    ensures { IfOk result (λ status. (status ≡ 0) ⊎ (status ≡ 4)) }
+    ensures either { IfOk result (λ status. (status ≡ 0) ⊎ (status ≡ 4)) }
+    ensures printed { IfOk result (PrintsOwn viewers IsOwnCheck (W.contents writer.old) (W.contents writer.new)) }
 {
     let address = SocketAddr::from((Ipv4Addr::LOCALHOST, 0));
     let listener = TcpListener::bind(rt, address).map_err(network_trouble)?;
     let address = listener.local_addr().map_err(network_trouble)?;
     // the viewers connect before the loop accepts them, so that they have their numbers in their order
-    let streams = connect_all(rt, alloc, address, viewers).map_err(network_trouble)?;
+    let streams = match connect_all(rt, alloc, address, viewers) {
+        Ok(streams) => streams,
+        Err(error) => return Err(network_trouble(error)),
+    };
     let looped = EventLoop::new(rt, alloc, listener, config(alloc)?, limits(viewers));
     let mut served = looped.map_err(trouble_of)?;
     let mut drawing = Drawing {
@@ -193,16 +225,17 @@ where
     run_and_judge(rt, alloc, &streams, &mut served, &mut drawing, writer)
 }
 
-/// `self_on`, with one thread for the server.
+/// Does what `self_on` does, with one thread for the server.
 pub fn self_in_one_thread<W, R>(rt: &R, alloc: Global, viewers: u32, writer: &mut W) -> u8
 where
     W: Write,
     R: Threads + Wait + Clock + Net<Stream = TcpStream>,
-    ensures { (result ≡ 0) ⊎ (result ≡ 3) ⊎ (result ≡ 4) ⊎ (result ≡ 5) }
+    ensures status { (result ≡ 0) ⊎ (result ≡ 3) ⊎ (result ≡ 4) ⊎ (result ≡ 5) }
+    ensures printed { ((result ≡ 0) ⊎ (result ≡ 4)) →
+        PrintsOwn viewers IsOwnCheck (W.contents writer.old) (W.contents writer.new) result }
 {
-    let judged = own(rt, alloc, viewers, writer);
-    match judged.and_then(|status| flush(writer).map(|()| status)) {
-        Ok(status) => status,
+    match own(rt, alloc, viewers, writer) {
+        Ok(status) => written_out(writer, status),
         Err(trouble) => report(writer, trouble),
     }
 }

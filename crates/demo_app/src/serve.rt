@@ -1,10 +1,12 @@
 //! `serve`: a screen over TCP, on which viewers paint places, ring bells and copy texts.
 
-ghost use Rattle.std.specs.Prelude.{◌≡◌, ◌<◌, ◌⊎◌, [], true, take, IfOk, OnOk, MatchOption, option_map};
+ghost use Rattle.std.specs.Prelude.{◌≡◌, ◌<◌, ◌⊎◌, [], true, take, IfOk, OnOk, MatchOption, option_map, is_some};
 ghost use Rattle.update_sender.specs.Ends.{drew};
 ghost use Rattle.demo_app.specs.Application.{event_for, painted, stroke_event};
 ghost use Rattle.demo_app.specs.Screens.{config_by};
-ghost use Rattle.demo_app.specs.Endings.{Judged, Tells};
+ghost use Rattle.demo_app.specs.Endings.{Judged, Tells, PrintsOf};
+ghost use Rattle.demo_app.specs.Runs.{AreGiven, PrintsServed};
+ghost use Rattle.serving.specs.Serving.{AreNumbered, AreServed};
 ghost use Rattle.update_sender.specs.Finishing.{Finishes};
 
 use crate::endings::{print_ends, print_judgement, written_out};
@@ -61,6 +63,17 @@ pub(crate) struct Easel {
     pub height: u32,
 }
 
+/// Returns the application for the screen that the options say.
+pub(crate) fn easel_of(options: &ServeOptions) -> Easel
+    ensures width { result.width ≡ options.now.width }
+    ensures height { result.height ≡ options.now.height }
+{
+    Easel {
+        width: options.width,
+        height: options.height,
+    }
+}
+
 /// What an input has the application draw.
 #[derive(Clone, Copy)]
 pub(crate) enum Stroke<'a> {
@@ -78,7 +91,7 @@ const INPUTS: usize = 1024;
 /// The colour of a place that is painted.
 pub(crate) const WHITE: u32 = 0xff_ffff;
 
-/// The first bytes of a text, as many as are sent back.
+/// Returns the first bytes of a text, as many as are sent back.
 fn first_of(text: &[u8]) -> &[u8]
     ensures { result.now ≡ take 65536 text.now }
 {
@@ -90,7 +103,7 @@ fn first_of(text: &[u8]) -> &[u8]
 }
 
 impl Easel {
-    /// The rectangle of the place that a pointer paints, where its first button is down and it is on the screen.
+    /// Returns the rectangle of the place that a pointer paints, or `None` unless its first button is down and it is on the screen.
     fn painted(&self, mask: u8, x: u16, y: u16) -> Option<Rect>
         ensures { result ≡ painted self.now.width self.now.height mask x y }
     {
@@ -107,7 +120,7 @@ impl Easel {
         })
     }
 
-    /// What an input has it draw, if anything.
+    /// Returns what an input has it draw, if anything.
     pub fn stroke<'a>(&self, input: &'a Input) -> Option<Stroke<'a>>
         ensures { option_map stroke_event result ≡ event_for self.now.width self.now.height input.now }
     {
@@ -143,18 +156,7 @@ impl<L: Ledger> Application<L> for Easel {
     }
 }
 
-/// Returns the application for the screen that the options say.
-fn easel_of(options: &ServeOptions) -> Easel
-    ensures width { result.width ≡ options.now.width }
-    ensures height { result.height ≡ options.now.height }
-{
-    Easel {
-        width: options.width,
-        height: options.height,
-    }
-}
-
-/// Why serving ended early, as it is printed.
+/// Returns what is printed of why serving ended early.
 pub(crate) fn trouble_of(error: ServeError) -> Trouble {
     match error {
         ServeError::Network => Trouble::NetworkFault,
@@ -163,7 +165,7 @@ pub(crate) fn trouble_of(error: ServeError) -> Trouble {
     }
 }
 
-/// Judges the run, and prints what comes of it. The status.
+/// Judges the run, and prints the judgement. Returns the status.
 pub(crate) fn print_verdict<L: Ledger, W: Write>(
     alloc: Global,
     writer: &mut W,
@@ -178,7 +180,7 @@ pub(crate) fn print_verdict<L: Ledger, W: Write>(
     print_judgement(alloc, writer, finish(shared, brush, receipts))
 }
 
-/// The screen that the options say.
+/// Returns the screen that the options say.
 pub(crate) fn config_of(alloc: Global, options: &ServeOptions) -> Result<Config, AllocError>
     ensures { IfOk result (λ config. config ≡ config_by options.now) }
 {
@@ -196,13 +198,13 @@ pub(crate) fn config_of(alloc: Global, options: &ServeOptions) -> Result<Config,
     })
 }
 
-/// Whether the screen that the options say is refused, whatever memory there is.
+/// Says whether the screen that the options say is refused, whatever memory there is.
 pub fn is_refused(options: &ServeOptions) -> bool {
     let name = options.name.as_slice();
     config_refusal(options.width, options.height, name, options.limit).is_some()
 }
 
-/// Prints a refused configuration. The status.
+/// Prints why a configuration is refused. Returns the status, 1. `OutOfMemory` where that is why.
 pub(crate) fn print_refusal<W: Write>(
     alloc: Global,
     writer: &mut W,
@@ -215,6 +217,26 @@ pub(crate) fn print_refusal<W: Write>(
     }
     print(writer, &refusal_text(alloc, refusal)?)?;
     Ok(1)
+}
+
+/// Prints how the viewers ended, and with `check` what the run is judged to be. Returns the status.
+fn print_run<L: Ledger, W: Write>(
+    alloc: Global,
+    writer: &mut W,
+    shared: Shared<L>,
+    brush: Brush<L>,
+    receipts: Vec<Receipt>,
+    check: bool,
+) -> Result<u8, Trouble>
+    ensures either { IfOk result (λ status. (status ≡ 0) ⊎ (status ≡ 4)) }
+    ensures printed { IfOk result (PrintsOf check receipts.items (Finishes shared brush receipts.items) (W.contents writer.old) (W.contents writer.new)) }
+{
+    print_ends(alloc, writer, &receipts)?;
+    if check {
+        print_verdict(alloc, writer, shared, brush, receipts)
+    } else {
+        Ok(0)
+    }
 }
 
 /// Serves viewers until `stop` ends the server. Returns no receipt.
@@ -237,7 +259,7 @@ fn serve_without_end<L: Ledger + Send + Sync, R: Threads + Wait + Clock + Net + 
     Ok(Vec::new(alloc))
 }
 
-/// Serves as many viewers as the options say, or fewer where `stop` ends the server, if there is one. Returns their receipts.
+/// Serves as many viewers as the options say, or fewer where `stop` ends the server. Returns their receipts.
 fn serve_all<L: Ledger + Send + Sync, R: Threads + Wait + Clock + Net + Sync>(
     rt: &R,
     alloc: Global,
@@ -246,7 +268,9 @@ fn serve_all<L: Ledger + Send + Sync, R: Threads + Wait + Clock + Net + Sync>(
     brush: &mut Brush<L>,
     options: &ServeOptions,
     stop: Option<&Stop>,
-) -> Result<Vec<Receipt>, ServeError> {
+) -> Result<Vec<Receipt>, ServeError>
+    ensures { IfOk result (λ receipts. AreServed options.now.viewers (is_some stop.entry) receipts.items) }
+{
     let viewers = u64::from(options.viewers);
     let mut easel = easel_of(options);
     match stop {
@@ -268,7 +292,10 @@ fn receipts_of<L: Ledger + Send + Sync, R: Threads + Wait + Clock + Net + Sync>(
     brush: &mut Brush<L>,
     options: &ServeOptions,
     besides: &ByThreads<'_>,
-) -> Result<Vec<Receipt>, ServeError> {
+) -> Result<Vec<Receipt>, ServeError>
+    ensures { IfOk result (λ receipts.
+        AreGiven options.now.viewers besides.now.forever (is_some besides.now.stop) receipts.items) }
+{
     if !besides.forever {
         return serve_all(rt, alloc, listener, shared, brush, options, besides.stop);
     }
@@ -294,21 +321,19 @@ fn serve<L: Ledger + Send + Sync, W: Write, R: Threads + Wait + Clock + Net + Sy
     ensures status { IfOk result (λ status. (status ≡ 0) ⊎ (status ≡ 1) ⊎ (status ≡ 4)) }
     ensures judged { options.now.check ≡ true →
         IfOk result (λ status. (status ≡ 1) ⊎ Judged (W.contents writer.old) (W.contents writer.new) status) }
+    ensures printed { IfOk result (λ status. (status ≡ 1) ⊎
+        PrintsServed options.now (AreGiven options.now.viewers besides.now.forever (is_some besides.now.stop)) (W.contents writer.old) (W.contents writer.new) status) }
 {
     let made = Shared::<L>::new(alloc, blank, config_of(alloc, options)?);
     let (shared, mut brush) = match made {
         Ok(made) => made,
         Err(refusal) => return print_refusal(alloc, writer, refusal),
     };
-    let receipts = receipts_of(rt, alloc, listener, &shared, &mut brush, options, besides).map_err(
-        trouble_of,
-    )?;
-    print_ends(alloc, writer, &receipts)?;
-    if options.check {
-        print_verdict(alloc, writer, shared, brush, receipts)
-    } else {
-        Ok(0)
-    }
+    let receipts = match receipts_of(rt, alloc, listener, &shared, &mut brush, options, besides) {
+        Ok(receipts) => receipts,
+        Err(error) => return Err(trouble_of(error)),
+    };
+    print_run(alloc, writer, shared, brush, receipts, options.check)
 }
 
 /// Does the same, and writes out what it printed.
@@ -327,6 +352,8 @@ fn serve_and_flush<L: Ledger + Send + Sync, W: Write, R: Threads + Wait + Clock 
     ensures status { (result ≡ 0) ⊎ (result ≡ 1) ⊎ (result ≡ 3) ⊎ (result ≡ 4) ⊎ (result ≡ 5) }
     ensures judged { options.now.check ≡ true → ((result ≡ 0) ⊎ (result ≡ 4)) →
         Judged (W.contents writer.old) (W.contents writer.new) result }
+    ensures printed { ((result ≡ 0) ⊎ (result ≡ 4)) →
+        PrintsServed options.now (AreGiven options.now.viewers besides.now.forever (is_some besides.now.stop)) (W.contents writer.old) (W.contents writer.new) result }
 {
     match serve::<L, W, R>(rt, alloc, blank, listener, options, besides, writer) {
         Ok(status) => written_out(writer, status),
@@ -350,6 +377,8 @@ pub fn serve_on<W: Write, R: Threads + Wait + Clock + Net + Sync>(
     ensures status { (result ≡ 0) ⊎ (result ≡ 1) ⊎ (result ≡ 3) ⊎ (result ≡ 4) ⊎ (result ≡ 5) }
     ensures judged { options.now.check ≡ true → ((result ≡ 0) ⊎ (result ≡ 4)) →
         Judged (W.contents writer.old) (W.contents writer.new) result }
+    ensures printed { ((result ≡ 0) ⊎ (result ≡ 4)) →
+        PrintsServed options.now (AreNumbered options.now.viewers) (W.contents writer.old) (W.contents writer.new) result }
 {
     let besides = ByThreads {
         forever: false,
@@ -358,8 +387,9 @@ pub fn serve_on<W: Write, R: Threads + Wait + Clock + Net + Sync>(
     serve_by_threads(rt, alloc, listener, options, &besides, writer)
 }
 
-/// Does what `serve_on` does, and more besides. With `forever` no number of viewers ends the server, and no viewer's line is printed. Once
-/// `stop` is called, viewers that are there are let go, and what there is to print of them is printed, within a second.
+/// Does what `serve_on` does, and more besides. With `forever` no number of viewers ends the server, and no viewer's line is printed: what
+/// `check` judges then has no receipt. Once `stop` is called, viewers that are there are let go, and what there is to print of them is
+/// printed within a second.
 pub fn serve_by_threads<W: Write, R: Threads + Wait + Clock + Net + Sync>(
     rt: &R,
     alloc: Global,
@@ -371,6 +401,8 @@ pub fn serve_by_threads<W: Write, R: Threads + Wait + Clock + Net + Sync>(
     ensures status { (result ≡ 0) ⊎ (result ≡ 1) ⊎ (result ≡ 3) ⊎ (result ≡ 4) ⊎ (result ≡ 5) }
     ensures judged { options.now.check ≡ true → ((result ≡ 0) ⊎ (result ≡ 4)) →
         Judged (W.contents writer.old) (W.contents writer.new) result }
+    ensures printed { ((result ≡ 0) ⊎ (result ≡ 4)) →
+        PrintsServed options.now (AreGiven options.now.viewers besides.now.forever (is_some besides.now.stop)) (W.contents writer.old) (W.contents writer.new) result }
 {
     serve_and_flush::<Brand, W, R>(rt, alloc, Blank::new(1), listener, options, besides, writer)
 }

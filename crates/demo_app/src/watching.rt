@@ -55,7 +55,7 @@ enum Awaited {
 }
 
 impl Awaited {
-    /// Whether a viewer read it whole.
+    /// Says whether a viewer read it whole.
     fn has_come(self, shown: &Shown) -> bool
         ensures { result ≡ has_come self shown.now }
     {
@@ -79,7 +79,7 @@ pub(crate) fn shut_all(streams: &[TcpStream]) {
     }
 }
 
-/// Reads until this has come whole.
+/// Reads until what is `awaited` has come whole. `Lost` where the connection ends before.
 fn read_until<S: Read>(stream: &mut S, shown: &mut Shown, awaited: Awaited) -> Result<(), Lost>
     ensures { OnOk result (has_come awaited shown.new ≡ true) }
 {
@@ -116,7 +116,7 @@ fn take_update<S: Read + Write>(stream: &mut S, shown: &mut Shown) -> Result<(),
     read_until(stream, shown, Awaited::Update)
 }
 
-/// Whether the place in this column shows a colour, in the server's format.
+/// Says whether the place in column `x` shows a colour, in the server's format.
 fn shows_colour(shown: &Shown, x: u32, colour: u32) -> bool
     ensures yes { result ≡ true → ShowsAt shown.now x colour }
     ensures no { result ≡ false → ShowsAt shown.now x colour → ⊥ }
@@ -127,7 +127,7 @@ fn shows_colour(shown: &Shown, x: u32, colour: u32) -> bool
     }
 }
 
-/// Whether the places show these colours, each in the server's format.
+/// Says whether the places show the colours of `picture`, each in the server's format.
 pub(crate) fn shows(shown: &Shown, picture: &[u32; COLUMNS]) -> bool
     ensures yes { result ≡ true → (x : ℕ) → x < 4 → ShowsAt shown.now x (slice_index picture.now x) }
     ensures no { result ≡ false → ((x : ℕ) → x < 4 → ShowsAt shown.now x (slice_index picture.now x)) → ⊥ }
@@ -140,8 +140,8 @@ pub(crate) fn shows(shown: &Shown, picture: &[u32; COLUMNS]) -> bool
     true
 }
 
-/// A viewer on its connection, which is shut at the end. Whether it shows the picture. Where it doesn't come as far as the text,
-/// all connections are shut: the others would wait for that text for ever.
+/// Runs a viewer on its connection `stream`, and shuts that at the end. Says whether the viewer shows the picture. Where it doesn't come
+/// as far as the text, shuts all `streams`: the others would wait for that text for ever.
 pub(crate) fn watch(
     alloc: Global,
     streams: &[TcpStream],

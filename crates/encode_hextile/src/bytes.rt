@@ -28,7 +28,7 @@ pub(crate) const NOTHING: Carried = Carried {
     foreground: None,
 };
 
-/// Whether a pixel is the one that is carried.
+/// Says whether `pixel` is the one that is carried.
 fn is_said(carried: Option<u32>, pixel: u32) -> bool
     ensures { result ≡ is_carried carried pixel }
 {
@@ -38,7 +38,7 @@ fn is_said(carried: Option<u32>, pixel: u32) -> bool
     }
 }
 
-/// The bits that a tile begins with.
+/// Returns the bits that a tile begins with.
 fn bits_of(carried: Carried, palette: Palette) -> u8
     ensures { result ≡ bits_of carried palette.background palette.others }
 {
@@ -61,7 +61,7 @@ fn bits_of(carried: Carried, palette: Palette) -> u8
     }
 }
 
-/// What a tile leaves to the next.
+/// Returns what a coded tile leaves to the next.
 fn next_of(carried: Carried, palette: Palette) -> Carried
     ensures { result ≡ next_of carried palette.background palette.others }
 {
@@ -76,7 +76,7 @@ fn next_of(carried: Carried, palette: Palette) -> Carried
     }
 }
 
-/// Appends a pixel, unless it is carried.
+/// Appends `pixel`, unless it is carried.
 fn put_unless_said(
     front: &mut ArrayVec<u8, FRONT>,
     format: &PixelFormat,
@@ -92,7 +92,7 @@ fn put_unless_said(
     }
 }
 
-/// Writes the bits, the background and the foreground, so far as they are said.
+/// Writes the bits, and the background and the foreground as far as the tile says them.
 fn put_front(
     front: &mut ArrayVec<u8, FRONT>,
     format: &PixelFormat,
@@ -111,7 +111,8 @@ fn put_front(
     }
 }
 
-/// Writes the subrectangles and, behind the front, their number, unless they are too long.
+/// Writes the subrectangles to `list` and, behind `front`, their number. Returns false, and writes no number, if they are at least
+/// as long as the tile's pixels. If all pixels of the tile are the background, there are none, and it writes nothing.
 fn put_list(
     front: &mut ArrayVec<u8, FRONT>,
     list: &mut ArrayVec<u8, ROOM>,
@@ -145,8 +146,7 @@ fn put_list(
     }
 }
 
-/// Appends a tile whose pixels are known, coded where that is shorter, and else raw. Gives what it
-/// leaves to the next.
+/// Appends a tile whose pixels `palette` tells, coded if that is shorter, and else raw. Returns what it leaves to the next.
 fn put_coded(
     out: &mut Vec<u8>,
     pixels: &Rows,
@@ -178,7 +178,7 @@ fn put_coded(
     Ok(NOTHING)
 }
 
-/// Appends a tile, coded where that is shorter, and else raw. Gives what it leaves to the next.
+/// Appends a tile, coded if that is shorter, and else raw. Returns what it leaves to the next.
 pub(crate) fn put_tile(
     out: &mut Vec<u8>,
     pixels: &Rows,

@@ -8,7 +8,7 @@ ghost use Rattle.encode_hextile.specs.Tiles.{pixel_rows, tile_rows};
 use pixel_translate::{Table, server_pixel};
 use subrectangles::rows::Rows;
 
-/// The pixel of a colour. Where it is the last colour again, its pixel is known.
+/// Returns the pixel of `colour`: `known` if it is `last` again, whose pixel that is.
 fn pixel_after(table: &Table, last: u32, known: u32, colour: u32) -> u32
     requires { known ≡ pixel table.now last }
     ensures { result ≡ pixel table.now colour }
@@ -57,7 +57,7 @@ fn write_either(places: &mut [u32], colours: &[u32], table: &Table, is_server: b
     }
 }
 
-/// How many places of a side of a rectangle belong to a tile: 16, or fewer at its end.
+/// Returns how many places of `side`, a side of a rectangle, belong to the tile numbered `tile`: 16, or fewer at its end.
 pub(crate) fn side_of(side: usize, tile: usize) -> usize
     requires { 16 * tile < side }
     ensures size { result ≡ min 16 (side - 16 * tile) }
@@ -68,7 +68,7 @@ pub(crate) fn side_of(side: usize, tile: usize) -> usize
     (side - 16 * tile).min(16)
 }
 
-/// Writes the pixels of a tile row by row, in places of just its size.
+/// Writes the pixels of a tile row by row into `places`, which have just its size.
 pub(crate) fn cut_tile(
     places: &mut [u32],
     colours: &Rows,

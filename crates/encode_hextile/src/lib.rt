@@ -56,7 +56,7 @@ impl Carried {
     ghost use Rattle.std.specs.Prelude.{◌≡◌};
     ghost use Rattle.encode_hextile.specs.Hextile.{nothing};
 
-    /// What is carried to a rectangle's first tile: nothing.
+    /// Returns what is carried to a rectangle's first tile: nothing.
     pub fn nothing() -> Carried
         ensures { result ≡ nothing }
     {
@@ -72,7 +72,7 @@ pub(crate) enum TilePixels {
     Several,
 }
 
-/// Appends a row of tiles. Gives what the last of them leaves.
+/// Appends a row of tiles. Returns what the last of them leaves.
 fn put_row_of_tiles(
     out: &mut Vec<u8>,
     colours: &Rows,
@@ -106,9 +106,9 @@ fn put_row_of_tiles(
     Ok(carried)
 }
 
-/// Appends one row of a rectangle's tiles (RFC 6143, 7.7.4), in the format of the table. Its colours are those of its rows of
-/// places, at most 16. A rectangle is its head and its rows of tiles from the top, each with what the one before it left; the
-/// first with nothing. Gives what this one leaves. Where memory is refused, nothing is appended.
+/// Appends one row of a rectangle's tiles (RFC 6143, 7.7.4), in the format of the table. `colours` are those of its rows of places,
+/// at most 16. A rectangle is its head and its rows of tiles from the top, each with what the one before it left, `before`; the
+/// first with nothing. Returns what this one leaves. If memory is refused, appends nothing.
 pub fn encode_row_of_tiles(
     out: &mut Vec<u8>,
     colours: &Rows,
@@ -170,10 +170,9 @@ fn put_rectangle(
     put_tiles(out, &rows, table)
 }
 
-/// Appends a rectangle in Hextile (RFC 6143, 7.7.4): the colours `0x00RRGGBB` stand row by row from
-/// the top, each from left to right, as many as the area has places. In each tile the background is
-/// the most frequent pixel, of several the smallest; the subrectangles stand by y and then by x. A
-/// tile is raw where that is no longer. Where memory is refused, nothing is appended.
+/// Appends a rectangle in Hextile (RFC 6143, 7.7.4): the colours `0x00RRGGBB` stand row by row from the top, each from left to
+/// right, as many as the area has places. In each tile the background is the most frequent pixel, of several the smallest; the
+/// subrectangles stand by y and then by x. A tile is raw if that is no longer. If memory is refused, appends nothing.
 pub fn encode_hextile(
     out: &mut Vec<u8>,
     area: Area,
@@ -189,7 +188,7 @@ pub fn encode_hextile(
     encode_hextile_with_table(out, area, colours, &Table::new(format))
 }
 
-/// Appends the same rectangle by a table of the format, which one call after another can use.
+/// Appends what `encode_hextile` does, by a table of the format, which one call after another can use.
 pub fn encode_hextile_with_table(
     out: &mut Vec<u8>,
     area: Area,
@@ -210,8 +209,8 @@ pub fn encode_hextile_with_table(
     done
 }
 
-/// A viewer that reads a rectangle in Hextile by RFC 6143 shows each colour's pixel at its place,
-/// and every other place as before.
+/// Proves that a viewer that reads a rectangle in Hextile by RFC 6143 shows each colour's pixel at its place, and every other place
+/// as before.
 pub fn hextile_is_read_back()
     ensures { hextile_reads_back }
 {

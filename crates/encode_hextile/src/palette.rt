@@ -17,7 +17,7 @@ pub(crate) struct Palette {
     pub(crate) others: TilePixels,
 }
 
-/// The background, and which pixel there is beside it, where there are at most two.
+/// Returns the background, and which pixel there is beside it. `None` if there are more than two different pixels.
 fn few_pixels(pixels: &[u32]) -> Option<Palette>
     requires some { 0 < length pixels.now }
     requires few { length pixels.now ≤ 256 }
@@ -49,7 +49,7 @@ fn few_pixels(pixels: &[u32]) -> Option<Palette>
     }
 }
 
-/// In which of the buckets a pixel is counted.
+/// Returns the number of the bucket that counts `pixel`.
 fn bucket_of(pixel: u32) -> usize
     ensures value { result ≡ pixel % 251 }
     ensures inside { result < 251 }
@@ -57,7 +57,7 @@ fn bucket_of(pixel: u32) -> usize
     pixel as usize % 251
 }
 
-/// How many pixels fall into each bucket: each pixel stands there at most as often.
+/// Returns how many pixels fall into each bucket. Each pixel stands there at most as often.
 fn buckets_of(pixels: &[u32]) -> [u16; 251]
     requires { length pixels.now ≤ 256 }
     ensures { (pixel : ℕ) → times pixel pixels.now ≤ slice_index result (pixel % 251) }
@@ -69,7 +69,7 @@ fn buckets_of(pixels: &[u32]) -> [u16; 251]
     buckets
 }
 
-/// How many pixels the fullest bucket has.
+/// Returns how many pixels the fullest bucket has.
 fn fullest(buckets: &[u16; 251]) -> u16
     ensures { (k : ℕ) → k < 251 → slice_index buckets.now k ≤ result }
 {
@@ -80,8 +80,7 @@ fn fullest(buckets: &[u16; 251]) -> u16
     most
 }
 
-/// The most frequent pixel, of several the smallest. A pixel is counted only where its bucket has
-/// as many as the best before it.
+/// Returns the most frequent pixel, of several the smallest. Counts a pixel only if its bucket has as many as the best before it.
 fn most_frequent(pixels: &[u32], buckets: &[u16; 251]) -> u32
     requires some { 0 < length pixels.now }
     requires few { length pixels.now ≤ 256 }
@@ -103,7 +102,7 @@ fn most_frequent(pixels: &[u32], buckets: &[u16; 251]) -> u32
     best
 }
 
-/// Whether another pixel stands before a place of a row, and another above it.
+/// Says whether another pixel stands before place `x` of `row`, and another above it.
 fn starts_at(row: &[u32], above: &[u32], x: usize) -> bool
     requires before { 0 < x }
     requires inside { x < length row.now }
@@ -114,7 +113,7 @@ fn starts_at(row: &[u32], above: &[u32], x: usize) -> bool
     row[x - 1] != row[x] && above[x] != row[x]
 }
 
-/// How many places of a row have another pixel than the place before them and the one above.
+/// Returns how many places of `row` have another pixel than the place before them and the one above.
 fn starts_in(row: &[u32], above: &[u32]) -> usize
     requires { length above.now ≡ length row.now }
     ensures few { result ≤ length row.now }
@@ -130,7 +129,7 @@ fn starts_in(row: &[u32], above: &[u32]) -> usize
     starts
 }
 
-/// A number of places at which subrectangles begin, but for those of the background.
+/// Returns a number of places at which subrectangles begin, but for those of the background.
 fn starts_of(pixels: &Rows) -> usize
     requires columns { pixels.now.width ≤ 16 }
     requires rows { pixels.now.height ≤ 16 }
@@ -145,7 +144,7 @@ fn starts_of(pixels: &Rows) -> usize
     starts
 }
 
-/// Whether the subrectangles are surely as long as the pixels, whatever the background.
+/// Says whether the subrectangles are surely as long as the pixels, whatever the background.
 fn is_noise(pixels: &Rows, format: &PixelFormat, buckets: &[u16; 251]) -> bool
     requires columns { pixels.now.width ≤ 16 }
     requires rows { pixels.now.height ≤ 16 }
@@ -158,8 +157,8 @@ fn is_noise(pixels: &Rows, format: &PixelFormat, buckets: &[u16; 251]) -> bool
     pixels.values.len() * pixel_len <= others * (pixel_len + 2)
 }
 
-/// The background, and which pixels there are beside it; or nothing, where these are several and
-/// their subrectangles are surely as long as the pixels.
+/// Returns the background, and which pixels there are beside it. `None` if these are several and their subrectangles are surely as
+/// long as the pixels.
 pub(crate) fn palette_of(pixels: &Rows, format: &PixelFormat) -> Option<Palette>
     requires columns { pixels.now.width ≤ 16 }
     requires rows { pixels.now.height ≤ 16 }

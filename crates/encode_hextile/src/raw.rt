@@ -6,7 +6,7 @@ ghost use Rattle.pixel_translate.specs.Pixel.{pixel_bytes, bytes_per_pixel};
 use pixel_translate::{PixelFormat, bytes};
 use std::alloc::AllocError;
 
-/// Writes pixels, in places of just their size.
+/// Writes pixels into `places`, which have just their size.
 fn write_pixels(places: &mut [u8], pixels: &[u32], format: &PixelFormat)
     requires { length places.old ≡ bytes_per_pixel format.now * length pixels.now }
     ensures { places.new ≡ flat_map (pixel_bytes format.now) pixels.now }
@@ -14,7 +14,7 @@ fn write_pixels(places: &mut [u8], pixels: &[u32], format: &PixelFormat)
     bytes::write_pixels(places, pixels, format, |pixel| pixel);
 }
 
-/// Writes a raw tile, in places of just its size: the bit 1, and the pixels.
+/// Writes a raw tile into `places`, which have just its size: the bit 1, and the pixels.
 fn write_tile(places: &mut [u8], pixels: &[u32], format: &PixelFormat)
     requires { length places.old ≡ 1 + bytes_per_pixel format.now * length pixels.now }
     ensures { places.new ≡ 1 ∷ flat_map (pixel_bytes format.now) pixels.now }
@@ -23,7 +23,7 @@ fn write_tile(places: &mut [u8], pixels: &[u32], format: &PixelFormat)
     write_pixels(&mut places[1..], pixels, format);
 }
 
-/// Appends a raw tile: the bit 1, and the pixels. Where memory is refused, nothing is appended.
+/// Appends a raw tile: the bit 1, and the pixels. If memory is refused, appends nothing.
 pub(crate) fn put_raw(
     out: &mut Vec<u8>,
     pixels: &[u32],

@@ -18,7 +18,7 @@ use subrectangles::{Subrectangle, subrectangle_at};
 /// Room for a tile's subrectangles as bytes: as many as its pixels have, and a row's more.
 pub(crate) const ROOM: usize = 1120;
 
-/// How many pixels are the same from each place of a row on, found from the right with no branch.
+/// Returns how many pixels are the same from each place of `row` on. Finds them from the right with no branch.
 fn widths_of(row: &[u32]) -> [u8; 16]
     requires { length row.now ≤ 16 }
     ensures { (x : ℕ) → x < length row.now → slice_index result x ≡ stretch row.now x }
@@ -35,7 +35,7 @@ fn widths_of(row: &[u32]) -> [u8; 16]
     widths
 }
 
-/// How many pixels are the same from a place on, where that is known of each place.
+/// Returns how many pixels are the same from `x` on, which `widths` has of each place.
 fn width_at(row: &[u32], widths: &[u8; 16], x: usize) -> usize
     requires inside { x < length row.now }
     requires narrow { length row.now ≤ 16 }
@@ -47,7 +47,7 @@ fn width_at(row: &[u32], widths: &[u8; 16], x: usize) -> usize
     usize::from(widths[x])
 }
 
-/// Appends a pixel, in the format's byte order.
+/// Appends the pixel `number`, in the format's byte order.
 pub(crate) fn put_number<const N: usize>(
     bytes: &mut ArrayVec<u8, N>,
     format: &PixelFormat,
@@ -65,7 +65,7 @@ pub(crate) fn put_number<const N: usize>(
     let _ = fits;
 }
 
-/// Appends a subrectangle, with its pixel where `coloured`, its place, and its size less one.
+/// Appends a subrectangle, with its pixel if `coloured`, its place, and its size less one.
 fn put_subrectangle(
     list: &mut ArrayVec<u8, ROOM>,
     format: &PixelFormat,
@@ -89,7 +89,7 @@ fn put_subrectangle(
     list.push(((sub.w - 1) * 16 + (sub.h - 1)) as u8);
 }
 
-/// Appends the subrectangles that begin in the row at `y`. Where the row is as the one above, none do.
+/// Appends the subrectangles that begin in the row at `y`. If the row is as the one above, none do.
 fn put_row(
     list: &mut ArrayVec<u8, ROOM>,
     pixels: &Rows,
@@ -125,7 +125,7 @@ fn put_row(
     }
 }
 
-/// How many bytes a subrectangle has.
+/// Returns how many bytes a subrectangle has.
 fn unit_of(format: &PixelFormat, coloured: bool) -> usize
     ensures { result ≡ (if coloured then bytes_per_pixel format.now + 2 else 2) }
 {
@@ -136,8 +136,8 @@ fn unit_of(format: &PixelFormat, coloured: bool) -> usize
     }
 }
 
-/// Writes the subrectangles by y and then by x, and says how many they are; or nothing, where they
-/// are at least as long as the tile's pixels.
+/// Writes the subrectangles by y and then by x, and returns how many they are. `None` if they are at least as long as the tile's
+/// pixels.
 pub(crate) fn list_subrectangles(
     list: &mut ArrayVec<u8, ROOM>,
     pixels: &Rows,

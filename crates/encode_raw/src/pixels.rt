@@ -5,7 +5,7 @@ ghost use Rattle.pixel_translate.specs.Pixel.{colour_bytes, bytes_per_pixel};
 
 use pixel_translate::{Table, bytes, server_pixel, server_pixels_are_colours};
 
-/// Writes a pixel for each colour, in places of just their size.
+/// Writes a pixel for each colour into `places`, which have just their size.
 pub fn write_pixels(places: &mut [u8], colours: &[u32], table: &Table)
     requires { length places.old ≡ bytes_per_pixel table.now * length colours.now }
     ensures { places.new ≡ flat_map (colour_bytes table.now) colours.now }

@@ -36,7 +36,7 @@ use subrectangles::{
 /// The error of a call that is refused memory.
 pub use std::alloc::AllocError as OutOfMemory;
 
-/// The greatest colour, or 0 where there is none.
+/// Returns the greatest colour, or 0 if there is none.
 fn greatest(colours: &[u32]) -> u32
     ensures { (k : ℕ) → k < length colours.now → slice_index colours.now k ≤ result }
 {
@@ -47,7 +47,7 @@ fn greatest(colours: &[u32]) -> u32
     greatest
 }
 
-/// Whether no colour has a top byte.
+/// Says whether no colour has a top byte.
 fn are_low(colours: &Lines) -> bool
     ensures { result ≡ true → (k : ℕ) → k < length (values_in colours.now) → slice_index (values_in colours.now) k < 2 ^ 24 }
 {
@@ -59,8 +59,7 @@ fn are_low(colours: &Lines) -> bool
     true
 }
 
-/// Whether each colour is its own pixel: the format has the server's components, and no colour has
-/// a top byte.
+/// Says whether each colour is its own pixel: the format has the server's components, and no colour has a top byte.
 fn are_pixels(colours: &Lines, format: &PixelFormat) -> bool
     ensures { result ≡ true → values_in colours.now ≡ map (pixel format.now) (values_in colours.now) }
 {
@@ -68,8 +67,8 @@ fn are_pixels(colours: &Lines, format: &PixelFormat) -> bool
     format.has_server_components() && are_low(colours)
 }
 
-/// Appends a rectangle in RRE, from the pixels of its colours, and tells whether its data is shorter than Raw's. Else a part of it
-/// may be appended.
+/// Appends a rectangle in RRE, from the pixels of its colours, and returns whether its data is shorter than Raw's. If not, it may
+/// have appended a part of it.
 fn put_coded(
     out: &mut Vec<u8>,
     area: Area,
@@ -103,7 +102,7 @@ fn put_coded(
     Ok(shorter)
 }
 
-/// Appends a rectangle in Raw, row by row, in room that is made at once.
+/// Appends a rectangle in Raw, row by row, in room that it makes at once.
 fn put_raw(out: &mut Vec<u8>, area: Area, colours: &Lines, table: &Table) -> Result<(), AllocError>
     ensures ok { OnOk result (out.new.items ≡ out.old.items ++ raw table.now area (values_in colours.now)) }
     ensures err { OnErr result (BeginsWith out.old.items out.new.items) }
@@ -117,7 +116,7 @@ fn put_raw(out: &mut Vec<u8>, area: Area, colours: &Lines, table: &Table) -> Res
     Ok(())
 }
 
-/// Appends a rectangle, from the pixels of its colours, in RRE where its data is shorter, and else in Raw.
+/// Appends a rectangle, from the pixels of its colours, in RRE if its data is shorter, and else in Raw.
 fn put_shorter(
     out: &mut Vec<u8>,
     area: Area,
@@ -139,7 +138,7 @@ fn put_shorter(
     put_raw(out, area, &pixels.colours, table)
 }
 
-/// Appends a rectangle. Where memory is refused, what was there stays in front.
+/// Appends a rectangle. If memory is refused, what was there stays in front.
 fn put_rectangle(
     out: &mut Vec<u8>,
     area: Area,
@@ -163,7 +162,7 @@ fn put_rectangle(
     put_shorter(out, area, &pixels, table)
 }
 
-/// Appends a rectangle. Where memory is refused, nothing is appended.
+/// Appends a rectangle. If memory is refused, appends nothing.
 fn put_or_nothing(
     out: &mut Vec<u8>,
     area: Area,
@@ -183,10 +182,9 @@ fn put_or_nothing(
     done
 }
 
-/// Appends a rectangle in RRE (RFC 6143, 7.7.3), or in Raw where RRE's data is no shorter: the
-/// colours `0x00RRGGBB` stand row by row from the top, each from left to right, as many as the area
-/// has places. The background is the most frequent pixel, of several the smallest; the
-/// subrectangles stand by y and then by x. Where memory is refused, nothing is appended.
+/// Appends a rectangle in RRE (RFC 6143, 7.7.3), or in Raw if RRE's data is no shorter: the colours `0x00RRGGBB` stand row by row
+/// from the top, each from left to right, as many as the area has places. The background is the most frequent pixel, of several the
+/// smallest; the subrectangles stand by y and then by x. If memory is refused, appends nothing.
 pub fn encode_rre(
     out: &mut Vec<u8>,
     area: Area,
@@ -202,7 +200,7 @@ pub fn encode_rre(
     encode_rre_with_table(out, area, colours, &Table::new(format))
 }
 
-/// Appends the same rectangle by a table of the format, which one call after another can use.
+/// Appends what `encode_rre` does, by a table of the format, which one call after another can use.
 pub fn encode_rre_with_table(
     out: &mut Vec<u8>,
     area: Area,
@@ -223,8 +221,8 @@ pub fn encode_rre_with_table(
     put_or_nothing(out, area, &lines, table)
 }
 
-/// Appends the same rectangle, whose rows of colours stand each in a list of its own, from the top, as many as the area is
-/// high, each with as many colours as it is wide.
+/// Appends what `encode_rre` does, by a table of the format, for rows of colours that stand each in a list of its own, from the
+/// top, as many as the area is high, each with as many colours as it is wide.
 pub fn encode_rre_by_rows(
     out: &mut Vec<u8>,
     area: Area,
@@ -246,8 +244,8 @@ pub fn encode_rre_by_rows(
     put_or_nothing(out, area, &lines, table)
 }
 
-/// A viewer that reads a rectangle in RRE, or in Raw, by RFC 6143 shows each colour's pixel at its
-/// place, and every other place as before.
+/// Proves that a viewer that reads a rectangle in RRE, or in Raw, by RFC 6143 shows each colour's pixel at its place, and every
+/// other place as before.
 pub fn rre_is_read_back()
     ensures { rre_reads_back }
 {

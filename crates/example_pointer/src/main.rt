@@ -48,7 +48,7 @@ fn serve<L: Ledger + Send + Sync, R: Threads + Wait + Clock + Net + Sync>(
     Ok(())
 }
 
-/// The same, with a ledger that nobody looks into.
+/// Does the same, with a ledger that nobody looks into.
 fn serve_one<R: Threads + Wait + Clock + Net + Sync>(
     rt: &R,
     alloc: Global,
@@ -60,7 +60,7 @@ fn serve_one<R: Threads + Wait + Clock + Net + Sync>(
     }
 }
 
-/// Moves the pointer three times, and once more on a screen of twice the size. What is seen each time.
+/// Moves the pointer three times, and once more on a screen of twice the size. Returns what is seen each time.
 fn visit(alloc: Global, mut visitor: Visitor) -> io::Result<Vec<u8>> {
     let mut text = Vec::new(alloc);
     for (x, y) in [(3, 1), (9, 3), (20, 0)] {
@@ -114,7 +114,7 @@ fn show<R: Threads + Wait + Clock + Net<Listener = TcpListener, Stream = TcpStre
     serve_one(rt, alloc, &listener)
 }
 
-/// What the words behind the program's name say is done.
+/// Does what the words behind the program's name say. `InvalidInput` where the word is no port.
 fn run<
     R: Runtime + Threads + Wait + Clock + Net<Listener = TcpListener, Stream = TcpStream> + Sync,
 >(rt: &R, alloc: Global, words: &[String]) -> io::Result<()> {

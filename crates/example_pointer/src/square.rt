@@ -1,6 +1,7 @@
 //! What is drawn.
 
-ghost use Rattle.std.specs.Prelude.{◌≡◌, ◌+◌, ◌-◌, ◌&&◌, min, nat_le, nat_lt};
+ghost use Rattle.std.specs.Prelude.{◌≡◌, ◌+◌, ◌&&◌, nat_le, nat_lt};
+ghost use Rattle.example_pointer.specs.Squares.{by_key, doubled, first, halved, moved, moved_by, placed};
 
 use serving::{Application, Brush, Input, Rect, ScreenError, Shared, Told};
 use std::sync::Wait;
@@ -33,10 +34,10 @@ pub struct Square {
 }
 
 impl Square {
-    /// The square on a screen of so many columns and rows, with its corner at a place, or as far from it as keeps the square on the
-    /// screen.
+    /// Returns the square on a screen of `width` columns and `height` rows, with its corner at `x`, `y`, or as far from there as keeps the
+    /// square on the screen.
     pub fn on(width: u16, height: u16, x: u16, y: u16) -> Square
-        ensures { result ≡ record { width = width; height = height; x = min x (width - 2); y = min y (height - 2) } }
+        ensures { result ≡ placed width height x y }
     {
         Square {
             width,
@@ -46,15 +47,17 @@ impl Square {
         }
     }
 
-    /// The square with its corner at another place.
+    /// Returns the square with its corner at `x`, `y`, on the same screen.
     fn at(&self, x: u16, y: u16) -> Square
-        ensures { result ≡ record self.now { x = min x (self.now.width - 2); y = min y (self.now.height - 2) } }
+        ensures { result ≡ placed self.now.width self.now.height x y }
     {
         Square::on(self.width, self.height, x, y)
     }
 
-    /// The same square on a screen of twice the columns and rows, as far as screens go here.
-    fn doubled(&self) -> Square {
+    /// Returns the same square on a screen of twice the columns and rows, as far as screens go here.
+    fn doubled(&self) -> Square
+        ensures { result ≡ doubled self.now }
+    {
         if self.width >= WIDTH << MOST_DOUBLINGS {
             return *self;
         }
@@ -66,15 +69,39 @@ impl Square {
         )
     }
 
-    /// The same on a screen of half the columns and rows, as far as screens go here.
-    fn halved(&self) -> Square {
+    /// Returns the same on a screen of half the columns and rows, as far as screens go here.
+    fn halved(&self) -> Square
+        ensures { result ≡ halved self.now }
+    {
         if self.width <= WIDTH {
             return *self;
         }
         Square::on(self.width / 2, self.height / 2, self.x, self.y)
     }
 
-    /// Whether it covers a place.
+    /// Returns the square that a key makes of it: + doubles the screen, and - halves it.
+    fn by_key(&self, key: u32) -> Square
+        ensures { result ≡ by_key self.now key }
+    {
+        match key {
+            PLUS => self.doubled(),
+            MINUS => self.halved(),
+            _ => *self,
+        }
+    }
+
+    /// Returns the square that an input makes of it: it goes to where the pointer is, and keys that go down change the screen.
+    fn moved(&self, input: &Input) -> Square
+        ensures { result ≡ moved self.now input.now }
+    {
+        match input {
+            Input::Pointer { x, y, .. } => self.at(*x, *y),
+            Input::Key { down: true, key } => self.by_key(*key),
+            Input::Key { down: false, .. } | Input::Text { .. } => *self,
+        }
+    }
+
+    /// Says whether it covers a place.
     pub fn covers(&self, x: u16, y: u16) -> bool
         ensures { result ≡ (nat_le self.now.x x && nat_lt x (self.now.x + 2) && nat_le self.now.y y && nat_lt y (self.now.y + 2)) }
     {
@@ -103,27 +130,44 @@ impl Square {
 }
 
 impl Square {
-    /// It is on another screen from now on, which is black elsewhere.
-    fn put_on<L: Ledger, R: Wait>(
-        &mut self,
+    /// Draws it on a screen of its own, which is black elsewhere.
+    fn draw_anew<L: Ledger, R: Wait>(
+        &self,
         rt: &R,
         shared: &Shared<L>,
         brush: &mut Brush<L>,
-        square: Square,
     ) -> Result<(), ScreenError> {
-        brush.new_framebuffer(
-            shared,
-            rt,
-            u32::from(square.width),
-            u32::from(square.height),
-        )?;
-        *self = square;
+        brush.new_framebuffer(shared, rt, u32::from(self.width), u32::from(self.height))?;
         self.paint(rt, shared, brush, WHITE)
+    }
+
+    /// Draws what an `input` changed of the square, which was `before`.
+    fn draw_change<L: Ledger, R: Wait>(
+        &self,
+        rt: &R,
+        shared: &Shared<L>,
+        brush: &mut Brush<L>,
+        before: &Square,
+        input: &Input,
+    ) -> Result<(), ScreenError> {
+        match input {
+            Input::Pointer { .. } => {
+                before.paint(rt, shared, brush, 0)?;
+                self.paint(rt, shared, brush, WHITE)
+            }
+            Input::Key {
+                down: true,
+                key: PLUS | MINUS,
+            } => self.draw_anew(rt, shared, brush),
+            _ => Ok(()),
+        }
     }
 }
 
 impl<L: Ledger> Application<L> for Square {
-    /// The square goes to where the pointer is. The key + doubles the screen, and the key - halves it.
+    ghost stands = { λ square told. square ≡ moved_by first told };
+
+    /// Moves the square to where the pointer is. The key + doubles the screen, and the key - halves it. Draws what that changes.
     fn on_input<R: Wait>(
         &mut self,
         rt: &R,
@@ -131,21 +175,8 @@ impl<L: Ledger> Application<L> for Square {
         brush: &mut Brush<L>,
         told: &Told,
     ) -> Result<(), ScreenError> {
-        match told.input {
-            Input::Pointer { x, y, .. } => {
-                self.paint(rt, shared, brush, 0)?;
-                *self = self.at(x, y);
-                self.paint(rt, shared, brush, WHITE)
-            }
-            Input::Key {
-                down: true,
-                key: PLUS,
-            } => self.put_on(rt, shared, brush, self.doubled()),
-            Input::Key {
-                down: true,
-                key: MINUS,
-            } => self.put_on(rt, shared, brush, self.halved()),
-            _ => Ok(()),
-        }
+        let before = *self;
+        *self = before.moved(&told.input);
+        self.draw_change(rt, shared, brush, &before, &told.input)
     }
 }

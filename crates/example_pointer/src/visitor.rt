@@ -32,7 +32,7 @@ pub struct Visitor {
 }
 
 impl Visitor {
-    /// A viewer that connects, and asks for the whole screen.
+    /// Connects a viewer to `address`, and asks for the whole screen.
     pub fn connect<R: Net<Stream = TcpStream>>(
         rt: &R,
         alloc: Global,
@@ -46,13 +46,13 @@ impl Visitor {
         Ok(Visitor { stream, shown })
     }
 
-    /// The square at a place of the screen that was told last.
+    /// Returns the square at a place of the screen that was told last.
     fn square_at(&self, x: u16, y: u16) -> Square {
         let (width, height) = self.shown.size();
         Square::on(width, height, x, y)
     }
 
-    /// Whether there is a screen, and each of its places shows what it is to show.
+    /// Says whether there is a screen, and each of its places shows what it is to show.
     fn sees(&self, square: &Square) -> bool {
         let (width, height) = self.shown.size();
         self.shown.is_open()
@@ -65,7 +65,7 @@ impl Visitor {
             })
     }
 
-    /// Reads what comes, and asks for what changes. Whether that can go on.
+    /// Reads what comes, and asks for what changes. Says whether that can go on.
     fn read(&mut self) -> io::Result<bool> {
         let mut piece = [0; 256];
         let count = self.stream.read(&mut piece)?;

@@ -11,7 +11,7 @@ abbrev pub is_in_block : Block → ℕ → ℕ → Bool
 is_in_block b y x = nat_le b.left x && nat_lt x (b.left + b.columns) && nat_le b.top y && nat_lt y (b.top + b.rows)
 
 -- the colour of the place in column x of row y once a block's colours are replaced, in rows of w places
-abbrev pub colour_written : ℕ → Block → List ℕ → List ℕ → ℕ → ℕ → ℕ
+abbrev pub colour_written : (width : ℕ) → Block → (colours picture : List ℕ) → (row column : ℕ) → ℕ
 colour_written w b colours picture y x =
     if is_in_block b y x then slice_index colours ((y - b.top) * b.columns + (x - b.left)) % 2 ^ 24 else slice_index picture (y * w + x)
 

@@ -15,7 +15,7 @@ pub struct Block {
     pub rows: usize,
 }
 
-/// The block of a rectangle of the screen.
+/// Returns the block of `rect`, a rectangle of the screen.
 pub fn block_of(rect: Rect) -> Block
     requires left { pos 0 ≤ℤ rect.x1 }
     requires top { pos 0 ≤ℤ rect.y1 }
@@ -31,7 +31,7 @@ pub fn block_of(rect: Rect) -> Block
     }
 }
 
-/// The block of a rectangle that has places, all of them on a screen.
+/// Returns the block of `rect`, which has places, all of them on a screen of `width` columns and `height` rows.
 pub fn block_within(rect: Rect, width: u32, height: u32) -> Block
     requires { IsOnScreen width height rect }
     ensures is { rect ≡ block_rect result }

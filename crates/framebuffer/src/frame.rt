@@ -88,7 +88,7 @@ impl Model for Snapshot {
 }
 
 impl Framebuffer {
-    /// A picture that is 0 everywhere.
+    /// Makes a picture that is 0 everywhere.
     pub fn new(alloc: Global, width: u32, height: u32) -> Result<Framebuffer, AllocError>
         requires some_columns { 1 ≤ width }
         requires columns { width ≤ longest_side }
@@ -106,7 +106,7 @@ impl Framebuffer {
         })
     }
 
-    /// How many columns the picture has.
+    /// Returns the picture's width in columns.
     pub fn width(&self) -> u32
         ensures value { result ≡ self.now.width }
         ensures picture { IsPicture self.now }
@@ -114,7 +114,7 @@ impl Framebuffer {
         self.width
     }
 
-    /// How many rows the picture has.
+    /// Returns the picture's height in rows.
     pub fn height(&self) -> u32
         ensures value { result ≡ self.now.height }
         ensures picture { IsPicture self.now }
@@ -122,7 +122,7 @@ impl Framebuffer {
         self.height
     }
 
-    /// The colour of the place in column x of row y, or None off the picture.
+    /// Returns the colour of the place in column `x` of row `y`; `None` if it is off the picture.
     pub fn colour(&self, x: u32, y: u32) -> Option<u32>
         ensures inside { IsSome result ↔ ((x < self.now.width) × (y < self.now.height)) }
         ensures colour { IfSome result (λ c. c ≡ slice_index self.now.colours (y * self.now.width + x)) }
@@ -134,7 +134,7 @@ impl Framebuffer {
         }
     }
 
-    /// The colours of row y from the left, of which none is copied, or None off the picture.
+    /// Returns the colours of row `y` from the left, without copying any; `None` if the row is off the picture.
     pub fn row(&self, y: u32) -> Option<&[u32]>
         ensures inside { IsSome result ↔ (y < self.now.height) }
         ensures colours { IfSome result (λ row. row.now ≡ take self.now.width (drop (y * self.now.width) self.now.colours)) }
@@ -146,7 +146,7 @@ impl Framebuffer {
         }
     }
 
-    /// The colours of a block of the picture, row by row. It may have no places.
+    /// Copies the colours of `block` into a list, row by row. The block may have no places.
     pub fn read(&self, block: Block) -> Result<Vec<u32>, AllocError>
         requires wide { block.left + block.columns ≤ self.now.width }
         requires high { block.top + block.rows ≤ self.now.height }
@@ -156,8 +156,8 @@ impl Framebuffer {
         gather(self.alloc, rows, block.left, block.columns)
     }
 
-    /// The colours of a block of the picture as they stand, in rows that are shared with the picture: no colour is copied. It
-    /// may have no places. Refused for want of memory alone; the picture is as it was, whatever comes.
+    /// Takes the colours of `block` as they stand, in rows that the snapshot shares with the picture, without copying any. The
+    /// block may have no places. Fails only for want of memory. The picture stays as it was, even if the call fails.
     pub fn snapshot(&mut self, block: Block) -> Result<Snapshot, AllocError>
         requires wide { block.left + block.columns ≤ self.old.width }
         requires high { block.top + block.rows ≤ self.old.height }
@@ -174,8 +174,8 @@ impl Framebuffer {
         })
     }
 
-    /// Replaces the colours of a block of the picture by others, row by row, whose top bytes are cleared. The block may have no
-    /// places: then this takes no memory. Refused for want of memory alone.
+    /// Replaces the colours of `block` by `colours`, row by row, and clears their top bytes. The block may have no places: then
+    /// this takes no memory. Fails only for want of memory, and then changes nothing.
     pub fn write(&mut self, block: Block, colours: &[u32]) -> Result<(), AllocError>
         requires wide { block.left + block.columns ≤ self.old.width }
         requires high { block.top + block.rows ≤ self.old.height }
@@ -198,7 +198,7 @@ impl Framebuffer {
         }
     }
 
-    /// Those of a block's rows that no snapshot holds any more are the picture's alone again.
+    /// Makes those rows of `block` that no snapshot holds any more the picture's own again.
     fn take_back(&mut self, block: Block)
         requires { block.top + block.rows ≤ self.old.height }
         ensures { self.new ≡ self.old }
@@ -211,7 +211,7 @@ impl Framebuffer {
         );
     }
 
-    /// Whether a row of a block may be shared with a snapshot.
+    /// Says whether the picture may share a row of `block` with a snapshot.
     fn shares(&self, block: Block) -> bool
         requires { block.top + block.rows ≤ self.now.height }
     {
@@ -219,8 +219,8 @@ impl Framebuffer {
         !rows.iter().all(is_own_row)
     }
 
-    /// The same as `write` at a block of whole rows, by new rows in place of the old ones, which retire. A new row is in the
-    /// memory of the one that was retired in its place before, if nobody else holds that one.
+    /// Does the same as `write` for a block of whole rows: puts new rows in place of the old ones, and retires those. Writes a
+    /// new row in the memory of the one that was retired in its place before, if nobody else holds that one.
     fn put_whole_rows(&mut self, block: Block, colours: &[u32]) -> Result<(), AllocError>
         requires left { block.left ≡ 0 }
         requires wide { block.columns ≡ self.old.width }
@@ -237,7 +237,7 @@ impl Framebuffer {
         Ok(())
     }
 
-    /// The same as `write`, in the rows that are there; those that a snapshot holds are copied first.
+    /// Does the same as `write`, in the rows that are there. Copies those that a snapshot holds first.
     fn write_in_rows(&mut self, block: Block, colours: &[u32]) -> Result<(), AllocError>
         requires wide { block.left + block.columns ≤ self.old.width }
         requires high { block.top + block.rows ≤ self.old.height }
@@ -258,9 +258,9 @@ impl Framebuffer {
         Ok(())
     }
 
-    /// The rectangles' places get the colours that the places (dx, dy) before them had before the call, all at once. Each of
-    /// the rectangles has places, all of them in the picture, and so has the rectangle (dx, dy) before it. Refused for want of
-    /// memory alone.
+    /// Gives the places of `pieces` the colours that the places `offset` before them had before the call, all at once. Each of
+    /// the rectangles has places, all of them in the picture, and so has the rectangle `offset` before it. Fails only for want
+    /// of memory, and then changes nothing.
     pub fn move_colours(&mut self, pieces: &[Rect], offset: (i32, i32)) -> Result<(), AllocError>
         requires inside { All (IsOnScreen self.old.width self.old.height) pieces.now }
         requires sources { All (λ r. IsOnScreen self.old.width self.old.height (source_rect offset r)) pieces.now }
@@ -276,7 +276,7 @@ impl Framebuffer {
         }
     }
 
-    /// The same for one rectangle of whole rows that moves straight up or down.
+    /// Does the same as `move_colours` for one rectangle of whole rows that moves straight up or down.
     fn scroll(&mut self, piece: Rect, offset: (i32, i32)) -> Result<(), AllocError>
         requires inside { IsOnScreen self.old.width self.old.height piece }
         requires source { IsOnScreen self.old.width self.old.height (source_rect offset piece) }
@@ -293,8 +293,9 @@ impl Framebuffer {
         self.copy_rows(from, to.top, to.rows)
     }
 
-    /// So many rows from one on get the colours of as many others, in rows that both share: no colour is copied. The rows that
-    /// were there are let go: retired, they would keep the picture from taking back those of them that it has in other places.
+    /// Gives the `count` rows from `to` on the colours of as many rows from `from` on, in rows that both share, without copying
+    /// any colour. Lets the rows go that were there: retired, they would keep the picture from taking back those of them that
+    /// it has in other places.
     fn copy_rows(&mut self, from: usize, to: usize, count: usize) -> Result<(), AllocError>
         requires from { from + count ≤ self.old.height }
         requires to { to + count ≤ self.old.height }
@@ -307,8 +308,8 @@ impl Framebuffer {
         Ok(())
     }
 
-    /// The same for rectangles in an order for copies by (dx, dy), in the rows that are there; those that a snapshot holds are
-    /// copied first.
+    /// Does the same as `move_colours` for rectangles in an order for copies by `offset`, in the rows that are there. Copies
+    /// those that a snapshot holds first.
     fn move_in_rows(&mut self, pieces: &[Rect], offset: (i32, i32)) -> Result<(), AllocError>
         requires inside { All (IsOnScreen self.old.width self.old.height) pieces.now }
         requires sources { All (λ r. IsOnScreen self.old.width self.old.height (source_rect offset r)) pieces.now }
@@ -334,7 +335,7 @@ impl Framebuffer {
 }
 
 impl Snapshot {
-    /// How many columns the block has.
+    /// Returns the block's width in columns.
     pub fn width(&self) -> usize
         ensures value { result ≡ self.now.width }
         ensures part { IsPart self.now }
@@ -342,7 +343,7 @@ impl Snapshot {
         self.columns
     }
 
-    /// How many rows the block has.
+    /// Returns the block's height in rows.
     pub fn height(&self) -> usize
         ensures value { result ≡ self.now.height }
         ensures part { IsPart self.now }
@@ -350,7 +351,7 @@ impl Snapshot {
         self.rows.len()
     }
 
-    /// The colours of a row.
+    /// Returns the colours of row `y` of the block.
     pub fn row(&self, y: usize) -> &[u32]
         requires { y < self.now.height }
         ensures { result.now ≡ take self.now.width (drop (y * self.now.width) self.now.colours) }
@@ -358,7 +359,7 @@ impl Snapshot {
         &colours_of(&self.rows[y])[self.left..self.left + self.columns]
     }
 
-    /// The colours of each row, from the top: none is copied.
+    /// Returns the colours of each row, from the top, without copying any.
     pub fn lines(&self) -> Result<Vec<&[u32]>, AllocError>
         ensures flat { IfOk result (λ lines. flat_map (λ line. line.now) lines.items ≡ self.now.colours) }
         ensures count { IfOk result (λ lines. length lines.items ≡ self.now.height) }
@@ -367,7 +368,7 @@ impl Snapshot {
         parts(self.alloc, &self.rows, self.left, self.columns)
     }
 
-    /// The colours, row by row, in one list.
+    /// Copies the colours into one list, row by row.
     pub fn colours(&self) -> Result<Vec<u32>, AllocError>
         ensures { IfOk result (λ colours. colours.items ≡ self.now.colours) }
     {

@@ -15,7 +15,8 @@ use crate::rows::{Row, colours_of, copy_in_row, own_rows};
 use region::{Rect, Region};
 use std::alloc::{AllocError, Global};
 
-/// The same places as rectangles in an order for copies by (dx, dy), in which no rectangle is a place of a later one's source.
+/// Returns the places of `pieces` as rectangles in an order for copies by `offset`, in which no rectangle has a place of a
+/// later one's source.
 pub fn in_copy_order(
     alloc: Global,
     pieces: &[Rect],
@@ -33,7 +34,7 @@ pub fn in_copy_order(
     Ok(rects.into_vec())
 }
 
-/// The rectangle, if it is the only one, has whole rows and moves straight up or down.
+/// Returns the rectangle of `pieces`, if it is the only one, has whole rows and moves straight up or down.
 pub fn whole_rows(pieces: &[Rect], offset: (i32, i32), width: u32) -> Option<Rect>
     requires { width ≤ longest_side }
     ensures only { IfSome result (λ r. pieces.now ≡ r ∷ []) }
@@ -47,7 +48,7 @@ pub fn whole_rows(pieces: &[Rect], offset: (i32, i32), width: u32) -> Option<Rec
     }
 }
 
-/// The row that a rectangle's first row is moved from.
+/// Returns the row from which the first row of `piece` moves.
 pub fn first_source(piece: Rect, offset: (i32, i32), height: u32) -> usize
     requires rows { height ≤ longest_side }
     requires inside { IsOnScreen longest_side height piece }
@@ -57,7 +58,7 @@ pub fn first_source(piece: Rect, offset: (i32, i32), height: u32) -> usize
     (piece.y1 - offset.1) as usize
 }
 
-/// The picture holds the rows of a rectangle alone from now on, with their colours as they are.
+/// Makes the rows of `piece` the picture's own, with their colours as they are.
 fn own_piece(
     alloc: Global,
     rows: &mut [Row],
@@ -73,7 +74,7 @@ fn own_piece(
     own_rows(alloc, rows, retired, piece.y1 as usize, piece.y2 as usize)
 }
 
-/// The same for the rows of rectangles.
+/// Does the same as `own_piece` for each of `pieces`.
 pub fn own_pieces(
     alloc: Global,
     rows: &mut [Row],
@@ -98,7 +99,7 @@ struct Place {
     row: usize,
 }
 
-/// The place in column x of row y.
+/// Returns the place in column `x` of row `y`.
 fn place_at(x: i32, y: i32) -> Place
     requires left { pos 0 ≤ℤ x }
     requires top { pos 0 ≤ℤ y }
@@ -110,8 +111,8 @@ fn place_at(x: i32, y: i32) -> Place
     }
 }
 
-/// So many places of a row, from one on, get the colours of as many from another on, by way of a buffer. What the buffer holds
-/// doesn't matter.
+/// Copies the colours of `count` places of a row, from `from` on, to as many places from `to` on, by way of `buffer`. What the
+/// buffer holds doesn't matter.
 fn copy_places(
     rows: &mut [Row],
     width: usize,
@@ -140,7 +141,7 @@ fn copy_places(
     copy_in_row(&mut rows[to.row], to.column, part);
 }
 
-/// A rectangle's places in row y get the colours of the places (dx, dy) before them.
+/// Gives the places of `piece` in row `y` the colours of the places `offset` before them.
 fn move_row(
     rows: &mut [Row],
     width: u32,
@@ -172,7 +173,7 @@ fn move_row(
     copy_places(rows, width as usize, from, to, columns, buffer);
 }
 
-/// The row that comes after n others: from the bottom, or from the top.
+/// Returns the row that comes after `n` others: from the bottom if `down`, else from the top.
 fn row_after(n: u32, height: u32, down: bool) -> u32
     requires { n < height }
     ensures value { result ≡ row_number down height n }
@@ -183,7 +184,8 @@ fn row_after(n: u32, height: u32, down: bool) -> u32
     if down { height - 1 - n } else { n }
 }
 
-/// How many rows come before a rectangle's, and how many with them: from the bottom, or from the top.
+/// Returns how many rows come before those of `piece`, and how many up to the last of its own: from the bottom if `down`, else
+/// from the top.
 fn rows_of(piece: Rect, height: u32, down: bool) -> (u32, u32)
     requires top { pos 0 ≤ℤ piece.y1 }
     requires some { piece.y1 <ℤ piece.y2 }
@@ -204,7 +206,7 @@ fn rows_of(piece: Rect, height: u32, down: bool) -> (u32, u32)
     }
 }
 
-/// A rectangle's places get the colours that the places (dx, dy) before them had before the call, all at once.
+/// Gives the places of `piece` the colours that the places `offset` before them had before the call, all at once.
 fn move_piece(
     rows: &mut [Row],
     width: u32,
@@ -235,10 +237,10 @@ fn move_piece(
     }
 }
 
-/// The rectangles' places get the colours that the places (dx, dy) before them had before the call, all at once. The rectangles
-/// stand in an order for copies by (dx, dy), and the picture holds their rows alone. Each has places, all of them on the screen,
-/// and so has the rectangle (dx, dy) before it. The buffer has as many places as the screen has columns; what it holds doesn't
-/// matter.
+/// Gives the places of `pieces` the colours that the places `offset` before them had before the call, all at once. The
+/// rectangles stand in an order for copies by `offset`, and their rows are the picture's own. Each has places, all of them on
+/// the screen, and so has the rectangle `offset` before it. `buffer` has as many places as the screen has columns; what it
+/// holds doesn't matter.
 pub fn move_pieces(
     rows: &mut [Row],
     width: u32,

@@ -19,7 +19,7 @@ pub enum Row {
     Shared(Arc<Vec<u32>>),
 }
 
-/// The colours of a row.
+/// Returns the colours of `row`.
 pub fn colours_of(row: &Row) -> &[u32]
     ensures { result.now ≡ row_colours row.now }
 {
@@ -29,7 +29,7 @@ pub fn colours_of(row: &Row) -> &[u32]
     }
 }
 
-/// Whether the picture holds a row alone.
+/// Says whether `row` is the picture's own, and not one that a snapshot may share.
 pub fn is_own_row(row: &Row) -> bool
     ensures { result ≡ is_own row.now }
 {
@@ -39,7 +39,7 @@ pub fn is_own_row(row: &Row) -> bool
     }
 }
 
-/// The places of a retired row that nobody else holds. One that a snapshot holds still is let go.
+/// Returns the places of a retired row, if nobody else holds them. Lets a row go that a snapshot still holds.
 fn released(row: Row) -> Option<Vec<u32>> {
     match row {
         Row::Own(places) => Some(places),
@@ -50,8 +50,8 @@ fn released(row: Row) -> Option<Vec<u32>> {
     }
 }
 
-/// The places of a retired row, whatever they hold, if there are as many as asked and nobody else holds them. None is retired in
-/// its place then.
+/// Returns the places of a retired row, whatever they hold, if there are `count` of them and nobody else holds them. Leaves a
+/// row without places in its stead, in any case.
 fn reclaimed(alloc: Global, retired: &mut Row, count: usize) -> Option<Vec<u32>>
     ensures { IfSome result (λ places. length places.items ≡ count) }
 {
@@ -61,7 +61,7 @@ fn reclaimed(alloc: Global, retired: &mut Row, count: usize) -> Option<Vec<u32>>
     }
 }
 
-/// A copy of colours in fresh memory.
+/// Copies `colours` to fresh memory.
 fn fresh_copy(alloc: Global, colours: &[u32]) -> Result<Vec<u32>, AllocError>
     ensures { IfOk result (λ places. places.items ≡ colours.now) }
 {
@@ -70,7 +70,7 @@ fn fresh_copy(alloc: Global, colours: &[u32]) -> Result<Vec<u32>, AllocError>
     Ok(places)
 }
 
-/// A copy of colours, in the memory of a retired row where that can be had.
+/// Copies `colours`, to the memory of the retired row if that can be had.
 fn copied_row(alloc: Global, retired: &mut Row, colours: &[u32]) -> Result<Vec<u32>, AllocError>
     ensures { IfOk result (λ places. places.items ≡ colours.now) }
 {
@@ -83,8 +83,8 @@ fn copied_row(alloc: Global, retired: &mut Row, colours: &[u32]) -> Result<Vec<u
     }
 }
 
-/// The colours of a row that snapshots may hold, for the picture alone. They are copied only where a snapshot holds them still,
-/// and then the row that it holds is retired, in the place of the one that was.
+/// Returns the colours of a row that snapshots may hold, for the picture alone. Copies them only if a snapshot still holds
+/// them, and then retires the row that it holds, in place of the one that was retired before.
 fn taken_back(
     alloc: Global,
     retired: &mut Row,
@@ -105,7 +105,7 @@ fn taken_back(
     }
 }
 
-/// The picture holds the row alone from now on, with its colours as they are.
+/// Makes `row` the picture's own, with its colours as they are.
 fn make_own(alloc: Global, row: &mut Row, retired: &mut Row) -> Result<(), AllocError>
     ensures same { row_colours row.new ≡ row_colours row.old }
     ensures stays { is_own row.old ≡ true → is_own row.new ≡ true }
@@ -132,7 +132,7 @@ fn make_own(alloc: Global, row: &mut Row, retired: &mut Row) -> Result<(), Alloc
     }
 }
 
-/// The picture holds a row alone again, with its colours as they are, where no snapshot holds it any more. No colour is copied.
+/// Makes `row` the picture's own again, with its colours as they are, if no snapshot holds it any more. Copies no colour.
 fn take_back(alloc: Global, row: &mut Row)
     ensures { row_colours row.new ≡ row_colours row.old }
 {
@@ -145,7 +145,7 @@ fn take_back(alloc: Global, row: &mut Row)
     };
 }
 
-/// The picture holds alone again those of the rows from one to below another that no snapshot holds any more. No colour is copied.
+/// Makes those of the rows `from..to` that no snapshot holds any more the picture's own again. Copies no colour.
 pub fn take_back_rows(alloc: Global, rows: &mut [Row], from: usize, to: usize)
     requires { to ≤ length rows.old }
     ensures { map row_colours rows.new ≡ map row_colours rows.old }
@@ -155,7 +155,7 @@ pub fn take_back_rows(alloc: Global, rows: &mut [Row], from: usize, to: usize)
     }
 }
 
-/// The row once more, shared with the picture; no colour is copied.
+/// Returns the row once more, shared with the picture. Copies no colour.
 fn share(alloc: Global, row: &mut Row) -> Result<Row, AllocError>
     ensures same { row_colours row.new ≡ row_colours row.old }
     ensures shared { IfOk result (λ shared. row_colours shared ≡ row_colours row.old) }
@@ -180,7 +180,7 @@ fn share(alloc: Global, row: &mut Row) -> Result<Row, AllocError>
     }
 }
 
-/// Replaces the colours of a part of a row; their top bytes are cleared.
+/// Replaces the colours of `places`, a part of a row, by `colours`, and clears their top bytes.
 fn write_places(places: &mut [u32], colours: &[u32])
     requires { length places.old ≡ length colours.now }
     ensures { (k : ℕ) → k < length colours.now → slice_index places.new k ≡ slice_index colours.now k % 2 ^ 24 }
@@ -190,7 +190,7 @@ fn write_places(places: &mut [u32], colours: &[u32])
     }
 }
 
-/// Replaces the colours of a row from a column on; their top bytes are cleared.
+/// Replaces the colours of `row` from column `left` on by `colours`, and clears their top bytes.
 fn write_in_row(row: &mut Row, left: usize, colours: &[u32])
     requires own { is_own row.old ≡ true }
     requires fits { left + length colours.now ≤ length (row_colours row.old) }
@@ -203,7 +203,7 @@ fn write_in_row(row: &mut Row, left: usize, colours: &[u32])
     }
 }
 
-/// Replaces the colours of a row from a column on by others as they are.
+/// Replaces the colours of `row` from column `left` on by `colours` as they are.
 pub fn copy_in_row(row: &mut Row, left: usize, colours: &[u32])
     requires own { is_own row.old ≡ true }
     requires fits { left + length colours.now ≤ length (row_colours row.old) }
@@ -217,7 +217,7 @@ pub fn copy_in_row(row: &mut Row, left: usize, colours: &[u32])
     }
 }
 
-/// The picture holds the rows from one to below another alone from now on, with their colours as they are.
+/// Makes the rows `from..to` the picture's own, with their colours as they are.
 pub fn own_rows(
     alloc: Global,
     rows: &mut [Row],
@@ -237,7 +237,7 @@ pub fn own_rows(
     Ok(())
 }
 
-/// Replaces the colours of a block of rows that the picture holds alone; their top bytes are cleared.
+/// Replaces the colours of `block`, whose rows are the picture's own, by `colours`, and clears their top bytes.
 pub fn write_rows(rows: &mut [Row], width: usize, block: Block, colours: &[u32])
     requires wide { block.left + block.columns ≤ width }
     requires high { block.top + block.rows ≤ length rows.old }
@@ -259,7 +259,7 @@ pub fn write_rows(rows: &mut [Row], width: usize, block: Block, colours: &[u32])
     }
 }
 
-/// The rows from one on, as many as asked, shared with the picture; no colour is copied.
+/// Returns `count` rows from `from` on, shared with the picture. Copies no colour.
 pub fn share_rows(
     alloc: Global,
     rows: &mut [Row],
@@ -277,7 +277,7 @@ pub fn share_rows(
     Ok(shared)
 }
 
-/// The colours of so many columns of rows, from a column on, row by row.
+/// Copies the colours of `columns` columns of `rows`, from column `left` on, into one list, row by row.
 pub fn gather(
     alloc: Global,
     rows: &[Row],
@@ -295,7 +295,7 @@ pub fn gather(
     Ok(colours)
 }
 
-/// The same colours, each row as it stands: none is copied.
+/// Returns the same colours as `gather`, each row as it stands, without copying any.
 pub fn parts(
     alloc: Global,
     rows: &[Row],
@@ -314,7 +314,7 @@ pub fn parts(
     Ok(parts)
 }
 
-/// A row of 0.
+/// Makes a row of `width` places that are 0.
 fn blank_row(alloc: Global, width: usize) -> Result<Row, AllocError>
     ensures { IfOk result (λ row. row_colours row ≡ replicate width 0) }
 {
@@ -322,7 +322,7 @@ fn blank_row(alloc: Global, width: usize) -> Result<Row, AllocError>
     Ok(Row::Own(places))
 }
 
-/// Rows of 0, as many as asked.
+/// Makes `height` rows of `width` places that are 0.
 pub fn blank_rows(alloc: Global, width: usize, height: usize) -> Result<Vec<Row>, AllocError>
     ensures count { IfOk result (λ rows. length rows.items ≡ height) }
     ensures wide { IfOk result (λ rows. All (IsOfWidth width) rows.items) }
@@ -335,7 +335,7 @@ pub fn blank_rows(alloc: Global, width: usize, height: usize) -> Result<Vec<Row>
     Ok(rows)
 }
 
-/// Clears the top bytes of colours.
+/// Clears the top byte of each colour.
 fn clear_top_bytes(places: &mut [u32])
     ensures { (k : ℕ) → k < length places.old → slice_index places.new k ≡ slice_index places.old k % 2 ^ 24 }
 {
@@ -344,7 +344,7 @@ fn clear_top_bytes(places: &mut [u32])
     }
 }
 
-/// A row of these colours, whose top bytes are cleared, in fresh memory.
+/// Makes a row of `colours` in fresh memory, and clears their top bytes.
 fn fresh_row(alloc: Global, colours: &[u32]) -> Result<Row, AllocError>
     ensures own { IfOk result (λ row. is_own row ≡ true) }
     ensures colours { IfOk result (λ row. row_colours row ≡ map (λ c. c % 2 ^ 24) colours.now) }
@@ -354,7 +354,7 @@ fn fresh_row(alloc: Global, colours: &[u32]) -> Result<Row, AllocError>
     Ok(Row::Own(places))
 }
 
-/// A row of these colours, whose top bytes are cleared. It is in the memory of a retired row where that can be had, since the
+/// Makes a row of `colours`, and clears their top bytes. Takes the memory of the retired row if that can be had, since the
 /// system would have to find fresh memory page by page.
 fn row_with(alloc: Global, retired: &mut Row, colours: &[u32]) -> Result<Row, AllocError>
     ensures own { IfOk result (λ row. is_own row ≡ true) }
@@ -369,8 +369,8 @@ fn row_with(alloc: Global, retired: &mut Row, colours: &[u32]) -> Result<Row, Al
     }
 }
 
-/// Rows of so many places each, as many as asked, of these colours; their top bytes are cleared. Each is in the memory of a
-/// retired row where that can be had.
+/// Makes `height` rows of `width` places each of `colours`, and clears their top bytes. Takes the memory of a retired row for
+/// each, if that can be had.
 pub fn rows_with(
     alloc: Global,
     retired: &mut [Row],
@@ -392,7 +392,7 @@ pub fn rows_with(
     Ok(rows)
 }
 
-/// Room for as many retired rows as asked. A retired row that there is none of yet has no places.
+/// Makes room for `count` retired rows: appends rows without places until there are as many.
 pub fn make_room(alloc: Global, retired: &mut Vec<Row>, count: usize) -> Result<(), AllocError>
     ensures { IfOk result (λ _. count ≤ length retired.new.items) }
 {
@@ -402,7 +402,7 @@ pub fn make_room(alloc: Global, retired: &mut Vec<Row>, count: usize) -> Result<
     Ok(())
 }
 
-/// Puts rows in the place of as many others, from one on.
+/// Puts `others` in place of as many rows, from row `top` on.
 pub fn put_rows(rows: &mut [Row], top: usize, mut others: Vec<Row>)
     requires { top + length others.items ≤ length rows.old }
     ensures { rows.new ≡ take top rows.old ++ (others.items ++ drop (top + length others.items) rows.old) }
@@ -411,7 +411,7 @@ pub fn put_rows(rows: &mut [Row], top: usize, mut others: Vec<Row>)
     rows[top..end].swap_with_slice(&mut others);
 }
 
-/// The same, and the rows that were there retire, in the place of as many that were retired before.
+/// Does the same as `put_rows`, and retires the rows that were there, in place of as many that were retired before.
 pub fn exchange_rows(rows: &mut [Row], retired: &mut [Row], top: usize, mut others: Vec<Row>)
     requires fits { top + length others.items ≤ length rows.old }
     requires room { top + length others.items ≤ length retired.old }

@@ -33,7 +33,7 @@ fn smaller(a: i64, b: i64) -> i64
     a.min(b)
 }
 
-/// The span of these numbers, or an empty one.
+/// Returns the span of the numbers from `start` to below `end`, or an empty one if there are none.
 fn span_of(start: i64, end: i64) -> Span
     requires low { pos 0 ≤ℤ start }
     requires high { end ≤ℤ pos longest_side }
@@ -51,7 +51,7 @@ fn span_of(start: i64, end: i64) -> Span
     }
 }
 
-/// Of the numbers from `from` to below `to`, those that are from 0 to below `limit`, and so when they are `by` less.
+/// Returns those of the numbers from `from` to below `to` that are from 0 to below `limit`, and are so when they are `by` less.
 fn kept_span(from: i32, to: i32, by: i32, limit: u32) -> Span
     requires { limit ≤ longest_side }
     ensures same { (x : ℤ) → between result.from x result.to ≡
@@ -68,7 +68,7 @@ fn kept_span(from: i32, to: i32, by: i32, limit: u32) -> Span
     span_of(start, end)
 }
 
-/// Of a rectangle's places, those that are on the screen with the places (dx, dy) before them.
+/// Returns those places of `rect` that are on the screen with the places (`dx`, `dy`) before them.
 fn destination(rect: Rect, dx: i32, dy: i32, width: u32, height: u32) -> Rect
     requires width { width ≤ longest_side }
     requires height { height ≤ longest_side }
@@ -87,7 +87,7 @@ fn destination(rect: Rect, dx: i32, dy: i32, width: u32, height: u32) -> Rect
     }
 }
 
-/// The rectangle with its corners in order.
+/// Returns `rect` with its corners in order.
 fn straight(rect: Rect) -> Rect
     ensures { result ≡ straight rect }
 {
@@ -107,7 +107,7 @@ fn has_places(rect: &Rect) -> bool
     x1 < x2 && y1 < y2
 }
 
-/// Appends a rectangle if it has places.
+/// Appends `piece` if it has places.
 fn push_piece(pieces: &mut Vec<Rect>, piece: Rect) -> Result<(), AllocError>
     ensures { OnOk result (pieces.new.items ≡
         pieces.old.items ++ one_if (int_lt piece.x1 piece.x2 && int_lt piece.y1 piece.y2) piece) }
@@ -118,8 +118,8 @@ fn push_piece(pieces: &mut Vec<Rect>, piece: Rect) -> Result<(), AllocError>
     Ok(())
 }
 
-/// Of the places of rectangles, whose corners may stand in the wrong order, those that are on the screen with the places
-/// (dx, dy) before them, as rectangles that each have places. Corners and offsets are any `i32`, in places.
+/// Returns those places of `rects`, whose corners may stand in the wrong order, that are on the screen with the places (`dx`,
+/// `dy`) before them, as rectangles that each have places. Corners and offsets are any `i32`, in places.
 pub fn destinations(
     alloc: Global,
     rects: &[Rect],

@@ -1,5 +1,5 @@
 -- What contracts see of what a viewer holds down (RFC 6143, 7.5.4 and 7.5.5).
-use Rattle.std.specs.Prelude.{◌≡◌, ℕ, Bool, true, false, ◌==◌, if◌then◌else◌, List, [], ◌∷◌, ◌++◌, length, drop, Option, Some, None}
+use Rattle.std.specs.Prelude.{◌≡◌, ℕ, Bool, true, false, ◌==◌, if◌then◌else◌, List, [], ◌∷◌, ◌++◌, length, drop, slice_index, Option, Some, None}
 use Rattle.std.specs.Option.{option_map_or}
 use Rattle.std.specs.List.{list_any, position, remove}
 use Rattle.messages.specs.declared.Input.{Input}
@@ -23,6 +23,10 @@ is_among key keys = list_any (λ k. k == key) keys
 -- of 512 keys the earliest is forgotten where another may go down
 abbrev pub latest : List ℕ → List ℕ
 latest keys = if length keys == 512 then drop 1 keys else keys
+
+-- the release of that one
+abbrev pub room_release : List ℕ → Option Input
+room_release keys = if length keys == 512 then Some (input.Key false (slice_index keys 0)) else None
 
 -- another key may go down
 abbrev pub roomy : Held → Held

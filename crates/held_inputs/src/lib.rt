@@ -10,14 +10,14 @@
 
 ghost use Rattle.std.specs.Prelude.{◌≡◌, ◌==◌, None};
 ghost use Rattle.std.specs.List.{position};
-ghost use Rattle.held_inputs.specs.Held.{change_of, changed, is_among, let_go, lifted, missing, nothing, owed, owed_buttons, pressed, roomy, HoldsNoMore};
+ghost use Rattle.held_inputs.specs.Held.{change_of, changed, is_among, let_go, lifted, missing, nothing, owed, owed_buttons, pressed, room_release, roomy, HoldsNoMore};
 
 use arrayvec::ArrayVec;
 use messages::Input;
 use std::marker::Model;
 
-/// How many keys are known as down, at most. Where one more goes down, the earliest is forgotten. No more can go down by the inputs of
-/// 4,096 bytes.
+/// How many keys are known as down, at most. So that one more can go down, the earliest is let go (`HeldInputs::let_earliest_go`). No more
+/// can go down by the inputs of 4,096 bytes.
 pub const KEYS: usize = 512;
 
 /// What an input changes in what its viewer holds.
@@ -121,13 +121,23 @@ impl HeldInputs {
         }
     }
 
+    /// Forgets the earliest key where no other could go down, and returns its release.
+    pub fn let_earliest_go(&mut self) -> Option<Input>
+        ensures held { self.new ≡ roomy self.old }
+        ensures release { result ≡ room_release self.old.keys }
+    {
+        if !self.keys.is_full() {
+            return None;
+        }
+        let key = self.keys.remove(0);
+        Some(Input::Key { down: false, key })
+    }
+
     /// Forgets the earliest key where no other could go down.
     pub fn make_room(&mut self)
         ensures { self.new ≡ roomy self.old }
     {
-        if self.keys.is_full() {
-            self.keys.remove(0);
-        }
+        let _release = self.let_earliest_go();
     }
 
     /// Takes in what an input changes.

@@ -27,7 +27,7 @@ impl<T> Model for KeptList<T> {
 }
 
 impl<T> KeptList<T> {
-    /// A list that is kept, of nothing yet. This takes no memory.
+    /// Makes a list that is kept, of nothing yet. Takes no memory.
     pub fn new(alloc: Global) -> Self
         ensures { result.items ≡ Some [] }
     {
@@ -37,21 +37,21 @@ impl<T> KeptList<T> {
         }
     }
 
-    /// A list that isn't kept. This takes no memory.
+    /// Makes a list that isn't kept. Takes no memory.
     pub fn none(alloc: Global) -> Self
         ensures { result.items ≡ None }
     {
         KeptList { alloc, items: None }
     }
 
-    /// Whether it is kept.
+    /// Says whether the list is kept.
     pub fn is_kept(&self) -> bool
         ensures { result ≡ is_some self.now.items }
     {
         self.items.is_some()
     }
 
-    /// All of it, where it is kept.
+    /// Returns all of the list; `None` if it isn't kept.
     pub fn as_slice(&self) -> Option<&[T]>
         ensures { option_map (λ items. items.now) result ≡ self.now.items }
     {
@@ -61,7 +61,7 @@ impl<T> KeptList<T> {
         }
     }
 
-    /// Makes room for so many more, where it is kept.
+    /// Makes room for `more` elements, if the list is kept. `AllocError` if the room is refused. The elements stay the same.
     pub fn reserve(&mut self, more: usize) -> Result<(), AllocError>
         ensures same { self.new.items ≡ self.old.items }
         ensures room { OnOk result (HasRoom more self.new) }
@@ -72,7 +72,7 @@ impl<T> KeptList<T> {
         }
     }
 
-    /// A copy of what an element holds, as a list of bytes; nothing where the list isn't kept.
+    /// Copies `parts`, what an element holds, as a list of its own; returns an empty list if this one isn't kept.
     pub fn copy_of<U: Copy>(&self, parts: &[U]) -> Result<Listed<U>, AllocError>
         ensures { is_some self.now.items ≡ true → IfOk result (λ copy. copy ≡ parts.now) }
     {
@@ -83,7 +83,7 @@ impl<T> KeptList<T> {
         }
     }
 
-    /// All of it; nothing where it isn't kept. This takes no memory.
+    /// Returns all of the list; an empty one if it isn't kept. Takes no memory.
     pub fn into_listed(self) -> Listed<T>
         ensures { result ≡ unwrap_or self.items [] }
     {
@@ -93,14 +93,14 @@ impl<T> KeptList<T> {
         }
     }
 
-    /// The allocator that it was made with.
+    /// Returns the allocator that the list was made with.
     pub fn allocator(&self) -> Global {
         self.alloc
     }
 }
 
 impl<T: Drop> KeptList<T> {
-    /// One more, in room that was made; it is dropped where the list isn't kept.
+    /// Appends `item`, in room that was made; drops it if the list isn't kept.
     pub fn push(&mut self, item: T)
         requires room { HasRoom 1 self.old }
         ensures { self.new.items ≡ option_map (λ items. items ++ item ∷ []) self.old.items }
@@ -111,7 +111,7 @@ impl<T: Drop> KeptList<T> {
     }
 }
 
-/// Elements behind a vector's, in room that was made.
+/// Appends copies of `more` to a vector, in room that was made.
 fn append_reserved<T: Copy>(items: &mut Vec<T>, more: &[T])
     requires room { vec_len items.old + length more.now ≤ vec_capacity items.old }
     ensures { items.new.items ≡ items.old.items ++ more.now }
@@ -122,7 +122,7 @@ fn append_reserved<T: Copy>(items: &mut Vec<T>, more: &[T])
 }
 
 impl<T: Copy> KeptList<T> {
-    /// More of it, in room that was made; nothing where the list isn't kept.
+    /// Appends copies of `more`, in room that was made; does nothing if the list isn't kept.
     pub fn append(&mut self, more: &[T])
         requires room { HasRoom (length more.now) self.old }
         ensures { self.new.items ≡ option_map (λ items. items ++ more.now) self.old.items }

@@ -8,7 +8,7 @@ ghost use Rattle.pixel_translate.specs.Bytes.{Gives, bytes_by};
 use crate::{BitsPerPixel, PixelFormat};
 use std::alloc::AllocError;
 
-/// The byte of a pixel, in a format of 8 bits.
+/// Returns the byte of `pixel` in a format of 8 bits.
 pub fn bytes_8(format: &PixelFormat, pixel: u32) -> [u8; 1]
     requires { bits_of format.now ≡ BitsPerPixel.Eight }
     ensures { result ≡ pixel_bytes format.now pixel }
@@ -17,7 +17,7 @@ pub fn bytes_8(format: &PixelFormat, pixel: u32) -> [u8; 1]
     [b0]
 }
 
-/// The bytes of a pixel, in a format of 16 bits.
+/// Returns the bytes of `pixel` in a format of 16 bits, in the format's order.
 pub fn bytes_16(format: &PixelFormat, pixel: u32) -> [u8; 2]
     requires { bits_of format.now ≡ BitsPerPixel.Sixteen }
     ensures { result ≡ pixel_bytes format.now pixel }
@@ -30,7 +30,7 @@ pub fn bytes_16(format: &PixelFormat, pixel: u32) -> [u8; 2]
     }
 }
 
-/// The bytes of a pixel, in a format of 32 bits.
+/// Returns the bytes of `pixel` in a format of 32 bits, in the format's order.
 pub fn bytes_32(format: &PixelFormat, pixel: u32) -> [u8; 4]
     requires { bits_of format.now ≡ BitsPerPixel.ThirtyTwo }
     ensures { result ≡ pixel_bytes format.now pixel }
@@ -42,7 +42,7 @@ pub fn bytes_32(format: &PixelFormat, pixel: u32) -> [u8; 4]
     }
 }
 
-/// Appends the bytes of a pixel: 1, 2 or 4 of them (RFC 6143, 7.4).
+/// Appends the bytes of `pixel`: 1, 2 or 4 of them (RFC 6143, 7.4).
 pub fn put_bytes(out: &mut Vec<u8>, format: &PixelFormat, pixel: u32) -> Result<(), AllocError>
     ensures ok { OnOk result (out.new.items ≡ out.old.items ++ pixel_bytes format.now pixel) }
     ensures err { OnErr result (out.new.items ≡ out.old.items) }
@@ -92,7 +92,7 @@ fn write_16_big<F: Fn(u32) -> u32>(places: &mut [u8], values: &[u32], pixel_of: 
     }
 }
 
-/// Writes the pixel of each value in a format of 16 bits. The order of bytes is looked at once for all of them.
+/// Writes the pixel of each value in a format of 16 bits. Looks at the order of bytes once for all of them.
 fn write_16<F: Fn(u32) -> u32>(places: &mut [u8], values: &[u32], format: &PixelFormat, pixel_of: F)
     requires callable { F.IsAlwaysCallable pixel_of }
     requires bits { bits_of format.now ≡ BitsPerPixel.Sixteen }
@@ -130,7 +130,7 @@ fn write_32_big<F: Fn(u32) -> u32>(places: &mut [u8], values: &[u32], pixel_of: 
     }
 }
 
-/// Writes the pixel of each value in a format of 32 bits. The order of bytes is looked at once for all of them.
+/// Writes the pixel of each value in a format of 32 bits. Looks at the order of bytes once for all of them.
 fn write_32<F: Fn(u32) -> u32>(places: &mut [u8], values: &[u32], format: &PixelFormat, pixel_of: F)
     requires callable { F.IsAlwaysCallable pixel_of }
     requires bits { bits_of format.now ≡ BitsPerPixel.ThirtyTwo }
@@ -144,7 +144,7 @@ fn write_32<F: Fn(u32) -> u32>(places: &mut [u8], values: &[u32], format: &Pixel
     }
 }
 
-/// Writes the pixel that `pixel_of` gives for each value, in places of just their size.
+/// Writes the pixel that `pixel_of` gives for each value of `values` into `places`, which have just their size.
 pub fn write_pixels<F: Fn(u32) -> u32>(
     places: &mut [u8],
     values: &[u32],

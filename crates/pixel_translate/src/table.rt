@@ -26,7 +26,7 @@ impl Model for Table {
     ghost invariant = { λ t. IsTableOf t.format t.red t.green t.blue };
 }
 
-/// What each value of a component gives.
+/// Returns what each value gives in the component `at`.
 fn scaled(bits: BitsPerPixel, at: Component) -> [u32; 256]
     ensures { (k : ℕ) → k < 256 → slice_index result k ≡ component bits at k }
 {
@@ -38,7 +38,7 @@ fn scaled(bits: BitsPerPixel, at: Component) -> [u32; 256]
 }
 
 impl Table {
-    /// The translations of a format.
+    /// Makes the table of `format`.
     pub fn new(format: &PixelFormat) -> Table
         ensures { result ≡ format.now }
     {
@@ -50,14 +50,14 @@ impl Table {
         }
     }
 
-    /// The format.
+    /// Returns the format of the table.
     pub fn format(&self) -> PixelFormat
         ensures { result ≡ self.now }
     {
         self.format
     }
 
-    /// The pixel of a colour `0x00RRGGBB`.
+    /// Returns the pixel of `colour`, which is `0x00RRGGBB`.
     #[tactic(auto, using(crate::specs::Bounds::pixel_below))]
     pub fn translate(&self, colour: u32) -> u32
         ensures pixel { result ≡ pixel self.now colour }

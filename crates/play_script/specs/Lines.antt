@@ -58,7 +58,7 @@ config_of ws = do
   Some (record { width = width; height = height; name = name; rects_per_update = limit; history = NotKept })
 
 -- X Y W H: the rectangle (X, Y, X+W, Y+H), and how many places it has, at most 2 ^ 24
-abbrev pub places_by : ℕ → ℕ → ℕ → ℕ → Option Places
+abbrev pub places_by : (x y width height : ℕ) → Option Places
 places_by x y w h =
     if nat_le (x + w) number_limit && nat_le (y + h) number_limit && nat_le (w * h) (2 ^ 24)
     then Some (record { rect = record { x1 = pos x; y1 = pos y; x2 = pos (x + w); y2 = pos (y + h) }; count = w * h })

@@ -35,7 +35,7 @@ pub(crate) enum Form {
     Linked(Box<LinkedBands>),
 }
 
-/// The rectangles of two regions that have no linked spans.
+/// Returns the rectangles of two regions that have no linked spans.
 pub(crate) fn plain_pair(first: &Form, second: &Form) -> Option<(Option<Rect>, Option<Rect>)>
     ensures { IfSome result (λ p. (first.now ≡ Plain p.0) × (second.now ≡ Plain p.1)) }
 {
@@ -48,7 +48,7 @@ pub(crate) fn plain_pair(first: &Form, second: &Form) -> Option<(Option<Rect>, O
     }
 }
 
-/// What is kept of the places of two regions, where neither has linked spans and the result is known to need none.
+/// Returns what `keep` keeps of the places of two regions, if neither has linked spans and the result is known to need none.
 pub(crate) fn kept_plain(first: &Form, second: &Form, keep: Keep) -> Option<Form>
     requires first { IsForm first.now }
     requires second { IsForm second.now }
@@ -62,7 +62,7 @@ pub(crate) fn kept_plain(first: &Form, second: &Form, keep: Keep) -> Option<Form
 }
 
 impl LinkedBands {
-    // Leaves what is kept of the bands and of a reader's, and no room.
+    // Leaves what `keep` keeps of the bands and of those of `other`, and no room.
     fn keep(&mut self, other: &mut Reader, keep: Keep) -> Result<(), AllocError>
         requires first { AreBandsWithRoom self.old.bands self.old.room }
         requires second { AreBands other.old.bands }
@@ -78,7 +78,7 @@ impl LinkedBands {
         Ok(())
     }
 
-    // The same, in the room that was made for it.
+    // Does the same as `keep`, in the room that was made for it.
     fn keep_in_room(&mut self, other: &mut Reader, keep: Keep)
         requires first { AreBandsWithRoom self.old.bands self.old.room }
         requires second { AreBands other.old.bands }
@@ -93,7 +93,7 @@ impl LinkedBands {
         self.room = 0;
     }
 
-    // The same bands.
+    // Copies the bands.
     fn clone_bands(&self, alloc: Global) -> Result<BandList, AllocError>
         requires { AreBandsWithRoom self.now.bands self.now.room }
         ensures bands { IfOk result (λ copy. copy.above ++ copy.below ≡ self.now.bands.above ++ self.now.bands.below) }
@@ -107,7 +107,7 @@ impl LinkedBands {
     }
 }
 
-// Bands with room for a result.
+// Makes a form of `bands` with `room` nodes of room for a result.
 fn linked(alloc: Global, bands: BandList, room: usize) -> Result<Form, AllocError>
     requires { AreBandsWithRoom bands room }
     ensures bands { IfOk result (λ form. bands_in form ≡ bands.above ++ bands.below) }
@@ -118,7 +118,7 @@ fn linked(alloc: Global, bands: BandList, room: usize) -> Result<Form, AllocErro
 }
 
 impl Form {
-    /// The places of a rectangle, which may have none.
+    /// Makes a form of the places of `rect`, which may have none.
     pub fn of_rect(rect: Rect) -> Form
         ensures places { (x y : ℤ) → covers (rects_in (bands_in result)) x y ≡ in_rect rect x y }
         ensures form { IsForm result }
@@ -130,7 +130,7 @@ impl Form {
         }
     }
 
-    /// The places of bands: in place where they are one rectangle.
+    /// Makes a form of the places of `bands`: in place if they are one rectangle.
     pub fn of_bands(alloc: Global, bands: BandList) -> Result<Form, AllocError>
         requires bands { AreBands (bands.above ++ bands.below) }
         requires row { bands.row ≡ [] }
@@ -143,7 +143,7 @@ impl Form {
         }
     }
 
-    /// The same places.
+    /// Makes a form of the same places.
     pub fn try_clone(&self, alloc: Global) -> Result<Form, AllocError>
         requires { IsForm self.now }
         ensures bands { IfOk result (λ form. bands_in form ≡ bands_in self.now) }
@@ -155,7 +155,7 @@ impl Form {
         }
     }
 
-    /// Reads the bands from the top.
+    /// Returns a reader of the bands, from the top.
     pub fn reader(&self) -> Reader<'_>
         ensures { result ≡ reading (bands_in self.now) }
     {
@@ -166,7 +166,7 @@ impl Form {
         }
     }
 
-    /// The room that was made for a result.
+    /// Returns how many nodes the room holds that was made for a result.
     pub fn room(&self) -> usize
         ensures { result ≡ room_in self.now }
     {
@@ -176,7 +176,7 @@ impl Form {
         }
     }
 
-    /// Makes room for a result of so many nodes, in linked spans. After an `AllocError` the room is as it was.
+    /// Makes room for a result of `room` nodes, in linked spans. After an `AllocError` the room is as it was.
     pub fn reserve(&mut self, alloc: Global, room: usize) -> Result<(), AllocError>
         requires { IsForm self.old }
         ensures bands { bands_in self.new ≡ bands_in self.old }
@@ -198,7 +198,7 @@ impl Form {
         Ok(())
     }
 
-    /// Leaves what is kept of the places and of a reader's, in the room that was made for it.
+    /// Leaves what `keep` keeps of the places and of those of `other`, in the room that was made for it.
     pub fn keep_in_room(&mut self, other: &mut Reader, keep: Keep)
         requires form { IsForm self.old }
         requires second { AreBands other.old.bands }
@@ -214,7 +214,7 @@ impl Form {
         }
     }
 
-    /// Leaves what is kept of the places and of a reader's, in linked spans. After an `AllocError` all is as it was.
+    /// Leaves what `keep` keeps of the places and of those of `other`, in linked spans. After an `AllocError` all is as it was.
     pub fn keep_in_place(
         &mut self,
         alloc: Global,
@@ -239,7 +239,7 @@ impl Form {
         }
     }
 
-    /// Moves each place by (dx, dy), which leads no rectangle out of the range.
+    /// Moves each place by (`dx`, `dy`), which leads no rectangle out of the range.
     pub fn offset(&mut self, dx: i32, dy: i32)
         requires form { IsForm self.old }
         requires stays { leaves_range dx dy (rects_in (bands_in self.old)) ≡ false }
@@ -256,7 +256,7 @@ impl Form {
         }
     }
 
-    /// Gives the first rectangle in an order, and takes its places out.
+    /// Takes out the places of the first rectangle in the order of `reverse_x` and `reverse_y`, and returns that rectangle.
     pub fn pop(&mut self, reverse_x: bool, reverse_y: bool) -> Option<Rect>
         requires { IsForm self.old }
         ensures none { (result ≡ None) ↔ (rects_in (bands_in self.old) ≡ []) }

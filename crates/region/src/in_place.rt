@@ -14,7 +14,7 @@ use region_rows::Keep;
 use region_sets::{count_room, keep_bands, move_gap};
 use std::alloc::{AllocError, Global};
 
-// The band of a rectangle, which has places.
+// Makes the band of `rect`, which has places.
 fn band_of_rect(alloc: Global, rect: Rect) -> Result<BandList, AllocError>
     ensures { IfOk result (λ bands. bands ≡ record nothing { above = band_of rect ∷ []; spare = bands.spare }) }
 {
@@ -25,7 +25,7 @@ fn band_of_rect(alloc: Global, rect: Rect) -> Result<BandList, AllocError>
     Ok(bands)
 }
 
-/// The band of a rectangle, or none, in linked spans.
+/// Makes the band of `rect`, or none, in linked spans.
 pub(crate) fn bands_of_plain(alloc: Global, rect: Option<Rect>) -> Result<BandList, AllocError>
     ensures { IfOk result (λ bands. bands ≡ record nothing { above = plain_bands rect; spare = bands.spare }) }
 {
@@ -35,7 +35,7 @@ pub(crate) fn bands_of_plain(alloc: Global, rect: Option<Rect>) -> Result<BandLi
     }
 }
 
-/// Makes the bands of the places that are kept of two lists of bands, in room that is there.
+/// Makes the bands of the places that `keep` keeps of the bands and of those of `other`, in room that is there.
 pub(crate) fn put_kept(bands: &mut BandList, other: &mut Reader, keep: Keep)
     requires first { AreBands (bands.old.above ++ bands.old.below) }
     requires second { AreBands other.old.bands }
@@ -52,7 +52,7 @@ pub(crate) fn put_kept(bands: &mut BandList, other: &mut Reader, keep: Keep)
     keep_bands(bands, other, keep);
 }
 
-// Moves the gap to where `keep_bands` may begin, and makes room for it. No band changes, also where the room is refused.
+// Moves the gap to where `keep_bands` may begin, and makes room for it. Changes no band, even if the room is refused.
 fn make_room(bands: &mut BandList, other: &Reader, keep: Keep) -> Result<(), AllocError>
     requires first { AreBands (bands.old.above ++ bands.old.below) }
     requires second { AreBands other.now.bands }
@@ -69,8 +69,8 @@ fn make_room(bands: &mut BandList, other: &Reader, keep: Keep) -> Result<(), All
     bands.reserve(room)
 }
 
-/// Leaves what is kept of the bands and of a reader's, in the room that is there and in more that is made first. After an
-/// `AllocError` the bands are as they were, but for more room.
+/// Leaves what `keep` keeps of the bands and of those of `other`, in the room that is there and in more that it makes first.
+/// After an `AllocError` the bands are as they were, but for more room.
 pub(crate) fn keep_where_they_stand(
     bands: &mut BandList,
     other: &mut Reader,
@@ -90,7 +90,7 @@ pub(crate) fn keep_where_they_stand(
     Ok(())
 }
 
-/// The same bands in no more room than they take.
+/// Copies `bands` into no more room than they take.
 pub(crate) fn packed(alloc: Global, bands: &BandList) -> Result<BandList, AllocError>
     requires { AreBands (bands.now.above ++ bands.now.below) }
     ensures bands { IfOk result (λ copy. copy.above ++ copy.below ≡ bands.now.above ++ bands.now.below) }

@@ -24,7 +24,7 @@ fn rect_of(rows: Rows, columns: Interval) -> Rect
     }
 }
 
-/// The same rectangle, as regions have it.
+/// Returns the same rectangle, as regions have it.
 pub(crate) fn rect_of_bounds(found: Option<Rectangle>) -> Option<Rect>
     ensures { result ≡ option_map rect_in found }
 {
@@ -32,7 +32,7 @@ pub(crate) fn rect_of_bounds(found: Option<Rectangle>) -> Option<Rect>
     Some(rect_of(bounds.rows, bounds.columns))
 }
 
-// Puts a rectangle for each interval that is left of the reader's first band, which has these rows, behind the others.
+// Appends a rectangle for each interval that is left of the reader's first band, which has the rows `rows`.
 fn push_band(out: &mut Vec<Rect>, bands: &mut Reader, rows: Rows) -> Result<(), AllocError>
     ensures rects { OnOk result (out.new.items ≡ out.old.items ++ map (rect_of rows) bands.old.left) }
     ensures read { OnOk result (bands.new ≡ record bands.old { left = [] }) }
@@ -44,7 +44,7 @@ fn push_band(out: &mut Vec<Rect>, bands: &mut Reader, rows: Rows) -> Result<(), 
     Ok(())
 }
 
-/// Turns the list around where `reverse`.
+/// Reverses the list if `reverse`.
 pub(crate) fn reverse_if(rects: &mut [Rect], reverse: bool)
     ensures { rects.new ≡ reversed_if reverse rects.old }
 {
@@ -53,7 +53,7 @@ pub(crate) fn reverse_if(rects: &mut [Rect], reverse: bool)
     }
 }
 
-// Turns what stands from an index on around where `reverse`.
+// Reverses the list from the index `start` on if `reverse`.
 fn reverse_from(rects: &mut [Rect], start: usize, reverse: bool)
     requires { start ≤ length rects.old }
     ensures { rects.new ≡ take start rects.old ++ reversed_if reverse (drop start rects.old) }
@@ -61,7 +61,7 @@ fn reverse_from(rects: &mut [Rect], start: usize, reverse: bool)
     reverse_if(&mut rects[start..], reverse);
 }
 
-// The same as `push_band`, from the right where `reverse_x`.
+// Does the same as `push_band`, from the right if `reverse_x`.
 fn push_line(
     out: &mut Vec<Rect>,
     bands: &mut Reader,
@@ -77,8 +77,8 @@ fn push_line(
     Ok(())
 }
 
-/// Puts the rectangles of all bands that are to be read behind the others, band by band from the top, each from the left, or
-/// from the right where `reverse_x`.
+/// Appends the rectangles of all bands that are to be read, band by band from the top, each from the left, or from the right if
+/// `reverse_x`.
 pub(crate) fn push_rects(
     out: &mut Vec<Rect>,
     bands: &mut Reader,
@@ -94,8 +94,8 @@ pub(crate) fn push_rects(
     Ok(())
 }
 
-/// Puts the rectangles of the bands that are to be read behind the others, band by band from the top, each from the left,
-/// until the list has `most` rectangles or more.
+/// Appends the rectangles of the bands that are to be read, band by band from the top, each from the left, until the list has
+/// `most` rectangles or more.
 pub(crate) fn push_first(
     out: &mut Vec<Rect>,
     bands: &mut Reader,
@@ -114,7 +114,7 @@ pub(crate) fn push_first(
     Ok(())
 }
 
-/// The only rectangle of the bands that are to be read; None where there is none, or more than one.
+/// Returns the only rectangle of the bands that are to be read; `None` if there is none, or more than one.
 pub(crate) fn only_rect(bands: &mut Reader) -> Option<Rect>
     requires bands { AreBands bands.old.bands }
     requires left { bands.old.left ≡ first_row bands.old.bands }

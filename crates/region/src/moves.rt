@@ -12,7 +12,7 @@ use region_bands::{Interval, Reader, Rows};
 /// The largest coordinate; the smallest is its negative.
 const LIMIT: i64 = 1 << 20;
 
-/// So many columns to the right and rows down.
+/// A move by `dx` columns to the right and `dy` rows down.
 #[derive(Clone, Copy)]
 pub(crate) struct Offset {
     pub dx: i32,
@@ -31,14 +31,14 @@ fn is_corner(x: i32, y: i32) -> bool
     is_coordinate(i64::from(x)) && is_coordinate(i64::from(y))
 }
 
-/// Whether each coordinate is from -2^20 to 2^20.
+/// Says whether each coordinate of `rect` is from -2^20 to 2^20.
 pub(crate) fn is_in_range(rect: Rect) -> bool
     ensures { result ≡ in_range rect }
 {
     is_corner(rect.x1, rect.y1) && is_corner(rect.x2, rect.y2)
 }
 
-/// Whether a coordinate of some rectangle is not from -2^20 to 2^20.
+/// Says whether a coordinate of some rectangle is not from -2^20 to 2^20.
 pub(crate) fn are_out_of_range(rects: &[Rect]) -> bool
     ensures { result ≡ list_any (λ r. not (in_range r)) rects.now }
 {
@@ -51,14 +51,14 @@ fn is_coordinate_moved(x: i32, by: i32) -> bool
     is_coordinate(i64::from(x) + i64::from(by))
 }
 
-// Whether both ends are coordinates, moved.
+// Says whether both ends are coordinates, moved by `by`.
 fn stay(from: i32, to: i32, by: i32) -> bool
     ensures { result ≡ (coordinate (from +ℤ by) && coordinate (to +ℤ by)) }
 {
     is_coordinate_moved(from, by) && is_coordinate_moved(to, by)
 }
 
-// Whether all sides of a rectangle are coordinates, moved.
+// Says whether all sides of a rectangle are coordinates, moved by `by`.
 fn sides_stay(rows: Rows, columns: Interval, by: Offset) -> bool
     ensures { result ≡ ((coordinate (rows.top +ℤ by.dy) && coordinate (rows.bottom +ℤ by.dy)) &&
         (coordinate (columns.from +ℤ by.dx) && coordinate (columns.to +ℤ by.dx))) }
@@ -72,7 +72,7 @@ fn leaves_range(rows: Rows, columns: Interval, by: Offset) -> bool
     !sides_stay(rows, columns, by)
 }
 
-// A rectangle, moved by an offset that leads it nowhere out of the range.
+// Returns `rect` moved by (`dx`, `dy`), which leads it nowhere out of the range.
 pub(crate) fn moved(rect: Rect, dx: i32, dy: i32) -> Rect
     requires { in_range (moved_rect dx dy rect) ≡ true }
     ensures { result ≡ moved_rect dx dy rect }
@@ -85,7 +85,8 @@ pub(crate) fn moved(rect: Rect, dx: i32, dy: i32) -> Rect
     }
 }
 
-// Whether a rectangle of what is left of the reader's first band, which has these rows, leaves the range.
+// Says whether a rectangle of what is left of the reader's first band, which has the rows `rows`, leaves the range, moved by
+// `by`.
 fn row_leaves_range(bands: &mut Reader, rows: Rows, by: Offset) -> bool
     ensures leaves { result ≡ leaves_range by.dx by.dy (map (rect_of rows) bands.old.left) }
     ensures read { bands.new ≡ record bands.old { left = bands.new.left } }
@@ -99,7 +100,7 @@ fn row_leaves_range(bands: &mut Reader, rows: Rows, by: Offset) -> bool
     false
 }
 
-/// Whether a rectangle of the bands that are to be read has a coordinate that is not from -2^20 to 2^20, moved by an offset.
+/// Says whether a rectangle of the bands that are to be read has a coordinate that is not from -2^20 to 2^20, moved by `by`.
 pub(crate) fn some_leave_range(bands: &mut Reader, by: Offset) -> bool
     requires { bands.old.left ≡ first_row bands.old.bands }
     ensures { result ≡ leaves_range by.dx by.dy (rects_in bands.old.bands) }

@@ -11,14 +11,14 @@ use crate::Rect;
 use crate::stacking::has_places;
 use region_rows::Keep;
 
-// Whether what begins and ends at the last two numbers lies between the first two.
+// Says whether what begins at `from` and ends at `to` lies between `low` and `high`.
 fn spans(low: i32, high: i32, from: i32, to: i32) -> bool
     ensures { result ≡ (int_le low from && int_le to high) }
 {
     low <= from && to <= high
 }
 
-// Whether the second rectangle lies in the first.
+// Says whether `inner` lies in `outer`.
 fn holds(outer: Rect, inner: Rect) -> bool
     ensures { result ≡ lies_in inner outer }
 {
@@ -37,7 +37,7 @@ fn nearer(a: i32, b: i32) -> i32
     if a < b { a } else { b }
 }
 
-// What two rectangles share, which may have no places.
+// Returns the rectangle that two rectangles share, which may have no places.
 fn overlap(first: Rect, second: Rect) -> Rect
     ensures { result ≡ overlap first second }
 {
@@ -49,7 +49,7 @@ fn overlap(first: Rect, second: Rect) -> Rect
     }
 }
 
-// The places of both rectangles.
+// Returns the places of both rectangles.
 fn shared(first: Rect, second: Rect) -> Option<Rect>
     ensures places { (x y : ℤ) → in_plain result x y ≡ (in_rect first x y && in_rect second x y) }
     ensures plain { IsPlain result }
@@ -58,7 +58,7 @@ fn shared(first: Rect, second: Rect) -> Option<Rect>
     if has_places(rect) { Some(rect) } else { None }
 }
 
-// The places of either rectangle, where one holds the other.
+// Returns the places of either rectangle, if one holds the other.
 fn joined(first: Rect, second: Rect) -> Option<Rect>
     requires first { HasPlaces first }
     requires second { HasPlaces second }
@@ -74,7 +74,7 @@ fn joined(first: Rect, second: Rect) -> Option<Rect>
     None
 }
 
-// The first rectangle's places that are not in the second, where these are all or none.
+// Returns the first rectangle's places that are not in the second, if these are all or none.
 fn without(first: Rect, second: Rect) -> Option<Option<Rect>>
     requires { HasPlaces first }
     ensures places { IfSome result (λ r. (x y : ℤ) → in_plain r x y ≡ (in_rect first x y && not (in_rect second x y))) }
@@ -89,7 +89,7 @@ fn without(first: Rect, second: Rect) -> Option<Option<Rect>>
     None
 }
 
-// What is kept of the places of two rectangles, where that is known to be a rectangle, or nothing.
+// Returns what `keep` keeps of the places of two rectangles, if that is known to be a rectangle, or nothing.
 fn kept_of_rects(first: Rect, second: Rect, keep: Keep) -> Option<Option<Rect>>
     requires first { HasPlaces first }
     requires second { HasPlaces second }
@@ -103,7 +103,7 @@ fn kept_of_rects(first: Rect, second: Rect, keep: Keep) -> Option<Option<Rect>>
     }
 }
 
-// What is kept of a rectangle, or of none, beside nothing.
+// Returns what `keep` keeps of a rectangle, or of none, beside nothing.
 fn kept_of_first(first: Option<Rect>, keep: Keep) -> Option<Rect>
     requires { IsPlain first }
     ensures places { (x y : ℤ) → in_plain result x y ≡ keeps_place keep (in_plain first x y) false }
@@ -115,7 +115,7 @@ fn kept_of_first(first: Option<Rect>, keep: Keep) -> Option<Rect>
     }
 }
 
-// What is kept of nothing beside a rectangle, or none.
+// Returns what `keep` keeps of nothing beside a rectangle, or none.
 fn kept_of_second(second: Option<Rect>, keep: Keep) -> Option<Rect>
     requires { IsPlain second }
     ensures places { (x y : ℤ) → in_plain result x y ≡ keeps_place keep false (in_plain second x y) }
@@ -127,7 +127,7 @@ fn kept_of_second(second: Option<Rect>, keep: Keep) -> Option<Rect>
     }
 }
 
-/// What is kept of the places of two rectangles, or of none, where that is known to be a rectangle, or nothing.
+/// Returns what `keep` keeps of the places of two rectangles, or of none, if that is known to be a rectangle, or nothing.
 pub(crate) fn kept_of_plain(
     first: Option<Rect>,
     second: Option<Rect>,
@@ -145,7 +145,7 @@ pub(crate) fn kept_of_plain(
     }
 }
 
-/// Whether two rectangles are there and share a place.
+/// Says whether two rectangles are there and share a place.
 pub(crate) fn have_shared(first: Option<Rect>, second: Option<Rect>) -> bool
     ensures { IsTrue result ↔ PlainsShare first second }
 {

@@ -5,7 +5,7 @@ ghost use Rattle.std.specs.Prelude.{◌≡◌, ◌<◌, ◌↔◌, IsTrue, lengt
 use crate::form::Form;
 use region_bands::Reader;
 
-/// Whether the first reader has fewer bands to read than the second. Both are read as far as it takes to know.
+/// Says whether `first` has fewer bands to read than `second`. Reads both as far as it takes to know.
 pub(crate) fn has_fewer(first: &mut Reader, second: &mut Reader) -> bool
     ensures { IsTrue result ↔ (length first.old.bands < length second.old.bands) }
 {
@@ -21,7 +21,7 @@ pub(crate) fn has_fewer(first: &mut Reader, second: &mut Reader) -> bool
     left.is_some()
 }
 
-// Reads on past so many bands, or past all that are left.
+// Reads on past `most` bands, or past all that are left.
 fn pass(bands: &mut Reader, most: usize) {
     for _ in 0..most {
         if bands.first_rows().is_some() {
@@ -30,8 +30,8 @@ fn pass(bands: &mut Reader, most: usize) {
     }
 }
 
-// Whether the first reader has few bands to read beside the second: no more than 8, or a quarter of them. Both are read as far
-// as it takes to know.
+// Says whether `first` has few bands to read beside `second`: no more than 8, or a quarter of them. Reads both as far as it
+// takes to know.
 fn has_few(first: &mut Reader, second: &mut Reader) -> bool {
     pass(first, 8);
     'bands: while first.first_rows().is_some() {
@@ -44,8 +44,8 @@ fn has_few(first: &mut Reader, second: &mut Reader) -> bool {
     true
 }
 
-/// Whether neither region has few bands beside the other, so that what is kept of both is made sooner anew than in the place of
-/// one. Which regions these are is in no clause: it costs time alone.
+/// Says whether neither region has few bands beside the other, so that it takes less time to make what is kept of both anew
+/// than in the place of one. No clause says which regions these are: it costs time alone.
 pub(crate) fn are_alike(first: &Form, second: &Form) -> bool {
     !has_few(&mut first.reader(), &mut second.reader())
         && !has_few(&mut second.reader(), &mut first.reader())

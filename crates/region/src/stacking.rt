@@ -49,8 +49,8 @@ fn is_beyond(last: Rect, rect: Rect) -> bool
     last.x2 < rect.x1
 }
 
-// Whether a rectangle has the rows of the last one and begins beyond its end. One that begins where that ends would have to
-// be joined with it.
+// Says whether `rect` has the rows of the last rectangle and begins beyond its end. One that begins where that ends would have
+// to be joined with it.
 fn goes_on_row(last: Rect, rect: Rect) -> bool
     ensures { result ≡ ((int_eq last.y1 rect.y1 && int_eq last.y2 rect.y2) && int_lt last.x2 rect.x1) }
 {
@@ -69,7 +69,7 @@ fn is_same(a: i32, b: i32) -> bool
     a == b
 }
 
-// Whether there is a last band above the gap that ends where the rows begin.
+// Says whether there is a last band above the gap that ends where `rows` begin.
 fn touches_last(bands: &BandList, rows: Rows) -> bool
     ensures { result ≡ false → (front : List Band) (last : Band) → bands.now.above ≡ front ++ last ∷ [] → last.bottom ≢ rows.top }
 {
@@ -79,7 +79,7 @@ fn touches_last(bands: &BandList, rows: Rows) -> bool
     }
 }
 
-// Whether the row in the making would have to be joined with the last band above the gap: they touch, and have the same
+// Says whether the row in the making would have to be joined with the last band above the gap: they touch, and have the same
 // intervals.
 fn goes_on_last(bands: &BandList, rows: Rows) -> bool
     ensures { result ≡ false → (front : List Band) (last : Band) → bands.now.above ≡ front ++ last ∷ [] → last.bottom ≡ rows.top →
@@ -88,7 +88,7 @@ fn goes_on_last(bands: &BandList, rows: Rows) -> bool
     touches_last(bands, rows) && bands.row_is_as_last()
 }
 
-// Makes a band of the row in the making; false where it would have to be joined with the band above it.
+// Makes a band of the row in the making; returns false if it would have to be joined with the band above it.
 fn close_row(bands: &mut BandList, rows: Rows) -> bool
     requires some { rows.top <ℤ rows.bottom }
     requires row { IsRow bands.old.row }
@@ -106,7 +106,7 @@ fn close_row(bands: &mut BandList, rows: Rows) -> bool
     true
 }
 
-// Begins a row with a rectangle below the row that ends with the last one; false where it doesn't stand there.
+// Begins a row with `rect` below the row that ends with `last`; returns false if it doesn't stand there.
 fn put_below(bands: &mut BandList, last: Rect, rect: Rect) -> bool
     requires columns { rect.x1 <ℤ rect.x2 }
     requires rows { rect.y1 <ℤ rect.y2 }
@@ -123,7 +123,7 @@ fn put_below(bands: &mut BandList, last: Rect, rect: Rect) -> bool
     true
 }
 
-// Puts a rectangle behind the last one, or below its row; false where it doesn't stand so.
+// Puts `rect` behind the last rectangle, or below its row; returns false if it doesn't stand so.
 fn put_next(bands: &mut BandList, last: Rect, rect: Rect) -> bool
     requires stack { IsStack last bands.old }
     requires room { 3 ≤ bands.old.spare }
@@ -141,7 +141,7 @@ fn put_next(bands: &mut BandList, last: Rect, rect: Rect) -> bool
     put_below(bands, last, rect)
 }
 
-// Puts rectangles into an empty list of bands; false where they don't stand row by row.
+// Puts rectangles into an empty list of bands; returns false if they don't stand row by row.
 fn stack(bands: &mut BandList, first: Rect, rest: &[Rect]) -> bool
     requires empty { bands.old ≡ record nothing { spare = bands.old.spare } }
     requires room { 3 * length rest.now + 3 ≤ bands.old.spare }
@@ -161,7 +161,7 @@ fn stack(bands: &mut BandList, first: Rect, rest: &[Rect]) -> bool
     close_row(bands, rows_of(last))
 }
 
-/// The bands of rectangles that stand row by row, top to bottom and left to right in each row; `None` where they don't stand
+/// Makes the bands of rectangles that stand row by row, top to bottom and left to right in each row; `None` if they don't stand
 /// so.
 pub(crate) fn stacked(alloc: Global, rects: &[Rect]) -> Result<Option<BandList>, AllocError>
     ensures { IfOk result (λ found. IfSome found (λ bands. AreBandsOf rects.now bands)) }

@@ -66,7 +66,7 @@ impl Model for BandList {
 }
 
 impl BandList {
-    /// No bands, an empty row and no room. This takes no memory.
+    /// Makes a list with no bands, an empty row and no room. Takes no memory.
     pub fn new(alloc: Global) -> Self
         ensures { result ≡ nothing }
     {
@@ -78,7 +78,7 @@ impl BandList {
         }
     }
 
-    /// The same bands and row, with the gap at the same place.
+    /// Copies the bands and the row, with the gap at the same place.
     pub fn try_clone(&self) -> Result<Self, AllocError>
         ensures { IfOk result (λ copy. copy ≡ record self.now { spare = copy.spare }) }
     {
@@ -90,8 +90,8 @@ impl BandList {
         })
     }
 
-    /// Whether more than three quarters of the arena are room, so that a copy of it is much larger than the bands. Which
-    /// these are is in no clause, but that there is room.
+    /// Says whether more than three quarters of the arena are room, so that a copy of it is much larger than the bands. No
+    /// clause says which lists these are, but that there is room.
     pub fn is_sparse(&self) -> bool
         ensures { result ≡ true → 0 < self.now.spare }
     {
@@ -101,7 +101,7 @@ impl BandList {
         }
     }
 
-    /// Makes room for so many nodes more. No band and no row changes, also where the room is refused.
+    /// Makes room for `more` nodes more. Changes no band and no row, even if the room is refused.
     pub fn reserve(&mut self, more: usize) -> Result<(), AllocError>
         ensures room { OnOk result (more ≤ self.new.spare) }
         ensures kept { self.old.spare ≤ self.new.spare }
@@ -139,7 +139,7 @@ impl BandList {
         self.left = None;
     }
 
-    /// The rows of the first band below the gap; `None` where there is no band below it.
+    /// Returns the rows of the first band below the gap; `None` if there is no band below it.
     pub fn first_rows(&self) -> Option<Rows>
         ensures { result ≡ option_map rows_of (slice_get self.now.below 0) }
     {
@@ -150,7 +150,7 @@ impl BandList {
         })
     }
 
-    /// The rows of the last band above the gap; `None` where there is no band above it.
+    /// Returns the rows of the last band above the gap; `None` if there is no band above it.
     pub fn last_rows(&self) -> Option<Rows>
         ensures { result ≡ option_map rows_of (last_or None self.now.above) }
     {
@@ -176,7 +176,7 @@ impl BandList {
         self.left = first_under(&self.spans, self.gap);
     }
 
-    /// Puts an interval behind the row in the making.
+    /// Appends `interval` to the row in the making.
     pub fn push_interval(&mut self, interval: Interval)
         requires { 1 ≤ self.old.spare }
         ensures spare { self.old.spare ≤ self.new.spare + 1 }
@@ -193,7 +193,7 @@ impl BandList {
         insert_span(&mut self.spans, lists.row, None, span);
     }
 
-    /// Whether the row in the making has no interval.
+    /// Says whether the row in the making has no interval.
     pub fn row_is_empty(&self) -> bool
         ensures { IsTrue result ↔ (self.now.row ≡ []) }
     {
@@ -203,7 +203,8 @@ impl BandList {
         self.spans.first(lists.row).is_none()
     }
 
-    /// Makes a band of the row in the making, and puts it last above the gap. The row is then empty.
+    /// Makes a band of the row in the making, in the rows `rows`, and puts it last above the gap. Leaves the row in the making
+    /// empty.
     pub fn put_row(&mut self, rows: Rows)
         requires { 2 ≤ self.old.spare }
         ensures spare { self.old.spare ≤ self.new.spare + 2 }
@@ -229,7 +230,7 @@ impl BandList {
         });
     }
 
-    /// Empties the row in the making, and gives the room of its intervals back. This takes no memory.
+    /// Empties the row in the making, and gives the room of its intervals back. Takes no memory.
     pub fn drop_row(&mut self)
         ensures spare { self.old.spare + length self.old.row ≤ self.new.spare }
         ensures row { self.new ≡ record self.old { row = []; spare = self.new.spare } }
@@ -257,7 +258,7 @@ impl BandList {
         self.left = first_under(&self.spans, self.gap);
     }
 
-    /// Gives the last band above the gap another bottom.
+    /// Sets the bottom of the last band above the gap to `bottom`.
     pub fn stretch(&mut self, bottom: i32)
         requires { self.old.above ≢ [] }
         ensures { (front : List Band) (last : Band) → self.old.above ≡ front ++ last ∷ [] →
@@ -274,7 +275,7 @@ impl BandList {
         set_span(&mut self.spans, at, span);
     }
 
-    /// Takes the first band below the gap out, and gives its room and that of its intervals back. This takes no memory.
+    /// Removes the first band below the gap, and gives its room and that of its intervals back. Takes no memory.
     pub fn remove_first(&mut self)
         requires { self.old.below ≢ [] }
         ensures { (first : Band) (rest : List Band) → self.old.below ≡ first ∷ rest →
@@ -292,7 +293,7 @@ impl BandList {
         self.left = first_under(&self.spans, self.gap);
     }
 
-    /// The first interval that is left to read of the first band below the gap; `None` where none is left.
+    /// Returns the first interval that is left to read of the first band below the gap; `None` if none is left.
     pub fn first_left(&self) -> Option<Interval>
         ensures { result ≡ slice_get self.now.left 0 }
     {
@@ -320,8 +321,8 @@ impl BandList {
         self.left = first_under(&self.spans, self.gap);
     }
 
-    /// Takes the first interval of the first band below the gap out, and gives its room back. What remains is left to read.
-    /// This takes no memory.
+    /// Removes and returns the first interval of the first band below the gap, and gives its room back. What remains is left to
+    /// read. Takes no memory.
     pub fn take_first_interval(&mut self) -> Interval
         requires band { self.old.below ≢ [] }
         requires interval { first_row self.old.below ≢ [] }
@@ -345,8 +346,8 @@ impl BandList {
         }
     }
 
-    /// Takes the last interval of the first band below the gap out, and gives its room back. What remains is left to read.
-    /// This takes no memory.
+    /// Removes and returns the last interval of the first band below the gap, and gives its room back. What remains is left to
+    /// read. Takes no memory.
     pub fn take_last_interval(&mut self) -> Interval
         requires band { self.old.below ≢ [] }
         requires interval { first_row self.old.below ≢ [] }
@@ -370,7 +371,7 @@ impl BandList {
         }
     }
 
-    /// Whether there is a last band above the gap whose intervals are those of the row in the making.
+    /// Says whether there is a last band above the gap whose intervals are those of the row in the making.
     pub fn row_is_as_last(&self) -> bool
         ensures { IsTrue result ↔ (option_map row_of (last_or None self.now.above) ≡ Some self.now.row) }
     {
@@ -387,7 +388,7 @@ impl BandList {
         same_intervals(&self.spans, list, lists.row)
     }
 
-    /// Whether the first band below the gap has the intervals of the last band above it; false where either is missing.
+    /// Says whether the first band below the gap has the intervals of the last band above it; false if either is missing.
     pub fn first_is_as_last(&self) -> bool
         ensures yes { result ≡ true → (front : List Band) × (last : Band) × (first : Band) × (rest : List Band) ×
             (self.now.above ≡ front ++ last ∷ []) × (self.now.below ≡ first ∷ rest) × (last.row ≡ first.row) }
@@ -414,7 +415,7 @@ impl BandList {
         same_intervals(&self.spans, one, other)
     }
 
-    /// Frees all bands and the row in the making, and gives their room back. This takes no memory.
+    /// Frees all bands and the row in the making, and gives their room back. Takes no memory.
     pub fn clear(&mut self)
         ensures spare { self.old.spare + nodes_in self.old.above + nodes_in self.old.below + length self.old.row ≤ self.new.spare }
         ensures cleared { self.new ≡ record nothing { spare = self.new.spare } }
@@ -426,21 +427,21 @@ impl BandList {
         self.drop_row();
     }
 
-    /// Reads the bands below the gap, with their intervals.
+    /// Returns a reader of the bands below the gap, with their intervals.
     pub fn reader_below(&self) -> Reader<'_>
         ensures { result ≡ reading self.now.below }
     {
         Reader::of_spans(self.spans_below())
     }
 
-    /// Reads all bands from the top, with their intervals.
+    /// Returns a reader of all bands from the top, with their intervals.
     pub fn reader(&self) -> Reader<'_>
         ensures { result ≡ reading (self.now.above ++ self.now.below) }
     {
         Reader::of_spans(self.all_spans())
     }
 
-    // The bands below the gap, where they stand.
+    // Returns a reader of the bands below the gap, where they stand.
     fn spans_below(&self) -> SpanReader<'_>
         ensures { result ≡ reading self.now.below }
     {
@@ -453,7 +454,7 @@ impl BandList {
         }
     }
 
-    // All bands, where they stand.
+    // Returns a reader of all bands, where they stand.
     fn all_spans(&self) -> SpanReader<'_>
         ensures { result ≡ reading (self.now.above ++ self.now.below) }
     {
@@ -475,7 +476,7 @@ impl BandList {
 #[derive(Drop)]
 pub(crate) struct SpanReader<'a> {
     spans: &'a Spans,
-    // Whose bands are read, which only contracts ask.
+    // The lists whose bands are read; only contracts ask for them.
     lists: Option<Lists>,
     gap: Option<SpanId>,
     left: Option<SpanId>,
@@ -494,7 +495,7 @@ impl<'a> Model for SpanReader<'a> {
 }
 
 impl<'a> SpanReader<'a> {
-    /// The rows of the first band that is still to read; `None` where there is none.
+    /// Returns the rows of the first band that is still to read; `None` if there is none.
     pub fn first_rows(&self) -> Option<Rows>
         ensures { result ≡ option_map rows_of (slice_get self.now.bands 0) }
     {
@@ -515,7 +516,7 @@ impl<'a> SpanReader<'a> {
         self.left = first_under(self.spans, self.gap);
     }
 
-    /// A second reader, at the same place.
+    /// Makes a second reader, at the same place.
     pub fn again(&self) -> SpanReader<'a>
         ensures { result ≡ self.now }
     {
@@ -527,7 +528,7 @@ impl<'a> SpanReader<'a> {
         }
     }
 
-    /// The first interval that is left to read of the first band; `None` where none is left.
+    /// Returns the first interval that is left to read of the first band; `None` if none is left.
     pub fn first_left(&self) -> Option<Interval>
         ensures { result ≡ slice_get self.now.left 0 }
     {

@@ -7,7 +7,7 @@ ghost use Rattle.region_bands.specs.Held.{Placed, Has, Keeps, IsOverList, ids_in
 
 use span_arena::{ListId, Span, SpanId, Spans};
 
-/// A list with no spans, in room that was made.
+/// Makes a list with no spans, in room that was made.
 pub fn new_list(spans: &mut Spans) -> ListId
     requires { 1 ≤ spans.old.spare }
     ensures made { Has spans.new result [] }
@@ -24,7 +24,7 @@ pub fn new_list(spans: &mut Spans) -> ListId
     list
 }
 
-/// Puts a span into a list, in room that was made: before another span, or behind all where there is none.
+/// Puts `span` into `list`, in room that was made: before the span `before`, or behind all if that is `None`.
 pub fn insert_span(spans: &mut Spans, list: ListId, before: Option<SpanId>, span: Span) -> SpanId
     requires room { 1 ≤ spans.old.spare }
     requires placed { (front : List Placed) × (back : List Placed) × Has spans.old list (front ++ back) ×
@@ -45,7 +45,7 @@ pub fn insert_span(spans: &mut Spans, list: ListId, before: Option<SpanId>, span
     at
 }
 
-/// Takes a span out of a list.
+/// Removes the span `at` from `list`.
 pub fn take_span(spans: &mut Spans, list: ListId, at: SpanId) -> Span
     requires { (front : List Placed) × (p : Placed) × (back : List Placed) × Has spans.old list (front ++ p ∷ back) × (p.0 ≡ at) }
     ensures span { span_of spans.old at ≡ Some result }
@@ -61,7 +61,7 @@ pub fn take_span(spans: &mut Spans, list: ListId, at: SpanId) -> Span
     span
 }
 
-/// Makes another span of the one with an id.
+/// Replaces the span with the id `at` by `span`.
 pub fn set_span(spans: &mut Spans, at: SpanId, span: Span)
     requires { IsSome (span_of spans.old at) }
     ensures set { (list : ℕ) (front : List Placed) (p : Placed) (back : List Placed) → Has spans.old list (front ++ p ∷ back) →
@@ -76,7 +76,7 @@ pub fn set_span(spans: &mut Spans, at: SpanId, span: Span)
     spans.lists_are_sound();
 }
 
-/// Frees a list and its spans.
+/// Frees `list` and its spans.
 pub fn free(spans: &mut Spans, list: ListId)
     requires { IsSome (list_of spans.old list) }
     ensures others { Keeps spans.old spans.new list }
@@ -88,7 +88,7 @@ pub fn free(spans: &mut Spans, list: ListId)
     spans.lists_are_sound();
 }
 
-/// The first span of the list below a span; `None` where there is none.
+/// Returns the first span of the list below the span `at`; `None` if there is none.
 pub fn first_under(spans: &Spans, at: Option<SpanId>) -> Option<SpanId>
     requires { IfSome at (IsOverList spans.now) }
     ensures { result ≡ first_under_lem spans.now at }
@@ -97,7 +97,7 @@ pub fn first_under(spans: &Spans, at: Option<SpanId>) -> Option<SpanId>
     spans.first(span.sub?)
 }
 
-/// The last span of a list before another one, or its last where there is no other.
+/// Returns the last span of `list` before the span `before`, or the list's last if that is `None`.
 pub fn last_before(spans: &Spans, list: ListId, before: Option<SpanId>) -> Option<SpanId>
     requires list { IsSome (list_of spans.now list) }
     requires before { IfSome before (λ at. IsSome (span_of spans.now at)) }
@@ -110,7 +110,7 @@ pub fn last_before(spans: &Spans, list: ListId, before: Option<SpanId>) -> Optio
     }
 }
 
-/// Whether two lists have the same spans, but for the lists below them.
+/// Says whether two lists have the same spans, but for the lists below them.
 pub fn same_intervals(spans: &Spans, one: ListId, other: ListId) -> bool
     requires one { IsSome (list_of spans.now one) }
     requires other { IsSome (list_of spans.now other) }

@@ -16,7 +16,7 @@ struct LoneBand {
     left: Option<Interval>,
 }
 
-/// What is read.
+/// What a reader reads.
 #[derive(Drop)]
 enum Source<'a> {
     Spans(SpanReader<'a>),
@@ -57,7 +57,7 @@ impl LoneBand {
 }
 
 impl<'a> Reader<'a> {
-    // Reads bands where they stand.
+    // Makes a reader of bands where they stand.
     pub(crate) fn of_spans(spans: SpanReader<'a>) -> Reader<'a>
         ensures { result ≡ spans.entry }
     {
@@ -66,7 +66,7 @@ impl<'a> Reader<'a> {
         }
     }
 
-    /// Reads the band of a rectangle. This takes no memory.
+    /// Makes a reader of the band of a rectangle. Takes no memory.
     pub fn of_rectangle(rows: Rows, columns: Interval) -> Reader<'a>
         ensures { result ≡ reading (band_with rows (columns ∷ []) ∷ []) }
     {
@@ -79,7 +79,7 @@ impl<'a> Reader<'a> {
         }
     }
 
-    /// Reads no band. This takes no memory.
+    /// Makes a reader of no band. Takes no memory.
     pub fn of_nothing() -> Reader<'a>
         ensures { result ≡ reading [] }
     {
@@ -92,7 +92,7 @@ impl<'a> Reader<'a> {
         }
     }
 
-    /// The rows of the first band that is still to read; `None` where there is none.
+    /// Returns the rows of the first band that is still to read; `None` if there is none.
     pub fn first_rows(&self) -> Option<Rows>
         ensures { result ≡ option_map rows_of (slice_get self.now.bands 0) }
     {
@@ -113,7 +113,7 @@ impl<'a> Reader<'a> {
         }
     }
 
-    /// A second reader, at the same place.
+    /// Makes a second reader, at the same place.
     pub fn again(&self) -> Reader<'a>
         ensures { result ≡ self.now }
     {
@@ -124,7 +124,7 @@ impl<'a> Reader<'a> {
         Reader { source }
     }
 
-    /// The first interval that is left to read of the first band; `None` where none is left.
+    /// Returns the first interval that is left to read of the first band; `None` if none is left.
     pub fn first_left(&self) -> Option<Interval>
         ensures { result ≡ slice_get self.now.left 0 }
     {

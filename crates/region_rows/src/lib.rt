@@ -26,7 +26,7 @@ pub enum Keep {
 }
 
 impl Keep {
-    /// Whether a place is kept.
+    /// Says whether a place is kept that is in the first set if `in_first`, and in the second if `in_second`.
     pub fn keeps(self, in_first: bool, in_second: bool) -> bool
         ensures { result ≡ keeps_place self in_first in_second }
     {
@@ -38,7 +38,7 @@ impl Keep {
     }
 }
 
-// Puts the interval that was open behind the row in the making, if one was.
+// Appends `interval` to the row in the making, if `is_open`.
 fn close(bands: &mut BandList, is_open: bool, interval: Interval)
     requires { is_open ≡ true → 1 ≤ bands.old.spare }
     ensures spare { bands.old.spare ≤ bands.new.spare + cond is_open 1 0 }
@@ -49,8 +49,8 @@ fn close(bands: &mut BandList, is_open: bool, interval: Interval)
     }
 }
 
-/// Makes the row in the making: the columns that are kept of what is left of the first band below the gap, and of what is
-/// left of the reader's first band. Both are read to their rows' ends.
+/// Makes the row in the making: the columns that `keep` keeps of what is left of the first band below the gap, and of what is
+/// left of the reader's first band. Reads both to their rows' ends.
 pub fn make_row(bands: &mut BandList, other: &mut Reader, keep: Keep)
     requires empty { bands.old.row ≡ [] }
     requires first_row { IsRow bands.old.left }
@@ -81,7 +81,7 @@ pub fn make_row(bands: &mut BandList, other: &mut Reader, keep: Keep)
     close(bands, is_open, last);
 }
 
-// Puts the interval that was open behind the row in the making, if one was, and makes the room for it.
+// Appends `interval` to the row in the making, if `is_open`, and makes the room for it.
 fn close_anew(bands: &mut BandList, is_open: bool, interval: Interval) -> Result<(), AllocError>
     ensures ok { OnOk result (bands.new ≡
         record bands.old { row = closed is_open interval bands.old.row; spare = bands.new.spare }) }
@@ -94,9 +94,9 @@ fn close_anew(bands: &mut BandList, is_open: bool, interval: Interval) -> Result
     Ok(())
 }
 
-/// Makes the row in the making: the columns that are kept of what is left of the two readers' first bands, which are read to
-/// their rows' ends. The room is made as the row grows; after an `AllocError` nothing is promised
-/// of the bands, which are of no more use.
+/// Makes the row in the making: the columns that `keep` keeps of what is left of the two readers' first bands. Reads these to
+/// their rows' ends, and makes the room as the row grows. Promises nothing of the bands after an `AllocError`: they are of no
+/// more use.
 pub fn merge_row(
     bands: &mut BandList,
     first: &mut Reader,
@@ -130,7 +130,7 @@ pub fn merge_row(
     close_anew(bands, is_open, Interval { from, to: x })
 }
 
-/// How many intervals `make_row` would make of what is left of the two readers' first bands. Both are read to their rows'
+/// Counts the intervals that `make_row` would make of what is left of the two readers' first bands. Reads both to their rows'
 /// ends.
 pub fn count_row(first: &mut Reader, second: &mut Reader, keep: Keep) -> usize
     requires first_row { IsRow first.old.left }
@@ -159,8 +159,8 @@ pub fn count_row(first: &mut Reader, second: &mut Reader, keep: Keep) -> usize
     if is_open { count + 1 } else { count }
 }
 
-/// Whether what is kept of what is left of the first two readers' first bands is the same as of the other two's. The four are
-/// read as far as it takes.
+/// Says whether `keep` keeps the same of what is left of the first bands of `first` and `second` as of those of `third` and
+/// `fourth`. Reads the four as far as it takes.
 pub fn same_kept(
     first: &mut Reader,
     second: &mut Reader,

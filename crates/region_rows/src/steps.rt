@@ -14,7 +14,7 @@ pub(crate) struct Step {
     pub in_second: bool,
 }
 
-/// The lesser of two edges.
+/// Returns the lesser of two edges.
 pub(crate) fn nearer(a: i32, b: i32) -> i32
     ensures { result ≡ nearer a b }
 {
@@ -27,7 +27,7 @@ fn has_begun(interval: Interval, x: i32) -> bool
     interval.from <= x
 }
 
-/// Where the interval begins, or where it ends if it has begun by x.
+/// Returns where `interval` begins, or where it ends if it has begun by `x`.
 fn edge_of(interval: Interval, x: i32) -> i32
     ensures { result ≡ edge_of x interval }
 {
@@ -38,7 +38,7 @@ fn edge_of(interval: Interval, x: i32) -> i32
     }
 }
 
-/// The step from x on, of two rows by their first intervals; `None` where both have ended.
+/// Returns the step from `x` on, of two rows by their first intervals; `None` if both have ended.
 pub(crate) fn next_step(first: Option<Interval>, second: Option<Interval>, x: i32) -> Option<Step>
     ensures { result ≡ next_step x first second }
 {
@@ -62,7 +62,7 @@ pub(crate) fn next_step(first: Option<Interval>, second: Option<Interval>, x: i3
     }
 }
 
-/// Where the first of two rows begins, by their first intervals; 0 where both have ended.
+/// Returns where the first of two rows begins, by their first intervals; 0 if both have ended.
 pub(crate) fn rows_start(first: Option<Interval>, second: Option<Interval>) -> i32
     ensures { result ≡ start_of first second }
 {
@@ -74,7 +74,7 @@ pub(crate) fn rows_start(first: Option<Interval>, second: Option<Interval>) -> i
     }
 }
 
-/// Reads on past the interval, the first that is left, if it ends by the edge, and gives the first that is left then.
+/// Reads on past `first`, the first interval that is left, if it ends by `edge`, and returns the first that is left then.
 pub(crate) fn first_after(
     bands: &mut BandList,
     first: Option<Interval>,
@@ -93,7 +93,7 @@ pub(crate) fn first_after(
     }
 }
 
-/// Reads on past the interval, the first that is left, if it ends by the edge, and gives the first that is left then.
+/// Reads on past `first`, the first interval that is left, if it ends by `edge`, and returns the first that is left then.
 pub(crate) fn first_after_of(
     reader: &mut Reader,
     first: Option<Interval>,
@@ -119,7 +119,7 @@ pub(crate) struct Common {
     pub agrees: bool,
 }
 
-/// The step of two pairs of rows, by each pair's step; `None` where all four have ended.
+/// Returns the step of two pairs of rows, by each pair's step; `None` if all four have ended.
 pub(crate) fn common_step(keep: Keep, one: Option<Step>, other: Option<Step>) -> Option<Common>
     ensures { result ≡ common_step keep one other }
 {

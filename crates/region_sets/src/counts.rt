@@ -22,7 +22,7 @@ fn is_over(keep: Keep, first: Option<Rows>, second: Option<Rows>, y: i32) -> boo
     }
 }
 
-// The strip from y on for which there is to be room; `None` where nothing is left that is made.
+// Returns the strip from `y` on for which there is to be room; `None` if nothing is left that is made.
 fn strip_to_count(keep: Keep, first: Option<Rows>, second: Option<Rows>, y: i32) -> Option<Strip>
     ensures { result ≡ strip_to_count keep y first second }
 {
@@ -33,14 +33,14 @@ fn strip_to_count(keep: Keep, first: Option<Rows>, second: Option<Rows>, y: i32)
     }
 }
 
-// Whether nothing is kept of a strip, which is not in bands of both lists.
+// Says whether nothing is kept of a strip, which is not in bands of both lists.
 fn keeps_nothing(keep: Keep, in_first: bool, in_second: bool) -> bool
     ensures { result ≡ keeps_nothing keep in_first in_second }
 {
     !(in_first && in_second) && !keep.keeps(in_first, in_second)
 }
 
-// How much room is enough for what is kept of a strip of rows.
+// Returns how much room is enough for what `keep` keeps of a strip of rows.
 fn count_strip_room(
     first: &Reader,
     second: &Reader,
@@ -67,8 +67,8 @@ fn count_strip_room(
     count_row(&mut counted_first, &mut counted_second, keep) + 2
 }
 
-/// How much room is enough for `keep_bands` with the bands that both readers still have to read: the first's are those below
-/// the gap. Nothing is read behind the place from which on nothing is made. This takes no memory.
+/// Returns how much room is enough for `keep_bands` with the bands that both readers still have to read: the first's are those
+/// below the gap. Reads nothing behind the place from which on nothing is made. Takes no memory.
 pub fn count_room(first: &mut Reader, second: &mut Reader, keep: Keep) -> usize
     requires first { AreBands first.old.bands }
     requires second { AreBands second.old.bands }

@@ -14,7 +14,7 @@ use crate::queries::Rectangle;
 use region_bands::{BandList, Reader};
 use region_rows::copy_other;
 
-/// Copies the bands that the reader still has to read above the gap, behind those that stand there. All are read.
+/// Copies the bands that the reader still has to read above the gap, behind those that stand there. Reads all of them.
 pub fn copy_bands(to: &mut BandList, from: &mut Reader)
     requires row { to.old.row ≡ [] }
     requires left { from.old.left ≡ first_row from.old.bands }
@@ -30,9 +30,9 @@ pub fn copy_bands(to: &mut BandList, from: &mut Reader)
     }
 }
 
-/// Takes an interval out at an end of the bands, and gives its rectangle: in the topmost band, or in the bottommost where
-/// `reverse_y`, the first from the left, or from the right where `reverse_x`; `None` where there is no band. The gap may move.
-/// This takes no memory.
+/// Removes an interval at an end of the bands, and returns its rectangle: in the topmost band, or in the bottommost if
+/// `reverse_y`, the first from the left, or from the right if `reverse_x`; `None` if there is no band. May move the gap. Takes
+/// no memory.
 pub fn pop(bands: &mut BandList, reverse_x: bool, reverse_y: bool) -> Option<Rectangle>
     requires { AreBands (bands.old.above ++ bands.old.below) }
     ensures none { (result ≡ None) ↔ (bands.old.above ++ bands.old.below ≡ []) }
@@ -51,7 +51,7 @@ pub fn pop(bands: &mut BandList, reverse_x: bool, reverse_y: bool) -> Option<Rec
     }
 }
 
-/// Moves all bands by so many columns and rows. The gap is then below all. This takes no memory.
+/// Moves all bands by `dx` columns and `dy` rows. The gap is then below all. Takes no memory.
 pub fn offset(bands: &mut BandList, dx: i32, dy: i32)
     requires row { bands.old.row ≡ [] }
     requires movable { AllByRecursion (IsMovable dx dy) (bands.old.above ++ bands.old.below) }

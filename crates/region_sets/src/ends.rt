@@ -1,4 +1,4 @@
-//! The topmost band and the bottommost, of which an interval is taken out.
+//! Takes an interval out of the topmost band or the bottommost.
 
 ghost use Rattle.std.specs.Prelude.{◌≡◌, ◌≢◌, ◌≤◌, ◌+◌, ◌++◌, ◌∷◌, [], List, true, false, IfSome, Some, None, ℤ};
 ghost use Rattle.region_bands.specs.Bands.{Band, first_row};
@@ -10,7 +10,7 @@ use crate::queries::Rectangle;
 use crate::seams::join_seam;
 use region_bands::{BandList, Interval};
 
-// Takes an end of the first band below the gap out: its first interval, or its last.
+// Removes an end of the first band below the gap: its first interval, or its last if `reverse_x`.
 fn take_end(bands: &mut BandList, reverse_x: bool) -> Interval
     requires band { bands.old.below ≢ [] }
     requires interval { first_row bands.old.below ≢ [] }
@@ -78,7 +78,7 @@ fn mend_bottom(bands: &mut BandList)
     }
 }
 
-/// Takes an interval of the topmost band out: its first, or its last.
+/// Removes an interval of the topmost band: its first, or its last if `reverse_x`.
 pub(crate) fn pop_top(bands: &mut BandList, reverse_x: bool) -> Option<Rectangle>
     requires { AreBands (bands.old.above ++ bands.old.below) }
     ensures popped { result ≡ end_rectangle reverse_x false (bands.old.above ++ bands.old.below) }
@@ -94,7 +94,7 @@ pub(crate) fn pop_top(bands: &mut BandList, reverse_x: bool) -> Option<Rectangle
     Some(Rectangle { rows, columns })
 }
 
-/// Takes an interval of the bottommost band out: its first, or its last.
+/// Removes an interval of the bottommost band: its first, or its last if `reverse_x`.
 pub(crate) fn pop_bottom(bands: &mut BandList, reverse_x: bool) -> Option<Rectangle>
     requires { AreBands (bands.old.above ++ bands.old.below) }
     ensures popped { result ≡ end_rectangle reverse_x true (bands.old.above ++ bands.old.below) }

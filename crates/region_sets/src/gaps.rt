@@ -1,4 +1,4 @@
-//! The gap is moved to where a change begins.
+//! Moves the gap to where a change begins.
 
 ghost use Rattle.std.specs.Prelude.{◌≡◌, ◌++◌};
 ghost use Rattle.region_bands.specs.Bands.{first_row};
@@ -26,7 +26,7 @@ fn ends_by(rows: Option<Rows>, y: i32) -> bool
     }
 }
 
-// Moves the gap up until the bands above it end at y or above it.
+// Moves the gap up until the bands above it end at `y` or above it.
 fn retreat_to(bands: &mut BandList, y: i32)
     requires { AreBands (bands.old.above ++ bands.old.below) }
     ensures ends { EndBy y bands.new.above }
@@ -37,7 +37,7 @@ fn retreat_to(bands: &mut BandList, y: i32)
     }
 }
 
-// Moves the gap down past the bands that end at y or above it.
+// Moves the gap down past the bands that end at `y` or above it.
 fn advance_to(bands: &mut BandList, y: i32)
     requires { EndBy y bands.old.above }
     ensures ends { EndBy y bands.new.above }
@@ -48,7 +48,7 @@ fn advance_to(bands: &mut BandList, y: i32)
     }
 }
 
-// Moves the gap between the bands that end at y or above it and the others.
+// Moves the gap between the bands that end at `y` or above it and the others.
 fn move_to(bands: &mut BandList, y: i32)
     requires { AreBands (bands.old.above ++ bands.old.below) }
     ensures ends { EndBy y bands.new.above }
@@ -58,8 +58,8 @@ fn move_to(bands: &mut BandList, y: i32)
     advance_to(bands, y);
 }
 
-// Moves the gap before all bands, or where the places of the bands alone are kept, past those that end where the reader's bands
-// begin or above it.
+// Moves the gap before all bands, or, if `keep` keeps the places of the bands alone, past those that end where the reader's
+// bands begin or above it.
 fn move_before(bands: &mut BandList, other: &Reader, keep: Keep)
     requires { AreBands (bands.old.above ++ bands.old.below) }
     ensures gap { IsGap keep bands.new.above other.now.bands }

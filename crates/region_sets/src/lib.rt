@@ -45,7 +45,7 @@ fn is_same(a: i32, b: i32) -> bool
     a == b
 }
 
-// Whether there is a last band above the gap that ends at y.
+// Says whether there is a last band above the gap that ends at `y`.
 fn last_ends_at(bands: &BandList, y: i32) -> bool
     ensures yes { result ≡ true → (front : List Band) × (last : Band) × (bands.now.above ≡ front ++ last ∷ []) × (last.bottom ≡ y) }
     ensures no { result ≡ false → (front : List Band) (last : Band) → bands.now.above ≡ front ++ last ∷ [] → last.bottom ≢ y }
@@ -56,8 +56,8 @@ fn last_ends_at(bands: &BandList, y: i32) -> bool
     }
 }
 
-/// Adds the row in the making to the bands above the gap, in the given rows, which stand below those bands. The row is then
-/// empty. A row that goes on the last band lengthens it, and a row without columns adds nothing.
+/// Adds the row in the making to the bands above the gap, in the rows `rows`, which stand below those bands. Leaves the row in
+/// the making empty. A row that goes on the last band lengthens it, and a row without columns adds nothing.
 pub fn add_row(bands: &mut BandList, rows: Rows)
     requires some { rows.top <ℤ rows.bottom }
     requires row { IsRow bands.old.row }
@@ -81,8 +81,8 @@ pub fn add_row(bands: &mut BandList, rows: Rows)
     }
 }
 
-/// Makes the row in the making: the columns that are kept of a strip of rows, which is in the first band below the gap, in the
-/// reader's first band, in both or in neither. What is left of their rows may be read then.
+/// Makes the row in the making: the columns that `keep` keeps of a strip of rows, which is in the first band below the gap, in
+/// the reader's first band, in both or in neither. What is left of their rows may be read then.
 fn make_strip(bands: &mut BandList, other: &mut Reader, keep: Keep, in_first: bool, in_second: bool)
     requires empty { bands.old.row ≡ [] }
     requires first_row { IsRow bands.old.left }
@@ -107,7 +107,7 @@ fn make_strip(bands: &mut BandList, other: &mut Reader, keep: Keep, in_first: bo
     }
 }
 
-/// Adds what is kept of a strip of rows to the bands above the gap, below which it stands. Both first bands are then to be
+/// Adds what `keep` keeps of a strip of rows to the bands above the gap, below which it stands. Both first bands are then to be
 /// read from their first intervals again.
 fn keep_strip(
     bands: &mut BandList,
@@ -141,7 +141,7 @@ fn keep_strip(
     other.reread();
 }
 
-// Whether the first band below the gap goes on the last band above it: they touch, and have the same intervals.
+// Says whether the first band below the gap goes on the last band above it: they touch, and have the same intervals.
 fn first_goes_on(bands: &BandList) -> bool
     ensures yes { result ≡ true → (front : List Band) × (last : Band) × (first : Band) × (rest : List Band) ×
         (bands.now.above ≡ front ++ last ∷ []) × (bands.now.below ≡ first ∷ rest) × (last.bottom ≡ first.top) ×
@@ -155,8 +155,8 @@ fn first_goes_on(bands: &BandList) -> bool
     }
 }
 
-// Keeps the first band below the gap, which has the given rows, or takes it out, where the reader has nothing of its rows. A
-// band that is kept stays where it is, or lengthens the last band above the gap.
+// Keeps the first band below the gap, which has the rows `rows`, or removes it. The reader has nothing of its rows. A band that
+// is kept stays where it is, or lengthens the last band above the gap.
 fn keep_first(bands: &mut BandList, keep: Keep, rows: Rows)
     requires first { FirstIs rows bands.old.below }
     requires first_left { bands.old.left ≡ first_row bands.old.below }
@@ -192,7 +192,7 @@ fn are_same(a: Rows, b: Rows) -> bool
     a.top == b.top && a.bottom == b.bottom
 }
 
-// Whether the rows of a strip are the whole first band, and nothing of the other list is in them.
+// Says whether the rows of a strip are the whole first band, and nothing of the other list is in them.
 pub(crate) fn is_whole(first: Option<Rows>, rows: Rows, in_first: bool, in_second: bool) -> bool
     ensures { IsTrue result ↔ ((in_first ≡ true) × (in_second ≡ false) × (first ≡ Some rows)) }
 {
@@ -202,8 +202,8 @@ pub(crate) fn is_whole(first: Option<Rows>, rows: Rows, in_first: bool, in_secon
     }
 }
 
-// Keeps what is kept of the rows of a strip, which then stand above the gap. Where they are the whole first band below the
-// gap, and nothing of the reader's first band, that band isn't made again.
+// Adds what `keep` keeps of the rows of a strip to the bands above the gap. If they are the whole first band below the gap, and
+// nothing of the reader's first band, doesn't make that band again.
 fn keep_next(
     bands: &mut BandList,
     other: &mut Reader,
@@ -244,8 +244,8 @@ fn keep_next(
     }
 }
 
-// Whether the first band below the gap would stay where it is: the places of the first alone are kept, and it doesn't go on
-// the last band above the gap.
+// Says whether the first band below the gap would stay where it is: `keep` keeps the places of the first alone, and the band
+// doesn't go on the last band above the gap.
 fn first_stays(bands: &BandList, keep: Keep) -> bool
     ensures kept { result ≡ true → keeps_place keep true false ≡ true }
     ensures apart { result ≡ true → (front : List Band) (last first : Band) (rest : List Band) →
@@ -260,8 +260,8 @@ fn is_by(a: i32, b: i32) -> bool
     a <= b
 }
 
-// Whether the bands below the gap stay as they are from y on: the reader has ended, nothing of the first band is above y, and
-// it stays; or there are none, and nothing is kept of the reader's.
+// Says whether the bands below the gap stay as they are from `y` on: the reader has ended, nothing of the first band is above
+// `y`, and it stays; or there are none, and nothing is kept of the reader's.
 fn rest_stays(bands: &BandList, other: &Reader, keep: Keep, y: i32) -> bool
     ensures { result ≡ true → Rests keep y bands.now.above bands.now.below other.now.bands ⊎ NoneKept keep bands.now.below }
 {
@@ -272,7 +272,7 @@ fn rest_stays(bands: &BandList, other: &Reader, keep: Keep, y: i32) -> bool
     }
 }
 
-// The strip from y on that is to be kept next; `None` where the bands below the gap stay as they are.
+// Returns the strip from `y` on that is to be kept next; `None` if the bands below the gap stay as they are.
 fn strip_to_keep(bands: &BandList, other: &Reader, keep: Keep, y: i32) -> Option<Strip>
     ensures some { (strip : Strip) → result ≡ Some strip →
         strip_below y (first_rows_of bands.now.below) (first_rows_of other.now.bands) ≡ Some strip }
@@ -285,8 +285,8 @@ fn strip_to_keep(bands: &BandList, other: &Reader, keep: Keep, y: i32) -> Option
     }
 }
 
-/// Makes the bands of the places that are kept of the bands and of those that the reader still has to read, from the gap on.
-/// A band that the reader's bands don't reach, and whose places are kept, stays where it is; the gap is then below what
+/// Makes the bands of the places that `keep` keeps of the bands and of those that the reader still has to read, from the gap
+/// on. A band that the reader's bands don't reach, and whose places are kept, stays where it is; the gap is then below what
 /// changed.
 pub fn keep_bands(bands: &mut BandList, other: &mut Reader, keep: Keep)
     requires gap { IsGap keep bands.old.above other.old.bands }
@@ -313,8 +313,8 @@ pub fn keep_bands(bands: &mut BandList, other: &mut Reader, keep: Keep)
     }
 }
 
-// How many nodes a strip's row takes, which is kept of what is left of two readers' first bands, behind that of the strip above
-// it: none if it has no columns, or goes on that one. The readers above are read as far as it takes.
+// Counts the nodes that a strip's row takes, which is kept of what is left of two readers' first bands, behind that of the
+// strip above it: none if it has no columns, or goes on that one. Reads the readers above as far as it takes.
 fn count_strip(
     above_first: &mut Reader,
     above_second: &mut Reader,
@@ -348,8 +348,8 @@ fn count_strip(
     if goes_on { 0 } else { length + 2 }
 }
 
-/// How many nodes the bands take that `keep_bands` would make of the bands that both readers still have to read. This takes no
-/// memory.
+/// Counts the nodes that the bands take that `keep_bands` would make of the bands that both readers still have to read. Takes
+/// no memory.
 pub fn count_kept(first: &mut Reader, second: &mut Reader, keep: Keep) -> usize
     requires first { AreBands first.old.bands }
     requires second { AreBands second.old.bands }

@@ -11,7 +11,7 @@ use region_bands::{BandList, Reader, Rows};
 use region_rows::{Keep, merge_row};
 use std::alloc::AllocError;
 
-// Adds to the bands above the gap, below which the rows stand, what is kept of what is left of the two readers' first bands.
+// Adds to the bands above the gap, below which `rows` stand, what `keep` keeps of what is left of the two readers' first bands.
 fn merge_strip(
     bands: &mut BandList,
     first: &mut Reader,
@@ -40,8 +40,8 @@ fn merge_strip(
     Ok(())
 }
 
-/// Makes the bands of the places that are kept of those that both readers still have to read, in a list that has none. Room is
-/// made as the bands come; after an `AllocError` nothing is promised of the list, which is of no more use.
+/// Makes the bands of the places that `keep` keeps of those that both readers still have to read, in a list that has none.
+/// Makes the room as the bands come. Promises nothing of the list after an `AllocError`: it is of no more use.
 pub fn merge_bands(
     bands: &mut BandList,
     first: &mut Reader,

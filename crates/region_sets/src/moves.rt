@@ -1,4 +1,4 @@
-//! Bands that are moved, one after the other.
+//! Moves bands, one after the other.
 
 ghost use Rattle.std.specs.Prelude.{◌≡◌, ◌≢◌, ◌≤◌, [], map, ◌+ℤ◌, FitsSigned};
 ghost use Rattle.std.specs.Int.{w32};
@@ -25,7 +25,7 @@ fn moved_interval(interval: Interval, dx: i32) -> Interval
     }
 }
 
-/// The rows, so many further down.
+/// Returns `rows` moved down by `dy`.
 pub(crate) fn moved_rows(rows: Rows, dy: i32) -> Rows
     requires { AreMovableRows dy rows }
     ensures { result ≡ moved_rows dy rows }
@@ -36,8 +36,8 @@ pub(crate) fn moved_rows(rows: Rows, dy: i32) -> Rows
     }
 }
 
-/// Makes the row in the making of the intervals of the first band below the gap, so many columns further. They are taken out
-/// of that band, whose room this takes.
+/// Makes the row in the making of the intervals of the first band below the gap, `dx` columns further. Takes them out of that
+/// band, and uses their room.
 pub(crate) fn move_row(bands: &mut BandList, dx: i32)
     requires empty { bands.old.row ≡ [] }
     requires band { bands.old.below ≢ [] }

@@ -28,7 +28,7 @@ fn rows_end_by(rows: Option<Rows>, y: i32) -> bool
     }
 }
 
-// Reads on past the bands that end at y or above it.
+// Reads on past the bands that end at `y` or above it.
 fn pass_above(bands: &mut Reader, y: i32)
     requires { bands.old.left ≡ first_row bands.old.bands }
     ensures { bands.new ≡ reading (below y bands.old.bands) }
@@ -38,7 +38,7 @@ fn pass_above(bands: &mut Reader, y: i32)
     }
 }
 
-/// Whether the place (x, y) is in one of the bands. Nothing is read behind it.
+/// Says whether the place (`x`, `y`) is in one of the bands. Reads nothing behind it.
 pub fn contains(bands: &mut Reader, x: i32, y: i32) -> bool
     requires are_bands { AreBands bands.old.bands }
     requires left { bands.old.left ≡ first_row bands.old.bands }
@@ -61,7 +61,7 @@ fn first_bottom(first: Option<Rows>, second: Option<Rows>) -> Option<i32>
     }
 }
 
-// Whether both are there and share a row.
+// Says whether both are there and share a row.
 fn rows_overlap(first: Option<Rows>, second: Option<Rows>) -> bool
     ensures { result ≡ rows_overlap first second }
 {
@@ -72,7 +72,8 @@ fn rows_overlap(first: Option<Rows>, second: Option<Rows>) -> bool
     }
 }
 
-// Whether both have a first band, and the two share a place. Both bands are then to be read from their first intervals again.
+// Says whether both have a first band, and the two share a place. Both bands are then to be read from their first intervals
+// again.
 fn first_bands_meet(first: &mut Reader, second: &mut Reader) -> bool
     requires first_are_bands { AreBands first.old.bands }
     requires second_are_bands { AreBands second.old.bands }
@@ -89,7 +90,7 @@ fn first_bands_meet(first: &mut Reader, second: &mut Reader) -> bool
     found
 }
 
-/// Whether a place is in the bands of both. Both are read as far as it takes to know.
+/// Says whether a place is in the bands of both. Reads both as far as it takes to know.
 pub fn meets(first: &mut Reader, second: &mut Reader) -> bool
     requires first_are_bands { AreBands first.old.bands }
     requires second_are_bands { AreBands second.old.bands }
@@ -113,7 +114,7 @@ fn farther(a: i32, b: i32) -> i32
     if a < b { b } else { a }
 }
 
-// The least rectangle that holds both.
+// Returns the least rectangle that holds both.
 fn joined(a: Rectangle, b: Rectangle) -> Rectangle
     ensures { result ≡ joined a b }
 {
@@ -129,7 +130,7 @@ fn joined(a: Rectangle, b: Rectangle) -> Rectangle
     }
 }
 
-// The columns from the first that is left of the row to the last. The row is read to its end.
+// Returns the columns from the first that is left of the row to the last. Reads the row to its end.
 fn left_columns(bands: &mut Reader) -> Option<Interval>
     ensures columns { result ≡ columns_of bands.old.left }
     ensures read { bands.new ≡ record bands.old { left = [] } }
@@ -142,7 +143,7 @@ fn left_columns(bands: &mut Reader) -> Option<Interval>
     })
 }
 
-// The least rectangle that holds the first band, which is read past.
+// Returns the least rectangle that holds the first band, and reads on past that band.
 fn first_bounds(bands: &mut Reader) -> Option<Rectangle>
     requires are_bands { AreBands bands.old.bands }
     requires left { bands.old.left ≡ first_row bands.old.bands }
@@ -155,7 +156,7 @@ fn first_bounds(bands: &mut Reader) -> Option<Rectangle>
     Some(Rectangle { rows, columns })
 }
 
-// The least rectangle that holds the bands and the one that is given. All bands are read.
+// Returns the least rectangle that holds the bands and `given`. Reads all bands.
 fn bounds_with(bands: &mut Reader, given: Rectangle) -> Rectangle
     requires are_bands { AreBands bands.old.bands }
     requires left { bands.old.left ≡ first_row bands.old.bands }
@@ -168,7 +169,7 @@ fn bounds_with(bands: &mut Reader, given: Rectangle) -> Rectangle
     bounds
 }
 
-/// The least rectangle that holds all places; `None` where there are none. All bands are read.
+/// Returns the least rectangle that holds all places; `None` if there are none. Reads all bands.
 pub fn bounds(bands: &mut Reader) -> Option<Rectangle>
     requires are_bands { AreBands bands.old.bands }
     requires left { bands.old.left ≡ first_row bands.old.bands }
@@ -179,7 +180,7 @@ pub fn bounds(bands: &mut Reader) -> Option<Rectangle>
     Some(bounds_with(bands, first))
 }
 
-// So many for each band, and one for each interval. All bands are read.
+// Counts `each` for each band, and one for each interval. Reads all bands.
 fn count_all(bands: &mut Reader, each: usize) -> usize
     requires are_bands { AreBands bands.old.bands }
     requires left { bands.old.left ≡ first_row bands.old.bands }
@@ -194,7 +195,7 @@ fn count_all(bands: &mut Reader, each: usize) -> usize
     count
 }
 
-/// How many intervals all bands have together. All bands are read.
+/// Counts the intervals that all bands have together. Reads all bands.
 pub fn count_intervals(bands: &mut Reader) -> usize
     requires are_bands { AreBands bands.old.bands }
     requires left { bands.old.left ≡ first_row bands.old.bands }
@@ -203,7 +204,7 @@ pub fn count_intervals(bands: &mut Reader) -> usize
     count_all(bands, 0)
 }
 
-/// How many nodes the bands take. All bands are read.
+/// Counts the nodes that the bands take. Reads all bands.
 pub fn count_nodes(bands: &mut Reader) -> usize
     requires are_bands { AreBands bands.old.bands }
     requires left { bands.old.left ≡ first_row bands.old.bands }

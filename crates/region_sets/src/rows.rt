@@ -23,7 +23,7 @@ fn ends_by(interval: Option<Interval>, x: i32) -> bool
     }
 }
 
-/// Reads on past the intervals that end at x or before it.
+/// Reads on past the intervals that end at `x` or before it.
 pub(crate) fn skip_before(bands: &mut Reader, x: i32)
     ensures { bands.new ≡ record bands.old { left = behind x bands.old.left } }
 {
@@ -32,7 +32,7 @@ pub(crate) fn skip_before(bands: &mut Reader, x: i32)
     }
 }
 
-/// Whether the column is in what is left of the row. Nothing is read behind it.
+/// Says whether the column `x` is in what is left of the row. Reads nothing behind it.
 pub(crate) fn row_contains(bands: &mut Reader, x: i32) -> bool
     requires { IsRow bands.old.left }
     ensures { result ≡ row_has bands.old.left x }
@@ -54,7 +54,7 @@ fn first_end(first: Option<Interval>, second: Option<Interval>) -> Option<i32>
     }
 }
 
-// Whether both intervals are there and share a column.
+// Says whether both intervals are there and share a column.
 fn intervals_meet(first: Option<Interval>, second: Option<Interval>) -> bool
     ensures { result ≡ intervals_meet first second }
 {
@@ -65,7 +65,7 @@ fn intervals_meet(first: Option<Interval>, second: Option<Interval>) -> bool
     }
 }
 
-/// Whether what is left of two rows shares a column. Both are read as far as it takes to know.
+/// Says whether what is left of two rows shares a column. Reads both as far as it takes to know.
 pub(crate) fn rows_meet(first: &mut Reader, second: &mut Reader) -> bool
     requires first_row { IsRow first.old.left }
     requires second_row { IsRow second.old.left }
@@ -83,7 +83,7 @@ pub(crate) fn rows_meet(first: &mut Reader, second: &mut Reader) -> bool
     false
 }
 
-/// Where the last interval that is left ends; x where none is left. The row is read to its end.
+/// Returns where the last interval that is left ends; `x` if none is left. Reads the row to its end.
 pub(crate) fn last_end(bands: &mut Reader, x: i32) -> i32
     ensures end { result ≡ row_end x bands.old.left }
     ensures read { bands.new ≡ record bands.old { left = [] } }
@@ -96,7 +96,7 @@ pub(crate) fn last_end(bands: &mut Reader, x: i32) -> i32
     end
 }
 
-/// How many intervals are left. The row is read to its end.
+/// Counts the intervals that are left. Reads the row to its end.
 pub(crate) fn count_left(bands: &mut Reader) -> usize
     requires { IsRow bands.old.left }
     ensures count { result ≡ length bands.old.left }

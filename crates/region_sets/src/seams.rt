@@ -9,7 +9,7 @@ ghost use Rattle.region_sets.specs.Seams.{StandAbove, touch};
 
 use region_bands::{BandList, Rows};
 
-// Whether both are there, and the first ends where the second begins.
+// Says whether both are there, and the first ends where the second begins.
 fn touch(above: Option<Rows>, below: Option<Rows>) -> bool
     ensures { result ≡ touch above below }
 {
@@ -20,7 +20,7 @@ fn touch(above: Option<Rows>, below: Option<Rows>) -> bool
     }
 }
 
-/// Joins the last band above the gap and the first below it where they touch and have the same row.
+/// Joins the last band above the gap and the first below it if they touch and have the same row.
 pub fn join_seam(bands: &mut BandList)
     requires above { AreBands bands.old.above }
     requires below { AreBands bands.old.below }

@@ -27,14 +27,14 @@ fn has_begun(rows: Rows, y: i32) -> bool
     rows.top <= y
 }
 
-/// Where the rows begin, or where they end if they have begun by y.
+/// Returns where `rows` begin, or where they end if they have begun by `y`.
 fn edge_of(rows: Rows, y: i32) -> i32
     ensures { result ≡ edge_of y rows }
 {
     if rows.top <= y { rows.bottom } else { rows.top }
 }
 
-/// The strip from y on, of two lists of bands by their first bands' rows; `None` where both have ended.
+/// Returns the strip from `y` on, of two lists of bands by their first bands' rows; `None` if both have ended.
 pub(crate) fn next_strip(first: Option<Rows>, second: Option<Rows>, y: i32) -> Option<Strip>
     ensures { result ≡ next_strip y first second }
 {
@@ -58,7 +58,7 @@ pub(crate) fn next_strip(first: Option<Rows>, second: Option<Rows>, y: i32) -> O
     }
 }
 
-/// Where the first of two lists of bands begins, by their first bands' rows; 0 where both have ended.
+/// Returns where the first of two lists of bands begins, by their first bands' rows; 0 if both have ended.
 pub(crate) fn bands_start(first: Option<Rows>, second: Option<Rows>) -> i32
     ensures { result ≡ start_of first second }
 {
@@ -70,7 +70,7 @@ pub(crate) fn bands_start(first: Option<Rows>, second: Option<Rows>) -> i32
     }
 }
 
-/// Takes the first band below the gap out, if it ends by the edge.
+/// Removes the first band below the gap, if it ends by `edge`.
 pub(crate) fn drop_ended(bands: &mut BandList, edge: i32)
     requires { bands.old.left ≡ first_row bands.old.below }
     ensures spare { bands.old.spare + nodes_in bands.old.below ≤ bands.new.spare + nodes_in bands.new.below }
@@ -87,7 +87,7 @@ pub(crate) fn drop_ended(bands: &mut BandList, edge: i32)
     }
 }
 
-/// Reads on past the first band, if it ends by the edge.
+/// Reads on past the first band, if it ends by `edge`.
 pub(crate) fn pass_ended(reader: &mut Reader, edge: i32)
     requires { reader.old.left ≡ first_row reader.old.bands }
     ensures { reader.new ≡ reading (later edge reader.old.bands) }
@@ -99,7 +99,7 @@ pub(crate) fn pass_ended(reader: &mut Reader, edge: i32)
     }
 }
 
-/// Leaves what is left of the reader's first band to be read where that band is in a strip, and nothing of it elsewhere.
+/// Leaves what is left of the reader's first band to be read if that band is in a strip, and nothing of it otherwise.
 pub(crate) fn enter_strip(reader: &mut Reader, is_in: bool)
     ensures { reader.new ≡ record reader.old { left = cond is_in reader.old.left [] } }
 {
@@ -108,7 +108,7 @@ pub(crate) fn enter_strip(reader: &mut Reader, is_in: bool)
     }
 }
 
-/// Reads the first band from its first interval again, or on past that band if it ends by the edge.
+/// Reads the first band from its first interval again, or on past that band if it ends by `edge`.
 pub(crate) fn leave_strip(reader: &mut Reader, edge: i32)
     ensures { reader.new ≡ reading (later edge reader.old.bands) }
 {

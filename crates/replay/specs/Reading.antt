@@ -28,7 +28,7 @@ abbrev pub has_feed : List ℕ → Bool
 has_feed bytes = list_any (λ b. b == 10) bytes
 
 -- the first bytes are a piece of a line; with its line feed they are so many
-abbrev pub IsPiece : List ℕ → ℕ → ℕ → PieceEnd → Type 0
+abbrev pub IsPiece : (bytes : List ℕ) → (count taken : ℕ) → PieceEnd → Type 0
 IsPiece bytes count taken LineFeed = (taken ≤ length bytes) × (count ≤ length bytes) × (has_feed (take count bytes) ≡ false) × (take taken bytes ≡ take count bytes ++ 10 ∷ [])
 IsPiece bytes count taken Room = (count ≡ length bytes) × (taken ≡ count) × (has_feed (take count bytes) ≡ false) × (0 < count)
 IsPiece bytes count taken Input = (count ≡ 0) × (taken ≡ 0) × (length bytes ≡ 0)

@@ -41,7 +41,7 @@ abbrev pub row_filled : ℕ → ℕ × ℕ → ℕ × ℕ → Option Dot → Lis
 row_filled columns across down dot dots y x = if is_between across x && is_between down y then dot else slice_index_or dots (y * columns + x) None
 
 -- what a place shows once an area shows what the area of its size at another place shows
-abbrev pub copied_dot : Dots → Area → ℕ × ℕ → ℕ → ℕ → Option Dot
+abbrev pub copied_dot : Dots → Area → (from : ℕ × ℕ) → (x y : ℕ) → Option Dot
 copied_dot d a from x y = if is_inside a x y then dot_at d (x - a.x + from.0) (y - a.y + from.1) else dot_at d x y
 
 abbrev pub copied_dots : Dots → Area → ℕ × ℕ → List (Option Dot)

@@ -1,4 +1,5 @@
--- The screen with any number of viewers: each is answered as if it were alone.
+-- The screen with any number of viewers: each is answered as if it were alone. What one that is alone is sent is that of RFC 6143, 7.1
+-- to 7.8 (`Alone.antt`).
 use Rattle.std.specs.Prelude.{ℕ, Bool, true, false, not, ◌==◌, if◌then◌else◌, List, [], ◌∷◌, ◌++◌, filter, Option, Some, None, option_map}
 use Rattle.std.specs.List.{filter_map, list_any}
 use Rattle.messages.specs.Reading.{Rest}
@@ -24,7 +25,7 @@ abbrev pub is_drawing : Option ℕ → Bool
 is_drawing None = true
 is_drawing (Some v) = false
 
--- what is drawn: only drawing calls change it
+-- the framebuffer (RFC 6143, 3): only drawing calls change it
 abbrev pub picture_of : Config → List Event → Frame
 picture_of c es = (after c (filter (λ e. is_drawing (owner_of e)) es) (empty_screen c)).picture
 

@@ -14,7 +14,7 @@ use Rattle.scene.specs.Answers.{answers, picture_of}
 use Rattle.scene.specs.Examples.{demo, opens, ask, last_answers, sized, clean, update, head, px}
 
 -- one that uses CopyRect too
-abbrev pub clean_with_copies : ℕ → ℕ → ℕ → List Event
+abbrev pub clean_with_copies : (viewer width height : ℕ) → List Event
 clean_with_copies v w h = opens v ++ Hear v (2 ∷ 0 ∷ 0 ∷ 2 ∷ 0 ∷ 0 ∷ 0 ∷ 1 ∷ 0 ∷ 0 ∷ 0 ∷ 0 ∷ []) ∷ Hear v (ask 0 0 0 w h) ∷ Cut v ∷ []
 
 -- two viewers, one with CopyRect
@@ -160,7 +160,7 @@ no_map_any_more = refl
 abbrev pub lists_size : List ℕ
 lists_size = 2 ∷ 0 ∷ 0 ∷ 2 ∷ 0 ∷ 0 ∷ 0 ∷ 0 ∷ 0xff ∷ 0xff ∷ 0xff ∷ 0x21 ∷ []
 
-abbrev pub takes_sizes : ℕ → ℕ → ℕ → List Event
+abbrev pub takes_sizes : (viewer width height : ℕ) → List Event
 takes_sizes v w h = opens v ++ Hear v lists_size ∷ Hear v (ask 0 0 0 w h) ∷ Cut v ∷ []
 
 abbrev pub size_head : ℕ → ℕ → List ℕ

@@ -1,4 +1,4 @@
--- What holds of the viewers' pictures.
+-- What holds of the viewers' pictures (RFC 6143, 7.6.1), and of their colour maps (7.6.2).
 use Rattle.std.specs.Prelude.{◌≡◌, ℕ, ◌<◌, Bool, true, false, List, All, None, Some}
 use Rattle.std.specs.List.{list_all}
 use Rattle.copy_schedule.specs.Marks.{Marks}

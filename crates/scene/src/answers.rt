@@ -49,7 +49,7 @@ pub fn with_nothing(alloc: Global, given: Result<(), ScreenError>) -> Result<Ans
     })
 }
 
-/// Returns what was given, with a refusal as an answer, but for want of memory.
+/// Returns what was given, with a refusal as an answer, except for lack of memory, which stays an error.
 pub fn settled(alloc: Global, given: Result<Answer, ScreenError>) -> Result<Answer, AllocError>
     ensures { MatchResult given (λ answer. result ≡ Ok answer) (λ e. result ≡ settled e) }
 {

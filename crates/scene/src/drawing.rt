@@ -55,7 +55,7 @@ pub fn tell(viewers: &mut ViewerList, call: LogEntry) -> Result<(), AllocError>
     Ok(())
 }
 
-/// Owes the places of a region to each viewer. Where it has none, nothing changes.
+/// Owes the places of a region to each viewer. Changes nothing if the region has no places.
 fn owe(viewers: &mut ViewerList, region: Region) -> Result<(), AllocError>
     requires whole { All IsWhole (values_of viewers.old.pairs) }
     ensures ok { OnOk result (viewers.new.pairs ≡ changed (viewer_marked (covers region.list)) viewers.old.pairs) }

@@ -159,7 +159,7 @@ pub enum Event {
     CutText {
         text: Listed<u8>,
     },
-    /// The screen has so many columns and rows from now on, and is 0 everywhere; every place is owed to every viewer.
+    /// The screen gets `width` columns and `height` rows, and is 0 everywhere; every place is owed to every viewer.
     Resize {
         width: u32,
         height: u32,

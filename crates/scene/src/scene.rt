@@ -159,7 +159,7 @@ impl Scene {
         self.viewers.has(number)
     }
 
-    /// Returns why a viewer is heard no further, if it met a fault. Refused as `NoViewer` where there is none with the number.
+    /// Returns why a viewer is heard no further, if it met a fault. Refuses a number that no viewer has as `NoViewer`.
     pub fn fault(&self, number: u64) -> Result<Option<Fault>, ScreenError>
         ensures { MatchOption (viewer_at self.now number) (result ≡ Err ScreenError.NoViewer) (λ viewer. result ≡
             Ok (fault_in_rest viewer.heard)) }
@@ -170,8 +170,8 @@ impl Scene {
         }
     }
 
-    /// Returns whether a viewer had its ServerInit (RFC 6143, 7.3.2) and met no fault. Refused as `NoViewer` where there is none with the
-    /// number.
+    /// Returns whether a viewer had its ServerInit (RFC 6143, 7.3.2) and met no fault. Refuses a number that no viewer has as
+    /// `NoViewer`.
     pub fn is_open(&self, number: u64) -> Result<bool, ScreenError>
         ensures { MatchOption (viewer_at self.now number) (result ≡ Err ScreenError.NoViewer) (λ viewer. result ≡
             Ok (is_open_rest viewer.heard)) }
@@ -183,7 +183,7 @@ impl Scene {
     }
 
     /// Returns whether a viewer asked for places, and no update of places or of a size was cut for it since: a
-    /// FramebufferUpdateRequest (RFC 6143, 7.5.3) of its is unanswered. Refused as `NoViewer` where there is none with the number.
+    /// FramebufferUpdateRequest (RFC 6143, 7.5.3) of its is unanswered. Refuses a number that no viewer has as `NoViewer`.
     pub fn is_asking(&self, number: u64) -> Result<bool, ScreenError>
         ensures { MatchOption (viewer_at self.now number) (result ≡ Err ScreenError.NoViewer) (λ viewer. result ≡
             Ok (is_asking viewer)) }
@@ -194,7 +194,7 @@ impl Scene {
         }
     }
 
-    /// Returns what a viewer has set by its messages. Refused as `NoViewer` where there is none with the number.
+    /// Returns what a viewer has set by its messages. Refuses a number that no viewer has as `NoViewer`.
     pub fn settings(&self, number: u64) -> Result<Settings, ScreenError>
         ensures { MatchOption (viewer_at self.now number) (result ≡ Err ScreenError.NoViewer) (λ viewer. result ≡
             Ok (settings_of viewer)) }
@@ -205,7 +205,7 @@ impl Scene {
         }
     }
 
-    /// Returns how many requests of a viewer were not incremental. Refused as `NoViewer` where there is none with the number.
+    /// Returns how many requests of a viewer were not incremental. Refuses a number that no viewer has as `NoViewer`.
     pub fn full_requests(&self, number: u64) -> Result<u64, ScreenError>
         ensures { MatchOption (viewer_at self.now number) (result ≡ Err ScreenError.NoViewer) (λ viewer. result ≡
             Ok viewer.full_requests) }
@@ -277,7 +277,7 @@ impl Scene {
         }
     }
 
-    /// Checks an event: why it would be refused now, but for want of memory.
+    /// Checks an event: returns why it would be refused now, apart from lack of memory.
     pub fn check(&self, event: &Event) -> Result<(), ScreenError>
         ensures { MatchResult result (λ _. refusal self.now event.now ≡ None) (λ e. refusal self.now event.now ≡ Some e) }
     {
@@ -297,9 +297,9 @@ impl Scene {
         }
     }
 
-    /// Replaces the colours of a rectangle by others, `0x00RRGGBB` row by row, whose top bytes are
-    /// cleared, and owes it to every viewer. Refused as `BadRect` unless 0 <= x1 <= x2 <= width and
-    /// 0 <= y1 <= y2 <= height, then as `BadPixelCount` unless there are as many colours as places.
+    /// Replaces the colours of a rectangle by others, `0x00RRGGBB` row by row, whose top bytes are cleared, and owes it to every
+    /// viewer. Refuses as `BadRect` unless 0 <= x1 <= x2 <= width and 0 <= y1 <= y2 <= height, then as `BadPixelCount` unless there
+    /// are as many colours as places.
     pub fn paint(&mut self, rect: Rect, colours: &[u32]) -> Result<(), ScreenError>
         ensures step { (config : Config) (list : List Event) → self.old ≡ scene_after config list →
             OnOk result (self.new ≡ scene_after config (list ++ Event.Paint rect colours.now ∷ [])) }
@@ -320,8 +320,8 @@ impl Scene {
         Ok(())
     }
 
-    /// Replaces the colours of a rectangle by others, `0x00RRGGBB` row by row, whose top bytes are
-    /// cleared, and tells no viewer: `mark_rect` and `mark_region` do. Refused as `paint` is.
+    /// Replaces the colours of a rectangle by others, `0x00RRGGBB` row by row, whose top bytes are cleared, and tells no viewer:
+    /// `mark_rect` and `mark_region` do. Refuses what `paint` refuses.
     pub fn write_pixels(&mut self, rect: Rect, colours: &[u32]) -> Result<(), ScreenError>
         ensures step { (config : Config) (list : List Event) → self.old ≡ scene_after config list →
             OnOk result (self.new ≡ scene_after config (list ++ Event.Write rect colours.now ∷ [])) }
@@ -450,8 +450,8 @@ impl Scene {
         Ok(())
     }
 
-    /// Keeps a text for every open viewer for which fewer than 64 notices wait (`rfbSendServerCutText` of `rfb.h`). Refused as
-    /// `TextTooLong` above 65,536 bytes.
+    /// Keeps a text for every open viewer for which fewer than 64 notices wait (`rfbSendServerCutText` of `rfb.h`). Refuses more
+    /// than 65,536 bytes as `TextTooLong`.
     pub fn cut_text(&mut self, text: &[u8]) -> Result<(), ScreenError>
         ensures step { (config : Config) (list : List Event) → self.old ≡ scene_after config list →
             OnOk result (self.new ≡ scene_after config (list ++ Event.CutText text.now ∷ [])) }
@@ -465,8 +465,8 @@ impl Scene {
         Ok(())
     }
 
-    /// Replaces the picture by one of `width` columns and `height` rows that is 0 everywhere (`rfbNewFramebuffer` of `rfb.h`). Every
-    /// place is owed to every viewer; those that list DesktopSize are told the size where they ask next. Refused as `BadSize` unless
+    /// Replaces the picture by one of `width` columns and `height` rows that is 0 everywhere (`rfbNewFramebuffer` of `rfb.h`). Owes
+    /// every place to every viewer; those that list DesktopSize are told the size when they ask next. Refuses as `BadSize` unless
     /// each is 1 to 8192, with at most 2^24 places.
     pub fn new_framebuffer(&mut self, width: u32, height: u32) -> Result<(), ScreenError>
         ensures step { (config : Config) (list : List Event) → self.old ≡ scene_after config list →
@@ -510,8 +510,8 @@ impl Scene {
         }
     }
 
-    /// Lets a viewer connect, and returns the server's version for it (RFC 6143, 7.1.1). Refused as `NumberInUse` where a live viewer has
-    /// the number.
+    /// Lets a viewer connect, and returns the server's version for it (RFC 6143, 7.1.1). Refuses the number of a live viewer as
+    /// `NumberInUse`.
     pub fn connect(&mut self, number: u64) -> Result<Listed<u8>, ScreenError>
         ensures step { (config : Config) (list : List Event) → self.old ≡ scene_after config list →
             OnOk result (self.new ≡ scene_after config (list ++ Event.Connect number ∷ [])) }
@@ -528,7 +528,7 @@ impl Scene {
         Ok(let_in(self.alloc, width, height, &mut self.viewers, number)?)
     }
 
-    /// Closes a viewer's connection. Refused as `NoViewer` where there is none with the number.
+    /// Closes a viewer's connection. Refuses a number that no viewer has as `NoViewer`.
     pub fn close(&mut self, number: u64) -> Result<(), ScreenError>
         ensures step { (config : Config) (list : List Event) → self.old ≡ scene_after config list →
             self.new ≡ scene_after config (list ++ Event.Close number ∷ []) }
@@ -542,7 +542,7 @@ impl Scene {
         removed
     }
 
-    /// Removes a viewer. Refused as `NoViewer` where there is none with the number.
+    /// Removes a viewer. Refuses a number that no viewer has as `NoViewer`.
     fn remove(&mut self, number: u64) -> Result<(), ScreenError>
         ensures step { (config : Config) (list : List Event) → self.old ≡ scene_after config list →
             self.new ≡ scene_after config (list ++ Event.Close number ∷ []) }
@@ -557,7 +557,7 @@ impl Scene {
         }
     }
 
-    /// Lets go what was encoded for several viewers, where no viewer is left.
+    /// Lets go what was encoded for several viewers, if no viewer is left.
     fn let_picture_rest(&mut self)
         ensures { self.new ≡ self.old }
     {
@@ -566,8 +566,8 @@ impl Scene {
         }
     }
 
-    /// Hears a piece of a viewer's bytes (RFC 6143, 7.1 to 7.5), and returns what it is answered, what it tells the application, and why
-    /// it is heard no further. Refused as `NoViewer` where there is none with the number.
+    /// Hears a piece of a viewer's bytes (RFC 6143, 7.1 to 7.5), and returns what it is answered, what it tells the application,
+    /// and why it is heard no further. Refuses a number that no viewer has as `NoViewer`.
     pub fn hear(&mut self, number: u64, piece: &[u8]) -> Result<Answer, ScreenError>
         ensures step { (config : Config) (list : List Event) → self.old ≡ scene_after config list →
             OnOk result (self.new ≡ scene_after config (list ++ Event.Hear number piece.now ∷ [])) }
@@ -583,7 +583,7 @@ impl Scene {
         Ok(with_reply(reply))
     }
 
-    /// Returns whether a cut now would give something. Refused as `NoViewer` where there is no viewer with the number.
+    /// Returns whether a cut now would give something. Refuses a number that no viewer has as `NoViewer`.
     pub fn pending(&self, number: u64) -> Result<bool, ScreenError>
         ensures answer { (config : Config) (list : List Event) → self.now ≡ scene_after config list →
             result ≡ something_to_send (answer_to config list (Event.Cut number)) }
@@ -595,9 +595,9 @@ impl Scene {
         Ok(pending)
     }
 
-    /// Encodes a piece of what several viewers want, where encodings are shared and the viewer would be sent that next. Returns None where
-    /// the viewer is best cut now. Else more is left to be encoded, and its cut better waits; the number is another where what it waited
-    /// for is lost. No byte depends on it.
+    /// Encodes a piece of what several viewers want, if encodings are shared and the viewer would be sent that next. Returns `None`
+    /// if the viewer is best cut now. Else more is left to be encoded, and its cut better waits; the number is another if what it
+    /// waited for is lost. No byte depends on it.
     #[inline(always)]
     pub fn encode_ahead(&mut self, number: u64) -> Option<u64>
         ensures { self.new ≡ self.old }
@@ -625,8 +625,8 @@ impl Scene {
         self.picture.more_ahead()
     }
 
-    /// Cuts an update for a live viewer: its rectangles, with their colours as they stand, with what `before` made of it before the
-    /// viewer changed; None where there is nothing to send. After an `AllocError`, also of `before`, nothing has changed.
+    /// Cuts an update for a live viewer: returns its rectangles, with their colours as they stand, with what `before` made of it
+    /// before the viewer changed; `None` if there is nothing to send. After an `AllocError`, also of `before`, nothing has changed.
     pub fn cut_with<T, F: FnOnce(&PreparedUpdate) -> Result<T, AllocError>>(
         &mut self,
         number: u64,
@@ -648,8 +648,8 @@ impl Scene {
             .cut_with(number, &mut self.picture, limit, before)
     }
 
-    /// Cuts an update for a viewer, and returns its bytes, which are encoded before the viewer changes; none where there is nothing
-    /// to send. Refused as `NoViewer` where there is none with the number.
+    /// Cuts an update for a viewer, and returns its bytes, which are encoded before the viewer changes; no bytes if there is
+    /// nothing to send. Refuses a number that no viewer has as `NoViewer`.
     fn cut_bytes(&mut self, number: u64) -> Result<Listed<u8>, ScreenError>
         ensures step { (config : Config) (list : List Event) → self.old ≡ scene_after config list →
             OnOk result (self.new ≡ scene_after config (list ++ Event.Cut number ∷ [])) }
@@ -728,8 +728,8 @@ impl Scene {
         }
     }
 
-    /// Does an event. A refusal of another kind than want of memory stands in the answer, and then nothing has changed; a Cut gives the
-    /// encoded bytes, or none.
+    /// Does an event. A refusal for another reason than lack of memory stands in the answer, and then nothing has changed; a Cut
+    /// gives the encoded bytes, or none.
     pub fn apply(&mut self, event: &Event) -> Result<Answer, AllocError>
         ensures step { (config : Config) (list : List Event) → self.old ≡ scene_after config list →
             OnOk result (self.new ≡ scene_after config (list ++ event.now ∷ [])) }

@@ -10,7 +10,7 @@ use Rattle.source_pixels.specs.Parts.{Part}
 use Rattle.source_pixels.specs.Source.{Source}
 use Rattle.source_pixels.specs.Source as source
 
-abbrev pub rect_at : ℕ → ℕ → ℕ → ℕ → Rect
+abbrev pub rect_at : (left top columns rows : ℕ) → Rect
 rect_at left top columns rows = record { x1 = pos left; y1 = pos top; x2 = pos (left + columns); y2 = pos (top + rows) }
 
 -- the picture with a source's colours in the source's rectangle, from a place on; what lies off the picture is left out
@@ -39,5 +39,5 @@ painted left top [] f = f
 painted left top (q ∷ qs) f = painted left top qs (record f { colours = written f.width f.height (piece_rect left top q) q.colours f.colours })
 
 -- a place's colour
-abbrev pub colour_on : Frame → ℕ → ℕ → ℕ
+abbrev pub colour_on : Frame → (x y : ℕ) → ℕ
 colour_on f x y = colour_at f.width f.height f.colours (pos x) (pos y)

@@ -1,2 +1,3 @@
+pub mod Halves
 pub mod Services
 pub mod Telling

@@ -1,3 +1,4 @@
+pub mod Connection
 pub mod Reasons
 pub mod Services
 pub mod Serving

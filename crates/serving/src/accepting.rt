@@ -166,7 +166,8 @@ fn serve_caller<L: Ledger + Send + Sync, R: Threads + Wait + Clock + Sync>(
     ensures { result.viewer ≡ caller.line.listener.viewer }
 {
     let Caller { line, stream, slot } = caller;
-    let receipt = serve_connection(rt, server, line, &stream, seat);
+    let socket: &TcpStream = &stream;
+    let receipt = serve_connection(rt, server, line, socket, socket, seat).0;
     drop(stream);
     server.connections.end(rt, slot, receipt.viewer);
     receipt

@@ -1,16 +1,19 @@
 //! One viewer, from its connection to its receipt.
 
 ghost use Rattle.std.specs.Prelude.{◌≡◌};
+ghost use Rattle.serving.specs.Connection.{IsReadHalf, IsServed, IsServedOpen, IsWriteHalf};
 ghost use Rattle.serving.specs.Reasons.{ended_late};
 
 use crate::application::Departed;
-use crate::open_connections::{OpenConnections, shut};
+use crate::open_connections::OpenConnections;
 use crate::opening_time::OpeningStream;
 use crate::serving::Server;
+use crate::socket::Connection;
 use input_queue::{InputEnds, InputSeat};
 use receipts::{Ended, Receipt};
 use screen::ScreenError;
-use std::net::TcpStream;
+use std::io::{Read, Write};
+use std::snapshot::Snapshot;
 use std::sync::Wait;
 use std::sync::ledger::Ledger;
 use std::thread;
@@ -38,41 +41,54 @@ fn close_at_last<L: Ledger, R: Wait + Clock>(rt: &R, shared: &Shared<L>, viewer:
 
 /// Opens a viewer, and serves it by a reader and a sender thread until both have ended. The connection is shut then. An opening that
 /// took 10 seconds is over: its viewer is closed, with `Closed` for its reason unless an answer was still being written.
-pub(crate) fn serve_connection<L: Ledger + Send + Sync, R: Threads + Wait + Clock + Sync>(
+///
+/// Returns the viewer's receipt, and the reader and the writer as they are then. Whatever reads and writes, the receipt tells what was
+/// read of it and written to it.
+pub(crate) fn serve_connection<L, R, Rd, W>(
     rt: &R,
     server: &Server<'_, L>,
     line: Line,
-    stream: &TcpStream,
+    reader: Rd,
+    writer: W,
     seat: InputSeat,
-) -> Receipt
+) -> (Receipt, Rd, W)
+where
+    L: Ledger + Send + Sync,
+    R: Threads + Wait + Clock + Sync,
+    Rd: Read + Connection + Drop,
+    W: Write + Connection + Send + Drop,
     requires queue { seat.queue ≡ server.now.ends.now.queue }
     requires viewer { seat.viewer ≡ line.listener.viewer }
-    ensures { result.viewer ≡ line.listener.viewer }
+    ensures viewer { result.0.viewer ≡ line.listener.viewer }
+    ensures served { IsServed (Rd.remaining reader) (Rd.remaining result.1) (W.contents writer) (W.contents result.2) line result.0 }
 {
     // Without this an answer may wait for the next one. Where the system refuses it, all else stays.
-    let _set = stream.set_nodelay(true);
+    let _set = writer.send_at_once();
     let began = Instant::now(rt).ok();
-    let mut reader = OpeningStream::new(rt, stream, began);
-    let mut writer = OpeningStream::new(rt, stream, began);
-    match serve_opening(rt, server.shared, line, &mut reader, &mut writer) {
+    let mut reader = OpeningStream::new(rt, reader, began);
+    let mut writer = OpeningStream::new(rt, writer, began);
+    let opened = serve_opening(rt, server.shared, line, &mut reader, &mut writer);
+    let is_late = reader.is_late();
+    let (reader, writer) = (reader.into_stream(), writer.into_stream());
+    match opened {
         Opened::Ready(listener, speaker) => {
-            wait_without_end(stream);
-            serve_open(rt, server, listener, speaker, stream, seat)
+            wait_without_end(&reader, &writer);
+            serve_open(rt, server, listener, speaker, reader, writer, seat)
         }
         Opened::Over(receipt, parting) => {
             if !parting.is_gone() {
                 close_at_last(rt, server.shared, receipt.viewer);
             }
-            shut(stream);
-            ended_late(receipt, reader.is_late())
+            reader.shut();
+            (ended_late(receipt, is_late), reader, writer)
         }
     }
 }
 
 /// Lets a viewer that is open take its time.
-fn wait_without_end(stream: &TcpStream) {
-    let _set = stream.set_read_timeout(None);
-    let _set = stream.set_write_timeout(None);
+fn wait_without_end<Rd: Connection, W: Connection>(reader: &Rd, writer: &W) {
+    let _set = reader.limit_reads(None);
+    let _set = writer.limit_writes(None);
 }
 
 /// Returns the receipt of an opening that is over: one whose reader had no time left was closed by the server.
@@ -85,44 +101,57 @@ fn ended_late(mut receipt: Receipt, is_late: bool) -> Receipt
     receipt
 }
 
-/// A sender's thread gives the half of the viewer with this number.
-#[derive(Clone, Copy)]
-struct HalfOf(u64);
-
-impl Promise<WriteHalf> for HalfOf {
-    ghost kept_by = { λ p half. half.viewer ≡ p.0 };
+/// A sender's thread gives a half that tells what this speaker cut and wrote, on a writer that was so, and that writer.
+#[derive(Drop)]
+struct SentBy<W> {
+    speaker: Snapshot<Speaker>,
+    writer: Snapshot<W>,
 }
 
-/// Runs the viewer's two threads. Whichever ends first ends the other one.
-fn serve_open<L: Ledger + Send + Sync, R: Threads + Wait + Clock + Sync>(
+impl<W: Write> Promise<(WriteHalf, W)> for SentBy<W> {
+    ghost use Rattle.serving.specs.Connection.{IsWriteHalf};
+
+    ghost kept_by = { λ p result. IsWriteHalf (W.contents p.writer.value) (W.contents result.1) p.speaker.value result.0 };
+}
+
+/// Runs the viewer's two threads. Whichever ends first ends the other one. Returns the viewer's receipt, its reader and its writer.
+fn serve_open<L, R, Rd, W>(
     rt: &R,
     server: &Server<'_, L>,
     listener: Listener,
     speaker: Speaker,
-    stream: &TcpStream,
+    reader: Rd,
+    writer: W,
     seat: InputSeat,
-) -> Receipt
+) -> (Receipt, Rd, W)
+where
+    L: Ledger + Send + Sync,
+    R: Threads + Wait + Clock + Sync,
+    Rd: Read + Connection + Drop,
+    W: Write + Connection + Send + Drop,
     requires seat { seat.queue ≡ server.now.ends.now.queue }
     requires own { seat.viewer ≡ listener.viewer }
     requires viewer { listener.viewer ≡ speaker.viewer }
-    ensures { result.viewer ≡ speaker.viewer }
+    ensures viewer { result.0.viewer ≡ speaker.viewer }
+    ensures served { IsServedOpen (Rd.remaining reader) (Rd.remaining result.1) (W.contents writer) (W.contents result.2) listener speaker result.0 }
 {
     let (shared, ends, connections) = (server.shared, server.ends, server.connections);
-    let (read, write) = thread::scope(
+    let ((read, reader), (write, writer)) = thread::scope(
         thread::scope_env(),
         rt,
-        move |scope| -> (ReadHalf, WriteHalf)
+        move |scope| -> ((ReadHalf, Rd), (WriteHalf, W))
             requires queue { seat.queue ≡ ends.now.queue }
             requires viewer { seat.viewer ≡ listener.viewer }
-            ensures read { result.0.viewer ≡ listener.viewer }
-            ensures write { result.1.viewer ≡ speaker.viewer }
+            ensures read { IsReadHalf (Rd.remaining reader) (Rd.remaining result.0.1) listener result.0.0 }
+            ensures write { IsWriteHalf (W.contents writer) (W.contents result.1.1) speaker result.1.0 }
         {
             serve_halves(
                 rt,
                 shared,
                 listener,
                 speaker,
-                stream,
+                reader,
+                writer,
                 ends,
                 connections,
                 seat,
@@ -130,41 +159,51 @@ fn serve_open<L: Ledger + Send + Sync, R: Threads + Wait + Clock + Sync>(
             )
         },
     );
-    receipt(Some(read), None, write).0
+    (receipt(Some(read), None, write).0, reader, writer)
 }
 
 /// Does the same in a scope: the sender in a thread of it, the reader in this one. Where no thread can be started, the connection is
-/// shut, and both find it so.
-fn serve_halves<'s, E, L: Ledger + Send + Sync + 's, R: Threads + Wait + Clock + Sync + 's>(
+/// shut, and both find it so. Returns the two halves, each with its end of the connection.
+fn serve_halves<'s, E, L, R, Rd, W>(
     rt: &'s R,
     shared: &'s Shared<L>,
     listener: Listener,
     speaker: Speaker,
-    stream: &'s TcpStream,
+    reader: Rd,
+    writer: W,
     ends: &InputEnds,
     connections: &OpenConnections,
     seat: InputSeat,
     scope: &Scope<'s, E>,
-) -> (ReadHalf, WriteHalf)
+) -> ((ReadHalf, Rd), (WriteHalf, W))
+where
+    L: Ledger + Send + Sync + 's,
+    R: Threads + Wait + Clock + Sync + 's,
+    Rd: Read + Connection,
+    W: Write + Connection + Send + Drop + 's,
     requires queue { seat.queue ≡ ends.now.queue }
     requires viewer { seat.viewer ≡ listener.viewer }
-    ensures read { result.0.viewer ≡ listener.viewer }
-    ensures write { result.1.viewer ≡ speaker.viewer }
+    ensures read { IsReadHalf (Rd.remaining reader) (Rd.remaining result.0.1) listener result.0.0 }
+    ensures write { IsWriteHalf (W.contents writer) (W.contents result.1.1) speaker result.1.0 }
 {
+    let promise = SentBy {
+        speaker: Snapshot::of(&speaker),
+        writer: Snapshot::of(&writer),
+    };
     let sender = scope.spawn_with(
-        HalfOf(speaker.viewer()),
-        move || -> WriteHalf
-            ensures { result.viewer ≡ speaker.viewer }
-        { write_half(rt, shared, speaker, stream) },
+        promise,
+        move || -> (WriteHalf, W)
+            ensures { IsWriteHalf (W.contents writer) (W.contents result.1) speaker result.0 }
+        { write_half(rt, shared, speaker, writer) },
     );
     match sender {
         Ok(sender) => {
-            let read = read_half(rt, shared, listener, stream, ends, connections, seat);
+            let read = read_half(rt, shared, listener, reader, ends, connections, seat);
             (read, sender.join(rt))
         }
         Err(refused) => {
-            shut(stream);
-            let read = read_half(rt, shared, listener, stream, ends, connections, seat);
+            reader.shut();
+            let read = read_half(rt, shared, listener, reader, ends, connections, seat);
             (read, (refused.value)())
         }
     }
@@ -189,23 +228,22 @@ fn let_go<R: Wait + Clock>(
     unreachable!()
 }
 
-/// Runs the reader's thread.
-fn read_half<L: Ledger, R: Wait + Clock>(
+/// Runs the reader's thread. Returns the reader too.
+fn read_half<L: Ledger, R: Wait + Clock, Rd: Read + Connection>(
     rt: &R,
     shared: &Shared<L>,
     listener: Listener,
-    stream: &TcpStream,
+    mut reader: Rd,
     ends: &InputEnds,
     connections: &OpenConnections,
     seat: InputSeat,
-) -> ReadHalf
+) -> (ReadHalf, Rd)
     requires queue { seat.queue ≡ ends.now.queue }
     requires viewer { seat.viewer ≡ listener.viewer }
-    ensures { result.viewer ≡ listener.viewer }
+    ensures { IsReadHalf (Rd.remaining reader) (Rd.remaining result.1) listener result.0 }
 {
-    let mut reader = stream;
     let mut half = serve_listener(rt, shared, listener, &mut reader, ends, seat);
-    shut(stream);
+    reader.shut();
     close_at_last(rt, shared, half.viewer);
     let_go(rt, ends, connections, &mut half.seat);
     let departed = Departed {
@@ -214,20 +252,19 @@ fn read_half<L: Ledger, R: Wait + Clock>(
     };
     connections.depart(rt, departed);
     ends.wake();
-    half
+    (half, reader)
 }
 
-/// Runs the sender's thread.
-fn write_half<L: Ledger, R: Wait>(
+/// Runs the sender's thread. Returns the writer too.
+fn write_half<L: Ledger, R: Wait, W: Write + Connection>(
     rt: &R,
     shared: &Shared<L>,
     speaker: Speaker,
-    stream: &TcpStream,
-) -> WriteHalf
-    ensures { result.viewer ≡ speaker.viewer }
+    mut writer: W,
+) -> (WriteHalf, W)
+    ensures { IsWriteHalf (W.contents writer) (W.contents result.1) speaker result.0 }
 {
-    let mut writer = stream;
     let half = serve_sender(rt, shared, speaker, &mut writer, &OpenGate);
-    shut(stream);
-    half
+    writer.shut();
+    (half, writer)
 }

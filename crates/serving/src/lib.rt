@@ -1,7 +1,8 @@
 //! A shared screen served over TCP: each connection is a viewer with a reader and a sender thread of its own, and one
 //! application draws, and is told what the viewers do.
 //!
-//! No clause says what a socket delivers, or that two threads ran: tests over loopback show it.
+//! Whatever stream a viewer is served on, its receipt tells what was read of it and written to it (`serve_connection`). No clause says
+//! what a socket delivers, or that two threads ran: tests over loopback show it.
 //!
 //! A server of one viewer, whole in the crate `example_pointer`:
 //!
@@ -22,6 +23,7 @@ mod opening_time;
 mod receiving;
 mod service;
 mod serving;
+mod socket;
 mod stop;
 mod turning_away;
 

@@ -2,22 +2,24 @@
 
 ghost use Rattle.std.specs.Prelude.{◌≡◌, false, MatchResult};
 ghost use Rattle.std.specs.Io.{ReadsAtMost, WritesAtMost};
+ghost use Rattle.std.specs.Io.KnownBytes.{ReadConsumes, WriteAppends};
 ghost use Rattle.std.specs.IoError.{error_kind};
 ghost use Rattle.serving.specs.Reasons.{is_timeout};
 
+use crate::socket::Connection;
 use std::io;
 use std::io::{ErrorKind, Read, Write};
-use std::net::TcpStream;
 use std::time::{Clock, Duration, Instant};
 
 /// How many seconds an opening may take.
 const LONGEST: u64 = 10;
 
-/// A connection in its opening: each read and write fails once the time is up, and waits no longer than until then.
+/// A reader or a writer of a connection in its opening: it gives and takes the same bytes. Each read and write fails once the time is
+/// up, and waits no longer than until then.
 #[derive(Drop)]
-pub(crate) struct OpeningStream<'s, R: Clock> {
+pub(crate) struct OpeningStream<'s, R: Clock, S> {
     clock: &'s R,
-    stream: &'s TcpStream,
+    stream: S,
     // None where the clock can't be read
     began: Option<Instant>,
     is_late: bool,
@@ -33,13 +35,11 @@ fn is_late(outcome: &io::Result<usize>) -> bool
     }
 }
 
-impl<'s, R: Clock> OpeningStream<'s, R> {
-    /// Returns a connection whose opening began at a time.
-    pub fn new(
-        clock: &'s R,
-        stream: &'s TcpStream,
-        began: Option<Instant>,
-    ) -> OpeningStream<'s, R> {
+impl<'s, R: Clock, S> OpeningStream<'s, R, S> {
+    /// Returns a reader or a writer of a connection whose opening began at a time.
+    pub fn new(clock: &'s R, stream: S, began: Option<Instant>) -> OpeningStream<'s, R, S>
+        ensures { result.stream ≡ stream }
+    {
         OpeningStream {
             clock,
             stream,
@@ -55,6 +55,13 @@ impl<'s, R: Clock> OpeningStream<'s, R> {
         self.is_late
     }
 
+    /// Returns the reader or the writer, whose time is its own from now on.
+    pub fn into_stream(self) -> S
+        ensures { result ≡ self.entry.stream }
+    {
+        self.stream
+    }
+
     /// Returns what is left of the time. An error where nothing is.
     fn left(&self) -> io::Result<Duration> {
         let Some(began) = self.began else {
@@ -66,27 +73,35 @@ impl<'s, R: Clock> OpeningStream<'s, R> {
         }
         Ok(left)
     }
+}
 
+impl<'s, R: Clock, S: Read + Connection> OpeningStream<'s, R, S> {
     /// Reads bytes, and waits for as long as is left.
-    fn read_in_time(&self, buffer: &mut [u8]) -> io::Result<usize>
-        ensures { ReadsAtMost result buffer.new }
+    fn read_in_time(&mut self, buffer: &mut [u8]) -> io::Result<usize>
+        ensures bound { ReadsAtMost result buffer.new }
+        ensures read { ReadConsumes (S.remaining self.old.stream) (S.remaining self.new.stream) result buffer.new }
     {
-        self.stream.set_read_timeout(Some(self.left()?))?;
-        let mut stream = self.stream;
-        stream.read(buffer)
-    }
-
-    /// Writes bytes, and waits for as long as is left.
-    fn write_in_time(&self, bytes: &[u8]) -> io::Result<usize>
-        ensures { WritesAtMost result bytes.now }
-    {
-        self.stream.set_write_timeout(Some(self.left()?))?;
-        let mut stream = self.stream;
-        stream.write(bytes)
+        let left = self.left()?;
+        self.stream.limit_reads(Some(left))?;
+        self.stream.read(buffer)
     }
 }
 
-impl<'s, R: Clock> Read for OpeningStream<'s, R> {
+impl<'s, R: Clock, S: Write + Connection> OpeningStream<'s, R, S> {
+    /// Writes bytes, and waits for as long as is left.
+    fn write_in_time(&mut self, bytes: &[u8]) -> io::Result<usize>
+        ensures bound { WritesAtMost result bytes.now }
+        ensures written { WriteAppends (S.contents self.old.stream) (S.contents self.new.stream) result bytes.now }
+    {
+        let left = self.left()?;
+        self.stream.limit_writes(Some(left))?;
+        self.stream.write(bytes)
+    }
+}
+
+impl<'s, R: Clock, S: Read + Connection> Read for OpeningStream<'s, R, S> {
+    ghost remaining = { λ s. S.remaining s.stream };
+
     fn read(&mut self, buffer: &mut [u8]) -> io::Result<usize> {
         let outcome = self.read_in_time(buffer);
         self.is_late = is_late(&outcome);
@@ -94,7 +109,9 @@ impl<'s, R: Clock> Read for OpeningStream<'s, R> {
     }
 }
 
-impl<'s, R: Clock> Write for OpeningStream<'s, R> {
+impl<'s, R: Clock, S: Write + Connection> Write for OpeningStream<'s, R, S> {
+    ghost contents = { λ s. S.contents s.stream };
+
     fn write(&mut self, bytes: &[u8]) -> io::Result<usize> {
         self.write_in_time(bytes)
     }

@@ -39,7 +39,7 @@ row_same columns same start y bands h here = record {
   whole = λ x r low below out. ⊎_elim (λ above. h.whole x r low above out) (λ last. let e : r ≡ y = omega arith in subst (λ n. same x n) (sym e) (here x)) (cases_lt r y);
 }
 
-pushed_at : (bands : List Band) (b : Band) (k : ℕ) (d : Band) → k < length (bands ++ b ∷ []) → ((k < length bands) × (get_or (bands ++ b ∷ []) k d ≡ get_or bands k d)) ⊎ ((k ≡ length bands) × (get_or (bands ++ b ∷ []) k d ≡ b))
+pub pushed_at : (bands : List Band) (b : Band) (k : ℕ) (d : Band) → k < length (bands ++ b ∷ []) → ((k < length bands) × (get_or (bands ++ b ∷ []) k d ≡ get_or bands k d)) ⊎ ((k ≡ length bands) × (get_or (bands ++ b ∷ []) k d ≡ b))
 pushed_at bands b k d below =
     let long = length_push bands b in
     ⊎_elim (λ first. inl (first, get_or_append_left bands (b ∷ []) d k first))

@@ -34,7 +34,7 @@ true_colour f number =
     scaled f.red (value_in f.red number) * 2 ^ 16 + scaled f.green (value_in f.green number) * 2 ^ 8 + scaled f.blue (value_in f.blue number)
 
 -- 0 beyond the table
-abbrev pub table_colour : List ℕ → ℕ → ℕ
+abbrev pub table_colour : (table : List ℕ) → (place : ℕ) → ℕ
 table_colour table place = slice_index table place % 2 ^ 24
 
 -- the colour 0x00RRGGBB of a pixel, by its bytes

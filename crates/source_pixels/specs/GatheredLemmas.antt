@@ -10,10 +10,10 @@ use Rattle.source_pixels.specs.declared.bands.Band.{Band}
 use Rattle.source_pixels.specs.declared.pieces.Piece.{Piece}
 use Rattle.source_pixels.specs.Source.{Source, colour_at, colours_at}
 use Rattle.source_pixels.specs.Parts.{Part}
-use Rattle.source_pixels.specs.Rows.{difference_count}
+use Rattle.source_pixels.specs.Rows.{difference_count, IsDifference}
 use Rattle.source_pixels.specs.Bands.{is_in_band, IsBand, IsOutside, AreBands}
-use Rattle.source_pixels.specs.Differences.{columns_beside, rows_beside, row_beside, row_count, is_in_piece, IsPiece, AreDifferences}
-use Rattle.source_pixels.specs.Gathering.{IsSameAt, AreGathered, piece_of}
+use Rattle.source_pixels.specs.Differences.{columns_beside, rows_beside, row_beside, row_count, is_in_piece, IsPiece, HaveSpans, IsNear, AreDifferences}
+use Rattle.source_pixels.specs.Gathering.{IsSameAt, IsNearBand, AreGathered, piece_of}
 
 no_bands : (columns start : ℕ) (same : ℕ → ℕ → Type 0) → AreBands columns same start start []
 no_bands columns start same = record { each = λ k d below. absurd (omega arith); ordered = λ i j d before below. absurd (omega arith); whole = λ x r low below out. absurd (omega arith) }
@@ -22,6 +22,7 @@ pub gathered_none : (s : Source) (p : Part) (start : ℕ) → AreGathered s p st
 gathered_none s p start = record {
   are_bands = no_bands (columns_beside s p) start (IsSameAt s p);
   counted = ap (λ n. sum (map (row_count s p) (range_with_len start n))) (let e : 0 ≡ start - start = omega arith in e);
+  near = λ k d below. absurd (omega arith);
   few = omega arith;
   small = omega arith;
 }
@@ -89,6 +90,7 @@ gathered_append s p start y to xs ys m n before behind g h = record {
       ap (λ k. sum (map (row_count s p) (range_with_len k (to - y)))) (let e : start + (y - start) ≡ y = omega arith in e) in
       let first = g.counted in let second = h.counted in
       omega arith;
+  near = All-append (IsNearBand s p) xs ys g.near h.near;
   few = let long = length-append xs ys in let first = g.few in let second = h.few in omega arith;
   small =
       let whole : s.width * (to - start) ≡ s.width * (y - start) + s.width * (to - y) =
@@ -104,6 +106,30 @@ map_same f g a zero same = refl
 map_same f g a (suc n) same =
     ap (λ x. x ∷ map f (range_with_len (a + 1) n)) (same a (omega arith) (omega arith)) ∙ ap (λ l. g a ∷ l) (map_same f g (a + 1) n (λ r low below. same r (omega arith) (omega arith)))
 
+have_spans_beside : (s : Source) (p q : Part) (start y : ℕ) → ((r : ℕ) → start ≤ r → r < y → row_beside s p r ≡ row_beside s q r)
+    → (top rows spans : ℕ) → start ≤ top → top + rows ≤ y → HaveSpans s p top rows spans → HaveSpans s q top rows spans
+have_spans_beside s p q start y same top zero spans low high h = h
+have_spans_beside s p q start y same top (suc rows) spans low high h = (
+  h.0,
+  subst (λ (l : List ℕ). IsDifference (colours_at s 0 (top + rows) (length l)) l h.0) (same (top + rows) (omega arith) (omega arith)) h.1,
+  h.2,
+  have_spans_beside s p q start y same top rows h.2 low (omega arith) h.3,
+  h.4,
+)
+
+near_beside : (s : Source) (p q : Part) (start y columns : ℕ) → ((r : ℕ) → start ≤ r → r < y → row_beside s p r ≡ row_beside s q r)
+    → (b : Band) → IsBand columns start y b → IsNearBand s p b → IsNearBand s q b
+near_beside s p q start y columns same b fits h =
+    let some = fits.some_rows in let low = fits.low in let high = fits.high in (
+      record {
+        spans = h.0.spans;
+        have_spans = have_spans_beside s p q start y same b.top (b.bottom - b.top) h.0.spans low (omega arith) h.0.have_spans;
+        near = h.0.near;
+        small = h.0.small;
+      },
+      h.1,
+    )
+
 pub gathered_beside : (s : Source) (p q : Part) (start y : ℕ) (bands : List Band) (places : ℕ) → start ≤ y → p.columns ≡ q.columns → ((r : ℕ) → start ≤ r → r < y → p.row r ≡ q.row r)
     → AreGathered s p start y bands places → AreGathered s q start y bands places
 gathered_beside s p q start y bands places ordered wide rows h = record {
@@ -114,6 +140,7 @@ gathered_beside s p q start y bands places ordered wide rows h = record {
   };
   counted = h.counted ∙ ap sum (map_same (row_count s p) (row_count s q) start (y - start)
       (λ r low below. ap (λ (l : List ℕ). difference_count (colours_at s 0 r (length l)) l (length l)) (beside r low (omega arith))));
+  near = λ k d below. near_beside s p q start y (columns_beside s p) beside (get_or bands k d) (h.are_bands.each k d below) (h.near k d below);
   few = h.few;
   small = h.small;
 }
@@ -179,6 +206,10 @@ differences_are s p bands places h = record {
       ∙ ap (λ (a : Piece). is_in_piece a x y) (sym (piece_at s bands k q within))
       ∙ out k q (omega arith)))
       inside;
+  near = λ k d below.
+      let long = length-map bands (piece_of s) in
+      let inside : k < length bands = omega arith in
+      subst (λ (q : Piece). IsNear s p q.top q.rows q.columns) (sym (piece_at s bands k d inside)) (h.near k no_band inside).0;
   few = let long = length-map bands (piece_of s) in let few = h.few in omega arith;
   places = h.counted ∙ ap (λ n. sum (map (row_count s p) (range_with_len 0 n))) (let e : rows_beside s p - 0 ≡ rows_beside s p = omega arith in e);
 }

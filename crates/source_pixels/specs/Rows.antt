@@ -7,11 +7,11 @@ abbrev pub differs : List ℕ → List ℕ → ℕ → Bool
 differs colours row x = not (slice_index colours x == slice_index row x)
 
 -- in how many of the first places they differ
-abbrev pub difference_count : List ℕ → List ℕ → ℕ → ℕ
+abbrev pub difference_count : (colours row : List ℕ) → (places : ℕ) → ℕ
 difference_count colours row places = count_by (λ is_other. is_other) (map (differs colours row) (range_with_len 0 places))
 
 -- from one column to below another no place differs
-abbrev pub AreSame : List ℕ → List ℕ → ℕ → ℕ → Type 0
+abbrev pub AreSame : (colours row : List ℕ) → (from to : ℕ) → Type 0
 AreSame colours row from to = (x : ℕ) → from ≤ x → x < to → slice_index colours x ≡ slice_index row x
 
 -- they differ in the first and in the last of some columns, and in none outside

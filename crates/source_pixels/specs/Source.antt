@@ -21,11 +21,11 @@ abbrev pub pixel_at : Source → ℕ → ℕ → List ℕ
 pixel_at s x y = take (pixel_size s.format) (drop (y * s.stride + x * pixel_size s.format) s.bytes)
 
 -- its colour 0x00RRGGBB
-abbrev pub colour_at : Source → ℕ → ℕ → ℕ
+abbrev pub colour_at : Source → (x y : ℕ) → ℕ
 colour_at s x y = colour_of s.format (pixel_at s x y)
 
 -- the colours of so many places of row y, from column x on
-abbrev pub colours_at : Source → ℕ → ℕ → ℕ → List ℕ
+abbrev pub colours_at : Source → (x y count : ℕ) → List ℕ
 colours_at s x y count = map (λ k. colour_at s (x + k) y) (range_with_len 0 count)
 
 -- the colours of the first pixels of some bytes, where a function gives a pixel's colour
@@ -45,7 +45,7 @@ format_refusal (kind.TrueColour f) = if are_fitting f then None else Some BadCom
 format_refusal (kind.Table table) = if nat_le 1 (length table.now) && nat_le (length table.now) 256 then None else Some BadTable
 
 -- the last row needs no bytes behind its pixels
-abbrev pub bytes_needed : ℕ → ℕ → ℕ → ℕ
+abbrev pub bytes_needed : (row stride height : ℕ) → ℕ
 bytes_needed row stride height = if height == 0 then 0 else (height - 1) * stride + row
 
 abbrev pub layout_refusal : ℕ → Source → Option SourceError

@@ -30,7 +30,7 @@ module _ (nodes : Nodes) where
   is_head key = option_map_or (λ list. list == key) (list_in key) false
 
   -- the keys along the next links from a key on until `stop`: at most so many
-  abbrev pub along : ℕ → ℕ → ℕ → List ℕ
+  abbrev pub along : (stop count key : ℕ) → List ℕ
   along stop zero key = []
   along stop (suc n) key = if key == stop then [] else key ∷ option_map_or (λ next. along stop n next) (next_in key) []
 
@@ -61,7 +61,7 @@ module _ (nodes : Nodes) where
   IsLinked from to = (next_in nodes from ≡ Some to) × (previous_in nodes to ≡ Some from)
 
   -- the node at a key lies between two others
-  abbrev pub IsBetween : ℕ → ℕ → ℕ → Type 0
+  abbrev pub IsBetween : (before key after : ℕ) → Type 0
   IsBetween before key after = IsLinked before key × IsLinked key after × (before ≢ key) × (after ≢ key)
 
   -- links lead on and back between `from` and `to` through these nodes of a list

@@ -79,7 +79,7 @@ impl Model for Spans {
     ghost invariant = { λ a. IsHeld (get a.nodes) };
 }
 
-// The id of the span that a link leads to; `None` where it leads to the list's head.
+// Returns the id of the span that a link leads to; `None` if it leads to the list's head.
 fn span_id(list: usize, key: usize) -> Option<SpanId>
     ensures { result ≡ (if key == list then None else Some key) }
 {
@@ -90,7 +90,7 @@ fn span_id(list: usize, key: usize) -> Option<SpanId>
 }
 
 impl Spans {
-    /// No lists, and no room. This takes no memory.
+    /// Makes an arena with no lists, and no room. Takes no memory.
     pub fn new(alloc: Global) -> Self
         ensures lists { result.lists ≡ [] }
         ensures spans { result.spans ≡ [] }
@@ -101,7 +101,7 @@ impl Spans {
         }
     }
 
-    /// The same lists and spans under the same ids, in an arena of their own.
+    /// Copies the lists and spans under the same ids, into an arena of their own.
     pub fn try_clone(&self) -> Result<Self, AllocError>
         ensures lists { IfOk result (λ copy. copy.lists ≡ self.now.lists) }
         ensures spans { IfOk result (λ copy. copy.spans ≡ self.now.spans) }
@@ -111,16 +111,16 @@ impl Spans {
         })
     }
 
-    /// Whether more than three quarters of the arena are room, so that a copy of it is much larger than its lists. Which
-    /// arenas these are is in no clause, but that there is room.
+    /// Says whether more than three quarters of the arena are room, so that a copy of it is much larger than its lists. No
+    /// clause says which arenas these are, but that there is room.
     pub fn is_sparse(&self) -> bool
         ensures { result ≡ true → 0 < self.now.spare }
     {
         self.nodes.len() < self.nodes.capacity() / 4
     }
 
-    /// Makes room for so many lists and spans more, so that as many calls of `new_list`, `push_back` and `insert_before`
-    /// take no memory. No list and no span changes.
+    /// Makes room for `more` lists and spans more, so that as many calls of `new_list`, `push_back` and `insert_before` take no
+    /// memory. Changes no list and no span.
     pub fn reserve(&mut self, more: usize) -> Result<(), AllocError>
         ensures room { OnOk result (more ≤ self.new.spare) }
         ensures kept { self.old.spare ≤ self.new.spare }
@@ -129,7 +129,7 @@ impl Spans {
         self.nodes.reserve(more)
     }
 
-    /// A list with no spans.
+    /// Makes a list with no spans.
     pub fn new_list(&mut self) -> Result<ListId, AllocError>
         ensures fresh { IfOk result (λ list. list_of self.old list ≡ None) }
         ensures lists { IfOk result (λ list. SetsList self.old self.new list (Some [])) }
@@ -145,7 +145,7 @@ impl Spans {
         })
     }
 
-    /// Puts a span behind all others of a list.
+    /// Appends `span` to `list`.
     pub fn push_back(&mut self, list: ListId, span: Span) -> Result<SpanId, AllocError>
         requires { IsSome (list_of self.old list) }
         ensures fresh { IfOk result (λ at. span_of self.old at ≡ None) }
@@ -162,7 +162,7 @@ impl Spans {
         })
     }
 
-    /// Puts a span before another one of a list.
+    /// Puts `span` into `list`, before the span `at`.
     pub fn insert_before(
         &mut self,
         list: ListId,
@@ -185,7 +185,7 @@ impl Spans {
         })
     }
 
-    /// Takes a span out of a list, and gives its room back. This takes no memory.
+    /// Removes the span `at` from `list`, and gives its room back. Takes no memory.
     pub fn remove(&mut self, list: ListId, at: SpanId) -> Span
         requires { IsIn self.old list at }
         ensures span { span_of self.old at ≡ Some result }
@@ -197,7 +197,7 @@ impl Spans {
         cut(&mut self.nodes, at.key)
     }
 
-    /// The span with an id.
+    /// Returns the span with the id `at`.
     pub fn get(&self, at: SpanId) -> Span
         requires { IsSome (span_of self.now at) }
         ensures { span_of self.now at ≡ Some result }
@@ -205,7 +205,7 @@ impl Spans {
         self.nodes[at.key].span
     }
 
-    /// Makes another span of the one with an id. No list changes.
+    /// Replaces the span with the id `at` by `span`. Changes no list.
     pub fn set(&mut self, at: SpanId, span: Span)
         requires { IsSome (span_of self.old at) }
         ensures spans { SetsSpan self.old self.new at (Some span) }
@@ -215,7 +215,7 @@ impl Spans {
         self.nodes[at.key].span = span;
     }
 
-    /// The first span of a list; `None` where it has none.
+    /// Returns the first span of `list`; `None` if it has none.
     pub fn first(&self, list: ListId) -> Option<SpanId>
         requires { IsSome (list_of self.now list) }
         ensures { result ≡ slice_get (ids_of self.now list) 0 }
@@ -223,7 +223,7 @@ impl Spans {
         span_id(list.key, self.nodes[list.key].next)
     }
 
-    /// The last span of a list; `None` where it has none.
+    /// Returns the last span of `list`; `None` if it has none.
     pub fn last(&self, list: ListId) -> Option<SpanId>
         requires { IsSome (list_of self.now list) }
         ensures { result ≡ last_in (ids_of self.now list) }
@@ -231,7 +231,7 @@ impl Spans {
         span_id(list.key, self.nodes[list.key].previous)
     }
 
-    /// The span behind one in its list; `None` behind the last.
+    /// Returns the span behind the span `at` in its list; `None` behind the last.
     pub fn next(&self, at: SpanId) -> Option<SpanId>
         requires { IsSome (span_of self.now at) }
         ensures { (list : ℕ) (front back : List ℕ) → list_of self.now list ≡ Some (front ++ at ∷ back) → result ≡ slice_get back 0 }
@@ -240,7 +240,7 @@ impl Spans {
         span_id(node.list, node.next)
     }
 
-    /// The span before one in its list; `None` before the first.
+    /// Returns the span before the span `at` in its list; `None` before the first.
     pub fn prev(&self, at: SpanId) -> Option<SpanId>
         requires { IsSome (span_of self.now at) }
         ensures { (list : ℕ) (front back : List ℕ) → list_of self.now list ≡ Some (front ++ at ∷ back) → result ≡ last_in front }
@@ -249,8 +249,8 @@ impl Spans {
         span_id(node.list, node.previous)
     }
 
-    /// Frees a list and its spans, and gives their room back. Lists below its spans stay, so the caller frees them before.
-    /// This takes no memory.
+    /// Frees `list` and its spans, and gives their room back. Lists below its spans stay, so the caller frees them before.
+    /// Takes no memory.
     pub fn free_list(&mut self, list: ListId)
         requires { IsSome (list_of self.old list) }
         ensures lists { SetsList self.old self.new list None }
@@ -263,14 +263,14 @@ impl Spans {
         self.drop_head(list);
     }
 
-    /// A law: each id in a list is a span's, and is in that list alone, and there once; and each span's id is in a list.
+    /// States a law: each id in a list is a span's, and is in that list alone, and there once; and each span's id is in a list.
     pub fn lists_are_sound(&self)
         ensures { IsSound self.now }
     {
         let _ = self.nodes.len();
     }
 
-    // Frees a list that has no spans.
+    // Frees `list`, which has no spans.
     fn drop_head(&mut self, list: ListId)
         requires { list_of self.old list ≡ Some [] }
         ensures lists { SetsList self.old self.new list None }

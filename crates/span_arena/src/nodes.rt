@@ -17,7 +17,7 @@ pub struct Node {
     pub span: Span,
 }
 
-/// Leads on to `next` behind the node at a key.
+/// Sets the link that leads on from the node `at` to `next`.
 pub fn set_next(nodes: &mut Slab<Node>, at: usize, next: usize)
     requires { ContainsKey nodes.old at }
     ensures set { NextSet (get nodes.old) (get nodes.new) at next }
@@ -27,7 +27,7 @@ pub fn set_next(nodes: &mut Slab<Node>, at: usize, next: usize)
     nodes[at].next = next;
 }
 
-/// Leads back to `previous` before the node at a key.
+/// Sets the link that leads back from the node `at` to `previous`.
 pub fn set_previous(nodes: &mut Slab<Node>, at: usize, previous: usize)
     requires { ContainsKey nodes.old at }
     ensures set { PreviousSet (get nodes.old) (get nodes.new) at previous }
@@ -37,7 +37,7 @@ pub fn set_previous(nodes: &mut Slab<Node>, at: usize, previous: usize)
     nodes[at].previous = previous;
 }
 
-/// Puts in the head of a list that has no spans, in room that was made.
+/// Inserts the head of a list that has no spans, in room that was made.
 pub fn put_head(nodes: &mut Slab<Node>) -> usize
     requires { HasRoomFor nodes.old 1 }
     ensures put { HeadPut (get nodes.old) (get nodes.new) result }
@@ -58,7 +58,7 @@ pub fn put_head(nodes: &mut Slab<Node>) -> usize
     nodes.insert_reserved(head)
 }
 
-/// Puts a span before the node at a key of its list, in room that was made.
+/// Inserts `span` before the node `at` of its list, in room that was made.
 pub fn put(nodes: &mut Slab<Node>, list: usize, at: usize, span: Span) -> usize
     requires room { HasRoomFor nodes.old 1 }
     requires linked { (before : ℕ) × IsLinked (get nodes.old) before at }
@@ -80,7 +80,7 @@ pub fn put(nodes: &mut Slab<Node>, list: usize, at: usize, span: Span) -> usize
     key
 }
 
-/// Takes a span out from between its neighbours.
+/// Removes a span from between its neighbours.
 pub fn cut(nodes: &mut Slab<Node>, at: usize) -> Span
     requires { (before : ℕ) × (after : ℕ) × IsBetween (get nodes.old) before at after }
     ensures span { value_in (get nodes.old) at ≡ Some result }

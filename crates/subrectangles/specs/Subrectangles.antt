@@ -21,7 +21,7 @@ pub record IsBackground (pixels : List ℕ) (b : ℕ) : Type 0 where
   pub smallest : (p : ℕ) → times p pixels ≡ times b pixels → b ≤ p
 
 -- 7.7.3: the better background of two pixels
-abbrev pub better : List ℕ → ℕ → ℕ → ℕ
+abbrev pub better : (pixels : List ℕ) → (one other : ℕ) → ℕ
 better pixels p q = if nat_lt (times q pixels) (times p pixels) || ((times p pixels == times q pixels) && nat_lt p q) then p else q
 
 -- the best of a pixel and those of a list
@@ -40,7 +40,7 @@ run_of s = record { x = s.x; w = s.w; pixel = s.pixel }
 abbrev pub row_at : List (List ℕ) → ℕ → List ℕ
 row_at rows y = slice_index_or rows y []
 
-abbrev pub pixel_in : List (List ℕ) → ℕ → ℕ → ℕ
+abbrev pub pixel_in : (rows : List (List ℕ)) → (x y : ℕ) → ℕ
 pixel_in rows x y = slice_index (row_at rows y) x
 
 -- row y has the run: its pixels are one, and those beside it are others
@@ -63,7 +63,7 @@ pub record IsSubrectangle (rows : List (List ℕ)) (b : ℕ) (s : Subrectangle) 
 -- ---- the same, as a list that computes: at each place, the subrectangle that begins there
 
 -- how many pixels are the same from x on
-abbrev pub stretch : List ℕ → ℕ → ℕ
+abbrev pub stretch : (row : List ℕ) → (x : ℕ) → ℕ
 stretch row x = prefix_len (λ p. p == slice_index row x) (drop x row)
 
 -- a run begins at x: a pixel stands there, and none or another before it

@@ -15,8 +15,8 @@ use crate::translated::Pixels;
 use std::alloc::{AllocError, Global};
 use std::collections::HashMap;
 
-/// Whether a pixel that stands there `count` times is a better background than the best before it: more frequent, or
-/// as frequent and smaller.
+/// Says whether `pixel`, which stands there `count` times, is a better background than `best`, which stands there `most` times:
+/// more frequent, or as frequent and smaller.
 pub fn is_better(pixel: u32, count: usize, best: u32, most: usize) -> bool
     ensures yes { result ≡ true → (most < count) ⊎ ((most ≡ count) × (pixel < best)) }
     ensures no { result ≡ false → (count ≤ most) × (most ≡ count → best ≤ pixel) }
@@ -35,7 +35,7 @@ struct Guess {
     votes: usize,
 }
 
-/// One pixel has a vote.
+/// Gives `pixel` a vote: the guess gains one if it is `pixel`, and else loses one, or becomes `pixel` if it has none.
 fn vote(guess: &mut Guess, pixel: u32) {
     if pixel == guess.pixel {
         guess.votes = guess.votes.saturating_add(1);
@@ -47,7 +47,7 @@ fn vote(guess: &mut Guess, pixel: u32) {
     }
 }
 
-/// One in 128 pixels of a row of colours has a vote, from a place on, but none that is `beside`.
+/// Gives a vote to the pixel of one in 128 colours of `row`, from `first` on, but to none that is `beside`.
 fn vote_in_row(guess: &mut Guess, pixels: &Pixels, row: &[u32], first: usize, beside: Option<u32>)
     requires { length row.now < 2 ^ 16 }
 {
@@ -61,8 +61,8 @@ fn vote_in_row(guess: &mut Guess, pixels: &Pixels, row: &[u32], first: usize, be
     }
 }
 
-/// A pixel that may be the most frequent one, or the most frequent beside another: one in 128 pixels
-/// has a vote, and a pixel that more than half of them have wins. It is only a guess.
+/// Guesses the most frequent pixel, or the most frequent but `beside`: gives a vote to one in 128 pixels, and a pixel with more
+/// than half of the votes wins. It is only a guess.
 fn likely(pixels: &Pixels, beside: Option<u32>) -> u32 {
     let mut guess = Guess { pixel: 0, votes: 0 };
     let some = pixels.colours.width.min(128);
@@ -78,8 +78,7 @@ fn likely(pixels: &Pixels, beside: Option<u32>) -> u32 {
     guess.pixel
 }
 
-/// How often a pixel stands there. This has no branch in its loop, so that many places are looked
-/// at in one step.
+/// Returns how often `pixel` stands in `pixels`. Has no branch in its loop, so that one step looks at many places.
 pub fn times(pixels: &[u32], pixel: u32) -> usize
     requires { length pixels.now < 2 ^ 32 }
     ensures { result ≡ times pixel pixels.now }
@@ -91,8 +90,7 @@ pub fn times(pixels: &[u32], pixel: u32) -> usize
     count as usize
 }
 
-/// How often a pixel stands there, counted row by row, and no further once there are more than
-/// `enough`.
+/// Returns how often `pixel` stands there. Counts row by row, and no further once there are more than `enough`.
 fn times_until(
     alloc: Global,
     pixels: &Pixels,
@@ -113,8 +111,8 @@ fn times_until(
     Ok(count)
 }
 
-/// The better background of two pixels, where no other can be as frequent as the one of them that
-/// stands there more often: all others together have fewer places.
+/// Returns the better background of `one`, which stands there `ones` times, and `other`, if no other pixel can be as frequent as
+/// the more frequent of the two: all others together have fewer places. `None` if another may be, or if `one` is `other`.
 fn best_of_two(
     alloc: Global,
     pixels: &Pixels,
@@ -137,7 +135,7 @@ fn best_of_two(
     }
 }
 
-/// Adds to a pixel's count with one look-up, and gives the sum.
+/// Adds `places` to the count of `pixel` with one look-up, and returns the sum.
 fn add(counts: &mut HashMap<u32, usize>, pixel: u32, places: usize) -> Result<usize, AllocError>
     requires { unwrap_or (hash.get nat_eq counts.old pixel) 0 + places < 2 ^ 64 }
     ensures sum { IfOk result (λ n. n ≡ unwrap_or (hash.get nat_eq counts.old pixel) 0 + places) }
@@ -158,8 +156,8 @@ struct Counter {
     most: usize,
 }
 
-/// Counts the pixels of a row that stands there so many times. Each run of one pixel is counted at
-/// once, so this takes one look-up a run, and memory for each pixel that differs.
+/// Counts the pixels of a row that stands there `rows` times. Counts each run of one pixel at once, so takes one look-up a run, and
+/// memory for each pixel that differs.
 fn count_row(counter: &mut Counter, row: &[u32], rows: usize) -> Result<(), AllocError>
     requires some { 0 < rows }
     requires few { rows < 2 ^ 16 }
@@ -183,7 +181,7 @@ fn count_row(counter: &mut Counter, row: &[u32], rows: usize) -> Result<(), Allo
     Ok(())
 }
 
-/// How many rows of colours from `top` on are like the one there.
+/// Returns how many rows of colours from `top` on, one below another, are like the one there.
 fn rows_like(colours: &Lines, top: usize) -> usize
     requires inside { top < colours.now.height }
     ensures some { 0 < result }
@@ -199,8 +197,8 @@ fn rows_like(colours: &Lines, top: usize) -> usize
     colours.height - top
 }
 
-/// The most frequent pixel, of several the smallest, counted row by row; rows that are alike are
-/// counted at once.
+/// Returns the most frequent pixel, of several the smallest. Counts row by row, and rows that are alike, one below another, at
+/// once.
 fn counted_background(alloc: Global, pixels: &Pixels) -> Result<u32, AllocError>
     ensures { IfOk result (λ b. b ≡ background_of (pixels_in pixels.now)) }
 {
@@ -220,9 +218,8 @@ fn counted_background(alloc: Global, pixels: &Pixels) -> Result<u32, AllocError>
     Ok(counter.best)
 }
 
-/// The most frequent pixel, of several the smallest. Where a pixel that seems likely has more than
-/// half of the places, it is the one, and where two have enough of them, it is one of these; else
-/// all pixels are counted.
+/// Returns the most frequent pixel, of several the smallest. If a pixel that seems likely has more than half of the places, it is
+/// the one, and if two have enough of them, it is one of these; else counts all pixels.
 pub fn background_of(alloc: Global, pixels: &Pixels) -> Result<u32, AllocError>
     ensures { IfOk result (λ b. b ≡ background_of (pixels_in pixels.now)) }
 {

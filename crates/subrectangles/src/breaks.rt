@@ -13,8 +13,8 @@ ghost use Rattle.subrectangles.specs.Pixels.{pixel_lines};
 use crate::translated::Pixels;
 use std::alloc::{AllocError, Global};
 
-/// How many places of a row differ from the one before them and from the one above them. This has
-/// no branch in its loop, so that many places are looked at in one step.
+/// Returns how many places of `row` differ from the one before them and from the one in `above`. Has no branch in its loop, so that
+/// one step looks at many places.
 fn breaks_in(row: &[u32], above: &[u32]) -> usize
     requires wide { length above.now ≡ length row.now }
     requires columns { length row.now < 2 ^ 16 }
@@ -29,8 +29,7 @@ fn breaks_in(row: &[u32], above: &[u32]) -> usize
     count as usize
 }
 
-/// Counts such places of a row by what is left of their pixel when it is divided by 251, and tells
-/// how many there are.
+/// Counts such places of `row` in `buckets`, by their pixel modulo 251, and returns how many there are.
 fn add_breaks(buckets: &mut [usize; 251], row: &[u32], above: &[u32]) -> usize
     requires wide { length above.now ≡ length row.now }
     requires columns { length row.now < 2 ^ 16 }
@@ -49,7 +48,7 @@ fn add_breaks(buckets: &mut [usize; 251], row: &[u32], above: &[u32]) -> usize
     count
 }
 
-/// The greatest number.
+/// Returns the greatest number of `buckets`.
 fn most_of(buckets: &[usize; 251]) -> usize
     ensures { (k : ℕ) → k < 251 → slice_index buckets.now k ≤ result }
 {
@@ -60,8 +59,8 @@ fn most_of(buckets: &[usize; 251]) -> usize
     most
 }
 
-/// Whether more than `limit` such places are left when those with the background's pixel are left
-/// out, of which there are at most as many as in the fullest bucket.
+/// Says whether more than `limit` such places are left without as many as the fullest bucket has: at most so many have the
+/// background's pixel.
 fn has_too_many_kinds(alloc: Global, pixels: &Pixels, limit: usize) -> Result<bool, AllocError>
     ensures { IfOk result (λ many. many ≡ true → (b : ℕ) → limit < length (subrectangles b (pixel_lines pixels.now))) }
 {
@@ -77,8 +76,8 @@ fn has_too_many_kinds(alloc: Global, pixels: &Pixels, limit: usize) -> Result<bo
     Ok(limit < count.saturating_sub(most_of(&buckets)))
 }
 
-/// Whether there may be enough such places to be too many: there are few rows, or in one row of 16
-/// there are more than half as many as would be too many there. It is only a guess.
+/// Guesses whether there may be enough such places to be too many: there are few rows, or the rows that it looks at, one in 16,
+/// have together more than half as many as would be too many there. It is only a guess.
 fn may_have_too_many(alloc: Global, pixels: &Pixels, limit: usize) -> Result<bool, AllocError> {
     if pixels.colours.height < 64 {
         return Ok(true);
@@ -95,9 +94,8 @@ fn may_have_too_many(alloc: Global, pixels: &Pixels, limit: usize) -> Result<boo
     Ok(limit / 32 < count)
 }
 
-/// Whether there are more than `limit` subrectangles for certain: where a part of the rows has many
-/// such places, first with the half of each row left out, and then, where such places are enough, by
-/// their pixels.
+/// Says whether there are more than `limit` subrectangles for certain. Looks further only if a part of the rows has many such
+/// places: first leaves out the half of each row, and then, if there are enough such places, counts them by their pixels.
 pub fn has_too_many(alloc: Global, pixels: &Pixels, limit: usize) -> Result<bool, AllocError>
     requires limited { limit < 2 ^ 32 }
     ensures { IfOk result (λ many. many ≡ true → (b : ℕ) → limit < length (subrectangles b (pixel_lines pixels.now))) }

@@ -13,7 +13,7 @@ use pixel_translate::bytes::put_bytes;
 use pixel_translate::{Area, BitsPerPixel, PixelFormat};
 use std::alloc::AllocError;
 
-/// Appends a number of four bytes, the lowest first, and a subrectangle's place and size, at once.
+/// Appends `number` in four bytes, the lowest first, and the place and size of `sub`, at once.
 fn put_twelve(out: &mut Vec<u8>, number: u32, sub: Subrectangle) -> Result<(), AllocError>
     ensures ok { OnOk result (out.new.items ≡
         out.old.items ++ (to_le_bytes w32 number ++ be16 sub.x ++ be16 sub.y ++ be16 sub.w ++ be16 sub.h)) }
@@ -63,7 +63,7 @@ pub fn put_front(
     put_bytes(out, format, background)
 }
 
-/// Writes the number of subrectangles in its four places.
+/// Writes the number of subrectangles, `count`, in its four places from `start` on.
 pub fn write_count(out: &mut Vec<u8>, start: usize, count: u32)
     requires { start + 4 ≤ length out.old.items }
     ensures { out.new.items ≡ take start out.old.items ++ (be32 count ++ drop (start + 4) out.old.items) }

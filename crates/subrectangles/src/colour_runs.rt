@@ -23,7 +23,7 @@ pub(crate) struct ColourRun<'a> {
 }
 
 impl<'a> ColourRun<'a> {
-    /// Whether a colour has the run's pixel.
+    /// Says whether `colour` has the run's pixel.
     #[inline(always)]
     fn has(&self, colour: u32) -> bool
         ensures { result ≡ (pixel self.now.table.now colour == self.now.run.pixel) }
@@ -31,7 +31,7 @@ impl<'a> ColourRun<'a> {
         colour == self.colour || self.table.translate(colour) == self.run.pixel
     }
 
-    /// Whether each colour has the run's pixel.
+    /// Says whether each of `colours` has the run's pixel.
     fn has_all(&self, colours: &[u32]) -> bool
         requires { length colours.now < 2 ^ 16 }
         ensures yes { result ≡ true → (k : ℕ) → k < length colours.now →
@@ -50,7 +50,7 @@ impl<'a> ColourRun<'a> {
         true
     }
 
-    /// Whether the pixels of a row of colours have the run.
+    /// Says whether the pixels of `row`, a row of colours, have the run.
     fn is_in(&self, row: &[u32]) -> bool
         requires inside { self.now.run.x + self.now.run.w ≤ length row.now }
         requires columns { length row.now < 2 ^ 16 }
@@ -70,7 +70,7 @@ impl<'a> ColourRun<'a> {
         self.has_all(&row[start..end])
     }
 
-    /// How many rows of colours from `top` on have the run in their pixels, which the one there has.
+    /// Returns how many rows of colours from `top` on, one below another, have the run in their pixels. The one at `top` has it.
     pub(crate) fn rows_with(&self, colours: &Lines, top: usize) -> usize
         requires inside { top < colours.now.height }
         requires within { self.now.run.x + self.now.run.w ≤ colours.now.width }

@@ -37,18 +37,18 @@ pub struct Subrectangle {
     pub pixel: u32,
 }
 
-/// The subrectangles listed for a rectangle are exactly the runs that the row above and the row
-/// below haven't, as high as they go.
+/// Proves that the subrectangles listed for a rectangle are exactly the runs of other pixels than the background that the row above
+/// and the row below haven't, as high as they go.
 pub fn subrectangles_are_all_listed()
     ensures { ListsTheSubrectangles }
 {}
 
-/// They are listed by y, and those of one row by x, each once.
+/// Proves that the subrectangles are listed by y, and those of one row by x, each once.
 pub fn subrectangles_are_in_order()
     ensures { ListsInOrder }
 {}
 
-/// The background is the most frequent pixel, of several the smallest.
+/// Proves that the background is the most frequent pixel, of several the smallest.
 pub fn background_is_most_frequent()
     ensures { FindsTheBackground }
 {}

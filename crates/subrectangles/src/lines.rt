@@ -32,7 +32,7 @@ impl<'a> Lines<'a> {
     ghost use Rattle.subrectangles.specs.Lines.{lines_in};
     ghost use Rattle.subrectangles.specs.Subrectangles.{row_at, subrectangles_in};
 
-    /// The row at `y`.
+    /// Returns the row at `y`.
     #[inline(always)]
     pub fn row(&self, y: usize) -> &'a [u32]
         requires { y < self.now.height }
@@ -48,7 +48,7 @@ impl<'a> Lines<'a> {
         }
     }
 
-    /// Whether the row at `y` is the one above it, so that no subrectangle begins in it.
+    /// Says whether the row at `y` equals the one above it, so that no subrectangle begins in it.
     #[inline(always)]
     pub fn repeats(&self, y: usize) -> bool
         requires { y < self.now.height }

@@ -9,8 +9,8 @@ use pixel_translate::Table;
 /// How many colours of a row are translated at a time: so few that their places are still near when they are written.
 const PIECE: usize = 256;
 
-/// Writes the pixel of one colour where a piece has it, and that of another everywhere else, and tells whether the piece
-/// has just these two colours. This has no branch in its loop, so that many places are written in one step.
+/// Writes the pixel of `one` where `piece` has it, and that of `other` everywhere else, and returns whether the piece has no other
+/// colours than these. Has no branch in its loop, so that one step writes many places.
 fn write_two(places: &mut [u32], piece: &[u32], one: u32, other: u32, table: &Table) -> bool
     requires room { length places.old ≡ length piece.now }
     requires columns { length piece.now < 2 ^ 16 }
@@ -31,7 +31,7 @@ fn write_two(places: &mut [u32], piece: &[u32], one: u32, other: u32, table: &Ta
     strangers == 0
 }
 
-/// Writes the pixel of each colour of a piece. A colour that is the one before it isn't translated again.
+/// Writes the pixel of each colour of `piece`. Doesn't translate a colour again that is the one before it.
 fn write_each(places: &mut [u32], piece: &[u32], table: &Table)
     requires room { length places.old ≡ length piece.now }
     ensures { places.new ≡ map (pixel table.now) piece.now }
@@ -47,8 +47,8 @@ fn write_each(places: &mut [u32], piece: &[u32], table: &Table)
     }
 }
 
-/// The other colour of a piece that may have two: the first that isn't the one in front, or that one where there is no
-/// other. Nothing where the first three stretches are of three colours. It is only a guess.
+/// Returns the other colour of a piece that may have two: the first that isn't the one in front, or that one if there is no other.
+/// `None` if the first three stretches are of three colours. It is only a guess.
 fn other_colour(piece: &[u32]) -> Option<u32>
     requires { 0 < length piece.now }
 {
@@ -63,8 +63,8 @@ fn other_colour(piece: &[u32]) -> Option<u32>
     Some(piece[second])
 }
 
-/// Writes the pixel of each colour of a piece. Where it may have just two colours, as a piece of text has, it is taken for
-/// one that has.
+/// Writes the pixel of each colour of `piece`. If it may have just two colours, as a piece of text has, takes it first for one that
+/// has.
 fn write_piece(places: &mut [u32], piece: &[u32], table: &Table)
     requires room { length places.old ≡ length piece.now }
     requires some { 0 < length piece.now }
@@ -79,7 +79,7 @@ fn write_piece(places: &mut [u32], piece: &[u32], table: &Table)
     write_each(places, piece, table);
 }
 
-/// Writes the pixel of each colour of a row, a piece of it at a time.
+/// Writes the pixel of each colour of `row`, a piece of it at a time.
 pub(crate) fn write_row(places: &mut [u32], row: &[u32], table: &Table)
     requires room { length places.old ≡ length row.now }
     requires columns { length row.now < 2 ^ 16 }

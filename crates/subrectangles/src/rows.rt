@@ -21,7 +21,7 @@ impl<'a> Rows<'a> {
     ghost use Rattle.subrectangles.specs.Rows.{rows_in};
     ghost use Rattle.subrectangles.specs.Subrectangles.{row_at};
 
-    /// The row at `y`.
+    /// Returns the row at `y`.
     #[inline(always)]
     pub fn row(&self, y: usize) -> &'a [u32]
         requires { y < self.now.height }

@@ -28,8 +28,7 @@ pub(crate) struct Run {
     pub(crate) pixel: u32,
 }
 
-/// Whether the pixels are all one. This has no branch in its loop, so that many are looked at in one
-/// step.
+/// Says whether each of `pixels` is `pixel`. Has no branch in its loop, so that one step looks at many.
 pub(crate) fn are_all(pixels: &[u32], pixel: u32) -> bool
     requires { length pixels.now < 2 ^ 16 }
     ensures yes { result ≡ true → (k : ℕ) → k < length pixels.now → slice_index pixels.now k ≡ pixel }
@@ -42,8 +41,7 @@ pub(crate) fn are_all(pixels: &[u32], pixel: u32) -> bool
     others == 0
 }
 
-/// Where the last block of 16 pixels that are all one ends, of those one behind another from `from`
-/// on.
+/// Returns where the blocks of 16 pixels end that are all `pixel`, one behind another from `from` on; `from` if there is none.
 #[inline(always)]
 fn blocks_end(row: &[u32], from: usize, pixel: u32) -> usize
     requires { from ≤ length row.now }
@@ -61,7 +59,7 @@ fn blocks_end(row: &[u32], from: usize, pixel: u32) -> usize
     x
 }
 
-/// How many pixels are the same from `start` on, where those before `near` are.
+/// Returns how many pixels from `start` on are the same. Those before `near` are.
 fn far_stretch(row: &[u32], start: usize, near: usize) -> usize
     requires some { start < near }
     requires inside { near ≤ length row.now }
@@ -80,8 +78,7 @@ fn far_stretch(row: &[u32], start: usize, near: usize) -> usize
     row.len() - start
 }
 
-/// How many pixels are the same from `start` on: the first eight are looked at one by one, and then
-/// a block at a time.
+/// Returns how many pixels from `start` on are the same. Looks at the first eight one by one, and then at a block at a time.
 pub fn stretch_from(row: &[u32], start: usize) -> usize
     requires { start < length row.now }
     ensures same { result ≡ stretch row.now start }
@@ -98,8 +95,8 @@ pub fn stretch_from(row: &[u32], start: usize) -> usize
     far_stretch(row, start, near)
 }
 
-/// Whether the row has the run. Its first place tells most rows that don't; then what stands at its end and beside it is
-/// counted where it doesn't fit, with one branch for all three, and what lies between is looked at only where it fits.
+/// Says whether `row` has `run`. Its first place tells most rows that don't. Then counts what doesn't fit at the run's end and
+/// beside it, with one branch for all three, and looks at what lies between only if these fit.
 #[inline]
 fn has_run(row: &[u32], run: Run) -> bool
     requires some { 0 < run.w }
@@ -119,7 +116,7 @@ fn has_run(row: &[u32], run: Run) -> bool
     last + left + right == 0 && are_all(&row[run.x..end], run.pixel)
 }
 
-/// How many rows from `top` on have the run, which the one there has.
+/// Returns how many rows from `top` on, one below another, have `run`. The one at `top` has it.
 #[inline]
 fn rows_with(pixels: &Lines, top: usize, run: Run) -> usize
     requires inside { top < pixels.now.height }
@@ -137,7 +134,7 @@ fn rows_with(pixels: &Lines, top: usize, run: Run) -> usize
     pixels.height - top
 }
 
-/// Whether a subrectangle begins with a run of the row at `y`.
+/// Says whether a subrectangle begins with `run`, which is one of the row at `y`.
 #[inline(always)]
 fn begins_with(pixels: &Lines, background: u32, y: usize, run: Run) -> bool
     requires inside { y < pixels.now.height }
@@ -150,8 +147,8 @@ fn begins_with(pixels: &Lines, background: u32, y: usize, run: Run) -> bool
     run.pixel != background && !(0 < y && has_run(pixels.row(y - 1), run))
 }
 
-/// The subrectangle that begins with the run of `w` pixels at `x` of the row at `y`, as high as it goes; nothing where
-/// none does, since the run is of the background or is in the row above too.
+/// Returns the subrectangle that begins with the run of `w` pixels at `x` of the row at `y`, as high as it goes. `None` if none
+/// does, since the run is of the background or is in the row above too.
 #[inline(always)]
 pub fn subrectangle_at(
     pixels: &Lines,
@@ -188,8 +185,8 @@ pub fn subrectangle_at(
     })
 }
 
-/// The same where the pixels are translated by a table: those of the row and of the one above it are there, and the rows below
-/// are looked at as colours.
+/// Returns what `subrectangle_at` does, of pixels translated by `table`: takes those of the row and of the one above it from
+/// `rows`, and looks at the rows below as colours.
 fn translated_subrectangle_at(
     pixels: &Pixels,
     table: &Table,
@@ -233,7 +230,7 @@ fn translated_subrectangle_at(
     })
 }
 
-/// The same of pixels that may be translated.
+/// Returns what `subrectangle_at` does, of pixels that are translated if they have a table.
 #[inline(always)]
 fn subrectangle_of(
     pixels: &Pixels,
@@ -259,9 +256,9 @@ fn subrectangle_of(
     }
 }
 
-/// Goes on from a place up to another with where the runs of a row begin: so many begin before it, and one more is written for
-/// each that begins from there on. How many begin before `end`. This has no branch in its loop, so runs of any lengths take the
-/// same time.
+/// Goes on from `from` to before `end` with writing to `starts` where the runs of `row` begin: `begun` of them begin before `from`,
+/// and it adds each that begins from there on. Returns how many begin before `end`. Has no branch in its loop, so runs of any
+/// lengths take the same time.
 fn find_runs_between(
     starts: &mut [u16],
     begun: usize,
@@ -288,8 +285,8 @@ fn find_runs_between(
     count
 }
 
-/// Writes where the runs of a row begin, and where the last one ends, and tells how many there are. Blocks that go on with the
-/// run before them are passed over at once.
+/// Writes to `starts` where the runs of `row` begin, and where the last one ends, and returns how many there are. Passes over
+/// blocks that go on with the run before them at once.
 fn find_runs(starts: &mut [u16], row: &[u32]) -> usize
     requires some { 0 < length row.now }
     requires columns { length row.now < 2 ^ 16 }
@@ -310,8 +307,7 @@ fn find_runs(starts: &mut [u16], row: &[u32]) -> usize
     count
 }
 
-/// Appends the subrectangles that begin in the row at `y`, as bytes. The places where its runs begin are written to `starts`
-/// first.
+/// Appends the subrectangles that begin in the row at `y`, as bytes. Uses `starts` for the places where its runs begin.
 fn put_row(
     out: &mut Vec<u8>,
     starts: &mut [u16],
@@ -344,8 +340,8 @@ fn put_row(
     Ok(())
 }
 
-/// Appends the subrectangles by y and then by x, as bytes, and tells whether they leave `out` shorter than `end`. Else a part of
-/// them is appended.
+/// Appends the subrectangles by y and then by x, as bytes, and returns whether they leave `out` shorter than `end`. If not, it may
+/// have appended only a part of them.
 pub fn put_subrectangles(
     out: &mut Vec<u8>,
     pixels: &Pixels,

@@ -25,7 +25,7 @@ pub(crate) struct TwoRows {
 }
 
 impl<'a> Pixels<'a> {
-    /// The pixel of a colour.
+    /// Returns the pixel of `colour`.
     #[inline]
     pub(crate) fn pixel_of(&self, colour: u32) -> u32
         ensures { result ≡ pixel_by self.now.table colour }
@@ -36,7 +36,7 @@ impl<'a> Pixels<'a> {
         }
     }
 
-    /// Places for the pixels of one row.
+    /// Makes places for the pixels of one row; none if there is no table.
     pub(crate) fn places(&self, alloc: Global) -> Result<Vec<u32>, AllocError>
         ensures { IfOk result (λ places. HasRoom self.now places.items) }
     {
@@ -46,7 +46,7 @@ impl<'a> Pixels<'a> {
         }
     }
 
-    /// Writes the pixels of the row at `y`, unless they are its colours.
+    /// Writes the pixels of the row at `y` into `places`, unless they are its colours.
     pub(crate) fn fill(&self, y: usize, places: &mut [u32])
         requires inside { y < self.now.colours.height }
         requires room { HasRoom self.now places.old }
@@ -57,7 +57,7 @@ impl<'a> Pixels<'a> {
         }
     }
 
-    /// The pixels of the row at `y`, from the places that have them, or from its colours.
+    /// Returns the pixels of the row at `y`: `places`, which have them, or its colours.
     #[inline(always)]
     pub(crate) fn row<'b>(&self, y: usize, places: &'b [u32]) -> &'b [u32]
     where
@@ -73,7 +73,7 @@ impl<'a> Pixels<'a> {
         }
     }
 
-    /// Whether the row at `y` has the colours of the one above it, so that no subrectangle begins in it.
+    /// Says whether the row at `y` has the colours of the one above it, so that no subrectangle begins in it.
     #[inline(always)]
     pub(crate) fn repeats(&self, y: usize) -> bool
         requires { y < self.now.colours.height }
@@ -82,7 +82,7 @@ impl<'a> Pixels<'a> {
         0 < y && self.colours.row(y) == self.colours.row(y - 1)
     }
 
-    /// Places for two rows, at the top: the first row has none above it, and stands in both.
+    /// Makes places for two rows, at the top: the first row has none above it, and stands in both.
     pub(crate) fn first_rows(&self, alloc: Global) -> Result<TwoRows, AllocError>
         ensures { IfOk result (λ rows. HasRows self.now 0 rows) }
     {
@@ -93,7 +93,7 @@ impl<'a> Pixels<'a> {
         Ok(TwoRows { row, above })
     }
 
-    /// Goes to the row at `y`, from any other.
+    /// Goes with `rows` to the row at `y`, from any other.
     pub(crate) fn go_to(&self, rows: &mut TwoRows, y: usize)
         requires below { 0 < y }
         requires inside { y < self.now.colours.height }
@@ -104,8 +104,8 @@ impl<'a> Pixels<'a> {
         self.fill(y, &mut rows.row);
     }
 
-    /// Goes on to the row at `y` from the one above it; at the top it stands there already. A row with the colours of the one
-    /// above it isn't translated again.
+    /// Goes on with `rows` to the row at `y` from the one above it; at the top they stand there already. Doesn't translate a row
+    /// again that has the colours of the one above it.
     pub(crate) fn go_on(&self, rows: &mut TwoRows, y: usize)
         requires inside { y < self.now.colours.height }
         requires above { HasRows self.now (y - 1) rows.old }

@@ -13,7 +13,7 @@ fn key(key: u32) -> Input {
     Input::Key { down: true, key }
 }
 
-/// Whether an input is this key of a viewer.
+/// Says whether `told` is the key `wanted` of `viewer`, going down.
 fn is_key(told: Option<&Told>, viewer: u64, wanted: u32) -> bool {
     match told {
         Some(told) => {
@@ -24,7 +24,8 @@ fn is_key(told: Option<&Told>, viewer: u64, wanted: u32) -> bool {
     }
 }
 
-// Two seats take turns; a full queue gives the input back; what is left is there in order.
+// Checks that the taker takes the inputs of two seats in the order of their puts, that a full queue gives the input back, and that
+// what is left is there in order.
 #[test]
 fn inputs_come_in_the_order_of_the_puts(rt: HostRuntime) -> Result<(), Fail> {
     let (mut hub, mut taker) = InputHub::new(rt.alloc(), 2)?;
@@ -50,7 +51,8 @@ fn inputs_come_in_the_order_of_the_puts(rt: HostRuntime) -> Result<(), Fail> {
     Ok(())
 }
 
-// What a viewer holds is let go, as far as there is room, and then the rest: a key's release, and the pointer where it was.
+// Checks that `let_go` lets go what a viewer holds, as far as there is room, and then the rest: a key's release, and the pointer
+// where it was.
 #[test]
 fn what_is_held_is_let_go(rt: HostRuntime) -> Result<(), Fail> {
     let (mut hub, mut taker) = InputHub::new(rt.alloc(), 2)?;
@@ -107,7 +109,7 @@ fn what_is_held_is_let_go(rt: HostRuntime) -> Result<(), Fail> {
     Ok(())
 }
 
-// A taker that is woken finds nothing, after what was put before; a closed hub is at its end.
+// Checks that a taker that is woken finds nothing, after what was put before, and that a closed hub is at its end.
 #[test]
 fn a_taker_is_woken(rt: HostRuntime) -> Result<(), Fail> {
     let (mut hub, mut taker) = InputHub::new(rt.alloc(), 2)?;
@@ -133,7 +135,7 @@ fn capacities_are_1_to_65_536(rt: HostRuntime) {
     }
 }
 
-/// Puts the keys from 0 to 999, trying again where the queue is full, and says how many were accepted.
+/// Puts the keys from 0 to 999, in 1,000,000 turns at most, trying again if the queue is full, and returns how many were accepted.
 fn put_all<R: Wait>(rt: &R, hub: &InputHub, mut seat: InputSeat) -> (InputSeat, u32)
     requires { seat.queue ≡ hub.now.queue }
     ensures { result.0.queue ≡ seat.queue }
@@ -152,7 +154,7 @@ fn put_all<R: Wait>(rt: &R, hub: &InputHub, mut seat: InputSeat) -> (InputSeat, 
     (seat, next)
 }
 
-/// Takes the next input, which it waits for or not.
+/// Takes the next input; waits for it if `waits`. `None` if there is none.
 fn take_next<R: Wait>(rt: &R, hub: &InputHub, taker: &mut Taker, waits: bool) -> Option<Told>
     requires { taker.old.queue ≡ hub.now.queue }
     ensures { taker.new.queue ≡ taker.old.queue }
@@ -164,8 +166,8 @@ fn take_next<R: Wait>(rt: &R, hub: &InputHub, taker: &mut Taker, waits: bool) ->
     }
 }
 
-/// Takes, in 1,000,000 turns at most: where it waits, until the hub is closed, and else until it has 2,000, trying again where there
-/// is nothing.
+/// Takes inputs, in 1,000,000 turns at most: if `waits`, until the hub is closed, and else until there are 2,000, trying again
+/// while there is nothing.
 fn take_all<R: Wait>(
     rt: &R,
     alloc: Global,
@@ -194,7 +196,7 @@ fn take_all<R: Wait>(
     (taker, all)
 }
 
-/// Two seats put, each in a thread.
+/// Lets two seats put all their keys, each in a thread.
 fn both<R: Threads + Wait + Sync>(
     rt: &R,
     hub: &InputHub,
@@ -217,7 +219,7 @@ fn both<R: Threads + Wait + Sync>(
     )
 }
 
-/// Whether these are the keys from 0 to 999 of viewers 1 and 2, each viewer's in order, and nothing else.
+/// Says whether `taken` are the keys from 0 to 999 of viewers 1 and 2, each viewer's in order, and nothing else.
 fn are_all(taken: &[Told]) -> bool {
     let mut next = [0u32; 2];
     for told in taken {
@@ -235,8 +237,8 @@ fn are_all(taken: &[Told]) -> bool {
     next == [1000, 1000]
 }
 
-/// Two seats put and a third thread takes, which waits or not. Whether all was accepted, and what was taken is that, in order, and
-/// nothing else.
+/// Lets two seats put and a third thread take, waiting if `waits`. Says whether all was accepted, and what was taken is that, in
+/// order, and nothing else.
 fn three<R: Threads + Wait + Sync>(rt: &R, alloc: Global, waits: bool) -> Result<bool, QueueError> {
     let (mut hub, taker) = InputHub::new(alloc, 64)?;
     let one = hub.seat(1);

@@ -71,8 +71,8 @@ static ALL: [Call; 16] = [
     Call::FromRects,
 ];
 
-/// The next number of the sequence n * 6364136223846793005 + 1442695040888963407 modulo 2^64, of which the high bits are
-/// drawn.
+/// Draws a number below `below` from the high bits of the next number of the sequence n * 6364136223846793005 + 1442695040888963407
+/// modulo 2^64.
 fn drawn(seed: &mut u64, below: u8) -> i32
     requires { 0 < below }
 {
@@ -82,7 +82,7 @@ fn drawn(seed: &mut u64, below: u8) -> i32
     ((*seed >> 33) % u64::from(below)) as i32
 }
 
-/// A rectangle of the first 10 columns and rows; some have no places.
+/// Draws a rectangle of the first 10 columns and rows; some have no places.
 fn drawn_rect(seed: &mut u64) -> Rect {
     let (x1, y1) = (drawn(seed, 10), drawn(seed, 10));
     Rect {
@@ -93,7 +93,7 @@ fn drawn_rect(seed: &mut u64) -> Rect {
     }
 }
 
-/// One rectangle as often as several, of which many overlap.
+/// Appends one drawn rectangle as often as several, up to `most`, of which many overlap.
 fn put_drawn(rects: &mut Vec<Rect>, seed: &mut u64, most: u8) -> Result<(), AllocError>
     requires { 0 < most }
 {
@@ -123,7 +123,7 @@ fn replace(region: &mut Region, by: Result<Region, AllocError>) -> Result<bool, 
     Ok(true)
 }
 
-/// Tells whether there is room once it was made.
+/// Makes room in `region` for the places of `other`, and adds them in it. Returns whether there was room then.
 fn or_in_room(region: &mut Region, other: &Region) -> Result<bool, AllocError> {
     region.reserve_or(other)?;
     let has_room = region.is_reserved_for(other);
@@ -133,7 +133,7 @@ fn or_in_room(region: &mut Region, other: &Region) -> Result<bool, AllocError> {
     Ok(has_room)
 }
 
-/// A clone is used from here on. Tells whether nothing is left of the first, which is cleared.
+/// Replaces the region by its clone. Returns whether nothing is left of the first, which it clears.
 fn clone_and_clear(region: &mut Region, alloc: Global) -> Result<bool, AllocError> {
     let copy = region.try_clone(alloc)?;
     region.clear();
@@ -142,7 +142,7 @@ fn clone_and_clear(region: &mut Region, alloc: Global) -> Result<bool, AllocErro
     Ok(is_cleared)
 }
 
-/// A call of the region's with another one. Tells whether its answer is right: whether places are left.
+/// Makes a call of the region's with `other`. Returns whether its answer is right: whether places are left.
 fn change_region(region: &mut Region, call: Call, other: &Region) -> Result<bool, AllocError> {
     match call {
         Call::Or => {
@@ -159,7 +159,7 @@ fn change_region(region: &mut Region, call: Call, other: &Region) -> Result<bool
     }
 }
 
-/// The same on both sides, the other one's places being those of rectangles.
+/// Makes the same call on both sides, with the places of `rects` as the other set. Returns whether the region's answer is right.
 fn change_both(
     both: &mut Both,
     alloc: Global,
@@ -176,7 +176,7 @@ fn change_both(
     change_region(&mut both.region, call, &other)
 }
 
-/// Both are moved away, or back from where they were moved.
+/// Moves both away, or back from where they were moved. Returns whether the region was moved.
 fn move_both(both: &mut Both, seed: &mut u64) -> bool {
     let (x, y) = both.moved;
     let (dx, dy) = if (x, y) == (0, 0) {
@@ -206,13 +206,13 @@ fn pop_both(both: &mut Both, alloc: Global, seed: &mut u64) -> Result<bool, Allo
     Ok(both.region.pop_rect(reverse_x, reverse_y) == first)
 }
 
-/// Both become the places of up to 40 rectangles.
+/// Replaces both by the places of `rects`, which are at most 40.
 fn draw_both(both: &mut Both, alloc: Global, rects: &[Rect]) -> Result<bool, AllocError> {
     both.list = combined(alloc, rects, &[], Keep::Either)?;
     replace(&mut both.region, region_of(alloc, rects))
 }
 
-/// One more call. Tells whether the region's answer is right.
+/// Makes one more call on both. Returns whether the region's answer is right.
 fn step(both: &mut Both, alloc: Global, seed: &mut u64, call: Call) -> Result<bool, AllocError> {
     let mut rects = Vec::new(alloc);
     match call {
@@ -230,7 +230,7 @@ fn step(both: &mut Both, alloc: Global, seed: &mut u64, call: Call) -> Result<bo
     }
 }
 
-/// Whether both have the same list in each order.
+/// Says whether both have the same list in each order.
 fn have_same_lists(region: &Region, list: &[Rect]) -> Result<bool, AllocError> {
     let (straight, turned) = (region.rects(false, false)?, region.rects(true, true)?);
     let (across, down) = (region.rects(true, false)?, region.rects(false, true)?);
@@ -243,7 +243,7 @@ fn have_same_lists(region: &Region, list: &[Rect]) -> Result<bool, AllocError> {
     )
 }
 
-/// The places that can be drawn, moved ones too: 14 columns and rows from -2 on.
+/// Returns which of the places that can be drawn, moved ones too, `list` holds: 14 columns and rows from -2 on.
 fn board_of(list: &[Rect]) -> [bool; 196] {
     let mut board = [false; 196];
     for rect in list {
@@ -259,7 +259,7 @@ fn board_of(list: &[Rect]) -> [bool; 196] {
     board
 }
 
-/// Whether both hold the same of all these places.
+/// Says whether both hold the same of all these places.
 fn hold_alike(region: &Region, list: &[Rect]) -> bool {
     for (at, is_held) in board_of(list).iter().enumerate() {
         let (x, y) = ((at % 14) as i32, (at / 14 % 14) as i32);
@@ -270,7 +270,7 @@ fn hold_alike(region: &Region, list: &[Rect]) -> bool {
     true
 }
 
-/// Whether 2,000 such calls leave both alike.
+/// Says whether 2,000 such calls leave both alike.
 fn stay_alike(alloc: Global, calls: &[Call; 16]) -> Result<bool, AllocError> {
     let mut both = Both {
         region: Region::new(alloc),

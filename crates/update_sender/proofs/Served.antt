@@ -215,10 +215,6 @@ ending-further Gate before added buffer rest left all whole part h = absurd h
 ending-further Closed before added buffer rest left all whole part h = absurd h
 ending-further Stopped before added buffer rest left all whole part h = absurd h
 
--- less is left once more is in the buffer
-pub less-left : (old new left rest : List ℕ) → new ++ rest ≡ old ++ left → length old < length new → length rest < length left
-less-left old new left rest e more = omega (arith, more, ap (λ (l : List ℕ). length l) e, length-append new rest, length-append old left)
-
 -- ---- answering
 
 writing-ends : (e : Ended) (written due : List ℕ) → WritingEnds e written due → (e ≡ Memory) ⊎ (e ≡ WriteFailed)

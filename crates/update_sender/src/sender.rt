@@ -11,13 +11,13 @@ use crate::line::Speaker;
 use crate::next_step::Turn;
 use crate::reasons::passed;
 use crate::shared::Shared;
-use crate::writing::{BUFFER, fill};
 use listed::Listed;
 use receipts::Ended;
 use screen::Update;
 use std::io::Write;
 use std::sync::Wait;
 use std::sync::ledger::Ledger;
+use viewer::STREAM_BUFFER;
 
 /// What a viewer's sender leaves.
 #[derive(Drop)]
@@ -102,8 +102,8 @@ fn send_next<L: Ledger, W: Write, G: Gate, R: Wait>(
     let update = next_update(rt, shared, speaker)?;
     passed(gate.encoding(viewer))?;
     let mut stream = update.into_stream();
-    let mut buffer = Vec::with_capacity(shared.alloc, BUFFER)?;
-    fill(&mut buffer, &mut stream)?;
+    let mut buffer = Vec::with_capacity(shared.alloc, STREAM_BUFFER)?;
+    stream.fill(&mut buffer)?;
     passed(gate.writing(viewer))?;
     let count = speaker.write_stream(writer, &mut buffer, &mut stream)?;
     gate.wrote(viewer, count);

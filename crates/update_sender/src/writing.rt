@@ -9,28 +9,8 @@ ghost use Rattle.update_sender.specs.Serving.{Writes};
 use crate::line::Speaker;
 use crate::reasons::all_written;
 use receipts::Ended;
-use std::alloc::AllocError;
 use std::io::Write;
 use viewer::Stream;
-
-/// How many bytes of an update are encoded before they are written, at most: 64 KB.
-pub const BUFFER: usize = 65_536;
-
-/// How many bytes a stream appends at once, at most.
-const PIECE: usize = 8192;
-
-/// Fills a buffer with the next bytes of an update, until all are in it or fewer than a piece's places are left.
-pub fn fill(buffer: &mut Vec<u8>, stream: &mut Stream) -> Result<(), AllocError>
-    ensures bytes { OnOk result (buffer.new.items ++ stream.new ≡ stream.old) }
-    ensures more { OnOk result (stream.old ≢ [] → 0 < length buffer.new.items) }
-    ensures bound { length buffer.new.items ≤ 65536 }
-{
-    buffer.clear();
-    while buffer.len() <= BUFFER - PIECE && !stream.is_ended() {
-        stream.put(buffer)?;
-    }
-    Ok(())
-}
 
 /// Writes until all is written, a write fails, or one takes nothing. How many bytes were written.
 fn put_on<W: Write>(writer: &mut W, bytes: &[u8]) -> usize
@@ -76,7 +56,7 @@ impl Speaker {
         self.write(writer, buffer)?;
         let mut count = buffer.len() as u64;
         while !stream.is_ended() {
-            fill(buffer, stream)?;
+            stream.fill(buffer)?;
             self.write(writer, buffer)?;
             count = count.saturating_add(buffer.len() as u64);
         }

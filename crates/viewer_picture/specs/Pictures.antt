@@ -1,4 +1,4 @@
--- When what a viewer shows is what is drawn.
+-- When what a viewer shows is what is drawn (RFC 6143, 3 and 7.6.1).
 use Rattle.std.specs.Prelude.{◌≡◌, ℕ, true, false, if◌then◌else◌, List, ℤ, ◌-ℤ◌, nat_abs, Option, None, Some}
 use Rattle.pixel_translate.specs.declared.PixelFormat.{PixelFormat}
 use Rattle.pixel_translate.specs.Pixel.{pixel}
@@ -12,11 +12,12 @@ use Rattle.framebuffer.specs.Picture.{colour_at}
 abbrev pub dot_at : Shown → ℤ → ℤ → Option Dot
 dot_at shown x y = shown (nat_abs x) (nat_abs y)
 
--- it shows a colour: the colour's pixel in some format
+-- it shows a colour: the colour's pixel in some format (7.4)
 abbrev pub ShowsColour : Option Dot → ℕ → Type 0
 ShowsColour dot colour = (f : PixelFormat) × (dot ≡ Some (record { format = f; pixel = pixel f colour }))
 
--- Of a w by h screen each clean place shows its colour; and of a place that awaits a copy, the place that the copy is from is on the screen and shows its colour.
+-- Of a w by h screen each clean place shows its colour; and of a place that awaits a copy, the place that the copy is from is on the screen
+-- and shows its colour (7.7.2).
 pub record ShowsPicture (w h : ℕ) (picture : List ℕ) (marks : Marks) (shown : Shown) : Type 0 where
   pub clean : (x y : ℤ) → on_screen w h x y ≡ true → mark_at marks x y ≡ Clean → ShowsColour (dot_at shown x y) (colour_at w h picture x y)
   pub copied : (x y : ℤ) → on_screen w h x y ≡ true → mark_at marks x y ≡ Copied

@@ -8,8 +8,8 @@ use encode_hextile::hextile_is_read_back;
 use encode_raw::raw_is_read_back;
 use encode_rre::rre_is_read_back;
 
-/// A viewer that reads a rectangle of its picture shows each colour's pixel at its place, in Raw and in each encoding that it
-/// listed; and one that reads a copy shows at each place what the source showed.
+/// Proves that a viewer that reads a rectangle of its picture shows each colour's pixel at its place, in Raw and in each encoding
+/// that it listed; and that one that reads a copy shows at each place what the source showed.
 pub fn rectangles_are_read()
     ensures { RectanglesAreRead }
 {
@@ -18,19 +18,19 @@ pub fn rectangles_are_read()
     hextile_is_read_back();
 }
 
-/// It reads no rectangle beyond its picture, none in an encoding that it didn't list, but for Raw, and no copy of what is beyond
-/// the picture.
+/// Proves that a viewer reads no rectangle beyond its picture, none in an encoding that it didn't list, but for Raw, and no copy of
+/// what is beyond the picture.
 pub fn all_read_is_legal()
     ensures { all_read_is_legal }
 {}
 
-/// What the server takes of the encodings that a viewer lists was listed, but for Raw.
+/// Proves that the viewer listed each encoding that the server takes of its list, but for Raw.
 pub fn taken_was_listed()
     ensures { taken_was_listed }
 {}
 
-/// A viewer shows a picture by its marks exactly where it would show, once it made the copies that it awaits, each colour at its
-/// place, but for the places that are owed; and where each of these copies is from the screen.
+/// Proves that a viewer shows a picture by its marks exactly if two things hold: once it made the copies that it awaits, it would
+/// show each colour at its place, but for the places that are owed; and each of these copies is from the screen.
 pub fn pictures_are_owed_or_shown()
     ensures { PicturesAreOwedOrShown }
 {}

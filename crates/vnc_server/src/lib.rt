@@ -16,7 +16,7 @@ ghost use Rattle.c_screen.specs.Codes as codes;
 ghost use Rattle.c_screen.specs.Calls.{colour_at, of_viewer};
 ghost use Rattle.c_screen.specs.Desk.{rect_of, config_of};
 ghost use Rattle.c_server.specs.Desk.{nothing_there, rects_per_update};
-ghost use Rattle.c_server.specs.Calls.{Listens, NamesRecord, record_state, TakesTurn, Draws, DrawsRegion, FetchesInputs, FetchesVisits, ShowsNumbers, ShowsText, ShowsSettings, Tells, TellsAddress, TellsSome, TellsWait, LetsGo, TakesPixels, Wakes};
+ghost use Rattle.c_server.specs.Calls.{Listens, ServesUnbound, Adopts, NamesRecord, record_state, TakesTurn, Draws, DrawsRegion, FetchesInputs, FetchesVisits, ShowsNumbers, ShowsText, ShowsSettings, Tells, TellsAddress, TellsSome, TellsWait, LetsGo, TakesPixels, Wakes};
 ghost use Rattle.c_screen.specs.Pixels.{format_of, source_from};
 ghost use Rattle.source_pixels.specs.declared.formats.SourceFormat.TheVariants as format;
 
@@ -25,21 +25,21 @@ use std::alloc::Global;
 use std::mem::size_of;
 use std::ptr;
 
-/// What C sees behind its pointer: nothing.
+/// `struct vnc_server`, opaque to C.
 #[repr(C)]
 #[derive(Drop)]
 pub struct Place {
     unseen: u8,
 }
 
-/// What C sees behind its pointer to a waker: nothing.
+/// `struct vnc_waker`, opaque to C.
 #[repr(C)]
 #[derive(Drop)]
 pub struct WakerPlace {
     unseen: u8,
 }
 
-/// The number of this interface: `VNC_SERVER_ABI` of the header.
+/// Returns the number of this interface: `VNC_SERVER_ABI` of the header.
 #[unsafe(no_mangle)]
 pub extern "C" fn vnc_server_abi() -> u32
     ensures { result ≡ 6 }
@@ -47,7 +47,7 @@ pub extern "C" fn vnc_server_abi() -> u32
     6
 }
 
-/// How many bytes of memory C has to give for a server; their address is a multiple of 16.
+/// Returns how many bytes of memory C has to give for a server; their address is a multiple of 16.
 #[unsafe(no_mangle)]
 pub extern "C" fn vnc_server_size() -> usize
     ensures { result ≡ type_size desk_row }
@@ -64,7 +64,7 @@ pub unsafe extern "C" fn vnc_server_init(at: *mut Place, alloc: Global)
     ptr::write(at as *mut ServerDesk, ServerDesk::new(alloc))
 }
 
-/// `ServerDesk::record_next`.
+/// Names the file in which the screen that is served next is recorded, by `path` (`ServerDesk::record_next`).
 #[unsafe(no_mangle)]
 pub unsafe extern "C" fn vnc_server_record_n(at: *mut Place, path: &[u8]) -> i32
     ghost before: { desk_row.Denot }
@@ -74,7 +74,7 @@ pub unsafe extern "C" fn vnc_server_record_n(at: *mut Place, path: &[u8]) -> i32
     ServerDesk::record_next(&mut *(at as *mut ServerDesk), path)
 }
 
-/// `ServerDesk::record_state`.
+/// Returns whether what is served is recorded (`ServerDesk::record_state`).
 #[unsafe(no_mangle)]
 pub unsafe extern "C" fn vnc_server_record_state(at: *mut Place) -> i32
     ghost before: { desk_row.Denot }
@@ -84,7 +84,7 @@ pub unsafe extern "C" fn vnc_server_record_state(at: *mut Place) -> i32
     ServerDesk::record_state(&mut *(at as *mut ServerDesk))
 }
 
-/// `ServerDesk::listen`.
+/// Listens on a port of an address, and serves a black screen (`ServerDesk::listen`).
 #[unsafe(no_mangle)]
 pub unsafe extern "C" fn vnc_server_listen_n(
     at: *mut Place,
@@ -97,7 +97,7 @@ pub unsafe extern "C" fn vnc_server_listen_n(
 ) -> i32
     ghost before: { desk_row.Denot }
     requires* { sem 𝓛 (holds at before) }
-    ensures* { sem 𝓛 (leaves at (λ after. Listens (config_of width height name.now rects_per_update) address.now port before after result)) }
+    ensures* { sem 𝓛 (leaves at (λ after. Listens (config_of width height name.now rects_per_update) viewers address.now port before after result)) }
 {
     ServerDesk::listen(
         &mut *(at as *mut ServerDesk),
@@ -110,7 +110,33 @@ pub unsafe extern "C" fn vnc_server_listen_n(
     )
 }
 
-/// `ServerDesk::close`.
+/// Serves a black screen, and listens nowhere (`ServerDesk::serve`).
+#[unsafe(no_mangle)]
+pub unsafe extern "C" fn vnc_server_serve_n(
+    at: *mut Place,
+    width: u32,
+    height: u32,
+    name: &[u8],
+    viewers: u32,
+) -> i32
+    ghost before: { desk_row.Denot }
+    requires* { sem 𝓛 (holds at before) }
+    ensures* { sem 𝓛 (leaves at (λ after. ServesUnbound (config_of width height name.now rects_per_update) viewers before after result)) }
+{
+    ServerDesk::serve(&mut *(at as *mut ServerDesk), width, height, name, viewers)
+}
+
+/// Takes in the connection that `fd` is (`ServerDesk::adopt`).
+#[unsafe(no_mangle)]
+pub unsafe extern "C" fn vnc_server_adopt(at: *mut Place, fd: i32) -> i64
+    ghost before: { desk_row.Denot }
+    requires* { sem 𝓛 (holds at before) }
+    ensures* { sem 𝓛 (leaves at (λ after. Adopts fd before after result)) }
+{
+    ServerDesk::adopt(&mut *(at as *mut ServerDesk), fd)
+}
+
+/// Closes the server (`ServerDesk::close`).
 #[unsafe(no_mangle)]
 pub unsafe extern "C" fn vnc_server_close(at: *mut Place) -> i32
     ghost before: { desk_row.Denot }
@@ -120,7 +146,7 @@ pub unsafe extern "C" fn vnc_server_close(at: *mut Place) -> i32
     ServerDesk::close(&mut *(at as *mut ServerDesk))
 }
 
-/// `ServerDesk::process_events`.
+/// Takes one turn of the loop, which waits at most `milliseconds` (`ServerDesk::process_events`).
 #[unsafe(no_mangle)]
 pub unsafe extern "C" fn vnc_server_process_events(at: *mut Place, milliseconds: i32) -> i32
     ghost before: { desk_row.Denot }
@@ -130,7 +156,7 @@ pub unsafe extern "C" fn vnc_server_process_events(at: *mut Place, milliseconds:
     ServerDesk::process_events(&mut *(at as *mut ServerDesk), milliseconds)
 }
 
-/// `ServerDesk::close_viewer`.
+/// Lets `viewer` go in a later turn (`ServerDesk::close_viewer`).
 #[unsafe(no_mangle)]
 pub unsafe extern "C" fn vnc_server_close_viewer(at: *mut Place, viewer: u64) -> i32
     ghost before: { desk_row.Denot }
@@ -140,7 +166,7 @@ pub unsafe extern "C" fn vnc_server_close_viewer(at: *mut Place, viewer: u64) ->
     ServerDesk::close_viewer(&mut *(at as *mut ServerDesk), viewer)
 }
 
-/// `ServerDesk::viewer_address`.
+/// Puts the address that the connection of `viewer` comes from into `room` (`ServerDesk::viewer_address`).
 #[unsafe(no_mangle)]
 pub unsafe extern "C" fn vnc_server_viewer_address_n(
     at: *mut Place,
@@ -154,7 +180,7 @@ pub unsafe extern "C" fn vnc_server_viewer_address_n(
     ServerDesk::viewer_address(&mut *(at as *mut ServerDesk), viewer, room)
 }
 
-/// `ServerDesk::fd`.
+/// Returns the system's handle that is ready to be read when something came over the network (`ServerDesk::fd`).
 #[unsafe(no_mangle)]
 pub unsafe extern "C" fn vnc_server_fd(at: *mut Place) -> i32
     ghost before: { desk_row.Denot }
@@ -164,7 +190,7 @@ pub unsafe extern "C" fn vnc_server_fd(at: *mut Place) -> i32
     ServerDesk::fd(&mut *(at as *mut ServerDesk))
 }
 
-/// `ServerDesk::timeout`.
+/// Returns for how many milliseconds a turn would wait now if nothing comes over the network (`ServerDesk::timeout`).
 #[unsafe(no_mangle)]
 pub unsafe extern "C" fn vnc_server_timeout(at: *mut Place) -> i32
     ghost before: { desk_row.Denot }
@@ -174,7 +200,7 @@ pub unsafe extern "C" fn vnc_server_timeout(at: *mut Place) -> i32
     ServerDesk::timeout(&mut *(at as *mut ServerDesk))
 }
 
-/// `ServerDesk::paint`.
+/// Paints a rectangle (`ServerDesk::paint`).
 #[unsafe(no_mangle)]
 pub unsafe extern "C" fn vnc_server_paint(
     at: *mut Place,
@@ -191,7 +217,7 @@ pub unsafe extern "C" fn vnc_server_paint(
     ServerDesk::paint(&mut *(at as *mut ServerDesk), x1, y1, x2, y2, colours)
 }
 
-/// `ServerDesk::write_pixels`.
+/// Paints a rectangle, which no viewer is sent before it is marked (`ServerDesk::write_pixels`).
 #[unsafe(no_mangle)]
 pub unsafe extern "C" fn vnc_server_write_pixels(
     at: *mut Place,
@@ -208,7 +234,7 @@ pub unsafe extern "C" fn vnc_server_write_pixels(
     ServerDesk::write_pixels(&mut *(at as *mut ServerDesk), x1, y1, x2, y2, colours)
 }
 
-/// `ServerDesk::mark_rect`.
+/// Marks a rectangle as changed (`ServerDesk::mark_rect`).
 #[unsafe(no_mangle)]
 pub unsafe extern "C" fn vnc_server_mark_rect(
     at: *mut Place,
@@ -224,7 +250,7 @@ pub unsafe extern "C" fn vnc_server_mark_rect(
     ServerDesk::mark_rect(&mut *(at as *mut ServerDesk), x1, y1, x2, y2)
 }
 
-/// `ServerDesk::schedule_copy_rect`.
+/// Tells the viewers that pixels move into a rectangle, and leaves the picture (`ServerDesk::schedule_copy_rect`).
 #[unsafe(no_mangle)]
 pub unsafe extern "C" fn vnc_server_schedule_copy_rect(
     at: *mut Place,
@@ -242,7 +268,7 @@ pub unsafe extern "C" fn vnc_server_schedule_copy_rect(
     ServerDesk::schedule_copy_rect(&mut *(at as *mut ServerDesk), x1, y1, x2, y2, dx, dy)
 }
 
-/// `ServerDesk::do_copy_rect`.
+/// Moves pixels into a rectangle, and tells the viewers (`ServerDesk::do_copy_rect`).
 #[unsafe(no_mangle)]
 pub unsafe extern "C" fn vnc_server_do_copy_rect(
     at: *mut Place,
@@ -260,7 +286,7 @@ pub unsafe extern "C" fn vnc_server_do_copy_rect(
     ServerDesk::do_copy_rect(&mut *(at as *mut ServerDesk), x1, y1, x2, y2, dx, dy)
 }
 
-/// `ServerDesk::update_from`.
+/// Takes a program's own pixels into the picture (`ServerDesk::update_from`).
 #[unsafe(no_mangle)]
 pub unsafe extern "C" fn vnc_server_update_from(
     at: *mut Place,
@@ -290,7 +316,7 @@ pub unsafe extern "C" fn vnc_server_update_from(
     )
 }
 
-/// `ServerDesk::bell`.
+/// Rings the viewers' bells (`ServerDesk::bell`).
 #[unsafe(no_mangle)]
 pub unsafe extern "C" fn vnc_server_bell(at: *mut Place) -> i32
     ghost before: { desk_row.Denot }
@@ -300,7 +326,7 @@ pub unsafe extern "C" fn vnc_server_bell(at: *mut Place) -> i32
     ServerDesk::bell(&mut *(at as *mut ServerDesk))
 }
 
-/// `ServerDesk::cut_text`.
+/// Sends the viewers a copied text (`ServerDesk::cut_text`).
 #[unsafe(no_mangle)]
 pub unsafe extern "C" fn vnc_server_cut_text(at: *mut Place, text: &[u8]) -> i32
     ghost before: { desk_row.Denot }
@@ -310,7 +336,7 @@ pub unsafe extern "C" fn vnc_server_cut_text(at: *mut Place, text: &[u8]) -> i32
     ServerDesk::cut_text(&mut *(at as *mut ServerDesk), text)
 }
 
-/// `ServerDesk::new_framebuffer`.
+/// Replaces the picture by a black one of `width` columns and `height` rows (`ServerDesk::new_framebuffer`).
 #[unsafe(no_mangle)]
 pub unsafe extern "C" fn vnc_server_new_framebuffer(at: *mut Place, width: u32, height: u32) -> i32
     ghost before: { desk_row.Denot }
@@ -320,7 +346,7 @@ pub unsafe extern "C" fn vnc_server_new_framebuffer(at: *mut Place, width: u32, 
     ServerDesk::new_framebuffer(&mut *(at as *mut ServerDesk), width, height)
 }
 
-/// `ServerDesk::mark_region`.
+/// Marks the places of the rectangles in `list` as changed (`ServerDesk::mark_region`).
 #[unsafe(no_mangle)]
 pub unsafe extern "C" fn vnc_server_mark_region(at: *mut Place, list: &[Corners]) -> i32
     ghost before: { desk_row.Denot }
@@ -330,7 +356,7 @@ pub unsafe extern "C" fn vnc_server_mark_region(at: *mut Place, list: &[Corners]
     ServerDesk::mark_region(&mut *(at as *mut ServerDesk), list)
 }
 
-/// `ServerDesk::schedule_copy_region`.
+/// Tells the viewers that pixels move into the rectangles of `list`, and leaves the picture (`ServerDesk::schedule_copy_region`).
 #[unsafe(no_mangle)]
 pub unsafe extern "C" fn vnc_server_schedule_copy_region(
     at: *mut Place,
@@ -345,7 +371,7 @@ pub unsafe extern "C" fn vnc_server_schedule_copy_region(
     ServerDesk::schedule_copy_region(&mut *(at as *mut ServerDesk), list, dx, dy)
 }
 
-/// `ServerDesk::do_copy_region`.
+/// Moves pixels into the rectangles of `list`, and tells the viewers (`ServerDesk::do_copy_region`).
 #[unsafe(no_mangle)]
 pub unsafe extern "C" fn vnc_server_do_copy_region(
     at: *mut Place,
@@ -360,7 +386,7 @@ pub unsafe extern "C" fn vnc_server_do_copy_region(
     ServerDesk::do_copy_region(&mut *(at as *mut ServerDesk), list, dx, dy)
 }
 
-/// `ServerDesk::next_inputs`.
+/// Fetches the next inputs of all viewers into `room`, up to the first text (`ServerDesk::next_inputs`).
 #[unsafe(no_mangle)]
 pub unsafe extern "C" fn vnc_server_next_inputs(at: *mut Place, room: &mut [Told]) -> i64
     ghost before: { desk_row.Denot }
@@ -370,7 +396,7 @@ pub unsafe extern "C" fn vnc_server_next_inputs(at: *mut Place, room: &mut [Told
     ServerDesk::next_inputs(&mut *(at as *mut ServerDesk), room)
 }
 
-/// `ServerDesk::text`.
+/// Puts the first bytes of the text that `vnc_server_next_inputs` fetched last into `room` (`ServerDesk::text`).
 #[unsafe(no_mangle)]
 pub unsafe extern "C" fn vnc_server_text(at: *mut Place, room: &mut [u8]) -> i32
     ghost before: { desk_row.Denot }
@@ -380,7 +406,7 @@ pub unsafe extern "C" fn vnc_server_text(at: *mut Place, room: &mut [u8]) -> i32
     ServerDesk::text(&mut *(at as *mut ServerDesk), room)
 }
 
-/// `ServerDesk::next_events`.
+/// Fetches who came and went next into `room` (`ServerDesk::next_events`).
 #[unsafe(no_mangle)]
 pub unsafe extern "C" fn vnc_server_next_events(at: *mut Place, room: &mut [Visit]) -> i64
     ghost before: { desk_row.Denot }
@@ -390,7 +416,7 @@ pub unsafe extern "C" fn vnc_server_next_events(at: *mut Place, room: &mut [Visi
     ServerDesk::next_events(&mut *(at as *mut ServerDesk), room)
 }
 
-/// `ServerDesk::lost_count`.
+/// Returns how many inputs, comings and goings were lost, at most 2^62 (`ServerDesk::lost_count`).
 #[unsafe(no_mangle)]
 pub unsafe extern "C" fn vnc_server_lost_count(at: *mut Place) -> i64
     ghost before: { desk_row.Denot }
@@ -400,7 +426,7 @@ pub unsafe extern "C" fn vnc_server_lost_count(at: *mut Place) -> i64
     ServerDesk::lost_count(&mut *(at as *mut ServerDesk))
 }
 
-/// `ServerDesk::full_request_count`.
+/// Returns how often a viewer asked for places whether these changed or not, at most 2^62 (`ServerDesk::full_request_count`).
 #[unsafe(no_mangle)]
 pub unsafe extern "C" fn vnc_server_full_request_count(at: *mut Place) -> i64
     ghost before: { desk_row.Denot }
@@ -410,7 +436,7 @@ pub unsafe extern "C" fn vnc_server_full_request_count(at: *mut Place) -> i64
     ServerDesk::full_request_count(&mut *(at as *mut ServerDesk))
 }
 
-/// `ServerDesk::port`.
+/// Returns the port that the server listens on (`ServerDesk::port`).
 #[unsafe(no_mangle)]
 pub unsafe extern "C" fn vnc_server_port(at: *mut Place) -> i32
     ghost before: { desk_row.Denot }
@@ -420,7 +446,7 @@ pub unsafe extern "C" fn vnc_server_port(at: *mut Place) -> i32
     ServerDesk::port(&mut *(at as *mut ServerDesk))
 }
 
-/// `ServerDesk::viewer_count`.
+/// Returns how many viewers are connected, at most 2^30 (`ServerDesk::viewer_count`).
 #[unsafe(no_mangle)]
 pub unsafe extern "C" fn vnc_server_viewer_count(at: *mut Place) -> i32
     ghost before: { desk_row.Denot }
@@ -430,7 +456,7 @@ pub unsafe extern "C" fn vnc_server_viewer_count(at: *mut Place) -> i32
     ServerDesk::viewer_count(&mut *(at as *mut ServerDesk))
 }
 
-/// `ServerDesk::numbers`.
+/// Puts the connected viewers' numbers into `room`, in order of connecting (`ServerDesk::numbers`).
 #[unsafe(no_mangle)]
 pub unsafe extern "C" fn vnc_server_numbers(at: *mut Place, room: &mut [u64]) -> i32
     ghost before: { desk_row.Denot }
@@ -440,7 +466,7 @@ pub unsafe extern "C" fn vnc_server_numbers(at: *mut Place, room: &mut [u64]) ->
     ServerDesk::numbers(&mut *(at as *mut ServerDesk), room)
 }
 
-/// `ServerDesk::is_open`.
+/// Returns 1 if the opening of `viewer` is over and it met no fault, else 0 (`ServerDesk::is_open`).
 #[unsafe(no_mangle)]
 pub unsafe extern "C" fn vnc_server_is_open(at: *mut Place, viewer: u64) -> i32
     ghost before: { desk_row.Denot }
@@ -450,7 +476,7 @@ pub unsafe extern "C" fn vnc_server_is_open(at: *mut Place, viewer: u64) -> i32
     ServerDesk::is_open(&mut *(at as *mut ServerDesk), viewer)
 }
 
-/// `ServerDesk::settings`.
+/// Puts the first words of what `viewer` has set into `room` (`ServerDesk::settings`).
 #[unsafe(no_mangle)]
 pub unsafe extern "C" fn vnc_server_settings_n(at: *mut Place, viewer: u64, room: &mut [u32]) -> i32
     ghost before: { desk_row.Denot }
@@ -460,7 +486,7 @@ pub unsafe extern "C" fn vnc_server_settings_n(at: *mut Place, viewer: u64, room
     ServerDesk::settings(&mut *(at as *mut ServerDesk), viewer, room)
 }
 
-/// `ServerDesk::width`.
+/// Returns the picture's columns (`ServerDesk::width`).
 #[unsafe(no_mangle)]
 pub unsafe extern "C" fn vnc_server_width(at: *mut Place) -> i64
     ghost before: { desk_row.Denot }
@@ -470,7 +496,7 @@ pub unsafe extern "C" fn vnc_server_width(at: *mut Place) -> i64
     ServerDesk::width(&mut *(at as *mut ServerDesk))
 }
 
-/// `ServerDesk::height`.
+/// Returns the picture's rows (`ServerDesk::height`).
 #[unsafe(no_mangle)]
 pub unsafe extern "C" fn vnc_server_height(at: *mut Place) -> i64
     ghost before: { desk_row.Denot }
@@ -480,7 +506,7 @@ pub unsafe extern "C" fn vnc_server_height(at: *mut Place) -> i64
     ServerDesk::height(&mut *(at as *mut ServerDesk))
 }
 
-/// `ServerDesk::colour`.
+/// Returns the colour of the place in column `x` of row `y` (`ServerDesk::colour`).
 #[unsafe(no_mangle)]
 pub unsafe extern "C" fn vnc_server_colour(at: *mut Place, x: u32, y: u32) -> i64
     ghost before: { desk_row.Denot }
@@ -490,7 +516,7 @@ pub unsafe extern "C" fn vnc_server_colour(at: *mut Place, x: u32, y: u32) -> i6
     ServerDesk::colour(&mut *(at as *mut ServerDesk), x, y)
 }
 
-/// How many bytes of memory C has to give for a waker; their address is a multiple of 16.
+/// Returns how many bytes of memory C has to give for a waker; their address is a multiple of 16.
 #[unsafe(no_mangle)]
 pub extern "C" fn vnc_waker_size() -> usize
     ensures { result ≡ type_size waker_row }
@@ -498,7 +524,7 @@ pub extern "C" fn vnc_waker_size() -> usize
     size_of::<ServerWaker>()
 }
 
-/// Puts what `ServerDesk::waker` gives into C's memory.
+/// Puts the waker that `ServerDesk::waker` gives into C's memory.
 #[unsafe(no_mangle)]
 pub unsafe extern "C" fn vnc_waker_init(at: *mut Place, waker: *mut WakerPlace)
     ghost before: { desk_row.Denot }
@@ -511,7 +537,7 @@ pub unsafe extern "C" fn vnc_waker_init(at: *mut Place, waker: *mut WakerPlace)
     )
 }
 
-/// `ServerWaker::wake`.
+/// Ends the wait of a turn, from another thread (`ServerWaker::wake`).
 #[unsafe(no_mangle)]
 pub unsafe extern "C" fn vnc_waker_wake(at: *mut WakerPlace) -> i32
     ghost before: { waker_row.Denot }
@@ -521,7 +547,7 @@ pub unsafe extern "C" fn vnc_waker_wake(at: *mut WakerPlace) -> i32
     ServerWaker::wake(&mut *(at as *mut ServerWaker))
 }
 
-/// `ServerWaker::close`.
+/// Shuts the waker (`ServerWaker::close`).
 #[unsafe(no_mangle)]
 pub unsafe extern "C" fn vnc_waker_close(at: *mut WakerPlace) -> i32
     ghost before: { waker_row.Denot }

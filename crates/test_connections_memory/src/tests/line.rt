@@ -14,7 +14,7 @@ pub enum Then {
     Fails,
 }
 
-/// What a viewer says, in pieces of at most so many bytes, and what follows; how many bytes it takes in a write at most, and in
+/// What a viewer says, in pieces of at most `piece` bytes, and what follows; how many bytes it takes in a write at most, and in
 /// all; and whether each second read and each second write would wait.
 #[derive(Clone, Copy)]
 pub struct Talk {

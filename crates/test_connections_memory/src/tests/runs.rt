@@ -44,7 +44,7 @@ fn config(
     })
 }
 
-/// An opening, and so many pointers (RFC 6143, 7.5.5).
+/// Returns an opening and `count` pointers (RFC 6143, 7.5.5).
 fn flood(alloc: Global, count: u32) -> Result<Vec<u8>, AllocError> {
     let mut bytes = OPENING.to_vec(alloc)?;
     for _ in 0..count {
@@ -53,7 +53,7 @@ fn flood(alloc: Global, count: u32) -> Result<Vec<u8>, AllocError> {
     Ok(bytes)
 }
 
-/// Makes the steps: the number, from 1 on, of the first one that does not hold, and 0 where all do.
+/// Makes the steps, and returns the number, from 1 on, of the first one that does not hold, or 0 if all do.
 fn first_wrong<'a>(
     alloc: Global,
     connections: &mut Connections<Line<'a>>,
@@ -70,7 +70,7 @@ fn first_wrong<'a>(
     Ok(0)
 }
 
-/// The same on a screen of its own.
+/// Makes the steps of `run` on a screen of its own, and returns what `first_wrong` does.
 fn wrong_in(alloc: Global, run: &Run) -> Result<usize, ScreenError> {
     let flood = flood(alloc, run.flood)?;
     let mut connections = Connections::new(alloc, config(alloc, run.size, run.history)?)?;
@@ -86,7 +86,8 @@ fn runs_come_to_what_they_say(rt: HostRuntime) -> Result<(), Fail> {
     Ok(())
 }
 
-/// Whether a run comes to what it says where its session is recorded, in memory; and to this record, where one is given.
+/// Says whether a run comes to what it says while its session is recorded, in memory; and, if `session` is given, whether the
+/// record is `session`.
 fn is_recorded(alloc: Global, run: &Run, session: Option<&[u8]>) -> Result<bool, ScreenError> {
     let flood = flood(alloc, run.flood)?;
     let config = config(alloc, run.size, run.history)?;
@@ -98,7 +99,7 @@ fn is_recorded(alloc: Global, run: &Run, session: Option<&[u8]>) -> Result<bool,
     Ok(wrong == 0 && is_session && !connections.is_record_broken())
 }
 
-/// What is recorded of `RUN`: the screen, what it is painted in, and what its viewer does. Each number stands in it as in the run.
+/// The record of `RUN`: the screen, what it is painted in, and what its viewer does. Each number stands in it as in the run.
 const SESSION: &[u8] = b"screen 4 3 demo 50\npaint 0 0 4 3 00000a\nconnect 1\n\
     hear 1 524642203030332e3030380a010103000000000000040003\ncut 1\nclose 1\n";
 
@@ -111,8 +112,8 @@ fn sessions_are_recorded_as_they_happen(rt: HostRuntime) -> Result<(), Fail> {
     Ok(())
 }
 
-/// Whether one that left, if one did, was sent all and then left, or was sent the beginning where memory was refused; and whether it
-/// was.
+/// Says whether the viewer that left, if one did, was sent all and then left, or was sent the beginning before memory was refused;
+/// and whether memory was refused to it.
 fn parts(alloc: Global, departed: Option<Departed<Line<'_>>>) -> (bool, bool) {
     let Some(
         Departed {
@@ -134,7 +135,8 @@ fn parts(alloc: Global, departed: Option<Departed<Line<'_>>>) -> (bool, bool) {
     }
 }
 
-/// Where an allocation fails, whichever, at most one of two viewers ends by that, and the other is sent all of the screen.
+/// Checks that at most one of two viewers ends by an allocation that fails, whichever that is, and that the other is sent all of
+/// the screen.
 fn expect_others_served(rt: &impl Abort, alloc: Global, connections: &mut Connections<Line<'_>>) {
     let mut application = NOTHING;
     for _ in 0..2u32 {
@@ -166,7 +168,7 @@ fn two_viewers_whichever_allocation_is_refused(rt: HostRuntime) {
     }
 }
 
-/// A viewer over a reader and a writer is sent all of the screen, and the application is told that it came and left.
+/// Says whether a viewer over a reader and a writer is sent all of the screen, and the application is told that it came and left.
 fn serves_both(
     alloc: Global,
     connections: &mut Connections<Both<&[u8], Vec<u8>>>,

@@ -45,7 +45,7 @@ pub struct Counting {
 }
 
 impl Counting {
-    /// Notes a parting behind those before it, where it is one of the first four.
+    /// Notes a parting behind those before it, if it is one of the first four.
     fn note(&mut self, parting: Parting) {
         if let Some(noted) = self.partings.get_mut(self.parted) {
             *noted = Some(parting);
@@ -105,8 +105,8 @@ impl Application for Counting {
     }
 }
 
-/// How a viewer is to have ended; what it was sent: so many bytes of the opening and the whole screen in this colour, and then some
-/// more; what was heard of it, in how many pieces; and how many updates were cut for it.
+/// How a viewer is to have ended; what it was sent: the first `count` bytes of the opening and the whole screen in this colour, and
+/// then what is `behind` them; what was heard of it, in how many pieces; and how many updates were cut for it.
 #[derive(Clone, Copy)]
 pub struct End {
     pub viewer: u64,
@@ -127,10 +127,10 @@ pub enum Step {
     PaintsPlace,
     /// The bell rings.
     Rings,
-    /// A viewer is admitted; one that floods says what it says and so many pointers.
+    /// A viewer is admitted; one that floods says an opening and the run's count of pointers.
     Admits(Talk),
     Floods(Talk),
-    /// So many turns, in which every transport may be ready each time; or as many as there is something to do for, with nothing
+    /// This many turns, in which every transport may be ready each time; or as many as there is something to do for, with nothing
     /// more known of any transport.
     Turns(u32),
     TurnsOn,
@@ -144,7 +144,7 @@ pub enum Step {
     AreTold([(u64, u64); 4]),
     /// These have left, and what was sent and heard is kept, or not.
     HaveLeft(&'static [End], bool),
-    /// One has left, which was sent so many bytes.
+    /// One has left, which was sent this many bytes.
     HasTaken(usize),
     /// One has left, and this is what the application is told then.
     Parts([Option<Parting>; 4]),
@@ -158,7 +158,7 @@ const HEAD: &[u8] =
     b"RFB 003.008\n\x01\x01\0\0\0\0\0\x04\0\x03\x20\x18\0\x01\0\xff\0\xff\0\xff\x10\x08\0\0\0\0\0\0\0\x04demo\
     \0\0\0\x01\0\0\0\0\0\x04\0\x03\0\0\0\0";
 
-/// What it is sent whose screen has this blue everywhere.
+/// Returns what a viewer is sent whose screen has the colour `blue` everywhere.
 pub fn whole(alloc: Global, blue: u8) -> Result<Vec<u8>, AllocError> {
     let mut bytes = HEAD.to_vec(alloc)?;
     for _ in 0..12u8 {
@@ -167,7 +167,7 @@ pub fn whole(alloc: Global, blue: u8) -> Result<Vec<u8>, AllocError> {
     Ok(bytes)
 }
 
-/// A transport of this viewer.
+/// Makes the transport of a viewer that talks as `talk` and says `says`.
 pub fn line(alloc: Global, talk: Talk, says: &[u8]) -> Line<'_> {
     Line {
         taken: Vec::new(alloc),
@@ -178,7 +178,8 @@ pub fn line(alloc: Global, talk: Talk, says: &[u8]) -> Line<'_> {
     }
 }
 
-/// So many turns, in which every transport of the first keys may be ready each time.
+/// Makes `count` turns, in which every transport of the first `keys` keys may be ready each time. Counts anew what the application
+/// is told.
 pub fn turns(
     connections: &mut Connections<Line<'_>>,
     keys: usize,
@@ -202,7 +203,7 @@ pub fn turns(
     Ok(())
 }
 
-/// Turns as long as something can be done.
+/// Makes turns as long as something can be done, at most 100.
 fn turns_on(
     connections: &mut Connections<Line<'_>>,
     application: &mut Counting,
@@ -216,7 +217,8 @@ fn turns_on(
     Ok(())
 }
 
-/// Whether one that left is this, and what was sent and heard is as is said, and is kept or not.
+/// Says whether a viewer that left ended as `end` says, was sent and heard what `end` says, and whether that is kept if `is_kept`,
+/// and not if not.
 fn is_end(alloc: Global, departed: &Departed<Line<'_>>, end: &End, is_kept: bool) -> bool {
     let Departed {
         transport,
@@ -238,7 +240,7 @@ fn is_end(alloc: Global, departed: &Departed<Line<'_>>, end: &End, is_kept: bool
         && receipt.cuts == end.cuts
 }
 
-/// Whether all that left are these, one each.
+/// Says whether the viewers that left are those of `ends`, one each, and no more.
 fn have_left(
     alloc: Global,
     connections: &mut Connections<Line<'_>>,
@@ -261,7 +263,7 @@ fn have_left(
     found.count_ones() as usize == ends.len() && connections.take_departed().is_none()
 }
 
-/// Whether one has left, and what the application is told then is this.
+/// Says whether a viewer has left, and the application is told `partings` then.
 fn parts(
     connections: &mut Connections<Line<'_>>,
     application: &mut Counting,
@@ -275,7 +277,7 @@ fn parts(
     Ok(application.partings == *partings)
 }
 
-/// Whether a step comes to what it says.
+/// Does a step, and says whether it comes to what it says.
 pub fn holds<'a>(
     alloc: Global,
     connections: &mut Connections<Line<'a>>,

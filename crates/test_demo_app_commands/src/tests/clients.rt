@@ -15,8 +15,8 @@ pub struct Client {
     pub shut: Option<usize>,
 }
 
-/// Whether a client reads these bytes next.
-fn reads(stream: &mut TcpStream, wanted: &[u8]) -> io::Result<bool> {
+/// Reads as many bytes as are `wanted`. Says whether they are these.
+pub fn reads(stream: &mut TcpStream, wanted: &[u8]) -> io::Result<bool> {
     let mut byte = [0];
     for expected in wanted {
         stream.read_exact(&mut byte)?;
@@ -27,8 +27,8 @@ fn reads(stream: &mut TcpStream, wanted: &[u8]) -> io::Result<bool> {
     Ok(true)
 }
 
-/// Whether its connection is shut before it has read more bytes than these.
-fn is_shut(stream: &mut TcpStream, most: usize) -> bool {
+/// Says whether a connection is shut before more than `most` bytes were read of it.
+pub fn is_shut(stream: &mut TcpStream, most: usize) -> bool {
     let mut byte = [0];
     for _ in 0..=most {
         if !matches!(stream.read(&mut byte), Ok(1)) {
@@ -38,7 +38,7 @@ fn is_shut(stream: &mut TcpStream, most: usize) -> bool {
     false
 }
 
-/// A client's steps on its connection. Whether it reads what it says.
+/// Takes a client's steps on its connection. Says whether it reads what it is to read.
 fn talk(stream: &mut TcpStream, client: &Client) -> io::Result<bool> {
     for (says, wanted) in client.steps {
         stream.write_all(says)?;
@@ -52,7 +52,8 @@ fn talk(stream: &mut TcpStream, client: &Client) -> io::Result<bool> {
     })
 }
 
-/// The clients talk, the last one first, each on the connection that was made last, or on a new one. Whether each reads what it says.
+/// Has the clients talk, the last one first, each on the connection that was made last, or on a new one. Says whether each reads what it
+/// is to read.
 fn talk_in_turn<R: Net<Listener = TcpListener, Stream = TcpStream>>(
     rt: &R,
     address: SocketAddr,
@@ -70,7 +71,7 @@ fn talk_in_turn<R: Net<Listener = TcpListener, Stream = TcpStream>>(
     Ok(is_right)
 }
 
-/// So many connections are made.
+/// Makes `count` connections.
 fn connect<R: Net<Listener = TcpListener, Stream = TcpStream>>(
     rt: &R,
     address: SocketAddr,
@@ -83,8 +84,8 @@ fn connect<R: Net<Listener = TcpListener, Stream = TcpStream>>(
     Ok(())
 }
 
-/// Clients talk one after the other, the last one first; all of them have connected before, where that is wished. Whether each reads
-/// what it says.
+/// Has the clients talk one after the other, the last one first; with `together` all of them connect before. Says whether each reads what
+/// it is to read.
 pub fn talk_all<R: Net<Listener = TcpListener, Stream = TcpStream>>(
     rt: &R,
     alloc: Global,

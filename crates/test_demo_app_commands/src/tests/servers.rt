@@ -2,10 +2,10 @@
 
 ghost use Rattle.std.specs.Prelude.{◌≡◌, ◌<◌};
 
-use super::clients::{Client, talk_all};
+use super::clients::{Client, is_shut, reads, talk_all};
 use demo_app::{
-    Asked, OneThread, Question, RecordWriter, ServeOptions, replay_over, serve_in_one_thread,
-    serve_on,
+    Asked, ByThreads, OneThread, Question, RecordWriter, ServeOptions, Stop, replay_over,
+    serve_by_threads, serve_in_one_thread, serve_on,
 };
 use listed::Listed;
 use serving::{
@@ -14,7 +14,7 @@ use serving::{
 };
 use std::alloc::{AllocError, Global};
 use std::fs::{File, OpenOptions};
-use std::io::BufReader;
+use std::io::{BufReader, Write};
 use std::marker::Brand;
 use std::net::{Ipv4Addr, Net, SocketAddr, TcpListener, TcpStream};
 use std::rt::Files;
@@ -183,6 +183,52 @@ fn is_waited_for<
 #[test]
 fn a_listener_that_does_not_wait(rt: HostRuntime) -> Result<(), Fail> {
     assert!(rt; is_waited_for(&rt, rt.alloc())?);
+    Ok(())
+}
+
+// Stops a server once a viewer is open. Whether the viewer is let go then.
+fn stops(stream: &mut TcpStream, stop: &Stop) -> io::Result<bool> {
+    stream.write_all(OPENING)?;
+    let is_open = reads(stream, GREETING)?;
+    stop.stop();
+    Ok(is_open && is_shut(stream, 0))
+}
+
+// Whether a server that waits for a second viewer ends once it is stopped, and says how the first one ended, without end not.
+fn is_stopped<R: Threads + Wait + Clock + Net<Listener = TcpListener, Stream = TcpStream> + Sync>(
+    rt: &R,
+    alloc: Global,
+    forever: bool,
+    printed: &[&[u8]],
+) -> Result<bool, Fail> {
+    let listener = rt.bind(SocketAddr::from((Ipv4Addr::LOCALHOST, 0)))?;
+    let mut stream = rt.connect(listener.local_addr()?)?;
+    let mut options = options(alloc, &SEES_ALL)?;
+    options.viewers = 2;
+    options.check = !forever;
+    let stop = Stop::new()?;
+    let besides = ByThreads {
+        forever,
+        stop: Some(&stop),
+    };
+    let mut out = Vec::new(alloc);
+    let (is_let_go, status) = thread::join(
+        rt,
+        || stops(&mut stream, &stop),
+        || serve_by_threads(rt, alloc, &listener, &options, &besides, &mut out),
+    );
+    Ok(is_let_go? && status == 0 && printed.contains(&out.as_slice()))
+}
+
+#[test]
+fn a_server_with_threads_is_stopped(rt: HostRuntime) -> Result<(), Fail> {
+    // its sender finds that it is stopped, or its reader that it is shut
+    let printed: [&[u8]; 2] = [
+        b"viewer 1 Stopped\nfinish ok\n",
+        b"viewer 1 Closed\nfinish ok\n",
+    ];
+    assert!(rt; is_stopped(&rt, rt.alloc(), false, &printed)?);
+    assert!(rt; is_stopped(&rt, rt.alloc(), true, &[b""])?);
     Ok(())
 }
 

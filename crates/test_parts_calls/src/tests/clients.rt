@@ -23,7 +23,7 @@ enum Step {
 
 use Step::{Change, ChangeFirst, Connect, InUse, Is, Nobody, RaiseAll, Remove};
 
-/// Whether a walk finds these pairs, in this order, and no others, and so does a look-up of each.
+/// Says whether a walk finds these pairs, in this order, and no others, and so does a look-up of each.
 fn is_same(clients: &Clients<u32>, pairs: &[(u64, u32)]) -> bool {
     let mut position = clients.first();
     for (number, value) in pairs {
@@ -42,14 +42,14 @@ fn is_same(clients: &Clients<u32>, pairs: &[(u64, u32)]) -> bool {
     position.is_none() && clients.len() == pairs.len() && clients.is_empty() == pairs.is_empty()
 }
 
-/// One more, at most the greatest number.
+/// Adds one to `value`, at most up to the greatest number.
 fn raise(value: &mut u32)
     ensures { value.new ≡ min (value.old + 1) 4294967295 }
 {
     *value = value.saturating_add(1);
 }
 
-/// A caller's loop, which changes each value on the way.
+/// Changes each value on the way, as a caller's loop does.
 fn raise_all(clients: &mut Clients<u32>)
     ensures pairs { clients.new.pairs ≡ changed (λ n. min (n + 1) 4294967295) clients.old.pairs }
     ensures positions { clients.new.positions ≡ clients.old.positions }
@@ -61,7 +61,7 @@ fn raise_all(clients: &mut Clients<u32>)
     }
 }
 
-/// Gives a viewer another value; whether the viewer is there.
+/// Gives a viewer another value. Returns whether the viewer is there.
 fn change(clients: &mut Clients<u32>, number: u64, value: u32) -> bool {
     match clients.get_mut(number) {
         Some(there) => {
@@ -72,7 +72,7 @@ fn change(clients: &mut Clients<u32>, number: u64, value: u32) -> bool {
     }
 }
 
-/// A viewer connects, or is refused. An `Err` is want of memory.
+/// Connects a viewer. Returns false if the list refuses it since its number is in use. An `Err` is want of memory.
 fn connect(clients: &mut Clients<u32>, number: u64, value: u32) -> Result<bool, AllocError> {
     match clients.connect(number, value) {
         Ok(()) => Ok(true),
@@ -81,7 +81,7 @@ fn connect(clients: &mut Clients<u32>, number: u64, value: u32) -> Result<bool, 
     }
 }
 
-/// Whether a call is answered as a step says.
+/// Says whether a call is answered as `step` says.
 fn holds(clients: &mut Clients<u32>, step: &Step) -> Result<bool, AllocError> {
     match step {
         Connect(number, value) => connect(clients, *number, *value),
@@ -109,7 +109,7 @@ fn holds(clients: &mut Clients<u32>, step: &Step) -> Result<bool, AllocError> {
     }
 }
 
-/// The place of a number in a plain vector.
+/// Returns the place of `number` in a plain vector.
 fn place_of(plain: &Vec<(u64, u32)>, number: u64) -> Option<usize>
     ensures { IfSome result (λ place. place < vec_len plain.now) }
 {
@@ -121,7 +121,7 @@ fn place_of(plain: &Vec<(u64, u32)>, number: u64) -> Option<usize>
     None
 }
 
-/// A viewer connects or leaves on both sides. Whether both answer the same.
+/// Connects a viewer or lets it go on both sides. Returns whether both answer the same.
 fn step_both(
     clients: &mut Clients<u32>,
     plain: &mut Vec<(u64, u32)>,

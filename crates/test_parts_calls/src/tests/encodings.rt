@@ -40,7 +40,7 @@ struct Call {
     appends: &'static [u8],
 }
 
-/// Appends a row of tiles of one colour behind what the tiles above left. Tells whether it leaves that colour.
+/// Appends a row of tiles of one colour behind what the tiles above left. Returns whether it leaves that colour.
 fn append_tiles(out: &mut Vec<u8>, background: Option<u32>) -> Result<bool, AllocError> {
     let above = Carried {
         background,

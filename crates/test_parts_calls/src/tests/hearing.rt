@@ -18,7 +18,7 @@ struct Talk {
     phase: Phase,
 }
 
-/// Prints items in place of those that were printed before.
+/// Prints `said` in place of the items that were printed before.
 fn print(said: &[Item], items: &mut String) -> Result<(), AllocError> {
     items.clear();
     for item in said {
@@ -27,7 +27,7 @@ fn print(said: &[Item], items: &mut String) -> Result<(), AllocError> {
     Ok(())
 }
 
-/// Prints what a piece says that is prepared and then put in place. Gives its fault.
+/// Prints what `piece` says when the ear prepares it and then puts it in place. Returns its fault.
 fn prepare(ear: &mut Ear, piece: &[u8], items: &mut String) -> Result<Option<Fault>, AllocError> {
     let Prepared { heard, change } = ear.prepare(piece)?;
     ear.commit(change);
@@ -35,7 +35,7 @@ fn prepare(ear: &mut Ear, piece: &[u8], items: &mut String) -> Result<Option<Fau
     Ok(heard.fault)
 }
 
-/// Prints what a piece says that is heard byte by byte. Gives the fault at its end.
+/// Prints what `piece` says when the ear hears it byte by byte. Returns the fault at its end.
 fn hear(
     ear: &mut Ear,
     piece: &[u8],
@@ -51,7 +51,7 @@ fn hear(
     Ok(ear.fault())
 }
 
-/// Whether the ear and its clone say the same of a piece, which is as it should be, and stand where they should.
+/// Says whether the ear and its clone say the same of a piece, which is as it should be, and stand where they should.
 fn say_alike(
     ear: &mut Ear,
     talk: &Talk,
@@ -93,7 +93,7 @@ fn talks_whichever_allocation_is_refused(rt: HostRuntime) {
     }
 }
 
-/// Whether a text's bytes, which come in pieces, are kept as far as this, and a byte behind it is a message.
+/// Says whether a text's bytes, which come in pieces, are kept up to `kept` of them, and a byte behind it is a message.
 fn is_kept(ear: &mut Ear, bytes: &[u8], kept: usize) -> Result<bool, AllocError> {
     let front = bytes.split_at(kept.min(bytes.len())).0;
     for piece in bytes.chunks(100_000) {
@@ -112,7 +112,7 @@ fn is_kept(ear: &mut Ear, bytes: &[u8], kept: usize) -> Result<bool, AllocError>
     Ok(false)
 }
 
-/// Whether a text of a length, of which so many bytes come, is kept as far as this.
+/// Says whether a text of `length` bytes, of which `come` come, is kept up to `kept` of them.
 fn keeps(alloc: Global, length: u32, come: u32, kept: u32) -> Result<bool, AllocError> {
     let mut ear = Ear::new(alloc);
     ear.feed(b"RFB 003.008\n\x01\x01\x06\x00\x00\x00")?;
@@ -124,7 +124,7 @@ fn keeps(alloc: Global, length: u32, come: u32, kept: u32) -> Result<bool, Alloc
     is_kept(&mut ear, &bytes, kept as usize)
 }
 
-/// Whether a list of 65,535 encodings says this: the greatest number first, or Hextile behind those that nobody knows.
+/// Says whether a list of 65,535 encodings says `wants`: the greatest number first, or Hextile behind those that nobody knows.
 fn says_of_many(
     ear: &mut Ear,
     unknown: bool,
@@ -141,7 +141,7 @@ fn says_of_many(
     Ok(items.as_str() == wants)
 }
 
-/// Whether two such lists are, and in a list of none the encoding is Raw (RFC 6143, section 7.5.2).
+/// Says whether two such lists say what they should, and in a list of none the encoding is Raw (RFC 6143, section 7.5.2).
 fn says_of_lists(alloc: Global) -> Result<bool, AllocError> {
     let (mut ear, mut items) = (Ear::new(alloc), String::new(alloc));
     ear.feed(b"RFB 003.008\n\x01\x01")?;
@@ -167,7 +167,7 @@ fn append_all(out: &mut Vec<u8>) -> Result<(), AllocError> {
     put_cut_text(out, b"hi")
 }
 
-/// What is answered to the first bytes of a viewer.
+/// Returns what a server answers to the first bytes of a viewer.
 fn greeted(alloc: Global, bytes: &[u8]) -> Result<Vec<u8>, AllocError> {
     let desktop = Desktop {
         width: 4,

@@ -56,7 +56,7 @@ use Step::{
     Pending, PreparedCopy, PreparedMark, Request, RequestChanges, Sends, SendsNothing, Shown,
 };
 
-/// The region of rectangles of a screen.
+/// Returns the region of rectangles of a screen.
 fn region_on_screen(alloc: Global, rects: &[Rect]) -> Result<Region, AllocError>
     requires { All (IsOnScreen longest_side longest_side) rects.now }
     ensures { IfOk result (λ region. covers region.list ≡ covers rects.now) }
@@ -64,7 +64,7 @@ fn region_on_screen(alloc: Global, rects: &[Rect]) -> Result<Region, AllocError>
     Region::from_rects_in_range(alloc, rects)
 }
 
-/// The rectangles' places that are on the screen with the places (dx, dy) before them.
+/// Returns the rectangles' places that are on the screen with the places `offset` before them.
 fn cut_region(
     alloc: Global,
     rects: &[Rect],
@@ -101,7 +101,7 @@ fn show_all(marks: &mut Marks) -> Result<(), AllocError> {
     Ok(())
 }
 
-/// Marks by `mark` or by a log. In two parts instead, it tells whether nothing is owed before the second.
+/// Marks by `mark` or by a log. In two parts instead, returns whether nothing is owed before the second.
 fn mark(marks: &mut Marks, alloc: Global, step: &Step, rects: &[Rect]) -> Result<bool, AllocError> {
     let region = region_of(alloc, rects)?;
     match step {
@@ -117,8 +117,8 @@ fn mark(marks: &mut Marks, alloc: Global, step: &Step, rects: &[Rect]) -> Result
     Ok(true)
 }
 
-/// A copy of the rectangles, as far as they are on the screen with their sources. In two parts, it tells whether no copy is
-/// pending before the second.
+/// Copies the rectangles, as far as they are on the screen with their sources. In two parts, returns whether no copy is pending
+/// before the second.
 fn copy(
     marks: &mut Marks,
     alloc: Global,
@@ -138,7 +138,7 @@ fn copy(
     Ok(true)
 }
 
-/// A place in every other column of the first row, from the first column or from the second.
+/// Returns the region of every other place of the first row, from column `first` to before 129.
 fn columns_from(alloc: Global, first: u8) -> Result<Region, AllocError> {
     let mut rects = Vec::new(alloc);
     for column in (first..129).step_by(2) {
@@ -148,7 +148,7 @@ fn columns_from(alloc: Global, first: u8) -> Result<Region, AllocError> {
     region_of(alloc, &rects)
 }
 
-/// Whether a log comes to one entry, and marks all columns, whether it is joined first or not.
+/// Says whether a log comes to one entry, and marks all columns, whether it is joined first or not.
 fn marks_all(marks: &Marks, alloc: Global, log: &[LogEntry]) -> Result<bool, AllocError>
     requires cut { All (IsCutEntry marks.now.width marks.now.height) log.now }
 {
@@ -163,7 +163,7 @@ fn marks_all(marks: &Marks, alloc: Global, log: &[LogEntry]) -> Result<bool, All
     )
 }
 
-/// The same of a log of two marks: the first has 65 rectangles, and the second the 64 between them.
+/// Says whether `marks_all` holds of a log of two marks: the first has 65 rectangles, and the second the 64 between them.
 fn joins_marks(marks: &Marks, alloc: Global) -> Result<bool, AllocError> {
     let log = [
         LogEntry::Mark(columns_from(alloc, 0)?),
@@ -172,7 +172,7 @@ fn joins_marks(marks: &Marks, alloc: Global) -> Result<bool, AllocError> {
     marks_all(marks, alloc, &log)
 }
 
-/// Whether a call is answered as a step says.
+/// Says whether a call is answered as `step` says.
 fn is_answered(marks: &mut Marks, alloc: Global, step: &Step) -> Result<bool, AllocError> {
     match step {
         Shown => show_all(marks)?,
@@ -196,7 +196,7 @@ fn is_answered(marks: &mut Marks, alloc: Global, step: &Step) -> Result<bool, Al
     Ok(true)
 }
 
-/// Whether the marks are as a step says, once it is made.
+/// Says whether the marks are as `step` says, once it is made.
 fn holds(marks: &mut Marks, alloc: Global, step: &Step) -> Result<bool, AllocError> {
     match step {
         Pending(is_pending) => Ok(marks.pending() == *is_pending),

@@ -40,7 +40,7 @@ enum Step {
 
 use Step::{Colour, Kept, Move, Read, Take, Write};
 
-/// Whether so many columns or rows, from one on, are among the first ones.
+/// Says whether `count` columns or rows, from `from` on, are among the first `limit`.
 fn fit(from: usize, count: usize, limit: u32) -> bool
     ensures { result ≡ true → from + count ≤ limit }
 {
@@ -48,7 +48,8 @@ fn fit(from: usize, count: usize, limit: u32) -> bool
     from <= limit && count <= limit - from
 }
 
-/// Whether a block is written that lies on the picture.
+/// Writes a block that lies on the picture. Returns false, and writes nothing, if it doesn't, or if `colours` are not as many as
+/// its places.
 fn write(picture: &mut Framebuffer, block: Block, colours: &[u32]) -> Result<bool, AllocError> {
     if !fit(block.left, block.columns, picture.width())
         || !fit(block.top, block.rows, picture.height())
@@ -60,7 +61,7 @@ fn write(picture: &mut Framebuffer, block: Block, colours: &[u32]) -> Result<boo
     Ok(true)
 }
 
-/// Whether a block lies on the picture and has these colours.
+/// Says whether a block lies on the picture and has these colours.
 fn has_colours(picture: &Framebuffer, block: Block, colours: &[u32]) -> Result<bool, AllocError> {
     if !fit(block.left, block.columns, picture.width())
         || !fit(block.top, block.rows, picture.height())
@@ -71,7 +72,7 @@ fn has_colours(picture: &Framebuffer, block: Block, colours: &[u32]) -> Result<b
     Ok(given.as_slice() == colours)
 }
 
-/// Whether a snapshot is taken of a block that lies on the picture.
+/// Takes a snapshot of a block that lies on the picture. Returns false, and takes none, if it doesn't.
 fn take(
     picture: &mut Framebuffer,
     kept: &mut Option<Snapshot>,
@@ -86,7 +87,7 @@ fn take(
     Ok(true)
 }
 
-/// Whether a snapshot has these columns, rows and colours, in its rows and in one list.
+/// Says whether a snapshot has these columns, rows and colours, in its rows and in one list.
 fn is_kept(
     snapshot: &Snapshot,
     columns: usize,
@@ -120,7 +121,7 @@ fn move_to(
     Ok(true)
 }
 
-/// Whether the picture and the snapshot that is kept are as a step says, once it is made.
+/// Says whether the picture and the snapshot that is kept are as `step` says, once it is made.
 fn holds(
     picture: &mut Framebuffer,
     kept: &mut Option<Snapshot>,
@@ -160,7 +161,7 @@ fn pictures_whichever_allocation_is_refused(rt: HostRuntime) {
     }
 }
 
-/// The letters of a picture of 6 by 5.
+/// Replaces `letters` by those of a picture of 6 by 5, from `text`.
 fn put_letters(letters: &mut Vec<u32>, text: &[u8; 30]) -> Result<(), AllocError> {
     letters.clear();
     for letter in text {
@@ -169,7 +170,7 @@ fn put_letters(letters: &mut Vec<u32>, text: &[u8; 30]) -> Result<(), AllocError
     Ok(())
 }
 
-/// Whether rectangles of a picture of letters, which is written anew, are moved as is written.
+/// Says whether rectangles of a picture of letters, which it writes anew, are moved as `wants` says.
 fn is_moved(
     picture: &mut Framebuffer,
     letters: &mut Vec<u32>,
@@ -184,7 +185,7 @@ fn is_moved(
     Ok(is_written && has_colours(picture, block!(0, 0, 6, 5), letters)?)
 }
 
-/// Rectangles are cut to a screen of 4 by 3, with their sources; and moved, several at once.
+/// Checks that rectangles are cut to a screen of 4 by 3, with their sources; and moved, several at once.
 #[test]
 fn rectangles_are_cut_and_moved(rt: HostRuntime) -> Result<(), Fail> {
     for (rects, (dx, dy), wants) in &DESTINATIONS {

@@ -44,7 +44,7 @@ use Step::{
     Or, OrReserved, OutOfRange, Pop, ReserveOr, Subtract, SubtractItself, Union,
 };
 
-/// The list in an order, and what goes with it: how many rectangles it has.
+/// Says whether the region has `list` in an order, and what goes with it: how many rectangles it has.
 fn has_list(
     region: &Region,
     reverse_x: bool,
@@ -64,7 +64,7 @@ fn is_made(made: Result<Region, AllocError>, list: &[Rect]) -> Result<bool, Allo
     has_list(&made, false, false, list)
 }
 
-/// Whether there is room for `or` once it is made, and was none before.
+/// Makes room for `or`. Returns whether there is room then, and was none before.
 fn has_new_room(region: &mut Region, other: &Region) -> Result<bool, AllocError> {
     let had_room = region.is_reserved_for(other);
     region.reserve_or(other)?;
@@ -79,7 +79,7 @@ fn or_in_room(region: &mut Region, other: &Region) -> bool {
     has_room
 }
 
-/// Whether a step with another region is as it says.
+/// Says whether a step with `other` is as it says.
 fn holds_with(region: &mut Region, step: &Step, other: &Region) -> Result<bool, AllocError> {
     match step {
         Or(_) => {
@@ -98,7 +98,7 @@ fn holds_with(region: &mut Region, step: &Step, other: &Region) -> Result<bool, 
     }
 }
 
-/// A clone of the region, which is cleared, takes its place.
+/// Replaces the region by its clone, and clears the first. Returns whether that is empty then.
 fn replace_by_clone(region: &mut Region, alloc: Global) -> Result<bool, AllocError> {
     let copy = region.try_clone(alloc)?;
     region.clear();
@@ -112,7 +112,7 @@ fn subtract_itself(region: &mut Region, alloc: Global) -> Result<bool, AllocErro
     Ok(!region.subtract(&itself)? && region.is_empty())
 }
 
-/// Whether a step that needs no other region is as it says.
+/// Says whether a step that needs no other region is as it says.
 fn holds_alone(region: &mut Region, alloc: Global, step: &Step) -> Result<bool, AllocError> {
     match step {
         From(rects) => {
@@ -147,7 +147,7 @@ fn holds_alone(region: &mut Region, alloc: Global, step: &Step) -> Result<bool, 
     }
 }
 
-/// Whether the region is as a step says, once it is made.
+/// Says whether the region is as `step` says, once it is made.
 fn holds(region: &mut Region, alloc: Global, step: &Step) -> Result<bool, AllocError> {
     match step {
         Or(rects)

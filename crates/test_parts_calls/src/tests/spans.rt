@@ -7,7 +7,7 @@ use span_arena::{ListId, Span, SpanId, Spans};
 use std::alloc::AllocError;
 use std::test::Fail;
 
-/// A span with no list below it.
+/// Makes a span with no list below it.
 fn span(start: i32, stop: i32) -> Span {
     Span {
         start,
@@ -16,7 +16,7 @@ fn span(start: i32, stop: i32) -> Span {
     }
 }
 
-/// Whether a list has spans with these numbers, and its links lead back as they lead on.
+/// Says whether `list` has spans with these numbers, and its links lead back as they lead on.
 fn is_same(spans: &Spans, list: ListId, numbers: &[(i32, i32)]) -> bool
     requires { IsSome (list_of spans.now list) }
 {
@@ -53,7 +53,7 @@ fn remove_empty(spans: &mut Spans, list: ListId)
     }
 }
 
-/// Puts a span behind all others of a list; one refusal of memory is passed over, and must have changed nothing.
+/// Puts a span behind all others of a list. Passes over one refusal of memory, which must have changed nothing.
 fn push(spans: &mut Spans, list: ListId, stop: i32) -> Result<SpanId, AllocError>
     requires { IsSome (list_of spans.old list) }
     ensures { IsSome (list_of spans.new list) }
@@ -68,7 +68,7 @@ fn push(spans: &mut Spans, list: ListId, stop: i32) -> Result<SpanId, AllocError
     spans.push_back(list, span(0, stop))
 }
 
-/// Whether a span comes in between two others of a new list, and goes, and another one's numbers become others.
+/// Checks that a span comes in between two others of a new list, and goes, and another one's numbers become others.
 fn comes_and_goes(spans: &mut Spans, list: ListId) -> Result<bool, AllocError>
     requires { list_of spans.old list ≡ Some [] }
 {
@@ -89,8 +89,8 @@ fn comes_and_goes(spans: &mut Spans, list: ListId) -> Result<bool, AllocError>
     )
 }
 
-/// Whether two lists get spans by turns, and the second, which stands below a span of the first, keeps its own when the first is
-/// freed.
+/// Checks that two lists get spans by turns, and the second, which stands below a span of the first, keeps its own when the first
+/// is freed.
 fn stays(spans: &mut Spans, list: ListId, other: ListId) -> Result<bool, AllocError>
     requires list { IsSome (list_of spans.old list) }
     requires other { IsSome (list_of spans.old other) }
@@ -109,7 +109,7 @@ fn stays(spans: &mut Spans, list: ListId, other: ListId) -> Result<bool, AllocEr
     Ok(is_below && both && is_same(spans, other, &[(1, 2)]))
 }
 
-/// Whether spans go on a walk along a new list, which is empty once it was freed and is made anew.
+/// Checks that spans go on a walk along a new list, which is empty once it was freed and is made anew.
 fn go_on_a_walk(spans: &mut Spans, list: ListId) -> Result<bool, AllocError>
     requires { IsSome (list_of spans.old list) }
 {
@@ -125,7 +125,7 @@ fn go_on_a_walk(spans: &mut Spans, list: ListId) -> Result<bool, AllocError>
     Ok(are_left && is_same(spans, again, &[]))
 }
 
-/// Whether each of 40 spans comes last, for which room is made several times.
+/// Checks that each of 40 spans comes last, for which the list makes room several times.
 fn come_last(spans: &mut Spans, list: ListId) -> Result<bool, AllocError>
     requires { IsSome (list_of spans.old list) }
 {

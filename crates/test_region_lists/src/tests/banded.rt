@@ -12,12 +12,12 @@ pub(super) enum Keep {
     FirstAlone,
 }
 
-/// Whether one of the rectangles holds a place.
+/// Says whether one of the rectangles holds the place in column `x` of row `y`.
 fn holds(rects: &[Rect], x: i32, y: i32) -> bool {
     rects.iter().any(|rect| rect.x1 <= x && x < rect.x2 && rect.y1 <= y && y < rect.y2)
 }
 
-/// Whether a place is kept of both lists.
+/// Says whether a place is kept of both lists.
 fn is_kept(first: &[Rect], second: &[Rect], keep: Keep, x: i32, y: i32) -> bool {
     let (first, second) = (holds(first, x, y), holds(second, x, y));
     match keep {
@@ -27,7 +27,7 @@ fn is_kept(first: &[Rect], second: &[Rect], keep: Keep, x: i32, y: i32) -> bool 
     }
 }
 
-/// Appends where rectangles begin and end, from left to right or from top to bottom.
+/// Appends where rectangles begin and end, from left to right if `across`, and else from top to bottom.
 fn push_edges(edges: &mut Vec<i32>, rects: &[Rect], across: bool) -> Result<(), AllocError> {
     for rect in rects {
         let (low, high) = if across {
@@ -41,7 +41,7 @@ fn push_edges(edges: &mut Vec<i32>, rects: &[Rect], across: bool) -> Result<(), 
     Ok(())
 }
 
-/// Leaves each edge of both lists once, in order.
+/// Puts each edge of both lists into `edges` once, in order.
 fn put_edges(
     edges: &mut Vec<i32>,
     first: &[Rect],
@@ -55,7 +55,7 @@ fn put_edges(
     Ok(())
 }
 
-/// Puts a cell behind a row's rectangles, as one with the last of them where they touch.
+/// Puts `cell` behind a row's rectangles, as one with the last of them if they touch.
 fn put_cell(row: &mut Vec<Rect>, cell: Rect) -> Result<(), AllocError> {
     let mut cell = cell;
     if let Some(last) = row.pop() {
@@ -69,7 +69,7 @@ fn put_cell(row: &mut Vec<Rect>, cell: Rect) -> Result<(), AllocError> {
     Ok(())
 }
 
-/// What is kept from one row to before another, between which no rectangle begins or ends.
+/// Puts into `row` what is kept from row `y1` to before `y2`, between which no rectangle begins or ends.
 fn put_kept(
     row: &mut Vec<Rect>,
     lists: (&[Rect], &[Rect]),
@@ -86,7 +86,7 @@ fn put_kept(
     Ok(())
 }
 
-/// Whether rows touch and have the same intervals.
+/// Says whether rows touch and have the same intervals.
 fn goes_on(above: &[Rect], below: &[Rect]) -> bool {
     for (high, low) in above.iter().zip(below) {
         if high.x1 != low.x1 || high.x2 != low.x2 || high.y2 != low.y1 {
@@ -96,7 +96,7 @@ fn goes_on(above: &[Rect], below: &[Rect]) -> bool {
     above.len() == below.len()
 }
 
-/// Puts a row below the last one: as one with it where it goes on that, or else in its place, once that is listed.
+/// Puts `row` below the last one: as one with it if it goes on that, or else in its place, once that is listed.
 fn put_row(
     list: &mut Vec<Rect>,
     last: &mut Vec<Rect>,
@@ -114,7 +114,7 @@ fn put_row(
     Ok(())
 }
 
-/// Puts the rows between edges one below the other; the last one isn't listed yet.
+/// Puts the rows between edges one below the other; doesn't list the last one yet.
 fn put_rows(
     list: &mut Vec<Rect>,
     last: &mut Vec<Rect>,
@@ -130,7 +130,7 @@ fn put_rows(
     Ok(())
 }
 
-/// The canonical list of what is kept of two lists.
+/// Returns the canonical list of what is kept of two lists.
 pub(super) fn combined(
     alloc: Global,
     first: &[Rect],
@@ -152,8 +152,7 @@ pub(super) fn combined(
     Ok(list)
 }
 
-/// Whether one rectangle of a list comes before another: bands from the bottom where `reverse_y`, intervals from the right where
-/// `reverse_x`.
+/// Says whether `a` comes before `b` in a list: bands from the bottom if `reverse_y`, intervals from the right if `reverse_x`.
 fn comes_before(a: &Rect, b: &Rect, reverse_x: bool, reverse_y: bool) -> bool {
     if a.y1 != b.y1 {
         (a.y1 < b.y1) != reverse_y
@@ -162,7 +161,7 @@ fn comes_before(a: &Rect, b: &Rect, reverse_x: bool, reverse_y: bool) -> bool {
     }
 }
 
-/// Whether these are the list's rectangles, in this order.
+/// Says whether `rects` are the list's rectangles, in this order.
 pub(super) fn is_in_order(rects: &[Rect], list: &[Rect], reverse_x: bool, reverse_y: bool) -> bool {
     for i in 0..rects.len() {
         if i > 0 && !comes_before(&rects[i - 1], &rects[i], reverse_x, reverse_y) {
@@ -175,7 +174,7 @@ pub(super) fn is_in_order(rects: &[Rect], list: &[Rect], reverse_x: bool, revers
     rects.len() == list.len()
 }
 
-/// Whether these are the list's rectangles from the last to the first.
+/// Says whether `rects` are the list's rectangles from the last to the first.
 pub(super) fn is_reversed(rects: &[Rect], list: &[Rect]) -> bool {
     for (rect, other) in rects.iter().zip(list.iter().rev()) {
         if rect != other {
@@ -185,7 +184,7 @@ pub(super) fn is_reversed(rects: &[Rect], list: &[Rect]) -> bool {
     rects.len() == list.len()
 }
 
-/// The first rectangle of a list in an order.
+/// Returns the first rectangle of a list in an order.
 pub(super) fn first_in(list: &[Rect], reverse_x: bool, reverse_y: bool) -> Option<Rect> {
     let mut first = *list.first()?;
     for rect in list {

@@ -11,7 +11,7 @@ use Rattle.c_screen.specs.Codes as codes
 use Rattle.c_screen.specs.Calls.{colour_at, of_viewer}
 use Rattle.c_screen.specs.Desk.{rect_of, config_of}
 use Rattle.c_server.specs.Desk.{nothing_there, rects_per_update}
-use Rattle.c_server.specs.Calls.{Listens, NamesRecord, record_state, TakesTurn, Draws, DrawsRegion, FetchesInputs, FetchesVisits, ShowsNumbers, ShowsText, ShowsSettings, Tells, TellsAddress, TellsSome, TellsWait, LetsGo, TakesPixels, Wakes}
+use Rattle.c_server.specs.Calls.{Listens, ServesUnbound, Adopts, NamesRecord, record_state, TakesTurn, Draws, DrawsRegion, FetchesInputs, FetchesVisits, ShowsNumbers, ShowsText, ShowsSettings, Tells, TellsAddress, TellsSome, TellsWait, LetsGo, TakesPixels, Wakes}
 use Rattle.c_screen.specs.Pixels.{format_of, source_from}
 use Rattle.source_pixels.specs.declared.formats.SourceFormat.TheVariants as format
 use Rattle.vnc_server.specs.contracts.vnc_server_listen_n as f
@@ -46,7 +46,7 @@ vnc_server_listen_n_spec 𝓤 𝓛 𝓜 𝓡 wired =
     move ! (0 ∷ 3 ∷ []) $ fjoin ! $ move ! (2 ∷ 3 ∷ 0 ∷ []) $ join ! $ join ! $ nothing ! $ move ! (1 ∷ 0 ∷ []) $ use2 𝓛 (raw (G.pre z)) (id⊢ 𝓤 _) $
     calls_at ! (framed 𝓤 𝓛.H 𝓜 (tables 𝓤 𝓛.H 𝓜 𝓡 𝓡.env)) G (met 𝓤 𝓛 𝓜 𝓡 (code.calls-c_server::desk::ServerDesk::listen 𝓡.env wired)) z
     (and_then ! (get ! refl) (and_then ! (get ! refl) (and_then ! (get ! refl) (and_then ! (get ! refl) (and_then ! (get ! refl) (and_then ! (get ! refl) (and_then ! (get ! refl) (no_more !)))))))) (λ v.
-    use1 𝓛 (later (some (λ (r : i32.Denot). ((‵ (flft κ full_share) ⊛ (‵ (flft κs.0 qs.0) ⊛ ‵ (flft κs.1.0 qs.1.0) ⊛ ‵ ftrue)) ⊛ ‵ (i32.own_val r (v ∷ []))) ⊛ some (λ (ws : Lasts g.ended z.0.0 z.0.3). ‵ (lasts g.ended z.0.0 z.0.3 ws) ⊛ raw (fact 𝓤 (Listens (config_of a.1.1.1.0 a.1.1.1.1.0 a.1.1.1.1.1.0.now rects_per_update) a.1.0.now a.1.1.0 s ws.0 r)))))) (id⊢ 𝓤 _) $
+    use1 𝓛 (later (some (λ (r : i32.Denot). ((‵ (flft κ full_share) ⊛ (‵ (flft κs.0 qs.0) ⊛ ‵ (flft κs.1.0 qs.1.0) ⊛ ‵ ftrue)) ⊛ ‵ (i32.own_val r (v ∷ []))) ⊛ some (λ (ws : Lasts g.ended z.0.0 z.0.3). ‵ (lasts g.ended z.0.0 z.0.3 ws) ⊛ raw (fact 𝓤 (Listens (config_of a.1.1.1.0 a.1.1.1.1.0 a.1.1.1.1.1.0.now rects_per_update) a.1.1.1.1.1.1.0 a.1.0.now a.1.1.0 s ws.0 r)))))) (id⊢ 𝓤 _) $
     await ! tt $ pick ! (λ r. split ! $ split ! $ split ! $ lft_end ! tt $
     -- [α is over; the tokens; the result; what the callee left; what the lender keeps]
     move ! (3 ∷ []) $ pick ! (λ ws. split ! $ move ! (1 ∷ []) $ heard ! _ (λ so. fsplit ! $ fsplit ! $
@@ -57,7 +57,7 @@ vnc_server_listen_n_spec 𝓤 𝓛 𝓜 𝓡 wired =
     move ! (4 ∷ []) $ peeks ! i32 (Is i32) (shows 𝓛 i32) r (v ∷ []) (λ is. lands_as ! refl refl ((sint_Lawful 𝓛 w32).typed r _ is).0 $
     returns ! (look_at ! 0 refl) $ free_all ! refl $ keep ! (1 ∷ 4 ∷ 3 ∷ 0 ∷ []) $
     suffices ! _ (ends_at 𝓛 f.ended stayed c (y (block_ptr b o)) v r (tt, ws.1) (tt, (tt, (tt, (tt, (tt, (tt, (tt, tt)))))))) $
-    fpack ! (Listens (config_of a.1.1.1.0 a.1.1.1.1.0 a.1.1.1.1.1.0.now rects_per_update) a.1.0.now a.1.1.0 s ws.0 r) (λ _. holds (block_ptr b o) ws.0) so $
-    fpack ! desk_row.Denot (λ t. fex (Listens (config_of a.1.1.1.0 a.1.1.1.1.0 a.1.1.1.1.1.0.now rects_per_update) a.1.0.now a.1.1.0 s t r) (λ _. holds (block_ptr b o) t)) ws.0 $
+    fpack ! (Listens (config_of a.1.1.1.0 a.1.1.1.1.0 a.1.1.1.1.1.0.now rects_per_update) a.1.1.1.1.1.1.0 a.1.0.now a.1.1.0 s ws.0 r) (λ _. holds (block_ptr b o) ws.0) so $
+    fpack ! desk_row.Denot (λ t. fex (Listens (config_of a.1.1.1.0 a.1.1.1.1.0 a.1.1.1.1.1.0.now rects_per_update) a.1.1.1.1.1.1.0 a.1.0.now a.1.1.0 s t r) (λ _. holds (block_ptr b o) t)) ws.0 $
     -- [what is served; the tokens; the others' last values; the result]
     move ! (2 ∷ []) $ nothing ! $ fjoin ! $ move ! (2 ∷ 0 ∷ 3 ∷ []) $ group ! 3 $ done !))))))))))

@@ -33,7 +33,7 @@ returns-in_err-count g c =
     let e = c.in_err-count.field-0.0 in
     let w = c.in_err-count.ensures.sent in
     let may = c.writing.ensures c.in_ok-passed-2.ensures.through in
-    let all = c.in_ok-fill.ensures.bytes ∙ c.into_stream-stream.ensures in
+    let all = c.fill.ensures.bytes ∙ c.into_stream-stream.ensures in
     on_error c.from_residual-in_err-count.result e _ _ c.from_residual-in_err-count.ensures.1
     (broken-written _ _ _ _ _ _ c.in_ok-update.update e may c.in_ok-update.ensures.cut.1 (w.0, w.1, w.2, subst (λ (l : List ℕ). WritingEnds e w.0 l) all w.3))
 
@@ -42,7 +42,7 @@ returns g c =
     let gate = c.args.gate.now in
     let v = c.args.viewer in
     let w = c.in_ok-count.ensures.sent in
-    let all = c.in_ok-fill.ensures.bytes ∙ c.into_stream-stream.ensures in
+    let all = c.fill.ensures.bytes ∙ c.into_stream-stream.ensures in
     let told = subst (g.G.Gate.was_told gate v) (c.in_ok-count.ensures.count ∙ ap (λ (l : List ℕ). counted (length l)) all) c.wrote.ensures in
     sent-whole (IsSent (g.G.Gate.lets_encode gate v) (g.G.Gate.lets_write gate v) (g.G.Gate.was_told gate v)) _ _ _ _ _ c.in_ok-update.update
     (c.in_ok-update.ensures.cut.0, c.encoding.ensures c.in_ok-passed.ensures.through, c.writing.ensures c.in_ok-passed-2.ensures.through, told)

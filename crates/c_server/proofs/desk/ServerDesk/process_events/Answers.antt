@@ -5,11 +5,11 @@ use Rattle.c_server.proofs.Turning.{no-turn, turns}
 use Rattle.c_server.proofs.desk.ServerDesk.process_events.Goals as goal
 
 pub returns-then-is_err : goal.returns-then-is_err
-returns-then-is_err c = no-turn _ _ c.in-Some.events _ _ _ _ _ _ _ _ _ _ _ _ c.self.view_is c.in-Some.is (search rules) c.make_all_room.ensures.inputs c.make_all_room.ensures.visits
+returns-then-is_err c = no-turn _ _ c.in-Some.events _ _ _ _ _ _ _ _ _ _ _ _ _ c.self.view_is c.in-Some.is (search rules) c.make_all_room.ensures.inputs c.make_all_room.ensures.visits
 
 pub returns : goal.returns
 returns c =
-    turns _ _ c.in-Some.events _ c.process_events-answer.result _ _ _ c.make_all_room.new.inputs.items _ c.process_events-answer.new.application.inputs.items _ c.make_all_room.new.visits.items _ c.process_events-answer.new.application.visits.items _ _ _ _ c.process_events-answer.new.application.lost c.keep-kept.result.lost _ _ _ _ _ _
+    turns _ _ c.in-Some.events _ c.process_events-answer.result _ _ _ _ c.make_all_room.new.inputs.items _ c.process_events-answer.new.application.inputs.items _ c.make_all_room.new.visits.items _ c.process_events-answer.new.application.visits.items _ _ _ _ c.process_events-answer.new.application.lost c.keep-kept.result.lost _ _ _ _ _ _
     c.self.view_is c.in-Some.is (search rules)
     (λ config list s.
     let p = c.process_events-answer.ensures.served (held_where _) config list s in

@@ -1,0 +1,52 @@
+//! Connections that the program has.
+
+ghost use Rattle.std.specs.Prelude.{◌≡◌, ◌≤ℤ◌, IfErr, OnOk, pos};
+ghost use Rattle.c_server.specs.Calls.{IsSocketRefusal};
+
+use crate::codes::{BAD_SOCKET, NETWORK_FAILED};
+use event_loop::{Application, Canvas, Input, ScreenError};
+use libc::net::{_SS_SIZE, getpeername};
+use mio::net::TcpStream;
+use os::FromRawFd;
+use std::io::Write;
+use std::net;
+use turned_away::refusal;
+
+/// An application that draws nothing, and keeps nothing of what it is told, while a connection is taken in.
+#[derive(Drop)]
+pub(crate) struct Silent;
+
+impl Application for Silent {
+    fn on_input(&mut self, _: &mut Canvas, _: u64, _: &Input) -> Result<(), ScreenError> {
+        Ok(())
+    }
+}
+
+/// Returns whether a descriptor is a socket that is connected. Where it isn't, errno says why.
+fn is_connected(fd: i32) -> bool {
+    let mut address = [0u8; _SS_SIZE];
+    let mut length = 128;
+    unsafe { getpeername(fd, &mut address, &mut length) == 0 }
+}
+
+/// Takes a descriptor of the program's that is a connected socket, and returns the connection, whose reads and writes don't wait. Returns
+/// `BAD_SOCKET` where it is none, and then the descriptor stays the program's; `NETWORK_FAILED` where the system refuses not to wait, and
+/// then it is closed.
+pub(crate) fn stream_of(fd: i32) -> Result<TcpStream, i32>
+    ensures taken { OnOk result (pos 0 ≤ℤ fd) }
+    ensures err { IfErr result (IsSocketRefusal fd) }
+{
+    if !is_connected(fd) || fd < 0 {
+        return Err(BAD_SOCKET);
+    }
+    let stream = unsafe { net::TcpStream::from_raw_fd(fd) };
+    match stream.set_nonblocking(true) {
+        Ok(()) => Ok(TcpStream::from_std(stream)),
+        Err(_) => Err(NETWORK_FAILED),
+    }
+}
+
+/// Tells a connection that there are too many (RFC 6143, 7.1.2), and closes it. It is new, so there is room for these few bytes.
+pub(crate) fn turn_away(mut stream: TcpStream) {
+    let _told = stream.write(&refusal());
+}
