@@ -10,7 +10,7 @@
 #![tactic(auto)]
 
 use connections::{
-    Application, Canvas, Connections, Input, Readiness, Rect, ScreenError, Transport,
+    Application, Canvas, Connections, Input, Readiness, Receipt, Rect, ScreenError, Transport,
 };
 use screen::{Config, History, Listed};
 use std::alloc::Global;
@@ -71,6 +71,10 @@ struct Nobody {}
 
 impl Application for Nobody {
     fn on_input(&mut self, _: &mut Canvas, _: u64, _: &Input) -> Result<(), ScreenError> {
+        Ok(())
+    }
+
+    fn left(&mut self, _: &mut Canvas, _: Receipt) -> Result<(), ScreenError> {
         Ok(())
     }
 }

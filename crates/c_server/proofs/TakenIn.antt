@@ -5,7 +5,7 @@ use Rattle.screen.specs.declared.Input.{Input}
 use Rattle.screen.specs.declared.Config.{Config}
 use Rattle.screen.specs.declared.Event.{Event}
 use Rattle.connections.specs.Serving.{Serving}
-use Rattle.connections.specs.Telling.{inputs_after}
+use Rattle.connections.specs.Telling.{words_after}
 use Rattle.event_loop.specs.Sockets.{GoesOnServing}
 use Rattle.event_loop.specs.Admitting.{IsAdmittedOr}
 use Rattle.event_loop.specs.declared.event_loop.LoopError.{LoopError}
@@ -29,7 +29,7 @@ pub refused-at : (f fd code : ℤ) → IsSocketRefusal f code → f ≡ fd → I
 refused-at f fd code h same = subst (λ (n : ℤ). IsSocketRefusal n code) same h
 
 -- nothing happens
-stays : (old new : Standing) → new ≡ old → (c : Config) (list : List Event) → StandsFor c list old → (more : List Event) × StandsFor c (list ++ more) new × (inputs_after c list more ≡ [])
+stays : (old new : Standing) → new ≡ old → (c : Config) (list : List Event) → StandsFor c list old → (more : List Event) × StandsFor c (list ++ more) new × (words_after c list more ≡ [])
 stays old new same c list stands = ([], subst (λ (d : Standing). StandsFor c (list ++ []) d) (sym same) (rw (append-nil list) stands), refl)
 
 -- the loop was asked

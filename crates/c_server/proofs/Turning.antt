@@ -10,7 +10,8 @@ use Rattle.screen.specs.declared.ScreenError.TheVariants.{OutOfMemory}
 use Rattle.screen.specs.declared.ScreenError.TheVariants as refusals
 use Rattle.screen.specs.Alone.{config_refusal}
 use Rattle.connections.specs.Serving.{Serving, Serves, number_at}
-use Rattle.connections.specs.Telling.{inputs_after}
+use Rattle.connections.specs.Telling.{Told, words_of, inputs_in, inputs_told, words_after, inputs_after}
+use Rattle.connections.specs.TellingLemmas.{inputs-told-both}
 use Rattle.event_loop.specs.Sockets.{GoesOnServing}
 use Rattle.event_loop.specs.declared.event_loop.LoopError.{LoopError}
 use Rattle.event_loop.specs.declared.event_loop.LoopError.TheVariants.{Network, Clock, Screen}
@@ -195,6 +196,14 @@ all-counted told came came_lost fit others all visits waited kept_lost lost now 
 -- what is put takes from the room for texts
 texts-kept : (inputs kept put fit : List (ℕ × Input)) (texts now left : ℕ) → kept ≡ inputs → put ≡ kept ++ fit → now ≡ left → texts_size fit + left ≡ texts → texts_size put + now ≡ texts_size inputs + texts
 texts-kept inputs kept put fit texts now left same is now_is sum = rw is (rw same (rw now_is (omega (texts-append inputs fit, sum, arith))))
+
+-- what was told of a turn, and what was not, by their inputs
+pub inputs-parts : (c : Config) (list more : List Event) (all told rest : List Told) → words_of all ≡ words_after c list more → told ++ rest ≡ all → inputs_told told ++ inputs_told rest ≡ inputs_after c list more
+inputs-parts c list more all told rest said parts = sym (inputs-told-both told rest) ∙ ap inputs_told parts ∙ ap inputs_in said
+
+pub none-untold : {X E : Type 0} (answer : Result X E) (rest : List Told) → OnOk answer (rest ≡ []) → OnOk answer (inputs_told rest ≡ [])
+none-untold (Ok x) rest none = ap inputs_told none
+none-untold (Err e) rest none = tt
 
 pub turns : (desk : Standing) (before : Option Serving) (s t : Serving) (answer : Result (Unit {0}) LoopError) (code : ℤ) (port granted : ℕ) (inputs inputs_kept inputs_put came : List (ℕ × Input)) (visits visits_kept visits_put visits_come : List Visit) (room : ℕ) (text : List ℕ) (lost lost_now came_lost kept_lost full full_now texts texts_now : ℕ) (path : List ℕ) (on : Bool)
     → record { served = before; port = port; viewers = granted; inputs = inputs; visits = visits; text = text; lost = lost; full_requests = full; text_room = texts; record_path = path; recorded = on } ≡ desk → before ≡ Some s → code ≡ turn_code answer

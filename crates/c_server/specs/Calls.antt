@@ -11,7 +11,7 @@ use Rattle.screen.specs.declared.Input.{Input}
 use Rattle.screen.specs.declared.Event.{Event}
 use Rattle.screen.specs.declared.ScreenError.TheVariants.{OutOfMemory}
 use Rattle.screen.specs.Alone.{config_refusal}
-use Rattle.connections.specs.Telling.{inputs_after}
+use Rattle.connections.specs.Telling.{words_after, inputs_after}
 use Rattle.connections.specs.Serving.{Serving, Serves, number_at}
 use Rattle.connections.specs.Recorded.{is_broken}
 use Rattle.source_pixels.specs.Source.{Source}
@@ -82,10 +82,10 @@ pub record IsAdopted (s : Serving) (old new : Standing) (code : ℤ) : Type 0 wh
 abbrev pub IsAdoptedOrFull : Serving → Standing → Standing → ℤ → Type 0
 IsAdoptedOrFull s old new code = (old.viewers ≤ count_by is_some s.slots → (code ≡ full) × (new ≡ old)) × (count_by is_some s.slots < old.viewers → ((code ≡ out_of_memory) × (new ≡ old)) ⊎ IsAdopted s old new code)
 
--- A connection that the program has by a descriptor is taken in, or refused. Whatever list of events the screen stood for, it stands for it with others behind it, none of which has an input, and by that list each viewer is served.
+-- A connection that the program has by a descriptor is taken in, or refused. Whatever list of events the screen stood for, it stands for it with others behind it, in which no viewer says anything, and none leaves, and by that list each viewer is served.
 pub record Adopts (fd : ℤ) (old new : Standing) (code : ℤ) : Type 0 where
   pub answer : MatchOption old.served ((code ≡ shut) × (new ≡ old)) (λ s. (IsSocketRefusal fd code × (new ≡ old)) ⊎ ((pos 0 ≤ℤ fd) × IsAdoptedOrFull s old new code))
-  pub served : (c : Config) (list : List Event) → StandsFor c list old → (more : List Event) × StandsFor c (list ++ more) new × (inputs_after c list more ≡ [])
+  pub served : (c : Config) (list : List Event) → StandsFor c list old → (more : List Event) × StandsFor c (list ++ more) new × (words_after c list more ≡ [])
   pub same : new ≡ record old { served = new.served; visits = new.visits; lost = new.lost }
 
 -- the next screen is recorded in the file of this path, or in none; or memory for the path is refused

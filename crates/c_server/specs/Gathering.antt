@@ -2,6 +2,7 @@
 use Rattle.std.specs.Prelude.{◌≡◌, ◌⊎◌, ℕ, ◌+◌, ◌-◌, ◌^◌, ◌<◌, ◌≤◌, min, List, [], ◌∷◌, ◌++◌, length, take, Result, Ok}
 use Rattle.std.specs.VecDeque.{deque_capacity}
 use Rattle.screen.specs.declared.Input.{Input}
+use Rattle.connections.specs.Telling.{Told, inputs_told}
 use Rattle.c_server.specs.declared.visits.Visit.{Visit}
 use Rattle.c_server.specs.declared.gathering.Gathering.{Gathering}
 use Rattle.event_loop.specs.declared.event_loop.LoopError.{LoopError}
@@ -35,6 +36,6 @@ pub record IsKept (came kept : List (ℕ × Input)) (visits : List Visit) (room 
   pub room_is : 1024 ≤ room
   pub counted : lost < 2 ^ 64 - 1 → lost + length kept ≡ length came + (length all - 1024)
 
--- that is what is kept of these inputs
-abbrev pub IsKeptBy : Gathering → List (ℕ × Input) → Type 0
-IsKeptBy gathering came = IsKept came gathering.inputs.items gathering.visits.items (deque_capacity gathering.visits) gathering.lost
+-- that is what is kept of the inputs that were told
+abbrev pub IsKeptBy : Gathering → List Told → Type 0
+IsKeptBy gathering told = IsKept (inputs_told told) gathering.inputs.items gathering.visits.items (deque_capacity gathering.visits) gathering.lost

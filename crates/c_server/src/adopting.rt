@@ -4,7 +4,7 @@ ghost use Rattle.std.specs.Prelude.{◌≡◌, ◌≤ℤ◌, IfErr, OnOk, pos};
 ghost use Rattle.c_server.specs.Calls.{IsSocketRefusal};
 
 use crate::codes::{BAD_SOCKET, NETWORK_FAILED};
-use event_loop::{Application, Canvas, Input, ScreenError};
+use event_loop::{Application, Canvas, Input, Receipt, ScreenError};
 use libc::net::{_SS_SIZE, getpeername};
 use mio::net::TcpStream;
 use os::FromRawFd;
@@ -18,6 +18,10 @@ pub(crate) struct Silent;
 
 impl Application for Silent {
     fn on_input(&mut self, _: &mut Canvas, _: u64, _: &Input) -> Result<(), ScreenError> {
+        Ok(())
+    }
+
+    fn left(&mut self, _: &mut Canvas, _: Receipt) -> Result<(), ScreenError> {
         Ok(())
     }
 }

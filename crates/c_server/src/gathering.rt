@@ -1,10 +1,9 @@
 //! The application: it draws nothing, and keeps what it is told.
 
-ghost use Rattle.std.specs.Prelude.{◌≡◌, ◌≤◌, ◌<◌, ◌+◌, ◌^◌, ◌-◌, min, ℕ, List, [], ◌∷◌, ◌++◌, length, OnOk, OnErr, true, false};
+ghost use Rattle.std.specs.Prelude.{◌≡◌, ◌≤◌, ◌<◌, ◌+◌, ◌^◌, ◌-◌, min, List, [], ◌∷◌, ◌++◌, length, OnOk, OnErr, true, false};
 ghost use Rattle.std.specs.VecDeque.{deque_len, deque_capacity};
-ghost use Rattle.screen.specs.declared.Input.{Input};
 ghost use Rattle.connections.specs.Drawing.{Draws};
-ghost use Rattle.connections.specs.Telling.{Stays};
+ghost use Rattle.connections.specs.Telling.{Told, Said, Left, Stays};
 ghost use Rattle.c_server.specs.Desk.{has_text, text_size};
 ghost use Rattle.c_server.specs.Gathering.{IsPut, IsPutOrLost, IsKeptBy};
 ghost use Rattle.c_server.specs.Visits.{coming_of, going_of};
@@ -126,7 +125,7 @@ impl Application for Gathering {
         input: &Input,
     ) -> Result<(), ScreenError>
         ensures draws { Draws _canvas.old _canvas.new }
-        ensures told { (inputs : List (ℕ × Input)) → IsKeptBy self.old inputs → IsKeptBy self.new (inputs ++ (viewer, input.now) ∷ []) }
+        ensures told { (told : List Told) → IsKeptBy self.old told → IsKeptBy self.new (told ++ Said viewer input.now ∷ []) }
         ensures kept { IsPutOrLost (viewer, input.now) self.old.inputs.items self.new.inputs.items self.old.text_room self.new.text_room self.old.lost self.new.lost }
         ensures full { has_text input.now ≡ false → deque_len self.old.inputs < deque_capacity self.old.inputs → self.new.inputs.items ≡ self.old.inputs.items ++ (viewer, input.now) ∷ [] }
     {
@@ -152,7 +151,8 @@ impl Application for Gathering {
 
     fn left(&mut self, _canvas: &mut Canvas, receipt: Receipt) -> Result<(), ScreenError>
         ensures draws { Draws _canvas.old _canvas.new }
-        ensures stands { Stays IsKeptBy self.old self.new }
+        ensures told { OnOk result ((told : List Told) → IsKeptBy self.old told → IsKeptBy self.new (told ++ Left receipt ∷ [])) }
+        ensures refused { OnErr result (Stays IsKeptBy self.old self.new) }
         ensures kept { 1024 ≤ deque_capacity self.old.visits → IsPut (going_of receipt.viewer receipt.ended) self.old.visits.items self.new.visits.items self.old.lost self.new.lost }
         ensures inputs { self.new.inputs ≡ self.old.inputs }
     {

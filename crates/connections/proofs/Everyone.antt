@@ -7,7 +7,6 @@ use Rattle.std.proofs.lemmas.Bool.Decides.{Decides-eqb}
 use Rattle.screen.specs.declared.Config.{Config}
 use Rattle.screen.specs.declared.Event.{Event}
 use Rattle.screen.specs.declared.Event.TheVariants.{Connect, Close}
-use Rattle.screen.specs.declared.Input.{Input}
 use Rattle.screen.specs.declared.ScreenError.{ScreenError}
 use Rattle.screen.specs.Answers.{viewer_of, answer_to}
 use Rattle.slab.specs.Slab.{Slab, get, Updates}
@@ -25,12 +24,12 @@ use Rattle.connections.specs.Attending.{asks, IsSettled}
 use Rattle.connections.specs.Counting.{Counts, no_counts, counts_of, HasCounts}
 use Rattle.connections.specs.Recording.{none_yet}
 use Rattle.held_inputs.specs.Held.{Held, nothing}
-use Rattle.connections.specs.Telling.{said_by, releases, held_of, inputs_after, IsTold}
+use Rattle.connections.specs.Telling.{Word, Leaves, Told, words_of, says, said_by, receipts_in, releases, held_of, words_after, IsTold}
 use Rattle.connections.specs.Recorded.{IsRecordedBy, RecordsMore}
 use Rattle.connections.specs.RecordedLemmas.{records-same, recorded-same, recorded-more}
 use Rattle.connections.specs.Serving.{Began, Carried, ViewerConnection, Moves, breaks_off, has_work, IsServed, WasServed, IsOver, IsAttended, Serving, at_key, works_at, may_cut_at, may_ask_at, is_kept, Serves, GoesOn, GoesOnTelling, drawn_is_served}
 use Rattle.connections.specs.Turns.{Knows, IsTurnFrom, TakesTurn, TakesTurnTelling}
-use Rattle.connections.specs.TellingLemmas.{inputs-append, inputs-drawings, told-nothing, told-all, told-then, told-ended}
+use Rattle.connections.specs.TellingLemmas.{words-append, words-drawings, words-both, receipts-both, said-words, said-none, told-nothing, told-all, told-then, told-ended}
 use Rattle.connections.proofs.Given.{SameFor, bytes-own, heard-same, held-same, counts-same, same-others, same-drawings}
 use Rattle.connections.proofs.Turns.{served-same, drawn-on, moves-nothing}
 use Rattle.connections.proofs.Seen.{asks-drawings, asks-others, absent-drawings, absent-others}
@@ -44,20 +43,20 @@ goes-then a b d g h c began list s =
     let second = h c began (list ++ first.0) first.1 in (
       first.0 ++ second.0,
       subst (λ (l : List Event). Serves c began l d) (append_assoc list first.0 second.0) second.1,
-      inputs-append c list first.0 second.0 ∙ ap (λ l. l ++ inputs_after c (list ++ first.0) second.0) first.2 ∙ second.2,
+      words-append c list first.0 second.0 ∙ ap (λ l. l ++ words_after c (list ++ first.0) second.0) first.2 ∙ second.2,
     )
 
-module _ {A : Type 0} (stands : A → List (ℕ × Input) → Type 0) where
+module _ {A : Type 0} (stands : A → List Told → Type 0) where
   -- an application was told all
   abbrev pub TellsAll : Serving → Serving → A → A → Type 0
   TellsAll a b x y = GoesOnTelling {X = Unit {0}} {E = ScreenError} stands a b x y (Ok tt)
 
   -- an application is told nothing
   pub goes-silently : {X E : Type 0} (x : A) (r : Result X E) (a b : Serving) → GoesOn a b → GoesOnTelling stands a b x x r
-  goes-silently x r a b g c began list s = let p = g c began list s in (p.0, p.1, subst (λ l. IsTold stands l x x r) (sym p.2) (told-nothing stands x r))
+  goes-silently x r a b g c began list s = let p = g c began list s in (p.0, p.1, [], sym p.2, refl, told-nothing stands x r)
 
   pub tells-all : {X E : Type 0} (x y : A) (r : Result X E) (value : X) (a b : Serving) → r ≡ Ok value → GoesOnTelling stands a b x y r → TellsAll a b x y
-  tells-all x y r value a b ok g c began list s = let p = g c began list s in (p.0, p.1, told-all stands x y (inputs_after c list p.0) r value ok p.2)
+  tells-all x y r value a b ok g c began list s = let p = g c began list s in (p.0, p.1, p.2, p.3, p.4, told-all stands x y p.2 r value ok p.5)
 
   -- it was told all, and is told more
   pub tells-then : {X E : Type 0} (x y z : A) (r : Result X E) (a b d : Serving) → TellsAll a b x y → GoesOnTelling stands b d y z r → GoesOnTelling stands a d x z r
@@ -66,12 +65,15 @@ module _ {A : Type 0} (stands : A → List (ℕ × Input) → Type 0) where
       let second = h c began (list ++ first.0) first.1 in (
         first.0 ++ second.0,
         subst (λ (l : List Event). Serves c began l d) (append_assoc list first.0 second.0) second.1,
-        subst (λ l. IsTold stands l x z r) (sym (inputs-append c list first.0 second.0)) (told-then stands x y z (inputs_after c list first.0) (inputs_after c (list ++ first.0) second.0) r first.2 second.2),
+        first.2 ++ second.2,
+        words-both first.2 second.2 ∙ ap (λ l. l ++ words_of second.2) first.3 ∙ ap (λ l. words_after c list first.0 ++ l) second.3 ∙ sym (words-append c list first.0 second.0),
+        receipts-both first.2 second.2 ∙ ap (λ l. l ++ receipts_in second.2) first.4 ∙ second.4,
+        told-then stands x y z first.2 second.2 r first.5 second.5,
       )
 
   -- as an error says that ended it
   pub tells-ended : {X Y E F : Type 0} (x y : A) (q : Result X E) (r : Result Y F) (f : F) (a b : Serving) → r ≡ Err f → GoesOnTelling stands a b x y q → GoesOnTelling stands a b x y r
-  tells-ended x y q r f a b err g c began list s = let p = g c began list s in (p.0, p.1, told-ended stands x y (inputs_after c list p.0) q r f err p.2)
+  tells-ended x y q r f a b err g c began list s = let p = g c began list s in (p.0, p.1, p.2, p.3, p.4, told-ended stands x y p.2 q r f err p.5)
 
 -- ---- which are to be looked at
 
@@ -191,7 +193,7 @@ serves-drawn c began list a b d same s =
 pub goes-drawn : (a b : Serving) → Draws a.surface b.surface → b ≡ record a { surface = b.surface } → GoesOn a b
 goes-drawn a b draws same c began list s =
     let d = drawn-on c list a.surface b.surface s.screen draws in
-    (d.calls, serves-drawn c began list a b d same s, inputs-drawings c list d.calls d.drawings)
+    (d.calls, serves-drawn c began list a b d same s, words-drawings c list d.calls d.drawings)
 
 pub drawn-serves : drawn_is_served
 drawn-serves c began list s surface drawn serves = serves-drawn c began list s (record s { surface = surface }) drawn refl serves
@@ -215,7 +217,7 @@ begun c began list a key e there s =
     let known = s.attended key e there in
     record {
       events = [];
-      inputs = refl;
+      words = refl;
       own = refl;
       screen = s.screen ∙ ap (state c) (sym (append-nil list));
       recorded = records-same c list a.surface.scribed;
@@ -224,7 +226,7 @@ begun c began list a key e there s =
       knows = subst (λ (l : List Event). Knows c list l n a.surface a.surface e.known) (sym (append-nil list)) (record { answered = known.answered; settled = known.settled; others = λ u apart h. h });
     }
 
-serves-by-turn : (c : Config) (began : Began) (list : List Event) (a b : Serving) (key : ℕ) (e f : ViewerConnection) (said : List (ℕ × Input)) → at_key a.slots key ≡ Some e → at_key b.slots key ≡ Some f
+serves-by-turn : (c : Config) (began : Began) (list : List Event) (a b : Serving) (key : ℕ) (e f : ViewerConnection) (said : List Word) → at_key a.slots key ≡ Some e → at_key b.slots key ≡ Some f
     → ((other : ℕ) → other ≢ key → at_key b.slots other ≡ at_key a.slots other) → b.kept ≡ a.kept → b.next ≡ a.next → b.agenda ≡ a.agenda → b.asking ≡ a.asking
     → is_among key a.agenda ≡ true → (f.known.may_ask ≡ true → (e.known.may_ask ≡ true) ⊎ (is_among key a.asking ≡ true))
     → (t : IsTurnFrom c list (began.carried e.number) e.number said a.surface b.surface f) → Serves c began list a → Serves c began (list ++ t.events) b
@@ -309,15 +311,22 @@ pub goes-by-turn : (a b : Serving) (key : ℕ) (e f : ViewerConnection) → at_k
     → is_among key a.agenda ≡ true → (f.known.may_ask ≡ true → (e.known.may_ask ≡ true) ⊎ (is_among key a.asking ≡ true)) → TakesTurn a.surface e b.surface f → GoesOn a b
 goes-by-turn a b key e f there now others kept next agenda asking among asked turn c began list s =
     let t = turn c list (began.carried e.number) e.number [] a.surface (begun c began list a key e there s) in
-    (t.events, serves-by-turn c began list a b key e f [] there now others kept next agenda asking among asked t s, t.inputs)
+    (t.events, serves-by-turn c began list a b key e f [] there now others kept next agenda asking among asked t s, t.words)
 
 -- the same where an application is told what came
-pub goes-by-telling : {A X E : Type 0} (stands : A → List (ℕ × Input) → Type 0) (x y : A) (r : Result X E) (a b : Serving) (key : ℕ) (e f : ViewerConnection) → at_key a.slots key ≡ Some e → at_key b.slots key ≡ Some f
+pub goes-by-telling : {A X E : Type 0} (stands : A → List Told → Type 0) (x y : A) (r : Result X E) (a b : Serving) (key : ℕ) (e f : ViewerConnection) → at_key a.slots key ≡ Some e → at_key b.slots key ≡ Some f
     → ((other : ℕ) → other ≢ key → at_key b.slots other ≡ at_key a.slots other) → b.kept ≡ a.kept → b.next ≡ a.next → b.agenda ≡ a.agenda → b.asking ≡ a.asking
     → is_among key a.agenda ≡ true → (f.known.may_ask ≡ true → (e.known.may_ask ≡ true) ⊎ (is_among key a.asking ≡ true)) → TakesTurnTelling stands a.surface e b.surface f x y r → GoesOnTelling stands a b x y r
 goes-by-telling stands x y r a b key e f there now others kept next agenda asking among asked turn c began list s =
     let t = turn c list (began.carried e.number) e.number [] a.surface (begun c began list a key e there s) in
-    (t.1.events, serves-by-turn c began list a b key e f t.0 there now others kept next agenda asking among asked t.1 s, subst (λ l. IsTold stands l x y r) (sym t.1.inputs) t.2)
+    let said = said_by e.number t.0 in (
+      t.1.events,
+      serves-by-turn c began list a b key e f (says e.number t.0) there now others kept next agenda asking among asked t.1 s,
+      said,
+      said-words e.number t.0 ∙ sym t.1.words,
+      said-none e.number t.0,
+      t.2,
+    )
 
 -- a key with a connection is one of the slots
 within : (slots : List (Option ViewerConnection)) (key : ℕ) (e : ViewerConnection) → at_key slots key ≡ Some e → key < length slots
@@ -336,7 +345,7 @@ goes-at a before after kept next slots vacant agenda asking key e f is there lis
     (get_or-set_same slots key (Some f) None (within slots key e there))
     (λ other away. get_or-set_other slots key other (Some f) None away) refl refl refl refl listed asked turn)
 
-pub goes-at-telling : {A X E : Type 0} (stands : A → List (ℕ × Input) → Type 0) (x y : A) (r : Result X E) (a : Serving) (before after : Surface) (kept : Bool) (next : ℕ) (slots : List (Option ViewerConnection)) (vacant : ℕ) (agenda asking : List ℕ) (key : ℕ)
+pub goes-at-telling : {A X E : Type 0} (stands : A → List Told → Type 0) (x y : A) (r : Result X E) (a : Serving) (before after : Surface) (kept : Bool) (next : ℕ) (slots : List (Option ViewerConnection)) (vacant : ℕ) (agenda asking : List ℕ) (key : ℕ)
     (e f : ViewerConnection) → record { surface = before; kept = kept; next = next; slots = slots; vacant = vacant; agenda = agenda; asking = asking } ≡ a → at_key slots key ≡ Some e
     → is_among key agenda ≡ true → (f.known.may_ask ≡ true → (e.known.may_ask ≡ true) ⊎ (is_among key asking ≡ true)) → TakesTurnTelling stands before e after f x y r
     → GoesOnTelling stands a (record { surface = after; kept = kept; next = next; slots = slice_set slots key (Some f); vacant = vacant; agenda = agenda; asking = asking }) x y r
@@ -608,18 +617,19 @@ pub parted : {T : Type 0} (c : Config) (began : Began) (list : List Event) (a : 
     → (before.screen ≡ state c list → after.screen ≡ state c (list ++ Close v ∷ [])) → (before.screen ≡ state c list → RecordsMore c list (Close v ∷ []) before.scribed after.scribed) → (before.screen ≡ state c list → (answer_to c list (Close v)).bytes ≡ [])
     → get old key ≡ Some e → Updates old new key None → IsOver (get old key) v ended → held ≡ e.held → r.viewer ≡ e.number → r.ended ≡ ended → r.sent ≡ unwrap_or e.carried.sent [] → HasCounts e.counts r
     → record { unread = unread transport; written = written transport; sent = e.carried.sent } ≡ e.carried → after ≡ record before { screen = after.screen; scribed = after.scribed } → Lets key agenda later_agenda → Lets key asking later_asking → Serves c began list a
-    → (more : List Event) × Serves c began (list ++ more) (record { surface = after; kept = kept; next = next; slots = new.slots; vacant = new.vacant_key; agenda = later_agenda; asking = later_asking }) × ((inputs_after c list more ≡ said_by r.viewer (releases held)) × WasServed c (list ++ more) (began.carried r.viewer) unread written transport r)
+    → (more : List Event) × Serves c began (list ++ more) (record { surface = after; kept = kept; next = next; slots = new.slots; vacant = new.vacant_key; agenda = later_agenda; asking = later_asking }) × ((words_after c list more ≡ says r.viewer (releases held) ++ Leaves r.viewer ∷ []) × (more ≡ Close r.viewer ∷ []) × WasServed c (list ++ more) (began.carried r.viewer) unread written transport r)
 parted {T = T} c began list a before after kept next old new agenda asking later_agenda later_asking key v e ended unread written transport held r is steps records quiet there updates over holds viewer so sent counts carried still listed asked =
     let b : Serving = record { surface = after; kept = kept; next = next; slots = new.slots; vacant = new.vacant_key; agenda = later_agenda; asking = later_asking } in
     let was : Serving = record { surface = before; kept = kept; next = next; slots = old.slots; vacant = old.vacant_key; agenda = agenda; asking = asking } in
     let ended_so : IsOver (Some e) v ended = subst (λ (o : Option ViewerConnection). IsOver o v ended) there over in
     let number : v ≡ e.number = sym ended_so.0 in
-    subst (λ (x : Serving). Serves c began list x → (more : List Event) × Serves c began (list ++ more) b × ((inputs_after c list more ≡ said_by r.viewer (releases held)) × WasServed c (list ++ more) (began.carried r.viewer) unread written transport r)) is
+    subst (λ (x : Serving). Serves c began list x → (more : List Event) × Serves c began (list ++ more) b × ((words_after c list more ≡ says r.viewer (releases held) ++ Leaves r.viewer ∷ []) × (more ≡ Close r.viewer ∷ []) × WasServed c (list ++ more) (began.carried r.viewer) unread written transport r)) is
     (λ s.
     let both = one-less c began list was b key e unread written transport r (subst (λ (n : ℕ). after.screen ≡ state c (list ++ Close n ∷ [])) number (steps s.screen))
     (subst (λ (n : ℕ). RecordsMore c list (Close n ∷ []) before.scribed after.scribed) number (records s.screen))
     (subst (λ (n : ℕ). (answer_to c list (Close n)).bytes ≡ []) number (quiet s.screen)) refl refl there updates.changed updates.others
     (subst (λ (x : Ended). IsOver (Some e) e.number x) (sym so) (subst (λ (n : ℕ). IsOver (Some e) n ended) number ended_so)) viewer sent counts carried
     (ap (λ (x : Surface). x.drawn) still) (ap (λ (x : Surface). x.noticed) still) listed asked s in
-    let inputs = append-nil (said_by e.number (releases (held_of c e.number list))) ∙ ap (λ h. said_by e.number (releases h)) (sym (holds ∙ (s.each key e there).1.held)) ∙ ap (λ n. said_by n (releases held)) (sym viewer) in
-    (Close e.number ∷ [], both.0, (inputs, both.1)))
+    let words = append-nil (says e.number (releases (held_of c e.number list)) ++ Leaves e.number ∷ [])
+    ∙ ap (λ h. says e.number (releases h) ++ Leaves e.number ∷ []) (sym (holds ∙ (s.each key e there).1.held)) ∙ ap (λ n. says n (releases held) ++ Leaves n ∷ []) (sym viewer) in
+    (Close e.number ∷ [], both.0, (words, ap (λ n. Close n ∷ []) (sym viewer), both.1)))

@@ -30,9 +30,9 @@ use Rattle.connections.specs.Reasons.{ended_by_read, known_by_read, ended_by_fau
 use Rattle.connections.specs.declared.connection.Got.{Got}
 use Rattle.connections.specs.declared.connection.Got.TheVariants.{Piece}
 use Rattle.connections.specs.Serving.{Carried, ViewerConnection, Moves, breaks_off, IsServed}
-use Rattle.connections.specs.Telling.{said_by, held_behind, held_of, told_behind, inputs_after, IsTold}
+use Rattle.connections.specs.Telling.{Word, Told, says, said_by, held_behind, held_of, told_behind, words_after, IsTold}
 use Rattle.connections.specs.Turns.{got_bytes, are_of, Knows, IsTurnFrom, HasRead, HearsPiece, TakesTurn, TakesTurnTelling}
-use Rattle.connections.specs.TellingLemmas.{inputs-append, inputs-drawings, told-nothing}
+use Rattle.connections.specs.TellingLemmas.{words-append, words-drawings, told-nothing}
 use Rattle.connections.proofs.Given.{SameFor, bytes-own, heard-own, heard-same, held-own, held-same, counts-heard, counts-cut, counts-uncut, same-drawings, drawings-own}
 use Rattle.connections.proofs.Knowing.{knows-known, knows-looked, knows-drawn, knows-heard, knows-none, knows-cut}
 
@@ -117,7 +117,7 @@ turn-drawn a b e draws c list began v said since t =
     let far : (list ++ t.events) ++ d.calls ≡ list ++ (t.events ++ d.calls) = append_assoc list t.events d.calls in
     record {
       events = t.events ++ d.calls;
-      inputs = inputs-append c list t.events d.calls ∙ ap (λ l. l ++ inputs_after c (list ++ t.events) d.calls) t.inputs ∙ ap (λ l. said ++ l) (inputs-drawings c (list ++ t.events) d.calls d.drawings) ∙ append-nil said;
+      words = words-append c list t.events d.calls ∙ ap (λ l. l ++ words_after c (list ++ t.events) d.calls) t.words ∙ ap (λ l. said ++ l) (words-drawings c (list ++ t.events) d.calls d.drawings) ∙ append-nil said;
       own = own-then v t.events d.calls t.own (drawings-own v d.calls d.drawings);
       screen = d.screen ∙ ap (state c) far;
       recorded = records-then c list t.events d.calls since.scribed a.scribed b.scribed t.recorded d.recorded;
@@ -128,7 +128,7 @@ turn-drawn a b e draws c list began v said since t =
     }
 
 -- a read of a viewer that hasn't ended
-pub turn-read : (c : Config) (list : List Event) (began : Carried) (v : ℕ) (said : List (ℕ × Input)) (since a : Surface) (e f : ViewerConnection) (known : Known) (piece : List ℕ) → e.ended ≡ None
+pub turn-read : (c : Config) (list : List Event) (began : Carried) (v : ℕ) (said : List Word) (since a : Surface) (e f : ViewerConnection) (known : Known) (piece : List ℕ) → e.ended ≡ None
     → f ≡ record e { carried = f.carried; known = known } → known.may_cut ≡ e.known.may_cut → known.may_ask ≡ e.known.may_ask → Moves e.carried f.carried piece [] → length piece ≤ 128 → IsTurnFrom c list began v said since a e → HasRead c list began v said piece since a f
 turn-read c list began v said since a e f known piece live same cut ask moved short t =
     let s = t.served in
@@ -138,7 +138,7 @@ turn-read c list began v said since a e f known piece live same cut ask moved sh
     let waiting : f.waiting ≡ e.waiting = ap (λ (x : ViewerConnection). x.waiting) same in
     record {
       events = t.events;
-      inputs = t.inputs;
+      words = t.words;
       own = t.own;
       screen = t.screen;
       recorded = t.recorded;
@@ -158,7 +158,7 @@ turn-read c list began v said since a e f known piece live same cut ask moved sh
     }
 
 -- a viewer of which nothing was read goes on, or ends
-pub turn-unread : (c : Config) (list : List Event) (began : Carried) (v : ℕ) (said : List (ℕ × Input)) (since a : Surface) (e f : ViewerConnection)
+pub turn-unread : (c : Config) (list : List Event) (began : Carried) (v : ℕ) (said : List Word) (since a : Surface) (e f : ViewerConnection)
     → f ≡ record e { ended = f.ended } → HasRead c list began v said [] since a e → IsTurnFrom c list began v said since a f
 turn-unread c list began v said since a e f same h =
     let number : f.number ≡ v = ap (λ (x : ViewerConnection). x.number) same ∙ h.number in
@@ -167,7 +167,7 @@ turn-unread c list began v said since a e f same h =
     let es = list ++ h.events in
     record {
       events = h.events;
-      inputs = h.inputs;
+      words = h.words;
       own = h.own;
       screen = h.screen;
       recorded = h.recorded;
@@ -189,7 +189,7 @@ turn-unread c list began v said since a e f same h =
     }
 
 -- memory was refused to hear a piece
-pub turn-unheard : {A X E : Type 0} (stands : A → List (ℕ × Input) → Type 0) (x : A) (r : Result X E) (a b : Surface) (e f : ViewerConnection) (room : ℕ) (piece : List ℕ) → b ≡ a → f ≡ record e { room = room; ended = Some Memory } → HearsPiece stands piece a e b f x x r
+pub turn-unheard : {A X E : Type 0} (stands : A → List Told → Type 0) (x : A) (r : Result X E) (a b : Surface) (e f : ViewerConnection) (room : ℕ) (piece : List ℕ) → b ≡ a → f ≡ record e { room = room; ended = Some Memory } → HearsPiece stands piece a e b f x x r
 turn-unheard stands x r a b e f room piece still same c list began v said since h =
     let number : f.number ≡ v = ap (λ (x : ViewerConnection). x.number) same ∙ h.number in
     let carried : f.carried ≡ e.carried = ap (λ (x : ViewerConnection). x.carried) same in
@@ -198,7 +198,7 @@ turn-unheard stands x r a b e f room piece still same c list began v said since 
       [],
       record {
         events = h.events;
-        inputs = h.inputs ∙ sym (append-nil said);
+        words = h.words ∙ sym (append-nil said);
         own = h.own;
         screen = ap (λ (x : Surface). x.screen) still ∙ h.screen;
         recorded = subst (λ (x : Surface). RecordsMore c list h.events since.scribed x.scribed) (sym still) h.recorded;
@@ -223,11 +223,11 @@ turn-unheard stands x r a b e f room piece still same c list began v said since 
     )
 
 -- a piece is heard and answered
-heard-turn : (c : Config) (list : List Event) (began : Carried) (v : ℕ) (said : List (ℕ × Input)) (since a b : Surface) (e f : ViewerConnection) (piece bytes : List ℕ)
+heard-turn : (c : Config) (list : List Event) (began : Carried) (v : ℕ) (said : List Word) (since a b : Surface) (e f : ViewerConnection) (piece bytes : List ℕ)
     → (h : HasRead c list began v said piece since a e) → b.drawn ≡ a.drawn → b.noticed ≡ a.noticed → f.known.may_cut ≡ true → f.known.may_ask ≡ true → b.screen ≡ state c ((list ++ h.events) ++ Hear v piece ∷ []) → RecordsMore c (list ++ h.events) (Hear v piece ∷ []) a.scribed b.scribed → AllHappen c (list ++ h.events) (Hear v piece ∷ []) → bytes ≡ (answer_to c (list ++ h.events) (Hear v piece)).bytes
     → f.number ≡ e.number → f.carried ≡ e.carried → f.counts ≡ with_piece piece e.counts → (breaks_off f.ended ≡ false → waiting_bytes f.waiting ≡ waiting_bytes e.waiting ++ bytes) → IsFew f.waiting
     → f.held ≡ held_behind e.held (answer_to c (list ++ h.events) (Hear v piece)).inputs
-    → IsTurnFrom c list began v (said ++ said_by v (told_behind (held_of c v (list ++ h.events)) (answer_to c (list ++ h.events) (Hear v piece)).inputs)) since b f
+    → IsTurnFrom c list began v (said ++ says v (told_behind (held_of c v (list ++ h.events)) (answer_to c (list ++ h.events) (Hear v piece)).inputs)) since b f
 heard-turn c list began v said since a b e f piece bytes h drawn noticed cut ask stands recorded happened answered its carried counts waits few holds =
     let number : f.number ≡ v = its ∙ h.number in
     let es = list ++ h.events in
@@ -235,7 +235,7 @@ heard-turn c list began v said since a b e f piece bytes h drawn noticed cut ask
     let far : fs ≡ list ++ (h.events ++ Hear v piece ∷ []) = append_assoc list h.events (Hear v piece ∷ []) in
     record {
       events = h.events ++ Hear v piece ∷ [];
-      inputs = inputs-append c list h.events (Hear v piece ∷ []) ∙ ap (λ l. l ++ inputs_after c es (Hear v piece ∷ [])) h.inputs ∙ ap (λ l. said ++ l) (append-nil (said_by v (told_behind (held_of c v es) (answer_to c es (Hear v piece)).inputs)));
+      words = words-append c list h.events (Hear v piece ∷ []) ∙ ap (λ l. l ++ words_after c es (Hear v piece ∷ [])) h.words ∙ ap (λ l. said ++ l) (append-nil (says v (told_behind (held_of c v es) (answer_to c es (Hear v piece)).inputs)));
       own = own-then v h.events (Hear v piece ∷ []) h.own (own-one v (Hear v piece) refl);
       screen = stands ∙ ap (state c) far;
       recorded = records-then c list h.events (Hear v piece ∷ []) since.scribed a.scribed b.scribed h.recorded recorded;
@@ -260,7 +260,7 @@ heard-turn c list began v said since a b e f piece bytes h drawn noticed cut ask
     }
 
 -- and the application is told what it says, and draws
-pub turn-heard : {A X E : Type 0} (stands : A → List (ℕ × Input) → Type 0) (x y : A) (r : Result X E) (inputs : List Input) (a b d : Surface) (e f : ViewerConnection) (n : ℕ) (piece bytes : List ℕ)
+pub turn-heard : {A X E : Type 0} (stands : A → List Told → Type 0) (x y : A) (r : Result X E) (inputs : List Input) (a b d : Surface) (e f : ViewerConnection) (n : ℕ) (piece bytes : List ℕ)
     → n ≡ e.number → b.drawn ≡ a.drawn → b.noticed ≡ a.noticed → f.known.may_cut ≡ true → f.known.may_ask ≡ true
     → ((c : Config) (list : List Event) → a.screen ≡ state c list → b.screen ≡ state c (list ++ Hear n piece ∷ []))
     → ((c : Config) (list : List Event) → a.screen ≡ state c list → RecordsMore c list (Hear n piece ∷ []) a.scribed b.scribed)
@@ -274,10 +274,10 @@ turn-heard stands x y r inputs a b d e f n piece bytes its drawn noticed cut ask
     let es = list ++ h.events in
     let number : n ≡ v = its ∙ h.number in
     let heard : inputs ≡ (answer_to c es (Hear v piece)).inputs = subst (λ (m : ℕ). inputs ≡ (answer_to c es (Hear m piece)).inputs) number (hears c es h.screen) in
-    let all : List (ℕ × Input) = said_by v (told_behind (held_of c v es) (answer_to c es (Hear v piece)).inputs) in
-    let is : said_by n (told_behind e.held inputs) ≡ all = ap (λ m. said_by m (told_behind e.held inputs)) number ∙ ap (λ k. said_by v (told_behind k inputs)) h.held ∙ ap (λ l. said_by v (told_behind (held_of c v es) l)) heard in (
+    let all : List Input = told_behind (held_of c v es) (answer_to c es (Hear v piece)).inputs in
+    let is : said_by n (told_behind e.held inputs) ≡ said_by v all = ap (λ m. said_by m (told_behind e.held inputs)) number ∙ ap (λ k. said_by v (told_behind k inputs)) h.held ∙ ap (λ l. said_by v (told_behind (held_of c v es) l)) heard in (
       all,
-      turn-drawn b d f draws c list began v (said ++ all) since
+      turn-drawn b d f draws c list began v (said ++ says v all) since
           (heard-turn c list began v said since a b e f piece bytes h drawn noticed cut ask
           (subst (λ (m : ℕ). b.screen ≡ state c (es ++ Hear m piece ∷ [])) number (steps c es h.screen))
           (subst (λ (m : ℕ). RecordsMore c es (Hear m piece ∷ []) a.scribed b.scribed) number (records c es h.screen))
@@ -307,7 +307,7 @@ cut-turn a b e f m bytes counts its steps-at records answers-at same waits few c
     let far : fs ≡ list ++ (t.events ++ Cut n ∷ []) = append_assoc list t.events (Cut n ∷ []) in
     record {
       events = t.events ++ Cut n ∷ [];
-      inputs = inputs-append c list t.events (Cut n ∷ []) ∙ append-nil (inputs_after c list t.events) ∙ t.inputs;
+      words = words-append c list t.events (Cut n ∷ []) ∙ append-nil (words_after c list t.events) ∙ t.words;
       own = own-then v t.events (Cut n ∷ []) t.own (own-one v (Cut n) (ap Some t.number));
       screen = steps c es t.screen ∙ ap (state c) far;
       recorded = records-then c list t.events (Cut n ∷ []) since.scribed a.scribed b.scribed t.recorded (subst (λ (k : ℕ). RecordsMore c es (Cut k ∷ []) a.scribed b.scribed) its (records c es t.screen));
@@ -366,7 +366,7 @@ turn-uncut a b e f m its steps records none answers same drawn noticed ask =
 pub turn-looked : (a : Surface) (e f : ViewerConnection) → f ≡ record e { known = f.known } → f.known.may_cut ≡ true → f.known.may_ask ≡ e.known.may_ask → TakesTurn a e a f
 turn-looked a e f same cut ask c list began v said since t = record {
   events = t.events;
-  inputs = t.inputs;
+  words = t.words;
   own = t.own;
   screen = t.screen;
   recorded = t.recorded;
@@ -379,7 +379,7 @@ turn-looked a e f same cut ask c list began v said since t = record {
 pub turn-noted : (a : Surface) (e f : ViewerConnection) → f ≡ record e { known = f.known } → f.known.may_cut ≡ e.known.may_cut → f.known.may_ask ≡ e.known.may_ask → TakesTurn a e a f
 turn-noted a e f same cut ask c list began v said since t = record {
   events = t.events;
-  inputs = t.inputs;
+  words = t.words;
   own = t.own;
   screen = t.screen;
   recorded = t.recorded;
@@ -399,7 +399,7 @@ turn-written a b e f known added unwritten still whole same cut ask moved parts 
     let all : s.unwritten ≡ waiting_bytes e.waiting = s.waits whole in
     record {
       events = t.events;
-      inputs = t.inputs;
+      words = t.words;
       own = t.own;
       screen = ap (λ (x : Surface). x.screen) still ∙ t.screen;
       recorded = subst (λ (x : Surface). RecordsMore c list t.events since.scribed x.scribed) (sym still) t.recorded;
@@ -440,7 +440,7 @@ pub turn-then : (a b d : Surface) (e f g : ViewerConnection) → TakesTurn a e b
 turn-then a b d e f g s t c list began v said since h = t c list began v said since (s c list began v said since h)
 
 -- an application is told nothing
-pub turn-silently : {A X E : Type 0} (stands : A → List (ℕ × Input) → Type 0) (x : A) (r : Result X E) (a b : Surface) (e f : ViewerConnection) → TakesTurn a e b f → TakesTurnTelling stands a e b f x x r
+pub turn-silently : {A X E : Type 0} (stands : A → List Told → Type 0) (x : A) (r : Result X E) (a b : Surface) (e f : ViewerConnection) → TakesTurn a e b f → TakesTurnTelling stands a e b f x x r
 turn-silently stands x r a b e f turn c list began v said since t =
     ([], subst (λ l. IsTurnFrom c list began v l since b f) (sym (append-nil said)) (turn c list began v said since t), told-nothing stands x r)
 

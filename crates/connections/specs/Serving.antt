@@ -3,7 +3,6 @@ use Rattle.std.specs.Prelude.{IfSome, length, ◌≡◌, ◌≢◌, ◌⊎◌, �
 use Rattle.std.specs.Io.KnownBytes.{Appends, Consumes}
 use Rattle.screen.specs.declared.Config.{Config}
 use Rattle.screen.specs.declared.Event.{Event}
-use Rattle.screen.specs.declared.Input.{Input}
 use Rattle.screen.specs.declared.History.{History}
 use Rattle.screen.specs.declared.History.TheVariants.{Kept, NotKept}
 use Rattle.screen.specs.Alone.{some_bytes}
@@ -21,7 +20,7 @@ use Rattle.connections.specs.Drawing.{Surface, IsDrawnFrom}
 use Rattle.connections.specs.Recorded.{IsRecordedBy}
 use Rattle.connections.specs.Among.{is_among}
 use Rattle.held_inputs.specs.Held.{Held, nothing}
-use Rattle.connections.specs.Telling.{held_of, inputs_after, IsTold}
+use Rattle.connections.specs.Telling.{Told, words_of, receipts_in, held_of, words_after, IsTold}
 use Rattle.connections.specs.Attending.{Known, noted, floods, asks, next_bytes, IsSettled}
 use Rattle.connections.specs.Counting.{Counts, no_counts, counts_of, HasCounts}
 
@@ -242,13 +241,14 @@ pub record Serves (c : Config) (began : Began) (list : List Event) (s : Serving)
   -- nothing was heard of the viewers that are still to come, nor given to them, they hold nothing, nothing was counted of them, and they aren't there
   pub unused : (v : ℕ) → s.next ≤ v → (heard_of v list ≡ []) × (bytes_of c v list ≡ []) × (held_of c v list ≡ nothing) × (counts_of c v list ≡ no_counts (history_by c.history [])) × (viewer_of c v list ≡ None)
 
--- whatever the connections stood for, they stand for it with more events behind it, none of which has an input
+-- whatever the connections stood for, they stand for it with more events behind it, in which no viewer says anything, and none leaves
 abbrev pub GoesOn : Serving → Serving → Type 0
-GoesOn old new = (c : Config) (began : Began) (list : List Event) → Serves c began list old → (more : List Event) × Serves c began (list ++ more) new × (inputs_after c list more ≡ [])
+GoesOn old new = (c : Config) (began : Began) (list : List Event) → Serves c began list old → (more : List Event) × Serves c began (list ++ more) new × (words_after c list more ≡ [])
 
--- whatever the connections stood for, they stand for it with more events behind it, and an application is told the inputs of these
-abbrev pub GoesOnTelling : {A X E : Type 0} → (A → List (ℕ × Input) → Type 0) → Serving → Serving → A → A → Result X E → Type 0
-GoesOnTelling stands old new before after result = (c : Config) (began : Began) (list : List Event) → Serves c began list old → (more : List Event) × Serves c began (list ++ more) new × IsTold stands (inputs_after c list more) before after result
+-- whatever the connections stood for, they stand for it with more events behind it, in which no viewer leaves, and an application is told the inputs of these
+abbrev pub GoesOnTelling : {A X E : Type 0} → (A → List Told → Type 0) → Serving → Serving → A → A → Result X E → Type 0
+GoesOnTelling stands old new before after result = (c : Config) (began : Began) (list : List Event) → Serves c began list old →
+    (more : List Event) × Serves c began (list ++ more) new × (told : List Told) × (words_of told ≡ words_after c list more) × (receipts_in told ≡ []) × IsTold stands told before after result
 
 -- Viewers that are served by a list of events are served, once their screen was drawn on, by that list with the drawing calls behind it.
 abbrev pub drawn_is_served : Type 0

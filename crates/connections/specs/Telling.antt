@@ -1,4 +1,4 @@
--- What an application is told of what viewers say.
+-- What an application is told of what viewers say, and of their ends.
 use Rattle.std.specs.Prelude.{◌≡◌, ℕ, false, ◌==◌, if◌then◌else◌, List, [], ◌∷◌, ◌++◌, map, Option, Some, None, Result, OnOk}
 use Rattle.std.specs.Option.{option_to_list}
 use Rattle.screen.specs.declared.Config.{Config}
@@ -7,12 +7,50 @@ use Rattle.screen.specs.declared.Event.TheVariants.{Hear, Close}
 use Rattle.screen.specs.declared.Input.{Input}
 use Rattle.screen.specs.declared.Input.TheVariants.{Key, Pointer}
 use Rattle.screen.specs.Answers.{answer_to}
+use Rattle.receipts.specs.declared.Receipt.{Receipt}
 use Rattle.receipts.specs.Histories.{piece_of}
 use Rattle.held_inputs.specs.Held.{Held, nothing, after, roomy, room_release}
 
--- a viewer's inputs, each with the viewer's number
-abbrev pub said_by : ℕ → List Input → List (ℕ × Input)
-said_by v inputs = map (λ input. (v, input)) inputs
+-- what events say: an input of a viewer, or that a viewer leaves
+pub data Word : Type 0 where
+  Says : ℕ → Input → Word
+  Leaves : ℕ → Word
+
+-- what an application is told: an input of a viewer, or the receipt of a viewer that left
+pub data Told : Type 0 where
+  Said : ℕ → Input → Told
+  Left : Receipt → Told
+
+-- the words of events that are told so
+abbrev pub word_of : Told → Word
+word_of (Said v input) = Says v input
+word_of (Left receipt) = Leaves receipt.viewer
+
+abbrev pub words_of : List Told → List Word
+words_of told = map word_of told
+
+-- a viewer's inputs, as words and as they are told
+abbrev pub says : ℕ → List Input → List Word
+says v inputs = map (λ input. Says v input) inputs
+
+abbrev pub said_by : ℕ → List Input → List Told
+said_by v inputs = map (λ input. Said v input) inputs
+
+-- the inputs among words, each with its viewer's number
+abbrev pub inputs_in : List Word → List (ℕ × Input)
+inputs_in [] = []
+inputs_in (Says v input ∷ words) = (v, input) ∷ inputs_in words
+inputs_in (Leaves v ∷ words) = inputs_in words
+
+-- the inputs that are told
+abbrev pub inputs_told : List Told → List (ℕ × Input)
+inputs_told told = inputs_in (words_of told)
+
+-- the receipts that are told
+abbrev pub receipts_in : List Told → List Receipt
+receipts_in [] = []
+receipts_in (Said v input ∷ told) = receipts_in told
+receipts_in (Left receipt ∷ told) = receipt ∷ receipts_in told
 
 -- The keys and buttons that are held down behind inputs. Before each the earliest of 512 keys is let go, so that another may go down.
 abbrev pub held_behind : Held → List Input → Held
@@ -46,21 +84,25 @@ held_of c v list = held_after c v nothing [] list
 abbrev pub releases : Held → List Input
 releases held = map (λ key. Key false key) held.keys ++ (if held.mask == 0 then [] else Pointer 0 held.x held.y ∷ [])
 
--- the inputs of an event that comes after others: those of a piece that is heard (RFC 6143, 7.5.4 to 7.5.6), with what is let go before them, and at a viewer's end the releases of what it holds
-abbrev pub inputs_by : Config → List Event → Event → List (ℕ × Input)
-inputs_by c before (Hear v piece) = said_by v (told_behind (held_of c v before) (answer_to c before (Hear v piece)).inputs)
-inputs_by c before (Close v) = said_by v (releases (held_of c v before))
-inputs_by c before _ = []
+-- the words of an event that comes after others: the inputs of a piece that is heard (RFC 6143, 7.5.4 to 7.5.6), with what is let go before them; at a viewer's end the releases of what it holds, and that it leaves
+abbrev pub words_by : Config → List Event → Event → List Word
+words_by c before (Hear v piece) = says v (told_behind (held_of c v before) (answer_to c before (Hear v piece)).inputs)
+words_by c before (Close v) = says v (releases (held_of c v before)) ++ Leaves v ∷ []
+words_by c before _ = []
 
 -- those of events that come after others
+abbrev pub words_after : Config → List Event → List Event → List Word
+words_after c before [] = []
+words_after c before (e ∷ es) = words_by c before e ++ words_after c (before ++ e ∷ []) es
+
+-- the inputs of these events
 abbrev pub inputs_after : Config → List Event → List Event → List (ℕ × Input)
-inputs_after c before [] = []
-inputs_after c before (e ∷ es) = inputs_by c before e ++ inputs_after c (before ++ e ∷ []) es
+inputs_after c before es = inputs_in (words_after c before es)
 
--- an application stands for the inputs that it stood for
-abbrev pub Stays : {A : Type 0} → (A → List (ℕ × Input) → Type 0) → A → A → Type 0
-Stays stands before after = (inputs : List (ℕ × Input)) → stands before inputs → stands after inputs
+-- an application stands for what it stood for
+abbrev pub Stays : {A : Type 0} → (A → List Told → Type 0) → A → A → Type 0
+Stays stands before after = (told : List Told) → stands before told → stands after told
 
--- An application is told inputs, in order. Whatever inputs it stood for, it stands for these with those that it was told behind them: all, or the first ones where an error ended this.
-abbrev pub IsTold : {A X E : Type 0} → (A → List (ℕ × Input) → Type 0) → List (ℕ × Input) → A → A → Result X E → Type 0
-IsTold stands inputs old new result = (before : List (ℕ × Input)) → stands old before → (told rest : List (ℕ × Input)) × (told ++ rest ≡ inputs) × OnOk result (rest ≡ []) × stands new (before ++ told)
+-- An application is told inputs and receipts, in order. Whatever it stood for, it stands for that with those that it was told behind it: all, or the first ones where an error ended this.
+abbrev pub IsTold : {A X E : Type 0} → (A → List Told → Type 0) → List Told → A → A → Result X E → Type 0
+IsTold stands all old new result = (before : List Told) → stands old before → (told rest : List Told) × (told ++ rest ≡ all) × OnOk result (rest ≡ []) × stands new (before ++ told)

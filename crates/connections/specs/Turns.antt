@@ -14,7 +14,7 @@ use Rattle.connections.specs.Attending.{Known, asks, IsSettled}
 use Rattle.connections.specs.Counting.{counts_of}
 use Rattle.connections.specs.Recorded.{RecordsMore}
 use Rattle.receipts.specs.Histories.{bytes_of, heard_of}
-use Rattle.connections.specs.Telling.{held_of, inputs_after, IsTold}
+use Rattle.connections.specs.Telling.{Word, Told, says, said_by, held_of, words_after, IsTold}
 use Rattle.connections.specs.Waiting.{waiting_bytes, IsFew}
 use Rattle.connections.specs.Serving.{Carried, ViewerConnection, Moves, IsServed}
 
@@ -37,10 +37,10 @@ pub record Knows (c : Config) (before list : List Event) (v : ℕ) (since surfac
   pub settled : known.may_cut ≡ false → IsSettled c list surface v
   pub others : (u : ℕ) → (v ≡ u → ⊥) → IsSettled c before since u → IsSettled c list surface u
 
--- since a list of events, nothing happened but drawing calls and events of this viewer, which have these inputs; it is served, or was until it ended
-pub record IsTurnFrom (c : Config) (list : List Event) (began : Carried) (v : ℕ) (said : List (ℕ × Input)) (since surface : Surface) (e : ViewerConnection) : Type 0 where
+-- since a list of events, nothing happened but drawing calls and events of this viewer, which say these words; it is served, or was until it ended
+pub record IsTurnFrom (c : Config) (list : List Event) (began : Carried) (v : ℕ) (said : List Word) (since surface : Surface) (e : ViewerConnection) : Type 0 where
   pub events : List Event
-  pub inputs : inputs_after c list events ≡ said
+  pub words : words_after c list events ≡ said
   pub own : are_of v events ≡ true
   pub screen : surface.screen ≡ state c (list ++ events)
   pub recorded : RecordsMore c list events since.scribed surface.scribed
@@ -49,9 +49,9 @@ pub record IsTurnFrom (c : Config) (list : List Event) (began : Carried) (v : �
   pub knows : Knows c list (list ++ events) v since surface e.known
 
 -- the same with a piece that was read and isn't heard yet
-pub record HasRead (c : Config) (list : List Event) (began : Carried) (v : ℕ) (said : List (ℕ × Input)) (piece : List ℕ) (since surface : Surface) (e : ViewerConnection) : Type 0 where
+pub record HasRead (c : Config) (list : List Event) (began : Carried) (v : ℕ) (said : List Word) (piece : List ℕ) (since surface : Surface) (e : ViewerConnection) : Type 0 where
   pub events : List Event
-  pub inputs : inputs_after c list events ≡ said
+  pub words : words_after c list events ≡ said
   pub own : are_of v events ≡ true
   pub screen : surface.screen ≡ state c (list ++ events)
   pub recorded : RecordsMore c list events since.scribed surface.scribed
@@ -66,20 +66,20 @@ pub record HasRead (c : Config) (list : List Event) (began : Carried) (v : ℕ) 
   pub short : length piece ≤ 128
   pub knows : Knows c list (list ++ events) v since surface e.known
 
--- a turn goes on, without an input
+-- a turn goes on, and nothing is said
 abbrev pub TakesTurn : Surface → ViewerConnection → Surface → ViewerConnection → Type 0
-TakesTurn surface e surface' e' = (c : Config) (list : List Event) (began : Carried) (v : ℕ) (said : List (ℕ × Input)) (since : Surface) → IsTurnFrom c list began v said since surface e → IsTurnFrom c list began v said since surface' e'
+TakesTurn surface e surface' e' = (c : Config) (list : List Event) (began : Carried) (v : ℕ) (said : List Word) (since : Surface) → IsTurnFrom c list began v said since surface e → IsTurnFrom c list began v said since surface' e'
 
 -- a turn went on, and an application is told the inputs that came
-abbrev pub IsTurnTelling : {A : Type 0} {X E : Type 0} → (A → List (ℕ × Input) → Type 0) → Config → List Event → Carried → ℕ → List (ℕ × Input) → Surface → Surface → ViewerConnection → A → A → Result X E → Type 0
-IsTurnTelling stands c list began v said since surface e before after result = (more : List (ℕ × Input)) × IsTurnFrom c list began v (said ++ more) since surface e × IsTold stands more before after result
+abbrev pub IsTurnTelling : {A : Type 0} {X E : Type 0} → (A → List Told → Type 0) → Config → List Event → Carried → ℕ → List Word → Surface → Surface → ViewerConnection → A → A → Result X E → Type 0
+IsTurnTelling stands c list began v said since surface e before after result = (inputs : List Input) × IsTurnFrom c list began v (said ++ says v inputs) since surface e × IsTold stands (said_by v inputs) before after result
 
 -- a piece that was read is heard, and an application told what it says; or its viewer ended
-abbrev pub HearsPiece : {A X E : Type 0} → (A → List (ℕ × Input) → Type 0) → List ℕ → Surface → ViewerConnection → Surface → ViewerConnection → A → A → Result X E → Type 0
+abbrev pub HearsPiece : {A X E : Type 0} → (A → List Told → Type 0) → List ℕ → Surface → ViewerConnection → Surface → ViewerConnection → A → A → Result X E → Type 0
 HearsPiece stands piece surface e surface' e' before after result =
-    (c : Config) (list : List Event) (began : Carried) (v : ℕ) (said : List (ℕ × Input)) (since : Surface) → HasRead c list began v said piece since surface e → IsTurnTelling stands c list began v said since surface' e' before after result
+    (c : Config) (list : List Event) (began : Carried) (v : ℕ) (said : List Word) (since : Surface) → HasRead c list began v said piece since surface e → IsTurnTelling stands c list began v said since surface' e' before after result
 
 -- a turn goes on, and an application is told the inputs that came
-abbrev pub TakesTurnTelling : {A X E : Type 0} → (A → List (ℕ × Input) → Type 0) → Surface → ViewerConnection → Surface → ViewerConnection → A → A → Result X E → Type 0
+abbrev pub TakesTurnTelling : {A X E : Type 0} → (A → List Told → Type 0) → Surface → ViewerConnection → Surface → ViewerConnection → A → A → Result X E → Type 0
 TakesTurnTelling stands surface e surface' e' before after result =
-    (c : Config) (list : List Event) (began : Carried) (v : ℕ) (said : List (ℕ × Input)) (since : Surface) → IsTurnFrom c list began v said since surface e → IsTurnTelling stands c list began v said since surface' e' before after result
+    (c : Config) (list : List Event) (began : Carried) (v : ℕ) (said : List Word) (since : Surface) → IsTurnFrom c list began v said since surface e → IsTurnTelling stands c list began v said since surface' e' before after result

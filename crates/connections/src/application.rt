@@ -1,8 +1,7 @@
 //! The application.
 
-ghost use Rattle.std.specs.Prelude.{◌≡◌, ℕ, true, List, [], ◌∷◌, ◌++◌};
-ghost use Rattle.screen.specs.declared.Input.{Input};
-ghost use Rattle.connections.specs.Telling.{Stays};
+ghost use Rattle.std.specs.Prelude.{◌≡◌, true, List, [], ◌∷◌, ◌++◌, OnOk, OnErr};
+ghost use Rattle.connections.specs.Telling.{Told, Said, Left, Stays};
 ghost use Rattle.connections.specs.Drawing.{Draws};
 
 use crate::canvas::Canvas;
@@ -12,10 +11,11 @@ use std::time::Duration;
 
 /// What draws on a canvas. Each call may draw, and draws alone; where one answers an error, so does the turn that made it.
 ///
-/// An application may say for which inputs it `stands`, those that it was told; `Connections::turn` says then which these are.
+/// An application may say for what it `stands`: the inputs and the receipts that it was told. `Connections::turn` and `tell_left` say then
+/// which these are.
 pub trait Application {
-    /// That it was told these inputs, each with its viewer's number, in the order in which they came.
-    ghost stands: { Self → List (ℕ × Input) → Type 0 } = { λ _ _. Unit {0} };
+    /// That it was told these inputs and receipts, each input with its viewer's number, in the order in which they came.
+    ghost stands: { Self → List Told → Type 0 } = { λ _ _. Unit {0} };
 
     /// What is true of it where it is done.
     ghost done: { Self → Type 0 } = { λ _. Unit {0} };
@@ -29,7 +29,7 @@ pub trait Application {
         input: &Input,
     ) -> Result<(), ScreenError>
         ensures draws { Draws canvas.old canvas.new }
-        ensures told { (inputs : List (ℕ × Input)) → stands self.old inputs → stands self.new (inputs ++ (viewer, input.now) ∷ []) };
+        ensures told { (told : List Told) → stands self.old told → stands self.new (told ++ Said viewer input.now ∷ []) };
 
     /// Takes note that a viewer connected; it is served from now on.
     fn came(&mut self, _canvas: &mut Canvas, _viewer: u64) -> Result<(), ScreenError>
@@ -51,12 +51,10 @@ pub trait Application {
 
     /// Takes note that a viewer ended and its connection is closed; no key or button of that viewer is down any longer. `receipt` has the
     /// bytes that were heard and sent, where the history is kept.
-    fn left(&mut self, _canvas: &mut Canvas, _receipt: Receipt) -> Result<(), ScreenError>
-        ensures draws { Draws _canvas.old _canvas.new }
-        ensures stands { Stays stands self.old self.new }
-    {
-        Ok(())
-    }
+    fn left(&mut self, canvas: &mut Canvas, receipt: Receipt) -> Result<(), ScreenError>
+        ensures draws { Draws canvas.old canvas.new }
+        ensures told { OnOk result ((told : List Told) → stands self.old told → stands self.new (told ++ Left receipt ∷ [])) }
+        ensures refused { OnErr result (Stays stands self.old self.new) };
 
     /// Acts at the time that the last tick answered, and at the start. Returns after how long the next tick is to come, if one is.
     fn tick(&mut self, _canvas: &mut Canvas) -> Result<Option<Duration>, ScreenError>

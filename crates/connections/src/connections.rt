@@ -12,7 +12,7 @@ ghost use Rattle.record_writer.specs.Held.{bytes_held};
 ghost use Rattle.receipts.specs.declared.Ended.TheVariants as ended;
 ghost use Rattle.connections.specs.Serving.{Began, ended_by, GoesOn, GoesOnTelling, HasNothingToDo, IsOver, Serves, ViewerConnection, WasServed, at_key, floods_at, is_kept, is_open_on, may_cut_at, noted_by, number_at, works_at};
 ghost use Rattle.connections.specs.Recording.{none_yet};
-ghost use Rattle.connections.specs.Telling.{inputs_after, releases, said_by, IsTold, Stays};
+ghost use Rattle.connections.specs.Telling.{Leaves, Left, words_after, releases, says, said_by, IsTold, Stays};
 ghost use Rattle.connections.specs.Lending.{lends_canvas};
 
 use crate::application::Application;
@@ -335,8 +335,8 @@ impl<T: Transport> Connections<T> {
         application.came(&mut self.canvas, viewer)
     }
 
-    /// Tells the application that a viewer ended, and before that, as inputs of this viewer, the releases of the keys and buttons that it
-    /// held down.
+    /// Tells the application that a viewer ended, by its receipt, and before that, as inputs of this viewer, the releases of the keys and
+    /// buttons that it held down.
     pub fn tell_left<A: Application>(
         &mut self,
         held: HeldInputs,
@@ -344,7 +344,7 @@ impl<T: Transport> Connections<T> {
         application: &mut A,
     ) -> Result<(), ScreenError>
         ensures served { GoesOn self.old self.new }
-        ensures told { IsTold A.stands (said_by receipt.viewer (releases held)) application.old application.new result }
+        ensures told { IsTold A.stands (said_by receipt.viewer (releases held) ++ Left receipt ∷ []) application.old application.new result }
     {
         release(&mut self.canvas, receipt.viewer, held, application)?;
         application.left(&mut self.canvas, receipt)
@@ -456,8 +456,8 @@ impl<T: Transport> Connections<T> {
     ///
     /// Whatever list of events the screen stood for, it stands for it with others behind it, and by that list each viewer is served:
     /// what was read of it is what the screen heard of it, and what was written to it is, with what waits for it, what the screen with
-    /// this one viewer gives, or the beginning of that where the viewer ended by a failure. Whatever inputs the application stood for, it
-    /// stands for these with those of the events behind them, or the first of these where an error ended the turn.
+    /// this one viewer gives, or the beginning of that where the viewer ended by a failure. Whatever the application stood for, it stands
+    /// for that with the inputs of the events behind it, or the first of these where an error ended the turn.
     pub fn turn<A: Application>(&mut self, application: &mut A) -> Result<(), ScreenError>
         ensures served { GoesOnTelling A.stands self.old self.new application.old application.new result }
         ensures settled { OnOk result (self.new.surface.drawn ≡ false) }
@@ -471,11 +471,14 @@ impl<T: Transport> Connections<T> {
     }
 
     /// Closes a viewer that ended, and for which nothing is left to be done, and returns what is left of it. None where there is none;
-    /// where memory is refused to close it, it is given later. `tell_left` is to tell the application of it.
+    /// where memory is refused to close it, it is given later. `tell_left` is to tell the application of it. What is left was served by the
+    /// events, of which the last closes the viewer.
     pub fn take_departed(&mut self) -> Option<Departed<T>>
         ensures served { (config : Config) (began : Began) (list : List Event) → Serves config began list self.old →
             (more : List Event) × Serves config began (list ++ more) self.new ×
-            MatchOption result (inputs_after config list more ≡ []) (λ d. (inputs_after config list more ≡ said_by d.receipt.viewer (releases d.held)) ×
+            MatchOption result (words_after config list more ≡ []) (λ d.
+            (words_after config list more ≡ says d.receipt.viewer (releases d.held) ++ Leaves d.receipt.viewer ∷ []) ×
+            (more ≡ Event.Close d.receipt.viewer ∷ []) ×
             WasServed config (list ++ more) (began.carried d.receipt.viewer) T.unread T.written d.transport d.receipt) }
     {
         let key = self.find_over()?;

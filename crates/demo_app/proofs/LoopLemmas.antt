@@ -1,8 +1,9 @@
 -- Runs of one thread: what its application was told, and what is judged of it.
-use Rattle.std.proofs.Common.{◌≡◌, ℕ, Bool, true, List, [], ◌∷◌, ◌++◌, Option, Some, None, Result, Ok, Err, IfOk, refl, sym, ap, ◌∙◌, subst, inr, append-nil}
+use Rattle.std.proofs.Common.{◌≡◌, ◌⊎◌, ℕ, Bool, true, false, true≢false, List, [], ◌∷◌, ◌++◌, Option, Some, None, Result, Ok, Err, IfOk, OnOk, OnErr, IsPermutation, is_none, refl, sym, ap, ◌∙◌, subst, inl, inr, append-nil}
 use Rattle.std.specs.Global.{Vec}
 use Rattle.std.specs.Option.{option_to_list}
 use Rattle.std.specs.Prelude.{IfSome, option_map}
+use Rattle.std.specs.List.Sorted.{IsNonDecreasingBy}
 use Rattle.std.proofs.lemmas.Grind.{flat_map-append}
 use Rattle.std.proofs.lemmas.List.{map-append}
 use Rattle.screen.specs.declared.Config.{Config}
@@ -16,15 +17,16 @@ use Rattle.receipts.specs.declared.FinishError.TheVariants as errors
 use Rattle.receipts.specs.declared.Receipt.{Receipt}
 use Rattle.receipts.specs.declared.Report.{Report}
 use Rattle.connections.specs.Serving.{Serving, Serves}
-use Rattle.connections.specs.Telling.{inputs_after}
-use Rattle.event_loop.specs.Sockets.{sockets_and}
+use Rattle.connections.specs.Telling.{Told, Said, Left, inputs_in, inputs_told, inputs_after}
+use Rattle.connections.specs.TellingLemmas.{inputs-said, inputs-left, receipts-said, receipts-left}
+use Rattle.event_loop.specs.Sockets.{sockets, sockets_and, GoesOnServingTelling}
 use Rattle.event_loop.proofs.Steps.{TellsAll}
 use Rattle.demo_app.specs.declared.serve.Easel.{Easel}
 use Rattle.demo_app.specs.declared.serve.ServeOptions.{ServeOptions}
-use Rattle.demo_app.specs.Application.{drawn_by, drawn_for, event_for, kept_in, said, WasTold}
-use Rattle.demo_app.specs.Endings.{IsJudged, PrintsOf}
-use Rattle.demo_app.specs.Runs.{IsCheckOf, JudgesLoop, JudgesOwn, PrintsLoop, inputs_of}
-use Rattle.demo_app.specs.Screens.{config_by, history_by}
+use Rattle.demo_app.specs.Application.{drawn_by, drawn_for, event_for, kept_in, own_calls, receipts_kept, said, KeepsOwn, KeepsTold, WasTold}
+use Rattle.demo_app.specs.Endings.{IsJudged, PrintsOf, PrintsOwn}
+use Rattle.demo_app.specs.Runs.{IsCheckOf, IsOwnCheck, JudgesLoop, JudgesOwn, PrintsLoop, RanOwn, inputs_of}
+use Rattle.demo_app.specs.Screens.{config_by, history_by, own_config}
 
 -- ---- what the application was told
 
@@ -75,6 +77,72 @@ told-refused w h old new drawn after inputs more same none was =
       high = ap (λ (it : Easel). it.height) same ∙ was.high;
       kept = subst (λ (o : Option (Vec Event)). IfSome (kept_in o) (λ l. l ≡ drawn_by w h (said more))) (sym none) tt;
     }
+
+-- ---- and which receipts it kept
+
+-- an input is no receipt
+kept-said : (forever : Bool) (told : List Told) (v : ℕ) (input : Input) → receipts_kept forever (told ++ Said v input ∷ []) ≡ receipts_kept forever told
+kept-said true told v input = refl
+kept-said false told v input = receipts-said told v input
+
+pub keeps-said : (w h : ℕ) (forever : Bool) (easel : Easel) (drawn : Option (Vec Event)) (viewers viewers' : Option ℕ) (receipts receipts' : List Receipt) (told : List Told) (v : ℕ) (input : Input) → viewers' ≡ viewers → receipts' ≡ receipts
+    → WasTold w h easel drawn (inputs_told told ++ (v, input) ∷ []) → is_none viewers ≡ forever → receipts ≡ receipts_kept forever told → KeepsTold w h forever easel drawn viewers' receipts' (told ++ Said v input ∷ [])
+keeps-said w h forever easel drawn viewers viewers' receipts receipts' told v input same_v same_r was ends kept = record {
+  drew = subst (λ (l : List (ℕ × Input)). WasTold w h easel drawn l) (sym (inputs-said told v input)) was;
+  ends = ap is_none same_v ∙ ends;
+  kept = same_r ∙ kept ∙ sym (kept-said forever told v input);
+}
+
+same-told : (w h : ℕ) (easel easel' : Easel) (drawn drawn' : Option (Vec Event)) (inputs : List (ℕ × Input)) → easel' ≡ easel → drawn' ≡ drawn → WasTold w h easel drawn inputs → WasTold w h easel' drawn' inputs
+same-told w h easel easel' drawn drawn' inputs same_e same_d was =
+    subst (λ (e : Easel). WasTold w h e drawn' inputs) (sym same_e) (subst (λ (d : Option (Vec Event)). WasTold w h easel d inputs) (sym same_d) was)
+
+-- a receipt is kept where a number of viewers is waited for
+kept-left : (forever : Bool) (viewers : Option ℕ) (receipts receipts' : List Receipt) (told : List Told) (r : Receipt) → ((n : ℕ) → viewers ≡ Some n → receipts' ≡ receipts ++ r ∷ []) → (viewers ≡ None → receipts' ≡ receipts)
+    → is_none viewers ≡ forever → receipts ≡ receipts_kept forever told → receipts' ≡ receipts_kept forever (told ++ Left r ∷ [])
+kept-left true None receipts receipts' told r some none ends kept = none refl ∙ kept
+kept-left false None receipts receipts' told r some none ends kept = absurd (true≢false ends)
+kept-left true (Some n) receipts receipts' told r some none ends kept = absurd (true≢false (sym ends))
+kept-left false (Some n) receipts receipts' told r some none ends kept = some n refl ∙ ap (λ l. l ++ r ∷ []) kept ∙ sym (receipts-left told r)
+
+pub keeps-left : (w h : ℕ) (forever : Bool) (easel easel' : Easel) (drawn drawn' : Option (Vec Event)) (viewers viewers' : Option ℕ) (receipts receipts' : List Receipt) (told : List Told) (r : Receipt) → easel' ≡ easel → drawn' ≡ drawn → viewers' ≡ viewers
+    → ((n : ℕ) → viewers ≡ Some n → receipts' ≡ receipts ++ r ∷ []) → (viewers ≡ None → receipts' ≡ receipts) → KeepsTold w h forever easel drawn viewers receipts told → KeepsTold w h forever easel' drawn' viewers' receipts' (told ++ Left r ∷ [])
+keeps-left w h forever easel easel' drawn drawn' viewers viewers' receipts receipts' told r same_e same_d same_v some none was = record {
+  drew = subst (λ (l : List (ℕ × Input)). WasTold w h easel' drawn' l) (sym (inputs-left told r)) (same-told w h easel easel' drawn drawn' (inputs_told told) same_e same_d was.drew);
+  ends = ap is_none same_v ∙ was.ends;
+  kept = kept-left forever viewers receipts receipts' told r some none was.ends was.kept;
+}
+
+-- it is not kept, as an error says
+pub keeps-refused : {X E : Type 0} (result : Result X E) (w h : ℕ) (forever : Bool) (easel easel' : Easel) (drawn drawn' : Option (Vec Event)) (viewers viewers' : Option ℕ) (receipts receipts' : List Receipt) → easel' ≡ easel → drawn' ≡ drawn → viewers' ≡ viewers → receipts' ≡ receipts
+    → OnErr result ((told : List Told) → KeepsTold w h forever easel drawn viewers receipts told → KeepsTold w h forever easel' drawn' viewers' receipts' told)
+keeps-refused (Ok x) w h forever easel easel' drawn drawn' viewers viewers' receipts receipts' same_e same_d same_v same_r = tt
+keeps-refused (Err e) w h forever easel easel' drawn drawn' viewers viewers' receipts receipts' same_e same_d same_v same_r = λ told was. record {
+  drew = same-told w h easel easel' drawn drawn' (inputs_told told) same_e same_d was.drew;
+  ends = ap is_none same_v ∙ was.ends;
+  kept = same_r ∙ was.kept;
+}
+
+-- the same of `self`
+pub own-said : (drawn drawn' : List Event) (receipts receipts' : List Receipt) (told : List Told) (v : ℕ) (input : Input) → (drawn' ≡ drawn) ⊎ (drawn' ≡ own_calls) → receipts' ≡ receipts → KeepsOwn drawn receipts told → KeepsOwn drawn' receipts' (told ++ Said v input ∷ [])
+own-said drawn drawn' receipts receipts' told v input (inl same) same_r was = record {
+  drew = subst (λ (l : List Event). (l ≡ []) ⊎ (l ≡ own_calls)) (sym same) was.drew;
+  kept = same_r ∙ was.kept ∙ sym (receipts-said told v input);
+}
+own-said drawn drawn' receipts receipts' told v input (inr all) same_r was = record { drew = inr all; kept = same_r ∙ was.kept ∙ sym (receipts-said told v input) }
+
+pub own-left : (drawn drawn' : List Event) (receipts receipts' : List Receipt) (told : List Told) (r : Receipt) → drawn' ≡ drawn → receipts' ≡ receipts ++ r ∷ [] → KeepsOwn drawn receipts told → KeepsOwn drawn' receipts' (told ++ Left r ∷ [])
+own-left drawn drawn' receipts receipts' told r same more was = record {
+  drew = subst (λ (l : List Event). (l ≡ []) ⊎ (l ≡ own_calls)) (sym same) was.drew;
+  kept = more ∙ ap (λ l. l ++ r ∷ []) was.kept ∙ sym (receipts-left told r);
+}
+
+pub own-refused : {X E : Type 0} (result : Result X E) (drawn drawn' : List Event) (receipts receipts' : List Receipt) → drawn' ≡ drawn → receipts' ≡ receipts → OnErr result ((told : List Told) → KeepsOwn drawn receipts told → KeepsOwn drawn' receipts' told)
+own-refused (Ok x) drawn drawn' receipts receipts' same same_r = tt
+own-refused (Err e) drawn drawn' receipts receipts' same same_r = λ told was. record {
+  drew = subst (λ (l : List Event). (l ≡ []) ⊎ (l ≡ own_calls)) (sym same) was.drew;
+  kept = same_r ∙ was.kept;
+}
 
 -- ---- what is judged
 
@@ -131,30 +199,81 @@ judged-loop : (o : ServeOptions) (events calls : List Event) (history drawn : Op
 judged-loop o events calls history drawn receipts None is was fine = fine
 judged-loop o events calls history drawn receipts (Some judgement) is was j = (j.0, checked-loop (config_by o) o.check events calls history drawn receipts judgement refl j.0 is was j.1)
 
-all-told : (told rest inputs : List (ℕ × Input)) → told ++ rest ≡ inputs → rest ≡ [] → told ≡ inputs
-all-told told rest inputs parts none = sym (append-nil told) ∙ ap (λ l. told ++ l) (sym none) ∙ parts
+all-told : (told rest all : List Told) → told ++ rest ≡ all → rest ≡ [] → told ≡ all
+all-told told rest all parts none = sym (append-nil told) ∙ ap (λ l. told ++ l) (sym none) ∙ parts
 
-pub prints-loop : {A E : Type 0} (easel : A → Easel) (drawn : A → Option (Vec Event)) (o : ServeOptions) (w h : ℕ) (x y : A) (a b : Serving) (receipts : List Receipt) (before after : Option (List ℕ)) (r : Result ℕ E)
+kept-nothing : (forever : Bool) → receipts_kept forever [] ≡ []
+kept-nothing true = refl
+kept-nothing false = refl
+
+pub prints-loop : {A E : Type 0} (easel : A → Easel) (drawn : A → Option (Vec Event)) (viewers : A → Option ℕ) (kept : A → List Receipt) (o : ServeOptions) (w h : ℕ) (forever : Bool) (x y : A) (a b : Serving) (receipts : List Receipt) (before after : Option (List ℕ)) (r : Result ℕ E)
     → o.width ≡ w → o.height ≡ h → ((held : Option (Option (List ℕ))) × Serves (config_by o) (sockets_and held (config_by o)) [] a)
-    → WasTold w h (easel x) (drawn x) [] → TellsAll (λ s inputs. WasTold w h (easel s) (drawn s) inputs) a b x y
+    → WasTold w h (easel x) (drawn x) [] → is_none (viewers x) ≡ forever → kept x ≡ [] → TellsAll (λ s told. KeepsTold w h forever (easel s) (drawn s) (viewers s) (kept s) told) a b x y
+    → IsPermutation (kept y) receipts → IsNonDecreasingBy (λ (r : Receipt). r.viewer) receipts
     → IfOk r (PrintsOf o.check receipts (JudgesLoop (config_by o) b.surface.screen.history (kept_in (drawn y)) receipts) before after)
-    → IfOk r (PrintsLoop o before after)
-prints-loop easel drawn o w h x y a b receipts before after (Err e) is_w is_h began told tells p = tt
-prints-loop easel drawn o w h x y a b receipts before after (Ok s) is_w is_h began told tells p =
+    → IfOk r (PrintsLoop o forever before after)
+prints-loop easel drawn viewers kept o w h forever x y a b receipts before after (Err e) is_w is_h began told ends none tells moved sorted p = tt
+prints-loop easel drawn viewers kept o w h forever x y a b receipts before after (Ok s) is_w is_h began told ends none tells moved sorted p =
     let c = config_by o in
+    let first : KeepsTold w h forever (easel x) (drawn x) (viewers x) (kept x) [] = record { drew = told; ends = ends; kept = none ∙ sym (kept-nothing forever) } in
     let ran = tells began.0 c [] began.1 in
-    let t = ran.2 [] told in
-    let whole : t.0 ≡ inputs_after c [] ran.0 = all-told t.0 t.1 (inputs_after c [] ran.0) t.2 t.3 in
+    let t = ran.4 [] first in
+    let whole : t.0 ≡ ran.2 = all-told t.0 t.1 ran.2 t.2 t.3 in
+    let inputs : inputs_told t.0 ≡ inputs_after c [] ran.0 = ap inputs_told whole ∙ ap inputs_in ran.3.said in
     let calls = drawn_by o.width o.height (inputs_of c ran.0) in
     let was : IfSome (kept_in (drawn y)) (λ l. l ≡ calls) =
     subst (λ (n : ℕ). IfSome (kept_in (drawn y)) (λ k. k ≡ drawn_by n o.height (inputs_of c ran.0))) (sym is_w)
     (subst (λ (n : ℕ). IfSome (kept_in (drawn y)) (λ k. k ≡ drawn_by w n (inputs_of c ran.0))) (sym is_h)
-    (subst (λ (l : List (ℕ × Input)). IfSome (kept_in (drawn y)) (λ k. k ≡ drawn_by w h (said l))) whole t.4.kept)) in
+    (subst (λ (l : List (ℕ × Input)). IfSome (kept_in (drawn y)) (λ k. k ≡ drawn_by w h (said l))) inputs t.4.drew.kept)) in
     record {
       events = ran.0;
       served = b;
       held = began.0;
       serves = ran.1;
+      told = ran.2;
+      account = ran.3;
       receipts = receipts;
+      all = subst (λ (l : List Receipt). IsPermutation l receipts) (t.4.kept ∙ ap (receipts_kept forever) whole) moved;
+      sorted = sorted;
       printed = (p.0, judged-loop o ran.0 calls b.surface.screen.history (kept_in (drawn y)) receipts p.0 (ap (λ s. s.history) ran.1.screen) was p.1, p.2, p.3);
     }
+
+-- ---- a run of `self`
+
+-- the loop served, and told its application all
+pub ran-own : {A E : Type 0} (drawn : A → List Event) (kept : A → List Receipt) (x y : A) (a b : Serving) (r : Result (Unit {0}) E) (value : Unit {0}) → r ≡ Ok value → drawn x ≡ [] → kept x ≡ []
+    → GoesOnServingTelling (λ s told. KeepsOwn (drawn s) (kept s) told) a b x y r → RanOwn a b (drawn y) (kept y)
+ran-own {E = E} drawn kept x y a b r value is blank none goes held c list s =
+    let first : KeepsOwn (drawn x) (kept x) [] = record { drew = inl blank; kept = none } in
+    let ran = goes held c list s in
+    let t = ran.4 [] first in
+    let whole : t.0 ≡ ran.2 = all-told t.0 t.1 ran.2 t.2 (subst (λ (r : Result (Unit {0}) E). OnOk r (t.1 ≡ [])) is t.3) in
+    (ran.0, ran.1, ran.2, ran.3, subst (λ (l : List Told). KeepsOwn (drawn y) (kept y) l) whole t.4)
+
+judged-own : (c : Config) (history : Option (List Event)) (events drawn : List Event) (receipts : List Receipt) (result : Result Report FinishError) → history ≡ Some events → JudgesOwn c history drawn receipts result → IsCheckOf c events drawn receipts result
+judged-own c history events drawn receipts result is j = subst (λ (o : Option (List Event)). JudgesOwn c o drawn receipts result) is j
+
+own-check : (start served : Serving) (drawn : List Event) (kept receipts : List Receipt) (judgement : Result Report FinishError) → Serves own_config (sockets own_config) [] start → RanOwn start served drawn kept
+    → IsPermutation kept receipts → IsNonDecreasingBy (λ (r : Receipt). r.viewer) receipts → JudgesOwn own_config served.surface.screen.history drawn receipts judgement → IsOwnCheck judgement
+own-check start served drawn kept receipts judgement began ran moved sorted judged =
+    let w = ran None own_config [] began in
+    let history : served.surface.screen.history ≡ Some (accepted own_config w.0) = ap (λ s. s.history) w.1.screen in
+    record {
+      events = w.0;
+      served = served;
+      serves = w.1;
+      told = w.2;
+      account = w.3;
+      drawn = drawn;
+      drew = w.4.drew;
+      receipts = receipts;
+      all = subst (λ (l : List Receipt). IsPermutation l receipts) w.4.kept moved;
+      sorted = sorted;
+      checked = judged-own own_config served.surface.screen.history (accepted own_config w.0) drawn receipts judgement history judged;
+    }
+
+pub own-checked : {E : Type 0} (viewers count : ℕ) (start served : Serving) (drawn : List Event) (kept receipts : List Receipt) (before after : Option (List ℕ)) (r : Result ℕ E) → count ≡ viewers
+    → Serves own_config (sockets own_config) [] start → RanOwn start served drawn kept → IsPermutation kept receipts → IsNonDecreasingBy (λ (r : Receipt). r.viewer) receipts
+    → IfOk r (PrintsOwn count (JudgesOwn own_config served.surface.screen.history drawn receipts) before after) → IfOk r (PrintsOwn viewers IsOwnCheck before after)
+own-checked viewers count start served drawn kept receipts before after (Ok s) same began ran moved sorted p = (p.0, p.1, p.2 ∙ same, own-check start served drawn kept receipts p.1 began ran moved sorted p.3, p.4, p.5)
+own-checked viewers count start served drawn kept receipts before after (Err e) same began ran moved sorted p = tt

@@ -53,11 +53,22 @@ served-written o AreSuch a b c s r prints written is =
     let p = accepted-so (PrintsServed o AreSuch a b s) r s w.0 is prints in
     record { receipts = p.receipts; such = p.such; drawn = p.drawn; printed = of-kept o.check p.receipts _ a b c s r w.0 w.1 p.printed }
 
-pub loop-written : (o : ServeOptions) (a b c : Option (List ℕ)) (s r : ℕ) → (s ≡ 1) ⊎ PrintsLoop o a b s → ((r ≡ s) × Keeps b c) ⊎ ((r ≡ 3) ⊎ (r ≡ 5)) → (r ≡ 0) ⊎ (r ≡ 4) → PrintsLoop o a c r
-loop-written o a b c s r prints written is =
+pub loop-written : (o : ServeOptions) (forever : Bool) (a b c : Option (List ℕ)) (s r : ℕ) → (s ≡ 1) ⊎ PrintsLoop o forever a b s → ((r ≡ s) × Keeps b c) ⊎ ((r ≡ 3) ⊎ (r ≡ 5)) → (r ≡ 0) ⊎ (r ≡ 4) → PrintsLoop o forever a c r
+loop-written o forever a b c s r prints written is =
     let w = written-so r s b c written is in
-    let p = accepted-so (PrintsLoop o a b s) r s w.0 is prints in
-    record { events = p.events; served = p.served; held = p.held; serves = p.serves; receipts = p.receipts; printed = of-kept o.check p.receipts _ a b c s r w.0 w.1 p.printed }
+    let p = accepted-so (PrintsLoop o forever a b s) r s w.0 is prints in
+    record {
+      events = p.events;
+      served = p.served;
+      held = p.held;
+      serves = p.serves;
+      told = p.told;
+      account = p.account;
+      receipts = p.receipts;
+      all = p.all;
+      sorted = p.sorted;
+      printed = of-kept o.check p.receipts _ a b c s r w.0 w.1 p.printed;
+    }
 
 pub own-written : (viewers : ℕ) (IsSuch : Result Report FinishError → Type 0) (a b c : Option (List ℕ)) (s r : ℕ) → PrintsOwn viewers IsSuch a b s → ((r ≡ s) × Keeps b c) ⊎ ((r ≡ 3) ⊎ (r ≡ 5)) → (r ≡ 0) ⊎ (r ≡ 4) → PrintsOwn viewers IsSuch a c r
 own-written viewers IsSuch a b c s r p written is = let w = written-so r s b c written is in (p.0, p.1, p.2, p.3, appends-kept a b c _ p.4 w.1, w.0 ∙ p.5)
@@ -106,8 +117,8 @@ last-judged check receipts IsSuch a b s (Some judgement) told_so such printed is
 pub prints-judge : (check : Bool) (receipts : List Receipt) (IsSuch : Result Report FinishError → Type 0) (a b : Option (List ℕ)) (s : ℕ) → check ≡ true → PrintsOf check receipts IsSuch a b s → Judged a b s
 prints-judge check receipts IsSuch a b s told_so p = last-judged check receipts IsSuch a b s p.0 told_so p.1 p.2 p.3
 
-pub loop-judged : (o : ServeOptions) (a b : Option (List ℕ)) (s : ℕ) → o.check ≡ true → PrintsLoop o a b s → Judged a b s
-loop-judged o a b s told_so p = prints-judge o.check p.receipts _ a b s told_so p.printed
+pub loop-judged : (o : ServeOptions) (forever : Bool) (a b : Option (List ℕ)) (s : ℕ) → o.check ≡ true → PrintsLoop o forever a b s → Judged a b s
+loop-judged o forever a b s told_so p = prints-judge o.check p.receipts _ a b s told_so p.printed
 
 pub served-judged : (o : ServeOptions) (AreSuch : List Receipt → Type 0) (a b : Option (List ℕ)) (s : ℕ) → o.check ≡ true → PrintsServed o AreSuch a b s → Judged a b s
 served-judged o AreSuch a b s told_so p = prints-judge o.check p.receipts _ a b s told_so p.printed

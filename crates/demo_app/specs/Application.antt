@@ -1,5 +1,5 @@
 -- What an input has the application of `serve` draw.
-use Rattle.std.specs.Prelude.{ℕ, ◌≡◌, ◌+◌, nat_lt, ◌==◌, ◌&&◌, bit_and, true, false, if◌then◌else◌, pos, List, [], ◌∷◌, take, map, Option, Some, None, option_map, IfSome}
+use Rattle.std.specs.Prelude.{ℕ, ◌≡◌, ◌+◌, nat_lt, ◌==◌, ◌&&◌, bit_and, Bool, true, false, if◌then◌else◌, pos, List, [], ◌∷◌, take, map, codes, Option, Some, None, option_map, is_none, IfSome, ◌⊎◌}
 use Rattle.std.specs.Global.{Vec}
 use Rattle.std.specs.List.{flat_map}
 use Rattle.std.specs.Option.{option_to_list}
@@ -8,6 +8,8 @@ use Rattle.messages.specs.declared.Input.{Input}
 use Rattle.messages.specs.declared.Input.TheVariants as input
 use Rattle.screen.specs.declared.Event.{Event}
 use Rattle.screen.specs.declared.Event.TheVariants as event
+use Rattle.receipts.specs.declared.Receipt.{Receipt}
+use Rattle.connections.specs.Telling.{Told, inputs_told, receipts_in}
 use Rattle.demo_app.specs.declared.serve.Easel.{Easel}
 use Rattle.demo_app.specs.declared.serve.Stroke.{Stroke}
 use Rattle.demo_app.specs.declared.serve.Stroke.TheVariants.{Place, Bell, Text}
@@ -53,3 +55,26 @@ pub record WasTold (w h : ℕ) (easel : Easel) (drawn : Option (Vec Event)) (inp
   pub wide : easel.width ≡ w
   pub high : easel.height ≡ h
   pub kept : IfSome (kept_in drawn) (λ events. events ≡ drawn_by w h (said inputs))
+
+-- the receipts that are kept of those that are told: none where viewers are taken without end, else all
+abbrev pub receipts_kept : Bool → List Told → List Receipt
+receipts_kept true told = []
+receipts_kept false told = receipts_in told
+
+-- The same application was told these inputs and receipts: it drew what it was to, and kept the receipts that it was to. It has a number of viewers to wait for unless they are taken without end.
+pub record KeepsTold (w h : ℕ) (forever : Bool) (easel : Easel) (drawn : Option (Vec Event)) (viewers : Option ℕ) (receipts : List Receipt) (told : List Told) : Type 0 where
+  pub drew : WasTold w h easel drawn (inputs_told told)
+  pub ends : is_none viewers ≡ forever
+  pub kept : receipts ≡ receipts_kept forever told
+
+-- the drawing calls of the stored run of `self`
+abbrev pub own_calls : List Event
+own_calls =
+    event.Paint (record { x1 = pos 0; y1 = pos 0; x2 = pos 4; y2 = pos 1 }) (1 ∷ 2 ∷ 3 ∷ 4 ∷ [])
+    ∷ event.DoCopy (record { x1 = pos 1; y1 = pos 0; x2 = pos 4; y2 = pos 1 } ∷ []) (pos 1) (pos 0)
+    ∷ event.CutText (codes "end") ∷ []
+
+-- The application of `self --one-thread` was told these inputs and receipts: it kept the receipts, and drew the stored run, or nothing yet.
+pub record KeepsOwn (drawn : List Event) (receipts : List Receipt) (told : List Told) : Type 0 where
+  pub drew : (drawn ≡ []) ⊎ (drawn ≡ own_calls)
+  pub kept : receipts ≡ receipts_in told

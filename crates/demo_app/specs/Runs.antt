@@ -1,5 +1,6 @@
 -- Runs of `serve`, as they are printed at their ends.
-use Rattle.std.specs.Prelude.{◌≡◌, ℕ, Bool, true, false, List, [], Option, Some, None, Result, Err, IfOk, IfErr, ◌⊎◌}
+use Rattle.std.specs.Prelude.{◌≡◌, ℕ, Bool, true, false, List, [], ◌++◌, Option, Some, None, Result, Err, IfOk, IfErr, ◌⊎◌, IsPermutation}
+use Rattle.std.specs.List.Sorted.{IsNonDecreasingBy}
 use Rattle.screen.specs.declared.Config.{Config}
 use Rattle.screen.specs.declared.Event.{Event}
 use Rattle.screen.specs.declared.Input.{Input}
@@ -11,12 +12,12 @@ use Rattle.receipts.specs.declared.FinishError.TheVariants as errors
 use Rattle.receipts.specs.Checking.{checked, Gives}
 use Rattle.receipts.specs.Claims.{IsReportOf, IsRefusedFor}
 use Rattle.connections.specs.Serving.{Serving, Serves}
-use Rattle.connections.specs.Telling.{inputs_after}
-use Rattle.event_loop.specs.Sockets.{sockets_and}
+use Rattle.connections.specs.Telling.{Told, inputs_after, receipts_in}
+use Rattle.event_loop.specs.Sockets.{sockets, sockets_and, IsAccountOf}
 use Rattle.serving.specs.Serving.{AreNumbered, AreServed}
 use Rattle.update_sender.specs.Finishing.{Finishes}
 use Rattle.demo_app.specs.declared.serve.ServeOptions.{ServeOptions}
-use Rattle.demo_app.specs.Application.{drawn_by, said}
+use Rattle.demo_app.specs.Application.{KeepsOwn, drawn_by, own_calls, receipts_kept, said}
 use Rattle.demo_app.specs.Endings.{PrintsOf}
 use Rattle.demo_app.specs.Screens.{config_by, own_config}
 
@@ -36,14 +37,20 @@ JudgesLoop c (Some history) (Some drawn) receipts result = IsCheckOf c history d
 abbrev pub inputs_of : Config → List Event → List Input
 inputs_of c list = said (inputs_after c [] list)
 
--- What one thread prints of a run, and its status. These events happened to the screen that the options tell, and by them each viewer was served; the history that is judged is these events, as far as they happened, and the drawing calls are what the inputs among them have the application draw.
-pub record PrintsLoop (o : ServeOptions) (before after : Option (List ℕ)) (status : ℕ) : Type 0 where
+-- What one thread prints of a run, and its status. These events happened to the screen that the options tell, and by them each viewer was served; the history that is judged is these events, as far as they happened, the drawing calls are what the inputs among them have the application draw, and the receipts are those of the viewers that left in them. Where viewers are taken without end no receipt is kept.
+pub record PrintsLoop (o : ServeOptions) (forever : Bool) (before after : Option (List ℕ)) (status : ℕ) : Type 0 where
   pub events : List Event
   -- the loop at its end, and what a record's file held before
   pub served : Serving
   pub held : Option (Option (List ℕ))
   pub serves : Serves (config_by o) (sockets_and held (config_by o)) events served
+  -- what the application was told of the events
+  pub told : List Told
+  pub account : IsAccountOf (config_by o) [] events told
+  -- the receipts that it kept, by their viewers' numbers
   pub receipts : List Receipt
+  pub all : IsPermutation (receipts_kept forever told) receipts
+  pub sorted : IsNonDecreasingBy (λ (r : Receipt). r.viewer) receipts
   pub printed : PrintsOf o.check receipts (IsCheckOf (config_by o) (accepted (config_by o) events) (drawn_by o.width o.height (inputs_of (config_by o) events)) receipts) before after status
 
 -- whose receipts a server with threads gives: nobody's where it takes viewers without end; else those of so many, or of the first of them where it may be stopped
@@ -67,6 +74,25 @@ abbrev pub JudgesOwn : Config → Option (List Event) → List Event → List Re
 JudgesOwn c None drawn receipts result = result ≡ Err errors.NotKept
 JudgesOwn c (Some history) drawn receipts result = IsCheckOf c history drawn receipts result
 
--- The judgement of a run of `self` in one thread: that of a history, of drawing calls and of receipts.
-abbrev pub IsOwnCheck : Result Report FinishError → Type 0
-IsOwnCheck judgement = (history : Option (List Event)) × (drawn : List Event) × (receipts : List Receipt) × JudgesOwn own_config history drawn receipts judgement
+-- A loop served: whatever list of events its screen stood for, it stands for it with others behind it, and its application kept an account of these, by the drawing calls and the receipts that it has.
+abbrev pub RanOwn : Serving → Serving → List Event → List Receipt → Type 0
+RanOwn old new drawn receipts =
+    (held : Option (Option (List ℕ))) (c : Config) (list : List Event) → Serves c (sockets_and held c) list old
+    → (more : List Event) × Serves c (sockets_and held c) (list ++ more) new × (told : List Told) × IsAccountOf c list more told × KeepsOwn drawn receipts told
+
+-- The judgement of a run of `self` in one thread. These events happened to its screen, and by them each viewer was served; what is judged is their history, the receipts of the viewers that left in them, and the drawing calls that were kept: those of the stored run, or none.
+pub record IsOwnCheck (judgement : Result Report FinishError) : Type 0 where
+  pub events : List Event
+  -- the loop at its end
+  pub served : Serving
+  pub serves : Serves own_config (sockets own_config) events served
+  -- what the application was told of the events
+  pub told : List Told
+  pub account : IsAccountOf own_config [] events told
+  pub drawn : List Event
+  pub drew : (drawn ≡ []) ⊎ (drawn ≡ own_calls)
+  -- the receipts by their viewers' numbers
+  pub receipts : List Receipt
+  pub all : IsPermutation (receipts_in told) receipts
+  pub sorted : IsNonDecreasingBy (λ (r : Receipt). r.viewer) receipts
+  pub checked : IsCheckOf own_config (accepted own_config events) drawn receipts judgement

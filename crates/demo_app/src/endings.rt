@@ -1,6 +1,7 @@
 //! What is printed of how viewers ended, and of the judgement of a run.
 
-ghost use Rattle.std.specs.Prelude.{◌≡◌, ◌⊎◌, ◌++◌, List, ℕ, flat_map, IfOk, OnOk};
+ghost use Rattle.std.specs.Prelude.{◌≡◌, ◌⊎◌, ◌++◌, List, ℕ, flat_map, IfOk, OnOk, IsPermutation};
+ghost use Rattle.std.specs.List.Sorted.{IsNonDecreasingBy};
 ghost use Rattle.std.specs.Io.KnownBytes.{Appends, Keeps};
 ghost use Rattle.demo_app.specs.Endings.{end_line, end_name, judgement_line, judgement_status, wrong_line, wrong_name};
 
@@ -50,6 +51,14 @@ fn end_line(alloc: Global, receipt: &Receipt) -> Result<Vec<u8>, AllocError>
     line.extend_from_slice(end_name(receipt.ended))?;
     line.extend_from_slice(b"\n")?;
     Ok(line)
+}
+
+/// Puts receipts in the order of their viewers' numbers.
+pub(crate) fn sort_receipts(receipts: &mut Vec<Receipt>)
+    ensures permutation { IsPermutation receipts.old.items receipts.new.items }
+    ensures sorted { IsNonDecreasingBy (λ r. r.viewer) receipts.new.items }
+{
+    receipts.sort_unstable_by_key(|receipt| receipt.viewer);
 }
 
 /// Prints a line for each receipt.

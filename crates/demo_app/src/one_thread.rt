@@ -1,21 +1,22 @@
 //! `serve --one-thread`: the same screen, served by an event loop.
 
-ghost use Rattle.std.specs.Prelude.{◌≡◌, ◌⊎◌, ◌++◌, ◌∷◌, [], ℕ, List, Option, None, true, IfOk, OnOk, OnErr, option_map};
+ghost use Rattle.std.specs.Prelude.{◌≡◌, ◌⊎◌, ◌++◌, ◌∷◌, [], ℕ, Bool, List, Option, None, Some, true, false, IfOk, OnOk, OnErr, IsPermutation, is_none, option_map};
+ghost use Rattle.std.specs.List.Sorted.{IsNonDecreasingBy};
 ghost use Rattle.std.specs.Option.{option_to_list};
 ghost use Rattle.screen.specs.declared.Config.{Config};
 ghost use Rattle.screen.specs.declared.Event.{Event};
-ghost use Rattle.screen.specs.declared.Input.{Input};
 ghost use Rattle.screen.specs.State.{state};
-ghost use Rattle.demo_app.specs.Application.{event_for, kept_in, stroke_event, WasTold};
+ghost use Rattle.demo_app.specs.Application.{event_for, kept_in, stroke_event, KeepsTold, WasTold};
 ghost use Rattle.demo_app.specs.Endings.{Judged, PrintsOf};
 ghost use Rattle.demo_app.specs.Runs.{JudgesLoop, PrintsLoop};
 ghost use Rattle.demo_app.specs.Screens.{config_by};
 ghost use Rattle.screen.specs.Alone.{config_refusal};
 ghost use Rattle.connections.specs.Drawing.{Draws};
 ghost use Rattle.connections.specs.Serving.{Serves};
+ghost use Rattle.connections.specs.Telling.{Told, Said};
 ghost use Rattle.event_loop.specs.Sockets.{sockets_and, GoesOnServing, GoesOnServingTelling};
 
-use crate::endings::{print_ends, print_judgement, written_out};
+use crate::endings::{print_ends, print_judgement, sort_receipts, written_out};
 use crate::serve::{Easel, ServeOptions, Stroke, WHITE, config_of, easel_of, print_refusal};
 use event_loop::{Application, Canvas, EventLoop, Limits, LoopError, RecordWriter, WhenFull};
 use messages::Input;
@@ -45,25 +46,29 @@ pub struct OneThread {
     pub stop: Option<Arc<Stop, Global>>,
 }
 
-/// The columns and rows of a run's screen, as contracts name them: whatever the loop tells the application, it draws on a screen of this
-/// size. A call picks them for `Brand`.
-trait Size {
+/// The options of a run, as contracts name them: whatever the loop tells the application, it draws on a screen of so many columns and rows,
+/// and it keeps no receipt where viewers are taken without end. A call picks them for `Brand`.
+trait Options {
     ghost width: { ℕ };
 
     ghost height: { ℕ };
+
+    ghost forever: { Bool };
 }
 
-impl Size for Brand {
+impl Options for Brand {
     ghost width = { 0 };
 
     ghost height = { 0 };
+
+    ghost forever = { false };
 }
 
 /// The application, what it drew, where that is kept, and the receipts of the viewers that left, where these come to an end.
 #[derive(Drop)]
-struct Showing<S: Size> {
+struct Showing<S: Options> {
     alloc: Global,
-    size: PhantomData<S>,
+    options: PhantomData<S>,
     easel: Easel,
     // the drawing calls, where they are kept; `None` too once memory for one of them was refused
     drawn: Option<Vec<Event>>,
@@ -108,7 +113,7 @@ fn draw(canvas: &mut Canvas, stroke: Stroke<'_>) -> Result<(), ScreenError>
     }
 }
 
-impl<S: Size> Showing<S> {
+impl<S: Options> Showing<S> {
     /// Says whether the server is to end.
     fn is_stopped(&self) -> bool {
         match &self.stop {
@@ -122,6 +127,8 @@ impl<S: Size> Showing<S> {
         ensures kept { OnOk result (kept_in self.new.drawn ≡ option_map (λ events. events ++ stroke_event stroke.entry ∷ []) (kept_in self.old.drawn)) }
         ensures refused { OnErr result (self.new.drawn ≡ None) }
         ensures easel { self.new.easel ≡ self.old.easel }
+        ensures viewers { self.new.viewers ≡ self.old.viewers }
+        ensures receipts { self.new.receipts ≡ self.old.receipts }
     {
         let Some(mut drawn) = self.drawn.take() else {
             return Ok(());
@@ -130,10 +137,28 @@ impl<S: Size> Showing<S> {
         self.drawn = Some(drawn);
         Ok(())
     }
+
+    /// Keeps a receipt, where a number of viewers is waited for. After an `AllocError` it isn't kept.
+    fn keep_receipt(&mut self, receipt: Receipt) -> Result<(), AllocError>
+        ensures kept { (viewers : ℕ) → self.old.viewers ≡ Some viewers →
+            OnOk result (self.new.receipts.items ≡ self.old.receipts.items ++ receipt ∷ []) }
+        ensures none { self.old.viewers ≡ None → self.new.receipts.items ≡ self.old.receipts.items }
+        ensures refused { OnErr result (self.new.receipts.items ≡ self.old.receipts.items) }
+        ensures viewers { self.new.viewers ≡ self.old.viewers }
+        ensures easel { self.new.easel ≡ self.old.easel }
+        ensures drawn { self.new.drawn ≡ self.old.drawn }
+    {
+        let Some(_viewers) = self.viewers else {
+            return Ok(());
+        };
+        self.receipts.push(receipt)?;
+        Ok(())
+    }
 }
 
-impl<S: Size> Application for Showing<S> {
-    ghost stands = { λ showing inputs. WasTold S.width S.height showing.easel showing.drawn inputs };
+impl<S: Options> Application for Showing<S> {
+    ghost stands = { λ showing told.
+        KeepsTold S.width S.height S.forever showing.easel showing.drawn showing.viewers showing.receipts.items told };
 
     fn on_input(
         &mut self,
@@ -147,8 +172,10 @@ impl<S: Size> Application for Showing<S> {
         ensures kept { OnOk result (kept_in self.new.drawn ≡ option_map (λ events.
             events ++ option_to_list (event_for self.old.easel.width self.old.easel.height input.now)) (kept_in self.old.drawn)) }
         ensures draws { Draws canvas.old canvas.new }
-        ensures told { (inputs : List (ℕ × Input)) → WasTold S.width S.height self.old.easel self.old.drawn inputs →
-            WasTold S.width S.height self.new.easel self.new.drawn (inputs ++ (_viewer, input.now) ∷ []) }
+        ensures told { (told : List Told) →
+            KeepsTold S.width S.height S.forever self.old.easel self.old.drawn self.old.viewers self.old.receipts.items told →
+            KeepsTold S.width S.height S.forever self.new.easel self.new.drawn self.new.viewers self.new.receipts.items
+            (told ++ Said _viewer input.now ∷ []) }
     {
         let Some(stroke) = self.easel.stroke(input) else {
             return Ok(());
@@ -158,9 +185,7 @@ impl<S: Size> Application for Showing<S> {
     }
 
     fn left(&mut self, _canvas: &mut Canvas, receipt: Receipt) -> Result<(), ScreenError> {
-        if self.viewers.is_some() {
-            self.receipts.push(receipt)?;
-        }
+        self.keep_receipt(receipt)?;
         Ok(())
     }
 
@@ -191,7 +216,7 @@ pub(crate) fn trouble_of(error: LoopError) -> Trouble {
 
 /// Judges a run by its history, by what was drawn, and by the receipts. `NotKept` where the history isn't kept, and `OutOfMemory` also where
 /// a drawing call isn't.
-fn judge<S: Size>(
+fn judge<S: Options>(
     alloc: Global,
     config: &Config,
     served: &EventLoop,
@@ -221,7 +246,7 @@ fn limits_of(options: &ServeOptions, forever: bool) -> Limits {
 }
 
 /// Prints how the viewers ended, in the order in which they came, and with `check` what the run is judged to be. Returns the status.
-fn print_run<S: Size, W: Write>(
+fn print_run<S: Options, W: Write>(
     alloc: Global,
     config: &Config,
     served: &EventLoop,
@@ -233,13 +258,13 @@ fn print_run<S: Size, W: Write>(
     ensures status { IfOk result (λ status. (status ≡ 0) ⊎ (status ≡ 1) ⊎ (status ≡ 4)) }
     ensures judged { options.now.check ≡ true →
         IfOk result (λ status. (status ≡ 1) ⊎ Judged (W.contents writer.old) (W.contents writer.new) status) }
+    ensures permutation { IsPermutation showing.old.receipts.items showing.new.receipts.items }
+    ensures sorted { IsNonDecreasingBy (λ r. r.viewer) showing.new.receipts.items }
     ensures printed { IfOk result (PrintsOf options.now.check showing.new.receipts.items
         (JudgesLoop config.now served.now.surface.screen.history (kept_in showing.old.drawn) showing.new.receipts.items)
         (W.contents writer.old) (W.contents writer.new)) }
 {
-    showing
-        .receipts
-        .sort_unstable_by_key(|receipt| receipt.viewer);
+    sort_receipts(&mut showing.receipts);
     print_ends(alloc, writer, &showing.receipts)?;
     if options.check {
         let judgement = judge(alloc, config, served, showing);
@@ -320,7 +345,7 @@ fn open_loop<R: Net>(
 }
 
 /// Returns the application, which was told nothing yet.
-fn showing_of<S: Size>(
+fn showing_of<S: Options>(
     alloc: Global,
     options: &ServeOptions,
     forever: bool,
@@ -328,11 +353,13 @@ fn showing_of<S: Size>(
 ) -> Showing<S>
     requires width { options.now.width ≡ S.width }
     requires height { options.now.height ≡ S.height }
-    ensures { WasTold S.width S.height result.easel result.drawn [] }
+    ensures told { WasTold S.width S.height result.easel result.drawn [] }
+    ensures ends { is_none result.viewers ≡ forever }
+    ensures receipts { result.receipts.items ≡ [] }
 {
     Showing {
         alloc,
-        size: PhantomData,
+        options: PhantomData,
         easel: easel_of(options),
         drawn: options.check.then(|| Vec::new(alloc)),
         receipts: Vec::new(alloc),
@@ -342,7 +369,7 @@ fn showing_of<S: Size>(
 }
 
 /// Runs the loop to its end, and prints how the viewers ended. Returns the status.
-fn run_and_print<S: Size, W: Write, R: Net + Clock>(
+fn run_and_print<S: Options, W: Write, R: Net + Clock>(
     rt: &R,
     alloc: Global,
     config: &Config,
@@ -357,10 +384,12 @@ fn run_and_print<S: Size, W: Write, R: Net + Clock>(
     requires width { options.now.width ≡ S.width }
     requires height { options.now.height ≡ S.height }
     requires told { WasTold S.width S.height showing.old.easel showing.old.drawn [] }
+    requires ends { is_none showing.old.viewers ≡ S.forever }
+    requires receipts { showing.old.receipts.items ≡ [] }
     ensures status { IfOk result (λ status. (status ≡ 0) ⊎ (status ≡ 1) ⊎ (status ≡ 4)) }
     ensures judged { options.now.check ≡ true →
         IfOk result (λ status. (status ≡ 1) ⊎ Judged (W.contents writer.old) (W.contents writer.new) status) }
-    ensures printed { IfOk result (PrintsLoop options.now (W.contents writer.old) (W.contents writer.new)) }
+    ensures printed { IfOk result (PrintsLoop options.now S.forever (W.contents writer.old) (W.contents writer.new)) }
 {
     match run_to_end(rt, served, showing) {
         Ok(()) => print_run(alloc, config, served, showing, options, writer),
@@ -386,7 +415,7 @@ fn unless_broken<W: Write>(
 }
 
 /// Serves the viewers, and says how they ended. Returns the status.
-fn serve<S: Size, W: Write, R: Net + Clock>(
+fn serve<S: Options, W: Write, R: Net + Clock>(
     rt: &R,
     alloc: Global,
     listener: TcpListener,
@@ -396,11 +425,12 @@ fn serve<S: Size, W: Write, R: Net + Clock>(
 ) -> Result<u8, Trouble>
     requires width { options.now.width ≡ S.width }
     requires height { options.now.height ≡ S.height }
+    requires forever { besides.forever ≡ S.forever }
     ensures status { IfOk result (λ status. (status ≡ 0) ⊎ (status ≡ 1) ⊎ (status ≡ 4)) }
     ensures judged { options.now.check ≡ true →
         IfOk result (λ status. (status ≡ 1) ⊎ Judged (W.contents writer.old) (W.contents writer.new) status) }
     ensures printed { IfOk result (λ status. (status ≡ 1) ⊎
-        PrintsLoop options.now (W.contents writer.old) (W.contents writer.new) status) }
+        PrintsLoop options.now S.forever (W.contents writer.old) (W.contents writer.new) status) }
 {
     let config = config_of(alloc, options)?;
     let asked = config_of(alloc, options)?;
@@ -444,7 +474,7 @@ pub fn serve_in_one_thread<W: Write, R: Net + Clock>(
     ensures judged { options.now.check ≡ true → ((result ≡ 0) ⊎ (result ≡ 4)) →
         Judged (W.contents writer.old) (W.contents writer.new) result }
     ensures printed { ((result ≡ 0) ⊎ (result ≡ 4)) →
-        PrintsLoop options.now (W.contents writer.old) (W.contents writer.new) result }
+        PrintsLoop options.now besides.forever (W.contents writer.old) (W.contents writer.new) result }
 {
     match serve::<Brand, W, R>(rt, alloc, listener, options, besides, writer) {
         Ok(status) => written_out(writer, status),

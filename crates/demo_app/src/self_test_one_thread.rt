@@ -1,12 +1,16 @@
 //! `self --one-thread`: the same viewers and the same drawing, served by an event loop.
 
-ghost use Rattle.std.specs.Prelude.{◌≡◌, ◌⊎◌, None, IfOk, length};
+ghost use Rattle.std.specs.Prelude.{◌≡◌, ◌⊎◌, ◌++◌, ◌∷◌, [], None, IfOk, OnOk, OnErr, length};
 ghost use Rattle.screen.specs.Alone.{config_refusal};
 ghost use Rattle.connections.specs.Drawing.{Draws};
+ghost use Rattle.connections.specs.Serving.{Serves};
+ghost use Rattle.event_loop.specs.Sockets.{sockets};
+ghost use Rattle.demo_app.specs.Application.{own_calls, KeepsOwn};
 ghost use Rattle.demo_app.specs.Endings.{PrintsOwn};
-ghost use Rattle.demo_app.specs.Runs.{IsOwnCheck, JudgesOwn};
+ghost use Rattle.demo_app.specs.Runs.{IsOwnCheck, JudgesOwn, RanOwn};
+ghost use Rattle.demo_app.specs.Screens.{own_config};
 
-use crate::endings::{print_judgement, written_out};
+use crate::endings::{print_judgement, sort_receipts, written_out};
 use crate::one_thread::trouble_of;
 use crate::self_test::{
     COLOURS, Drawer, END, PLACES, TARGET, config, connect_all, join_all, network_trouble,
@@ -40,6 +44,14 @@ struct Drawing {
     viewers: usize,
 }
 
+/// What there is at the end of a run: the loop, its application, and of each viewer whether it shows the picture.
+#[derive(Drop)]
+struct OwnRun {
+    served: EventLoop,
+    drawing: Drawing,
+    shows: Vec<bool>,
+}
+
 /// Draws the stored run, and sends the text that ends it.
 fn draw(canvas: &mut Canvas) -> Result<(), ScreenError>
     ensures draws { Draws canvas.old canvas.new }
@@ -50,7 +62,9 @@ fn draw(canvas: &mut Canvas) -> Result<(), ScreenError>
 }
 
 /// Returns these drawing calls, as events.
-fn events(alloc: Global) -> Result<Vec<Event>, AllocError> {
+fn events(alloc: Global) -> Result<Vec<Event>, AllocError>
+    ensures { IfOk result (λ events. events.items ≡ own_calls) }
+{
     let mut events = Vec::with_capacity(alloc, 3)?;
     events.push(Event::Paint {
         rect: PLACES,
@@ -67,24 +81,57 @@ fn events(alloc: Global) -> Result<Vec<Event>, AllocError> {
     Ok(events)
 }
 
+impl Drawing {
+    /// Keeps the drawing calls of the stored run. After an `AllocError` nothing has changed.
+    fn keep_calls(&mut self) -> Result<(), AllocError>
+        ensures drawn { OnOk result (self.new.drawn.items ≡ own_calls) }
+        ensures refused { OnErr result (self.new.drawn.items ≡ self.old.drawn.items) }
+        ensures receipts { self.new.receipts ≡ self.old.receipts }
+    {
+        self.drawn = events(self.alloc)?;
+        Ok(())
+    }
+
+    /// Keeps a receipt. After an `AllocError` it isn't kept.
+    fn keep_receipt(&mut self, receipt: Receipt) -> Result<(), AllocError>
+        ensures kept { OnOk result (self.new.receipts.items ≡ self.old.receipts.items ++ receipt ∷ []) }
+        ensures refused { OnErr result (self.new.receipts.items ≡ self.old.receipts.items) }
+        ensures drawn { self.new.drawn ≡ self.old.drawn }
+    {
+        self.receipts.push(receipt)?;
+        Ok(())
+    }
+
+    /// Draws the stored run where the last key that is awaited goes down.
+    fn hear(&mut self, canvas: &mut Canvas, input: &Input) -> Result<(), ScreenError>
+        ensures draws { Draws canvas.old canvas.new }
+        ensures drawn { (self.new.drawn.items ≡ self.old.drawn.items) ⊎ (self.new.drawn.items ≡ own_calls) }
+        ensures receipts { self.new.receipts ≡ self.old.receipts }
+    {
+        match input {
+            Input::Key { down: true, .. } if self.drawer.is_last_key() => {
+                self.keep_calls()?;
+                draw(canvas)
+            }
+            _ => Ok(()),
+        }
+    }
+}
+
 impl Application for Drawing {
+    ghost stands = { λ drawing told. KeepsOwn drawing.drawn.items drawing.receipts.items told };
+
     fn on_input(
         &mut self,
         canvas: &mut Canvas,
         _viewer: u64,
         input: &Input,
     ) -> Result<(), ScreenError> {
-        match input {
-            Input::Key { down: true, .. } if self.drawer.is_last_key() => {
-                self.drawn = events(self.alloc)?;
-                draw(canvas)
-            }
-            _ => Ok(()),
-        }
+        self.hear(canvas, input)
     }
 
     fn left(&mut self, _canvas: &mut Canvas, receipt: Receipt) -> Result<(), ScreenError> {
-        self.receipts.push(receipt)?;
+        self.keep_receipt(receipt)?;
         Ok(())
     }
 
@@ -103,44 +150,63 @@ fn limits(viewers: u32) -> Limits {
     }
 }
 
-/// Serves the viewers of these connections, which run in threads of a scope. Says of each whether it shows the picture. After an error
-/// these may still run.
+/// Serves the viewers of these connections, which run in threads of a scope. Returns what there is at the end. After an error these may
+/// still run.
 fn run_in_scope<'s, E, R: Threads + Clock>(
     rt: &R,
     alloc: Global,
     streams: &'s [TcpStream],
-    served: &mut EventLoop,
-    drawing: &mut Drawing,
+    mut served: EventLoop,
+    mut drawing: Drawing,
     scope: &Scope<'s, E>,
-) -> Result<Vec<bool>, Trouble>
-    ensures { IfOk result (λ shows. length shows.items ≡ length streams.now) }
+) -> Result<OwnRun, Trouble>
+    requires drawn { drawing.drawn.items ≡ [] }
+    requires receipts { drawing.receipts.items ≡ [] }
+    ensures shows { IfOk result (λ run. length run.shows.items ≡ length streams.now) }
+    ensures served { IfOk result (λ run. RanOwn served run.served run.drawing.drawn.items run.drawing.receipts.items) }
 {
     let threads = spawn_all(alloc, streams, scope)?;
-    served.run(rt, drawing).map_err(trouble_of)?;
-    Ok(join_all(rt, alloc, threads)?)
+    match served.run(rt, &mut drawing) {
+        Ok(()) => {
+            let shows = join_all(rt, alloc, threads)?;
+            Ok(OwnRun {
+                served,
+                drawing,
+                shows,
+            })
+        }
+        Err(error) => Err(trouble_of(error)),
+    }
 }
 
-/// Runs the loop and its viewers, until all have ended. Says of each viewer whether it shows the picture.
+/// Runs the loop and its viewers, until all have ended. Returns what there is at the end.
 fn run_with_viewers<R: Threads + Wait + Clock>(
     rt: &R,
     alloc: Global,
     streams: &[TcpStream],
-    served: &mut EventLoop,
-    drawing: &mut Drawing,
-) -> Result<Vec<bool>, Trouble>
-    ensures { IfOk result (λ shows. length shows.items ≡ length streams.now) }
+    served: EventLoop,
+    drawing: Drawing,
+) -> Result<OwnRun, Trouble>
+    requires drawn { drawing.drawn.items ≡ [] }
+    requires receipts { drawing.receipts.items ≡ [] }
+    ensures shows { IfOk result (λ run. length run.shows.items ≡ length streams.now) }
+    ensures served { IfOk result (λ run. RanOwn served run.served run.drawing.drawn.items run.drawing.receipts.items) }
 {
     thread::scope(
         thread::scope_env(),
         rt,
-        move |scope| -> Result<Vec<bool>, Trouble>
-            ensures { IfOk result (λ shows. length shows.items ≡ length streams.entry.now) }
+        move |scope| -> Result<OwnRun, Trouble>
+            requires drawn { drawing.drawn.items ≡ [] }
+            requires receipts { drawing.receipts.items ≡ [] }
+            ensures shows { IfOk result (λ run. length run.shows.items ≡ length streams.entry.now) }
+            ensures served { IfOk result (λ run.
+                RanOwn served run.served run.drawing.drawn.items run.drawing.receipts.items) }
         {
-            let shows = run_in_scope(rt, alloc, streams, served, drawing, scope);
-            if shows.is_err() {
+            let run = run_in_scope(rt, alloc, streams, served, drawing, scope);
+            if run.is_err() {
                 shut_all(streams);
             }
-            shows
+            run
         },
     )
 }
@@ -170,7 +236,9 @@ fn print_run<W: Write>(
     writer: &mut W,
 ) -> Result<u8, Trouble>
     ensures either { IfOk result (λ status. (status ≡ 0) ⊎ (status ≡ 4)) }
-    ensures printed { IfOk result (PrintsOwn (length shows.now) IsOwnCheck (W.contents writer.old) (W.contents writer.new)) }
+    ensures printed { IfOk result (PrintsOwn (length shows.now)
+        (JudgesOwn own_config served.now.surface.screen.history drawing.now.drawn.items drawing.now.receipts.items)
+        (W.contents writer.old) (W.contents writer.new)) }
 {
     print_shows(alloc, writer, shows)?;
     let judgement = judge(alloc, &config(alloc)?, served, drawing);
@@ -183,18 +251,35 @@ fn run_and_judge<W: Write, R: Threads + Wait + Clock>(
     rt: &R,
     alloc: Global,
     streams: &[TcpStream],
-    served: &mut EventLoop,
-    drawing: &mut Drawing,
+    served: EventLoop,
+    drawing: Drawing,
     writer: &mut W,
 ) -> Result<u8, Trouble>
+    requires serves { Serves own_config (sockets own_config) [] served }
+    requires drawn { drawing.drawn.items ≡ [] }
+    requires receipts { drawing.receipts.items ≡ [] }
     ensures either { IfOk result (λ status. (status ≡ 0) ⊎ (status ≡ 4)) }
     ensures printed { IfOk result (PrintsOwn (length streams.now) IsOwnCheck (W.contents writer.old) (W.contents writer.new)) }
 {
-    let shows = run_with_viewers(rt, alloc, streams, served, drawing)?;
-    drawing
-        .receipts
-        .sort_unstable_by_key(|receipt| receipt.viewer);
-    print_run(alloc, &shows, served, drawing, writer)
+    let mut run = run_with_viewers(rt, alloc, streams, served, drawing)?;
+    sort_receipts(&mut run.drawing.receipts);
+    print_run(alloc, &run.shows, &run.served, &run.drawing, writer)
+}
+
+/// Returns a loop that serves the screen of `self` to so many viewers.
+fn loop_for<R: Net>(
+    rt: &R,
+    alloc: Global,
+    listener: TcpListener,
+    viewers: u32,
+) -> Result<EventLoop, Trouble>
+    ensures { IfOk result (λ served. Serves own_config (sockets own_config) [] served) }
+{
+    let config = config(alloc)?;
+    match EventLoop::new(rt, alloc, listener, config, limits(viewers)) {
+        Ok(served) => Ok(served),
+        Err(error) => Err(trouble_of(error)),
+    }
 }
 
 /// Makes a loop, and viewers that connect to it, and does the same with them. Returns the status.
@@ -213,16 +298,15 @@ where
         Ok(streams) => streams,
         Err(error) => return Err(network_trouble(error)),
     };
-    let looped = EventLoop::new(rt, alloc, listener, config(alloc)?, limits(viewers));
-    let mut served = looped.map_err(trouble_of)?;
-    let mut drawing = Drawing {
+    let served = loop_for(rt, alloc, listener, viewers)?;
+    let drawing = Drawing {
         alloc,
         drawer: Drawer::new(u64::from(viewers)),
         drawn: Vec::new(alloc),
         receipts: Vec::new(alloc),
         viewers: viewers as usize,
     };
-    run_and_judge(rt, alloc, &streams, &mut served, &mut drawing, writer)
+    run_and_judge(rt, alloc, &streams, served, drawing, writer)
 }
 
 /// Does what `self_on` does, with one thread for the server.

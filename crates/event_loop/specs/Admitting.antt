@@ -2,14 +2,14 @@
 use Rattle.std.specs.Prelude.{◌≡◌, ℕ, ◌+◌, ◌-◌, ◌^◌, min, List, [], ◌∷◌, ◌++◌, Some}
 use Rattle.screen.specs.declared.Config.{Config}
 use Rattle.screen.specs.declared.Event.{Event}
-use Rattle.connections.specs.Telling.{inputs_after}
+use Rattle.connections.specs.Telling.{words_after}
 use Rattle.connections.specs.Serving.{Began, Carried, Serving, Serves, number_at}
 use Rattle.event_loop.specs.declared.viewers.Admission.{Admission}
 use Rattle.event_loop.specs.declared.viewers.Admission.TheVariants.{Viewer, TurnedAway, Refused}
 
--- Whatever the connections stood for, they stand for it with more events behind it, none of which has an input. A viewer that came with these began with what its transport carried.
+-- Whatever the connections stood for, they stand for it with more events behind it, in which no viewer says anything, and none leaves. A viewer that came with these began with what its transport carried.
 abbrev pub GoesOnFrom : Carried → Serving → Serving → Type 0
-GoesOnFrom came old new = (c : Config) (began : Began) (list : List Event) → Serves c began list old → began.carried old.next ≡ came → (more : List Event) × Serves c began (list ++ more) new × (inputs_after c list more ≡ [])
+GoesOnFrom came old new = (c : Config) (began : Began) (list : List Event) → Serves c began list old → began.carried old.next ≡ came → (more : List Event) × Serves c began (list ++ more) new × (words_after c list more ≡ [])
 
 -- one more came
 abbrev pub one_more : ℕ → ℕ

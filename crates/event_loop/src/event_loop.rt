@@ -367,8 +367,9 @@ impl EventLoop {
     /// says; last, accepts connections that came, which are heard from the next turn on.
     ///
     /// Whatever list of events the screen stood for, it stands for it with others behind it, and by that list each viewer is served:
-    /// what waits for it is the end of what the screen with this one viewer gives it. Whatever inputs the application stood for, it stands
-    /// for these with those of the events behind them, or the first of these where an error ended the turn.
+    /// what waits for it is the end of what the screen with this one viewer gives it. Whatever the application stood for, it stands for that
+    /// with an account of the events behind it: the inputs in them, and a receipt of each viewer that left in them, in order; or with the
+    /// first of these where an error ended the turn.
     pub fn process_events<C: Clock, A: Application>(
         &mut self,
         clock: &C,

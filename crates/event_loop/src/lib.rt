@@ -25,8 +25,8 @@ mod socket;
 mod viewers;
 
 pub use connections::{
-    Application, Canvas, Config, Ended, Fault, History, Input, Listed, PrivateFile, RecordWriter,
-    Rect, Region, Screen, ScreenError, drawn_is_served,
+    Application, Canvas, Config, Ended, Fault, History, Input, Listed, PrivateFile, Receipt,
+    RecordWriter, Rect, Region, Screen, ScreenError, drawn_is_served,
 };
 pub use event_loop::{EventLoop, LoopError};
 pub use limits::{Limits, WhenFull};

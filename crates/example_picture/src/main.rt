@@ -6,8 +6,8 @@
 ghost use Rattle.connections.specs.Drawing.{Draws};
 
 use event_loop::{
-    Application, Canvas, Config, EventLoop, History, Input, Limits, Listed, LoopError, Rect,
-    ScreenError,
+    Application, Canvas, Config, EventLoop, History, Input, Limits, Listed, LoopError, Receipt,
+    Rect, ScreenError,
 };
 use mio::Waker;
 use mio::net::TcpListener;
@@ -99,6 +99,10 @@ fn paint_all(canvas: &mut Canvas, rows: &[Row]) -> Result<(), ScreenError>
 impl Application for Showing<'_> {
     /// Ignores what viewers do.
     fn on_input(&mut self, _: &mut Canvas, _: u64, _: &Input) -> Result<(), ScreenError> {
+        Ok(())
+    }
+
+    fn left(&mut self, _: &mut Canvas, _: Receipt) -> Result<(), ScreenError> {
         Ok(())
     }
 

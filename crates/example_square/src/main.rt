@@ -3,8 +3,8 @@
 #![tactic(auto)]
 
 use event_loop::{
-    Application, Canvas, Config, EventLoop, History, Input, Limits, Listed, LoopError, Rect,
-    ScreenError,
+    Application, Canvas, Config, EventLoop, History, Input, Limits, Listed, LoopError, Receipt,
+    Rect, ScreenError,
 };
 use mio::net::TcpListener;
 use std::net::{Ipv4Addr, SocketAddr};
@@ -52,6 +52,10 @@ fn step(at: &mut i32, by: &mut i32, end: i32) {
 impl Application for Square {
     /// Ignores what viewers do.
     fn on_input(&mut self, _: &mut Canvas, _: u64, _: &Input) -> Result<(), ScreenError> {
+        Ok(())
+    }
+
+    fn left(&mut self, _: &mut Canvas, _: Receipt) -> Result<(), ScreenError> {
         Ok(())
     }
 

@@ -96,9 +96,7 @@ impl Application for Counting {
         }
     }
 
-    fn left(&mut self, _canvas: &mut Canvas, _receipt: Receipt) -> Result<(), ScreenError>
-        ensures draws { Draws _canvas.old _canvas.new }
-    {
+    fn left(&mut self, _canvas: &mut Canvas, _receipt: Receipt) -> Result<(), ScreenError> {
         self.left = self.left.saturating_add(1);
         self.note(Parting::Left);
         Ok(())

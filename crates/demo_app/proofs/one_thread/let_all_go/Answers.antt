@@ -1,8 +1,13 @@
-use Rattle.std.proofs.Common.{Ok}
+use Rattle.std.proofs.Common.{Ok, refl}
 use Rattle.std.proofs.lemmas.Result.{err_from_is_err_and}
 use Rattle.event_loop.specs.declared.event_loop.LoopError.{LoopError}
-use Rattle.event_loop.proofs.Steps.{tells-all, tells-then, tells-ended}
+use Rattle.event_loop.proofs.Steps.{on-same, tells-silently, tells-all, tells-then, tells-ended}
 use Rattle.demo_app.proofs.one_thread.let_all_go.Goals as goal
+
+pub loop-init : goal.loop-init
+loop-init g c =
+    let before = c.args.application.now in
+    tells-silently g.A.Application.stands {X = Unit {0}} {E = LoopError} before before (Ok tt) _ _ (λ told h. h) (on-same _ _ refl)
 
 pub returns-in_err-let_go_and_turn : goal.returns-in_err-let_go_and_turn
 returns-in_err-let_go_and_turn g c =

@@ -19,6 +19,6 @@ returns-clause-judged g c check =
 pub returns-clause-printed : goal.returns-clause-printed
 returns-clause-printed g c =
     let before = g.W.Write.contents c.args.writer.now in
-    through c.run_and_print-ended.result c.unless_broken.result (PrintsLoop c.args.options.now before (g.W.Write.contents c.run_and_print-ended.new.writer)) (λ s. (s ≡ 1) ⊎ PrintsLoop c.args.options.now before (g.W.Write.contents c.unless_broken.new.writer) s)
+    through c.run_and_print-ended.result c.unless_broken.result (PrintsLoop c.args.options.now g.S.Options.forever before (g.W.Write.contents c.run_and_print-ended.new.writer)) (λ s. (s ≡ 1) ⊎ PrintsLoop c.args.options.now g.S.Options.forever before (g.W.Write.contents c.unless_broken.new.writer) s)
     (c.unless_broken.new.writer ≡ c.run_and_print-ended.new.writer) c.unless_broken.ensures c.run_and_print-ended.ensures.printed
-    (λ s same p. inr (subst (λ w. PrintsLoop c.args.options.now before (g.W.Write.contents w) s) (sym same) p))
+    (λ s same p. inr (subst (λ w. PrintsLoop c.args.options.now g.S.Options.forever before (g.W.Write.contents w) s) (sym same) p))

@@ -1,7 +1,8 @@
 use Rattle.std.proofs.Common.{[], rules}
+use Rattle.connections.specs.Telling.{inputs_told}
 use Rattle.c_server.specs.Desk.{held_where}
 use Rattle.c_server.proofs.Keeping.{nothing-kept}
-use Rattle.c_server.proofs.Turning.{no-turn, turns}
+use Rattle.c_server.proofs.Turning.{inputs-parts, no-turn, none-untold, turns}
 use Rattle.c_server.proofs.desk.ServerDesk.process_events.Goals as goal
 
 pub returns-then-is_err : goal.returns-then-is_err
@@ -13,5 +14,6 @@ returns c =
     c.self.view_is c.in-Some.is (search rules)
     (λ config list s.
     let p = c.process_events-answer.ensures.served (held_where _) config list s in
-    (p.0, p.1, p.2 [] (nothing-kept c.new-came.result.inputs.items c.new-came.result.visits.items _ _ c.new-came.result.lost c.new-came.ensures.inputs c.new-came.ensures.visits c.new-came.ensures.lost c.new-came.ensures.room (search rules))))
+    let k = p.4 [] (nothing-kept c.new-came.result.inputs.items c.new-came.result.visits.items _ _ c.new-came.result.lost c.new-came.ensures.inputs c.new-came.ensures.visits c.new-came.ensures.lost c.new-came.ensures.room (search rules)) in
+    (p.0, p.1, (inputs_told k.0, inputs_told k.1, inputs-parts config list p.0 p.2 k.0 k.1 p.3.said k.2, none-untold c.process_events-answer.result k.1 k.3, k.4)))
     c.make_all_room.ensures.inputs c.make_all_room.ensures.visits c.keep-kept.ensures.inputs c.keep-kept.ensures.lost c.keep-kept.ensures.room c.keep-kept.ensures.visits c.saturating_add-self-inside-2.ensures (search rules) (search rules)

@@ -1,8 +1,11 @@
-use Rattle.std.proofs.Common.{Ok}
+use Rattle.std.proofs.Common.{Ok, rules}
 use Rattle.std.proofs.lemmas.Result.{err_from_is_err_and}
 use Rattle.screen.specs.declared.ScreenError.{ScreenError}
-use Rattle.connections.proofs.Everyone.{tells-all, tells-then, tells-ended}
+use Rattle.connections.proofs.Everyone.{goes-is, goes-silently, tells-all, tells-then, tells-ended}
 use Rattle.connections.proofs.connections.Connections.listen_all.Goals as goal
+
+pub loop-index-init : goal.loop-index-init
+loop-index-init g c = goes-silently g.A.Application.stands {X = Unit {0}} {E = ScreenError} c.args.application.now (Ok tt) _ _ (goes-is c.args.self.now _ (first_of (search rules, cc)))
 
 pub returns-in_err-listen_at : goal.returns-in_err-listen_at
 returns-in_err-listen_at g c =

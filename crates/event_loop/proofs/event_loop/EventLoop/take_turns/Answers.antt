@@ -1,8 +1,16 @@
-use Rattle.std.proofs.Common.{◌≤◌, ℕ, Ok, ◌+◌, arith}
+use Rattle.std.proofs.Common.{◌≤◌, ℕ, Ok, ◌+◌, arith, rules}
 use Rattle.std.proofs.lemmas.Result.{err_from_is_err_and}
 use Rattle.event_loop.specs.declared.event_loop.LoopError.{LoopError}
-use Rattle.event_loop.proofs.Steps.{tells-all, tells-then, tells-ended, tells-any}
+use Rattle.event_loop.proofs.Steps.{on-same, tells-silently, tells-all, tells-then, tells-ended, tells-any}
 use Rattle.event_loop.proofs.event_loop.EventLoop.take_turns.Goals as goal
+
+pub turns-init : goal.turns-init
+turns-init g c =
+    let before = c.args.application.now in
+    record {
+      turns = omega arith;
+      told = tells-silently g.A.Application.stands {X = Unit {0}} {E = LoopError} before before (Ok tt) _ _ (λ told h. h) (on-same _ _ (first_of (search rules, cc)));
+    }
 
 pub returns-in_err-process_events-clause-served : goal.returns-in_err-process_events-clause-served
 returns-in_err-process_events-clause-served g c =
