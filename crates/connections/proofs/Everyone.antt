@@ -24,7 +24,7 @@ use Rattle.connections.specs.Attending.{asks, IsSettled}
 use Rattle.connections.specs.Counting.{Counts, no_counts, counts_of, HasCounts}
 use Rattle.connections.specs.Recording.{none_yet}
 use Rattle.held_inputs.specs.Held.{Held, nothing}
-use Rattle.connections.specs.Telling.{Word, Leaves, Told, words_of, says, said_by, receipts_in, releases, held_of, words_after, IsTold}
+use Rattle.connections.specs.Telling.{Word, Leaves, Told, words_of, says, said_by, receipts_in, releases, held_of, words_after}
 use Rattle.connections.specs.Recorded.{IsRecordedBy, RecordsMore}
 use Rattle.connections.specs.RecordedLemmas.{records-same, recorded-same, recorded-more}
 use Rattle.connections.specs.Serving.{Began, Carried, ViewerConnection, Moves, breaks_off, has_work, IsServed, WasServed, IsOver, IsAttended, Serving, at_key, works_at, may_cut_at, may_ask_at, is_kept, Serves, GoesOn, GoesOnTelling, drawn_is_served}

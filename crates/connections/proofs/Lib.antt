@@ -1,3 +1,4 @@
+pub mod Bytes
 pub mod Drawing
 pub mod Pieces
 pub mod Among

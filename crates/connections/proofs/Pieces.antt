@@ -1,6 +1,6 @@
 -- Pieces of what waits.
 use Rattle.std.proofs.Common.{◌≡◌, ◌≢◌, ◌<◌, ◌≤◌, ◌+◌, List, ℕ, zero, suc, true, [], ◌∷◌, ◌++◌, Option, Some, None, length, take, drop, refl, ap, arith, sym, ◌∙◌, append_assoc, append-nil}
-use Rattle.std.proofs.lemmas.List.{length-append, length-drop, take-append-drop, drop-drop}
+use Rattle.std.proofs.lemmas.List.{length-drop, take-append-drop, drop-drop}
 use Rattle.screen.specs.Alone.{some_bytes}
 use Rattle.viewer.specs.Given.{bytes_given}
 use Rattle.connections.specs.Waiting.{Waiting, waiting_bytes, IsFew}

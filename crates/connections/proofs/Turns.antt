@@ -1,7 +1,8 @@
 -- What a step of one connection, or of the screen, makes of all of them.
-use Rattle.std.proofs.Common.{◌≡◌, ◌≢◌, ◌⊎◌, ℕ, true, false, List, [], ◌∷◌, ◌++◌, Option, Some, None, Result, refl, sym, ap, ◌∙◌, append_assoc, append-nil, subst, inl, inr, arith}
+use Rattle.std.proofs.Common.{◌≡◌, ◌≢◌, ◌⊎◌, ℕ, Bool, true, false, List, [], ◌∷◌, ◌++◌, Option, Some, None, Result, refl, sym, ap, ◌∙◌, append_assoc, append-nil, subst, inl, inr, arith}
 use Rattle.std.specs.Prelude.{IfSome, ◌&&◌, ◌≤◌, length, option_map}
-use Rattle.std.proofs.KnownBytes.{Appends-nil, Appends-trans, Consumes-nil, Consumes-trans}
+use Rattle.std.specs.Io.KnownBytes.{Keeps}
+use Rattle.std.proofs.KnownBytes.{Appends-nil, Appends-trans, Appends-kept, Consumes-nil, Consumes-trans, Consumes-kept}
 use Rattle.std.proofs.lemmas.Bool.{and_from}
 use Rattle.std.proofs.lemmas.Bool.Decides.{Decides-eqb}
 use Rattle.std.proofs.lemmas.List.Folds.{list_all-append}
@@ -28,7 +29,7 @@ use Rattle.connections.specs.Attending.{Known, next_bytes}
 use Rattle.connections.specs.Counting.{Counts, with_piece, with_cut, counts_of}
 use Rattle.connections.specs.Reasons.{ended_by_read, known_by_read, ended_by_fault}
 use Rattle.connections.specs.declared.connection.Got.{Got}
-use Rattle.connections.specs.declared.connection.Got.TheVariants.{Piece}
+use Rattle.connections.specs.declared.connection.Got.TheVariants.{Piece, Nothing, Again, End, Failed}
 use Rattle.connections.specs.Serving.{Carried, ViewerConnection, Moves, breaks_off, IsServed}
 use Rattle.connections.specs.Telling.{Word, Told, says, said_by, held_behind, held_of, told_behind, words_after, IsTold}
 use Rattle.connections.specs.Turns.{got_bytes, are_of, Knows, IsTurnFrom, HasRead, HearsPiece, TakesTurn, TakesTurnTelling}
@@ -48,6 +49,14 @@ kept-twice (Some bytes) w x = ap (λ l. Some l) (append_assoc bytes w x)
 
 pub moves-nothing : (a : Carried) → Moves a a [] []
 moves-nothing a = record { read = Consumes-nil a.unread; written = Appends-nil a.written; sent = kept-none a.sent }
+
+-- none of them moves where they stay
+pub moves_kept : (a b : Carried) → Keeps a.unread b.unread → Keeps a.written b.written → b.sent ≡ a.sent → Moves a b [] []
+moves_kept a b read written sent = record {
+  read = Consumes-kept a.unread a.unread b.unread [] (Consumes-nil a.unread) read;
+  written = Appends-kept a.written a.written b.written [] (Appends-nil a.written) written;
+  sent = sent ∙ kept-none a.sent;
+}
 
 pub moves-then : (a b d : Carried) (r s w x : List ℕ) → Moves a b r w → Moves b d s x → Moves a d (r ++ s) (w ++ x)
 moves-then a b d r s w x m n = record {
@@ -422,6 +431,14 @@ turn-written a b e f known added unwritten still whole same cut ask moved parts 
       };
     }
 
+-- its transport writes what it has to say of its own, which is none of what is sent
+pub turn-flushed : (a : Surface) (e f : ViewerConnection) (known : Known) → breaks_off e.ended ≡ false → f ≡ record e { carried = f.carried; ended = f.ended; known = known } → known.may_cut ≡ e.known.may_cut → known.may_ask ≡ e.known.may_ask
+    → Moves e.carried f.carried [] [] → TakesTurn a e a f
+turn-flushed a e f known whole same cut ask moved c list began v said since t =
+    let waiting : f.waiting ≡ e.waiting = ap (λ (x : ViewerConnection). x.waiting) same in
+    turn-written a a e f known [] (waiting_bytes e.waiting) refl whole (same ∙ ap (λ w. record e { carried = f.carried; waiting = w; ended = f.ended; known = known }) (sym waiting)) cut ask moved refl
+    (λ fine. ap waiting_bytes (sym waiting)) (subst IsFew (sym waiting) t.served.few) c list began v said since t
+
 -- a viewer ends, by a failure or by being closed
 pub turn-ended : (a b : Surface) (e f : ViewerConnection) → b ≡ a → e.ended ≡ None → f ≡ record e { ended = f.ended } → TakesTurn a e b f
 turn-ended a b e f still live same c list began v said since t =
@@ -453,12 +470,20 @@ turn-nothing a e f h known live same cut ask moved ended c list began v said sin
 ended-so : (f h : ViewerConnection) (o : Option Ended) → h ≡ record f { ended = o } → h ≡ record f { ended = h.ended }
 ended-so f h o is = is ∙ ap (λ o. record f { ended = o }) (sym (ap (λ (x : ViewerConnection). x.ended) is))
 
+-- what is known of a read says whether it was full
+pub full_as_known : (got : Got) (full : Bool) (now : ℕ) (known : Known) → known_by_read got full now known ≡ known_by_read got (known_by_read got full now known).was_full now known
+full_as_known (Piece count) full now known = refl
+full_as_known Nothing full now known = refl
+full_as_known Again full now known = refl
+full_as_known End full now known = refl
+full_as_known Failed full now known = refl
+
 -- a read that gave no piece
-pub turn-missed : (a : Surface) (e h : ViewerConnection) (got : Got) (size now : ℕ) (room : List ℕ) → ((count : ℕ) → got ≡ Piece count → ⊥) → e.ended ≡ None
-    → h ≡ record e { carried = h.carried; ended = ended_by_read got e.ended; known = known_by_read got size now e.known } → Moves e.carried h.carried (got_bytes got room) [] → TakesTurn a e a h
-turn-missed a e h (Piece count) size now room missed live same moved = absurd (missed count refl)
-turn-missed a e h got size now room missed live same moved =
-    let known : Known = known_by_read got size now e.known in
+pub turn-missed : (a : Surface) (e h : ViewerConnection) (got : Got) (full : Bool) (now : ℕ) (room : List ℕ) → ((count : ℕ) → got ≡ Piece count → ⊥) → e.ended ≡ None
+    → h ≡ record e { carried = h.carried; ended = ended_by_read got e.ended; known = known_by_read got full now e.known } → Moves e.carried h.carried (got_bytes got room) [] → TakesTurn a e a h
+turn-missed a e h (Piece count) full now room missed live same moved = absurd (missed count refl)
+turn-missed a e h got full now room missed live same moved =
+    let known : Known = known_by_read got full now e.known in
     let f : ViewerConnection = record e { carried = h.carried; known = known } in
     turn-nothing a e f h known live refl refl refl moved (ended-so f h (ended_by_read got e.ended) same)
 

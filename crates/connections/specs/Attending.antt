@@ -17,7 +17,7 @@ pub record Known : Type 0 where
   pub may_ask : Bool
   -- whether its peer sends no more: what it sent can be read to its end
   pub hung_up : Bool
-  -- whether its last read filled the buffer
+  -- whether its last read filled the buffer, or left more to be read at once
   pub was_full : Bool
   -- how many bytes it said of late, and when that was reckoned, in milliseconds
   pub level : ℕ
@@ -31,7 +31,7 @@ noted found known = record known { may_read = known.may_read || found.may_read; 
 abbrev pub says_much : Known → Bool
 says_much known = nat_lt 65536 known.level
 
--- whether a connection is one that floods: its last read filled the buffer, or much was said of late
+-- whether a connection is one that floods: its last read filled the buffer or left more, or much was said of late
 abbrev pub floods : Known → Bool
 floods known = known.was_full || says_much known
 

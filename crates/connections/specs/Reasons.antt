@@ -1,5 +1,5 @@
 -- What a transport's answers come to: what is known of a connection then, and why its viewer ended.
-use Rattle.std.specs.Prelude.{ℕ, ◌+◌, ◌-◌, ◌*◌, ◌^◌, min, nat_le, ◌==◌, ◌||◌, Bool, false, if◌then◌else◌, Option, Some, None, Result, Ok, Err}
+use Rattle.std.specs.Prelude.{ℕ, ◌+◌, ◌-◌, ◌*◌, ◌^◌, min, ◌==◌, ◌||◌, Bool, false, if◌then◌else◌, Option, Some, None, Result, Ok, Err}
 use Rattle.std.specs.declared.io.Error.{Error}
 use Rattle.std.specs.declared.io.ErrorKind.{ErrorKind}
 use Rattle.std.specs.declared.io.ErrorKind.TheVariants as kinds
@@ -34,11 +34,11 @@ ended_by_read came before = before
 abbrev pub level_by : ℕ → ℕ → Known → ℕ
 level_by count now known = min (known.level - (now - known.since) * 64 + count) (2 ^ 64 - 1)
 
--- What is known once a read into so many bytes came to this, at a time. A piece that didn't fill them was all that there was, unless the peer hung up.
-abbrev pub known_by_read : Got → ℕ → ℕ → Known → Known
-known_by_read (got.Piece count) size now known = record known { may_read = nat_le size count || known.hung_up; was_full = nat_le size count; level = level_by count now known; since = now }
-known_by_read got.Nothing size now known = record known { may_read = false; was_full = false }
-known_by_read came size now known = known
+-- What is known once a read came to this, at a time. A piece that wasn't full was all that there was, unless the peer hung up.
+abbrev pub known_by_read : Got → Bool → ℕ → Known → Known
+known_by_read (got.Piece count) full now known = record known { may_read = full || known.hung_up; was_full = full; level = level_by count now known; since = now }
+known_by_read got.Nothing full now known = record known { may_read = false; was_full = false }
+known_by_read came full now known = known
 
 -- what a write is that failed so: the transport takes nothing now, memory was refused, or the transport failed
 abbrev pub written_error : ErrorKind → Written

@@ -90,6 +90,14 @@ fn written_of(sent: io::Result<usize>) -> (usize, Written)
     }
 }
 
+/// Returns what came of a flush.
+pub(crate) fn flushed_of(flushed: io::Result<()>) -> Written {
+    match flushed {
+        Ok(()) => Written::Some,
+        Err(error) => written_error(error.kind()),
+    }
+}
+
 /// Writes the first 64 KB of `bytes` at most, once. Returns how many the transport took, and what came of it.
 fn write_once<T: Transport>(transport: &mut Recording<T>, bytes: &[u8]) -> (usize, Written)
     ensures bound { result.0 ≤ length bytes.now }

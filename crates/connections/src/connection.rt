@@ -1,6 +1,6 @@
 //! One viewer's connection: its transport, what is known of that one's readiness, and what is on its way to the viewer.
 
-ghost use Rattle.std.specs.Prelude.{◌≡◌, ◌≢◌, ◌≤◌, ◌++◌, ◌+◌, ◌*◌, ◌-◌, ◌^◌, min, [], List, ℕ, None, Some, true, false, not, ◌&&◌, ◌||◌, ◌⊎◌, OnOk, length, unwrap_or};
+ghost use Rattle.std.specs.Prelude.{◌≡◌, ◌≢◌, ◌≤◌, ◌++◌, ◌+◌, ◌*◌, ◌-◌, ◌^◌, min, [], List, ℕ, None, Some, true, false, not, ◌&&◌, ◌||◌, ◌⊎◌, nat_le, OnOk, length, unwrap_or};
 ghost use Rattle.receipts.specs.Checking.{may_break_off};
 ghost use Rattle.receipts.specs.declared.Ended.TheVariants as ended;
 ghost use Rattle.connections.specs.Waiting.{waiting_bytes, IsFew};
@@ -14,7 +14,7 @@ ghost use Rattle.connections.specs.Telling.{held_behind};
 ghost use Rattle.connections.specs.Turns.{IsWithin, got_bytes};
 ghost use Rattle.held_inputs.specs.Held.{after, nothing, room_release, roomy};
 
-use crate::backlog::{Backlog, Written};
+use crate::backlog::{Backlog, Written, flushed_of};
 use crate::connections::{Departed, Readiness};
 use crate::recording::{Recording, no_bytes};
 use crate::transport::Transport;
@@ -76,7 +76,7 @@ pub(crate) struct Connection<T: Transport> {
     heard: KeptList<u8>,
     cuts: u64,
     readiness: Readiness,
-    // its last read filled the buffer
+    // its last read filled the buffer, or its transport had more at once
     was_full: bool,
     flow: Flow,
     // an update may be ready: since none was found it was heard, or looked at after drawing, or an update was cut that left a request open
@@ -251,7 +251,7 @@ impl<T: Transport> Connection<T> {
         self.ended.is_none() && self.readiness.may_read
     }
 
-    /// Returns whether its last read filled the buffer, or it said more than 64 KB of late.
+    /// Returns whether its last read filled the buffer or left more to be read at once, or it said more than 64 KB of late.
     pub fn is_flooding(&self) -> bool
         ensures { result ≡ floods self.now.known }
     {
@@ -331,16 +331,16 @@ impl<T: Transport> Connection<T> {
         }
     }
 
-    /// Takes in what a read of at most `size` bytes came to at the time `now`: that more may be read, how much was said of late, and that it
-    /// ended. A piece that isn't so long was all that there was, unless the peer hung up: then its bytes are read to their end.
-    fn take_in(&mut self, got: Got, size: usize, now: u64)
-        ensures { self.new ≡ record self.old { ended = ended_by_read got self.old.ended; known = known_by_read got size now self.old.known } }
+    /// Takes in what a read came to at the time `now`: that more may be read, how much was said of late, and that it ended. A piece that
+    /// isn't full was all that there was, unless the peer hung up: then its bytes are read to their end.
+    fn take_in(&mut self, got: Got, is_full: bool, now: u64)
+        ensures { self.new ≡ record self.old { ended = ended_by_read got self.old.ended; known = known_by_read got is_full now self.old.known } }
     {
         match got {
             Got::Piece(count) => {
                 self.flow.add(count, now);
-                self.was_full = size <= count;
-                self.readiness.may_read = self.was_full | self.readiness.is_hung_up;
+                self.was_full = is_full;
+                self.readiness.may_read = is_full | self.readiness.is_hung_up;
             }
             Got::Nothing => {
                 self.was_full = false;
@@ -352,9 +352,24 @@ impl<T: Transport> Connection<T> {
         }
     }
 
+    /// Returns whether a read of at most `size` bytes came to so many, or its transport has more at once.
+    fn is_full(&self, got: Got, size: usize) -> bool
+        ensures full { (count : ℕ) → got ≡ Got.Piece count → size ≤ count → result ≡ true }
+        ensures some { T.holds_back ≡ false → (count : ℕ) → got ≡ Got.Piece count → result ≡ nat_le size count }
+    {
+        match got {
+            Got::Piece(count) => size <= count || self.transport.transport.has_more(),
+            _ => false,
+        }
+    }
+
     /// Reads once, at the time `now` in milliseconds. At its end, and where the transport failed, it has ended.
+    #[tactic(auto, using(crate::proofs::Turns::full_as_known))]
     pub fn receive(&mut self, buffer: &mut [u8], now: u64) -> Got
-        ensures same { self.new ≡ record self.old { carried = self.new.carried; ended = ended_by_read result self.old.ended; known = known_by_read result (length buffer.new) now self.old.known } }
+        ensures same { self.new ≡ record self.old { carried = self.new.carried; ended = ended_by_read result self.old.ended; known = known_by_read result self.new.known.was_full now self.old.known } }
+        ensures full { (count : ℕ) → result ≡ Got.Piece count → length buffer.new ≤ count → self.new.known.was_full ≡ true }
+        ensures some { T.holds_back ≡ false → (count : ℕ) → result ≡ Got.Piece count →
+            self.new.known.was_full ≡ nat_le (length buffer.new) count }
         ensures moved { Moves self.old.carried self.new.carried (got_bytes result buffer.new) [] }
         ensures within { IsWithin result buffer.new }
         ensures bound { AreReadAtMost (length buffer.new) self.old.carried.unread self.new.carried.unread }
@@ -362,7 +377,8 @@ impl<T: Transport> Connection<T> {
         let size = buffer.len();
         let read = self.transport.transport.receive(buffer);
         let got = got_of(read);
-        self.take_in(got, size, now);
+        let is_full = self.is_full(got, size);
+        self.take_in(got, is_full, now);
         got
     }
 
@@ -452,6 +468,16 @@ impl<T: Transport> Connection<T> {
     {
         let written = self.backlog.write_some(&mut self.transport, buffer);
         self.take_note(written);
+    }
+
+    /// Has its transport write what it has to say of its own, once. A failure ends it.
+    #[tactic(auto, using(crate::proofs::Turns::moves_kept))]
+    pub fn flush(&mut self)
+        ensures same { self.new ≡ record self.old { carried = self.new.carried; ended = self.new.ended; known = record self.old.known { may_write = self.new.known.may_write } } }
+        ensures moved { Moves self.old.carried self.new.carried [] [] }
+    {
+        let flushed = self.transport.flush();
+        self.take_note(flushed_of(flushed));
     }
 
     /// Takes note of what a write came to: that nothing more can be written now, or that it ended.

@@ -65,4 +65,13 @@ impl<T: Transport> Recording<T> {
         self.sent.append(&bytes[..count]);
         Ok(count)
     }
+
+    /// Has the transport write what it has to say of its own, which isn't kept.
+    pub fn flush(&mut self) -> io::Result<()>
+        ensures written { Keeps (T.written self.old.transport) (T.written self.new.transport) }
+        ensures unread { Keeps (T.unread self.old.transport) (T.unread self.new.transport) }
+        ensures sent { self.new.sent.items ≡ self.old.sent.items }
+    {
+        self.transport.flush()
+    }
 }

@@ -1,6 +1,6 @@
 //! What carries a viewer's bytes both ways.
 
-ghost use Rattle.std.specs.Prelude.{ℕ, List, Option, None};
+ghost use Rattle.std.specs.Prelude.{◌≡◌, ℕ, Bool, false, List, Option, None};
 ghost use Rattle.std.specs.Io.{ReadsAtMost, WritesAtMost};
 ghost use Rattle.std.specs.Io.KnownBytes.{ReadConsumes, WriteAppends, Keeps};
 
@@ -15,6 +15,9 @@ pub trait Transport: Drop {
     // The bytes that were written to it, where they are known.
     ghost written: { Self → Option (List ℕ) } = { λ _. None };
 
+    // Whether it may hold back bytes that came, and give them to a further read. A socket gives what there is room for.
+    ghost holds_back: { Bool } = { false };
+
     /// Reads as `Read::read` does, and leaves what was written as it is.
     fn receive(&mut self, room: &mut [u8]) -> io::Result<usize>
         ensures bound { ReadsAtMost result room.new }
@@ -26,6 +29,22 @@ pub trait Transport: Drop {
         ensures bound { WritesAtMost result bytes.now }
         ensures bytes { WriteAppends (written self.old) (written self.new) result bytes.now }
         ensures kept { Keeps (unread self.old) (unread self.new) };
+
+    /// Returns whether a read may give more at once, though the last one didn't fill its room.
+    fn has_more(&self) -> bool
+        ensures { holds_back ≡ false → result ≡ false }
+    {
+        false
+    }
+
+    /// Writes what it has to say of its own, as the answer to a ping (RFC 6455, section 5.5.3), where that cuts nothing of what is sent.
+    #[tactic(auto, using(crate::proofs::Bytes::kept_still))]
+    fn flush(&mut self) -> io::Result<()>
+        ensures unread { Keeps (unread self.old) (unread self.new) }
+        ensures written { Keeps (written self.old) (written self.new) }
+    {
+        Ok(())
+    }
 }
 
 /// A reader and a writer as one transport.

@@ -159,8 +159,26 @@ pub(crate) fn release<A: Application>(
     Ok(())
 }
 
-/// Writes what a viewer was given, and cuts further updates for it, as long as its transport takes bytes, in four writes at most.
+/// Writes what a viewer was given, and cuts further updates for it, as long as its transport takes bytes, in four writes at most. Then its
+/// transport writes what it has to say of its own.
 pub(crate) fn send<T: Transport>(
+    canvas: &mut Canvas,
+    connection: &mut Connection<T>,
+    buffer: &mut Vec<u8>,
+)
+    ensures turn { TakesTurn canvas.old connection.old canvas.new connection.new }
+    ensures asks { connection.new.known.may_ask ≡ true → connection.old.known.may_ask ≡ true }
+    ensures drawn { canvas.new.drawn ≡ canvas.old.drawn }
+    ensures bound { AreWrittenAtMost (4 * 65536) connection.old.carried.written connection.new.carried.written }
+{
+    send_some(canvas, connection, buffer);
+    if connection.may_write() {
+        connection.flush();
+    }
+}
+
+/// Writes what a viewer was given, and cuts further updates for it, as long as its transport takes bytes, in four writes at most.
+fn send_some<T: Transport>(
     canvas: &mut Canvas,
     connection: &mut Connection<T>,
     buffer: &mut Vec<u8>,

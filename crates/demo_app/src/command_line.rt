@@ -10,9 +10,19 @@ ghost use Rattle.demo_app.specs.declared.command_line.Chosen.TheVariants as chos
 use crate::serve::ServeOptions;
 use clap::error::ErrorKind;
 use clap::{Arg, ArgAction, ArgMatches, Command, Error, value_parser};
+use event_loop::LetIn;
 use listed::Listed;
 use replay::{Asked, Question};
 use std::alloc::{AllocError, Global};
+
+/// The port for browsers, and who is let in there.
+#[derive(Drop)]
+pub struct WebPort {
+    /// The port.
+    pub port: u16,
+    /// The hosts and the origins that requests may have, besides this machine's.
+    pub let_in: LetIn,
+}
 
 /// What the program is asked to do.
 #[derive(Drop)]
@@ -26,11 +36,12 @@ pub enum Chosen {
         forever: bool,
         ends_with_input: bool,
     },
-    /// The same, by one thread for all, which may record the session in a new file.
+    /// The same, by one thread for all, which may record the session in a new file, and let browsers in at a port of their own.
     ServeInOneThread {
         port: u16,
         options: ServeOptions,
         record: Option<String>,
+        web: Option<WebPort>,
         forever: bool,
         ends_with_input: bool,
     },
@@ -93,6 +104,10 @@ Ctrl-D; no signal does that.
 What is served, and on which port, stands on standard error at the start. A connection
 too many is told so and closed, and one that takes 10 seconds for its opening is closed.
 
+With --web browsers connect to a port of their own, by WebSockets, as noVNC does. Their
+page is of the same host and port, as by a proxy, or of an --origin; and it names the
+server as 127.0.0.1, localhost or [::1], or as a --host.
+
 With --record all that happens to the screen is written to a new file, as a session:
 pictures, keys, pointers and texts. `vncdemo replay` reads it.
 
@@ -127,6 +142,12 @@ const TOO_MANY: &str = "more than 64 viewers are served by '--one-thread' alone"
 
 /// What is said where threads are to record.
 const NO_THREADS: &str = "a session is recorded with '--one-thread' alone";
+
+/// What is said where threads are to serve browsers.
+const NO_BROWSERS: &str = "browsers are served with '--one-thread' alone";
+
+/// What is said where names are let in at no port.
+const NO_PORT: &str = "'--host' and '--origin' are of browsers, which come by '--web'";
 
 /// What is said where a run without end is to be judged at its end.
 const NO_END: &str = "what '--check' judges at the end, '--forever' doesn't come to";
@@ -228,12 +249,34 @@ fn with_viewers<'a>(alloc: Global, command: Command<'a>) -> Result<Command<'a>, 
         .arg(one_thread_option(alloc))
 }
 
+/// Adds those that say where browsers connect, and who is let in.
+fn with_web<'a>(alloc: Global, command: Command<'a>) -> Result<Command<'a>, AllocError> {
+    let web = option(
+        alloc,
+        "web",
+        "a port for browsers, by WebSockets, with --one-thread",
+    )
+    .value_parser(value_parser!(u16));
+    let host = option(
+        alloc,
+        "host",
+        "names of the server besides this machine's, with commas in between",
+    );
+    let origin = option(
+        alloc,
+        "origin",
+        "origins whose pages are let in besides the server's own, likewise",
+    );
+    command.arg(web)?.arg(host)?.arg(origin)
+}
+
 /// Returns the command `serve`.
 fn serve_command<'a>(alloc: Global) -> Result<Command<'a>, AllocError> {
     let command = Command::new(alloc, "serve")
         .about("shows a screen to viewers over TCP")
         .after_help(SERVE_HELP);
-    with_viewers(alloc, with_screen(alloc, command)?)
+    let command = with_viewers(alloc, with_screen(alloc, command)?)?;
+    with_web(alloc, command)
 }
 
 /// How many viewers threads serve, and one thread, at most.
@@ -273,6 +316,23 @@ fn record_of(alloc: Global, matches: &ArgMatches<'_>) -> Result<Option<String>, 
     }
 }
 
+/// Returns a list of names that an option has, or an empty one.
+fn names_of(alloc: Global, matches: &ArgMatches<'_>, name: &str) -> Result<Listed<u8>, AllocError> {
+    Listed::from_slice(alloc, matches.get_str(name).unwrap_or("").as_bytes())
+}
+
+/// Returns the port at which the options of `serve` let browsers in, or `None` if they name none.
+fn web_of(alloc: Global, matches: &ArgMatches<'_>) -> Result<Option<WebPort>, AllocError> {
+    let Some(port) = matches.get_one::<u16>("web") else {
+        return Ok(None);
+    };
+    let let_in = LetIn {
+        hosts: names_of(alloc, matches, "host")?,
+        origins: names_of(alloc, matches, "origin")?,
+    };
+    Ok(Some(WebPort { port, let_in }))
+}
+
 /// Returns what the options of `serve` choose. clap and `objection` refuse all other numbers of viewers before.
 fn serve_of(alloc: Global, matches: &ArgMatches<'_>) -> Result<Chosen, AllocError>
     ensures { IfOk result HasViewers }
@@ -284,10 +344,12 @@ fn serve_of(alloc: Global, matches: &ArgMatches<'_>) -> Result<Chosen, AllocErro
     if matches.get_flag("one-thread") {
         let options = options_of(alloc, matches, viewers.clamp(1, MOST_BY_ONE))?;
         let record = record_of(alloc, matches)?;
+        let web = web_of(alloc, matches)?;
         return Ok(Chosen::ServeInOneThread {
             port,
             options,
             record,
+            web,
             forever,
             ends_with_input,
         });
@@ -301,6 +363,15 @@ fn serve_of(alloc: Global, matches: &ArgMatches<'_>) -> Result<Chosen, AllocErro
     })
 }
 
+/// Returns what is wrong with those that are of browsers.
+fn objection_to_web(matches: &ArgMatches<'_>) -> Option<&'static str> {
+    if matches.get_one::<u16>("web").is_some() {
+        return (!matches.get_flag("one-thread")).then_some(NO_BROWSERS);
+    }
+    let has_names = matches.get_str("host").is_some() || matches.get_str("origin").is_some();
+    has_names.then_some(NO_PORT)
+}
+
 /// Returns what is wrong with options of `serve` of which each is fine alone, or `None` if they are fine together.
 fn objection(matches: &ArgMatches<'_>) -> Option<&'static str> {
     let by_threads = !matches.get_flag("one-thread");
@@ -310,7 +381,10 @@ fn objection(matches: &ArgMatches<'_>) -> Option<&'static str> {
     if by_threads && matches.get_str("record").is_some() {
         return Some(NO_THREADS);
     }
-    (matches.get_flag("forever") && matches.get_flag("check")).then_some(NO_END)
+    if matches.get_flag("forever") && matches.get_flag("check") {
+        return Some(NO_END);
+    }
+    objection_to_web(matches)
 }
 
 /// Returns what a line that begins with `serve` chooses.

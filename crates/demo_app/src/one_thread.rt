@@ -18,7 +18,9 @@ ghost use Rattle.event_loop.specs.Sockets.{sockets_and, GoesOnServing, GoesOnSer
 
 use crate::endings::{print_ends, print_judgement, sort_receipts, written_out};
 use crate::serve::{Easel, ServeOptions, Stroke, WHITE, config_of, easel_of, print_refusal};
-use event_loop::{Application, Canvas, EventLoop, Limits, LoopError, RecordWriter, WhenFull};
+use event_loop::{
+    Application, Canvas, EventLoop, LetIn, Limits, LoopError, RecordWriter, WhenFull,
+};
 use messages::Input;
 use mio::net::TcpListener;
 use play_script::trouble::{Trouble, report};
@@ -35,11 +37,22 @@ use std::time::{Clock, Duration};
 /// How long a viewer may take for its opening, in seconds.
 const OPENING_SECONDS: u64 = 10;
 
+/// Where browsers connect, and who is let in.
+#[derive(Drop)]
+pub struct Browsers {
+    /// The listener that they come by.
+    pub listener: TcpListener,
+    /// The hosts and the origins that their requests may have, besides this machine's.
+    pub let_in: LetIn,
+}
+
 /// What a server in one thread does besides.
 #[derive(Drop)]
 pub struct OneThread {
     /// Where the session is recorded.
     pub record: Option<RecordWriter>,
+    /// Where browsers are let in.
+    pub browsers: Option<Browsers>,
     /// Whether viewers are taken without end, as many at once as the options say, and a further one is turned away.
     pub forever: bool,
     /// What another thread ends the server by: it is looked at five times a second.
@@ -344,6 +357,39 @@ fn open_loop<R: Net>(
     }
 }
 
+/// Lets browsers in, where they are to be.
+fn let_in(
+    alloc: Global,
+    served: &mut EventLoop,
+    browsers: Option<Browsers>,
+) -> Result<(), LoopError>
+    ensures same { served.new ≡ served.old }
+{
+    match browsers {
+        Some(Browsers { listener, let_in }) => served.listen_web(alloc, listener, let_in),
+        None => Ok(()),
+    }
+}
+
+/// Opens such a loop, and lets browsers in, where they are to be.
+fn open_to_all<R: Net>(
+    rt: &R,
+    alloc: Global,
+    listener: TcpListener,
+    config: Config,
+    limits: Limits,
+    record: Option<RecordWriter>,
+    browsers: Option<Browsers>,
+) -> Result<EventLoop, LoopError>
+    ensures serves { IfOk result (λ served.
+        (held : Option (Option (List ℕ))) × Serves config (sockets_and held config) [] served) }
+    ensures accepted { OnOk result (config_refusal config ≡ None) }
+{
+    let mut served = open_loop(rt, alloc, listener, config, limits, record)?;
+    let_in(alloc, &mut served, browsers)?;
+    Ok(served)
+}
+
 /// Returns the application, which was told nothing yet.
 fn showing_of<S: Options>(
     alloc: Global,
@@ -436,11 +482,13 @@ fn serve<S: Options, W: Write, R: Net + Clock>(
     let asked = config_of(alloc, options)?;
     let OneThread {
         record,
+        browsers,
         forever,
         stop,
     } = besides;
     let limits = limits_of(options, forever);
-    let mut served = match open_loop(rt, alloc, listener, asked, limits, record) {
+    let opened = open_to_all(rt, alloc, listener, asked, limits, record, browsers);
+    let mut served = match opened {
         Ok(served) => served,
         Err(LoopError::Screen(refusal)) => return print_refusal(alloc, writer, refusal),
         Err(error) => return Err(trouble_of(error)),
@@ -460,8 +508,9 @@ fn serve<S: Options, W: Write, R: Net + Clock>(
 
 /// Does what `serve_on` does, with one thread for all viewers. A viewer that has not had its ServerInit after ten seconds is let go, as
 /// `Closed`, and a connection too many is told so and closed at once. With `record` the session is written there; where that ended before
-/// the run, the last line is `record broken` and the status 5. With `forever` no number of viewers ends the server, and no viewer's line is
-/// printed. Once `stop` is called, viewers that are there are let go within a second, as `Gate`.
+/// the run, the last line is `record broken` and the status 5. With `browsers` these are viewers too, over WebSockets. With `forever` no
+/// number of viewers ends the server, and no viewer's line is printed. Once `stop` is called, viewers that are there are let go within a
+/// second, as `Gate`.
 pub fn serve_in_one_thread<W: Write, R: Net + Clock>(
     rt: &R,
     alloc: Global,

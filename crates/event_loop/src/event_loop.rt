@@ -16,9 +16,11 @@ ghost use Rattle.event_loop.specs.Opening.{IsOpenedOr};
 ghost use Rattle.event_loop.specs.Admitting.{IsAdmittedOr};
 ghost use Rattle.event_loop.specs.Parting.{IsLetGo};
 
+use crate::browsers::{Browsers, WAITING};
+use crate::entrance::{Entrance, Noted, shorter};
 use crate::limits::Limits;
 use crate::poller::{Found, Poller, found_in};
-use crate::socket::Socket;
+use crate::socket::Peer;
 use crate::viewers::{Admission, Viewers};
 use connections::{Application, Canvas, Config, Connections, RecordWriter, Screen, ScreenError};
 use mio::Waker;
@@ -26,17 +28,14 @@ use mio::event::Event;
 use mio::net::{TcpListener, TcpStream};
 use std::alloc::{AllocError, Global};
 use std::io;
-use std::io::ErrorKind;
 use std::marker::Model;
 use std::net::{Net, SocketAddr};
 use std::os::fd::{AsRawFd, RawFd};
 use std::time::{Clock, Duration, Instant};
+use web_opening::Admission as LetIn;
 
 /// How many connections are accepted in one turn, at most.
 const ACCEPTED: u32 = 32;
-
-/// After how many milliseconds the listener is asked again where the system had no room for a connection.
-const RETRY: u64 = 100;
 
 /// Why a loop ended.
 #[derive(Clone, Copy, Debug, PartialEq, Eq)]
@@ -64,14 +63,10 @@ impl From<AllocError> for LoopError {
 /// A screen with its viewers' sockets.
 pub struct EventLoop {
     poller: Poller,
-    listener: Option<TcpListener>,
-    viewers: Viewers<Socket<TcpStream>>,
+    entrance: Entrance,
+    viewers: Viewers<Peer>,
     // when the first turn came
     began: Option<Instant>,
-    // a connection may wait at the listener
-    may_accept: bool,
-    // the system had no room for one, and is asked again then
-    retry: Option<Instant>,
     // another thread woke the loop
     is_woken: bool,
     // when the application's time comes, once it was told that it has
@@ -84,11 +79,9 @@ impl Drop for EventLoop {
     fn drop(self) {
         let EventLoop {
             poller: _poller,
-            listener: _listener,
+            entrance: _entrance,
             viewers: _viewers,
             began: _began,
-            may_accept: _may_accept,
-            retry: _retry,
             is_woken: _is_woken,
             has_ticked: _has_ticked,
             next_tick: _next_tick,
@@ -104,23 +97,18 @@ impl Model for EventLoop {
     ghost view = { λ a. a.viewers.connections };
 }
 
-/// What was found at a wait, besides sockets of viewers.
-#[derive(Clone, Copy)]
-struct Noted {
-    may_accept: bool,
-    is_woken: bool,
-}
-
 /// Records one event of the poller.
 fn note(
     event: &Event,
-    connections: &mut Connections<Socket<TcpStream>>,
+    connections: &mut Connections<Peer>,
     noted: &mut Noted,
 ) -> Result<(), AllocError>
     ensures served { GoesOnServing connections.old connections.new }
 {
     match found_in(event) {
-        Found::Listener => noted.may_accept = true,
+        Found::Listener => noted.has_viewer = true,
+        Found::WebListener => noted.has_browser = true,
+        Found::Request => noted.has_request = true,
         Found::Woken => noted.is_woken = true,
         Found::Connection(key, readiness) => return connections.note(key, readiness),
     }
@@ -128,29 +116,14 @@ fn note(
 }
 
 /// Records what the poller found.
-fn note_found(
-    poller: &Poller,
-    connections: &mut Connections<Socket<TcpStream>>,
-) -> Result<Noted, AllocError>
+fn note_found(poller: &Poller, connections: &mut Connections<Peer>) -> Result<Noted, AllocError>
     ensures served { GoesOnServing connections.old connections.new }
 {
-    let mut noted = Noted {
-        may_accept: false,
-        is_woken: false,
-    };
+    let mut noted = Noted::nothing();
     for event in poller.events() {
         note(event, connections, &mut noted)?;
     }
     Ok(noted)
-}
-
-/// Returns the shorter of two times, where each may be without end.
-fn shorter(one: Option<Duration>, other: Option<Duration>) -> Option<Duration> {
-    match (one, other) {
-        (Some(one), Some(other)) => Some(one.min(other)),
-        (Some(one), None) => Some(one),
-        (None, other) => other,
-    }
 }
 
 /// Returns a poller, which reports what waits at a listener, where there is one.
@@ -170,6 +143,11 @@ fn poller_of<R: Net>(
         return Err(LoopError::Network);
     }
     Ok(poller)
+}
+
+/// Takes leave of a peer, and closes its connection.
+fn take_leave(mut peer: Peer) {
+    peer.take_leave();
 }
 
 /// Returns the clock's time.
@@ -239,7 +217,7 @@ impl EventLoop {
         rt: &R,
         alloc: Global,
         mut listener: Option<TcpListener>,
-        connections: Connections<Socket<TcpStream>>,
+        connections: Connections<Peer>,
         limits: Limits,
     ) -> Result<EventLoop, LoopError>
         ensures opened { IsOpenedOr result }
@@ -248,15 +226,35 @@ impl EventLoop {
         let poller = poller_of(rt, alloc, &mut listener)?;
         Ok(EventLoop {
             poller,
-            may_accept: listener.is_some(),
-            listener,
+            entrance: Entrance::new(listener),
             viewers: Viewers::new(alloc, connections, limits),
             began: None,
-            retry: None,
             is_woken: false,
             has_ticked: false,
             next_tick: None,
         })
+    }
+
+    /// Lets browsers in from now on that come by a listener of their own and are viewers over WebSockets (RFC 6455), with the same limits.
+    /// `let_in` names the hosts and the origins that their requests may have besides this machine's. At most 64 requests wait to be answered,
+    /// each as long as an opening may take: a further one takes the place of the one that has waited longest. None of them is a viewer
+    /// before it is accepted. A listener takes the place of an earlier one; `Network` where the poller is refused.
+    pub fn listen_web(
+        &mut self,
+        alloc: Global,
+        mut listener: TcpListener,
+        let_in: LetIn,
+    ) -> Result<(), LoopError>
+        ensures same { self.new ≡ self.old }
+        ensures refused { IfErr result (λ e. e ≡ error.Network) }
+    {
+        if self.poller.add_web_listener(&mut listener).is_err() {
+            return Err(LoopError::Network);
+        }
+        let patience = self.viewers.opening_time();
+        self.entrance
+            .open(Browsers::new(alloc, listener, let_in, patience));
+        Ok(())
     }
 
     /// Returns the screen, to be looked at.
@@ -352,7 +350,7 @@ impl EventLoop {
         ensures admitted { IfOk result (IsAdmittedOr self.old self.new) }
     {
         let now = now_by(clock)?;
-        self.admit(now, stream, application)
+        self.admit(now, Peer::plain(stream), application)
     }
 
     /// Returns how long a turn without a timeout would wait now, where no socket becomes ready; None without end. A program with a loop of
@@ -438,7 +436,7 @@ impl EventLoop {
 
     /// Returns whether a connection that waits is accepted, be it to be turned away.
     fn accepts(&self) -> bool {
-        self.may_accept && self.viewers.accepts_next()
+        self.entrance.may_accept() && self.viewers.accepts_next()
     }
 
     /// Returns how long a turn may wait.
@@ -449,7 +447,7 @@ impl EventLoop {
         let until = |then: Instant| then.duration_since(now);
         let mut wait = shorter(timeout, self.viewers.newcomers.next_after(now));
         wait = shorter(wait, self.next_tick.map(until));
-        wait = shorter(wait, self.retry.map(until));
+        wait = shorter(wait, self.entrance.next_after(now));
         shorter(
             wait,
             self.viewers.connections.is_busy().then_some(Duration::ZERO),
@@ -466,7 +464,7 @@ impl EventLoop {
             return Err(LoopError::Network);
         }
         let noted = note_found(&self.poller, &mut self.viewers.connections)?;
-        self.may_accept |= noted.may_accept;
+        self.entrance.note(noted);
         self.is_woken = noted.is_woken;
         now_by(clock)
     }
@@ -484,7 +482,7 @@ impl EventLoop {
         self.tick(now, application)
     }
 
-    /// Accepts connections that wait, and lets viewers go that took too long for their opening.
+    /// Accepts connections that wait, answers browsers' requests, and lets viewers go that took too long for their opening.
     fn come_and_go<A: Application>(
         &mut self,
         now: Instant,
@@ -495,6 +493,7 @@ impl EventLoop {
     {
         self.retry(now);
         self.accept_some(now, application)?;
+        self.answer_some(now, application)?;
         self.viewers.let_go(now)?;
         Ok(())
     }
@@ -530,14 +529,12 @@ impl EventLoop {
         Ok(())
     }
 
-    /// Asks the listener again, where the time for this has come.
+    /// Asks the listeners again, where the time for this has come, and lets browsers go whose requests took too long.
     fn retry(&mut self, now: Instant)
         ensures same { self.new ≡ self.old }
     {
-        if self.retry.is_some_and(|then| then <= now) {
-            self.retry = None;
-            self.may_accept = true;
-        }
+        self.entrance.retry(now);
+        self.entrance.let_go(now);
     }
 
     /// Tells the application that its time has come, where it has.
@@ -554,7 +551,7 @@ impl EventLoop {
         Ok(())
     }
 
-    /// Accepts connections that wait, 32 at most.
+    /// Accepts connections that wait, 32 at most of each kind.
     fn accept_some<A: Application>(
         &mut self,
         now: Instant,
@@ -572,53 +569,81 @@ impl EventLoop {
         Ok(())
     }
 
-    /// Accepts a connection, if one waits, and takes it in.
+    /// Accepts a connection of each kind, if one waits, and takes a viewer's in.
     fn accept<A: Application>(&mut self, now: Instant, application: &mut A) -> Result<(), LoopError>
         ensures served { GoesOnServing self.old self.new }
         ensures stands { Stays A.stands application.old application.new }
     {
+        self.accept_browser(now);
         if let Some(stream) = self.next_stream(now) {
-            self.admit(now, stream, application)?;
+            self.admit(now, Peer::plain(stream), application)?;
         }
         Ok(())
     }
 
-    /// Returns a connection that waited at the listener. None where none waits, and where the system has no room for one: then it is asked
-    /// again a little later.
+    /// Accepts a browser's connection, if one waits, and reads its request from now on.
+    fn accept_browser(&mut self, now: Instant)
+        ensures same { self.new ≡ self.old }
+    {
+        self.entrance.accept_browser(&self.poller, now);
+    }
+
+    /// Returns a connection that waited at the listener for viewers. None where none waits, and where the system has no room for one: then
+    /// it is asked again a little later.
     fn next_stream(&mut self, now: Instant) -> Option<TcpStream>
         ensures same { self.new ≡ self.old }
     {
-        let Some(listener) = &self.listener else {
-            self.may_accept = false;
-            return None;
-        };
-        match listener.accept() {
-            Ok((stream, _address)) => return Some(stream),
-            Err(e) => match e.kind() {
-                ErrorKind::ConnectionAborted | ErrorKind::Interrupted => {}
-                ErrorKind::WouldBlock => self.may_accept = false,
-                _ => {
-                    self.may_accept = false;
-                    self.retry = now.checked_add(Duration::from_millis(RETRY));
-                }
-            },
+        self.entrance.next_stream(now)
+    }
+
+    /// Goes on with each request of which more may have come, and takes those in that are accepted.
+    fn answer_some<A: Application>(
+        &mut self,
+        now: Instant,
+        application: &mut A,
+    ) -> Result<(), LoopError>
+        ensures served { GoesOnServing self.old self.new }
+        ensures stands { Stays A.stands application.old application.new }
+    {
+        for _ in 0..WAITING {
+            if !self.entrance.is_due() {
+                return Ok(());
+            }
+            self.answer(now, application)?;
         }
-        None
+        Ok(())
+    }
+
+    /// Goes on with one of them, and takes it in once it is accepted.
+    fn answer<A: Application>(&mut self, now: Instant, application: &mut A) -> Result<(), LoopError>
+        ensures served { GoesOnServing self.old self.new }
+        ensures stands { Stays A.stands application.old application.new }
+    {
+        if let Some(peer) = self.next_accepted() {
+            self.admit(now, peer, application)?;
+        }
+        Ok(())
+    }
+
+    /// Goes on with one of them, and returns its socket once it is accepted.
+    fn next_accepted(&mut self) -> Option<Peer>
+        ensures same { self.new ≡ self.old }
+    {
+        self.entrance.go_on(&self.poller)
     }
 
     /// Takes in a connection that came, or turns it away where there is no room for it, as `Viewers::admit` does.
     fn admit<A: Application>(
         &mut self,
         now: Instant,
-        stream: TcpStream,
+        peer: Peer,
         application: &mut A,
     ) -> Result<Admission, LoopError>
         ensures served { GoesOnServing self.old self.new }
         ensures stands { Stays A.stands application.old application.new }
         ensures admitted { IfOk result (IsAdmittedOr self.old self.new) }
     {
-        let socket = Socket::new(stream);
-        let admission = self.viewers.admit(&self.poller, now, socket, application)?;
+        let admission = self.viewers.admit(&self.poller, now, peer, application)?;
         Ok(admission)
     }
 
@@ -641,7 +666,8 @@ impl EventLoop {
         let Some(departed) = self.viewers.connections.take_departed() else {
             return Ok(false);
         };
-        self.may_accept = true;
+        self.entrance.note_left();
+        take_leave(departed.transport);
         self.viewers
             .connections
             .tell_left(departed.held, departed.receipt, application)?;

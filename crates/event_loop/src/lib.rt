@@ -11,16 +11,20 @@
 //! ```
 //!
 //! A loop without a listener is made by `EventLoop::unbound`, and any loop takes in connections that the program has by
-//! `EventLoop::adopt`.
+//! `EventLoop::adopt`. `EventLoop::listen_web` lets browsers in by a listener of their own, over WebSockets (RFC 6455).
 //!
 //! What a viewer is sent is what its stream is written, whatever stream that is, and nothing else; no clause says what a socket delivers,
 //! or when: tests over loopback show it.
 #![tactic(auto)]
 
+mod browsers;
+mod door;
+mod entrance;
 mod event_loop;
 mod limits;
 mod opening;
 mod poller;
+mod request;
 mod socket;
 mod viewers;
 
@@ -32,3 +36,4 @@ pub use event_loop::{EventLoop, LoopError};
 pub use limits::{Limits, WhenFull};
 pub use mio::Waker;
 pub use viewers::Admission;
+pub use web_opening::Admission as LetIn;

@@ -14,11 +14,17 @@ use std::time::Duration;
 /// How many sockets are reported at once, at most.
 const EVENTS: usize = 256;
 
-/// The listener's token. Connections have keys of a slab, which are smaller.
+/// The token of the listener for viewers. Connections have keys of a slab, which are smaller.
 const LISTENER: Token = Token(usize::MAX);
 
 /// The token of what other threads wake.
 const WAKER: Token = Token(usize::MAX - 1);
+
+/// The token of the listener for browsers.
+const WEB_LISTENER: Token = Token(usize::MAX - 2);
+
+/// The token of all connections whose requests are not answered.
+const REQUEST: Token = Token(usize::MAX - 3);
 
 /// Waits until sockets are ready. Each is reported once when it becomes so, and not again before it was found unready.
 #[derive(Drop)]
@@ -32,6 +38,10 @@ pub(crate) struct Poller {
 pub(crate) enum Found {
     /// A connection waits.
     Listener,
+    /// A browser's connection waits.
+    WebListener,
+    /// More came of a request.
+    Request,
     /// Another thread woke the loop.
     Woken,
     /// The connection with this key is ready.
@@ -52,6 +62,27 @@ impl Poller {
         self.poll
             .registry()
             .register(listener, LISTENER, Interest::READABLE)
+    }
+
+    /// Reports from now on that a connection waits at the listener for browsers.
+    pub fn add_web_listener(&self, listener: &mut TcpListener) -> io::Result<()> {
+        self.poll
+            .registry()
+            .register(listener, WEB_LISTENER, Interest::READABLE)
+    }
+
+    /// Reports from now on that more came of a request.
+    pub fn add_request(&self, socket: &impl AsRawFd) -> io::Result<()> {
+        let descriptor = socket.as_raw_fd();
+        self.poll
+            .registry()
+            .register(&mut SourceFd(&descriptor), REQUEST, Interest::READABLE)
+    }
+
+    /// Reports nothing of a socket from now on.
+    pub fn remove(&self, socket: &impl AsRawFd) -> io::Result<()> {
+        let descriptor = socket.as_raw_fd();
+        self.poll.registry().deregister(&mut SourceFd(&descriptor))
     }
 
     /// Reports from now on what the socket of the connection with a key is ready for. It is looked at alone: what it holds stays.
@@ -91,6 +122,12 @@ pub(crate) fn found_in(event: &Event) -> Found {
     }
     if event.token() == WAKER {
         return Found::Woken;
+    }
+    if event.token() == WEB_LISTENER {
+        return Found::WebListener;
+    }
+    if event.token() == REQUEST {
+        return Found::Request;
     }
     let is_hung_up = event.is_read_closed() || event.is_error();
     Found::Connection(

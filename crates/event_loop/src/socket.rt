@@ -1,18 +1,46 @@
 //! A viewer's socket.
 
-ghost use Rattle.std.specs.Prelude.{◌≡◌};
+ghost use Rattle.std.specs.Prelude.{◌≡◌, Bool, true, false};
 ghost use Rattle.std.specs.Io.{ReadsAtMost, WritesAtMost};
-ghost use Rattle.std.specs.Io.KnownBytes.{ReadConsumes, WriteAppends};
+ghost use Rattle.std.specs.Io.KnownBytes.{ReadConsumes, WriteAppends, Keeps};
 ghost use Rattle.turned_away.specs.Refusal.{refusal, reason};
 
 use connections::Transport;
 use keepalive::keep_alive;
 use mio::net::TcpStream;
+use std::alloc::Global;
 use std::io;
 use std::io::{Read, Write};
 use std::net::SocketAddr;
 use std::os::fd::{AsRawFd, RawFd};
 use turned_away::refusal;
+use web_stream::WebStream;
+
+/// The code of the close that the server sends: what the connection was for is done (RFC 6455, section 7.4.1).
+const DONE: u16 = 1000;
+
+/// What may hold back bytes that came.
+pub(crate) trait MayHoldBack {
+    // Whether it may.
+    ghost holds_back: { Bool } = { false };
+
+    /// Returns whether a read may give more at once, though the last one didn't fill its room.
+    fn may_give_more(&self) -> bool
+        ensures { holds_back ≡ false → result ≡ false }
+    {
+        false
+    }
+}
+
+impl MayHoldBack for TcpStream {}
+
+impl<S> MayHoldBack for WebStream<S> {
+    ghost holds_back = { true };
+
+    fn may_give_more(&self) -> bool {
+        self.has_more()
+    }
+}
 
 /// A stream as a viewer's transport.
 ///
@@ -33,14 +61,17 @@ impl<S> Socket<S> {
     }
 }
 
-impl Socket<TcpStream> {
-    /// Returns the address and the port at its other end.
-    pub(crate) fn address(&self) -> io::Result<SocketAddr> {
-        self.stream.peer_addr()
+impl<S: Write> Socket<WebStream<S>> {
+    /// Writes the close that waits, or one of the server's own, unless an update would be cut by it.
+    fn take_leave(&mut self) {
+        self.stream.close(DONE);
+        let _written = self.stream.flush();
     }
 }
 
-impl<S: Read + Write + Drop> Transport for Socket<S> {
+impl<S: Read + Write + MayHoldBack + Drop> Transport for Socket<S> {
+    ghost holds_back = { S.holds_back };
+
     fn receive(&mut self, room: &mut [u8]) -> io::Result<usize>
         ensures bound { ReadsAtMost result room.new }
         ensures read { ReadConsumes (S.remaining self.old.stream) (S.remaining self.new.stream) result room.new }
@@ -53,6 +84,16 @@ impl<S: Read + Write + Drop> Transport for Socket<S> {
         ensures written { WriteAppends (S.contents self.old.stream) (S.contents self.new.stream) result bytes.now }
     {
         self.stream.write(bytes)
+    }
+
+    fn has_more(&self) -> bool {
+        self.stream.may_give_more()
+    }
+
+    fn flush(&mut self) -> io::Result<()>
+        ensures written { Keeps (S.contents self.old.stream) (S.contents self.new.stream) }
+    {
+        self.stream.flush()
     }
 }
 
@@ -74,9 +115,106 @@ impl SendsAtOnce for TcpStream {
     }
 }
 
+impl<S: SendsAtOnce> SendsAtOnce for WebStream<S> {
+    fn send_at_once(&self) -> io::Result<()> {
+        self.get_ref().send_at_once()
+    }
+}
+
 impl<S: SendsAtOnce> SendsAtOnce for Socket<S> {
     fn send_at_once(&self) -> io::Result<()> {
         self.stream.send_at_once()
+    }
+}
+
+/// A viewer's socket, over TCP or, for a browser, as a WebSocket on it (RFC 6455).
+#[derive(Drop)]
+pub enum Peer {
+    /// TCP.
+    Plain(Socket<TcpStream>),
+    /// A WebSocket, whose state of half a kilobyte is kept apart.
+    Browser(Box<Socket<WebStream<TcpStream>>>),
+}
+
+impl Peer {
+    /// Returns that of a connection, with which nothing was done.
+    pub(crate) fn plain(stream: TcpStream) -> Peer {
+        Peer::Plain(Socket::new(stream))
+    }
+
+    /// Returns that of a browser whose request was answered by so many bytes. None where memory is refused.
+    pub(crate) fn browser(alloc: Global, stream: TcpStream, answered: usize) -> Option<Peer> {
+        let socket = Socket::new(WebStream::new(stream, answered));
+        match Box::new(alloc, socket) {
+            Ok(socket) => Some(Peer::Browser(socket)),
+            Err(_) => None,
+        }
+    }
+
+    /// Returns the address and the port at its other end.
+    pub(crate) fn address(&self) -> io::Result<SocketAddr> {
+        match self {
+            Peer::Plain(socket) => socket.stream.peer_addr(),
+            Peer::Browser(socket) => socket.stream.get_ref().peer_addr(),
+        }
+    }
+
+    /// Takes leave of it, before it is closed: a browser is sent a close, or the answer to its own, unless an update would be cut by it.
+    pub(crate) fn take_leave(&mut self) {
+        match self {
+            Peer::Plain(_) => {}
+            Peer::Browser(socket) => socket.take_leave(),
+        }
+    }
+}
+
+impl Transport for Peer {
+    ghost holds_back = { true };
+
+    fn receive(&mut self, room: &mut [u8]) -> io::Result<usize> {
+        match self {
+            Peer::Plain(socket) => socket.receive(room),
+            Peer::Browser(socket) => socket.receive(room),
+        }
+    }
+
+    fn send(&mut self, bytes: &[u8]) -> io::Result<usize> {
+        match self {
+            Peer::Plain(socket) => socket.send(bytes),
+            Peer::Browser(socket) => socket.send(bytes),
+        }
+    }
+
+    fn has_more(&self) -> bool {
+        match self {
+            Peer::Plain(socket) => socket.has_more(),
+            Peer::Browser(socket) => socket.has_more(),
+        }
+    }
+
+    fn flush(&mut self) -> io::Result<()> {
+        match self {
+            Peer::Plain(socket) => socket.flush(),
+            Peer::Browser(socket) => socket.flush(),
+        }
+    }
+}
+
+impl AsRawFd for Peer {
+    fn as_raw_fd(&self) -> RawFd {
+        match self {
+            Peer::Plain(socket) => socket.as_raw_fd(),
+            Peer::Browser(socket) => socket.as_raw_fd(),
+        }
+    }
+}
+
+impl SendsAtOnce for Peer {
+    fn send_at_once(&self) -> io::Result<()> {
+        match self {
+            Peer::Plain(socket) => socket.send_at_once(),
+            Peer::Browser(socket) => socket.send_at_once(),
+        }
     }
 }
 

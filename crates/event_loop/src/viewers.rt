@@ -20,7 +20,7 @@ use crate::socket::{SendsAtOnce, set_up, turn_away};
 use connections::{Application, Connections, ScreenError, Transport};
 use std::alloc::{AllocError, Global};
 use std::os::fd::AsRawFd;
-use std::time::Instant;
+use std::time::{Duration, Instant};
 
 /// What becomes of a connection that came.
 #[derive(Clone, Copy)]
@@ -69,6 +69,13 @@ impl<T: Transport> Viewers<T> {
             limits,
             came: 0,
         }
+    }
+
+    /// Returns how long a viewer may take for its opening.
+    pub fn opening_time(&self) -> Duration
+        ensures { result ≡ self.now.limits.opening_time }
+    {
+        self.limits.opening_time
     }
 
     /// Returns whether all viewers that are served have come.

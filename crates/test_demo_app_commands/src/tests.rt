@@ -1,3 +1,4 @@
+mod browsers;
 mod clients;
 mod lines;
 mod own;

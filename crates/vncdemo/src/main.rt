@@ -4,8 +4,9 @@
 
 use clap::error::ErrorKind;
 use demo_app::{
-    Asked, ByThreads, Chosen, OneThread, RecordWriter, ServeOptions, Stop, is_refused, line_of,
-    play_over, replay_over, self_in_one_thread, self_on, serve_by_threads, serve_in_one_thread,
+    Asked, Browsers, ByThreads, Chosen, OneThread, RecordWriter, ServeOptions, Stop, WebPort,
+    is_refused, line_of, play_over, replay_over, self_in_one_thread, self_on, serve_by_threads,
+    serve_in_one_thread,
 };
 use std::alloc::Global;
 use std::fs::{File, OpenOptions};
@@ -32,9 +33,17 @@ fn out_of_memory<R: Runtime>(rt: &R) -> ExitCode {
     }
 }
 
+/// A port of 127.0.0.1 that can't be had.
+#[derive(Drop)]
+struct NoPort {
+    port: u16,
+    error: io::Error,
+}
+
 /// Says why a port can't be had.
-fn no_port<R: Runtime>(rt: &R, port: u16, error: &io::Error) -> ExitCode {
-    let why = match error.kind() {
+fn no_port<R: Runtime>(rt: &R, why: &NoPort) -> ExitCode {
+    let port = why.port;
+    let why = match why.error.kind() {
         io::ErrorKind::AddrInUse => "is in use",
         io::ErrorKind::PermissionDenied => "is not for this user",
         _ => "can't be had",
@@ -54,6 +63,27 @@ fn say_where<R: Runtime>(rt: &R, options: &ServeOptions, address: io::Result<Soc
         // Where this can't be printed, viewers are served all the same.
         let _ = eprintln!(rt;
             "{} by {} is served on {address}",
+            options.width, options.height
+        );
+    }
+}
+
+/// Says the same, and where browsers are let in.
+fn say_both<R: Runtime>(
+    rt: &R,
+    options: &ServeOptions,
+    address: io::Result<SocketAddr>,
+    browsers: &Browsers,
+) {
+    if is_refused(options) {
+        return;
+    }
+    if let Ok(address) = address
+        && let Ok(web) = browsers.listener.local_addr()
+    {
+        // Where this can't be printed, viewers are served all the same.
+        let _ = eprintln!(rt;
+            "{} by {} is served on {address}, and to browsers on {web}",
             options.width, options.height
         );
     }
@@ -193,6 +223,24 @@ fn serve_with_threads<
     Ok(serve_by_threads(rt, alloc, &listener, options, &besides, writer))
 }
 
+/// Listens on a port of 127.0.0.1, for one thread.
+fn listen<R: Net>(rt: &R, port: u16) -> Result<mio::net::TcpListener, NoPort> {
+    let address = SocketAddr::from((Ipv4Addr::LOCALHOST, port));
+    match mio::net::TcpListener::bind(rt, address) {
+        Ok(listener) => Ok(listener),
+        Err(error) => Err(NoPort { port, error }),
+    }
+}
+
+/// Listens on the port for browsers, where there is one.
+fn listen_web<R: Net>(rt: &R, web: Option<WebPort>) -> Result<Option<Browsers>, NoPort> {
+    let Some(WebPort { port, let_in }) = web else {
+        return Ok(None);
+    };
+    let listener = listen(rt, port)?;
+    Ok(Some(Browsers { listener, let_in }))
+}
+
 /// Serves them by one thread for all.
 fn serve_with_one<W: Write, R: Runtime + Threads + Net + Files<File = File>>(
     rt: &R,
@@ -201,20 +249,30 @@ fn serve_with_one<W: Write, R: Runtime + Threads + Net + Files<File = File>>(
     options: &ServeOptions,
     besides: Besides<'_>,
     writer: &mut W,
-) -> io::Result<u8> {
-    let address = SocketAddr::from((Ipv4Addr::LOCALHOST, port));
-    let listener = mio::net::TcpListener::bind(rt, address)?;
-    let stop = match stop_if(rt, alloc, besides.ends_with_input) {
+) -> Result<u8, NoPort> {
+    let Besides {
+        record,
+        web,
+        forever,
+        ends_with_input,
+    } = besides;
+    let listener = listen(rt, port)?;
+    let browsers = listen_web(rt, web)?;
+    let stop = match stop_if(rt, alloc, ends_with_input) {
         Ok(stop) => stop,
         Err(why) => return Ok(not_served(writer, why)),
     };
-    let Ok(record) = record_in(rt, options, besides.record) else {
+    let Ok(record) = record_in(rt, options, record) else {
         return Ok(not_served(writer, NO_RECORD));
     };
-    say_where(rt, options, listener.local_addr());
+    match &browsers {
+        Some(browsers) => say_both(rt, options, listener.local_addr(), browsers),
+        None => say_where(rt, options, listener.local_addr()),
+    }
     let besides = OneThread {
         record,
-        forever: besides.forever,
+        browsers,
+        forever,
         stop,
     };
     Ok(serve_in_one_thread(rt, alloc, listener, options, besides, writer))
@@ -227,10 +285,12 @@ enum Way {
     OneThread,
 }
 
-/// In which file one thread records the session, whether viewers are taken without end, and whether the server ends with standard input.
-#[derive(Clone, Copy)]
+/// In which file one thread records the session, where it lets browsers in, whether viewers are taken without end, and whether the server
+/// ends with standard input.
+#[derive(Drop)]
 struct Besides<'a> {
     record: Option<&'a str>,
+    web: Option<WebPort>,
     forever: bool,
     ends_with_input: bool,
 }
@@ -254,14 +314,19 @@ fn serve<
         return out_of_memory(rt);
     };
     let served = match way {
-        Way::Threads => serve_with_threads(rt, alloc, port, options, besides, &mut writer),
+        Way::Threads => {
+            match serve_with_threads(rt, alloc, port, options, besides, &mut writer) {
+                Ok(status) => Ok(status),
+                Err(error) => Err(NoPort { port, error }),
+            }
+        }
         Way::OneThread => serve_with_one(rt, alloc, port, options, besides, &mut writer),
     };
     // After a write fault nothing more is written: what the buffer holds is let go.
     let _ = writer.into_parts();
     match served {
         Ok(status) => ExitCode::from(status),
-        Err(error) => no_port(rt, port, &error),
+        Err(why) => no_port(rt, &why),
     }
 }
 
@@ -320,6 +385,7 @@ fn main(rt: HostRuntime) -> ExitCode {
         ) => {
             let besides = Besides {
                 record: None,
+                web: None,
                 forever,
                 ends_with_input,
             };
@@ -330,12 +396,14 @@ fn main(rt: HostRuntime) -> ExitCode {
                 port,
                 options,
                 record,
+                web,
                 forever,
                 ends_with_input,
             },
         ) => {
             let besides = Besides {
                 record: record.as_deref(),
+                web,
                 forever,
                 ends_with_input,
             };

@@ -72,7 +72,7 @@ fn talk_in_turn<R: Net<Listener = TcpListener, Stream = TcpStream>>(
 }
 
 /// Makes `count` connections.
-fn connect<R: Net<Listener = TcpListener, Stream = TcpStream>>(
+pub fn connect<R: Net<Listener = TcpListener, Stream = TcpStream>>(
     rt: &R,
     address: SocketAddr,
     count: usize,

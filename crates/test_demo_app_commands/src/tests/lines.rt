@@ -1,6 +1,6 @@
 // What command lines choose, and what is printed where they choose nothing.
 
-use demo_app::{Chosen, ServeOptions, line_of};
+use demo_app::{Chosen, ServeOptions, WebPort, line_of};
 use std::alloc::{AllocError, Global};
 use std::test::Fail;
 
@@ -52,6 +52,16 @@ fn command_of(by_one: bool, forever: bool, ends_with_input: bool) -> &'static st
     }
 }
 
+// A text, and where browsers are let in behind it.
+fn with_web(alloc: Global, text: String, web: &Option<WebPort>) -> Result<String, AllocError> {
+    let Some(WebPort { port, let_in }) = web else {
+        return Ok(text);
+    };
+    let hosts = str::from_utf8(let_in.hosts.as_slice()).unwrap_or("no text");
+    let origins = str::from_utf8(let_in.origins.as_slice()).unwrap_or("no text");
+    format!(in alloc; "{text}, browsers on {port} by '{hosts}' of '{origins}'")
+}
+
 // What is chosen, as a text.
 fn text_of(alloc: Global, chosen: &Chosen) -> Result<String, AllocError> {
     match chosen {
@@ -71,11 +81,13 @@ fn text_of(alloc: Global, chosen: &Chosen) -> Result<String, AllocError> {
             port,
             options,
             record,
+            web,
             forever,
             ends_with_input,
         } => {
             let command = command_of(true, *forever, *ends_with_input);
             let text = text_of_serve(alloc, command, *port, options)?;
+            let text = with_web(alloc, text, web)?;
             match record {
                 Some(file) => format!(in alloc; "{text}, recorded in {file}"),
                 None => Ok(text),
@@ -154,7 +166,7 @@ const OTHER_COMMANDS: &[&str] = &[
 
 const VIEWERS_OF_SELF: &str = " how many viewers there are, 1 to 8 [default: 2]\n";
 
-static LINES: [(&str, Outcome); 48] = [
+static LINES: [(&str, Outcome); 53] = [
     ("vncdemo play", Is("play")),
     ("vncdemo", REFUSED),
     ("vncdemo --help", Has("refused: ", OTHER_COMMANDS)),
@@ -214,6 +226,34 @@ static LINES: [(&str, Outcome); 48] = [
         ),
     ),
     ("vncdemo serve --one-thread --record", REFUSED),
+    // browsers
+    (
+        "vncdemo serve --one-thread --web 5800",
+        Is(
+            "serve in one thread 5900, 640 by 480, demo, 50, 1, check: false, browsers on 5800 by '' of ''",
+        ),
+    ),
+    (
+        "vncdemo serve --one-thread --web 0 --host desk.example:5800 --origin https://desk.example,null",
+        Is(
+            "serve in one thread 5900, 640 by 480, demo, 50, 1, check: false, browsers on 0 by 'desk.example:5800' of 'https://desk.example,null'",
+        ),
+    ),
+    (
+        "vncdemo serve --web 5800",
+        Has(
+            "refused: ",
+            &["browsers are served with '--one-thread' alone"],
+        ),
+    ),
+    (
+        "vncdemo serve --one-thread --origin http://desk.example",
+        Has(
+            "refused: ",
+            &["'--host' and '--origin' are of browsers, which come by '--web'"],
+        ),
+    ),
+    ("vncdemo serve --one-thread --web 65536", REFUSED),
     // without end
     (
         "vncdemo serve --one-thread --forever --viewers 9",

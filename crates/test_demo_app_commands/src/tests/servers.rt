@@ -100,6 +100,7 @@ fn comes_out_of_one_thread<
     let mut out = Vec::new(alloc);
     let besides = OneThread {
         record,
+        browsers: None,
         forever: false,
         stop: None,
     };

@@ -1,4 +1,4 @@
-use Rattle.std.proofs.Common.{◌≡◌, None, Ok, length, refl, rules}
+use Rattle.std.proofs.Common.{◌≡◌, None, Ok, refl, rules}
 use Rattle.screen.specs.declared.ScreenError.{ScreenError}
 use Rattle.connections.specs.Attending.{Known}
 use Rattle.connections.specs.Reasons.{known_by_read}
@@ -9,7 +9,7 @@ use Rattle.connections.proofs.turn.listen.Goals as goal
 pub returns-in-Piece-clause-turn : goal.returns-in-Piece-clause-turn
 returns-in-Piece-clause-turn g c =
     let live : c.args.connection.now.ended ≡ None = search rules in
-    let known : Known = known_by_read (Piece c.in-Piece.count) (length c.receive.new.buffer) c.args.now c.args.connection.now.known in
+    let known : Known = known_by_read (Piece c.in-Piece.count) c.receive.new.self.known.was_full c.args.now c.args.connection.now.known in
     λ config list began v said since t.
     c.hear.ensures.heard config list began v said since
     (turn-read config list began v said since c.args.canvas.now c.args.connection.now c.receive.new.self known _ live c.in-Piece.ensures.same refl refl c.in-Piece.ensures.moved (search rules) t)
@@ -21,4 +21,4 @@ pub returns-in_default-clause-turn : goal.returns-in_default-clause-turn
 returns-in_default-clause-turn g c =
     let live : c.args.connection.now.ended ≡ None = search rules in
     turn-silently {X = Unit {0}} {E = ScreenError} g.A.Application.stands _ (Ok tt) _ _ _ _
-    (turn-missed c.args.canvas.now c.args.connection.now c.receive.new.self c.receive.result (length c.receive.new.buffer) c.args.now c.receive.new.buffer c.in_default.not-Piece live c.receive.ensures.same c.receive.ensures.moved)
+    (turn-missed c.args.canvas.now c.args.connection.now c.receive.new.self c.receive.result c.receive.new.self.known.was_full c.args.now c.receive.new.buffer c.in_default.not-Piece live c.receive.ensures.same c.receive.ensures.moved)

@@ -1,19 +1,20 @@
-use Rattle.std.proofs.Common.{refl, sym, ap, ◌∙◌, rules, arith}
+use Rattle.std.proofs.Common.{◌≡◌, ◌*◌, [], false, refl, sym, ap, ◌∙◌, rules, arith}
 use Rattle.connections.specs.Attending.{Known}
-use Rattle.connections.specs.Serving.{ViewerConnection}
-use Rattle.connections.proofs.Turns.{turn-then, turn-written}
-use Rattle.connections.proofs.Bounds.{one-write}
+use Rattle.connections.specs.Serving.{ViewerConnection, breaks_off}
+use Rattle.connections.proofs.Turns.{turn-then, turn-flushed}
+use Rattle.connections.proofs.Bounds.{writes-then, writes-bounded}
 use Rattle.connections.proofs.turn.send.Goals as goal
 
-pub loop-writes-preserved : goal.loop-writes-preserved
-loop-writes-preserved g c =
-    let w = c.write.ensures.sent in
-    let e = c.prepare.new.connection in
-    let known : Known = record e.known { may_write = c.write.new.self.known.may_write } in
+pub returns-then-may_write : goal.returns-then-may_write
+returns-then-may_write g c =
+    let e = c.send_some.new.connection in
+    let f = c.flush.new.self in
+    let known : Known = record e.known { may_write = f.known.may_write } in
+    let whole : breaks_off e.ended ≡ false = search rules in
     record {
-      turn = turn-then _ _ _ _ _ _ (turn-then _ _ _ _ _ _ c.loop-writes.invariant.turn c.prepare.ensures.turn)
-          (turn-written c.prepare.new.canvas c.prepare.new.canvas e c.write.new.self known w.0 w.1 refl (c.prepare.ensures.whole (search rules)) c.write.ensures.same refl refl w.2 w.3 w.4 c.write.ensures.few);
-      drawn = c.prepare.ensures.drawn ∙ c.loop-writes.invariant.drawn;
-      asks = λ ask. c.loop-writes.invariant.asks (c.prepare.ensures.asks (sym (ap (λ (x : ViewerConnection). x.known.may_ask) c.write.ensures.same) ∙ ask));
-      bound = one-write c.loop-writes._writes _ c.args.connection.now.carried c.loop-writes.connection.carried c.prepare.new.connection.carried c.write.new.self.carried c.loop-writes.invariant.bound c.prepare.ensures.carried c.write.ensures.bound (omega (arith));
+      turn = turn-then _ _ _ _ _ _ c.send_some.ensures.turn (turn-flushed c.send_some.new.canvas e f known whole c.flush.ensures.same refl refl c.flush.ensures.moved);
+      asks = λ ask. c.send_some.ensures.asks (sym (ap (λ (x : ViewerConnection). x.known.may_ask) c.flush.ensures.same) ∙ ask);
+      drawn = c.send_some.ensures.drawn;
+      bound = writes-then (4 * 65536) 0 c.args.connection.now.carried.written e.carried.written f.carried.written c.send_some.ensures.bound
+          (writes-bounded 0 e.carried.written f.carried.written [] c.flush.ensures.moved.written (omega arith));
     }

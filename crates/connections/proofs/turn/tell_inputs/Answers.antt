@@ -1,6 +1,5 @@
-use Rattle.std.proofs.Common.{◌≡◌, ◌+◌, ◌-◌, ◌≤◌, ℕ, List, ◌++◌, Err, length, arith, take, drop, refl, sym, ap, ◌∙◌, subst}
+use Rattle.std.proofs.Common.{◌+◌, ◌-◌, Err, length, arith, take, drop, refl, sym, ap, ◌∙◌, subst}
 use Rattle.std.proofs.lemmas.List.{length-drop, take-append-drop, take_all}
-use Rattle.screen.specs.declared.Input.{Input}
 use Rattle.screen.specs.declared.ScreenError.{ScreenError}
 use Rattle.held_inputs.specs.Held.{Held, after, roomy}
 use Rattle.connections.specs.Serving.{ViewerConnection}

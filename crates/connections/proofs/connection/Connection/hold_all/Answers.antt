@@ -1,4 +1,4 @@
-use Rattle.std.proofs.Common.{◌+◌, sym, ap, ◌∙◌}
+use Rattle.std.proofs.Common.{sym, ap, ◌∙◌}
 use Rattle.held_inputs.specs.Held.{after, roomy}
 use Rattle.connections.specs.Serving.{ViewerConnection}
 use Rattle.connections.specs.TellingLemmas.{held-more}

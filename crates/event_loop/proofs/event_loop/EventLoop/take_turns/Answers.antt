@@ -1,4 +1,4 @@
-use Rattle.std.proofs.Common.{◌≤◌, ℕ, Ok, ◌+◌, arith, rules}
+use Rattle.std.proofs.Common.{ℕ, Ok, arith, rules}
 use Rattle.std.proofs.lemmas.Result.{err_from_is_err_and}
 use Rattle.event_loop.specs.declared.event_loop.LoopError.{LoopError}
 use Rattle.event_loop.proofs.Steps.{on-same, tells-silently, tells-all, tells-then, tells-ended, tells-any}

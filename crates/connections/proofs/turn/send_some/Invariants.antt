@@ -1,7 +1,7 @@
 use Rattle.std.proofs.Common.{◌≡◌, ◌*◌, true}
 use Rattle.connections.specs.Bounds.{AreWrittenAtMost}
 use Rattle.connections.specs.Turns.{TakesTurn}
-use Rattle.connections.proofs.turn.send.Given as goal
+use Rattle.connections.proofs.turn.send_some.Given as goal
 
 abbrev pub invariant-loop-writes : goal.invariant-loop-writes
 invariant-loop-writes g l = record {

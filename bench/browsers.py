@@ -1,0 +1,325 @@
+#!/usr/bin/env python3
+"""browsers.py PROGRAM [--streams 1000] [--seed 1] [--cost]: browsers at `vncdemo serve --one-thread --web` (RFC 6455).
+
+A browser is sent what a viewer over TCP is sent; pings, closes and wrong frames are answered by their codes, wrong requests by their statuses,
+silent ones hold nobody up, and so many streams with bytes changed, put in or left out, cut anywhere, each come to an end, with viewers served
+behind them. With --cost it prints instead what processor time the server takes for a whole update of 1920 by 1080 in Raw, and for a dot to
+eight viewers, over TCP and over WebSockets in turns. The status is 1 where something is not as it should be."""
+import argparse
+import os
+import random
+import socket
+import struct
+import subprocess
+import sys
+import time
+
+KEY = "dGhlIHNhbXBsZSBub25jZQ=="  # of RFC 6455, section 1.3, with its answer
+ACCEPTED = b"Sec-WebSocket-Accept: s3pPLMBiTxaQ9kYGzzhZRbK+xOo=\r\n"
+PATIENCE = 12  # a request may take ten seconds
+RAW = struct.pack(">BxHi", 2, 1, 0)
+
+
+class Server:
+    def __init__(self, program, width, height):
+        words = [program, "serve", "--one-thread", "--forever", "--end-with-input", "--port", "0", "--web", "0", "--viewers", "100"]
+        words += ["--width", str(width), "--height", str(height)]
+        self.process = subprocess.Popen(words, stdin=subprocess.PIPE, stdout=subprocess.DEVNULL, stderr=subprocess.PIPE, text=True)
+        line = self.process.stderr.readline()
+        self.port, self.web = (int(it.split(":")[1].strip(",")) for it in line.split() if it.startswith("127.0.0.1:"))
+
+    def seconds(self):
+        fields = open(f"/proc/{self.process.pid}/stat").read().rpartition(")")[2].split()
+        return (int(fields[11]) + int(fields[12])) / os.sysconf("SC_CLK_TCK")
+
+    def end(self):
+        self.process.stdin.close()
+        return self.process.wait(10)
+
+
+class Viewer:
+    """A viewer over TCP."""
+
+    def __init__(self, port):
+        self.stream = socket.create_connection(("127.0.0.1", port))
+        self.stream.settimeout(10)
+        self.stream.setsockopt(socket.IPPROTO_TCP, socket.TCP_NODELAY, 1)
+        self.held = bytearray()
+
+    def more(self):
+        piece = self.stream.recv(1 << 20)
+        if not piece:
+            raise EOFError
+        return piece
+
+    def fill(self):
+        self.held += self.more()
+
+    def take(self, count):
+        while len(self.held) < count:
+            self.fill()
+        taken = bytes(self.held[:count])
+        del self.held[:count]
+        return taken
+
+    def send(self, data):
+        self.stream.sendall(data)
+
+    def open(self):
+        """RFC 6143, 7.1 to 7.3."""
+        said = self.take(12)
+        self.send(b"RFB 003.008\n")
+        said += self.take(2)
+        self.send(b"\x01")
+        said += self.take(4)
+        self.send(b"\x01")
+        said += self.take(24)
+        return said + self.take(struct.unpack(">I", said[-4:])[0])
+
+    def ask(self, incremental, width, height):
+        self.send(struct.pack(">BBHHHH", 3, incremental, 0, 0, width, height))
+
+    def session(self, width, height):
+        said = self.open()
+        self.send(RAW)
+        self.ask(0, width, height)
+        return said + self.take(4 + 12 + width * height * 4)
+
+
+def frame(data, opcode=2, final=True, masked=True):
+    """A client's frame: RFC 6455, 5.2."""
+    bit, size = 128 if masked else 0, len(data)
+    head = bytes([opcode | (128 if final else 0)])
+    if size < 126:
+        head += bytes([bit | size])
+    elif size < 65536:
+        head += struct.pack(">BH", bit | 126, size)
+    else:
+        head += struct.pack(">BQ", bit | 127, size)
+    if not masked:
+        return head + data
+    key = os.urandom(4)
+    return head + key + bytes(byte ^ key[i % 4] for i, byte in enumerate(data))
+
+
+def request(port, *lines, host=None, method="GET", version="1.1"):
+    wanted = [f"{method} /websockify HTTP/{version}", f"Host: {host or f'127.0.0.1:{port}'}", "Upgrade: websocket", "Connection: keep-alive, Upgrade"]
+    wanted += [f"Sec-WebSocket-Key: {KEY}", "Sec-WebSocket-Version: 13", "Sec-WebSocket-Protocol: binary", *lines]
+    return ("\r\n".join(wanted) + "\r\n\r\n").encode()
+
+
+class Browser(Viewer):
+    """The same over a WebSocket."""
+
+    def __init__(self, port):
+        super().__init__(port)
+        self.raw, self.own = bytearray(), []
+        self.stream.sendall(request(port))
+        while b"\r\n\r\n" not in self.raw:
+            self.raw += self.more()
+        head, _, rest = self.raw.partition(b"\r\n\r\n")
+        self.head, self.raw = bytes(head) + b"\r\n", bytearray(rest)
+
+    def bytes(self, count):
+        while len(self.raw) < count:
+            self.raw += self.more()
+        taken = bytes(self.raw[:count])
+        del self.raw[:count]
+        return taken
+
+    def fill(self):
+        """One frame of the server's, which has no mask."""
+        first, size = self.bytes(2)
+        if size > 125:
+            size = int.from_bytes(self.bytes(2 if size == 126 else 8), "big")
+        data = self.bytes(size)
+        if first & 15 < 8:
+            self.held += data
+        else:
+            self.own.append((first & 15, data))
+
+    def send(self, data):
+        self.stream.sendall(frame(data))
+
+    def answer(self, data):
+        """The first control frame that answers such bytes."""
+        self.stream.sendall(data)
+        while not self.own:
+            self.fill()
+        return self.own.pop(0)
+
+
+WRONG = [
+    ("a text", frame(b"x", opcode=1), 1003),
+    ("no mask", frame(b"x", masked=False), 1002),
+    ("a reserved bit", b"\xf2\x80\0\0\0\0", 1002),
+    ("an opcode that is none", frame(b"", opcode=3), 1002),
+    ("a fragment of a ping", frame(b"x", opcode=9, final=False), 1002),
+    ("a ping of 126 bytes", frame(b"x" * 126, opcode=9), 1002),
+    ("a fragment of nothing", frame(b"x", opcode=0), 1002),
+    ("a message within another", frame(b"x", final=False) + frame(b"x"), 1002),
+    ("a close of one byte", frame(b"\x03", opcode=8), 1002),
+    ("a close by 1005", frame(struct.pack(">H", 1005), opcode=8), 1002),
+    ("a reason that is no text", frame(b"\x03\xe8\xff", opcode=8), 1007),
+    ("a length that isn't the shortest", b"\x82\xfe\0\x05abcd12345", 1002),
+    ("a length of 2^63", b"\x82\xff\x80" + bytes(7) + b"abcd", 1002),
+]
+
+
+def refused(web):
+    return [
+        ("a foreign page", request(web, "Origin: http://foreign.example"), 403),
+        ("the server's own page", request(web, f"Origin: http://127.0.0.1:{web}"), 101),
+        ("a foreign host", request(web, host="foreign.example"), 403),
+        ("another method", request(web, method="POST"), 405),
+        ("no WebSocket", b"GET / HTTP/1.1\r\nHost: localhost\r\n\r\n", 426),
+        ("HTTP/1.0", request(web, version="1.0"), 505),
+        ("no HTTP", b"RFB 003.008\n\r\n\r\n", 400),
+        ("two hosts", request(web, "Host: localhost"), 400),
+        ("no end", b"GET / HTTP/1.1\r\nHost: localhost\r\nX: " + b"a" * 9000, 431),
+    ]
+
+
+def status_of(web, data):
+    with socket.create_connection(("127.0.0.1", web)) as stream:
+        stream.settimeout(PATIENCE)
+        stream.sendall(data)
+        return int(stream.recv(4096).split(b" ")[1])
+
+
+def changed(data, chance):
+    data = bytearray(data)
+    for _ in range(chance.randint(1, 4)):
+        at, how = chance.randrange(len(data) + 1), chance.random()
+        if how < 0.5:
+            data[at : at + 1] = [chance.randrange(256)]
+        elif how < 0.7:
+            data[at:at] = chance.randbytes(chance.randint(1, 5))
+        elif how < 0.9:
+            del data[at : at + chance.randint(1, 9)]
+        else:
+            del data[at:]
+    return bytes(data)
+
+
+def ends(web, data, chance):
+    """Whether a connection that says these bytes, cut anywhere, and no more comes to its end."""
+    with socket.create_connection(("127.0.0.1", web)) as stream:
+        stream.settimeout(PATIENCE)
+        try:
+            while data:
+                count = chance.randint(1, 300)
+                stream.sendall(data[:count])
+                data = data[count:]
+            stream.shutdown(socket.SHUT_WR)
+            while stream.recv(1 << 16):
+                pass
+        except TimeoutError:
+            return False
+        except OSError:
+            pass
+        return True
+
+
+def check(program, streams, seed):
+    server, wrong = Server(program, 64, 48), []
+    wanted = Viewer(server.port).session(64, 48)
+    browser = Browser(server.web)
+    if ACCEPTED not in browser.head or b"Protocol: binary\r\n" not in browser.head:
+        wrong.append(f"the answer {browser.head}")
+    if browser.session(64, 48) != wanted:
+        wrong.append("a browser is sent other bytes")
+    if browser.answer(frame(b"ping", opcode=9)) != (10, b"ping"):
+        wrong.append("a ping's answer")
+    if browser.answer(frame(struct.pack(">H", 1000) + b"bye", opcode=8)) != (8, struct.pack(">H", 1000)):
+        wrong.append("a close's answer")
+    wrong += [name for name, data, code in WRONG if Browser(server.web).answer(data) != (8, struct.pack(">H", code))]
+    wrong += [name for name, data, status in refused(server.web) if status_of(server.web, data) != status]
+    cut = Browser(server.web)
+    cut.take(12)
+    cut.stream.sendall(frame(b"RFB ", final=False) + frame(b"", opcode=9) + frame(b"003.0", opcode=0, final=False) + frame(b"08\n", opcode=0))
+    if cut.take(2) != b"\x01\x01" or cut.own != [(10, b"")]:
+        wrong.append("a message in fragments")
+    silent = [socket.create_connection(("127.0.0.1", server.web)) for _ in range(200)]
+    began = time.monotonic()
+    if Browser(server.web).session(64, 48) != wanted or time.monotonic() - began > 2:
+        wrong.append("silent ones hold others up")
+    chance = random.Random(seed)
+    said = [request(server.web), *map(frame, (b"RFB 003.008\n", b"\x01", b"\x01", RAW, struct.pack(">BBHHHH", 3, 0, 0, 0, 64, 48)))]
+    said = b"".join(said) + frame(b"ping", opcode=9)
+    endless = sum(not ends(server.web, changed(said, chance), chance) for _ in range(streams))
+    if endless:
+        wrong.append(f"{endless} streams have no end")
+    if not Viewer(server.port).session(64, 48) == Browser(server.web).session(64, 48) == wanted:
+        wrong.append("who comes behind them is sent other bytes")
+    for stream in silent:
+        stream.close()
+    if server.end():
+        wrong.append("the status")
+    print("\n".join(f"WRONG: {it}" for it in wrong) or "all as it should be", f"\n{len(WRONG)} wrong frames, {len(refused(1))} requests, {streams} changed streams")
+    return bool(wrong)
+
+
+def whole(server, viewer, times):
+    viewer.open()
+    viewer.send(RAW)
+    began = server.seconds()
+    for _ in range(times):
+        viewer.ask(0, 1920, 1080)
+        viewer.take(4 + 12 + 1920 * 1080 * 4)
+    return (server.seconds() - began) / times
+
+
+def dots(server, viewers, times):
+    painter = Viewer(server.port)
+    painter.open()
+    for viewer in viewers:
+        viewer.open()
+        viewer.send(RAW)
+        viewer.ask(0, 64, 48)
+        viewer.take(4 + 12 + 64 * 48 * 4)
+        viewer.ask(1, 64, 48)
+    began = server.seconds()
+    for number in range(times):
+        painter.send(struct.pack(">BBHH", 5, 1, number % 64, number // 64 % 48) + struct.pack(">BBHH", 5, 0, 0, 0))
+        for viewer in viewers:
+            viewer.take(4 + 12 + 4)
+            viewer.ask(1, 64, 48)
+    return (server.seconds() - began) / times
+
+
+def median(values):
+    return sorted(values)[len(values) // 2]
+
+
+def cost(program):
+    """Both ways in turns, each on a server of its own."""
+    taken = {}
+    for _ in range(5):
+        for name, kind in (("TCP", Viewer), ("WebSockets", Browser)):
+            server = Server(program, 1920, 1080)
+            port = server.port if kind is Viewer else server.web
+            taken.setdefault(("a whole update", name), []).append(whole(server, kind(port), 300) * 1000)
+            server.end()
+            server = Server(program, 64, 48)
+            port = server.port if kind is Viewer else server.web
+            taken.setdefault(("a dot to eight", name), []).append(dots(server, [kind(port) for _ in range(8)], 12000) * 1000)
+            server.end()
+    for row in ("a whole update", "a dot to eight"):
+        plain, web = median(taken[row, "TCP"]), median(taken[row, "WebSockets"])
+        print(f"{row}: {plain:.3f} ms of the processor over TCP, {web:.3f} over WebSockets, {web / plain:.2f}")
+    return 0
+
+
+def main():
+    words = argparse.ArgumentParser(description=__doc__)
+    words.add_argument("program")
+    words.add_argument("--streams", type=int, default=1000)
+    words.add_argument("--seed", type=int, default=1)
+    words.add_argument("--cost", action="store_true")
+    chosen = words.parse_args()
+    return cost(chosen.program) if chosen.cost else check(chosen.program, chosen.streams, chosen.seed)
+
+
+if __name__ == "__main__":
+    sys.exit(main())

@@ -1,0 +1,4 @@
+pub mod HeadLemmas
+pub mod TextLemmas
+pub mod RequestLemmas
+pub mod Examples

@@ -1,0 +1,9 @@
+pub mod Frames
+pub mod Faults
+pub mod Answers
+pub mod Next
+pub mod Reading
+pub mod Standing
+pub mod Writing
+pub mod Stream
+pub mod Spelled
